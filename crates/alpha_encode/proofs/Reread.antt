@@ -1,5 +1,5 @@
 -- From an instruction to its word and back.
-use Rattle.std.proofs.Common.{◌≡◌, ℕ, ◌+◌, ◌-◌, ◌*◌, ◌/◌, ◌%◌, ◌^◌, ◌<◌, ◌≤◌, refl, arith, Option, Some, le-leb, rules}
+use Rattle.std.proofs.Common.{◌≡◌, ℕ, ◌+◌, ◌-◌, ◌*◌, ◌/◌, ◌%◌, ◌^◌, ◌<◌, ◌≤◌, refl, arith, Some, le-leb}
 use Rattle.std.specs.Prelude.{ℤ, pos, negsuc, ◌<ℤ◌, ◌≤ℤ◌, FitsSigned}
 use Rattle.std.specs.Int.{cast_unsigned, cast_signed, w16, w32}
 use Rattle.std.proofs.lemmas.Int.{to_z-of_z, ints}

@@ -1,6 +1,6 @@
 -- From a word to its instruction and back.
-use Rattle.std.proofs.Common.{◌≡◌, ℕ, ◌+◌, ◌-◌, ◌*◌, ◌/◌, ◌%◌, ◌^◌, ◌<◌, ◌≤◌, refl, sym, ap, ◌∙◌, subst, arith, inl, inr, ⊎_elim, Option, Some, None, Bool, true, false, cond, eqb, eqb-true, leb-true}
-use Rattle.std.specs.Prelude.{◌⊎◌, ◌≢◌, ℤ, pos, negsuc, ◌<ℤ◌, ◌≤ℤ◌, nat_lt, nat_le, ◌&&◌, FitsSigned, IfSome, IfNone}
+use Rattle.std.proofs.Common.{◌≡◌, ℕ, ◌+◌, ◌-◌, ◌/◌, ◌%◌, ◌^◌, ◌<◌, refl, sym, ap, ◌∙◌, subst, arith, inl, inr, ⊎_elim, Option, Some, None, Bool, true, false, cond, eqb, eqb-true, leb-true}
+use Rattle.std.specs.Prelude.{◌⊎◌, ◌≢◌, pos, negsuc, ◌<ℤ◌, ◌≤ℤ◌, nat_lt, nat_le, ◌&&◌, IfSome, IfNone}
 use Rattle.std.specs.Int.{cast_unsigned, cast_signed, w16, w32}
 use borrow.Author.Gap.{read_sfits}
 use Rattle.std.proofs.lemmas.Int.{of_z-to_z, ints}
@@ -8,7 +8,7 @@ use Rattle.alpha_encode.specs.declared.instr.Second.{Second}
 use Rattle.alpha_encode.specs.declared.instr.Second.TheVariants.{Register, Literal}
 use Rattle.alpha_encode.specs.declared.instr.AlphaInstr.{AlphaInstr}
 use Rattle.alpha_encode.specs.declared.instr.AlphaInstr.TheVariants.{Memory, Branch, Operate, Jump, Pal}
-use Rattle.alpha_encode.specs.Rows.{memory_opcode, branch_opcode, operate_code, memory_at, branch_at, operate_at}
+use Rattle.alpha_encode.specs.Rows.{memory_at, branch_at, operate_at}
 use Rattle.alpha_encode.specs.Words.{IsEncodable, IsSecond, Spells, word_of, instr_at, second_at, second_field, or_else, with_some, with_both, jump_at, pal_at, signed_21}
 use Rattle.alpha_encode.proofs.Rows.{chosen, and_true, memory_of_found, branch_of_found, operate_of_found}
 use Rattle.alpha_encode.proofs.Reread.{again}

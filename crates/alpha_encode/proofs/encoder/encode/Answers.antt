@@ -1,5 +1,3 @@
-use Rattle.std.proofs.Common.{◌≡◌, Some}
-use Rattle.alpha_encode.specs.Words.{instr_at}
 use Rattle.alpha_encode.proofs.Reread.{again}
 use Rattle.alpha_encode.proofs.encoder.encode.Goals as goal
 
