@@ -1,11 +1,11 @@
 -- What the byte instructions do to a field of a quadword.
-use Rattle.std.proofs.Common.{◌≡◌, ℕ, zero, suc, ◌+◌, ◌-◌, ◌*◌, ◌/◌, ◌%◌, ◌^◌, ◌<◌, ◌≤◌, refl, sym, ap, ◌∙◌, subst, arith, inl, inr, ⊎_elim, lit<}
-use Rattle.std.specs.Prelude.{◌⊎◌, ◌≢◌, bit_and, bit_or}
-use Rattle.std.specs.Int.Bits.{and_zero_r, or_zero_l, or_zero_r, or_shifted_r, or_block}
+use Rattle.std.proofs.Common.{◌≡◌, ℕ, zero, suc, ◌+◌, ◌-◌, ◌*◌, ◌/◌, ◌%◌, ◌^◌, ◌<◌, ◌≤◌, refl, sym, ap, ◌∙◌, subst, arith, lit<}
+use Rattle.std.specs.Prelude.{bit_or}
+use Rattle.std.specs.Int.Bits.{or_zero_l, or_shifted_r, or_block}
 use Rattle.std.proofs.lemmas.Nat.{pow_pos, pow-add, and_mask, and_comm, and-not, mod_below, shr_split, mod-pow-add, mod_low, one_shl, shl-shr, field_of as std_field_of}
 use Rattle.std.proofs.lemmas.Nat.Bits.{and_high}
 use Rattle.std.proofs.Math.Nat.{mul_assoc, add-mul, div-one}
-use Rattle.vt_words.specs.Quad.{IsCount, one, two, four, eight, byte_of, spread, spread_below, kept, cleared, left, right, ext_low, ext_high, ins_low, ins_high, msk_low, msk_high, field_of, with_field_of}
+use Rattle.vt_words.specs.Quad.{IsCount, one, two, four, eight, spread, kept, cleared, left, right, ext_low, ins_low, ins_high, msk_low, msk_high, field_of, with_field_of}
 use Rattle.vt_words.proofs.Spreads.{below_8}
 
 pub count_le : {c : ℕ} → IsCount c → c ≤ 8

@@ -1,11 +1,11 @@
 -- Each byte of what an operation gives, and numbers by their bytes.
-use Rattle.std.proofs.Common.{◌≡◌, ℕ, zero, suc, ◌+◌, ◌-◌, ◌*◌, ◌/◌, ◌%◌, ◌^◌, ◌<◌, ◌≤◌, refl, sym, ap, ◌∙◌, subst, arith, inl, inr, ⊎_elim, add-one, lit<}
-use Rattle.std.specs.Prelude.{◌⊎◌, ◌≢◌, bit_and, bit_or, nat_lt, cond}
+use Rattle.std.proofs.Common.{◌≡◌, ℕ, ◌+◌, ◌-◌, ◌*◌, ◌/◌, ◌%◌, ◌^◌, ◌<◌, ap, ◌∙◌, arith, ⊎_elim, lit<}
+use Rattle.std.specs.Prelude.{bit_and, bit_or, nat_lt, cond}
 use Rattle.std.specs.Int.{bit_at}
-use Rattle.std.specs.Int.Bits.{and_zero_r, or_zero_l, or_zero_r}
-use Rattle.std.proofs.lemmas.Nat.{pow_pos, pow-add, shr_high, mod_low, and_shr, and_mod, and_mask, or_shr, or_mod, shr-shr, shl-shr}
+use Rattle.std.specs.Int.Bits.{and_zero_r}
+use Rattle.std.proofs.lemmas.Nat.{and_shr, and_mod, and_mask, or_shr, or_mod, shr-shr}
 use Rattle.std.proofs.lemmas.Nat.Bits.{bit_at-lt}
-use Rattle.std.proofs.Math.Nat.{mod-mod, mod-eq_of_lt}
+use Rattle.std.proofs.Math.Nat.{mod-eq_of_lt}
 use Rattle.vt_words.specs.Quad.{byte_of, spread, spread_below, kept, cleared, left, right}
 use Rattle.vt_words.proofs.Spreads.{below_8, bit_cases}
 

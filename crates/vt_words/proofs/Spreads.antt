@@ -1,10 +1,10 @@
 -- Laws of bytes.
-use Rattle.std.proofs.Common.{◌≡◌, ℕ, zero, suc, ◌+◌, ◌-◌, ◌*◌, ◌/◌, ◌%◌, ◌^◌, ◌<◌, ◌≤◌, refl, sym, ap, ◌∙◌, subst, arith, inl, inr, ⊎_elim, add-one}
-use Rattle.std.specs.Prelude.{◌⊎◌, ◌≢◌, bit_and, bit_or}
+use Rattle.std.proofs.Common.{◌≡◌, ℕ, zero, suc, ◌+◌, ◌*◌, ◌%◌, ◌^◌, ◌<◌, refl, ap, ◌∙◌, arith, inl, inr, ⊎_elim, add-one}
+use Rattle.std.specs.Prelude.{◌⊎◌, ◌≢◌}
 use Rattle.std.specs.Int.{bit_at}
-use Rattle.std.proofs.lemmas.Nat.{pow_pos, pow-add, shr_high, mod_low, and_shr, and_mod, and_mask, or_shr, or_mod, shr-shr}
+use Rattle.std.proofs.lemmas.Nat.{pow-add}
 use Rattle.std.proofs.lemmas.Nat.Bits.{bit_at-lt}
-use Rattle.vt_words.specs.Quad.{byte_of, spread, spread_below, kept, cleared, left, right}
+use Rattle.vt_words.specs.Quad.{spread_below}
 
 -- what holds of each number below 8
 pub below_8 : (P : ℕ → Type 0) → P 0 → P 1 → P 2 → P 3 → P 4 → P 5 → P 6 → P 7 → (k : ℕ) → k < 8 → P k

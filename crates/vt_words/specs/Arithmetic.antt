@@ -2,7 +2,7 @@
 -- VAX Architecture Reference Manual, "Integer Arithmetic and Logical Instructions"; the entry is named at each.
 -- A result is the low bytes of the true result. N and Z are by the result, and V says that the true result,
 -- over the integers, is no two's complement number of so many bytes.
-use Rattle.std.specs.Prelude.{ℕ, ◌+◌, ◌-◌, ◌*◌, ◌/◌, ◌%◌, ◌^◌, pos, ◌+ℤ◌, ◌-ℤ◌, ◌*ℤ◌, int_div, nat_lt, nat_le, ◌==◌, Bool, true, false, not, if◌then◌else◌}
+use Rattle.std.specs.Prelude.{ℕ, ◌+◌, ◌-◌, ◌*◌, ◌/◌, ◌%◌, pos, ◌+ℤ◌, ◌-ℤ◌, ◌*ℤ◌, int_div, nat_lt, nat_le, ◌==◌, Bool, true, false, not, if◌then◌else◌}
 use Rattle.vt_words.specs.declared.arithmetic.Coded.{Coded}
 use Rattle.vt_words.specs.Values.{modulus, signed_value, value_of, fits, bit}
 

@@ -1,4 +1,4 @@
-use Rattle.std.proofs.Common.{◌≡◌, ◌<◌, ◌^◌, arith}
+use Rattle.std.proofs.Common.{◌<◌, arith}
 use Rattle.vt_words.specs.Shifts.{left_shift_of}
 use Rattle.vt_words.proofs.Shifting.{shifted_out}
 use Rattle.vt_words.proofs.bits.shift_left.Goals as goal

@@ -1,4 +1,4 @@
-use Rattle.std.proofs.Common.{rules, ◌≡◌, ◌+◌, ◌*◌, ◌/◌, ◌%◌, ◌^◌, ◌<◌, ◌≤◌, ℕ, ◌-◌, arith, subst, sym, ap, ◌∙◌}
+use Rattle.std.proofs.Common.{◌≡◌, ◌+◌, ◌*◌, ◌^◌, ◌<◌, arith, ap, ◌∙◌}
 use Rattle.vt_words.specs.Quad.{spread, spread_below}
 use Rattle.vt_words.proofs.Spreads.{spread_lt, top_whole, top_fits, spread_none, spread_one}
 use Rattle.vt_words.proofs.bytes.spread.Goals as goal

@@ -1,6 +1,4 @@
-use Rattle.std.proofs.Common.{◌≡◌, ◌+◌, ◌-◌, ◌*◌, ◌^◌, ◌<◌, ap, ◌∙◌, arith}
-use Rattle.std.specs.Prelude.{bit_or}
-use Rattle.vt_words.specs.Quad.{kept, cleared, left}
+use Rattle.std.proofs.Common.{arith}
 use Rattle.vt_words.proofs.Fields.{mask_code, with_field_is}
 use Rattle.vt_words.proofs.bytes.with_field.Goals as goal
 
