@@ -3,12 +3,8 @@ use Rattle.std.proofs.Common.{◌≡◌, ℕ, ◌+◌, ◌-◌, ◌*◌, ◌/◌
 use Rattle.std.specs.Prelude.{bit_or}
 use Rattle.std.specs.Int.Bits.{or_shifted_r}
 use Rattle.std.proofs.lemmas.Nat.{and_mask}
-use Rattle.vt_words.specs.Quad.{IsCount, one, two, four, eight, spread, kept, left, right, ext_low, ext_high}
+use Rattle.vt_words.specs.Quad.{IsCount, one, two, four, eight, spread, kept, left, right, ext_low, ext_high, crossing}
 use Rattle.vt_words.proofs.Spreads.{below_8}
-
--- the operand of `count` bytes from byte `at` of two quadwords
-abbrev pub crossing : ℕ → ℕ → ℕ → ℕ → ℕ
-crossing first second at count = (second * 2 ^ 64 + first) / 2 ^ (8 * at) % 2 ^ (8 * count)
 
 kept_count : {c : ℕ} → IsCount c → (n : ℕ) → kept (2 ^ c - 1) n ≡ n % 2 ^ (8 * c)
 unfolding spread
