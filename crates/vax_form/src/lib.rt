@@ -3,7 +3,9 @@
 #![tactic(auto)]
 
 mod instr;
+mod mode;
 mod state;
 
 pub use instr::{Access, Base, Instr, Operand, Size, Width};
+pub use mode::Mode;
 pub use state::{Exception, Flags, Outcome, Pick, RefKind, Reference, VaxState, WantOfMemory};
