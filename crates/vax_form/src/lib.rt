@@ -3,7 +3,11 @@
 #![tactic(auto)]
 
 mod instr;
+mod operation;
 mod state;
 
 pub use instr::{Access, Base, Instr, Operand, Size, Width};
+pub use operation::{
+    BinaryOperation, BitBranch, BitStore, Condition, LongOperation, Operation, operation_of,
+};
 pub use state::{Exception, Flags, Outcome, Pick, RefKind, Reference, VaxState, WantOfMemory};
