@@ -162,7 +162,7 @@ abbrev pub other_operation_at : ℕ → Option Operation
 other_operation_at opcode = option_or (option_or (option_or (among control_opcodes opcode) (among mixed_opcodes opcode)) (among move_opcodes opcode)) (among bit_opcodes opcode)
 
 -- the operation of an opcode, where it is no reserved one
-abbrev pub operation_at : ℕ → Option Operation
+unfoldable pub operation_at : ℕ → Option Operation
 operation_at opcode =
     if is_between 0x80 0x97 opcode then among (integer_opcodes Byte) (opcode - 0x80)
     else (if is_between 0xA0 0xB7 opcode then among (integer_opcodes Word) (opcode - 0xA0)

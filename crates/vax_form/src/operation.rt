@@ -377,6 +377,7 @@ fn bit_operation(opcode: u8) -> Option<Operation>
 }
 
 /// The operation of an opcode; None for a reserved one.
+#[tactic(auto, unfolding(crate::specs::Operation::operation_at))]
 pub fn operation_of(opcode: u8) -> Option<Operation>
     ensures { result ≡ operation_at opcode }
 {
