@@ -3,7 +3,9 @@
 #![tactic(auto)]
 
 mod instr;
+mod pages;
 mod state;
 
 pub use instr::{Access, Base, Instr, Operand, Size, Width};
+pub use pages::{PageRange, Pages};
 pub use state::{Exception, Flags, Outcome, Pick, RefKind, Reference, VaxState, WantOfMemory};
