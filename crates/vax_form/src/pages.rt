@@ -1,4 +1,4 @@
-ghost use Rattle.std.specs.Prelude.{◌≡◌, ◌≤◌, ◌<◌, ◌^◌, Some, None, is_some};
+ghost use Rattle.std.specs.Prelude.{◌≡◌, ◌≤◌, is_some, find};
 
 use std::marker::Model;
 
@@ -42,7 +42,7 @@ impl Model for Pages {
 }
 
 impl Pages {
-    ghost use Rattle.vax_form.specs.Pages.{is_allowed, is_code, code_byte_at, first_bad};
+    ghost use Rattle.vax_form.specs.Pages.{is_allowed, has_code, is_code, code_byte_at, first_bad};
     ghost use Rattle.vax_form.specs.Parts.{parts, first_bad_part};
 
     /// Whether the byte at the address may be used: its page is in a range, and the range is writable where `write`
@@ -61,10 +61,19 @@ impl Pages {
         ensures byte { result ≡ code_byte_at self.now address }
         ensures variant { is_some result ≡ is_code self.now address }
     {
-        let page = address / 512;
-        let range = self.ranges.iter().find(|r| r.has(page) && !r.writable)?;
+        let range = self.code_range(address)?;
         let place = range.place + (address - 512 * range.first);
         Some(self.code[place as usize])
+    }
+
+    fn code_range(&self, address: u32) -> Option<PageRange>
+        ensures { result ≡ find (has_code address) self.now.ranges }
+    {
+        let page = address / 512;
+        self.ranges
+            .iter()
+            .find(|r| r.has(page) && !r.writable)
+            .copied()
     }
 
     /// The first of up to eight bytes from the address on that may not be used. Those in one aligned quadword stand in
