@@ -3,7 +3,7 @@ use Rattle.std.proofs.Common.{subst, ◌≡◌, ℕ, ◌+◌, ◌-◌, ◌*◌, 
 use Rattle.std.specs.Prelude.{find, option_map, is_some}
 use Rattle.std.specs.List.{list_any}
 use Rattle.std.proofs.lemmas.Bool.{ltb-true, leb-true}
-use Rattle.vax_form.specs.PageTable.{has_page, code_bytes, code_length, AreRising, ArePlaced, IsPageTable}
+use Rattle.vax_form.specs.PageTable.{PageTable, has_page, code_bytes, code_length, AreRising, ArePlaced, IsPageTable}
 use Rattle.vax_form.specs.Pages.{has_code}
 use Rattle.vax_form.specs.declared.pages.PageRange.{PageRange}
 
@@ -77,13 +77,13 @@ pub record IsInCode (address : ℕ) (r : PageRange) (bytes : ℕ) : Type 0 where
   pub within : r.place + (address - 512 * r.first) < bytes
   pub bound : bytes ≤ 2147483648
 
-pub found_in_code : (ranges : List PageRange) (code : List ℕ) (address : ℕ) (r : PageRange) → IsPageTable ranges code → find (has_code address) ranges ≡ Some r
-    → IsInCode address r (length code)
-found_in_code ranges code address r table found =
-    let of_range = has_code_within address r (found_passes (has_code address) ranges r found) in
-    let placed = placed_within ranges address 0 r table.placed found in
-    let bound = code_length_bound ranges 0 table.rising (omega arith) in
-    let filled : length code ≡ code_length ranges = table.filled in
+pub found_in_code : (table : PageTable) (address : ℕ) (r : PageRange) → IsPageTable table → find (has_code address) table.ranges ≡ Some r
+    → IsInCode address r (length table.code)
+found_in_code table address r sound found =
+    let of_range = has_code_within address r (found_passes (has_code address) table.ranges r found) in
+    let placed = placed_within table.ranges address 0 r sound.placed found in
+    let bound = code_length_bound table.ranges 0 sound.rising (omega arith) in
+    let filled : length table.code ≡ code_length table.ranges = sound.filled in
     let above : 512 * r.first ≤ address = of_range.above in
     let below : address < 512 * (r.first + r.count) = of_range.below in
     let bytes : code_bytes r ≡ 512 * r.count = of_range.bytes in

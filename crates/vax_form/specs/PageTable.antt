@@ -29,7 +29,8 @@ abbrev pub ArePlaced : ℕ → List PageRange → Type 0
 ArePlaced place [] = Unit {0}
 ArePlaced place (r ∷ rs) = (r.place ≡ (if r.writable then 0 else place)) × ArePlaced (place + code_bytes r) rs
 
-pub record IsPageTable (ranges : List PageRange) (code : List ℕ) : Type 0 where
-  pub rising : AreRising 0 ranges
-  pub placed : ArePlaced 0 ranges
-  pub filled : length code ≡ code_length ranges
+-- what holds of every page table
+pub record IsPageTable (table : PageTable) : Type 0 where
+  pub rising : AreRising 0 table.ranges
+  pub placed : ArePlaced 0 table.ranges
+  pub filled : length table.code ≡ code_length table.ranges

@@ -38,7 +38,7 @@ impl Model for Pages {
 
     ghost view = { λ p. record { ranges = p.ranges.items; code = p.code.items } };
 
-    ghost invariant = { λ p. IsPageTable p.ranges.items p.code.items };
+    ghost invariant = { λ p. IsPageTable (record { ranges = p.ranges.items; code = p.code.items }) };
 }
 
 impl Pages {
@@ -61,9 +61,10 @@ impl Pages {
         ensures byte { result ≡ code_byte_at self.now address }
         ensures variant { is_some result ≡ is_code self.now address }
     {
+        let code = &self.code;
         let range = self.code_range(address)?;
         let place = range.place + (address - 512 * range.first);
-        Some(self.code[place as usize])
+        Some(code[place as usize])
     }
 
     fn code_range(&self, address: u32) -> Option<PageRange>
@@ -100,3 +101,6 @@ impl Pages {
         None
     }
 }
+
+#[cfg(test)]
+mod tests;
