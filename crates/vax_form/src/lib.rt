@@ -5,6 +5,7 @@
 mod instr;
 mod mode;
 mod operation;
+mod pages;
 mod row;
 mod state;
 
@@ -13,5 +14,6 @@ pub use mode::Mode;
 pub use operation::{
     BinaryOperation, BitBranch, BitStore, Condition, LongOperation, Operation, operation_of,
 };
+pub use pages::{PageRange, Pages};
 pub use row::{Class, Row, class_of, is_long, row_of};
 pub use state::{Exception, Flags, Outcome, Pick, RefKind, Reference, VaxState, WantOfMemory};
