@@ -3,7 +3,17 @@
 #![tactic(auto)]
 
 mod instr;
+mod mode;
+mod operation;
+mod pages;
+mod row;
 mod state;
 
 pub use instr::{Access, Base, Instr, Operand, Size, Width};
+pub use mode::Mode;
+pub use operation::{
+    BinaryOperation, BitBranch, BitStore, Condition, LongOperation, Operation, operation_of,
+};
+pub use pages::{PageRange, Pages};
+pub use row::{Class, Row, class_of, is_long, row_of};
 pub use state::{Exception, Flags, Outcome, Pick, RefKind, Reference, VaxState, WantOfMemory};
