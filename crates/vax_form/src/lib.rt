@@ -4,6 +4,7 @@
 
 mod instr;
 mod operation;
+mod pages;
 mod row;
 mod state;
 
@@ -11,5 +12,6 @@ pub use instr::{Access, Base, Instr, Operand, Size, Width};
 pub use operation::{
     BinaryOperation, BitBranch, BitStore, Condition, LongOperation, Operation, operation_of,
 };
+pub use pages::{PageRange, Pages};
 pub use row::{Class, Row, class_of, is_long, row_of};
 pub use state::{Exception, Flags, Outcome, Pick, RefKind, Reference, VaxState, WantOfMemory};
