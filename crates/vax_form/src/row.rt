@@ -242,3 +242,6 @@ pub fn is_long(opcode: u8) -> bool
         None => false,
     }
 }
+
+#[cfg(test)]
+mod tests;
