@@ -1,5 +1,4 @@
 // The forms and adapters, each through the bounds of its trait.
-ghost use Rattle.std.specs.Prelude.{◌<◌, length};
 
 use crate::{
     Desk, DeskRead, DeskWrite, FileDesk, Gate, Got, InSource, MemoryDesk, MemorySink, MemorySource,
@@ -9,19 +8,25 @@ use std::alloc::{AllocError, Global};
 use std::fs;
 use std::test::Fail;
 
-// The contents, or the answer in words.
-fn seen<D: Desk>(
-    alloc: Global,
-    desk: &mut D,
-    name: &str,
-    limit: usize,
-) -> Result<Vec<u8>, AllocError> {
+// What a read of a file answers, without its bytes.
+#[derive(Clone, Copy, Debug, PartialEq, Eq)]
+enum Seen {
+    Same,
+    Other,
+    Absent,
+    TooLong,
+    Failed,
+    WantOfMemory,
+}
+
+fn see<D: Desk>(alloc: Global, desk: &mut D, name: &str, limit: usize, want: &[u8]) -> Seen {
     match desk.read(alloc, name, limit) {
-        DeskRead::Bytes(bytes) => Ok(bytes),
-        DeskRead::Absent => b"absent".to_vec(alloc),
-        DeskRead::TooLong => b"too long".to_vec(alloc),
-        DeskRead::Failed => b"failed".to_vec(alloc),
-        DeskRead::WantOfMemory => b"want of memory".to_vec(alloc),
+        DeskRead::Bytes(bytes) if bytes.as_slice() == want => Seen::Same,
+        DeskRead::Bytes(_) => Seen::Other,
+        DeskRead::Absent => Seen::Absent,
+        DeskRead::TooLong => Seen::TooLong,
+        DeskRead::Failed => Seen::Failed,
+        DeskRead::WantOfMemory => Seen::WantOfMemory,
     }
 }
 
@@ -33,142 +38,150 @@ fn pass<G: Gate + Sync>(gate: &G) {
     gate.before(1, 0);
 }
 
-fn send<K: Sink>(sink: &mut K, bytes: &[u8]) -> Put
-    requires { 0 < length bytes.now }
-{
-    sink.write(bytes)
-}
-
-// What is left of a source, by reads of at most two bytes, and the answer at the end.
-fn drain<S: Source>(alloc: Global, source: &mut S) -> Result<(Vec<u8>, Got), AllocError> {
-    let mut bytes = Vec::new(alloc);
-    let mut buffer = [0; 2];
-    for _ in 0..100 {
-        match source.read(&mut buffer) {
-            Got::Bytes(count) => bytes.extend_from_slice(&buffer[..count])?,
-            end => return Ok((bytes, end)),
-        }
+fn send<K: Sink>(sink: &mut K, bytes: &[u8]) -> Option<Put> {
+    if bytes.is_empty() {
+        return None;
     }
-    Ok((bytes, Got::Failed))
+    Some(sink.write(bytes))
 }
 
-#[test]
-fn memory_forms_fail_at_their_calls(rt: HostRuntime) -> Result<(), Fail> {
-    let alloc = rt.alloc();
+// The next bytes are these, by a read of at most two.
+fn gives<S: Source>(source: &mut S, want: &[u8]) -> bool {
+    let mut buffer = [0; 2];
+    match source.read(&mut buffer) {
+        Got::Bytes(count) => &buffer[..count] == want,
+        _ => false,
+    }
+}
 
-    // reads and writes of a desk are numbered together
-    let files = vec![in alloc; (String::from_str(alloc, "b")?, b"y".to_vec(alloc)?)]?;
-    let mut desk = MemoryDesk::new(files, [1, 4, 6].to_vec(alloc)?);
+fn ends<S: Source>(source: &mut S) -> Got {
+    source.read(&mut [0; 2])
+}
+
+fn one_file(alloc: Global) -> Result<Vec<(String, Vec<u8>)>, AllocError> {
+    let mut files = Vec::new(alloc);
+    files.push((String::from_str(alloc, "b")?, b"y".to_vec(alloc)?))?;
+    Ok(files)
+}
+
+// Reads and writes are numbered together.
+#[test]
+fn a_memory_desk_fails_at_its_calls(rt: HostRuntime) -> Result<(), Fail> {
+    let alloc = rt.alloc();
+    let mut desk = MemoryDesk::new(one_file(alloc)?, [1, 4, 6].to_vec(alloc)?);
     assert_eq!(rt; put(&mut desk, "a", b"xyz"), DeskWrite::Done);
     assert_eq!(rt; put(&mut desk, "a", b"w"), DeskWrite::Failed);
-    let reads: [(&str, usize, &[u8]); 5] = [
-        ("a", 3, b"xyz"),
-        ("a", 2, b"too long"),
-        ("b", 1, b"failed"),
-        ("c", 1, b"absent"),
-        ("b", 1, b"failed"),
-    ];
-    for (name, limit, want) in reads {
-        let got = seen(alloc, &mut desk, name, limit)?;
-        assert_eq!(rt; got.as_slice(), want, "{name} {limit}");
+    for (name, limit, want) in [
+        ("a", 3, Seen::Same),
+        ("a", 2, Seen::TooLong),
+        ("b", 9, Seen::Failed),
+        ("c", 9, Seen::Absent),
+        ("a", 3, Seen::Failed),
+        ("b", 9, Seen::Other),
+    ] {
+        assert_eq!(rt; see(alloc, &mut desk, name, limit, b"xyz"), want);
     }
-    assert_eq!(rt; put(&mut desk, "b", b""), DeskWrite::Done);
-    assert_eq!(rt; seen(alloc, &mut desk, "b", 0)?.as_slice(), b"".as_slice());
+    Ok(())
+}
 
-    // one byte a call; the third call fails, and the byte comes with the fourth
-    let mut source = MemorySource::new(b"abc".to_vec(alloc)?, [2, 5].to_vec(alloc)?, 1);
-    let drains: [(&[u8], Got); 4] = [
-        (b"ab", Got::Failed),
-        (b"c", Got::End),
-        (b"", Got::Failed),
-        (b"", Got::End),
-    ];
-    for (want, end) in drains {
-        let (bytes, got) = drain(alloc, &mut source)?;
-        assert_eq!(rt; bytes.as_slice(), want);
-        assert_eq!(rt; got, end);
-    }
+// The third call fails, and its byte comes with the fourth.
+#[test]
+fn a_memory_source_fails_at_its_calls(rt: HostRuntime) -> Result<(), Fail> {
+    let alloc = rt.alloc();
+    let mut source = MemorySource::new(b"abc".to_vec(alloc)?, [2, 4].to_vec(alloc)?, 1);
+    assert!(rt; gives(&mut source, b"a") && gives(&mut source, b"b"));
+    assert_eq!(rt; ends(&mut source), Got::Failed);
+    assert!(rt; gives(&mut source, b"c"));
+    assert_eq!(rt; ends(&mut source), Got::Failed);
+    assert_eq!(rt; ends(&mut source), Got::End);
+    Ok(())
+}
 
-    // the second call fails, and so do those behind the last room
-    let mut room = Vec::with_capacity(alloc, 4)?;
-    room.push(b'-')?;
-    let spare = room.capacity() - room.len();
-    let mut sink = MemorySink::new(room, [1].to_vec(alloc)?);
-    assert_eq!(rt; spare, 3);
-    let puts: [(&[u8], Put); 5] = [
-        (b"a", Put::Took(1)),
-        (b"b", Put::Failed),
-        (b"bcd", Put::Took(2)),
-        (b"d", Put::Failed),
-        (b"d", Put::Failed),
-    ];
-    for (bytes, want) in puts {
-        prove!(!bytes.is_empty());
-        assert_eq!(rt; send(&mut sink, bytes), want);
+// The second call fails, and so do those behind the last room.
+#[test]
+fn a_memory_sink_fails_at_its_calls(rt: HostRuntime) -> Result<(), Fail> {
+    let alloc = rt.alloc();
+    let mut sink = MemorySink::new(Vec::with_capacity(alloc, 3)?, [1].to_vec(alloc)?);
+    for (bytes, want) in [
+        (b"a--".as_slice(), Put::Took(3)),
+        (b"b".as_slice(), Put::Failed),
+        (b"c".as_slice(), Put::Failed),
+    ] {
+        assert_eq!(rt; send(&mut sink, bytes), Some(want));
     }
-    assert_eq!(rt; sink.bytes(), b"-abc".as_slice());
+    let mut sink = MemorySink::new(Vec::with_capacity(alloc, 3)?, [0, 2].to_vec(alloc)?);
+    for (bytes, want) in [
+        (b"a".as_slice(), Put::Failed),
+        (b"bc".as_slice(), Put::Took(2)),
+        (b"d".as_slice(), Put::Failed),
+        (b"ef".as_slice(), Put::Took(1)),
+    ] {
+        assert_eq!(rt; send(&mut sink, bytes), Some(want));
+    }
+    assert_eq!(rt; sink.bytes(), b"bce".as_slice());
     Ok(())
 }
 
 #[test]
 fn a_file_desk_reads_and_writes(rt: HostRuntime) -> Result<(), Fail> {
     let alloc = rt.alloc();
-    let name = "vt_outside.file_desk";
-    let empty = "vt_outside.empty";
     let mut desk = FileDesk::new(&rt);
-    let writes: [(&str, &[u8], DeskWrite); 6] = [
-        (empty, b"to be cut", DeskWrite::Done),
-        (empty, b"", DeskWrite::Done),
-        (name, b"a longer file", DeskWrite::Done),
-        (name, b"hello", DeskWrite::Done),
-        (".", b"hello", DeskWrite::Failed),
-        ("vt_outside.none/none", b"hello", DeskWrite::Failed),
-    ];
-    for (name, bytes, want) in writes {
+    for (name, bytes, want) in [
+        ("outside.empty", b"to be cut".as_slice(), DeskWrite::Done),
+        ("outside.empty", b"".as_slice(), DeskWrite::Done),
+        (
+            "outside.file",
+            b"longer than the next".as_slice(),
+            DeskWrite::Done,
+        ),
+        ("outside.file", b"hello".as_slice(), DeskWrite::Done),
+        (".", b"hello".as_slice(), DeskWrite::Failed),
+        ("outside.none/none", b"hello".as_slice(), DeskWrite::Failed),
+    ] {
         assert_eq!(rt; put(&mut desk, name, bytes), want, "{name}");
     }
-    let reads: [(&str, usize, &[u8]); 8] = [
-        (name, 6, b"hello"),
-        (name, 5, b"hello"),
-        (name, 4, b"too long"),
-        (name, 0, b"too long"),
-        (empty, 0, b""),
-        ("vt_outside.none", 4, b"absent"),
-        (".", 4, b"failed"),
-        ("/dev/zero", 4, b"too long"),
-    ];
-    for (name, limit, want) in reads {
-        let got = seen(alloc, &mut desk, name, limit)?;
-        assert_eq!(rt; got.as_slice(), want, "{name} {limit}");
+    for (name, limit, want) in [
+        ("outside.file", 6, Seen::Same),
+        ("outside.file", 5, Seen::Same),
+        ("outside.file", 4, Seen::TooLong),
+        ("outside.empty", 0, Seen::Other),
+        ("outside.none", 4, Seen::Absent),
+        (".", 4, Seen::Failed),
+        ("/dev/zero", 4, Seen::TooLong),
+    ] {
+        assert_eq!(rt;
+            see(alloc, &mut desk, name, limit, b"hello"),
+            want,
+            "{name} {limit}"
+        );
     }
-    fs::remove_file(&rt, name)?;
-    fs::remove_file(&rt, empty)?;
+    fs::remove_file(&rt, "outside.file")?;
+    fs::remove_file(&rt, "outside.empty")?;
     Ok(())
 }
 
+// A directory can't be read, and a file that was opened for reading can't be written.
 #[test]
 fn streams_are_read_and_written(rt: HostRuntime) -> Result<(), Fail> {
-    let alloc = rt.alloc();
-    let name = "vt_outside.stream";
-    let mut sink = OutSink::new(fs::create(&rt, name)?);
+    let mut sink = OutSink::new(fs::create(&rt, "outside.stream")?);
     assert!(rt; write_all(&mut sink, b"abc").is_ok());
-    assert_eq!(rt; send(&mut sink, b"de"), Put::Took(2));
-
-    let mut source = InSource::new(fs::open(&rt, name)?);
-    let (bytes, end) = drain(alloc, &mut source)?;
-    assert_eq!(rt; bytes.as_slice(), b"abcde".as_slice());
-    assert_eq!(rt; end, Got::End);
-
-    // a directory can't be read, a file that was opened to be read can't be written, and a full slice takes nothing
+    let mut source = InSource::new(fs::open(&rt, "outside.stream")?);
+    assert!(rt; gives(&mut source, b"ab") && gives(&mut source, b"c"));
+    assert_eq!(rt; ends(&mut source), Got::End);
+    let mut sink = OutSink::new(fs::open(&rt, "outside.stream")?);
+    assert_eq!(rt; send(&mut sink, b"f"), Some(Put::Failed));
     let mut source = InSource::new(fs::open(&rt, ".")?);
-    assert_eq!(rt; drain(alloc, &mut source)?.1, Got::Failed);
-    let mut sink = OutSink::new(fs::open(&rt, name)?);
-    assert_eq!(rt; send(&mut sink, b"f"), Put::Failed);
+    assert_eq!(rt; ends(&mut source), Got::Failed);
+    pass(&OpenGate);
+    fs::remove_file(&rt, "outside.stream")?;
+    Ok(())
+}
+
+// A full writer takes a prefix, and then nothing.
+#[test]
+fn a_full_writer_fails(rt: HostRuntime) {
     let mut room = [0; 2];
     let mut sink = OutSink::new(room.as_mut_slice());
     assert!(rt; write_all(&mut sink, b"abc").is_err());
-    assert_eq!(rt; room.as_slice(), b"ab".as_slice());
-    pass(&OpenGate);
-    fs::remove_file(&rt, name)?;
-    Ok(())
+    assert_eq!(rt; room, *b"ab");
 }

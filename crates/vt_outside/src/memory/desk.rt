@@ -115,11 +115,7 @@ impl Desk for MemoryDesk {
 }
 
 // Puts the bytes under the name.
-fn put(
-    files: &mut Vec<(String, Vec<u8>)>,
-    name: &str,
-    bytes: &[u8],
-) -> Result<(), AllocError>
+fn put(files: &mut Vec<(String, Vec<u8>)>, name: &str, bytes: &[u8]) -> Result<(), AllocError>
     ensures ok { OnOk result (Puts (contents_of (map file_of files.old.items)) (contents_of (map file_of files.new.items)) name.now bytes.now) }
     ensures err { OnErr result (files.new.items ≡ files.old.items) }
 {
