@@ -1,4 +1,5 @@
 // The forms and adapters, each through the bounds of its trait.
+ghost use Rattle.std.specs.Prelude.{◌≡◌, None};
 
 use crate::{
     Desk, DeskRead, DeskWrite, FileDesk, Gate, Got, InSource, MemoryDesk, MemorySink, MemorySource,
@@ -6,6 +7,7 @@ use crate::{
 };
 use std::alloc::{AllocError, Global};
 use std::fs;
+use std::rt::{Stderr, Stdin, Stdout};
 use std::test::Fail;
 
 // What a read of a file answers, without its bytes.
@@ -56,6 +58,25 @@ fn gives<S: Source>(source: &mut S, want: &[u8]) -> bool {
 
 fn ends<S: Source>(source: &mut S) -> Got {
     source.read(&mut [0; 2])
+}
+
+// The standard streams tell nothing of what they hold.
+fn standard_input(stdin: Stdin) -> InSource<Stdin>
+    ensures { ⟦<InSource<Stdin> as Source>⟧.meaning result ≡ record { left = None; faults = 0 } }
+{
+    InSource::new(stdin)
+}
+
+fn standard_output(stdout: Stdout) -> OutSink<Stdout>
+    ensures { ⟦<OutSink<Stdout> as Sink>⟧.meaning result ≡ record { taken = None; faults = 0 } }
+{
+    OutSink::new(stdout)
+}
+
+fn standard_error(stderr: Stderr) -> OutSink<Stderr>
+    ensures { ⟦<OutSink<Stderr> as Sink>⟧.meaning result ≡ record { taken = None; faults = 0 } }
+{
+    OutSink::new(stderr)
 }
 
 fn one_file(alloc: Global) -> Result<Vec<(String, Vec<u8>)>, AllocError> {
@@ -175,6 +196,14 @@ fn streams_are_read_and_written(rt: HostRuntime) -> Result<(), Fail> {
     pass(&OpenGate);
     fs::remove_file(&rt, "outside.stream")?;
     Ok(())
+}
+
+#[test]
+fn standard_streams_are_lent(rt: HostRuntime) {
+    let _input = standard_input(rt.stdin());
+    let _output = standard_output(rt.stdout());
+    let mut report = standard_error(rt.stderr());
+    assert!(rt; send(&mut report, b"").is_none());
 }
 
 // A full writer takes a prefix, and then nothing.

@@ -29,8 +29,8 @@ impl Model for MemoryDesk {
 }
 
 impl MemoryDesk {
-    /// It has a file for each pair of a name and its contents, for different names. `fails` has the numbers of
-    /// the calls that are to fail, from 0.
+    /// It has a file for each pair of a name and its contents, for different names. `fails` has the numbers
+    /// of the calls that are to fail, from 0 and below `u64::MAX`.
     pub fn new(contents: Vec<(String, Vec<u8>)>, fails: Vec<u64>) -> Self
         ensures { result ≡ fresh_desk (map file_of contents.items) fails.items }
     {

@@ -33,7 +33,7 @@ impl MemorySink {
     ghost use Rattle.vt_outside.specs.Memory.{fresh_sink};
 
     /// It has taken `contents`, and has their vector's spare room. `fails` has the numbers of the calls that
-    /// are to fail, from 0.
+    /// are to fail, from 0 and below `u64::MAX`.
     pub fn new(contents: Vec<u8>, fails: Vec<u64>) -> Self
         ensures { result ≡ fresh_sink contents fails.items }
     {

@@ -32,7 +32,7 @@ impl Model for MemorySource {
 
 impl MemorySource {
     /// It gives `contents`, at most `most` bytes a call. `fails` has the numbers of the calls that are to
-    /// fail, from 0.
+    /// fail, from 0 and below `u64::MAX`.
     pub fn new(contents: Vec<u8>, fails: Vec<u64>, most: usize) -> Self
         requires { 1 ≤ most }
         ensures { result ≡ fresh_source contents.items fails.items most }
