@@ -10,19 +10,18 @@ use Rattle.alpha_meaning.specs.declared.access.AlphaKind.TheVariants.{Load, Load
 use Rattle.alpha_meaning.specs.declared.access.AlphaAccess.{AlphaAccess}
 use Rattle.alpha_meaning.specs.declared.access.Extension.{Extension}
 use Rattle.alpha_meaning.specs.declared.access.Extension.TheVariants.{Zero, Sign}
-use Rattle.alpha_meaning.specs.State.{Regs}
 use Rattle.alpha_meaning.specs.Result.{plus, times}
 
 -- the kind of access; LDA and LDAH make none, and leave the address in Ra
 abbrev pub kind_of : MemoryOp → Option AlphaKind
-kind_of Lda = None                    -- Load Address
+kind_of Lda = None  -- Load Address
 kind_of Ldah = None
-kind_of LdqU = Some Load              -- Load Quadword Unaligned
-kind_of Ldl = Some Load               -- Load Memory Data into Integer Register
+kind_of LdqU = Some Load  -- Load Quadword Unaligned
+kind_of Ldl = Some Load  -- Load Memory Data into Integer Register
 kind_of Ldq = Some Load
-kind_of LdlL = Some LoadLocked        -- Load Memory Data into Integer Register Locked
+kind_of LdlL = Some LoadLocked  -- Load Memory Data into Integer Register Locked
 kind_of LdqL = Some LoadLocked
-kind_of Stl = Some Store              -- Store Integer Register Data into Memory
+kind_of Stl = Some Store  -- Store Integer Register Data into Memory
 kind_of Stq = Some Store
 kind_of StlC = Some StoreConditional  -- Store Integer Register Data into Memory Conditional
 kind_of StqC = Some StoreConditional
