@@ -1,0 +1,264 @@
+-- Laws of the judgement on pieces of code.
+use Rattle.std.proofs.Common.{◌≡◌, ℕ, zero, suc, ◌+◌, ◌-◌, ◌^◌, ◌<◌, ◌≤◌, refl, sym, ◌∙◌, subst, arith, Option, Some, None, Bool, true, false}
+use Rattle.std.specs.Prelude.{◌==◌}
+use Rattle.std.proofs.lemmas.Bool.Decides.{nat_tests}
+use Rattle.alpha_encode.specs.declared.instr.AlphaInstr.{AlphaInstr}
+use Rattle.alpha_encode.specs.declared.instr.AlphaInstr.TheVariants.{Memory, Branch, Operate, Jump, Pal}
+use Rattle.alpha_meaning.specs.declared.access.AlphaKind.{AlphaKind}
+use Rattle.alpha_meaning.specs.declared.access.AlphaKind.TheVariants.{Load, LoadLocked, Store, StoreConditional}
+use Rattle.alpha_meaning.specs.declared.access.AlphaAccess.{AlphaAccess}
+use Rattle.alpha_meaning.specs.State.{Alpha, Regs, at_place}
+use Rattle.alpha_meaning.specs.Memory.{kind_of}
+use Rattle.alpha_meaning.specs.Act.{Does, Goes, Asks, Calls, act, finished, memory_act_by, memory_finish_by}
+use Rattle.alpha_meaning.specs.Pieces.{quad_of, loaded, changed, Terms, Fetch, Plan, Access, Over, bind, Wants, Wanted, Nothing, wants, Phase, Plain, Held, Failed, Made, Accesses, Acts, Steps, Forth, phase_after, Piece, Choose, Ended, Runs, piece}
+
+-- ---- one step, from one tree to another
+-- the second tree wants the same access, and related trees follow
+abbrev pub Covers : {T U : Type 0} → (T → U → Type 0) → Wants T → Wants U → Type 0
+Covers R (Wanted quad leaves rest) (Wanted quad' leaves' rest') = (quad' ≡ quad) × ((before : ℕ) → before < 2 ^ 64 → (leaves before ≡ leaves' before) × R (rest before) (rest' before))
+Covers R (Wanted quad leaves rest) Nothing = ⊥
+Covers R Nothing x = Unit {0}
+
+module _ {T U : Type 0} (R : T → U → Type 0) (more : ℕ) (Next : Phase → ℕ → Alpha → T → Type 0) (Next' : Phase → ℕ → Alpha → U → Type 0) (go : (phase : Phase) (spare : ℕ) (d : Alpha) (t : T) (u : U) → R t u → Next phase spare d t → Next' phase (spare + more) d u) where
+  swap : (earned : ℕ) (phase : Phase) (spare : ℕ) (d : Alpha) (u : U) → Next' phase (spare + earned + more) d u → Next' phase (spare + more + earned) d u
+  swap earned phase spare d u h = let e : spare + earned + more ≡ spare + more + earned = omega arith in subst (λ s. Next' phase s d u) e h
+
+  made_map : (w : Wants T) (x : Wants U) (quad : ℕ) (left : ℕ → ℕ) (Fits : ℕ → Type 0) (on : ℕ → Alpha) (bonus spare : ℕ) → Covers R w x
+      → Made w quad left Fits (λ before u. Next Plain (spare + bonus) (on before) u) → Made x quad left Fits (λ before u. Next' Plain (spare + more + bonus) (on before) u)
+  made_map (Wanted q l k) (Wanted q' l' k') quad left Fits on bonus spare c h =
+      (c.0 ∙ h.0, λ before lt fits. ((h.1 before lt fits).0 ∙ (c.1 before lt).0, swap bonus Plain spare (on before) (k' before) (go Plain (spare + bonus) (on before) (k before) (k' before) (c.1 before lt).1 (h.1 before lt fits).1)))
+  made_map (Wanted q l k) Nothing quad left Fits on bonus spare c h = absurd c
+  made_map Nothing x quad left Fits on bonus spare c h = absurd h
+
+  accesses_map : (kind : AlphaKind) (phase : Phase) (place : ℕ) (w : Wants T) (x : Wants U) (quad : ℕ) (left : ℕ → ℕ) (on : ℕ → Bool → Alpha) (bonus spare : ℕ) (t : T) (u : U) → Covers R w x → R t u
+      → Accesses kind phase place w quad left on bonus spare t Next → Accesses kind phase place x quad left on bonus (spare + more) u Next'
+  accesses_map Load Plain place w x quad left on bonus spare t u c r h = made_map w x quad (λ b. b) (λ _. Unit {0}) (λ b. on b true) bonus spare c h
+  accesses_map Store Plain place w x quad left on bonus spare t u c r h = made_map w x quad left (λ _. Unit {0}) (λ b. on b true) bonus spare c h
+  accesses_map LoadLocked Plain place w x quad left on bonus spare t u c r h = λ b lt. go (Held quad b place) spare (on b true) t u r (h b lt)
+  accesses_map StoreConditional (Held q found first) place w x quad left on bonus spare t u c r h =
+      (h.0, made_map w x quad left (λ b. b ≡ found) (λ b. on b true) bonus spare c h.1, λ b lt. swap 16 (Failed first) spare (on b false) u (go (Failed first) (spare + 16) (on b false) t u r (h.2 b lt)))
+  accesses_map kind phase place w x quad left on bonus spare t u c r h = absurd h
+
+  module _ (terms : Terms) (phase : Phase) (spare : ℕ) (c : Alpha) (w : Wants T) (x : Wants U) (t : T) (u : U) (covers : Covers R w x) (r : R t u) (Moves Moves' : Alpha → Type 0) (Pal Pal' : ℕ → Type 0) (moves : (d : Alpha) → Moves d → Moves' d) (pal : (n : ℕ) → Pal n → Pal' n) where
+    acts_map : (does : Does) (i : AlphaInstr) → Acts does i terms phase spare c w t Moves Pal Next → Acts does i terms phase (spare + more) c x u Moves' Pal' Next'
+    acts_map (Goes d) i h = moves d h
+    acts_map (Asks a) i h = (h.0, h.1, h.2, accesses_map a.kind phase c.pc w x (quad_of a) (changed a) (λ b s. finished i (loaded a b) s c) terms.bonus spare t u covers r h.3)
+    acts_map (Calls n) i h = pal n h
+
+    pub steps_map : (o : Option AlphaInstr) → Steps o terms phase spare c w t Moves Pal Next → Steps o terms phase (spare + more) c x u Moves' Pal' Next'
+    steps_map None h = absurd h
+    steps_map (Some i) h = acts_map (act i c) i h
+
+-- ---- one step on the same tree, with other things owed behind it
+-- an access ends at the next word
+asks_next : (i : AlphaInstr) (c : Alpha) (a : AlphaAccess) → act i c ≡ Asks a → (value : ℕ) (success : Bool) → (finished i value success c).pc ≡ c.pc + 1
+asks_next (Memory op ra rb disp) c a h value success = by_kind (kind_of op) h
+  where
+    by_kind : (o : Option AlphaKind) → memory_act_by o op ra rb disp c ≡ Asks a → (memory_finish_by o op ra value success c).pc ≡ c.pc + 1
+    by_kind None e = cc
+    by_kind (Some Load) e = refl
+    by_kind (Some LoadLocked) e = refl
+    by_kind (Some Store) e = refl
+    by_kind (Some StoreConditional) e = refl
+asks_next (Branch op ra disp) c a h value success = cc
+asks_next (Operate op ra rb rc) c a h value success = cc
+asks_next (Jump ra rb) c a h value success = cc
+asks_next (Pal n) c a h value success = cc
+
+module _ {T : Type 0} (terms : Terms) (phase : Phase) (spare : ℕ) (c : Alpha) (t : T) (Moves Moves' : Alpha → Type 0) (Pals Pals' : ℕ → Type 0) (Next Next' : Phase → ℕ → Alpha → T → Type 0)
+    (moves : (d : Alpha) → Moves d → Moves' d) (pals : (n : ℕ) → Pals n → Pals' n) (next : (phase : Phase) (spare : ℕ) (d : Alpha) (u : T) → d.pc ≡ c.pc + 1 → Next phase spare d u → Next' phase spare d u) where
+  made_refine : (w : Wants T) (quad : ℕ) (left : ℕ → ℕ) (Fits : ℕ → Type 0) (on : ℕ → Alpha) (spare : ℕ) → ((before : ℕ) → (on before).pc ≡ c.pc + 1)
+      → Made w quad left Fits (λ before u. Next Plain spare (on before) u) → Made w quad left Fits (λ before u. Next' Plain spare (on before) u)
+  made_refine (Wanted q l k) quad left Fits on spare at h = (h.0, λ b lt fits. ((h.1 b lt fits).0, next Plain spare (on b) (k b) (at b) (h.1 b lt fits).1))
+  made_refine Nothing quad left Fits on spare at h = absurd h
+
+  accesses_refine : (kind : AlphaKind) (phase : Phase) (place : ℕ) (w : Wants T) (quad : ℕ) (left : ℕ → ℕ) (on : ℕ → Bool → Alpha) (bonus : ℕ) → ((before : ℕ) (success : Bool) → (on before success).pc ≡ c.pc + 1)
+      → Accesses kind phase place w quad left on bonus spare t Next → Accesses kind phase place w quad left on bonus spare t Next'
+  accesses_refine Load Plain place w quad left on bonus at h = made_refine w quad (λ b. b) (λ _. Unit {0}) (λ b. on b true) (spare + bonus) (λ b. at b true) h
+  accesses_refine Store Plain place w quad left on bonus at h = made_refine w quad left (λ _. Unit {0}) (λ b. on b true) (spare + bonus) (λ b. at b true) h
+  accesses_refine LoadLocked Plain place w quad left on bonus at h = λ b lt. next (Held quad b place) spare (on b true) t (at b true) (h b lt)
+  accesses_refine StoreConditional (Held q found first) place w quad left on bonus at h =
+      (h.0, made_refine w quad left (λ b. b ≡ found) (λ b. on b true) (spare + bonus) (λ b. at b true) h.1, λ b lt. next (Failed first) (spare + 16) (on b false) t (at b false) (h.2 b lt))
+  accesses_refine kind phase place w quad left on bonus at h = absurd h
+
+  acts_refine : (w : Wants T) (does : Does) (i : AlphaInstr) → act i c ≡ does → Acts does i terms phase spare c w t Moves Pals Next → Acts does i terms phase spare c w t Moves' Pals' Next'
+  acts_refine w (Goes d) i is h = moves d h
+  acts_refine w (Asks a) i is h = (h.0, h.1, h.2, accesses_refine a.kind phase c.pc w (quad_of a) (changed a) (λ b s. finished i (loaded a b) s c) terms.bonus (λ b s. asks_next i c a is (loaded a b) s) h.3)
+  acts_refine w (Calls n) i is h = pals n h
+
+  pub steps_refine : (w : Wants T) (o : Option AlphaInstr) → Steps o terms phase spare c w t Moves Pals Next → Steps o terms phase spare c w t Moves' Pals' Next'
+  steps_refine w None h = absurd h
+  steps_refine w (Some i) h = acts_refine w (act i c) i refl h
+
+-- ---- the form of one step
+eq_no : (a b : ℕ) → a < b → (a == b) ≡ false
+eq_no a b h = grind (arith, nat_tests)
+
+eq_yes : (a b : ℕ) → a ≡ b → (a == b) ≡ true
+eq_yes a b h = grind (arith, nat_tests)
+
+pub eq_is : (a b : ℕ) → (a == b) ≡ true → a ≡ b
+eq_is a b h = grind (arith, nat_tests, h)
+
+-- the clause of one step, with what follows left open
+abbrev pub Inside : {A : Type 0} → Piece → (Phase → ℕ → Alpha → Plan A → Type 0) → Phase → ℕ → Alpha → Plan A → Type 0
+Inside p Next phase spare c t =
+    (p.from ≤ c.pc) × (c.pc < p.to) × (0 < spare)
+    × Steps (p.fetch c.pc) p.terms phase (spare - 1) c (wants t) t (λ d. Forth phase p.from c.pc d.pc × (d.pc ≤ p.to) × Next (phase_after phase c.pc d.pc) (spare - 1) d t) (λ _. ⊥) Next
+
+pub no_steps : {A : Type 0} (p : Piece) (Ends : A → Regs → Type 0) (phase : Phase) (spare : ℕ) (c : Alpha) (t : Plan A) → Runs p Ends 0 phase spare c t
+unfolding Runs
+no_steps p Ends phase spare c t = tt
+
+pub begin : {A : Type 0} (p : Piece) (Ends : A → Regs → Type 0) (n : ℕ) (phase : Phase) (spare : ℕ) (c : Alpha) (t : Plan A) → Inside p (Runs p Ends n) phase spare c t → Runs p Ends (suc n) phase spare c t
+unfolding Runs
+begin p Ends n phase spare c t h = subst (λ b. Choose b (Ended Ends phase t c.regs) (Inside p (Runs p Ends n) phase spare c t)) (sym (eq_no c.pc p.to h.1)) h
+
+pub ends : {A : Type 0} (p : Piece) (Ends : A → Regs → Type 0) (n spare : ℕ) (c : Alpha) (a : A) → c.pc ≡ p.to → Ends a c.regs → Runs p Ends n Plain spare c (Over a)
+unfolding Runs
+ends p Ends zero spare c a at h = tt
+ends p Ends (suc n) spare c a at h = subst (λ b. Choose b (Ends a c.regs) (Inside p (Runs p Ends n) Plain spare c (Over a))) (sym (eq_yes c.pc p.to at)) h
+
+-- what holds for one step more: the piece is at its end, or makes a step
+pub data Runs_by {A : Type 0} (p : Piece) (Ends : A → Regs → Type 0) (n : ℕ) (phase : Phase) (spare : ℕ) (c : Alpha) (t : Plan A) : Type 0 where
+  at_end : c.pc ≡ p.to → Ended Ends phase t c.regs → Runs_by p Ends n phase spare c t
+  inside : Inside p (Runs p Ends n) phase spare c t → Runs_by p Ends n phase spare c t
+
+pub runs_by : {A : Type 0} (p : Piece) (Ends : A → Regs → Type 0) (n : ℕ) (phase : Phase) (spare : ℕ) (c : Alpha) (t : Plan A) → Runs p Ends (suc n) phase spare c t → Runs_by p Ends n phase spare c t
+unfolding Runs
+runs_by p Ends n phase spare c t h = split (c.pc == p.to) refl h
+  where
+    split : (b : Bool) → (c.pc == p.to) ≡ b → Choose b (Ended Ends phase t c.regs) (Inside p (Runs p Ends n) phase spare c t) → Runs_by p Ends n phase spare c t
+    split true e h = at_end (eq_is c.pc p.to e) h
+    split false e h = inside h
+
+-- ---- from a piece to anything that is made of the same steps
+module _ {A T : Type 0} (p : Piece) (Ends : A → Regs → Type 0) (R : Plan A → T → Type 0) (head : T → Wants T) (J : ℕ → Phase → ℕ → Alpha → T → Type 0) (more : ℕ)
+    (covers : (t : Plan A) (u : T) → R t u → Covers R (wants t) (head u))
+    (none : (phase : Phase) (spare : ℕ) (c : Alpha) (u : T) → J 0 phase spare c u)
+    (next : (n : ℕ) (phase : Phase) (spare : ℕ) (c : Alpha) (u : T) → p.from ≤ c.pc → c.pc < p.to → 0 < spare
+    → Steps (p.fetch c.pc) p.terms phase (spare - 1) c (head u) u (λ d. Forth phase p.from c.pc d.pc × (d.pc ≤ p.to) × J n (phase_after phase c.pc d.pc) (spare - 1) d u) (λ _. ⊥) (J n)
+    → J (suc n) phase spare c u) where
+  -- what the rest owes behind the piece, for so many steps and more room
+  abbrev pub Behind : ℕ → Type 0
+  Behind most = (n spare : ℕ) (a : A) (regs : Regs) (u : T) → n ≤ most → more ≤ spare → Ends a regs → R (Over a) u → J n Plain spare (at_place regs p.to) u
+
+  behind_end : (most n spare : ℕ) (phase : Phase) (c : Alpha) (t : Plan A) (u : T) → Behind most → n ≤ most → c.pc ≡ p.to → Ended Ends phase t c.regs → R t u → J n phase (spare + more) c u
+  behind_end most n spare Plain c (Over a) u k le at h r = subst (λ pc. J n Plain (spare + more) (at_place c.regs pc) u) (sym at) (k n (spare + more) a c.regs u le (omega arith) h r)
+  behind_end most n spare Plain c (Access _ _ _) u k le at h r = absurd h
+  behind_end most n spare (Held _ _ _) c t u k le at h r = absurd h
+  behind_end most n spare (Failed _) c t u k le at h r = absurd h
+
+  -- the next step, where the rest is proved for fewer
+  onward : (most n m : ℕ) → suc n ≤ most → Behind most → (phase : Phase) (spare : ℕ) (c : Alpha) (t : Plan A) (u : T) → R t u
+      → ((phase : Phase) (spare : ℕ) (c : Alpha) (t : Plan A) (u : T) → R t u → Runs p Ends m phase spare c t → J n phase (spare + more) c u)
+      → Runs_by p Ends m phase spare c t → J (suc n) phase (spare + more) c u
+  onward most n m le k phase spare c t u r again (at_end at e) = behind_end most (suc n) spare phase c t u k le at e r
+  onward most n m le k phase spare c t u r again (inside i) =
+      let some : 0 < spare = i.2 in
+      let less : spare - 1 + more ≡ spare + more - 1 = omega arith in
+      next n phase (spare + more) c u i.0 i.1 (omega arith)
+      (subst (λ s. Steps (p.fetch c.pc) p.terms phase s c (head u) u (λ d. Forth phase p.from c.pc d.pc × (d.pc ≤ p.to) × J n (phase_after phase c.pc d.pc) s d u) (λ _. ⊥) (J n)) less
+      (steps_map R more (Runs p Ends m) (J n) again p.terms phase (spare - 1) c (wants t) (head u) t u (covers t u r) r _ _ _ _
+      (λ d w. (w.0, w.1, again (phase_after phase c.pc d.pc) (spare - 1) d t u r w.2)) (λ _ x. x) (p.fetch c.pc) i.3))
+
+  pub onto : (most n m : ℕ) → n ≤ m → n ≤ most → Behind most → (phase : Phase) (spare : ℕ) (c : Alpha) (t : Plan A) (u : T) → R t u → Runs p Ends m phase spare c t → J n phase (spare + more) c u
+  onto most zero m le le' k phase spare c t u r h = none phase (spare + more) c u
+  onto most (suc n) zero le le' k phase spare c t u r h = absurd (omega arith)
+  onto most (suc n) (suc m) le le' k phase spare c t u r h =
+      onward most n m le' k phase spare c t u r (onto most n m (omega arith) (omega arith) k) (runs_by p Ends m phase spare c t h)
+
+-- ---- the same piece
+same_covers : {A : Type 0} (t u : Plan A) → u ≡ t → Covers (λ (t : Plan A) (u : Plan A). u ≡ t) (wants t) (wants u)
+same_covers {A} t u e = subst (λ x. Covers (λ (t : Plan A) (u : Plan A). u ≡ t) (wants t) (wants x)) (sym e) (self t)
+  where
+    self : (t : Plan A) → Covers (λ (t : Plan A) (u : Plan A). u ≡ t) (wants t) (wants t)
+    self (Access quad leaves rest) = (refl, λ before lt. (refl, refl))
+    self (Over a) = tt
+
+-- what holds for some steps and some room holds for fewer steps and more room
+pub fewer : {A : Type 0} (p : Piece) (Ends : A → Regs → Type 0) (n m more : ℕ) → n ≤ m → (phase : Phase) (spare : ℕ) (c : Alpha) (t : Plan A) → Runs p Ends m phase spare c t → Runs p Ends n phase (spare + more) c t
+fewer {A} p Ends n m more le phase spare c t h =
+    onto p Ends (λ (t : Plan A) (u : Plan A). u ≡ t) wants (Runs p Ends) more same_covers (no_steps p Ends)
+    (λ n phase spare c u from to some steps. begin p Ends n phase spare c u (from, to, some, steps))
+    n n m le (omega arith)
+    (λ n spare a regs u le room h e. subst (Runs p Ends n Plain spare (at_place regs p.to)) (sym e) (ends p Ends n spare (at_place regs p.to) a refl h))
+    phase spare c t t refl h
+
+-- ---- one piece and then another
+further : (phase : Phase) (from from' pc pc' : ℕ) → from' ≤ from → Forth phase from pc pc' → Forth phase from' pc pc'
+further Plain from from' pc pc' le h = h
+further (Held _ _ _) from from' pc pc' le h = h
+further (Failed _) from from' pc pc' le h = (let at = h.0 in omega arith, h.1)
+
+bind_covers : {A B : Type 0} (f : A → Plan B) (t : Plan A) (u : Plan B) → u ≡ bind t f → Covers (λ (t : Plan A) (u : Plan B). u ≡ bind t f) (wants t) (wants u)
+bind_covers {A} {B} f t u e = subst (λ x. Covers (λ (t : Plan A) (u : Plan B). u ≡ bind t f) (wants t) (wants x)) (sym e) (self t)
+  where
+    self : (t : Plan A) → Covers (λ (t : Plan A) (u : Plan B). u ≡ bind t f) (wants t) (wants (bind t f))
+    self (Access quad leaves rest) = (refl, λ before lt. (refl, refl))
+    self (Over a) = tt
+
+pub then_runs : {A B : Type 0} (fetch : Fetch) (terms : Terms) (from mid to more : ℕ) (Ends : A → Regs → Type 0) (Ends' : B → Regs → Type 0) (f : A → Plan B) → mid ≤ to
+    → (n : ℕ) → ((m spare : ℕ) (a : A) (regs : Regs) → m ≤ n → more ≤ spare → Ends a regs → Runs (piece fetch terms from to) Ends' m Plain spare (at_place regs mid) (f a))
+    → (phase : Phase) (spare : ℕ) (c : Alpha) (t : Plan A) → Runs (piece fetch terms from mid) Ends n phase spare c t → Runs (piece fetch terms from to) Ends' n phase (spare + more) c (bind t f)
+then_runs {A} {B} fetch terms from mid to more Ends Ends' f le n k phase spare c t h =
+    let p = piece fetch terms from mid in
+    let w = piece fetch terms from to in
+    onto p Ends (λ (t : Plan A) (u : Plan B). u ≡ bind t f) wants (Runs w Ends') more (bind_covers f) (no_steps w Ends')
+    (λ n phase spare c u in_from in_to some steps. begin w Ends' n phase spare c u (in_from, omega arith, some, longer n phase spare c u in_from in_to steps))
+    n n n (omega arith) (omega arith)
+    (λ m spare a regs u le room h e. subst (Runs w Ends' m Plain spare (at_place regs mid)) (sym e) (k m spare a regs le room h))
+    phase spare c t (bind t f) refl h
+  where
+    longer : (n : ℕ) (phase : Phase) (spare : ℕ) (c : Alpha) (u : Plan B) → from ≤ c.pc → c.pc < mid
+        → Steps (fetch c.pc) terms phase (spare - 1) c (wants u) u (λ d. Forth phase from c.pc d.pc × (d.pc ≤ mid) × Runs (piece fetch terms from to) Ends' n (phase_after phase c.pc d.pc) (spare - 1) d u) (λ _. ⊥) (Runs (piece fetch terms from to) Ends' n)
+        → Steps (fetch c.pc) terms phase (spare - 1) c (wants u) u (λ d. Forth phase from c.pc d.pc × (d.pc ≤ to) × Runs (piece fetch terms from to) Ends' n (phase_after phase c.pc d.pc) (spare - 1) d u) (λ _. ⊥) (Runs (piece fetch terms from to) Ends' n)
+    longer n phase spare c u in_from in_to h = steps_refine terms phase (spare - 1) c u _ _ (λ _. ⊥) (λ _. ⊥) (Runs (piece fetch terms from to) Ends' n) (Runs (piece fetch terms from to) Ends' n) (λ d w. (w.0, (let at : d.pc ≤ mid = w.1 in omega arith), w.2)) (λ _ x. x) (λ _ _ _ _ _ x. x) (wants u) (fetch c.pc) h
+
+-- ---- one step taken out of what holds for every number of steps
+module _ {T : Type 0} (Next : ℕ → Phase → ℕ → Alpha → T → Type 0) where
+  abbrev pub Ever : Phase → ℕ → Alpha → T → Type 0
+  Ever phase spare d u = (n : ℕ) → Next n phase spare d u
+
+  made_open : (w : Wants T) (quad : ℕ) (left : ℕ → ℕ) (Fits : ℕ → Type 0) (on : ℕ → Alpha) (spare : ℕ)
+      → ((n : ℕ) → Made w quad left Fits (λ before u. Next n Plain spare (on before) u)) → Made w quad left Fits (λ before u. Ever Plain spare (on before) u)
+  made_open (Wanted q l k) quad left Fits on spare h = ((h 0).0, λ before lt fits. (((h 0).1 before lt fits).0, λ n. ((h n).1 before lt fits).1))
+  made_open Nothing quad left Fits on spare h = absurd (h 0)
+
+  accesses_open : (kind : AlphaKind) (phase : Phase) (place : ℕ) (w : Wants T) (quad : ℕ) (left : ℕ → ℕ) (on : ℕ → Bool → Alpha) (bonus spare : ℕ) (t : T)
+      → ((n : ℕ) → Accesses kind phase place w quad left on bonus spare t (Next n)) → Accesses kind phase place w quad left on bonus spare t Ever
+  accesses_open Load Plain place w quad left on bonus spare t h = made_open w quad (λ b. b) (λ _. Unit {0}) (λ b. on b true) (spare + bonus) h
+  accesses_open Store Plain place w quad left on bonus spare t h = made_open w quad left (λ _. Unit {0}) (λ b. on b true) (spare + bonus) h
+  accesses_open LoadLocked Plain place w quad left on bonus spare t h = λ b lt n. h n b lt
+  accesses_open StoreConditional (Held q found first) place w quad left on bonus spare t h =
+      ((h 0).0, made_open w quad left (λ b. b ≡ found) (λ b. on b true) (spare + bonus) (λ n. (h n).1), λ b lt n. (h n).2 b lt)
+  accesses_open kind phase place w quad left on bonus spare t h = absurd (h 0)
+
+  module _ (terms : Terms) (phase : Phase) (spare : ℕ) (c : Alpha) (w : Wants T) (t : T) (Moves : ℕ → Alpha → Type 0) (Pal : ℕ → ℕ → Type 0) where
+    acts_open : (does : Does) (i : AlphaInstr) → ((n : ℕ) → Acts does i terms phase spare c w t (Moves n) (Pal n) (Next n)) → Acts does i terms phase spare c w t (λ d. (n : ℕ) → Moves n d) (λ k. (n : ℕ) → Pal n k) Ever
+    acts_open (Goes d) i h = h
+    acts_open (Asks a) i h = ((h 0).0, (h 0).1, (h 0).2, accesses_open a.kind phase c.pc w (quad_of a) (changed a) (λ b s. finished i (loaded a b) s c) terms.bonus spare t (λ n. (h n).3))
+    acts_open (Calls k) i h = h
+
+    pub steps_open : (o : Option AlphaInstr) → ((n : ℕ) → Steps o terms phase spare c w t (Moves n) (Pal n) (Next n)) → Steps o terms phase spare c w t (λ d. (n : ℕ) → Moves n d) (λ k. (n : ℕ) → Pal n k) Ever
+    steps_open None h = absurd (h 0)
+    steps_open (Some i) h = acts_open (act i c) i h
+
+pub open_runs : {A : Type 0} (p : Piece) (Ends : A → Regs → Type 0) (phase : Phase) (spare : ℕ) (c : Alpha) (t : Plan A) → c.pc < p.to
+    → ((n : ℕ) → Runs p Ends n phase spare c t) → Inside p (λ phase spare d u. (n : ℕ) → Runs p Ends n phase spare d u) phase spare c t
+open_runs {A} p Ends phase spare c t away h =
+    let one = within 0 in (
+      one.0,
+      one.1,
+      one.2,
+      steps_refine p.terms phase (spare - 1) c t (λ d. (n : ℕ) → Forth phase p.from c.pc d.pc × (d.pc ≤ p.to) × Runs p Ends n (phase_after phase c.pc d.pc) (spare - 1) d t) _ (λ k. (n : ℕ) → ⊥) (λ _. ⊥) (λ phase spare d u. (n : ℕ) → Runs p Ends n phase spare d u) (λ phase spare d u. (n : ℕ) → Runs p Ends n phase spare d u)
+          (λ d w. ((w 0).0, (w 0).1, λ n. (w n).2)) (λ k w. w 0) (λ _ _ _ _ _ x. x) (wants t) (p.fetch c.pc)
+          (steps_open (Runs p Ends) p.terms phase (spare - 1) c (wants t) t (λ n d. Forth phase p.from c.pc d.pc × (d.pc ≤ p.to) × Runs p Ends n (phase_after phase c.pc d.pc) (spare - 1) d t) (λ n k. ⊥) (p.fetch c.pc) (λ n. (within n).3)),
+    )
+  where
+    by : (n : ℕ) → Runs_by p Ends n phase spare c t → Inside p (Runs p Ends n) phase spare c t
+    by n (at_end at e) = absurd (omega arith)
+    by n (inside i) = i
+
+    within : (n : ℕ) → Inside p (Runs p Ends n) phase spare c t
+    within n = by n (runs_by p Ends n phase spare c t (h (suc n)))

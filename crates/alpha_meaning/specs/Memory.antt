@@ -1,0 +1,110 @@
+-- The rows of the memory format.
+-- Alpha Architecture Reference Manual, 4.2 "Memory Integer Load/Store Instructions"; the entry is named at each.
+use Rattle.std.specs.Prelude.{ℕ, ℤ, Bool, true, false, ◌*◌, ◌/◌, ◌%◌, ◌^◌, Option, Some, None, if◌then◌else◌}
+use Rattle.std.specs.Int.{cast_unsigned, w64}
+use Rattle.vt_words.specs.Quad.{sign_extended}
+use Rattle.alpha_encode.specs.declared.instr.MemoryOp.{MemoryOp}
+use Rattle.alpha_encode.specs.declared.instr.MemoryOp.TheVariants.{Lda, Ldah, LdqU, Ldl, Ldq, LdlL, LdqL, Stl, Stq, StlC, StqC}
+use Rattle.alpha_meaning.specs.declared.access.AlphaKind.{AlphaKind}
+use Rattle.alpha_meaning.specs.declared.access.AlphaKind.TheVariants.{Load, LoadLocked, Store, StoreConditional}
+use Rattle.alpha_meaning.specs.declared.access.AlphaAccess.{AlphaAccess}
+use Rattle.alpha_meaning.specs.declared.access.Extension.{Extension}
+use Rattle.alpha_meaning.specs.declared.access.Extension.TheVariants.{Zero, Sign}
+use Rattle.alpha_meaning.specs.Result.{plus, times}
+
+-- the kind of access; LDA and LDAH make none, and leave the address in Ra
+abbrev pub kind_of : MemoryOp → Option AlphaKind
+kind_of Lda = None  -- Load Address
+kind_of Ldah = None
+kind_of LdqU = Some Load  -- Load Quadword Unaligned
+kind_of Ldl = Some Load  -- Load Memory Data into Integer Register
+kind_of Ldq = Some Load
+kind_of LdlL = Some LoadLocked  -- Load Memory Data into Integer Register Locked
+kind_of LdqL = Some LoadLocked
+kind_of Stl = Some Store  -- Store Integer Register Data into Memory
+kind_of Stq = Some Store
+kind_of StlC = Some StoreConditional  -- Store Integer Register Data into Memory Conditional
+kind_of StqC = Some StoreConditional
+
+-- the number of bytes of the access, and what its address is a multiple of: an access is naturally aligned
+abbrev pub bytes_of : MemoryOp → ℕ
+bytes_of Lda = 8
+bytes_of Ldah = 8
+bytes_of LdqU = 8
+bytes_of Ldl = 4
+bytes_of Ldq = 8
+bytes_of LdlL = 4
+bytes_of LdqL = 8
+bytes_of Stl = 4
+bytes_of Stq = 8
+bytes_of StlC = 4
+bytes_of StqC = 8
+
+-- how what was loaded fills the register: SEXT for a longword
+abbrev pub extension_of : MemoryOp → Extension
+extension_of Lda = Zero
+extension_of Ldah = Zero
+extension_of LdqU = Zero
+extension_of Ldl = Sign
+extension_of Ldq = Zero
+extension_of LdlL = Sign
+extension_of LdqL = Zero
+extension_of Stl = Zero
+extension_of Stq = Zero
+extension_of StlC = Zero
+extension_of StqC = Zero
+
+-- LDQ_U: the low three bits of the address are dropped
+abbrev pub drops_low_bits : MemoryOp → Bool
+drops_low_bits LdqU = true
+drops_low_bits Lda = false
+drops_low_bits Ldah = false
+drops_low_bits Ldl = false
+drops_low_bits Ldq = false
+drops_low_bits LdlL = false
+drops_low_bits LdqL = false
+drops_low_bits Stl = false
+drops_low_bits Stq = false
+drops_low_bits StlC = false
+drops_low_bits StqC = false
+
+-- what the displacement is multiplied by: LDAH is Load Address High
+abbrev pub scale_of : MemoryOp → ℕ
+scale_of Ldah = 65536
+scale_of Lda = 1
+scale_of LdqU = 1
+scale_of Ldl = 1
+scale_of Ldq = 1
+scale_of LdlL = 1
+scale_of LdqL = 1
+scale_of Stl = 1
+scale_of Stq = 1
+scale_of StlC = 1
+scale_of StqC = 1
+
+-- Rbv + SEXT(disp), in bytes
+abbrev pub address_of : MemoryOp → (base : ℕ) (disp : ℤ) → ℕ
+address_of op base disp =
+    let sum = plus base (times (cast_unsigned w64 disp) (scale_of op)) in
+    if drops_low_bits op then sum / 8 * 8 else sum
+
+-- whether an access writes memory, where it succeeds
+abbrev pub stores : AlphaKind → Bool
+stores Load = false
+stores LoadLocked = false
+stores Store = true
+stores StoreConditional = true
+
+-- the access: a store has the low bytes of Ra
+abbrev pub access_of : MemoryOp → AlphaKind → (address register : ℕ) → AlphaAccess
+access_of op kind address register = record {
+  kind = kind;
+  address = address;
+  bytes = bytes_of op;
+  value = if stores kind then register % 2 ^ (8 * bytes_of op) else 0;
+}
+
+-- the register for loaded bytes
+abbrev pub extended : Extension → (bytes value : ℕ) → ℕ
+extended Zero bytes value = value
+extended Sign bytes value = sign_extended value (8 * bytes)
