@@ -10,7 +10,7 @@ use Rattle.vax_form.specs.declared.script.Stop.{Stop}
 use Rattle.vax_form.specs.declared.script.Stop.TheVariants as stops
 use Rattle.vax_form.specs.declared.script.End.{End}
 use Rattle.vax_form.specs.Script.{Script, Moment, pure, bind, choose, ask, check_bytes, read_code, fail, get, change, run, then_do, asked, checked, fetched}
-use Rattle.vax_form.specs.Tree.{Tree, Check, Ask, Fault, Ends, tree_of, code_or_fault, unless_bad, Wants, Fails, answer, feed, behind, outcome, run_outcome, ends_with, instruction_tree}
+use Rattle.vax_form.specs.Tree.{Tree, Ask, Fault, tree_of, code_or_fault, unless_bad, Fails, answer, feed, behind, outcome, run_outcome, ends_with, instruction_tree}
 use Rattle.vax_form.specs.TreeLaws.{Feeds, FeedingIsRunning, AnsweringIsRunning}
 
 feeds_there : {A : Type 0} (pages there : Pages) (fed : Tree) (tree : Pages → Tree) (rest : A → VaxState → Tree) (r : Result (A × Moment) Stop)

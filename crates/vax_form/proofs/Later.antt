@@ -5,7 +5,7 @@ use Rattle.vax_form.specs.Pages.{first_bad, code_byte_at}
 use Rattle.vax_form.specs.declared.script.Stop.{Stop}
 use Rattle.vax_form.specs.declared.script.Stop.TheVariants.{Wants, Fails}
 use Rattle.vax_form.specs.declared.state.Reference.{Reference}
-use Rattle.vax_form.specs.Script.{Script, Moment, pure, bind, choose, ask, check_bytes, read_code, fail, get, change, run, then_do, asked, checked, fetched, more, SameLater}
+use Rattle.vax_form.specs.Script.{Moment, pure, bind, choose, ask, check_bytes, read_code, fail, get, change, run, then_do, asked, checked, fetched, more, SameLater}
 use Rattle.vax_form.specs.TreeLaws.{RepliesComeLater}
 
 bind_later : {A B : Type 0} (extra : List ℕ) (r later : Result (A × Moment) Stop) (f : A → Moment → Result (B × Moment) Stop)

@@ -1,11 +1,9 @@
 -- The laws of trees.
-use Rattle.std.proofs.Common.{◌≡◌, ℕ, List, [], ◌∷◌, ◌++◌, Bool, Option, Some, None, refl, ap}
+use Rattle.std.proofs.Common.{◌≡◌, ℕ, List, [], ◌∷◌, Bool, Option, Some, None, refl, ap}
 use Rattle.vax_form.specs.Pages.{first_bad}
 use Rattle.vax_form.specs.declared.pages.Pages.{Pages}
 use Rattle.vax_form.specs.declared.state.VaxState.{VaxState}
-use Rattle.vax_form.specs.declared.state.Outcome.{Outcome}
-use Rattle.vax_form.specs.State.{Answers}
-use Rattle.vax_form.specs.Tree.{Tree, Check, Ask, Fault, Ends, Answer, Wants, Fails, Comes, unless_bad, answer, feed, outcome, head_outcome, Same, AnswersTree}
+use Rattle.vax_form.specs.Tree.{Tree, Check, Ask, Fault, Ends, Answer, Wants, Fails, Comes, unless_bad, answer, feed, outcome, head_outcome}
 use Rattle.vax_form.specs.TreeLaws.{FeedingTwice, SeenOfTheRest, AnswersAreKept, MoreReplies, ShowsTheOutcome, SameAnswers}
 
 twice_checked : (bad : Option ℕ) (write : Bool) (pages : Pages) (second : List ℕ) (t u : Tree) → feed pages t second ≡ u
