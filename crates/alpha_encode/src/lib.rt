@@ -1,0 +1,13 @@
+//! Alpha instructions and their 32-bit words, by the instruction formats of the Alpha Architecture
+//! Reference Manual: memory, branch, operate, JMP and PALcode. `encode` and `decode` undo each other.
+#![tactic(auto)]
+
+mod decoder;
+mod encoder;
+mod instr;
+#[cfg(test)]
+mod tests;
+
+pub use crate::decoder::decode;
+pub use crate::encoder::encode;
+pub use crate::instr::{AlphaInstr, BranchOp, MemoryOp, OperateOp, Second};

@@ -1,0 +1,5 @@
+pub mod Spreads
+pub mod Laws
+pub mod Fields
+pub mod Joined
+pub mod Shifting

@@ -1,0 +1,4 @@
+pub mod Values
+pub mod Arithmetic
+pub mod Shifts
+pub mod Quad
