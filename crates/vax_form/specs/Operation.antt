@@ -10,7 +10,6 @@ use Rattle.vax_form.specs.declared.operation.Condition.TheVariants.{NotEqual, Eq
 use Rattle.vax_form.specs.declared.operation.BinaryOperation.TheVariants.{Add, Subtract, Multiply, Divide, BitSet, BitClear, ExclusiveOr}
 use Rattle.vax_form.specs.declared.operation.BitStore.{BitStore}
 use Rattle.vax_form.specs.declared.operation.BitStore.TheVariants.{Nothing, Plain, Interlocked}
-use Rattle.vax_form.specs.declared.operation.BitBranch.{BitBranch}
 use Rattle.vax_form.specs.declared.operation.LongOperation.TheVariants.{Index, CallGeneral, CallStack, Return, PushRegisters, PopRegisters, MoveCharacters, MoveCharactersFilled, CompareCharacters, LocateCharacter, SkipCharacter}
 use Rattle.vax_form.specs.declared.operation.Operation.{Operation}
 use Rattle.vax_form.specs.declared.operation.Operation.TheVariants as operations

@@ -7,6 +7,7 @@ mod mode;
 mod operation;
 mod pages;
 mod row;
+mod script;
 mod state;
 
 pub use instr::{Access, Base, Instr, Operand, Size, Width};
@@ -16,4 +17,5 @@ pub use operation::{
 };
 pub use pages::{PageRange, Pages};
 pub use row::{Class, Row, class_of, is_long, row_of};
+pub use script::{End, Stop, tree_laws};
 pub use state::{Exception, Flags, Outcome, Pick, RefKind, Reference, VaxState, WantOfMemory};

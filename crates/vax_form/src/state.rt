@@ -1,3 +1,5 @@
+ghost use Rattle.std.specs.Prelude.{◌≡◌};
+
 /// A thread's processor state: R0 to R14 (R12 is AP, R13 FP, R14 SP), the PC, and the low word of the processor status
 /// (C is bit 0, V 1, Z 2, N 3, T 4, IV 5, FU 6, DV 7).
 #[derive(Clone, Copy, Debug, PartialEq, Eq)]
@@ -5,6 +7,30 @@ pub struct VaxState {
     pub r: [u32; 15],
     pub pc: u32,
     pub psw: u16,
+}
+
+impl VaxState {
+    ghost use Rattle.vax_form.specs.State.{register, with_register};
+
+    /// A register R0 to R14, and 0 for any other number.
+    pub fn register(&self, number: u8) -> u32
+        ensures { result ≡ register number self.now }
+    {
+        if number < 15 {
+            self.r[number as usize]
+        } else {
+            0
+        }
+    }
+
+    /// Changes a register R0 to R14; any other number changes nothing.
+    pub fn set_register(&mut self, number: u8, value: u32)
+        ensures { self.new ≡ with_register number value self.old }
+    {
+        if number < 15 {
+            self.r[number as usize] = value;
+        }
+    }
 }
 
 /// The condition codes.

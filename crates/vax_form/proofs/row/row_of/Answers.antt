@@ -1,5 +1,5 @@
 -- An opcode with an operation is not reserved.
-use Rattle.std.proofs.Common.{◌≡◌, sym}
+use Rattle.std.proofs.Common.{sym}
 use Rattle.vax_form.proofs.Rows.{operation_not_reserved}
 use Rattle.vax_form.proofs.row.row_of.Goals as goal
 

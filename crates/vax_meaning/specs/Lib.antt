@@ -1,0 +1,5 @@
+pub mod Play
+pub mod Memory
+pub mod Operands
+pub mod Codes
+pub mod Evaluation

@@ -1,0 +1,23 @@
+//! What the VAX instructions do, but for the long ones: each is a script of checks and references that ends with a new
+//! state, a trap or a fault, and `next` plays it with the replies that there are.
+#![tactic(auto)]
+
+mod codes;
+mod cursor;
+mod evaluation;
+mod memory;
+mod operands;
+
+pub use codes::{
+    carry, finished, gone_to, negative, overflow, set_all, set_by_result, set_codes, set_pc,
+    set_three, sign, trap_is_enabled, zero,
+};
+pub use cursor::Cursor;
+pub use evaluation::{
+    Evaluated, NOTHING, evaluated_row, location_at, operand_evaluated, operand_found,
+    operand_obtained, operands_evaluated, value_at,
+};
+pub use memory::{checked, code_word_read, fetched, locked, low, read_checked, written};
+pub use operands::{
+    Location, located, put_back, register_of, set_register_of, stored, taken, value_in_register,
+};
