@@ -303,3 +303,137 @@ Finds-plain a size at first m rest shown n other plain is e = elim (read_plain-s
     (subst (λ k. Describes_shown a size at (first ∷ take fine.len rest) k) fine.gives
     (mode_describes a size at first fine.value fine.len m rest other plain is fine.fine fine.reads))))
 ]
+
+-- ---- behind an index byte
+
+reserved_base : (x byte : ℕ) (m : Mode) → IsFirst byte m → is_reserved_base x (byte % 16) m ≡ true → IsReservedBase x byte
+unfolding is_reserved_base
+reserved_base x byte mode.Literal is bad = literal is
+reserved_base x byte mode.Index is bad = index (byte % 16) (omega arith) is.1
+reserved_base x byte mode.Register is bad = register (byte % 16) (omega arith) is.1
+reserved_base x byte mode.Immediate is bad = immediate is
+reserved_base x byte mode.Reserved is bad =
+    elim (cases_eq (byte / 16) 4) [ inl e4 ↦ index 15 (omega arith) (omega arith) | inr n4 ↦
+    elim (cases_eq (byte / 16) 5) [ inl e5 ↦ register 15 (omega arith) (omega arith) | inr n5 ↦
+    elim (cases_eq (byte / 16) 6) [ inl e6 ↦ deferred_pc (omega arith) | inr n6 ↦ decrement_pc (omega arith) ] ] ]
+reserved_base x byte mode.Decrement is bad = let same = eqb-true (byte % 16) x bad in steps_down (omega arith)
+reserved_base x byte mode.Increment is bad = let same = eqb-true (byte % 16) x bad in steps_up (omega arith)
+reserved_base x byte mode.IncrementDeferred is bad = let same = eqb-true (byte % 16) x bad in steps_up_deferred (omega arith)
+reserved_base x byte mode.Deferred is bad = absurd (false≢true bad)
+reserved_base x byte mode.Absolute is bad = absurd (false≢true bad)
+reserved_base x byte (mode.Displacement s twice) is bad = absurd (false≢true bad)
+reserved_base x byte (mode.Relative s twice) is bad = absurd (false≢true bad)
+
+-- a base that isn't reserved is a place that doesn't step the index register
+record IsFreeBase (x n value from behind : ℕ) (m : Mode) : Type 0 where
+  is_for_place : is_place m ≡ true
+  free : ¬ Steps (base_of n value from behind m) x
+
+free_base : (x n value from behind : ℕ) (m : Mode) → is_reserved_base x n m ≡ false → IsFreeBase x n value from behind m
+unfolding is_reserved_base base_of
+free_base x n value from behind mode.Decrement fine = record { is_for_place = refl; free = eqb-false n x fine }
+free_base x n value from behind mode.Increment fine = record { is_for_place = refl; free = eqb-false n x fine }
+free_base x n value from behind mode.IncrementDeferred fine = record { is_for_place = refl; free = eqb-false n x fine }
+free_base x n value from behind mode.Deferred fine = record { is_for_place = refl; free = λ h. h }
+free_base x n value from behind mode.Absolute fine = record { is_for_place = refl; free = λ h. h }
+free_base x n value from behind (mode.Displacement s twice) fine = record { is_for_place = refl; free = λ h. h }
+free_base x n value from behind (mode.Relative s twice) fine = record { is_for_place = refl; free = λ h. h }
+free_base x n value from behind _ fine = absurd (true≢false fine)
+
+Finds-base : (a : Access) (size : Size) (at first x byte : ℕ) (rest : List ℕ) (shown : Shown Operand) (n : ℕ)
+    → byte < 256 → x < 15 → first ≡ 0x40 + x → read_base size (at + 1) x (byte ∷ rest) ≡ Some (shown, n)
+    → Finds a size at (first ∷ byte ∷ rest) shown n
+unfolding read_base
+Finds-base a size at first x byte rest shown n small below is e =
+    let m = mode_of byte in
+    elim (chosen (is_reserved_base x (byte % 16) m) _ _ _ e) [
+      inl bad ↦ (let p = same_pair reserved shown 2 n bad.1 in
+        (omega (arith, p.1),
+        subst (λ k. Describes_shown a size at (take k (first ∷ byte ∷ rest)) shown) p.1
+        (subst (λ k. Describes_shown a size at (first ∷ byte ∷ []) k) p.0
+        (base x byte below (reserved_base x byte m (is_first byte small) bad.0) (ap (λ b. b ∷ byte ∷ []) is)))))
+      | inr fine ↦ (
+        let y = option_map-some _ (read_extension (extension_size size m) rest) _ fine.1 in
+        let ext = read_extension-some (extension_size size m) rest y.0.0 y.0.1 y.1 in
+        let enough = IsExtension-enough (extension_size size m) rest y.0.0 y.0.1 ext in
+        let f = free_base x (byte % 16) y.0.0 (wrapped (at + 1 + 1)) (wrapped (at + 1 + 1 + y.0.1)) m fine.0 in
+        let count : suc (suc y.0.1) ≡ n = omega (arith, ap (λ p. p.1) y.2) in
+        (omega (arith, count),
+        subst (λ k. Describes_shown a size at (take k (first ∷ byte ∷ rest)) shown) count
+        (subst (λ k. Describes_shown a size at (first ∷ byte ∷ take y.0.1 rest) k) (ap (λ p. p.0) y.2)
+        (indexed x _ (byte ∷ take y.0.1 rest) below
+          (located size (at + 1) byte y.0.0 y.0.1 m rest f.is_for_place (is_first byte small) ext)
+          f.free (ap (λ b. b ∷ byte ∷ take y.0.1 rest) is) refl))))
+    ]
+
+-- the list has bytes alone
+abbrev pub AreBytes : List ℕ → Type 0
+AreBytes bytes = (i : ℕ) → get_or bytes i 0 < 256
+
+Finds-index : (a : Access) (size : Size) (at first : ℕ) (rest : List ℕ) (shown : Shown Operand) (n : ℕ) → AreBytes rest
+    → IsFirst first mode.Index → read_base size (at + 1) (first % 16) rest ≡ Some (shown, n) → Finds a size at (first ∷ rest) shown n
+unfolding read_base
+Finds-index a size at first [] shown n are is e = absurd cc
+Finds-index a size at first (byte ∷ rest) shown n are is e =
+    Finds-base a size at first (first % 16) byte rest shown n (are 0) is.0 is.1 e
+
+Finds-by_mode : (a : Access) (size : Size) (at first : ℕ) (m : Mode) (rest : List ℕ) (shown : Shown Operand) (n : ℕ)
+    → a ≢ access.Branch → AreBytes rest → IsFirst first m → read_by_mode a size at first m rest ≡ Some (shown, n)
+    → Finds a size at (first ∷ rest) shown n
+unfolding read_by_mode
+Finds-by_mode a size at first mode.Index rest shown n other are is e = Finds-index a size at first rest shown n are is e
+Finds-by_mode a size at first mode.Literal rest shown n other are is e = Finds-plain a size at first _ rest shown n other (λ h. cc) is e
+Finds-by_mode a size at first mode.Register rest shown n other are is e = Finds-plain a size at first _ rest shown n other (λ h. cc) is e
+Finds-by_mode a size at first mode.Deferred rest shown n other are is e = Finds-plain a size at first _ rest shown n other (λ h. cc) is e
+Finds-by_mode a size at first mode.Decrement rest shown n other are is e = Finds-plain a size at first _ rest shown n other (λ h. cc) is e
+Finds-by_mode a size at first mode.Increment rest shown n other are is e = Finds-plain a size at first _ rest shown n other (λ h. cc) is e
+Finds-by_mode a size at first mode.IncrementDeferred rest shown n other are is e = Finds-plain a size at first _ rest shown n other (λ h. cc) is e
+Finds-by_mode a size at first mode.Immediate rest shown n other are is e = Finds-plain a size at first _ rest shown n other (λ h. cc) is e
+Finds-by_mode a size at first mode.Absolute rest shown n other are is e = Finds-plain a size at first _ rest shown n other (λ h. cc) is e
+Finds-by_mode a size at first (mode.Displacement s twice) rest shown n other are is e = Finds-plain a size at first _ rest shown n other (λ h. cc) is e
+Finds-by_mode a size at first (mode.Relative s twice) rest shown n other are is e = Finds-plain a size at first _ rest shown n other (λ h. cc) is e
+Finds-by_mode a size at first mode.Reserved rest shown n other are is e = Finds-plain a size at first _ rest shown n other (λ h. cc) is e
+
+Finds-general : (a : Access) (size : Size) (at : ℕ) (bytes : List ℕ) (shown : Shown Operand) (n : ℕ)
+    → a ≢ access.Branch → AreBytes bytes → read_general a size at bytes ≡ Some (shown, n) → Finds a size at bytes shown n
+unfolding read_general
+Finds-general a size at [] shown n other are e = absurd cc
+Finds-general a size at (first ∷ rest) shown n other are e =
+    Finds-by_mode a size at first (mode_of first) rest shown n other (λ i. are (suc i)) (is_first first (are 0)) e
+
+-- ---- any operand
+
+abbrev pub Specifies_shown : Access → Size → ℕ → List ℕ → Shown Operand → Type 0
+Specifies_shown a size at bytes (complete o) = Specifies a size at bytes o
+Specifies_shown a size at bytes reserved = ShowsReservedMode a size bytes
+
+displacement_found : (size : Size) (at : ℕ) (bytes : List ℕ) (shown : Shown Operand) (n : ℕ)
+    → read_displacement size at bytes ≡ Some (shown, n) → (n ≤ length bytes) × Specifies_shown access.Branch size at (take n bytes) shown
+unfolding read_displacement
+displacement_found size at bytes shown n e =
+    let x = option_map-some _ (read_number size bytes) _ e in
+    let number_read = read_number-some size bytes x.0 x.1 in
+    let count : bytes_of size ≡ n = ap (λ p. p.1) x.2 in
+    let len : length (take (bytes_of size) bytes) ≡ bytes_of size = length-take-enough (bytes_of size) bytes number_read.enough in
+    (omega (arith, number_read.enough, count),
+    subst (λ k. Specifies_shown access.Branch size at (take k bytes) shown) count
+    (subst (λ k. Specifies_shown access.Branch size at (take (bytes_of size) bytes) k) (ap (λ p. p.0) x.2)
+    (len, ap (λ k. Target (wrapped (at + k + extended size x.0))) (sym len)
+      ∙ ap (λ v. Target (wrapped (at + length (take (bytes_of size) bytes) + extended size v))) number_read.is)))
+
+-- what is read, the bytes specify
+pub specifier_found : (a : Access) (size : Size) (at : ℕ) (bytes : List ℕ) (shown : Shown Operand) (n : ℕ)
+    → AreBytes bytes → read_specifier a size at bytes ≡ Some (shown, n)
+    → (n ≤ length bytes) × Specifies_shown a size at (take n bytes) shown
+unfolding read_specifier
+specifier_found access.Branch size at bytes shown n are e = displacement_found size at bytes shown n e
+specifier_found access.Read size at bytes (complete o) n are e = Finds-general access.Read size at bytes (complete o) n (λ h. cc) are e
+specifier_found access.Write size at bytes (complete o) n are e = Finds-general access.Write size at bytes (complete o) n (λ h. cc) are e
+specifier_found access.Modify size at bytes (complete o) n are e = Finds-general access.Modify size at bytes (complete o) n (λ h. cc) are e
+specifier_found access.Address size at bytes (complete o) n are e = Finds-general access.Address size at bytes (complete o) n (λ h. cc) are e
+specifier_found access.Field size at bytes (complete o) n are e = Finds-general access.Field size at bytes (complete o) n (λ h. cc) are e
+specifier_found access.Read size at bytes reserved n are e = Finds-general access.Read size at bytes reserved n (λ h. cc) are e
+specifier_found access.Write size at bytes reserved n are e = Finds-general access.Write size at bytes reserved n (λ h. cc) are e
+specifier_found access.Modify size at bytes reserved n are e = Finds-general access.Modify size at bytes reserved n (λ h. cc) are e
+specifier_found access.Address size at bytes reserved n are e = Finds-general access.Address size at bytes reserved n (λ h. cc) are e
+specifier_found access.Field size at bytes reserved n are e = Finds-general access.Field size at bytes reserved n (λ h. cc) are e
