@@ -47,7 +47,7 @@ abbrev pub IsShort : ℕ → List ℕ → {X : Type 0} → Option (X × ℕ) →
 IsShort most bytes None = length bytes < most
 IsShort most bytes (Some r) = r.1 ≤ most
 
-IsShort-from : {X : Type 0} (most : ℕ) (bytes : List ℕ) (o : Option (X × ℕ)) → (o ≡ None → length bytes < most)
+pub IsShort-from : {X : Type 0} (most : ℕ) (bytes : List ℕ) (o : Option (X × ℕ)) → (o ≡ None → length bytes < most)
     → ((x : X) (n : ℕ) → o ≡ Some (x, n) → n ≤ most) → IsShort most bytes o
 IsShort-from most bytes None none some = none refl
 IsShort-from most bytes (Some r) none some = some r.0 r.1 refl
