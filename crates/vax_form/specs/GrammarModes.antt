@@ -54,13 +54,13 @@ mode_of first =
 
 -- whether the mode with register n is reserved for an operand of that use and size
 unfoldable pub is_reserved_mode : Access → Size → ℕ → Mode → Bool
+is_reserved_mode access size n mode.Reserved = true
 is_reserved_mode Read size n mode.Literal = false
 is_reserved_mode access size n mode.Literal = true
 is_reserved_mode Address size n mode.Register = true
 is_reserved_mode access Quad n mode.Register = n == 14
 is_reserved_mode Write size n mode.Immediate = true
 is_reserved_mode Modify size n mode.Immediate = true
-is_reserved_mode access size n mode.Reserved = true
 is_reserved_mode access size n m = false
 
 -- whether the mode with register n is reserved behind an index byte of register x

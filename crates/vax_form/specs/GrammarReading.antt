@@ -52,6 +52,10 @@ unfoldable pub read_by_mode : Access → Size → ℕ → ℕ → Mode → List 
 read_by_mode access size at first mode.Index rest = read_base size (at + 1) (first % 16) rest
 read_by_mode access size at first m rest = read_plain access size at first m rest
 
+unfoldable pub read_general : Access → Size → ℕ → List ℕ → Option (Shown Operand × ℕ)
+read_general access size at [] = None
+read_general access size at (first ∷ rest) = read_by_mode access size at first (mode_of first) rest
+
 unfoldable pub read_displacement : Size → ℕ → List ℕ → Option (Shown Operand × ℕ)
 read_displacement size at bytes = option_map
     (λ value. (complete (Target (wrapped (at + bytes_of size + extended size value))), bytes_of size))
@@ -60,8 +64,7 @@ read_displacement size at bytes = option_map
 -- one operand specifier at that address, and how many bytes were read
 unfoldable pub read_specifier : Access → Size → ℕ → List ℕ → Option (Shown Operand × ℕ)
 read_specifier Branch size at bytes = read_displacement size at bytes
-read_specifier access size at [] = None
-read_specifier access size at (first ∷ rest) = read_by_mode access size at first (mode_of first) rest
+read_specifier access size at bytes = read_general access size at bytes
 
 -- ---- a whole instruction
 
