@@ -1,0 +1,68 @@
+#!/usr/bin/env bash
+# Prints how many steps a second alpha_machine makes in a loop of ADDL, CMPLT and BNE.
+# The program is written, proved, built and run in a temporary copy of the repository.
+set -euo pipefail
+root=$(cd "$(dirname "$0")/.." && pwd)
+room=$(mktemp -d)
+trap 'rm -rf "$room"' EXIT
+# out/ comes along, so that what is proved there isn't proved again
+tar -C "$root" --exclude=.git -cf - . | tar -C "$room" -xf -
+cd "$room"
+git init -q
+echo 'measure: alpha_machine alpha_meaning alpha_encode' >> crates.txt
+mkdir -p crates/measure/src crates/measure/proofs/main
+cat > crates/measure/src/main.rt <<'EOF'
+#![tactic(auto)]
+
+ghost use Rattle.std.specs.Prelude.{ℕ, ◌<◌, length, slice_index, IsSome};
+ghost use Rattle.alpha_encode.specs.Words.{instr_at};
+
+use alpha_machine::{AlphaStep, Cpu, step};
+use std::io;
+use std::time::Instant;
+
+const TURNS: u64 = 100_000_000;
+
+/// ADDL R1,#1,R1; CMPLT R1,R2,R3; BNE R3 to the first
+const CODE: [u32; 3] = [0x4020_3001, 0x4022_09a3, 0xf47f_fffd];
+
+/// Steps until the program counter leaves the code, or a step isn't local.
+#[inline(never)]
+fn run(cpu: &mut Cpu, code: &[u32], most: u64) -> u64
+    requires { (k : ℕ) → k < length code.now → IsSome (instr_at (slice_index code.now k)) }
+{
+    for steps in 0..most {
+        if cpu.pc as usize >= code.len() {
+            return steps;
+        }
+        match step(cpu, code) {
+            AlphaStep::Local => {}
+            AlphaStep::Want(_) | AlphaStep::Pal(_) => return steps,
+        }
+    }
+    most
+}
+
+fn main(rt: HostRuntime) -> io::Result<()> {
+    let mut cpu = Cpu { r: [0; 32], pc: 0 };
+    cpu.r[2] = TURNS;
+    let start = Instant::now(&rt)?;
+    let steps = run(&mut cpu, &CODE, 4 * TURNS);
+    let taken = start.elapsed(&rt)?;
+    let millis = taken.as_millis();
+    let turns = cpu.r[1];
+    println!(rt; "{steps} steps, {turns} turns, {millis} ms")
+}
+EOF
+cat > crates/measure/proofs/main/Answers.antt <<'EOF'
+use Rattle.std.proofs.Common.{ℕ, zero, suc, arith}
+use Rattle.measure.proofs.main.Goals as goal
+
+pub run-requires : goal.run-requires
+run-requires c = ?
+EOF
+cd crates/measure
+rt run > "$room/log" 2>&1 || { tail -n 20 "$room/log"; exit 1; }
+for turn in 1 2 3; do
+    ./out/measure | awk '{ printf "%s %.0f million steps a second\n", $0, $1 / $5 / 1000 }'
+done
