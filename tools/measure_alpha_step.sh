@@ -1,6 +1,7 @@
 #!/usr/bin/env bash
 # Prints how many steps a second alpha_machine makes in a loop of ADDL, CMPLT and BNE.
-# The program is written, proved, built and run in a temporary copy of the repository.
+# The program is written, proved, built and run in a temporary copy of the repository. Processor time
+# counts, so that other work on the machine weighs less.
 set -euo pipefail
 root=$(cd "$(dirname "$0")/.." && pwd)
 room=$(mktemp -d)
@@ -10,7 +11,7 @@ tar -C "$root" --exclude=.git -cf - . | tar -C "$room" -xf -
 cd "$room"
 git init -q
 echo 'measure: alpha_machine alpha_meaning alpha_encode' >> crates.txt
-mkdir -p crates/measure/src crates/measure/proofs/main
+mkdir -p crates/measure/src
 cat > crates/measure/src/main.rt <<'EOF'
 #![tactic(auto)]
 
@@ -19,7 +20,6 @@ ghost use Rattle.alpha_encode.specs.Words.{instr_at};
 
 use alpha_machine::{AlphaStep, Cpu, step};
 use std::io;
-use std::time::Instant;
 
 const TURNS: u64 = 100_000_000;
 
@@ -46,23 +46,14 @@ fn run(cpu: &mut Cpu, code: &[u32], most: u64) -> u64
 fn main(rt: HostRuntime) -> io::Result<()> {
     let mut cpu = Cpu { r: [0; 32], pc: 0 };
     cpu.r[2] = TURNS;
-    let start = Instant::now(&rt)?;
     let steps = run(&mut cpu, &CODE, 4 * TURNS);
-    let taken = start.elapsed(&rt)?;
-    let millis = taken.as_millis();
-    let turns = cpu.r[1];
-    println!(rt; "{steps} steps, {turns} turns, {millis} ms")
+    println!(rt; "{steps}")
 }
-EOF
-cat > crates/measure/proofs/main/Answers.antt <<'EOF'
-use Rattle.std.proofs.Common.{ℕ, zero, suc, arith}
-use Rattle.measure.proofs.main.Goals as goal
-
-pub run-requires : goal.run-requires
-run-requires c = ?
 EOF
 cd crates/measure
 rt run > "$room/log" 2>&1 || { tail -n 20 "$room/log"; exit 1; }
+TIMEFORMAT=%U
 for turn in 1 2 3; do
-    ./out/measure | awk '{ printf "%s %.0f million steps a second\n", $0, $1 / $5 / 1000 }'
+    seconds=$({ time ./out/measure > "$room/steps"; } 2>&1)
+    awk -v seconds="$seconds" '{ printf "%d steps in %s s: %.0f million steps a second\n", $1, seconds, $1 / seconds / 1000000 }' "$room/steps"
 done
