@@ -51,7 +51,7 @@ module _ {T U : Type 0} (R : T → U → Type 0) (more : ℕ) (Next : Phase → 
 
 -- ---- one step on the same tree, with other things owed behind it
 -- an access ends at the next word
-asks_next : (i : AlphaInstr) (c : Alpha) (a : AlphaAccess) → act i c ≡ Asks a → (value : ℕ) (success : Bool) → (finished i value success c).pc ≡ c.pc + 1
+pub asks_next : (i : AlphaInstr) (c : Alpha) (a : AlphaAccess) → act i c ≡ Asks a → (value : ℕ) (success : Bool) → (finished i value success c).pc ≡ c.pc + 1
 asks_next (Memory op ra rb disp) c a h value success = by_kind (kind_of op) h
   where
     by_kind : (o : Option AlphaKind) → memory_act_by o op ra rb disp c ≡ Asks a → (memory_finish_by o op ra value success c).pc ≡ c.pc + 1

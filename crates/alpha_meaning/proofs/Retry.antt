@@ -72,7 +72,7 @@ module _ {A : Type 0} (p : Piece) (Ends : A → Regs → Type 0) (L q : ℕ) (mi
   lost : (most : ℕ) → Again most → (h : Regs) → IsReady h → Always p Ends most (length middle + 3 + need + 1) (Failed L) (at_place (put h 25 0) (L + 1 + length middle + 1)) (Access q change k)
   lost most again h r =
       moves p Ends most (length middle + 3 + need) (Failed L) (at_place (put h 25 0) (L + 1 + length middle + 1)) (at_place (put h 25 0) (target_of (L + 1 + length middle + 1) (negsuc (length middle + 2)))) (Branch Beq 25 (negsuc (length middle + 2))) (Access q change k) has_tail.1.0 refl (omega arith) (omega arith)
-      (rw back in_from, λ _. let short = c.short in omega arith) (rw back (omega arith))
+      (rw back in_from, λ _. (let short = c.short in omega arith, let short = c.short in rw back (omega arith))) (rw back (omega arith))
       (rw (back, at_back) (again (put h 25 0) (c.ready_25 h 0 r)))
 
   -- the registers behind the words between

@@ -10,78 +10,45 @@ use Rattle.alpha_meaning.specs.declared.access.AlphaKind.TheVariants.{Load, Load
 use Rattle.alpha_meaning.specs.declared.access.AlphaAccess.{AlphaAccess}
 use Rattle.alpha_meaning.specs.declared.access.Extension.{Extension}
 use Rattle.alpha_meaning.specs.declared.access.Extension.TheVariants.{Zero, Sign}
-use Rattle.alpha_meaning.specs.State.{Regs}
 use Rattle.alpha_meaning.specs.Result.{plus, times}
 
 -- the kind of access; LDA and LDAH make none, and leave the address in Ra
 abbrev pub kind_of : MemoryOp → Option AlphaKind
-kind_of Lda = None                    -- Load Address
+kind_of Lda = None  -- Load Address
 kind_of Ldah = None
-kind_of LdqU = Some Load              -- Load Quadword Unaligned
-kind_of Ldl = Some Load               -- Load Memory Data into Integer Register
+kind_of LdqU = Some Load  -- Load Quadword Unaligned
+kind_of Ldl = Some Load  -- Load Memory Data into Integer Register
 kind_of Ldq = Some Load
-kind_of LdlL = Some LoadLocked        -- Load Memory Data into Integer Register Locked
+kind_of LdlL = Some LoadLocked  -- Load Memory Data into Integer Register Locked
 kind_of LdqL = Some LoadLocked
-kind_of Stl = Some Store              -- Store Integer Register Data into Memory
+kind_of Stl = Some Store  -- Store Integer Register Data into Memory
 kind_of Stq = Some Store
 kind_of StlC = Some StoreConditional  -- Store Integer Register Data into Memory Conditional
 kind_of StqC = Some StoreConditional
 
--- the number of bytes of the access, and what its address is a multiple of: an access is naturally aligned
+-- the number of bytes of the access, and what its address is a multiple of: accesses are naturally aligned
 abbrev pub bytes_of : MemoryOp → ℕ
-bytes_of Lda = 8
-bytes_of Ldah = 8
-bytes_of LdqU = 8
 bytes_of Ldl = 4
-bytes_of Ldq = 8
 bytes_of LdlL = 4
-bytes_of LdqL = 8
 bytes_of Stl = 4
-bytes_of Stq = 8
 bytes_of StlC = 4
-bytes_of StqC = 8
+bytes_of op = 8
 
--- how what was loaded fills the register: SEXT for a longword
+-- how loaded bytes fill the register: SEXT for a longword
 abbrev pub extension_of : MemoryOp → Extension
-extension_of Lda = Zero
-extension_of Ldah = Zero
-extension_of LdqU = Zero
 extension_of Ldl = Sign
-extension_of Ldq = Zero
 extension_of LdlL = Sign
-extension_of LdqL = Zero
-extension_of Stl = Zero
-extension_of Stq = Zero
-extension_of StlC = Zero
-extension_of StqC = Zero
+extension_of op = Zero
 
--- LDQ_U: the low three bits of the address are dropped
+-- LDQ_U drops the low three bits of the address
 abbrev pub drops_low_bits : MemoryOp → Bool
 drops_low_bits LdqU = true
-drops_low_bits Lda = false
-drops_low_bits Ldah = false
-drops_low_bits Ldl = false
-drops_low_bits Ldq = false
-drops_low_bits LdlL = false
-drops_low_bits LdqL = false
-drops_low_bits Stl = false
-drops_low_bits Stq = false
-drops_low_bits StlC = false
-drops_low_bits StqC = false
+drops_low_bits op = false
 
--- what the displacement is multiplied by: LDAH is Load Address High
+-- what the displacement is multiplied by, for Load Address High
 abbrev pub scale_of : MemoryOp → ℕ
 scale_of Ldah = 65536
-scale_of Lda = 1
-scale_of LdqU = 1
-scale_of Ldl = 1
-scale_of Ldq = 1
-scale_of LdlL = 1
-scale_of LdqL = 1
-scale_of Stl = 1
-scale_of Stq = 1
-scale_of StlC = 1
-scale_of StqC = 1
+scale_of op = 1
 
 -- Rbv + SEXT(disp), in bytes
 abbrev pub address_of : MemoryOp → (base : ℕ) (disp : ℤ) → ℕ

@@ -107,11 +107,12 @@ abbrev pub Steps : {T : Type 0} → Option AlphaInstr → Terms → Phase → (s
 Steps None terms phase spare c w t Moves Pals Next = ⊥
 Steps (Some i) terms phase spare c w t Moves Pals Next = Acts (act i c) i terms phase spare c w t Moves Pals Next
 
--- a step goes back only behind a failed store, from one of the 16 words from the load-locked access on, and never to the first word
+-- A step goes back only behind a failed store, from one of the 16 words from the load-locked access on, by at most 15
+-- words, and never to the first word.
 abbrev pub Forth : Phase → (from pc pc' : ℕ) → Type 0
 Forth Plain from pc pc' = pc < pc'
 Forth (Held quad found place) from pc pc' = pc < pc'
-Forth (Failed place) from pc pc' = (from < pc') × (pc' ≤ pc → pc < place + 16)
+Forth (Failed place) from pc pc' = (from < pc') × (pc' ≤ pc → (pc < place + 16) × (pc < pc' + 16))
 
 -- a step back ends the turn
 abbrev pub phase_after : Phase → (pc pc' : ℕ) → Phase

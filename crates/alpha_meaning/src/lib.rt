@@ -11,8 +11,10 @@ mod operate;
 pub use access::{AlphaAccess, AlphaKind, Extension, is_aligned, stores};
 pub use branch::{is_taken, links};
 pub use byte_laws::{extract_bytes, join_bytes, replace_bytes, replace_crossing_bytes};
-pub use memory::{access_of, address_of, bytes_of, drops_low_bits, extended, extension_of, kind_of, scale_of};
+pub use memory::{
+    access_of, address_of, bytes_of, drops_low_bits, extended, extension_of, kind_of, scale_of,
+};
 pub use operate::result;
 
-
-
+#[cfg(test)]
+mod tests;

@@ -1,4 +1,4 @@
-ghost use Rattle.std.specs.Prelude.{◌≡◌, ◌≤◌};
+ghost use Rattle.std.specs.Prelude.{◌≡◌, ◌<◌, ◌≤◌};
 ghost use Rattle.alpha_meaning.specs.Memory.{kind_of, bytes_of, extension_of, drops_low_bits, scale_of, address_of, access_of, extended};
 
 use crate::access::{AlphaAccess, AlphaKind, Extension, stores};
@@ -74,7 +74,8 @@ pub fn address_of(op: MemoryOp, base: u64, disp: i16) -> u64
 
 /// The access of a memory instruction of that kind, for its address and the value of Ra.
 pub fn access_of(op: MemoryOp, kind: AlphaKind, address: u64, register: u64) -> AlphaAccess
-    ensures { result ≡ access_of op kind address register }
+    ensures value { result ≡ access_of op kind address register }
+    ensures some { 0 < result.bytes }
 {
     let bytes = bytes_of(op);
     let value = if stores(kind) {
