@@ -12,9 +12,9 @@ use Rattle.alpha_machine.specs.declared.cpu.AlphaStep.TheVariants.{Local, Want, 
 abbrev pub state_of : Cpu → Alpha
 state_of cpu = record { regs = regs_of cpu.r; pc = cpu.pc }
 
--- code addresses are modulo 2^32 words
-abbrev pub in_code : Alpha → Alpha
-in_code s = record { regs = s.regs; pc = s.pc % 2 ^ 32 }
+-- the program counter is modulo 2^32 words
+abbrev pub wrapped : Alpha → Alpha
+wrapped s = record { regs = s.regs; pc = s.pc % 2 ^ 32 }
 
 -- the instruction at the program counter
 abbrev pub current : List ℕ → Cpu → Option AlphaInstr
@@ -22,7 +22,7 @@ current code cpu = instr_at (slice_index code cpu.pc)
 
 -- A local instruction is done whole. An access and a PALcode call are left to the caller.
 abbrev pub IsStep : Does → AlphaStep → Cpu → Cpu → Type 0
-IsStep (Goes s) answer old new = (answer ≡ Local) × (state_of new ≡ in_code s)
+IsStep (Goes s) answer old new = (answer ≡ Local) × (state_of new ≡ wrapped s)
 IsStep (Asks access) answer old new = (answer ≡ Want access) × (new ≡ old)
 IsStep (Calls n) answer old new = (answer ≡ Pal n) × (new ≡ old)
 

@@ -42,7 +42,8 @@ pub(crate) fn jump_step(cpu: &mut Cpu, ra: u8, rb: u8) -> AlphaStep
     ensures kept { slice_index cpu.new.r 31 ≡ slice_index cpu.old.r 31 }
 {
     let target = (cpu.register(rb) / 4 % (1 << 32)) as u32;
-    cpu.set_register(ra, next_address(cpu));
+    let link = next_address(cpu);
+    cpu.set_register(ra, link);
     cpu.pc = target;
     AlphaStep::Local
 }

@@ -2,7 +2,7 @@
 ghost use Rattle.std.specs.Prelude.{◌≡◌, ◌<◌, length, slice_index, IsSome, IfSome};
 ghost use Rattle.alpha_encode.specs.Words.{IsEncodable, IsSecond};
 ghost use Rattle.alpha_meaning.specs.Act.{act, second_value, finished};
-ghost use Rattle.alpha_machine.specs.Step.{IsStep, IsUnchangedUnlessLocal, current, in_code, state_of};
+ghost use Rattle.alpha_machine.specs.Step.{IsStep, IsUnchangedUnlessLocal, current, wrapped, state_of};
 
 use crate::branch::{branch_step, jump_step};
 use crate::cpu::{AlphaStep, Cpu};
@@ -64,7 +64,7 @@ pub fn step(cpu: &mut Cpu, code: &[u32]) -> AlphaStep
 pub fn finish(cpu: &mut Cpu, code: &[u32], value: u64, success: bool)
     requires within { cpu.old.pc < length code.now }
     requires decodes { IsSome (current code.now cpu.old) }
-    ensures finished { IfSome (current code.now cpu.old) (λ i. state_of cpu.new ≡ in_code (finished i value success (state_of cpu.old))) }
+    ensures finished { IfSome (current code.now cpu.old) (λ i. state_of cpu.new ≡ wrapped (finished i value success (state_of cpu.old))) }
     ensures kept { slice_index cpu.new.r 31 ≡ slice_index cpu.old.r 31 }
 {
     if let Some(AlphaInstr::Memory { op, ra, .. }) = decode(code[cpu.pc as usize]) {

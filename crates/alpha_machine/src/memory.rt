@@ -1,7 +1,7 @@
 // Memory format: what an instruction wants, and what a finished access leaves.
 ghost use Rattle.std.specs.Prelude.{◌≡◌, ◌<◌, slice_index};
 ghost use Rattle.alpha_meaning.specs.Act.{memory_act, memory_finish, writes};
-ghost use Rattle.alpha_machine.specs.Step.{IsStep, in_code, state_of};
+ghost use Rattle.alpha_machine.specs.Step.{IsStep, wrapped, state_of};
 
 use crate::cpu::{AlphaStep, Cpu};
 use alpha_encode::MemoryOp;
@@ -11,7 +11,7 @@ use alpha_meaning::{AlphaKind, access_of, address_of, bytes_of, extended, extens
 #[inline]
 pub(crate) fn write_and_go(cpu: &mut Cpu, n: u8, value: u64)
     requires register { n < 32 }
-    ensures state { state_of cpu.new ≡ in_code (writes n value (state_of cpu.old)) }
+    ensures state { state_of cpu.new ≡ wrapped (writes n value (state_of cpu.old)) }
     ensures kept { slice_index cpu.new.r 31 ≡ slice_index cpu.old.r 31 }
 {
     cpu.set_register(n, value);
@@ -36,7 +36,7 @@ pub(crate) fn memory_step(cpu: &mut Cpu, op: MemoryOp, ra: u8, rb: u8, disp: i16
 
 pub(crate) fn memory_finish(cpu: &mut Cpu, op: MemoryOp, ra: u8, value: u64, success: bool)
     requires { ra < 32 }
-    ensures state { state_of cpu.new ≡ in_code (memory_finish op ra value success (state_of cpu.old)) }
+    ensures state { state_of cpu.new ≡ wrapped (memory_finish op ra value success (state_of cpu.old)) }
     ensures kept { slice_index cpu.new.r 31 ≡ slice_index cpu.old.r 31 }
 {
     let next = cpu.pc.wrapping_add(1);
