@@ -3,3 +3,4 @@ pub mod Memory
 pub mod Operands
 pub mod Codes
 pub mod Evaluation
+pub mod Moves

@@ -6,6 +6,7 @@ mod codes;
 mod cursor;
 mod evaluation;
 mod memory;
+mod moves;
 mod operands;
 
 pub use codes::{
@@ -18,6 +19,7 @@ pub use evaluation::{
     operand_obtained, operands_evaluated, value_at,
 };
 pub use memory::{checked, code_word_read, fetched, locked, low, read_checked, written};
+pub use moves::{pushed, set_compared};
 pub use operands::{
     Location, located, put_back, register_of, set_register_of, stored, taken, value_in_register,
 };
