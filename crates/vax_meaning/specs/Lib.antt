@@ -4,3 +4,4 @@ pub mod Operands
 pub mod Codes
 pub mod Evaluation
 pub mod Moves
+pub mod Arithmetic

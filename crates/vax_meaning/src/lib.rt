@@ -2,6 +2,7 @@
 //! state, a trap or a fault, and `next` plays it with the replies that there are.
 #![tactic(auto)]
 
+mod arithmetic;
 mod codes;
 mod cursor;
 mod evaluation;
