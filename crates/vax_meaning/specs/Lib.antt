@@ -5,3 +5,6 @@ pub mod Codes
 pub mod Evaluation
 pub mod Moves
 pub mod Arithmetic
+pub mod Branches
+pub mod Fields
+pub mod Control

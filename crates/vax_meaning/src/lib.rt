@@ -3,9 +3,12 @@
 #![tactic(auto)]
 
 mod arithmetic;
+mod branches;
 mod codes;
+mod control;
 mod cursor;
 mod evaluation;
+mod fields;
 mod memory;
 mod moves;
 mod operands;
