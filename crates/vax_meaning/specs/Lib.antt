@@ -8,3 +8,4 @@ pub mod Arithmetic
 pub mod Branches
 pub mod Fields
 pub mod Control
+pub mod Instructions

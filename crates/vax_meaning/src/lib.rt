@@ -9,6 +9,8 @@ mod control;
 mod cursor;
 mod evaluation;
 mod fields;
+mod instructions;
+mod meaning;
 mod memory;
 mod moves;
 mod operands;
@@ -22,6 +24,8 @@ pub use evaluation::{
     Evaluated, NOTHING, evaluated_row, location_at, operand_evaluated, operand_found,
     operand_obtained, operands_evaluated, value_at,
 };
+pub use instructions::{body_run, operation_run};
+pub use meaning::next;
 pub use memory::{checked, code_word_read, fetched, locked, low, read_checked, written};
 pub use moves::{pushed, set_compared};
 pub use operands::{
