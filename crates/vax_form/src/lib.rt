@@ -2,6 +2,7 @@
 //! types in which the meaning of an instruction is said.
 #![tactic(auto)]
 
+mod grammar;
 mod instr;
 mod mode;
 mod operation;
@@ -9,6 +10,7 @@ mod pages;
 mod row;
 mod state;
 
+pub use grammar::grammar_laws;
 pub use instr::{Access, Base, Instr, Operand, Size, Width};
 pub use mode::Mode;
 pub use operation::{
