@@ -2,14 +2,18 @@
 //! types in which the meaning of an instruction is said.
 #![tactic(auto)]
 
+mod grammar;
 mod instr;
+mod mode;
 mod operation;
 mod pages;
 mod row;
 mod script;
 mod state;
 
+pub use grammar::grammar_laws;
 pub use instr::{Access, Base, Instr, Operand, Size, Width};
+pub use mode::Mode;
 pub use operation::{
     BinaryOperation, BitBranch, BitStore, Condition, LongOperation, Operation, operation_of,
 };
