@@ -31,3 +31,6 @@ pub use moves::{pushed, set_compared};
 pub use operands::{
     Location, located, put_back, register_of, set_register_of, stored, taken, value_in_register,
 };
+
+#[cfg(test)]
+mod tests;
