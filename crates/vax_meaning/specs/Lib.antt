@@ -9,3 +9,5 @@ pub mod Branches
 pub mod Fields
 pub mod Control
 pub mod Instructions
+pub mod Fed
+pub mod After

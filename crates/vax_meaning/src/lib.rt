@@ -14,6 +14,7 @@ mod meaning;
 mod memory;
 mod moves;
 mod operands;
+mod steps;
 
 pub use codes::{
     carry, finished, gone_to, negative, overflow, set_all, set_by_result, set_codes, set_pc,
@@ -31,6 +32,7 @@ pub use moves::{pushed, set_compared};
 pub use operands::{
     Location, located, put_back, register_of, set_register_of, stored, taken, value_in_register,
 };
+pub use steps::{body_fed, find_fed, laws_of_after, obtain_fed};
 
 #[cfg(test)]
 mod tests;
