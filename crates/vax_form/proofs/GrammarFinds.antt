@@ -1,23 +1,23 @@
 -- What is read from the front of a list of bytes, those bytes specify.
-use Rattle.std.proofs.Common.{◌≡◌, ◌≢◌, ℕ, suc, ◌+◌, ◌*◌, ◌/◌, ◌%◌, ◌^◌, ◌<◌, ◌≤◌, ◌⊎◌, Bool, true, false, cond, eqb, ltb, leb, List, [], ◌∷◌, ◌++◌, length, get_or, take, drop, Option, Some, None, refl, sym, ap, ◌∙◌, subst, inl, inr, arith, length-append, length-take, add_comm, add-one}
-use Rattle.std.proofs.lemmas.Bool.{cases_Bool, cases_eq, cond-false, cond-true, eqb-false, eqb-true, false≢true, leb-true, true≢false}
+use Rattle.std.proofs.Common.{◌≡◌, ◌≢◌, ℕ, suc, ◌+◌, ◌/◌, ◌%◌, ◌<◌, ◌≤◌, ◌⊎◌, Bool, true, false, cond, leb, List, [], ◌∷◌, length, take, Option, Some, None, refl, sym, ap, ◌∙◌, subst, inl, inr, arith, length-take}
+use Rattle.std.proofs.lemmas.Bool.{cases_eq, eqb-false, eqb-true, false≢true, leb-true, true≢false}
 use Rattle.std.specs.Option.{option_map}
 use Rattle.vax_form.specs.Size.{bytes_of}
-use Rattle.vax_form.specs.Grammar.{Describes, Displaces, HasRegister, IsReservedBase, Locates, ShowsReserved, ShowsReservedMode, Specifies, Steps, absolute, base, byte_displacement, byte_relative, constant_address, decrement, decrement_pc, deferred, deferred_pc, extended, first_byte, immediate, increment, increment_deferred, index, index_pc, indexed, literal, long_displacement, long_relative, number, place, quad_in_r14, register, register_address, register_pc, steps_down, steps_up, steps_up_deferred, stored_immediate, word_displacement, word_relative, wrapped}
+use Rattle.vax_form.specs.Grammar.{Describes, HasRegister, IsReservedBase, Locates, ShowsReserved, ShowsReservedMode, Specifies, Steps, absolute, base, byte_displacement, byte_relative, constant_address, decrement, decrement_pc, deferred, deferred_pc, extended, immediate, increment, increment_deferred, index, index_pc, indexed, literal, long_displacement, long_relative, number, place, quad_in_r14, register, register_address, register_pc, steps_down, steps_up, steps_up_deferred, stored_immediate, word_displacement, word_relative, wrapped}
+use Rattle.vax_form.specs.GrammarLaws.{AreBytes}
 use Rattle.vax_form.specs.GrammarModes.{base_of, extension_size, is_reserved_base, is_reserved_mode, mode_of, operand_of}
 use Rattle.vax_form.specs.GrammarReading.{Shown, complete, read_base, read_by_mode, read_displacement, read_extension, read_general, read_number, read_plain, read_specifier, reserved}
 use Rattle.vax_form.proofs.GrammarFirstBytes.{IsFirst, is_first}
-use Rattle.vax_form.proofs.GrammarReads.{is_place, is_reserved_mode-place, operand_of-place, wrapped-add}
+use Rattle.vax_form.proofs.GrammarReads.{is_place, operand_of-place, wrapped-add}
 use Rattle.vax_form.specs.declared.mode.Mode.{Mode}
 use Rattle.vax_form.specs.declared.mode.Mode.TheVariants as mode
 use Rattle.vax_form.specs.declared.instr.Size.{Size}
 use Rattle.vax_form.specs.declared.instr.Size.TheVariants.{Byte, Word, Long, Quad}
 use Rattle.vax_form.specs.declared.instr.Access.{Access}
 use Rattle.vax_form.specs.declared.instr.Access.TheVariants as access
-use Rattle.vax_form.specs.declared.instr.Base.{Base}
-use Rattle.vax_form.specs.declared.instr.Base.TheVariants.{Deferred, Decrement, Increment, IncrementDeferred, Offset, Fixed}
+use Rattle.vax_form.specs.declared.instr.Base.TheVariants.{Offset, Fixed}
 use Rattle.vax_form.specs.declared.instr.Operand.{Operand}
-use Rattle.vax_form.specs.declared.instr.Operand.TheVariants.{Value, Register, Place, Target}
+use Rattle.vax_form.specs.declared.instr.Operand.TheVariants.{Value, Target}
 
 -- ---- options and choices
 
@@ -46,7 +46,7 @@ pub record IsNumber (size : Size) (bytes : List ℕ) (value : ℕ) : Type 0 wher
 pub read_number-some : (size : Size) (bytes : List ℕ) (value : ℕ) → read_number size bytes ≡ Some value → IsNumber size bytes value
 unfolding read_number
 read_number-some size bytes value e = elim (chosen (leb (bytes_of size) (length bytes)) _ _ _ e) [
-  inl h ↦ record { enough = leb-true _ _ h.0; is = cc }
+  | inl h ↦ record { enough = leb-true _ _ h.0; is = cc }
   | inr h ↦ absurd (let none = h.1 in cc)
 ]
 
@@ -152,27 +152,36 @@ read_plain-some : (a : Access) (size : Size) (at first : ℕ) (m : Mode) (rest :
     → read_plain a size at first m rest ≡ Some (shown, n) → IsBadMode a size first m shown n ⊎ IsPlain a size at first m rest shown n
 unfolding read_plain
 read_plain-some a size at first m rest shown n e = elim (chosen (is_reserved_mode a size (first % 16) m) _ _ _ e) [
-  inl h ↦ inl (let p = same_pair reserved shown 1 n h.1 in (h.0, p.0, p.1))
+  | inl h ↦ inl (let p = same_pair reserved shown 1 n h.1 in (h.0, p.0, p.1))
   | inr h ↦ inr (
-    let x = option_map-some _ (read_extension (extension_size size m) rest) _ h.1 in
-    record {
-      value = x.0.0;
-      len = x.0.1;
-      fine = h.0;
-      reads = read_extension-some (extension_size size m) rest x.0.0 x.0.1 x.1;
-      gives = ap (λ p. p.0) x.2;
-      count = ap (λ p. p.1) x.2;
-    })
+      let x = option_map-some _ (read_extension (extension_size size m) rest) _ h.1 in
+      record {
+        value = x.0.0;
+        len = x.0.1;
+        fine = h.0;
+        reads = read_extension-some (extension_size size m) rest x.0.0 x.0.1 x.1;
+        gives = ap (λ p. p.0) x.2;
+        count = ap (λ p. p.1) x.2;
+      })
 ]
 
 -- a byte that shows a reserved mode
 program_counter_shows : (a : Access) (size : Size) (first : ℕ) → first % 16 ≡ 15 → first / 16 < 8 → 4 ≤ first / 16
     → ShowsReserved a size (first ∷ [])
 program_counter_shows a size first pc below above =
-    elim (cases_eq (first / 16) 4) [ inl e4 ↦ index_pc (ap (λ b. b ∷ []) (omega arith)) | inr n4 ↦
-    elim (cases_eq (first / 16) 5) [ inl e5 ↦ register_pc (ap (λ b. b ∷ []) (omega arith)) | inr n5 ↦
-    elim (cases_eq (first / 16) 6) [ inl e6 ↦ deferred_pc (ap (λ b. b ∷ []) (omega arith)) | inr n6 ↦
-    decrement_pc (ap (λ b. b ∷ []) (omega arith)) ] ] ]
+    elim (cases_eq (first / 16) 4) [
+      | inl e4 ↦ index_pc (ap (λ b. b ∷ []) (omega arith))
+      | inr n4 ↦
+          elim (cases_eq (first / 16) 5) [
+            | inl e5 ↦ register_pc (ap (λ b. b ∷ []) (omega arith))
+            | inr n5 ↦
+                elim (cases_eq (first / 16) 6) [
+                  | inl e6 ↦ deferred_pc (ap (λ b. b ∷ []) (omega arith))
+                  | inr n6 ↦
+                      decrement_pc (ap (λ b. b ∷ []) (omega arith))
+                ]
+          ]
+    ]
 
 literal_shows : (a : Access) (size : Size) (first : ℕ) → first < 0x40 → is_reserved_mode a size (first % 16) mode.Literal ≡ true
     → ShowsReserved a size (first ∷ [])
@@ -292,16 +301,19 @@ Finds-plain : (a : Access) (size : Size) (at first : ℕ) (m : Mode) (rest : Lis
     → a ≢ access.Branch → m ≢ mode.Index → IsFirst first m → read_plain a size at first m rest ≡ Some (shown, n)
     → Finds a size at (first ∷ rest) shown n
 Finds-plain a size at first m rest shown n other plain is e = elim (read_plain-some a size at first m rest shown n e) [
-  inl bad ↦ (omega (arith, bad.2),
+  | inl bad ↦ (
+    omega (arith, bad.2),
     subst (λ k. Describes_shown a size at (take k (first ∷ rest)) shown) bad.2
-    (subst (λ k. Describes_shown a size at (first ∷ []) k) bad.1 (mode_shows a size first m is bad.0)))
+        (subst (λ k. Describes_shown a size at (first ∷ []) k) bad.1 (mode_shows a size first m is bad.0)),
+  )
   | inr fine ↦ (
-    let enough = IsExtension-enough (extension_size size m) rest fine.value fine.len fine.reads in
-    let count : suc fine.len ≡ n = omega (arith, fine.count) in
-    (omega (arith, count),
-    subst (λ k. Describes_shown a size at (take k (first ∷ rest)) shown) count
-    (subst (λ k. Describes_shown a size at (first ∷ take fine.len rest) k) fine.gives
-    (mode_describes a size at first fine.value fine.len m rest other plain is fine.fine fine.reads))))
+      let enough = IsExtension-enough (extension_size size m) rest fine.value fine.len fine.reads in
+      let count : suc fine.len ≡ n = omega (arith, fine.count) in (
+        omega (arith, count),
+        subst (λ k. Describes_shown a size at (take k (first ∷ rest)) shown) count
+            (subst (λ k. Describes_shown a size at (first ∷ take fine.len rest) k) fine.gives
+            (mode_describes a size at first fine.value fine.len m rest other plain is fine.fine fine.reads)),
+      ))
 ]
 
 -- ---- behind an index byte
@@ -313,9 +325,15 @@ reserved_base x byte mode.Index is bad = index (byte % 16) (omega arith) is.1
 reserved_base x byte mode.Register is bad = register (byte % 16) (omega arith) is.1
 reserved_base x byte mode.Immediate is bad = immediate is
 reserved_base x byte mode.Reserved is bad =
-    elim (cases_eq (byte / 16) 4) [ inl e4 ↦ index 15 (omega arith) (omega arith) | inr n4 ↦
-    elim (cases_eq (byte / 16) 5) [ inl e5 ↦ register 15 (omega arith) (omega arith) | inr n5 ↦
-    elim (cases_eq (byte / 16) 6) [ inl e6 ↦ deferred_pc (omega arith) | inr n6 ↦ decrement_pc (omega arith) ] ] ]
+    elim (cases_eq (byte / 16) 4) [
+      | inl e4 ↦ index 15 (omega arith) (omega arith)
+      | inr n4 ↦
+          elim (cases_eq (byte / 16) 5) [
+            | inl e5 ↦ register 15 (omega arith) (omega arith)
+            | inr n5 ↦
+                elim (cases_eq (byte / 16) 6) [ inl e6 ↦ deferred_pc (omega arith) | inr n6 ↦ decrement_pc (omega arith) ]
+          ]
+    ]
 reserved_base x byte mode.Decrement is bad = let same = eqb-true (byte % 16) x bad in steps_down (omega arith)
 reserved_base x byte mode.Increment is bad = let same = eqb-true (byte % 16) x bad in steps_up (omega arith)
 reserved_base x byte mode.IncrementDeferred is bad = let same = eqb-true (byte % 16) x bad in steps_up_deferred (omega arith)
@@ -347,28 +365,26 @@ unfolding read_base
 Finds-base a size at first x byte rest shown n small below is e =
     let m = mode_of byte in
     elim (chosen (is_reserved_base x (byte % 16) m) _ _ _ e) [
-      inl bad ↦ (let p = same_pair reserved shown 2 n bad.1 in
-        (omega (arith, p.1),
+      | inl bad ↦ (let p = same_pair reserved shown 2 n bad.1 in (
+        omega (arith, p.1),
         subst (λ k. Describes_shown a size at (take k (first ∷ byte ∷ rest)) shown) p.1
-        (subst (λ k. Describes_shown a size at (first ∷ byte ∷ []) k) p.0
-        (base x byte below (reserved_base x byte m (is_first byte small) bad.0) (ap (λ b. b ∷ byte ∷ []) is)))))
+            (subst (λ k. Describes_shown a size at (first ∷ byte ∷ []) k) p.0
+            (base x byte below (reserved_base x byte m (is_first byte small) bad.0) (ap (λ b. b ∷ byte ∷ []) is))),
+      ))
       | inr fine ↦ (
-        let y = option_map-some _ (read_extension (extension_size size m) rest) _ fine.1 in
-        let ext = read_extension-some (extension_size size m) rest y.0.0 y.0.1 y.1 in
-        let enough = IsExtension-enough (extension_size size m) rest y.0.0 y.0.1 ext in
-        let f = free_base x (byte % 16) y.0.0 (wrapped (at + 1 + 1)) (wrapped (at + 1 + 1 + y.0.1)) m fine.0 in
-        let count : suc (suc y.0.1) ≡ n = omega (arith, ap (λ p. p.1) y.2) in
-        (omega (arith, count),
-        subst (λ k. Describes_shown a size at (take k (first ∷ byte ∷ rest)) shown) count
-        (subst (λ k. Describes_shown a size at (first ∷ byte ∷ take y.0.1 rest) k) (ap (λ p. p.0) y.2)
-        (indexed x _ (byte ∷ take y.0.1 rest) below
-          (located size (at + 1) byte y.0.0 y.0.1 m rest f.is_for_place (is_first byte small) ext)
-          f.free (ap (λ b. b ∷ byte ∷ take y.0.1 rest) is) refl))))
+          let y = option_map-some _ (read_extension (extension_size size m) rest) _ fine.1 in
+          let ext = read_extension-some (extension_size size m) rest y.0.0 y.0.1 y.1 in
+          let enough = IsExtension-enough (extension_size size m) rest y.0.0 y.0.1 ext in
+          let f = free_base x (byte % 16) y.0.0 (wrapped (at + 1 + 1)) (wrapped (at + 1 + 1 + y.0.1)) m fine.0 in
+          let count : suc (suc y.0.1) ≡ n = omega (arith, ap (λ p. p.1) y.2) in (
+            omega (arith, count),
+            subst (λ k. Describes_shown a size at (take k (first ∷ byte ∷ rest)) shown) count
+                (subst (λ k. Describes_shown a size at (first ∷ byte ∷ take y.0.1 rest) k) (ap (λ p. p.0) y.2)
+                (indexed x _ (byte ∷ take y.0.1 rest) below
+                (located size (at + 1) byte y.0.0 y.0.1 m rest f.is_for_place (is_first byte small) ext)
+                f.free (ap (λ b. b ∷ byte ∷ take y.0.1 rest) is) refl)),
+          ))
     ]
-
--- the list has bytes alone
-abbrev pub AreBytes : List ℕ → Type 0
-AreBytes bytes = (i : ℕ) → get_or bytes i 0 < 256
 
 Finds-index : (a : Access) (size : Size) (at first : ℕ) (rest : List ℕ) (shown : Shown Operand) (n : ℕ) → AreBytes rest
     → IsFirst first mode.Index → read_base size (at + 1) (first % 16) rest ≡ Some (shown, n) → Finds a size at (first ∷ rest) shown n
@@ -414,12 +430,15 @@ displacement_found size at bytes shown n e =
     let x = option_map-some _ (read_number size bytes) _ e in
     let number_read = read_number-some size bytes x.0 x.1 in
     let count : bytes_of size ≡ n = ap (λ p. p.1) x.2 in
-    let len : length (take (bytes_of size) bytes) ≡ bytes_of size = length-take-enough (bytes_of size) bytes number_read.enough in
-    (omega (arith, number_read.enough, count),
-    subst (λ k. Specifies_shown access.Branch size at (take k bytes) shown) count
-    (subst (λ k. Specifies_shown access.Branch size at (take (bytes_of size) bytes) k) (ap (λ p. p.0) x.2)
-    (len, ap (λ k. Target (wrapped (at + k + extended size x.0))) (sym len)
-      ∙ ap (λ v. Target (wrapped (at + length (take (bytes_of size) bytes) + extended size v))) number_read.is)))
+    let len : length (take (bytes_of size) bytes) ≡ bytes_of size = length-take-enough (bytes_of size) bytes number_read.enough in (
+      omega (arith, number_read.enough, count),
+      subst (λ k. Specifies_shown access.Branch size at (take k bytes) shown) count
+          (subst (λ k. Specifies_shown access.Branch size at (take (bytes_of size) bytes) k) (ap (λ p. p.0) x.2) (
+            len,
+            ap (λ k. Target (wrapped (at + k + extended size x.0))) (sym len)
+                ∙ ap (λ v. Target (wrapped (at + length (take (bytes_of size) bytes) + extended size v))) number_read.is,
+          )),
+    )
 
 -- what is read, the bytes specify
 pub specifier_found : (a : Access) (size : Size) (at : ℕ) (bytes : List ℕ) (shown : Shown Operand) (n : ℕ)

@@ -1,5 +1,5 @@
 -- The first byte of a specifier against its addressing mode, both ways.
-use Rattle.std.proofs.Common.{◌≡◌, ℕ, ◌+◌, ◌*◌, ◌/◌, ◌%◌, ◌^◌, ◌<◌, ◌≤◌, Bool, true, false, cond, eqb, ltb, refl, sym, ap, ◌∙◌, subst, inl, inr, arith}
+use Rattle.std.proofs.Common.{◌≡◌, ℕ, ◌+◌, ◌*◌, ◌/◌, ◌%◌, ◌<◌, ◌≤◌, Bool, eqb, ltb, refl, sym, ap, ◌∙◌, subst, inl, inr, arith}
 use Rattle.std.proofs.lemmas.Bool.{cases_eq, cond-false, cond-true, cond_both, eq-eqb, eqb-false, eqb-true, le-ltb, lt-ltb, ltb-false, ltb-true, ne_eqb}
 use Rattle.vax_form.specs.Grammar.{first_byte}
 use Rattle.vax_form.specs.GrammarModes.{mode_of, program_counter_mode, register_mode}
@@ -74,18 +74,18 @@ register_first first byte above other =
     let n : first % 16 < 15 = omega arith in
     let P : ℕ → Type 0 = λ high. first / 16 ≡ high → IsFirst first (register_mode high) in
     from_four P (first / 16) (omega arith) (omega arith)
-      (λ e. (n, omega arith)) (λ e. (n, omega arith)) (λ e. (n, omega arith)) (λ e. (n, omega arith))
-      (λ e. (n, omega arith)) (λ e. (n, omega arith)) (λ e. (n, omega arith)) (λ e. (n, omega arith))
-      (λ e. (n, omega arith)) (λ e. (n, omega arith)) (λ e. (n, omega arith)) (λ e. (n, omega arith)) refl
+    (λ e. (n, omega arith)) (λ e. (n, omega arith)) (λ e. (n, omega arith)) (λ e. (n, omega arith))
+    (λ e. (n, omega arith)) (λ e. (n, omega arith)) (λ e. (n, omega arith)) (λ e. (n, omega arith))
+    (λ e. (n, omega arith)) (λ e. (n, omega arith)) (λ e. (n, omega arith)) (λ e. (n, omega arith)) refl
 
 program_counter_first : (first : ℕ) → first < 256 → 0x40 ≤ first → first % 16 ≡ 15 → IsFirst first (program_counter_mode (first / 16))
 program_counter_first first byte above pc =
     let P : ℕ → Type 0 = λ high. first / 16 ≡ high → IsFirst first (program_counter_mode high) in
     from_four P (first / 16) (omega arith) (omega arith)
-      (λ e. (pc, omega arith, omega arith)) (λ e. (pc, omega arith, omega arith))
-      (λ e. (pc, omega arith, omega arith)) (λ e. (pc, omega arith, omega arith))
-      (λ e. omega arith) (λ e. omega arith) (λ e. omega arith) (λ e. omega arith)
-      (λ e. omega arith) (λ e. omega arith) (λ e. omega arith) (λ e. omega arith) refl
+    (λ e. (pc, omega arith, omega arith)) (λ e. (pc, omega arith, omega arith))
+    (λ e. (pc, omega arith, omega arith)) (λ e. (pc, omega arith, omega arith))
+    (λ e. omega arith) (λ e. omega arith) (λ e. omega arith) (λ e. omega arith)
+    (λ e. omega arith) (λ e. omega arith) (λ e. omega arith) (λ e. omega arith) refl
 
 pub is_first : (first : ℕ) → first < 256 → IsFirst first (mode_of first)
 unfolding mode_of

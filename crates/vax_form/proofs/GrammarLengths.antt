@@ -1,10 +1,10 @@
 -- An instruction has at most 61 bytes, so more of them are never wanted.
-use Rattle.std.proofs.Common.{◌≡◌, ℕ, suc, ◌+◌, ◌*◌, ◌%◌, ◌<◌, ◌≤◌, ◌⊎◌, true, false, cond, leb, List, [], ◌∷◌, length, drop, Option, Some, None, refl, sym, ap, ◌∙◌, inl, inr, arith, length-drop}
+use Rattle.std.proofs.Common.{◌≡◌, ℕ, ◌+◌, ◌%◌, ◌<◌, ◌≤◌, leb, List, [], ◌∷◌, length, Option, Some, None, refl, ap, inl, inr, arith}
 use Rattle.std.proofs.lemmas.Bool.{leb-false}
 use Rattle.std.specs.Option.{option_map}
 use Rattle.vax_form.specs.Size.{bytes_of}
 use Rattle.vax_form.specs.GrammarModes.{extension_size, is_reserved_base, is_reserved_mode, mode_of}
-use Rattle.vax_form.specs.GrammarReading.{Shown, complete, in_front, read_base, read_by_mode, read_displacement, read_extension, read_general, read_number, read_plain, read_specifier, read_specifiers, reserved}
+use Rattle.vax_form.specs.GrammarReading.{read_base, read_by_mode, read_displacement, read_extension, read_general, read_number, read_plain, read_specifier, reserved}
 use Rattle.vax_form.proofs.GrammarFinds.{IsExtension, chosen, option_map-some, read_extension-some, same_pair}
 use Rattle.vax_form.specs.declared.mode.Mode.{Mode}
 use Rattle.vax_form.specs.declared.mode.Mode.TheVariants as mode
@@ -12,7 +12,6 @@ use Rattle.vax_form.specs.declared.instr.Size.{Size}
 use Rattle.vax_form.specs.declared.instr.Size.TheVariants.{Byte, Word, Long, Quad}
 use Rattle.vax_form.specs.declared.instr.Access.{Access}
 use Rattle.vax_form.specs.declared.instr.Access.TheVariants as access
-use Rattle.vax_form.specs.declared.instr.Operand.{Operand}
 
 pub option_map-none : {A B : Type 0} (f : A → B) (o : Option A) → option_map f o ≡ None → o ≡ None
 option_map-none f None e = refl
@@ -29,7 +28,7 @@ bytes_of-most Quad = omega arith
 read_number-none : (size : Size) (bytes : List ℕ) → read_number size bytes ≡ None → length bytes < 8
 unfolding read_number
 read_number-none size bytes e = elim (chosen (leb (bytes_of size) (length bytes)) _ _ _ e) [
-  inl h ↦ absurd (let none = h.1 in cc)
+  | inl h ↦ absurd (let none = h.1 in cc)
   | inr h ↦ (let short = leb-false _ _ h.0 in omega (arith, bytes_of-most size))
 ]
 
@@ -60,15 +59,15 @@ read_plain-short a size at first m rest =
     let o = extension_size size m in
     IsShort-from 9 (first ∷ rest) (read_plain a size at first m rest)
     (λ e. elim (chosen bad _ _ _ e) [
-      inl h ↦ absurd (let none = h.1 in cc)
+      | inl h ↦ absurd (let none = h.1 in cc)
       | inr h ↦ (let short = read_extension-none o rest (option_map-none _ (read_extension o rest) h.1) in omega arith)
     ])
     (λ x n e. elim (chosen bad _ _ _ e) [
-      inl h ↦ (let p = same_pair reserved x 1 n h.1 in omega (arith, p.1))
+      | inl h ↦ (let p = same_pair reserved x 1 n h.1 in omega (arith, p.1))
       | inr h ↦ (
-        let y = option_map-some _ (read_extension o rest) _ h.1 in
-        let most = IsExtension-most o rest y.0.0 y.0.1 (read_extension-some o rest y.0.0 y.0.1 y.1) in
-        omega (arith, ap (λ p. p.1) y.2))
+          let y = option_map-some _ (read_extension o rest) _ h.1 in
+          let most = IsExtension-most o rest y.0.0 y.0.1 (read_extension-some o rest y.0.0 y.0.1 y.1) in
+          omega (arith, ap (λ p. p.1) y.2))
     ])
 
 read_base-short : (size : Size) (at x first : ℕ) (rest : List ℕ) → IsShort 10 (first ∷ rest) (read_base size at x rest)
@@ -79,15 +78,15 @@ read_base-short size at x first (byte ∷ rest) =
     let o = extension_size size (mode_of byte) in
     IsShort-from 10 (first ∷ byte ∷ rest) (read_base size at x (byte ∷ rest))
     (λ e. elim (chosen bad _ _ _ e) [
-      inl h ↦ absurd (let none = h.1 in cc)
+      | inl h ↦ absurd (let none = h.1 in cc)
       | inr h ↦ (let short = read_extension-none o rest (option_map-none _ (read_extension o rest) h.1) in omega arith)
     ])
     (λ x n e. elim (chosen bad _ _ _ e) [
-      inl h ↦ (let p = same_pair reserved x 2 n h.1 in omega (arith, p.1))
+      | inl h ↦ (let p = same_pair reserved x 2 n h.1 in omega (arith, p.1))
       | inr h ↦ (
-        let y = option_map-some _ (read_extension o rest) _ h.1 in
-        let most = IsExtension-most o rest y.0.0 y.0.1 (read_extension-some o rest y.0.0 y.0.1 y.1) in
-        omega (arith, ap (λ p. p.1) y.2))
+          let y = option_map-some _ (read_extension o rest) _ h.1 in
+          let most = IsExtension-most o rest y.0.0 y.0.1 (read_extension-some o rest y.0.0 y.0.1 y.1) in
+          omega (arith, ap (λ p. p.1) y.2))
     ])
 
 IsShort-more : {X : Type 0} (few most : ℕ) (bytes : List ℕ) (o : Option (X × ℕ)) → few ≤ most → IsShort few bytes o → IsShort most bytes o

@@ -1,11 +1,11 @@
 -- What a list of bytes specifies is read from it, whatever follows.
-use Rattle.std.proofs.Common.{◌≡◌, ◌≢◌, ℕ, ◌+◌, ◌*◌, ◌/◌, ◌%◌, ◌^◌, ◌<◌, ◌≤◌, ◌⊎◌, Bool, true, false, cond, eqb, ltb, leb, List, [], ◌∷◌, ◌++◌, length, take, drop, Option, Some, None, refl, sym, ap, ◌∙◌, subst, inl, inr, arith, length-append, add_comm}
+use Rattle.std.proofs.Common.{◌≡◌, ◌≢◌, ℕ, ◌+◌, ◌*◌, ◌%◌, ◌^◌, ◌<◌, ◌≤◌, Bool, true, false, List, [], ◌∷◌, ◌++◌, length, take, Option, Some, None, refl, sym, ap, ◌∙◌, subst, inl, inr, arith, length-append, add_comm}
 use Rattle.std.proofs.Math.Nat.{add-mod-mod}
 use Rattle.std.proofs.Math.Seq.{take-append_seam}
-use Rattle.std.proofs.lemmas.Bool.{cases_lt, cond-false, cond-true, false≢true, eq-eqb, eqb-false, eqb-true, le-leb, le-ltb, lt-ltb, ne_eqb}
+use Rattle.std.proofs.lemmas.Bool.{cases_lt, cond-false, cond-true, false≢true, eq-eqb, le-leb, ne_eqb}
 use Rattle.std.specs.Option.{option_map}
 use Rattle.vax_form.specs.Size.{bytes_of}
-use Rattle.vax_form.specs.Grammar.{Describes, Displaces, HasRegister, IsReservedBase, Locates, ShowsReserved, ShowsReservedMode, Specifies, Steps, absolute, base, byte_displacement, byte_relative, constant_address, decrement, deferred, extended, first_byte, immediate, increment, increment_deferred, index, index_pc, indexed, literal, long_displacement, long_relative, number, place, quad_in_r14, register, register_address, register_pc, deferred_pc, decrement_pc, stored_immediate, steps_down, steps_up, steps_up_deferred, word_displacement, word_relative, wrapped}
+use Rattle.vax_form.specs.Grammar.{Describes, Displaces, HasRegister, IsReservedBase, Locates, ShowsReserved, ShowsReservedMode, Specifies, Steps, absolute, base, byte_displacement, byte_relative, constant_address, decrement, deferred, extended, immediate, increment, increment_deferred, index, index_pc, indexed, literal, long_displacement, long_relative, number, place, quad_in_r14, register, register_address, register_pc, deferred_pc, decrement_pc, stored_immediate, steps_down, steps_up, steps_up_deferred, word_displacement, word_relative, wrapped}
 use Rattle.vax_form.specs.GrammarModes.{base_of, extension_size, is_reserved_base, is_reserved_mode, mode_of, operand_of, program_counter_mode, register_mode}
 use Rattle.vax_form.specs.GrammarReading.{Shown, complete, read_base, read_by_mode, read_displacement, read_extension, read_general, read_number, read_plain, read_specifier, reserved}
 use Rattle.vax_form.proofs.GrammarFirstBytes.{mode_of-literal, mode_of-program_counter, mode_of-register}
@@ -16,9 +16,9 @@ use Rattle.vax_form.specs.declared.instr.Size.TheVariants.{Byte, Word, Long, Qua
 use Rattle.vax_form.specs.declared.instr.Access.{Access}
 use Rattle.vax_form.specs.declared.instr.Access.TheVariants as access
 use Rattle.vax_form.specs.declared.instr.Base.{Base}
-use Rattle.vax_form.specs.declared.instr.Base.TheVariants.{Deferred, Decrement, Increment, IncrementDeferred, Offset, Fixed}
+use Rattle.vax_form.specs.declared.instr.Base.TheVariants.{Offset, Fixed}
 use Rattle.vax_form.specs.declared.instr.Operand.{Operand}
-use Rattle.vax_form.specs.declared.instr.Operand.TheVariants.{Value, Register, Place, Target}
+use Rattle.vax_form.specs.declared.instr.Operand.TheVariants.{Register, Place, Target}
 
 -- ---- numbers
 
@@ -125,16 +125,16 @@ relative_to : (size : Size) (at : ℕ) (bytes : List ℕ) (b : Base) (s : Size) 
 unfolding base_of extension_size
 relative_to size at bytes b s twice first high d e above is_mode len are_bytes is =
     let same : at + 1 + length d ≡ at + length bytes = omega (arith, ap length are_bytes) in record {
-  first = first;
-  m = mode.Relative s twice;
-  d = d;
-  value = number d;
-  are_bytes = are_bytes;
-  is_mode = mode_of-program_counter high first e above ∙ is_mode;
-  is_for_place = refl;
-  reads = λ rest. read_extension-front s d rest len;
-  gives = ap (λ k. Fixed k twice) (wrapped-add (at + 1 + length d) (extended s (number d)) ∙ ap (λ n. wrapped (n + extended s (number d))) same) ∙ sym is;
-}
+      first = first;
+      m = mode.Relative s twice;
+      d = d;
+      value = number d;
+      are_bytes = are_bytes;
+      is_mode = mode_of-program_counter high first e above ∙ is_mode;
+      is_for_place = refl;
+      reads = λ rest. read_extension-front s d rest len;
+      gives = ap (λ k. Fixed k twice) (wrapped-add (at + 1 + length d) (extended s (number d)) ∙ ap (λ n. wrapped (n + extended s (number d))) same) ∙ sym is;
+    }
 
 of_register : (size : Size) (at : ℕ) (bytes : List ℕ) (b : Base) (n first high : ℕ) (m : Mode)
     → first ≡ 16 * high + n → n < 15 → 4 ≤ high → register_mode high ≡ m → is_place m ≡ true
@@ -262,11 +262,11 @@ read_base-located size at x more rest b located free =
     let r = IsRead-from size at more b located in
     let len : 2 + length r.d ≡ 1 + length more = omega (arith, ap length r.are_bytes) in
     let unstepped : ¬ Steps (base_of (r.first % 16) r.value (wrapped (at + 1)) (wrapped (at + 1 + length r.d)) r.m) x =
-      λ h. free (subst (λ k. Steps k x) r.gives h) in
+    λ h. free (subst (λ k. Steps k x) r.gives h) in
     ap (λ l. read_base size at x (l ++ rest)) r.are_bytes
     ∙ indexed_base size at x r.first (r.d ++ rest) r.m r.value (length r.d) b r.is_mode
-      (is_reserved_base-place x (r.first % 16) r.value (wrapped (at + 1)) (wrapped (at + 1 + length r.d)) r.m r.is_for_place unstepped)
-      (r.reads rest) r.gives
+    (is_reserved_base-place x (r.first % 16) r.value (wrapped (at + 1)) (wrapped (at + 1 + length r.d)) r.m r.is_for_place unstepped)
+    (r.reads rest) r.gives
     ∙ ap (λ n. Some (complete (Place b (Some x)), n)) len
 
 pub read_general-describes : (a : Access) (size : Size) (at : ℕ) (bytes : List ℕ) (o : Operand) (rest : List ℕ)
@@ -331,12 +331,12 @@ unfolding is_reserved_base
 read_base-any size at x byte rest small (literal below) =
     read_base-reserved size at x byte mode.Literal rest (mode_of-literal byte below) refl
 read_base-any size at x byte rest small (index n below e) = elim (cases_lt n 15) [
-  inl under ↦ read_base-reserved size at x byte mode.Index rest (mode_of-register 4 n byte e under (omega arith)) refl
-    | inr over ↦ read_base-reserved size at x byte mode.Reserved rest (mode_of-program_counter 4 byte (omega arith) (omega arith)) refl
+  | inl under ↦ read_base-reserved size at x byte mode.Index rest (mode_of-register 4 n byte e under (omega arith)) refl
+  | inr over ↦ read_base-reserved size at x byte mode.Reserved rest (mode_of-program_counter 4 byte (omega arith) (omega arith)) refl
 ]
 read_base-any size at x byte rest small (register n below e) = elim (cases_lt n 15) [
-  inl under ↦ read_base-reserved size at x byte mode.Register rest (mode_of-register 5 n byte e under (omega arith)) refl
-    | inr over ↦ read_base-reserved size at x byte mode.Reserved rest (mode_of-program_counter 5 byte (omega arith) (omega arith)) refl
+  | inl under ↦ read_base-reserved size at x byte mode.Register rest (mode_of-register 5 n byte e under (omega arith)) refl
+  | inr over ↦ read_base-reserved size at x byte mode.Reserved rest (mode_of-program_counter 5 byte (omega arith) (omega arith)) refl
 ]
 read_base-any size at x byte rest small (deferred_pc e) =
     read_base-reserved size at x byte mode.Reserved rest (mode_of-program_counter 6 byte e (omega arith)) refl
@@ -376,11 +376,11 @@ read_general-shows a size at bytes rest (deferred_pc e) =
 read_general-shows a size at bytes rest (decrement_pc e) =
     read_general-reserved_mode a size at bytes rest 0x7F mode.Reserved e (mode_of-program_counter 7 0x7F refl (omega arith)) refl refl
 read_general-shows a size at bytes rest (register_address n below used e) = elim (cases_lt n 15) [
-  inl under ↦ read_general-reserved_mode a size at bytes rest (0x50 + n) mode.Register e
-    (mode_of-register 5 n (0x50 + n) (omega arith) under (omega arith)) refl
-    (ap (λ k. is_reserved_mode k size ((0x50 + n) % 16) mode.Register) used)
-    | inr over ↦ read_general-reserved_mode a size at bytes rest (0x50 + n) mode.Reserved e
-    (mode_of-program_counter 5 (0x50 + n) (omega arith) (omega arith)) refl refl
+  | inl under ↦ read_general-reserved_mode a size at bytes rest (0x50 + n) mode.Register e
+      (mode_of-register 5 n (0x50 + n) (omega arith) under (omega arith)) refl
+      (ap (λ k. is_reserved_mode k size ((0x50 + n) % 16) mode.Register) used)
+  | inr over ↦ read_general-reserved_mode a size at bytes rest (0x50 + n) mode.Reserved e
+      (mode_of-program_counter 5 (0x50 + n) (omega arith) (omega arith)) refl refl
 ]
 read_general-shows a size at bytes rest (quad_in_r14 is_quad e) =
     read_general-reserved_mode a size at bytes rest 0x5E mode.Register e

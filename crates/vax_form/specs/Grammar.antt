@@ -1,7 +1,7 @@
 -- Instructions as lists of bytes: which list spells which instruction, and which lists show that none stands there.
 -- VAX Architecture Reference Manual, "Instruction Formats" and "Operand Specifiers".
-use Rattle.std.specs.Prelude.{◌≡◌, ◌≢◌, ℕ, ◌+◌, ◌-◌, ◌*◌, ◌<◌, ◌≤◌, ◌%◌, ◌^◌, ◌⊎◌, Bool, true, false, if◌then◌else◌}
-use Rattle.std.specs.Prelude.{List, [], ◌∷◌, ◌++◌, length, replicate, nat_lt, Option, Some, None}
+use Rattle.std.specs.Prelude.{◌≡◌, ◌≢◌, ℕ, ◌+◌, ◌-◌, ◌*◌, ◌<◌, ◌%◌, ◌^◌, ◌⊎◌, Bool, false, if◌then◌else◌}
+use Rattle.std.specs.Prelude.{List, [], ◌∷◌, ◌++◌, length, replicate, nat_lt, Some, None}
 use Rattle.vax_form.specs.Size.{bytes_of}
 use Rattle.vax_form.specs.GrammarRows.{operand_types}
 use Rattle.vax_form.specs.declared.instr.Size.{Size}

@@ -1,6 +1,6 @@
 -- Addressing modes by the first byte of an operand specifier, and what a specifier of each mode reads and gives.
 -- VAX Architecture Reference Manual, "Operand Specifiers", the summary of addressing modes.
-use Rattle.std.specs.Prelude.{ℕ, ◌+◌, ◌/◌, ◌%◌, Bool, true, false, not, ◌&&◌, ◌||◌, ◌==◌, nat_lt, if◌then◌else◌}
+use Rattle.std.specs.Prelude.{ℕ, ◌+◌, ◌/◌, ◌%◌, Bool, true, false, ◌==◌, nat_lt, if◌then◌else◌}
 use Rattle.std.specs.Prelude.{Option, Some, None}
 use Rattle.vax_form.specs.Grammar.{extended, wrapped}
 use Rattle.vax_form.specs.declared.mode.Mode.{Mode}
@@ -8,7 +8,7 @@ use Rattle.vax_form.specs.declared.mode.Mode.TheVariants as mode
 use Rattle.vax_form.specs.declared.instr.Size.{Size}
 use Rattle.vax_form.specs.declared.instr.Size.TheVariants.{Byte, Word, Long, Quad}
 use Rattle.vax_form.specs.declared.instr.Access.{Access}
-use Rattle.vax_form.specs.declared.instr.Access.TheVariants.{Read, Write, Modify, Address, Field, Branch}
+use Rattle.vax_form.specs.declared.instr.Access.TheVariants.{Read, Write, Modify, Address}
 use Rattle.vax_form.specs.declared.instr.Base.{Base}
 use Rattle.vax_form.specs.declared.instr.Base.TheVariants.{Deferred, Decrement, Increment, IncrementDeferred, Offset, Fixed}
 use Rattle.vax_form.specs.declared.instr.Operand.{Operand}

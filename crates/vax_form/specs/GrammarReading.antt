@@ -1,5 +1,5 @@
 -- Reading an instruction from the front of a list of bytes, one byte after the other. None: more bytes are wanted.
-use Rattle.std.specs.Prelude.{ℕ, ◌+◌, ◌/◌, ◌%◌, ◌^◌, Bool, true, false, ◌==◌, nat_le, if◌then◌else◌}
+use Rattle.std.specs.Prelude.{ℕ, ◌+◌, ◌%◌, nat_le, if◌then◌else◌}
 use Rattle.std.specs.Prelude.{List, [], ◌∷◌, length, take, drop, Option, Some, None, option_map}
 use Rattle.vax_form.specs.Size.{bytes_of}
 use Rattle.vax_form.specs.Grammar.{Found, extended, instruction, number, padded, reserved_instruction, reserved_mode, wrapped}
@@ -12,7 +12,6 @@ use Rattle.vax_form.specs.declared.instr.Access.{Access}
 use Rattle.vax_form.specs.declared.instr.Access.TheVariants.{Branch}
 use Rattle.vax_form.specs.declared.instr.Operand.{Operand}
 use Rattle.vax_form.specs.declared.instr.Operand.TheVariants.{Place, Target}
-use Rattle.vax_form.specs.declared.instr.Instr.{Instr}
 
 -- what is read where the bytes suffice, unless a reserved addressing mode is shown first
 pub data Shown (X : Type 0) : Type 0 where
@@ -39,14 +38,14 @@ read_base size at x (first ∷ rest) =
     let n = first % 16 in
     if is_reserved_base x n m then Some (reserved, 2)
     else option_map (λ e. (complete (Place (base_of n e.0 (wrapped (at + 1)) (wrapped (at + 1 + e.1)) m) (Some x)), 2 + e.1))
-      (read_extension (extension_size size m) rest)
+    (read_extension (extension_size size m) rest)
 
 -- a specifier that isn't indexed
 unfoldable pub read_plain : Access → Size → ℕ → ℕ → Mode → List ℕ → Option (Shown Operand × ℕ)
 read_plain access size at first m rest =
     if is_reserved_mode access size (first % 16) m then Some (reserved, 1)
     else option_map (λ e. (complete (operand_of access first e.0 (wrapped (at + 1)) (wrapped (at + 1 + e.1)) m), 1 + e.1))
-      (read_extension (extension_size size m) rest)
+    (read_extension (extension_size size m) rest)
 
 unfoldable pub read_by_mode : Access → Size → ℕ → ℕ → Mode → List ℕ → Option (Shown Operand × ℕ)
 read_by_mode access size at first mode.Index rest = read_base size (at + 1) (first % 16) rest
@@ -90,13 +89,16 @@ read_specifiers (t ∷ types) at bytes =
 -- what the opcode at that address and its operands show, and how many bytes that takes
 unfoldable pub instruction_of : ℕ → ℕ → ℕ → Shown (List Operand) × ℕ → Found × ℕ
 instruction_of at opcode count (reserved, n) = (reserved_mode, 1 + n)
-instruction_of at opcode count (complete operands, n) = (instruction (record {
-  at = at;
-  opcode = opcode;
-  count = count;
-  operands = padded operands;
-  after = wrapped (at + (1 + n));
-}), 1 + n)
+instruction_of at opcode count (complete operands, n) = (
+  instruction (record {
+    at = at;
+    opcode = opcode;
+    count = count;
+    operands = padded operands;
+    after = wrapped (at + (1 + n));
+  }),
+  1 + n,
+)
 
 unfoldable pub read_operands : ℕ → ℕ → Option (List (Access × Size)) → List ℕ → Option (Found × ℕ)
 read_operands at opcode None rest = Some (reserved_instruction, 1)

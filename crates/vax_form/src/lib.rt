@@ -2,6 +2,7 @@
 //! types in which the meaning of an instruction is said.
 #![tactic(auto)]
 
+mod grammar;
 mod instr;
 mod mode;
 mod operation;
@@ -10,6 +11,7 @@ mod row;
 mod script;
 mod state;
 
+pub use grammar::grammar_laws;
 pub use instr::{Access, Base, Instr, Operand, Size, Width};
 pub use mode::Mode;
 pub use operation::{

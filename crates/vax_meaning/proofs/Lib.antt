@@ -1,1 +1,4 @@
 pub mod Joined
+pub mod Bits
+pub mod Feeding
+pub mod Afters

@@ -3,3 +3,11 @@ pub mod Memory
 pub mod Operands
 pub mod Codes
 pub mod Evaluation
+pub mod Moves
+pub mod Arithmetic
+pub mod Branches
+pub mod Fields
+pub mod Control
+pub mod Instructions
+pub mod Fed
+pub mod After

@@ -2,11 +2,19 @@
 //! state, a trap or a fault, and `next` plays it with the replies that there are.
 #![tactic(auto)]
 
+mod arithmetic;
+mod branches;
 mod codes;
+mod control;
 mod cursor;
 mod evaluation;
+mod fields;
+mod instructions;
+mod meaning;
 mod memory;
+mod moves;
 mod operands;
+mod steps;
 
 pub use codes::{
     carry, finished, gone_to, negative, overflow, set_all, set_by_result, set_codes, set_pc,
@@ -17,7 +25,14 @@ pub use evaluation::{
     Evaluated, NOTHING, evaluated_row, location_at, operand_evaluated, operand_found,
     operand_obtained, operands_evaluated, value_at,
 };
+pub use instructions::{body_run, operation_run};
+pub use meaning::next;
 pub use memory::{checked, code_word_read, fetched, locked, low, read_checked, written};
+pub use moves::{pushed, set_compared};
 pub use operands::{
     Location, located, put_back, register_of, set_register_of, stored, taken, value_in_register,
 };
+pub use steps::{body_fed, find_fed, laws_of_after, obtain_fed};
+
+#[cfg(test)]
+mod tests;

@@ -1,0 +1,83 @@
+ghost use Rattle.std.specs.Prelude.{◌≡◌, ◌<◌, ◌^◌};
+ghost use Rattle.vax_form.specs.Script.{ask};
+ghost use Rattle.vax_meaning.specs.Play.{Plays, Uses};
+ghost use Rattle.vax_meaning.specs.Control.{put_byte, get_byte, answer_with, serve, change_mode};
+
+use crate::codes::set_pc;
+use crate::cursor::Cursor;
+use crate::evaluation::{Evaluated, value_at};
+use crate::operands::{register_of, set_register_of};
+use vax_form::{End, Instr, RefKind, Reference, Size, Stop};
+
+/// A reference that is none to memory.
+fn outside(cursor: &mut Cursor, kind: RefKind) -> Result<u64, Stop>
+    ensures plays { Plays (ask (record { address = 0; count = 0; kind = kind })) cursor.old result cursor.new }
+    ensures few { Uses 1 cursor.old result cursor.new }
+{
+    cursor.ask(Reference {
+        address: 0,
+        count: 0,
+        kind,
+    })
+}
+
+/// Appends the low byte of R0 to the output.
+#[tactic(auto, unfolding(crate::specs::Control::put_byte))]
+fn byte_put(cursor: &mut Cursor) -> Result<End, Stop>
+    ensures plays { Plays put_byte cursor.old result cursor.new }
+    ensures few { Uses 1 cursor.old result cursor.new }
+{
+    let byte = register_of(cursor, 0) % 256;
+    outside(cursor, RefKind::Put(byte as u8))?;
+    Ok(End::Done)
+}
+
+/// Takes the next byte of the input into R0.
+#[tactic(auto, unfolding(crate::specs::Control::get_byte))]
+fn byte_got(cursor: &mut Cursor) -> Result<End, Stop>
+    ensures plays { Plays get_byte cursor.old result cursor.new }
+    ensures few { Uses 1 cursor.old result cursor.new }
+{
+    let got = outside(cursor, RefKind::Get)?;
+    set_register_of(cursor, 0, (got % 0x1_0000_0000) as u32);
+    Ok(End::Done)
+}
+
+/// Answers a service with a value in R0.
+fn answered(cursor: &mut Cursor, value: u32) -> Result<End, Stop>
+    ensures plays { Plays (answer_with value) cursor.old result cursor.new }
+    ensures few { Uses 0 cursor.old result cursor.new }
+{
+    set_register_of(cursor, 0, value);
+    Ok(End::Done)
+}
+
+/// Does a service: 1 ends the thread, 2 puts out a byte, 3 gets one, 4 tells the thread's number.
+#[tactic(auto, unfolding(crate::specs::Control::serve))]
+pub fn served(cursor: &mut Cursor, code: u64, thread: u8) -> Result<End, Stop>
+    ensures plays { Plays (serve code thread) cursor.old result cursor.new }
+    ensures few { Uses 1 cursor.old result cursor.new }
+{
+    match code {
+        1 => Ok(End::Exits),
+        2 => byte_put(cursor),
+        3 => byte_got(cursor),
+        4 => answered(cursor, thread as u32),
+        _ => answered(cursor, 0),
+    }
+}
+
+/// CHMK.
+#[tactic(auto, unfolding(crate::specs::Control::change_mode))]
+pub fn mode_changed(
+    cursor: &mut Cursor,
+    instr: &Instr,
+    thread: u8,
+    values: &[Evaluated; 6],
+) -> Result<End, Stop>
+    ensures plays { Plays (change_mode instr.now thread values.now) cursor.old result cursor.new }
+    ensures few { Uses 1 cursor.old result cursor.new }
+{
+    set_pc(cursor, instr.after);
+    served(cursor, value_at(values, 0, Size::Word), thread)
+}

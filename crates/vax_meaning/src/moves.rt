@@ -1,0 +1,236 @@
+ghost use Rattle.std.specs.Prelude.{◌≡◌, ◌<◌, ◌*◌, ◌^◌};
+ghost use Rattle.vax_form.specs.Size.{bytes_of, size_of};
+ghost use Rattle.vax_form.specs.Script.{changed};
+ghost use Rattle.vax_meaning.specs.Play.{Plays, Uses, view};
+ghost use Rattle.vax_meaning.specs.Moves.{give, move_value, clear, move_address, move_complemented, move_zero_extended, push, push_value, with_comparison, compare, test, bit_test, psl_of, move_psl, change_psw};
+
+use crate::codes::{carry, gone_to, set_by_result, set_codes, sign};
+use crate::cursor::Cursor;
+use crate::evaluation::{Evaluated, location_at, value_at};
+use crate::memory::{checked, written};
+use crate::operands::{register_of, set_register_of, stored};
+use vax_form::{End, Exception, Instr, Size, Stop, Width};
+use vt_words::{and, complement, signed};
+
+/// Writes a result to the operand of that place, and sets the codes by it.
+#[tactic(auto, unfolding(crate::specs::Moves::give))]
+pub fn given(
+    cursor: &mut Cursor,
+    instr: &Instr,
+    place: usize,
+    size: Size,
+    value: u64,
+    values: &[Evaluated; 6],
+) -> Result<End, Stop>
+    requires { place < 6 }
+    ensures plays { Plays (give instr.now place size value values.now) cursor.old result cursor.new }
+    ensures few { Uses 2 cursor.old result cursor.new }
+{
+    stored(cursor, location_at(values, place), size, value)?;
+    set_by_result(cursor, size, value);
+    gone_to(cursor, instr.after)
+}
+
+/// MOV.
+pub fn moved(
+    cursor: &mut Cursor,
+    instr: &Instr,
+    size: Size,
+    values: &[Evaluated; 6],
+) -> Result<End, Stop>
+    ensures plays { Plays (move_value instr.now size values.now) cursor.old result cursor.new }
+    ensures few { Uses 2 cursor.old result cursor.new }
+{
+    given(cursor, instr, 1, size, value_at(values, 0, size), values)
+}
+
+/// CLR.
+pub fn cleared(
+    cursor: &mut Cursor,
+    instr: &Instr,
+    size: Size,
+    values: &[Evaluated; 6],
+) -> Result<End, Stop>
+    ensures plays { Plays (clear instr.now size values.now) cursor.old result cursor.new }
+    ensures few { Uses 2 cursor.old result cursor.new }
+{
+    given(cursor, instr, 0, size, 0, values)
+}
+
+/// MOVA.
+pub fn address_moved(
+    cursor: &mut Cursor,
+    instr: &Instr,
+    values: &[Evaluated; 6],
+) -> Result<End, Stop>
+    ensures plays { Plays (move_address instr.now values.now) cursor.old result cursor.new }
+    ensures few { Uses 2 cursor.old result cursor.new }
+{
+    let address = value_at(values, 0, Size::Long);
+    given(cursor, instr, 1, Size::Long, address, values)
+}
+
+/// MCOM.
+pub fn complement_moved(
+    cursor: &mut Cursor,
+    instr: &Instr,
+    width: Width,
+    values: &[Evaluated; 6],
+) -> Result<End, Stop>
+    ensures plays { Plays (move_complemented instr.now width values.now) cursor.old result cursor.new }
+    ensures few { Uses 2 cursor.old result cursor.new }
+{
+    let size = width.size();
+    let value = complement(width.bytes(), value_at(values, 0, size));
+    given(cursor, instr, 1, size, value, values)
+}
+
+/// MOVZ.
+#[tactic(auto, unfolding(crate::specs::Moves::move_zero_extended))]
+pub fn zero_extended(
+    cursor: &mut Cursor,
+    instr: &Instr,
+    from: Width,
+    to: Width,
+    values: &[Evaluated; 6],
+) -> Result<End, Stop>
+    ensures plays { Plays (move_zero_extended instr.now from to values.now) cursor.old result cursor.new }
+    ensures few { Uses 2 cursor.old result cursor.new }
+{
+    let value = value_at(values, 0, from.size());
+    stored(cursor, location_at(values, 1), to.size(), value)?;
+    let c = carry(cursor);
+    set_codes(cursor, false, value == 0, false, c);
+    gone_to(cursor, instr.after)
+}
+
+/// Pushes a longword.
+#[tactic(auto, unfolding(crate::specs::Moves::push))]
+pub fn pushed(cursor: &mut Cursor, value: u64) -> Result<(), Stop>
+    ensures plays { Plays (push value) cursor.old result cursor.new }
+    ensures few { Uses 2 cursor.old result cursor.new }
+{
+    let top = register_of(cursor, 14).wrapping_sub(4);
+    checked(cursor, top, 4, true)?;
+    written(cursor, top, 4, value)?;
+    set_register_of(cursor, 14, top);
+    Ok(())
+}
+
+/// PUSHL and PUSHA.
+#[tactic(auto, unfolding(crate::specs::Moves::push_value))]
+pub fn value_pushed(
+    cursor: &mut Cursor,
+    instr: &Instr,
+    values: &[Evaluated; 6],
+) -> Result<End, Stop>
+    ensures plays { Plays (push_value instr.now values.now) cursor.old result cursor.new }
+    ensures few { Uses 2 cursor.old result cursor.new }
+{
+    let value = value_at(values, 0, Size::Long);
+    pushed(cursor, value)?;
+    set_by_result(cursor, Size::Long, value);
+    gone_to(cursor, instr.after)
+}
+
+/// Sets the codes as a comparison of two values does.
+pub fn set_compared(cursor: &mut Cursor, width: Width, first: u64, second: u64)
+    requires first { first < 2 ^ (8 * bytes_of (size_of width)) }
+    requires second { second < 2 ^ (8 * bytes_of (size_of width)) }
+    ensures { view cursor.new ≡ changed (with_comparison width first second) (view cursor.old) }
+{
+    let n = signed(width.bytes(), first) < signed(width.bytes(), second);
+    set_codes(cursor, n, first == second, false, first < second);
+}
+
+/// CMP.
+#[tactic(auto, unfolding(crate::specs::Moves::compare))]
+pub fn compared(
+    cursor: &mut Cursor,
+    instr: &Instr,
+    width: Width,
+    values: &[Evaluated; 6],
+) -> Result<End, Stop>
+    ensures plays { Plays (compare instr.now width values.now) cursor.old result cursor.new }
+    ensures few { Uses 0 cursor.old result cursor.new }
+{
+    let first = value_at(values, 0, width.size());
+    let second = value_at(values, 1, width.size());
+    set_compared(cursor, width, first, second);
+    gone_to(cursor, instr.after)
+}
+
+/// TST.
+#[tactic(auto, unfolding(crate::specs::Moves::test))]
+pub fn tested(
+    cursor: &mut Cursor,
+    instr: &Instr,
+    width: Width,
+    values: &[Evaluated; 6],
+) -> Result<End, Stop>
+    ensures plays { Plays (test instr.now width values.now) cursor.old result cursor.new }
+    ensures few { Uses 0 cursor.old result cursor.new }
+{
+    let value = value_at(values, 0, width.size());
+    set_codes(cursor, sign(width.size(), value), value == 0, false, false);
+    gone_to(cursor, instr.after)
+}
+
+/// BIT.
+#[tactic(auto, unfolding(crate::specs::Moves::bit_test))]
+pub fn bits_tested(
+    cursor: &mut Cursor,
+    instr: &Instr,
+    width: Width,
+    values: &[Evaluated; 6],
+) -> Result<End, Stop>
+    ensures plays { Plays (bit_test instr.now width values.now) cursor.old result cursor.new }
+    ensures few { Uses 0 cursor.old result cursor.new }
+{
+    let first = value_at(values, 0, width.size());
+    let second = value_at(values, 1, width.size());
+    set_by_result(cursor, width.size(), and(width.bytes(), first, second));
+    gone_to(cursor, instr.after)
+}
+
+/// The longword of the processor status.
+fn psl(cursor: &Cursor) -> u64
+    ensures { result ≡ psl_of cursor.now.state }
+{
+    0x03C0_0000 + cursor.state.psw as u64
+}
+
+/// MOVPSL.
+#[tactic(auto, unfolding(crate::specs::Moves::move_psl))]
+pub fn psl_moved(cursor: &mut Cursor, instr: &Instr, values: &[Evaluated; 6]) -> Result<End, Stop>
+    ensures plays { Plays (move_psl instr.now values.now) cursor.old result cursor.new }
+    ensures few { Uses 2 cursor.old result cursor.new }
+{
+    let value = psl(cursor);
+    stored(cursor, location_at(values, 0), Size::Long, value)?;
+    gone_to(cursor, instr.after)
+}
+
+/// BISPSW, and BICPSW where the bits are not set but cleared.
+#[tactic(auto, unfolding(crate::specs::Moves::change_psw))]
+pub fn psw_changed(
+    cursor: &mut Cursor,
+    instr: &Instr,
+    set: bool,
+    values: &[Evaluated; 6],
+) -> Result<End, Stop>
+    ensures plays { Plays (change_psw instr.now set values.now) cursor.old result cursor.new }
+    ensures few { Uses 0 cursor.old result cursor.new }
+{
+    let mask = value_at(values, 0, Size::Word);
+    if mask > 255 {
+        return Err(Stop::Fails(Exception::ReservedOperand));
+    }
+    let mask = mask as u16;
+    if set {
+        cursor.state.psw |= mask;
+    } else {
+        cursor.state.psw &= 65535 - mask;
+    }
+    gone_to(cursor, instr.after)
+}
