@@ -16,7 +16,8 @@ fn put_row(out: &mut Vec<u8>, section: &Section) -> Result<(), AllocError>
     out.extend_from_slice(&section.start.to_le_bytes())?;
     out.extend_from_slice(&section.size.to_le_bytes())?;
     out.extend_from_slice(&(section.stored.len() as u32).to_le_bytes())?;
-    out.extend_from_slice(&u32::from(section.writable).to_le_bytes())
+    out.extend_from_slice(&u32::from(section.writable).to_le_bytes())?;
+    Ok(())
 }
 
 fn spelled(alloc: Global, image: &Image) -> Result<Vec<u8>, AllocError>

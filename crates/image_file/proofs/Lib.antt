@@ -1,0 +1,3 @@
+pub mod TableItems
+pub mod Overlaps
+pub mod Placing
