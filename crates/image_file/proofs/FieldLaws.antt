@@ -24,11 +24,15 @@ IsBytes-take n bytes fits i =
       | inr le ↦ rw (get_or_past (take n bytes) i 0 (omega (arith, length-take n bytes))) (omega arith)
     ]
 
+take_nil : (n : ℕ) → take {A = ℕ} n [] ≡ []
+take_nil zero = refl
+take_nil (suc n) = refl
+
 -- two parts in a row
 pub take_join : (a b : ℕ) (bytes : List ℕ) → take a bytes ++ take b (drop a bytes) ≡ take (a + b) bytes
-take_join zero b bytes = ap (λ n. take n bytes) (omega arith)
-take_join (suc a) b [] = ?
-take_join (suc a) b (x ∷ xs) = ap (λ rest. x ∷ rest) (take_join a b xs) ∙ ap (λ n. take n (x ∷ xs)) (omega arith)
+take_join zero b bytes = let none : b ≡ 0 + b = omega arith in ap (λ n. take n bytes) none
+take_join (suc a) b [] = take_nil b ∙ sym (take_nil (suc a + b))
+take_join (suc a) b (x ∷ xs) = let one : suc (a + b) ≡ suc a + b = omega arith in ap (λ rest. x ∷ rest) (take_join a b xs) ∙ ap (λ n. take n (x ∷ xs)) one
 
 pub half_back : (bytes : List ℕ) → 2 ≤ length bytes → IsBytes bytes → to_le_bytes w16 (half bytes) ≡ take 2 bytes
 half_back bytes long fits = le_bytes_2 (take 2 bytes) (half bytes) (omega (arith, length-take 2 bytes)) (IsBytes-take 2 bytes fits) refl
@@ -51,12 +55,15 @@ pub length-table : {X : Type 0} (width : ℕ) (read : List ℕ → X) (count : �
 length-table width read zero bytes = refl
 length-table width read (suc count) bytes = ap suc (length-table width read count (drop width bytes))
 
+one_more : (width count : ℕ) → width + width * count ≡ width * suc count
+one_more width count = omega arith
+
 pub table_back : {X : Type 0} (width : ℕ) (read : List ℕ → X) (write : X → List ℕ) → ((bytes : List ℕ) → width ≤ length bytes → IsBytes bytes → write (read bytes) ≡ take width bytes)
     → (count : ℕ) (bytes : List ℕ) → width * count ≤ length bytes → IsBytes bytes → flat_map write (table_in width read count bytes) ≡ take (width * count) bytes
-table_back width read write back zero bytes long fits = ap (λ n. take n bytes) (omega arith)
+table_back width read write back zero bytes long fits = let none : 0 ≡ width * 0 = omega arith in ap (λ n. take n bytes) none
 table_back width read write back (suc count) bytes long fits =
     (λ i. back bytes (omega arith) fits i ++ table_back width read write back count (drop width bytes) (omega (arith, length-drop width bytes)) (IsBytes-drop width bytes fits) i)
-    ∙ take_join width (width * count) bytes ∙ ap (λ n. take n bytes) (omega arith)
+    ∙ take_join width (width * count) bytes ∙ ap (λ n. take n bytes) (one_more width count)
 
 pub table_all : {X : Type 0} (P : X → Type 0) (width : ℕ) (read : List ℕ → X) → ((bytes : List ℕ) → IsBytes bytes → P (read bytes))
     → (count : ℕ) (bytes : List ℕ) → IsBytes bytes → AllByRecursion P (table_in width read count bytes)

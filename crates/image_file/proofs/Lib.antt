@@ -3,4 +3,7 @@ pub mod Overlaps
 pub mod Placing
 pub mod Laws
 pub mod FieldLaws
+pub mod ReadLaws
+pub mod SpelledLaws
+pub mod AgainLaws
 pub mod PageLaws
