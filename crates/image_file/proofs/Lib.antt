@@ -6,4 +6,5 @@ pub mod FieldLaws
 pub mod ReadLaws
 pub mod SpelledLaws
 pub mod AgainLaws
+pub mod Found
 pub mod PageLaws

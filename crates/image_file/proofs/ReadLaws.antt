@@ -28,7 +28,7 @@ pub passed_at : {X : Type 0} (o : Option X) (d : X → ImageRefusal) (x : Unit {
 passed_at None d x e = refl
 passed_at (Some y) d x e = absurd cc
 
-abbrev done : {A : Type 0} → A → Result A ImageRefusal
+abbrev pub done : {A : Type 0} → A → Result A ImageRefusal
 done x = Ok x
 
 pub ok_is : {A : Type 0} (x y : A) → done x ≡ done y → x ≡ y
@@ -62,11 +62,14 @@ flag_again zero small = refl
 flag_again (suc zero) small = refl
 flag_again (suc (suc n)) small = absurd (omega arith)
 
+flags_small : (r : Row) → is_sound r ≡ true → r.flags ≤ 1
+flags_small r sound = leb-true _ _ (both_true _ _ sound).1
+
 pub rows_again : (rows : List Row) (bytes : List ℕ) → list_all is_sound rows ≡ true → stored_bytes rows ≤ length bytes → map row_of (sections_in rows bytes) ≡ rows
 rows_again [] bytes sound long = refl
 rows_again (r ∷ rs) bytes sound long =
     let both = both_true (is_sound r) (list_all is_sound rs) sound in
-    let small : r.flags ≤ 1 = leb-true _ _ (both_true _ _ both.0).1 in
+    let small : r.flags ≤ 1 = flags_small r both.0 in
     let stored : length (take r.stored bytes) ≡ r.stored = omega (arith, length-take r.stored bytes) in
     λ i. record { start = r.start; size = r.size; stored = stored i; flags = flag_again r.flags small i } ∷ rows_again rs (drop r.stored bytes) both.1 (omega (arith, length-drop r.stored bytes)) i
 

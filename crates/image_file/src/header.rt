@@ -1,4 +1,4 @@
-ghost use Rattle.std.specs.Prelude.{◌≡◌, ◌≤◌, length, IfOk, OnOk};
+ghost use Rattle.std.specs.Prelude.{◌≡◌, ◌≤◌, ◌<◌, ◌^◌, length, IfOk, OnOk};
 ghost use Rattle.image_file.specs.Reading.{tables_end, counts_allowed, counts_of};
 
 use crate::fields::{half_at, word_at};
@@ -16,7 +16,8 @@ pub struct Counts {
 impl Counts {
     /// Where the tables end.
     pub fn tables_end(&self) -> usize
-        ensures { result ≡ tables_end self.now }
+        ensures value { result ≡ tables_end self.now }
+        ensures bound { result < 2 ^ 32 }
     {
         HEADER
             + START_BYTES * self.threads as usize

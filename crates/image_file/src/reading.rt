@@ -1,4 +1,4 @@
-ghost use Rattle.std.specs.Prelude.{◌≡◌, ◌≤◌, length, drop, IfOk, Ok};
+ghost use Rattle.std.specs.Prelude.{◌≡◌, ◌≤◌, ◌<◌, ◌^◌, length, IfOk, Ok};
 ghost use Rattle.image_file.specs.Values.{ImageValue};
 ghost use Rattle.image_file.specs.Rows.{stored_bytes};
 ghost use Rattle.image_file.specs.Spelling.{spelling};
@@ -17,7 +17,8 @@ use std::alloc::{AllocError, Global};
 
 fn stored_bytes(rows: &[Row]) -> usize
     requires { length rows.now ≤ MOST_SECTIONS }
-    ensures { result ≡ stored_bytes rows.now }
+    ensures value { result ≡ stored_bytes rows.now }
+    ensures bound { result < 2 ^ 40 }
 {
     let mut bytes = 0;
     for row in rows {
