@@ -6,5 +6,6 @@ pub mod FieldLaws
 pub mod ReadLaws
 pub mod SpelledLaws
 pub mod AgainLaws
+pub mod WriteLaws
 pub mod Found
 pub mod PageLaws

@@ -3,7 +3,7 @@ use Rattle.std.proofs.Common.{◌≡◌, ℕ, zero, suc, ◌+◌, ◌-◌, ◌*�
 use Rattle.std.specs.Prelude.{position, ◌==◌}
 use Rattle.std.specs.List.{flat_map, AllByRecursion, list_all, list_any}
 use Rattle.std.proofs.lemmas.Bool.{ltb-false, ltb-true, leb-true, eqb-true, le-ltb}
-use Rattle.std.proofs.lemmas.List.{length-append, length-take, length-drop}
+use Rattle.std.proofs.lemmas.List.{length-append, length-take, length-drop, take_all}
 use Rattle.image_file.specs.declared.limits.TheConstants.{MAGIC, VERSION, HEADER, START_BYTES, ROW_BYTES, ENTRY_BYTES, MOST_THREADS, MOST_SECTIONS, MOST_ENTRIES, MOST_BYTES}
 use Rattle.image_file.specs.declared.rows.Row.{Row}
 use Rattle.image_file.specs.declared.header.Counts.{Counts}
@@ -12,7 +12,10 @@ use Rattle.image_file.specs.declared.refusal.ImageRefusal.TheVariants.{Truncated
 use Rattle.image_file.specs.Values.{SectionValue, ImageValue}
 use Rattle.image_file.specs.Rows.{is_sound, has_code, first_overlap, total_bytes, stored_bytes}
 use Rattle.image_file.specs.Spelling.{row_of}
-use Rattle.image_file.specs.Reading.{◌>>=◌, refuse_if, refuse_at, half, word, tables_end, counts_in, counts_allowed, counts_of, rows_in, entries_in, layout_of, sections_in, image_in, image_of}
+use Rattle.image_file.specs.Pages.{pages_of}
+use Rattle.vax_form.specs.PageTable.{PageTable}
+use Rattle.image_file.specs.declared.image.Start.{Start}
+use Rattle.image_file.specs.Reading.{◌>>=◌, refuse_if, refuse_at, half, word, tables_end, counts_in, counts_allowed, counts_of, threads_in, rows_in, entries_in, layout_of, sections_in, image_in, image_of}
 use Rattle.image_file.proofs.Laws.{both_true, was_true, position_none, all_pass}
 
 -- a step that didn't refuse
@@ -82,6 +85,28 @@ image_is bytes counts u counted laid_out ended =
     let short : nat_lt (length bytes) (tables_end counts + stored_bytes (rows_in counts bytes)) ≡ false = le-ltb _ _ (omega (arith, ended)) in
     let long : nat_lt (tables_end counts + stored_bytes (rows_in counts bytes)) (length bytes) ≡ false = le-ltb _ _ (omega (arith, ended)) in
     rw (counted, laid_out, short, long) refl
+
+pub sections_ready : (rows : List Row) (entries stored : List ℕ) (sections : List SectionValue) (u : Unit {0}) → layout_of rows entries ≡ Ok u → stored_bytes rows ≤ length stored → sections ≡ sections_in rows stored
+    → (list_all is_sound (map row_of sections) ≡ true) × (first_overlap 0 (map row_of sections) ≡ None)
+sections_ready rows entries stored sections u laid_out long is =
+    let layout = layout_ok rows entries u laid_out in
+    let same : map row_of sections ≡ rows = ap (λ ss. map row_of ss) is ∙ rows_again rows stored layout.sound long in
+    (ap (λ rs. list_all is_sound rs) same ∙ layout.sound, ap (λ rs. first_overlap 0 rs) same ∙ layout.apart)
+
+abbrev pub image_with : List Start → List SectionValue → List ℕ → PageTable → ImageValue
+image_with threads sections entries pages = record { threads = threads; sections = sections; entries = entries; pages = pages }
+
+pub image_made : (bytes : List ℕ) (counts : Counts) (u : Unit {0}) (threads : List Start) (rows : List Row) (entries : List ℕ) (sections : List SectionValue) (pages : PageTable) (at : ℕ)
+    → counts_of bytes ≡ Ok counts → threads ≡ threads_in counts bytes → rows ≡ rows_in counts bytes → entries ≡ entries_in counts bytes → layout_of rows entries ≡ Ok u
+    → at ≡ tables_end counts → length bytes ≡ at + stored_bytes rows → sections ≡ sections_in rows (take (length bytes - at) (drop at bytes)) → pages ≡ pages_of sections
+    → image_of bytes ≡ Ok (image_with threads sections entries pages)
+image_made bytes counts u threads rows entries sections pages at counted threads_are rows_are entries_are laid_out at_is ended sections_are pages_are =
+    let laid : layout_of (rows_in counts bytes) (entries_in counts bytes) ≡ Ok u = (λ i. layout_of (sym rows_are i) (sym entries_are i)) ∙ laid_out in
+    let end : length bytes ≡ tables_end counts + stored_bytes (rows_in counts bytes) = ended ∙ (λ i. at_is i + stored_bytes (rows_are i)) in
+    let rest : take (length bytes - at) (drop at bytes) ≡ drop (tables_end counts) bytes = take_all (length bytes - at) (drop at bytes) (omega (arith, length-drop at bytes)) ∙ ap (λ n. drop n bytes) at_is in
+    let ss : sections_in (rows_in counts bytes) (drop (tables_end counts) bytes) ≡ sections = (λ i. sections_in (sym rows_are i) (sym rest i)) ∙ sym sections_are in
+    let same : image_in counts bytes ≡ image_with threads sections entries pages = λ i. record { threads = sym threads_are i; sections = ss i; entries = sym entries_are i; pages = (ap pages_of ss ∙ sym pages_are) i } in
+    image_is bytes counts u counted laid end ∙ ap done same
 
 pub record IsRead (bytes : List ℕ) (image : ImageValue) : Type 0 where
   pub counts : Counts
