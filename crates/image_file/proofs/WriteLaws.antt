@@ -1,5 +1,6 @@
 -- Parts appended one after the other.
-use Rattle.std.proofs.Common.{◌≡◌, ◌≤◌, ◌<◌, ℕ, zero, suc, ◌+◌, Bool, true, List, [], ◌∷◌, ◌++◌, length, get_or, take, refl, sym, ap, ◌∙◌, arith, append_assoc, map, Result, Ok, Err}
+use mir.Val.{bool_byte}
+use Rattle.std.proofs.Common.{false, cond, ◌≡◌, ◌≤◌, ◌<◌, ℕ, zero, suc, ◌+◌, Bool, true, List, [], ◌∷◌, ◌++◌, length, get_or, take, refl, sym, ap, ◌∙◌, arith, append_assoc, map, Result, Ok, Err}
 use Rattle.std.specs.Prelude.{IfOk}
 use Rattle.std.specs.Global.{Vec}
 use Rattle.std.specs.List.{flat_map, list_all, AllByRecursion}
@@ -41,3 +42,8 @@ rows_more old out new sections k s within is before more =
 pub spelled_again : (image : ImageValue) (E : Type 0) (r : Result (Vec ℕ) E) → IsWhole image → IfOk r (λ v. v.items ≡ spelling image) → IfOk r (λ v. image_of v.items ≡ Ok image)
 spelled_again image E (Ok v) whole spelled = ap image_of spelled ∙ read_again image whole
 spelled_again image E (Err e) whole spelled = tt
+
+-- a truth value as a number
+pub flag_byte : (b : Bool) → bool_byte b ≡ cond b 1 0
+flag_byte true = refl
+flag_byte false = refl

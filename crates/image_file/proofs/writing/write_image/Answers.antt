@@ -1,3 +1,4 @@
+use Rattle.std.proofs.Common.{rules}
 use Rattle.image_file.proofs.WriteLaws.{spelled_again}
 use Rattle.image_file.proofs.writing.write_image.Goals as goal
 
