@@ -3,7 +3,7 @@ use Rattle.std.specs.Prelude.{◌≡◌, ℕ, ◌≤◌, ◌<◌, ◌^◌, true,
 use Rattle.std.specs.List.{AllByRecursion, list_any, list_all}
 use Rattle.image_file.specs.declared.image.Start.{Start}
 use Rattle.image_file.specs.declared.limits.TheConstants.{MOST_THREADS, MOST_SECTIONS, MOST_ENTRIES, MOST_BYTES}
-use Rattle.image_file.specs.Values.{SectionValue, ImageValue}
+use Rattle.image_file.specs.Values.{ImageValue}
 use Rattle.image_file.specs.Rows.{is_sound, has_code, first_overlap, total_bytes}
 use Rattle.image_file.specs.Spelling.{row_of}
 use Rattle.image_file.specs.Pages.{pages_of}
@@ -22,7 +22,7 @@ pub record HasRoom (image : ImageValue) : Type 0 where
 
 -- sections at pages, that share none, of so many bytes in all, each entry in a read-only page, and the page table
 pub record IsLaidOut (image : ImageValue) : Type 0 where
-  pub sound : list_all (λ (s : SectionValue). is_sound (row_of s)) image.sections ≡ true
+  pub sound : list_all is_sound (map row_of image.sections) ≡ true
   pub apart : first_overlap 0 (map row_of image.sections) ≡ None
   pub small : total_bytes (map row_of image.sections) ≤ MOST_BYTES
   pub entries_in_code : list_all (λ (e : ℕ). list_any (has_code e) (map row_of image.sections)) image.entries ≡ true

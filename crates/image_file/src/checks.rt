@@ -1,4 +1,4 @@
-ghost use Rattle.std.specs.Prelude.{◌≡◌, ◌≤◌, ◌<◌, not, length, position};
+ghost use Rattle.std.specs.Prelude.{◌≡◌, ◌≤◌, ◌<◌, not, length, position, IfSome};
 ghost use Rattle.std.specs.List.{list_any};
 ghost use Rattle.image_file.specs.Rows.{is_sound, shares_page, has_code, first_overlap, total_bytes};
 ghost use Rattle.image_file.specs.Reading.{refuse_at, layout_of};
@@ -14,14 +14,16 @@ fn first_unsound(rows: &[Row]) -> Option<usize>
 }
 
 fn first_sharer(row: &Row, others: &[Row]) -> Option<usize>
-    ensures { result ≡ position (shares_page row.now) others.now }
+    ensures value { result ≡ position (shares_page row.now) others.now }
+    ensures within { IfSome result (λ place. place < length others.now) }
 {
     others.iter().position(|other| row.shares_page(other))
 }
 
 /// The first pair of rows that share a page.
 fn first_overlap(rows: &[Row]) -> Option<(usize, usize)>
-    ensures { result ≡ first_overlap 0 rows.now }
+    ensures value { result ≡ first_overlap 0 rows.now }
+    ensures within { IfSome result (λ pair. (pair.0 < length rows.now) × (pair.1 < length rows.now)) }
 {
     for (low, row) in rows.iter().enumerate() {
         if let Some(next) = first_sharer(row, &rows[low + 1..]) {

@@ -1,4 +1,4 @@
-ghost use Rattle.std.specs.Prelude.{◌≡◌, ◌≤◌, length, IfOk};
+ghost use Rattle.std.specs.Prelude.{◌≡◌, ◌≤◌, ◌<◌, ◌^◌, length, IfOk, OnOk};
 ghost use Rattle.image_file.specs.Reading.{tables_end, counts_allowed, counts_of};
 
 use crate::fields::{half_at, word_at};
@@ -16,7 +16,8 @@ pub struct Counts {
 impl Counts {
     /// Where the tables end.
     pub fn tables_end(&self) -> usize
-        ensures { result ≡ tables_end self.now }
+        ensures value { result ≡ tables_end self.now }
+        ensures bound { result < 2 ^ 32 }
     {
         HEADER
             + START_BYTES * self.threads as usize
@@ -26,7 +27,9 @@ impl Counts {
 
     #[tactic(auto, unfolding(crate::specs::Reading::counts_allowed))]
     fn check(&self) -> Result<(), ImageRefusal>
-        ensures { result ≡ counts_allowed self.now }
+        ensures value { result ≡ counts_allowed self.now }
+        ensures sections { OnOk result (self.now.sections ≤ MOST_SECTIONS) }
+        ensures entries { OnOk result (self.now.entries ≤ MOST_ENTRIES) }
     {
         if self.threads == 0 {
             return Err(ImageRefusal::NoThread);
@@ -50,7 +53,10 @@ impl Counts {
 /// The header's numbers, where all that they announce is there.
 #[tactic(auto, unfolding(crate::specs::Reading::counts_of))]
 pub fn counts_of(bytes: &[u8]) -> Result<Counts, ImageRefusal>
-    ensures { result ≡ counts_of bytes.now }
+    ensures value { result ≡ counts_of bytes.now }
+    ensures tables { IfOk result (λ counts. tables_end counts ≤ length bytes.now) }
+    ensures sections { IfOk result (λ counts. counts.sections ≤ MOST_SECTIONS) }
+    ensures entries { IfOk result (λ counts. counts.entries ≤ MOST_ENTRIES) }
 {
     let at = bytes.len() as u64;
     if bytes.len() < HEADER {

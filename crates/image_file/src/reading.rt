@@ -1,4 +1,4 @@
-ghost use Rattle.std.specs.Prelude.{◌≡◌, ◌≤◌, length, drop, IfOk, Ok};
+ghost use Rattle.std.specs.Prelude.{◌≡◌, ◌≤◌, ◌<◌, ◌^◌, length, IfOk, Ok};
 ghost use Rattle.image_file.specs.Values.{ImageValue};
 ghost use Rattle.image_file.specs.Rows.{stored_bytes};
 ghost use Rattle.image_file.specs.Spelling.{spelling};
@@ -12,12 +12,13 @@ use crate::limits::*;
 use crate::pages::pages_of;
 use crate::refusal::ImageRefusal;
 use crate::rows::Row;
-use crate::tables::{entries_of, rows_of, threads_of};
+use crate::tables::tables_of;
 use std::alloc::{AllocError, Global};
 
 fn stored_bytes(rows: &[Row]) -> usize
     requires { length rows.now ≤ MOST_SECTIONS }
-    ensures { result ≡ stored_bytes rows.now }
+    ensures value { result ≡ stored_bytes rows.now }
+    ensures bound { result < 2 ^ 40 }
 {
     let mut bytes = 0;
     for row in rows {
@@ -51,13 +52,10 @@ fn image_of(alloc: Global, bytes: &[u8]) -> Result<Image, ImageRefusal>
     ensures { Gives (λ i. i) result (image_of bytes.now) }
 {
     let counts = counts_of(bytes)?;
-    let rows_at = HEADER + START_BYTES * counts.threads as usize;
-    let entries_at = rows_at + ROW_BYTES * counts.sections as usize;
-    let threads = threads_of(alloc, counts.threads, &bytes[HEADER..])?;
-    let rows = rows_of(alloc, counts.sections, &bytes[rows_at..])?;
-    let entries = entries_of(alloc, counts.entries, &bytes[entries_at..])?;
-    check_layout(&rows, &entries)?;
-    let end = counts.tables_end() + stored_bytes(&rows);
+    let tables = tables_of(alloc, &counts, bytes)?;
+    check_layout(&tables.rows, &tables.entries)?;
+    let stored_at = counts.tables_end();
+    let end = stored_at + stored_bytes(&tables.rows);
     if bytes.len() < end {
         let at = bytes.len() as u64;
         return Err(ImageRefusal::Truncated { at });
@@ -65,12 +63,12 @@ fn image_of(alloc: Global, bytes: &[u8]) -> Result<Image, ImageRefusal>
     if bytes.len() > end {
         return Err(ImageRefusal::Trailing { at: end as u64 });
     }
-    let sections = sections_of(alloc, &rows, &bytes[counts.tables_end()..])?;
+    let sections = sections_of(alloc, &tables.rows, &bytes[stored_at..])?;
     let pages = pages_of(alloc, &sections)?;
     Ok(Image {
-        threads,
+        threads: tables.threads,
         sections,
-        entries,
+        entries: tables.entries,
         pages,
     })
 }

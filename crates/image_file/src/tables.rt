@@ -1,11 +1,20 @@
 ghost use Rattle.std.specs.Prelude.{◌≡◌, ◌≤◌, ◌+◌, ◌*◌, length, drop, IfOk};
-ghost use Rattle.image_file.specs.Reading.{word, start_in, row_in, table_in};
+ghost use Rattle.image_file.specs.Reading.{word, start_in, row_in, table_in, tables_end, threads_in, rows_in, entries_in};
 
 use crate::fields::word_at;
+use crate::header::Counts;
 use crate::image::Start;
 use crate::limits::*;
 use crate::rows::Row;
 use std::alloc::{AllocError, Global};
+
+/// What the tables of a file hold.
+#[derive(Debug, Drop)]
+pub struct Tables {
+    pub threads: Vec<Start>,
+    pub rows: Vec<Row>,
+    pub entries: Vec<u32>,
+}
 
 fn start_at(bytes: &[u8], at: usize) -> Start
     requires { at + START_BYTES ≤ length bytes.now }
@@ -30,7 +39,7 @@ fn row_at(bytes: &[u8], at: usize) -> Row
 }
 
 /// The table of threads, which stands in front.
-pub fn threads_of(alloc: Global, count: u16, bytes: &[u8]) -> Result<Vec<Start>, AllocError>
+fn threads_of(alloc: Global, count: u16, bytes: &[u8]) -> Result<Vec<Start>, AllocError>
     requires { START_BYTES * count ≤ length bytes.now }
     ensures { IfOk result (λ v. v.items ≡ table_in START_BYTES start_in count bytes.now) }
 {
@@ -42,7 +51,7 @@ pub fn threads_of(alloc: Global, count: u16, bytes: &[u8]) -> Result<Vec<Start>,
 }
 
 /// The section table, which stands in front.
-pub fn rows_of(alloc: Global, count: u16, bytes: &[u8]) -> Result<Vec<Row>, AllocError>
+fn rows_of(alloc: Global, count: u16, bytes: &[u8]) -> Result<Vec<Row>, AllocError>
     requires { ROW_BYTES * count ≤ length bytes.now }
     ensures { IfOk result (λ v. v.items ≡ table_in ROW_BYTES row_in count bytes.now) }
 {
@@ -54,7 +63,7 @@ pub fn rows_of(alloc: Global, count: u16, bytes: &[u8]) -> Result<Vec<Row>, Allo
 }
 
 /// The entries, which stand in front.
-pub fn entries_of(alloc: Global, count: u16, bytes: &[u8]) -> Result<Vec<u32>, AllocError>
+fn entries_of(alloc: Global, count: u16, bytes: &[u8]) -> Result<Vec<u32>, AllocError>
     requires { ENTRY_BYTES * count ≤ length bytes.now }
     ensures { IfOk result (λ v. v.items ≡ table_in ENTRY_BYTES word count bytes.now) }
 {
@@ -63,4 +72,20 @@ pub fn entries_of(alloc: Global, count: u16, bytes: &[u8]) -> Result<Vec<u32>, A
         entries.push(word_at(bytes, ENTRY_BYTES * place as usize))?;
     }
     Ok(entries)
+}
+
+/// The three tables behind the header.
+pub fn tables_of(alloc: Global, counts: &Counts, bytes: &[u8]) -> Result<Tables, AllocError>
+    requires { tables_end counts.now ≤ length bytes.now }
+    ensures threads { IfOk result (λ tables. tables.threads.items ≡ threads_in counts.now bytes.now) }
+    ensures rows { IfOk result (λ tables. tables.rows.items ≡ rows_in counts.now bytes.now) }
+    ensures entries { IfOk result (λ tables. tables.entries.items ≡ entries_in counts.now bytes.now) }
+{
+    let rows_at = HEADER + START_BYTES * counts.threads as usize;
+    let entries_at = rows_at + ROW_BYTES * counts.sections as usize;
+    Ok(Tables {
+        threads: threads_of(alloc, counts.threads, &bytes[HEADER..])?,
+        rows: rows_of(alloc, counts.sections, &bytes[rows_at..])?,
+        entries: entries_of(alloc, counts.entries, &bytes[entries_at..])?,
+    })
 }
