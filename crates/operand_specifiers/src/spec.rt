@@ -1,5 +1,5 @@
 ghost use Rattle.std.specs.Prelude.{◌≡◌, ◌+◌, ◌≤◌, ◌<◌, length, drop, IfSome};
-ghost use Rattle.vax_form.specs.GrammarReading.{read_base, read_displacement, read_extension, read_specifier};
+ghost use Rattle.vax_form.specs.GrammarReading.{read_base, read_displacement, read_extension, read_general, read_specifier};
 ghost use Rattle.operand_specifiers.specs.Answer.{FitsSize, answer_of};
 
 use vax_form::{Access, Mode, Operand, Size};
@@ -18,6 +18,7 @@ pub enum SpecFault {
 
 /// Reads the operand specifier at a place in bytes that begin at the VAX address `origin`: its operand and the place
 /// behind it.
+#[tactic(auto, unfolding(vax_form::specs::GrammarReading::read_specifier))]
 pub fn read_spec(
     bytes: &[u8],
     at: usize,
@@ -28,14 +29,28 @@ pub fn read_spec(
     requires { at ≤ length bytes.now }
     ensures { result ≡ answer_of at (read_specifier access size (origin + at) (drop at bytes.now)) }
 {
-    if access == Access::Branch {
-        return displacement(bytes, at, origin, size);
+    match access {
+        Access::Branch => displacement(bytes, at, origin, size),
+        _ => specifier(bytes, at, origin, access, size),
     }
+}
+
+// A specifier that begins with its addressing mode.
+fn specifier(
+    bytes: &[u8],
+    at: usize,
+    origin: u32,
+    access: Access,
+    size: Size,
+) -> Result<(Operand, usize), SpecFault>
+    requires { at ≤ length bytes.now }
+    ensures { result ≡ answer_of at (read_general access size (origin + at) (drop at bytes.now)) }
+{
     let Some(first) = bytes.get(at) else {
         return Err(SpecFault::Past);
     };
     let (register, mode) = (first % 16, Mode::of(*first));
-    if mode == Mode::Index {
+    if let Mode::Index = mode {
         return indexed(bytes, at, origin, size, register);
     }
     if is_reserved(access, size, register, mode) {
