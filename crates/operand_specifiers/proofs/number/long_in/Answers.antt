@@ -1,0 +1,11 @@
+use Rattle.std.proofs.Common.{arith}
+use Rattle.vax_form.specs.declared.instr.Size.TheVariants.{Long}
+use Rattle.operand_specifiers.proofs.Numbers.{number-take_4, read_number-of, read_number-short}
+use Rattle.operand_specifiers.proofs.number.long_in.Goals as goal
+
+pub returns-in_default-clause-number : goal.returns-in_default-clause-number
+returns-in_default-clause-number c = read_number-short Long c.args.bytes.now (omega arith)
+
+pub returns-in-len4-up-clause-number : goal.returns-in-len4-up-clause-number
+returns-in-len4-up-clause-number c =
+    read_number-of Long c.args.bytes.now _ (omega arith) (let read = number-take_4 c.args.bytes.now (omega arith) in omega arith)
