@@ -42,7 +42,7 @@ module _ (mask : ℕ) (new old bytes : List ℕ) (at : ℕ) (f : Filled mask new
   pub filled_same : bit_at mask at ≢ 1 → Filled mask new old bytes (at + 1)
   filled_same b = record { long = f.long; done = done_same b; rest = λ k l. f.rest k (omega arith) }
 
-same_quad : (f g : ℕ → ℕ) → ((k : ℕ) → k < 8 → f k ≡ g k) → quad_of f ≡ quad_of g
+pub same_quad : (f g : ℕ → ℕ) → ((k : ℕ) → k < 8 → f k ≡ g k) → quad_of f ≡ quad_of g
 same_quad f g h =
     let a0 : f 0 ≡ g 0 = h 0 (omega arith) in
     let a1 : f 1 ≡ g 1 = h 1 (omega arith) in
@@ -56,3 +56,20 @@ same_quad f g h =
 
 pub filled_all : (mask : ℕ) (new old bytes : List ℕ) → Filled mask new old bytes 8 → quad_of (λ k. slice_index bytes k) ≡ quad_of (choice mask new old)
 filled_all mask new old bytes f = same_quad (λ k. slice_index bytes k) (choice mask new old) f.done
+
+-- the bytes below `at` are those of the list from `offset` on
+pub record Copied (list : List ℕ) (offset : ℕ) (bytes : List ℕ) (at : ℕ) : Type 0 where
+  pub long : length bytes ≡ 8
+  pub done : (k : ℕ) → k < at → slice_index bytes k ≡ slice_index list (offset + k)
+
+module _ (list : List ℕ) (offset : ℕ) (bytes : List ℕ) (at v : ℕ) (f : Copied list offset bytes at) where
+  copied_done : at < length bytes → v ≡ slice_index list (offset + at) → (k : ℕ) → k < at + 1 → slice_index (slice_set bytes at v) k ≡ slice_index list (offset + k)
+  copied_done h e k l = grind (arith, nat_tests, set_at bytes at k v h, f.done k, e)
+
+  pub copied_more : at < 8 → v ≡ slice_index list (offset + at) → Copied list offset (slice_set bytes at v) (at + 1)
+  copied_more h e =
+      let within : at < length bytes = omega (arith, f.long) in
+      record { long = length-set bytes at v ∙ f.long; done = copied_done within e }
+
+pub copied_all : (list : List ℕ) (offset : ℕ) (bytes : List ℕ) → Copied list offset bytes 8 → quad_of (λ k. slice_index bytes k) ≡ quad_of (λ k. slice_index list (offset + k))
+copied_all list offset bytes f = same_quad (λ k. slice_index bytes k) (λ k. slice_index list (offset + k)) f.done

@@ -3,3 +3,5 @@ pub mod Placing
 pub mod Keeping
 pub mod Reading
 pub mod Entering
+pub mod Sections
+pub mod Making

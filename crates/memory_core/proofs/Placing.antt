@@ -5,11 +5,11 @@ use Rattle.std.proofs.lemmas.List.{get_or_append_left, get_or-append-add}
 use Rattle.std.specs.Prelude.{not}
 use Rattle.std.specs.List.{list_any}
 use Rattle.vax_form.specs.declared.pages.PageRange.{PageRange}
-use Rattle.vax_form.specs.PageTable.{has_page}
+use Rattle.vax_form.specs.PageTable.{has_page, AreRising}
 use Rattle.vax_form.specs.Pages.{allows}
 use Rattle.image_file.specs.Values.{ImageValue}
 use Rattle.memory_core.specs.Opening.{opening}
-use Rattle.memory_core.specs.Places.{page_place, quad_place, quads_from, quads_of}
+use Rattle.memory_core.specs.Places.{page_count, page_place, quad_place, quads_from, quads_of}
 
 has_page_tells : (page : ℕ) (r : PageRange) → has_page page r ≡ true → (r.first ≤ page) × (page < r.first + r.count)
 has_page_tells page r h = grind (arith, nat_tests)
@@ -181,3 +181,17 @@ module _ (image : ImageValue) (address : ℕ) where
 
   pub all_opening : (rs : List PageRange) (place : ℕ) → quad_place rs address ≡ Some place → AreOpening image (quads_of image rs) address place
   all_opening rs place e = opening_at rs (page_place rs (address / 512)) place refl e
+
+-- ---- a page table has few pages
+
+pub rising_low : (lowest : ℕ) (rs : List PageRange) (i : ℕ) (d : PageRange) → AreRising lowest rs → i < length rs → (slice_index_or rs i d).first + (slice_index_or rs i d).count ≤ 4194304
+rising_low lowest [] i d h l = absurd (omega arith)
+rising_low lowest (r ∷ rs) zero d h l = h.2
+rising_low lowest (r ∷ rs) (suc i) d h l = rising_low (r.first + r.count) rs i d h.3 (omega arith)
+
+pub rising_few : (lowest : ℕ) (rs : List PageRange) → lowest ≤ 4194304 → AreRising lowest rs → lowest + page_count rs ≤ 4194304
+rising_few lowest [] l h = omega arith
+rising_few lowest (r ∷ rs) l h =
+    let rest = rising_few (r.first + r.count) rs h.2 h.3 in
+    let first : lowest ≤ r.first = h.0 in
+    omega arith

@@ -1,6 +1,7 @@
 -- A memory as contracts see it.
 use Rattle.std.specs.Prelude.{◌≡◌, ℕ, ◌-◌, ◌%◌, Bool, false, List, [], ◌∷◌, ◌++◌, Option, Some, None, option_map, map, filter, reverse, if◌then◌else◌}
 use Rattle.std.specs.Int.{byte_at}
+use Rattle.image_file.specs.Values.{ImageValue}
 use Rattle.vax_form.specs.Pages.{is_allowed}
 use Rattle.memory_core.specs.declared.entry.Entry.{Entry}
 use Rattle.memory_core.specs.declared.entry.Request.{Request}
@@ -13,6 +14,11 @@ pub record Contents : Type 0 where
   pub set_up : SetUp
   pub processors : ℕ
   pub history : List Entry
+
+-- a memory without entries
+abbrev pub fresh : ImageValue → (input : List ℕ) → (processors limit miss : ℕ) → Contents
+fresh image input processors limit miss =
+    record { set_up = record { image = image; input = input; limit = limit; miss = miss }; processors = processors; history = [] }
 
 -- the entry of a request behind a history, which is oldest first
 abbrev pub entry_for : SetUp → List Entry → Request → Entry

@@ -1,5 +1,6 @@
 -- Where the quadwords of an image's pages stand in one list: range after range.
-use Rattle.std.specs.Prelude.{ℕ, zero, suc, ◌+◌, ◌-◌, ◌*◌, ◌/◌, ◌%◌, List, [], ◌∷◌, ◌++◌, Option, Some, None, option_map, if◌then◌else◌}
+use Rattle.std.specs.Prelude.{ℕ, zero, suc, ◌+◌, ◌-◌, ◌*◌, ◌/◌, ◌%◌, List, [], ◌∷◌, Option, Some, None, option_map, if◌then◌else◌}
+use Rattle.std.specs.List.{flat_map}
 use Rattle.vax_form.specs.declared.pages.PageRange.{PageRange}
 use Rattle.vax_form.specs.PageTable.{has_page}
 use Rattle.image_file.specs.Values.{ImageValue}
@@ -25,7 +26,6 @@ abbrev pub quads_from : ImageValue → (address count : ℕ) → List ℕ
 quads_from image address zero = []
 quads_from image address (suc count) = opening image address ∷ quads_from image (address + 8) count
 
--- the quadwords of all ranges
+-- the quadwords of all ranges, range after range
 abbrev pub quads_of : ImageValue → List PageRange → List ℕ
-quads_of image [] = []
-quads_of image (r ∷ rs) = quads_from image (512 * r.first) (64 * r.count) ++ quads_of image rs
+quads_of image ranges = flat_map (λ (r : PageRange). quads_from image (512 * r.first) (64 * r.count)) ranges

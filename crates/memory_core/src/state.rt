@@ -1,16 +1,17 @@
 ghost use Rattle.std.specs.Prelude.{◌≡◌, ◌<◌, ◌≤◌, ◌++◌, ◌∷◌, [], ◌↔◌, ◌%◌, ◌-◌, true, false, length, reverse, IfOk};
+ghost use Rattle.image_file.specs.Whole.{IsWhole};
 ghost use Rattle.vax_form.specs.Pages.{is_allowed};
 ghost use Rattle.memory_core.specs.Kinds.{is_memory};
 ghost use Rattle.memory_core.specs.Order.{found, succeeds, input_at, gets, Fits, Meets};
-ghost use Rattle.memory_core.specs.Contents.{entry_for, output_of, quad_left, byte_left, Appends};
+ghost use Rattle.memory_core.specs.Contents.{fresh, entry_for, output_of, quad_left, byte_left, Appends};
 ghost use Rattle.memory_core.specs.Requests.{CanMake, MatchReply};
 
 use crate::change::left;
 use crate::entry::{Entry, Kind, Reply, Request};
-use crate::page::{quad_place, store};
+use crate::page::{opening_quads, quad_place, store};
 use crate::reservation::{Reservation, note, strikes};
 use image_file::Image;
-use std::alloc::Global;
+use std::alloc::{AllocError, Global};
 use std::marker::Model;
 use std::snapshot::Snapshot;
 use vax_form::{PageRange, WantOfMemory};
@@ -44,6 +45,23 @@ impl Model for MemState {
 }
 
 impl MemState {
+    /// A memory that holds the image's pages, with no entries. It has room for all entries and all output, so that no
+    /// access takes memory. `limit` is the greatest number of entries; each `miss`-th store conditional of a processor
+    /// fails, and none for that reason where `miss` is 0.
+    pub fn new(
+        alloc: Global,
+        image: &Image,
+        input: Vec<u8>,
+        processors: u8,
+        limit: u32,
+        miss: u16,
+    ) -> Result<MemState, WantOfMemory>
+        requires { IsWhole image.now }
+        ensures { IfOk result (λ m. m ≡ fresh image.now input.items processors limit miss) }
+    {
+        MemState::reserve(alloc, image, input, processors, limit, miss).map_err(|_| WantOfMemory)
+    }
+
     /// Makes one access, or answers `Full` where the history has its limit. It takes no memory.
     pub fn access(&mut self, request: &Request) -> Reply
         requires processor { request.now.processor < self.old.processors }
@@ -94,6 +112,35 @@ impl MemState {
         ensures limit { length self.history ≤ self.set_up.limit }
     {
         self.history
+    }
+
+    fn reserve(
+        alloc: Global,
+        image: &Image,
+        input: Vec<u8>,
+        processors: u8,
+        limit: u32,
+        miss: u16,
+    ) -> Result<MemState, AllocError>
+        requires { IsWhole image.now }
+        ensures { IfOk result (λ m. m ≡ fresh image.now input.items processors limit miss) }
+    {
+        let pages = &image.pages;
+        let ranges = Vec::from_slice(alloc, &pages.ranges)?;
+        let quads = opening_quads(alloc, image)?;
+        let reservations = vec![in alloc; Reservation::NONE; processors as usize]?;
+        Ok(MemState {
+            image: Snapshot::of(image),
+            input,
+            limit,
+            miss,
+            ranges,
+            quads,
+            reservations,
+            taken: 0,
+            output: Vec::with_capacity(alloc, limit as usize)?,
+            history: Vec::with_capacity(alloc, limit as usize)?,
+        })
     }
 
     // The quadword that has the byte at an address.
