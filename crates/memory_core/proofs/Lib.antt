@@ -5,3 +5,5 @@ pub mod Reading
 pub mod Entering
 pub mod Sections
 pub mod Making
+pub mod LookingBack
+pub mod Neighbours

@@ -1,5 +1,6 @@
 -- What an access makes of its quadword.
-use Rattle.std.specs.Prelude.{◌≡◌, ◌<◌, ◌+◌, ◌-◌, ◌*◌, ◌%◌, ◌^◌, ℕ, Bool, true, false, if◌then◌else◌, bit_and, bit_or}
+use Rattle.std.specs.Prelude.{◌≡◌, ◌<◌, ◌+◌, ◌-◌, ◌*◌, ◌/◌, ◌%◌, ◌^◌, ◌==◌, ◌||◌, ℕ, Bool, true, false, if◌then◌else◌, bit_and, bit_or}
+use Rattle.std.specs.Int.{bit_at}
 use Rattle.memory_core.specs.declared.entry.Kind.{Kind}
 use Rattle.memory_core.specs.declared.entry.Kind.TheVariants.{Load, LoadLocked, Store, StoreConditional, TieRead, TieWrite, TieLocked, Put, Get}
 use Rattle.memory_core.specs.declared.entry.Change.{Change}
@@ -70,3 +71,12 @@ leaves TieWrite success change before = changed change before
 leaves TieLocked success change before = changed change before
 leaves Put success change before = changed change before
 leaves Get success change before = before
+
+-- the bytes of the quadword that a change names
+abbrev pub touches : Change → ℕ → Bool
+touches Nothing at = false
+touches (Bytes mask value) at = bit_at mask at == 1
+touches (AddWord place value) at = (at == place) || (at == place + 1)
+touches (SetBit n) at = at == n / 8
+touches (ClearBit n) at = at == n / 8
+touches (Byte b) at = true

@@ -6,6 +6,7 @@ pub mod Order
 pub mod Contents
 pub mod Requests
 pub mod Seen
+pub mod Laws
 pub mod Places
 pub mod Reservations
 pub mod Fields

@@ -5,6 +5,8 @@
 
 mod change;
 mod entry;
+pub mod laws;
+mod memory;
 
 
 mod page;
@@ -13,6 +15,7 @@ mod state;
 
 
 pub use entry::{Change, Entry, Kind, Reply, Request, SetUp};
+pub use memory::Memory;
 pub use state::MemState;
 
 
