@@ -68,7 +68,9 @@ fn section_of(image: &Image, address: u32) -> Option<&Section>
 fn has_address(section: &Section, address: u32) -> bool
     ensures { result ≡ has_address address section.now }
 {
-    section.start <= address && (address - section.start) / 512 < section.size.div_ceil(512)
+    let page = address / 512;
+    let first = section.start / 512;
+    first <= page && page - first < section.size.div_ceil(512)
 }
 
 // Eight bytes of a section, 0 behind those that are stored.
