@@ -1,0 +1,208 @@
+-- A memory's fields behind an entry.
+use Rattle.std.proofs.Common.{◌≡◌, ◌≢◌, ℕ, suc, ◌<◌, ◌≤◌, ◌+◌, ◌%◌, ◌^◌, Bool, true, false, if◌then◌else◌, List, [], ◌∷◌, ◌++◌, length, Option, Some, None, IfSome, Vec, slice_index_or, reverse, vec_capacity, vec_len, refl, sym, ap, ◌∙◌, subst, arith, length-append, add-one}
+use Rattle.std.proofs.lemmas.List.{length-reverse}
+use Rattle.std.specs.declared.alloc.Global.{Global}
+use Rattle.vax_form.specs.declared.pages.PageRange.{PageRange}
+use Rattle.vax_form.specs.Pages.{is_allowed}
+use Rattle.memory_core.specs.declared.entry.Change.{Change}
+use Rattle.memory_core.specs.declared.entry.Change.TheVariants.{Nothing, Bytes, AddWord, SetBit, ClearBit, Byte}
+use Rattle.memory_core.specs.declared.entry.Kind.{Kind}
+use Rattle.memory_core.specs.declared.entry.Kind.TheVariants.{StoreConditional, Put, Get}
+use Rattle.memory_core.specs.declared.entry.Entry.{Entry}
+use Rattle.memory_core.specs.declared.entry.Request.{Request}
+use Rattle.memory_core.specs.declared.entry.SetUp.{SetUp}
+use Rattle.memory_core.specs.declared.reservation.Reservation.{Reservation}
+use Rattle.memory_core.specs.declared.state.MemState.TheInside.{Inside}
+use Rattle.memory_core.specs.Changes.{IsInRange, Allows, is_change_of, leaves}
+use Rattle.memory_core.specs.Contents.{output_of, entry_for}
+use Rattle.memory_core.specs.Fields.{IsKept, AreCurrent, stored_at}
+use Rattle.memory_core.specs.Kinds.{is_memory, is_put, is_get, writes}
+use Rattle.memory_core.specs.Order.{left_by, input_at, gets, succeeds, Fits, Meets}
+use Rattle.memory_core.specs.Places.{page_count, quad_place}
+use Rattle.memory_core.specs.Requests.{CanMake}
+use Rattle.memory_core.specs.Reservations.{none, next_reservation}
+use Rattle.memory_core.specs.Sound.{set_up_of, IsSound}
+use Rattle.memory_core.proofs.Keeping.{kept_more, after_entry, current_more, reverse-push, output_of-push, room_for_try, gets_le, length-output_of}
+use Rattle.memory_core.proofs.Reading.{memory_kind, readable}
+
+-- the byte of a PUT
+byte_of_change : (change : Change) (success : Bool) (before : ℕ) → is_change_of Put change ≡ true → IsInRange change → leaves Put success change before % 256 ≡ leaves Put success change before
+byte_of_change (Byte b) success before k r = omega (arith, r)
+byte_of_change _ success before k r = absurd (cc k)
+
+byte_put_at : (k : Kind) → k ≡ Put → (change : Change) (success : Bool) (before after : ℕ) → Allows k change → after ≡ leaves k success change before → after % 256 ≡ after
+byte_put_at k is change success before after a e =
+    let a' : Allows Put change = subst (λ (k : Kind). Allows k change) is a in
+    let e' : after ≡ leaves Put success change before = e ∙ ap (λ (k : Kind). leaves k success change before) is in
+    rw e' (byte_of_change change success before a'.fits a'.range)
+
+pub byte_put : (set_up : SetUp) (past : List Entry) (e : Entry) → Fits set_up past e → e.kind ≡ Put → e.after % 256 ≡ e.after
+byte_put set_up past e f is = byte_put_at e.kind is f.change e.success e.before e.after f.allowed f.after
+
+-- ---- room
+
+pub room_for_byte : (m : Inside) → IsSound m → length m.history.items < m.limit → vec_len m.output < vec_capacity m.output
+room_for_byte m s room = omega (arith, s.output_room, room, ap length s.output, length-output_of m.history.items, m.output.ok.0)
+
+pub room_for_get : (m : Inside) → IsSound m → length m.history.items < m.limit → m.taken + 1 < 2 ^ 64
+room_for_get m s room = omega (arith, s.taken, room, s.small, gets_le (reverse m.history.items), length-reverse m.history.items)
+
+pub tries_fit : (m : Inside) (p : ℕ) (r : Reservation) → IsSound m → length m.history.items < m.limit → p < length m.reservations.items → r ≡ slice_index_or m.reservations.items p none → r.tries + 1 < 2 ^ 32
+tries_fit m p r s room lt e =
+    subst (λ (v : Reservation). v.tries + 1 < 2 ^ 32) (sym e)
+      (room_for_try (reverse m.history.items) p m.limit (slice_index_or m.reservations.items p none) (s.kept p lt) (omega (arith, room, length-reverse m.history.items)) s.small)
+
+within_at : (m : Inside) → IsSound m → (address : ℕ) (o : Option ℕ) → quad_place m.ranges.items address ≡ o → IfSome o (λ i. i < length m.quads.items)
+within_at m s address None h = tt
+within_at m s address (Some i) h = (s.quads address i (ap (λ (rs : List PageRange). quad_place rs address) (sym s.ranges) ∙ h)).within
+
+pub place_within : (m : Inside) → IsSound m → (address : ℕ) → IfSome (quad_place m.ranges.items address) (λ i. i < length m.quads.items)
+place_within m s address = within_at m s address (quad_place m.ranges.items address) refl
+
+-- ---- the fields once the entry's quadword, byte or place in the input is noted
+
+pub record IsEntered (m n : Inside) (e : Entry) : Type 0 where
+  pub set_up : set_up_of n ≡ set_up_of m
+  pub ranges : n.ranges.items ≡ m.ranges.items
+  pub reservations : n.reservations ≡ m.reservations
+  pub history : n.history ≡ m.history
+  pub quads : n.quads.items ≡ after_entry m.ranges.items m.quads.items e
+  pub taken : n.taken ≡ (if is_get e.kind then suc m.taken else m.taken)
+  pub output : n.output.items ≡ m.output.items ++ (if is_put e.kind then e.after ∷ [] else [])
+  pub output_room : m.limit ≤ vec_capacity n.output
+
+no_get : (kind : Kind) → (kind ≡ Get → ⊥) → is_get kind ≡ false
+no_get Get g = absurd (g refl)
+no_get _ g = refl
+
+no_put : (kind : Kind) → (kind ≡ Put → ⊥) → is_put kind ≡ false
+no_put Put p = absurd (p refl)
+no_put _ p = refl
+
+append_nil : (xs : List ℕ) → xs ≡ xs ++ []
+append_nil [] = refl
+append_nil (x ∷ xs) = ap (λ (ys : List ℕ). x ∷ ys) (append_nil xs)
+
+module _ (m : Inside) (e : Entry) (s : IsSound m) where
+  pub entered_put : (out : Vec ℕ Global) → e.kind ≡ Put → out.items ≡ m.output.items ++ e.after ∷ [] → vec_capacity out ≡ vec_capacity m.output → IsEntered m (record m { output = out }) e
+  entered_put out is items room = record {
+      set_up = refl; ranges = refl; reservations = refl; history = refl;
+      quads = rw is refl; taken = rw is refl; output = rw is items; output_room = omega (arith, room, s.output_room);
+    }
+
+  pub entered_get : e.kind ≡ Get → IsEntered m (record m { taken = m.taken + 1 }) e
+  entered_get is = record {
+      set_up = refl; ranges = refl; reservations = refl; history = refl;
+      quads = rw is refl; taken = rw is (add-one m.taken); output = rw is (append_nil m.output.items); output_room = s.output_room;
+    }
+
+  pub entered_memory : (quads : Vec ℕ Global) → (e.kind ≡ Put → ⊥) → (e.kind ≡ Get → ⊥) → quads.items ≡ stored_at (quad_place m.ranges.items e.quad) e.after m.quads.items → IsEntered m (record m { quads = quads }) e
+  entered_memory quads p g items = record {
+      set_up = refl; ranges = refl; reservations = refl; history = refl;
+      quads = items ∙ ap (λ (b : Bool). if b then stored_at (quad_place m.ranges.items e.quad) e.after m.quads.items else m.quads.items) (sym (memory_kind e.kind p g));
+      taken = ap (λ (b : Bool). if b then suc m.taken else m.taken) (sym (no_get e.kind g));
+      output = append_nil m.output.items ∙ ap (λ (b : Bool). m.output.items ++ (if b then e.after ∷ [] else [])) (sym (no_put e.kind p));
+      output_room = s.output_room;
+    }
+
+-- and once the entry is noted in reservations and history
+pub record IsNoted (m n o : Inside) (e : Entry) : Type 0 where
+  pub set_up : set_up_of o ≡ set_up_of n
+  pub ranges : o.ranges.items ≡ n.ranges.items
+  pub quads : o.quads.items ≡ n.quads.items
+  pub taken : o.taken ≡ n.taken
+  pub output : o.output ≡ n.output
+  pub count : length o.reservations.items ≡ length n.reservations.items
+  pub kept : (p : ℕ) → p < length n.reservations.items → slice_index_or o.reservations.items p none ≡ next_reservation e p (slice_index_or n.reservations.items p none)
+  pub history : o.history.items ≡ n.history.items ++ e ∷ []
+  pub room : vec_capacity o.history ≡ vec_capacity n.history
+
+module _ (m n o : Inside) (e : Entry) (s : IsSound m) (f : Fits (set_up_of m) (reverse m.history.items) e) (aligned : is_memory e.kind ≡ true → e.quad % 8 ≡ 0) (room : length m.history.items < m.limit)
+    (i : IsEntered m n e) (j : IsNoted m n o e) where
+  same_set_up : set_up_of o ≡ set_up_of m
+  same_set_up = j.set_up ∙ i.set_up
+
+  grown : o.history.items ≡ m.history.items ++ e ∷ []
+  grown = j.history ∙ ap (λ (h : Vec Entry Global). h.items ++ e ∷ []) i.history
+
+  past : reverse o.history.items ≡ e ∷ reverse m.history.items
+  past = ap reverse grown ∙ reverse-push m.history.items e
+
+  order_more : Meets (set_up_of o) (reverse o.history.items)
+  order_more = subst (λ (h : List Entry). Meets (set_up_of o) h) (sym past) (subst (λ (k : SetUp). Meets k (e ∷ reverse m.history.items)) (sym same_set_up) (s.order, f))
+
+  current : AreCurrent (set_up_of m) (e ∷ reverse m.history.items) (after_entry m.ranges.items m.quads.items e)
+  current =
+      subst (λ (rs : List PageRange). AreCurrent (set_up_of m) (e ∷ reverse m.history.items) (after_entry rs m.quads.items e)) (sym s.ranges)
+        (current_more (set_up_of m) (reverse m.history.items) m.quads.items e aligned s.quads)
+
+  quads_more : AreCurrent (set_up_of o) (reverse o.history.items) o.quads.items
+  quads_more =
+      subst (λ (q : List ℕ). AreCurrent (set_up_of o) (reverse o.history.items) q) (sym (j.quads ∙ i.quads))
+        (subst (λ (h : List Entry). AreCurrent (set_up_of o) h (after_entry m.ranges.items m.quads.items e)) (sym past)
+          (subst (λ (k : SetUp). AreCurrent k (e ∷ reverse m.history.items) (after_entry m.ranges.items m.quads.items e)) (sym same_set_up) current))
+
+  kept_all : (p : ℕ) → p < length o.reservations.items → IsKept (reverse o.history.items) p (slice_index_or o.reservations.items p none)
+  kept_all p lt =
+      let same = i.reservations in
+      let before : p < length m.reservations.items = omega (arith, lt, j.count, ap (λ (v : Vec Reservation Global). length v.items) same) in
+      let here : p < length n.reservations.items = omega (arith, lt, j.count) in
+      let is : slice_index_or o.reservations.items p none ≡ next_reservation e p (slice_index_or m.reservations.items p none) = j.kept p here ∙ ap (λ (v : Vec Reservation Global). next_reservation e p (slice_index_or v.items p none)) same in
+      subst (λ (h : List Entry). IsKept h p (slice_index_or o.reservations.items p none)) (sym past)
+        (subst (IsKept (e ∷ reverse m.history.items) p) (sym is) (kept_more (reverse m.history.items) e p (slice_index_or m.reservations.items p none) (s.kept p before)))
+
+  gets_more : (b : Bool) → (if b then suc m.taken else m.taken) ≡ (if b then suc (gets (reverse m.history.items)) else gets (reverse m.history.items))
+  gets_more true = ap suc s.taken
+  gets_more false = s.taken
+
+  pub sound_more : IsSound o
+  sound_more = record {
+      order = order_more;
+      small = omega (arith, s.small, ap (λ (k : SetUp). k.limit) same_set_up);
+      bound = omega (arith, room, ap length grown, length-append m.history.items (e ∷ []), ap (λ (k : SetUp). k.limit) same_set_up);
+      room = omega (arith, s.room, j.room, ap (λ (h : Vec Entry Global). vec_capacity h) i.history, ap (λ (k : SetUp). k.limit) same_set_up);
+      ranges = j.ranges ∙ i.ranges ∙ s.ranges ∙ ap (λ (k : SetUp). k.image.pages.ranges) (sym same_set_up);
+      few = subst (λ (rs : List PageRange). page_count rs ≤ 4194304) (sym (j.ranges ∙ i.ranges)) s.few;
+      quads = quads_more;
+      kept = kept_all;
+      taken = j.taken ∙ i.taken ∙ gets_more (is_get e.kind) ∙ ap gets (sym past);
+      output = ap (λ (v : Vec ℕ Global). v.items) j.output ∙ i.output ∙ ap (λ (xs : List ℕ). xs ++ (if is_put e.kind then e.after ∷ [] else [])) s.output ∙ sym (output_of-push m.history.items e) ∙ ap output_of (sym grown);
+      output_room = omega (arith, i.output_room, ap (λ (v : Vec ℕ Global). vec_capacity v) j.output, ap (λ (k : SetUp). k.limit) same_set_up);
+    }
+
+-- ---- the request's entry
+
+if_memory : (b : Bool) (quad : ℕ) → b ≡ true → (if b then quad else 0) ≡ quad
+if_memory true quad h = refl
+if_memory false quad h = absurd (cc h)
+
+pub entry_readable : (set_up : SetUp) (history : List Entry) (request : Request) → CanMake set_up request → is_memory request.kind ≡ true
+    → is_allowed set_up.image.pages (entry_for set_up history request).quad false ≡ true
+entry_readable set_up history request can memory =
+    ap (λ (q : ℕ). is_allowed set_up.image.pages q false) (if_memory (is_memory request.kind) request.quad memory) ∙ readable set_up request can memory
+
+pub meets-push : (set_up : SetUp) (history new : List Entry) (e : Entry) → Meets set_up (reverse history) → Fits set_up (reverse history) e → new ≡ history ++ e ∷ [] → Meets set_up (reverse new)
+meets-push set_up history new e m f is = subst (λ (h : List Entry). Meets set_up h) (sym (ap reverse is ∙ reverse-push history e)) (m, f)
+
+found_same : (b : Bool) (at : ℕ → ℕ) (quad other : ℕ) → (if b then at quad else other) ≡ (if b then at (if b then quad else 0) else other)
+found_same true at quad other = refl
+found_same false at quad other = refl
+
+succeeds_same : (kind : Kind) (set_up : SetUp) (past : List Entry) (p quad : ℕ) → succeeds set_up past p kind quad ≡ succeeds set_up past p kind (if is_memory kind then quad else 0)
+succeeds_same StoreConditional _ _ _ _ = refl
+succeeds_same _ _ _ _ _ = refl
+
+if_other : (b : Bool) (quad : ℕ) → b ≡ false → (if b then quad else 0) ≡ 0
+if_other true quad h = absurd (cc h)
+if_other false quad h = refl
+
+-- the entry that the order gives for a request fits
+pub fits_entry : (set_up : SetUp) (history : List Entry) (request : Request) → CanMake set_up request → Fits set_up (reverse history) (entry_for set_up history request)
+fits_entry set_up history request can = record {
+    before = found_same (is_memory request.kind) (left_by set_up (reverse history)) request.quad (if is_get request.kind then input_at set_up.input (gets (reverse history)) else 0);
+    success = succeeds_same request.kind set_up (reverse history) request.processor request.quad;
+    place = if_other (is_memory request.kind) request.quad;
+    change = request.change;
+    allowed = can.change;
+    after = refl;
+  }

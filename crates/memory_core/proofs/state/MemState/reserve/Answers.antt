@@ -1,0 +1,29 @@
+use Rattle.std.proofs.Common.{◌≡◌, ◌<◌, ◌∙◌, ap, sym, subst, refl, arith, length, slice_index_or, List}
+use Rattle.std.proofs.lemmas.List.{get_or-replicate}
+use Rattle.vax_form.specs.PageTable.{PageTable, AreRising}
+use Rattle.vax_form.specs.declared.pages.PageRange.{PageRange}
+use Rattle.image_file.specs.Values.{ImageValue}
+use Rattle.memory_core.specs.Places.{quads_of}
+use Rattle.memory_core.specs.Reservations.{none}
+use Rattle.memory_core.specs.declared.reservation.Reservation.{Reservation}
+use Rattle.memory_core.proofs.Making.{IsFresh, fresh_sound}
+use Rattle.memory_core.proofs.state.MemState.reserve.Goals as goal
+
+pub invariant_of-result : goal.invariant_of-result
+invariant_of-result c =
+    let copied = c.in_ok-ranges.ensures.items ∙ c.deref.ensures.value in
+    let seen = ap (λ (t : PageTable). t.ranges) c.pages.view_is ∙ ap (λ (i : ImageValue). i.pages.ranges) c.image.view_is ∙ ap (λ (i : ImageValue). i.pages.ranges) (sym c.of.ensures) in
+    let none_all = c.in_ok-reservations.ensures.items_if_clones_equal (λ _ e. e) in
+    let count = c.in_ok-reservations.ensures.len in
+    fresh_sound _ (record {
+      small = omega arith;
+      ranges = copied ∙ seen;
+      rising = subst (AreRising 0) (sym copied) c.pages.invariant.rising;
+      quads = c.in_ok-quads.ensures ∙ ap (λ (i : ImageValue). quads_of i i.pages.ranges) (sym c.of.ensures);
+      kept = λ p l. ap (λ (rs : List Reservation). slice_index_or rs p none) none_all ∙ get_or-replicate c.args.processors p none none (omega (arith, count));
+      taken = refl;
+      output = c.in_ok-with_capacity.ensures.items;
+      output_room = omega (arith, c.in_ok-with_capacity.ensures.exact);
+      history = c.in_ok-with_capacity-2.ensures.items;
+      room = omega (arith, c.in_ok-with_capacity-2.ensures.exact);
+    })

@@ -1,0 +1,13 @@
+pub mod Bytes
+pub mod Kinds
+pub mod Changes
+pub mod Opening
+pub mod Order
+pub mod Contents
+pub mod Requests
+pub mod Seen
+pub mod Laws
+pub mod Places
+pub mod Reservations
+pub mod Fields
+pub mod Sound

@@ -1,0 +1,31 @@
+-- Where the quadwords of an image's pages stand in one list: range after range.
+use Rattle.std.specs.Prelude.{ℕ, zero, suc, ◌+◌, ◌-◌, ◌*◌, ◌/◌, ◌%◌, List, [], ◌∷◌, Option, Some, None, option_map, if◌then◌else◌}
+use Rattle.std.specs.List.{flat_map}
+use Rattle.vax_form.specs.declared.pages.PageRange.{PageRange}
+use Rattle.vax_form.specs.PageTable.{has_page}
+use Rattle.image_file.specs.Values.{ImageValue}
+use Rattle.memory_core.specs.Opening.{opening}
+
+-- how many pages the ranges have
+abbrev pub page_count : List PageRange → ℕ
+page_count [] = 0
+page_count (r ∷ rs) = r.count + page_count rs
+
+-- the number of a page among the pages of the ranges
+abbrev pub page_place : List PageRange → ℕ → Option ℕ
+page_place [] page = None
+page_place (r ∷ rs) page =
+    if has_page page r then Some (page - r.first) else option_map (λ n. r.count + n) (page_place rs page)
+
+-- the number of the quadword at an address
+abbrev pub quad_place : List PageRange → ℕ → Option ℕ
+quad_place ranges address = option_map (λ n. 64 * n + address % 512 / 8) (page_place ranges (address / 512))
+
+-- so many quadwords of the image, from an address on
+abbrev pub quads_from : ImageValue → (address count : ℕ) → List ℕ
+quads_from image address zero = []
+quads_from image address (suc count) = opening image address ∷ quads_from image (address + 8) count
+
+-- the quadwords of all ranges, range after range
+abbrev pub quads_of : ImageValue → List PageRange → List ℕ
+quads_of image ranges = flat_map (λ (r : PageRange). quads_from image (512 * r.first) (64 * r.count)) ranges

@@ -1,0 +1,21 @@
+//! The memory that all processors share: one order of accesses, kept as a history of 32 bytes an entry, with
+//! reservations for load-locked and store conditional. Each access is answered at once; all memory is taken when the
+//! memory is made.
+#![tactic(auto)]
+
+mod change;
+mod entry;
+pub mod laws;
+mod memory;
+
+
+mod page;
+mod reservation;
+mod state;
+
+
+pub use entry::{Change, Entry, Kind, Reply, Request, SetUp};
+pub use memory::Memory;
+pub use state::MemState;
+
+

@@ -1,0 +1,116 @@
+// Where the quadwords of an image's pages stand, and what they are at first.
+ghost use Rattle.std.specs.Prelude.{◌≡◌, ◌≤◌, ◌<◌, ◌*◌, ◌%◌, ◌+◌, ◌++◌, length, slice_index, find, IfSome, IfOk, OnOk};
+ghost use Rattle.std.specs.Option.{option_copied};
+ghost use Rattle.image_file.specs.Memory.{has_address};
+ghost use Rattle.image_file.specs.Whole.{IsWhole};
+ghost use Rattle.memory_core.specs.Fields.{stored_at};
+ghost use Rattle.memory_core.specs.Bytes.{quad_of};
+ghost use Rattle.memory_core.specs.Opening.{opening};
+ghost use Rattle.memory_core.specs.Places.{page_count, page_place, quad_place, quads_from, quads_of};
+
+use image_file::{Image, Section};
+use std::alloc::{AllocError, Global};
+use vax_form::PageRange;
+
+/// The number of a page among the pages of the ranges.
+fn page_place(ranges: &[PageRange], page: u32) -> Option<u32>
+    requires { page_count ranges.now ≤ 4194304 }
+    ensures { result ≡ page_place ranges.now page }
+{
+    let mut before = 0;
+    for range in ranges {
+        if range.first <= page && page - range.first < range.count {
+            return Some(before + (page - range.first));
+        }
+        before += range.count;
+    }
+    None
+}
+
+/// The number of the quadword at an address among the quadwords of the ranges.
+pub(crate) fn quad_place(ranges: &[PageRange], address: u32) -> Option<usize>
+    requires { page_count ranges.now ≤ 4194304 }
+    ensures { result ≡ quad_place ranges.now address }
+{
+    let page = page_place(ranges, address / 512)?;
+    Some(64 * page as usize + (address % 512 / 8) as usize)
+}
+
+/// Stores a quadword at the place of its address.
+pub(crate) fn store(ranges: &[PageRange], quads: &mut [u64], address: u32, value: u64)
+    requires few { page_count ranges.now ≤ 4194304 }
+    requires place { IfSome (quad_place ranges.now address) (λ i. i < length quads.old) }
+    ensures { quads.new ≡ stored_at (quad_place ranges.now address) value quads.old }
+{
+    if let Some(place) = quad_place(ranges, address) {
+        quads[place] = value;
+    }
+}
+
+/// The quadword at an address, as the image's sections have it.
+pub(crate) fn opening_quad(image: &Image, address: u32) -> u64
+    requires whole { IsWhole image.now }
+    requires aligned { address % 8 ≡ 0 }
+    ensures { result ≡ opening image.now address }
+{
+    match section_of(image, address) {
+        Some(section) => stored_quad(section, address - section.start),
+        None => 0,
+    }
+}
+
+fn section_of(image: &Image, address: u32) -> Option<&Section>
+    ensures { option_copied result ≡ find (has_address address) image.now.sections }
+{
+    image.sections.iter().find(|s| has_address(s, address))
+}
+
+fn has_address(section: &Section, address: u32) -> bool
+    ensures { result ≡ has_address address section.now }
+{
+    let page = address / 512;
+    let first = section.start / 512;
+    first <= page && page - first < section.size.div_ceil(512)
+}
+
+// Eight bytes of a section, 0 behind those that are stored.
+fn stored_quad(section: &Section, offset: u32) -> u64
+    ensures { result ≡ quad_of (λ at. slice_index section.now.stored (offset + at)) }
+{
+    let mut bytes = [0; 8];
+    for at in 0..8 {
+        bytes[at] = byte_or_zero(&section.stored, offset as usize + at);
+    }
+    u64::from_le_bytes(bytes)
+}
+
+fn byte_or_zero(bytes: &[u8], at: usize) -> u8
+    ensures { result ≡ slice_index bytes.now at }
+{
+    bytes.get(at).copied().unwrap_or(0)
+}
+
+/// Appends the quadwords of a range.
+fn push_range(quads: &mut Vec<u64>, image: &Image, range: &PageRange) -> Result<(), AllocError>
+    requires whole { IsWhole image.now }
+    requires low { range.now.first + range.now.count ≤ 4194304 }
+    ensures { OnOk result (quads.new.items ≡ quads.old.items ++ quads_from image.now (512 * range.now.first) (64 * range.now.count)) }
+{
+    for n in 0..64 * range.count {
+        quads.push(opening_quad(image, 512 * range.first + 8 * n))?;
+    }
+    Ok(())
+}
+
+/// The quadwords of an image's pages, range after range.
+pub(crate) fn opening_quads(alloc: Global, image: &Image) -> Result<Vec<u64>, AllocError>
+    requires { IsWhole image.now }
+    ensures { IfOk result (λ quads. quads.items ≡ quads_of image.now image.now.pages.ranges) }
+{
+    let pages = &image.pages;
+    let mut quads = Vec::new(alloc);
+    for range in &pages.ranges {
+        push_range(&mut quads, image, range)?;
+    }
+    Ok(quads)
+}
