@@ -1,0 +1,96 @@
+-- The addresses to which control may go on from an instruction, as far as its code shows them.
+-- VAX Architecture Reference Manual, "Control Instructions" and "Procedure Call Instructions".
+use Rattle.std.specs.Prelude.{ℕ, ◌+◌, ◌*◌, Bool, true, false, List, [], ◌∷◌, ◌++◌, Option, Some, None, option_map, option_and_then, nat_lt, slice_index_or, if◌then◌else◌}
+use Rattle.std.specs.List.{filter_map, range_with_len}
+use Rattle.std.specs.Option.{option_map_or, option_to_list}
+use Rattle.vax_form.specs.Grammar.{extended, wrapped}
+use Rattle.vax_form.specs.Operation.{operation_at}
+use Rattle.vax_form.specs.Pages.{code_byte_at}
+use Rattle.vax_form.specs.declared.instr.Base.TheVariants.{Fixed}
+use Rattle.vax_form.specs.declared.instr.Instr.{Instr}
+use Rattle.vax_form.specs.declared.instr.Operand.{Operand}
+use Rattle.vax_form.specs.declared.instr.Operand.TheVariants.{Place, Target, Unused, Value}
+use Rattle.vax_form.specs.declared.instr.Size.TheVariants.{Word}
+use Rattle.vax_form.specs.declared.operation.LongOperation.TheVariants.{CallGeneral, CallStack, Return}
+use Rattle.vax_form.specs.declared.operation.Operation.{Operation}
+use Rattle.vax_form.specs.declared.operation.Operation.TheVariants.{Branch, Breakpoint, Case, Jump, JumpToSubroutine, Long, ReturnFromSubroutine}
+use Rattle.vax_form.specs.declared.pages.Pages.{Pages}
+
+-- ---- the address behind the instruction
+
+-- BRB, BRW, JMP, RSB, RET, BPT and CASE never go on behind themselves
+unfoldable pub falls_through : Operation → Bool
+falls_through (Branch width) = false
+falls_through Jump = false
+falls_through ReturnFromSubroutine = false
+falls_through (Long Return) = false
+falls_through Breakpoint = false
+falls_through (Case width) = false
+falls_through _ = true
+
+-- ---- addresses that the operands name
+
+-- the address of a branch displacement
+abbrev pub branch_target : Operand → Option ℕ
+branch_target (Target address) = Some address
+branch_target _ = None
+
+-- the address of an operand that is absolute or relative, neither deferred nor indexed
+abbrev pub fixed_address : Operand → Option ℕ
+fixed_address (Place (Fixed address false) None) = Some address
+fixed_address _ = None
+
+-- a procedure begins with its entry mask, a word
+abbrev pub behind_mask : ℕ → ℕ
+behind_mask address = wrapped (address + 2)
+
+-- ---- the table of a CASE: words behind the instruction, numbered from 0 to the limit, each the displacement of its
+-- target from the table
+
+-- the word at an address, where both its bytes can be fetched
+abbrev pub word_at : Pages → ℕ → Option ℕ
+word_at pages address =
+    option_and_then (λ low. option_map (λ high. low + 256 * high) (code_byte_at pages (wrapped (address + 1)))) (code_byte_at pages address)
+
+-- the target of a table's word
+abbrev pub table_target : Pages → (table number : ℕ) → Option ℕ
+table_target pages table number =
+    option_map (λ displacement. wrapped (table + extended Word displacement)) (word_at pages (wrapped (table + 2 * number)))
+
+-- the targets of a table's words, and the address behind the table
+abbrev pub table_addresses : Pages → (table count : ℕ) → List ℕ
+table_addresses pages table count =
+    filter_map (table_target pages table) (range_with_len 0 count) ++ wrapped (table + 2 * count) ∷ []
+
+-- tables with more words are not followed
+abbrev pub table_limit : ℕ
+table_limit = 4096
+
+-- the addresses of a CASE whose base and limit stand in the code
+abbrev pub case_addresses : Pages → (table : ℕ) → (base limit : Operand) → List ℕ
+case_addresses pages table (Value base) (Value limit) =
+    if nat_lt limit table_limit then table_addresses pages table (limit + 1) else []
+case_addresses pages table base limit = []
+
+-- ---- the instruction
+
+abbrev pub operand_of : Instr → ℕ → Operand
+operand_of instr number = slice_index_or instr.operands number Unused
+
+-- the addresses that jumps, calls and CASE give
+unfoldable pub jump_addresses : Pages → Instr → Operation → List ℕ
+jump_addresses pages instr Jump = option_to_list (fixed_address (operand_of instr 0))
+jump_addresses pages instr JumpToSubroutine = option_to_list (fixed_address (operand_of instr 0))
+jump_addresses pages instr (Long CallGeneral) = option_to_list (option_map behind_mask (fixed_address (operand_of instr 1)))
+jump_addresses pages instr (Long CallStack) = option_to_list (option_map behind_mask (fixed_address (operand_of instr 1)))
+jump_addresses pages instr (Case width) = case_addresses pages instr.after (operand_of instr 1) (operand_of instr 2)
+jump_addresses pages instr _ = []
+
+-- the address behind it, its branch target, and the addresses of jumps, calls and CASE
+abbrev pub goes_on_by : Pages → Instr → Operation → List ℕ
+goes_on_by pages instr operation =
+    (if falls_through operation then instr.after ∷ [] else []) ++ filter_map branch_target instr.operands ++ jump_addresses pages instr operation
+
+-- all addresses to which the instruction goes on
+unfoldable pub goes_on : Pages → Instr → List ℕ
+goes_on pages instr = option_map_or (goes_on_by pages instr) (operation_at instr.opcode) []

@@ -1,0 +1,54 @@
+-- The addresses of instructions that can be reached: the least set that has the starts, and with each of its members
+-- the addresses to which that goes on, as far as instructions stand there.
+use Rattle.std.specs.Prelude.{◌≡◌, ◌↔◌, ◌<◌, ◌++◌, ℕ, Bool, IsTrue, List, All, Option, Some, None, length, map, nat_eq}
+use Rattle.std.specs.List.{list_any}
+use Rattle.std.specs.List.Sorted.{IsStrictlyIncreasing}
+use Rattle.vax_form.specs.Grammar.{Found, instruction, past, reserved_instruction, reserved_mode}
+use Rattle.vax_form.specs.declared.instr.Instr.{Instr}
+use Rattle.vax_form.specs.declared.pages.Pages.{Pages}
+use Rattle.flow_discovery.specs.Stub.{found}
+use Rattle.flow_discovery.specs.Flow.{goes_on}
+
+-- the address is in the list
+abbrev pub has : List ℕ → ℕ → Bool
+has addresses address = list_any (nat_eq address) addresses
+
+abbrev pub instruction_in : Found → Option Instr
+instruction_in (instruction instr) = Some instr
+instruction_in reserved_instruction = None
+instruction_in reserved_mode = None
+instruction_in (past address) = None
+
+-- The instruction at an address, where one stands there. HALT and the opcodes that the instruction set lacks are none.
+unfoldable pub instruction_at : Pages → ℕ → Option Instr
+instruction_at pages address = instruction_in (found pages address)
+
+pub data Member (pages : Pages) (starts : List ℕ) : ℕ → Type 0 where
+  start : (address : ℕ) (instr : Instr) → IsTrue (has starts address) → instruction_at pages address ≡ Some instr
+      → Member pages starts address
+  step : (from address : ℕ) (before instr : Instr) → Member pages starts from → instruction_at pages from ≡ Some before
+      → IsTrue (has (goes_on pages before) address) → instruction_at pages address ≡ Some instr
+      → Member pages starts address
+
+-- the list has the members, and nothing else
+abbrev pub HasMembers : Pages → List ℕ → List ℕ → Type 0
+HasMembers pages starts addresses = (address : ℕ) → IsTrue (has addresses address) ↔ Member pages starts address
+
+-- the members in rising order
+pub record AreReached (pages : Pages) (starts addresses : List ℕ) : Type 0 where
+  pub members : HasMembers pages starts addresses
+  pub rising : IsStrictlyIncreasing addresses
+
+-- the instructions at the members, in rising order of address
+pub record IsReach (pages : Pages) (starts : List ℕ) (instrs : List Instr) : Type 0 where
+  pub reached : AreReached pages starts (map (λ instr. instr.at) instrs)
+  pub decoded : All (λ instr. instruction_at pages instr.at ≡ Some instr) instrs
+
+-- more members are not taken
+abbrev pub most : ℕ
+most = 32768
+
+-- there are so many members, and they are too many
+abbrev pub AreTooMany : Pages → List ℕ → ℕ → Type 0
+AreTooMany pages starts count = (addresses : List ℕ) × AreReached pages starts addresses
+    × (length addresses ≡ count) × (most < count)

@@ -1,0 +1,167 @@
+ghost use Rattle.std.specs.Prelude.{◌≡◌, ◌<◌, ◌≤◌, ◌++◌, ◌+◌, IfOk, OnOk};
+ghost use Rattle.std.specs.List.{filter_map};
+ghost use Rattle.std.specs.Option.{option_to_list};
+ghost use Rattle.vax_form.specs.Grammar.{extended};
+ghost use Rattle.vax_form.specs.declared.instr.Size.TheVariants.{Word};
+ghost use Rattle.flow_discovery.specs.Flow.{branch_target, case_addresses, falls_through, fixed_address, goes_on, jump_addresses, table_addresses, table_limit, table_target, word_at};
+
+use std::alloc::{AllocError, Global};
+use vax_form::{Base, Instr, LongOperation, Operand, Operation, Pages, operation_of};
+
+#[tactic(auto, unfolding(crate::specs::Flow::falls_through))]
+fn falls_through(operation: Operation) -> bool
+    ensures { result ≡ falls_through operation }
+{
+    !matches!(
+        operation,
+        Operation::Branch(_)
+            | Operation::Jump
+            | Operation::ReturnFromSubroutine
+            | Operation::Long(LongOperation::Return)
+            | Operation::Breakpoint
+            | Operation::Case(_)
+    )
+}
+
+fn branch_target(operand: &Operand) -> Option<u32>
+    ensures { result ≡ branch_target operand.now }
+{
+    match *operand {
+        Operand::Target(address) => Some(address),
+        _ => None,
+    }
+}
+
+fn fixed_address(operand: &Operand) -> Option<u32>
+    ensures { result ≡ fixed_address operand.now }
+{
+    match *operand {
+        Operand::Place {
+            base: Base::Fixed {
+                address,
+                deferred: false,
+            },
+            index: None,
+        } => Some(address),
+        _ => None,
+    }
+}
+
+fn push_some(address: Option<u32>, into: &mut Vec<u32>) -> Result<(), AllocError>
+    ensures { OnOk result (into.new.items ≡ into.old.items ++ option_to_list address) }
+{
+    if let Some(address) = address {
+        into.push(address)?;
+    }
+    Ok(())
+}
+
+fn word_at(pages: &Pages, address: u32) -> Option<u16>
+    ensures { result ≡ word_at pages.now address }
+{
+    let low = pages.code_byte(address)?;
+    let high = pages.code_byte(address.wrapping_add(1))?;
+    Some(u16::from(low) + 256 * u16::from(high))
+}
+
+// A word, sign-extended.
+fn extended(word: u16) -> u32
+    ensures { result ≡ extended Word word }
+{
+    let word = u32::from(word);
+    if word < 0x8000 {
+        word
+    } else {
+        word + 0xFFFF_0000
+    }
+}
+
+fn table_target(pages: &Pages, table: u32, number: u32) -> Option<u32>
+    requires { number < table_limit }
+    ensures { result ≡ table_target pages.now table number }
+{
+    let displacement = word_at(pages, table.wrapping_add(2 * number))?;
+    Some(table.wrapping_add(extended(displacement)))
+}
+
+fn push_table(
+    pages: &Pages,
+    table: u32,
+    count: u32,
+    into: &mut Vec<u32>,
+) -> Result<(), AllocError>
+    requires { count ≤ table_limit }
+    ensures { OnOk result (into.new.items ≡ into.old.items ++ table_addresses pages.now table count) }
+{
+    for number in 0..count {
+        push_some(table_target(pages, table, number), into)?;
+    }
+    into.push(table.wrapping_add(2 * count))?;
+    Ok(())
+}
+
+fn push_case(
+    pages: &Pages,
+    table: u32,
+    base: &Operand,
+    limit: &Operand,
+    into: &mut Vec<u32>,
+) -> Result<(), AllocError>
+    ensures { OnOk result (into.new.items ≡ into.old.items ++ case_addresses pages.now table base.now limit.now) }
+{
+    match (*base, *limit) {
+        (Operand::Value(_), Operand::Value(limit)) if limit < 4_096 => {
+            push_table(pages, table, limit as u32 + 1, into)
+        }
+        _ => Ok(()),
+    }
+}
+
+#[tactic(auto, unfolding(crate::specs::Flow::jump_addresses))]
+fn push_jumps(
+    pages: &Pages,
+    instr: &Instr,
+    operation: Operation,
+    into: &mut Vec<u32>,
+) -> Result<(), AllocError>
+    ensures { OnOk result (into.new.items ≡ into.old.items ++ jump_addresses pages.now instr.now operation) }
+{
+    let operands = &instr.operands;
+    match operation {
+        Operation::Jump | Operation::JumpToSubroutine => {
+            push_some(fixed_address(&operands[0]), into)
+        }
+        Operation::Long(LongOperation::CallGeneral | LongOperation::CallStack) => {
+            let procedure = fixed_address(&operands[1]);
+            push_some(procedure.map(|mask| mask.wrapping_add(2)), into)
+        }
+        Operation::Case(_) => push_case(pages, instr.after, &operands[1], &operands[2], into),
+        _ => Ok(()),
+    }
+}
+
+fn push_branch_targets(operands: &[Operand], into: &mut Vec<u32>) -> Result<(), AllocError>
+    ensures { OnOk result (into.new.items ≡ into.old.items ++ filter_map branch_target operands.now) }
+{
+    for operand in operands {
+        push_some(branch_target(operand), into)?;
+    }
+    Ok(())
+}
+
+/// The addresses to which control may go on from the instruction.
+#[tactic(auto, unfolding(crate::specs::Flow::goes_on))]
+pub fn goes_on(alloc: Global, pages: &Pages, instr: &Instr) -> Result<Vec<u32>, AllocError>
+    ensures { IfOk result (λ v. v.items ≡ goes_on pages.now instr.now) }
+{
+    let mut addresses = Vec::new(alloc);
+    let Some(operation) = operation_of(instr.opcode) else {
+        return Ok(addresses);
+    };
+    if falls_through(operation) {
+        addresses.push(instr.after)?;
+    }
+    push_branch_targets(&instr.operands, &mut addresses)?;
+    push_jumps(pages, instr, operation, &mut addresses)?;
+    Ok(addresses)
+}

@@ -1,0 +1,5 @@
+//! The instructions of an image that can be reached.
+#![tactic(auto)]
+
+mod flow;
+mod stub;

@@ -1,0 +1,35 @@
+ghost use Rattle.std.specs.Prelude.{◌≡◌};
+ghost use Rattle.flow_discovery.specs.Stub.{found};
+ghost use Rattle.vax_form.specs.Grammar.{past};
+
+use std::marker::Model;
+use vax_form::{Instr, Pages};
+
+pub enum Decoded {
+    Instr(Instr),
+    Reserved,
+    BadMode,
+    Past(u32),
+}
+
+#[tactic(auto, unfolding(crate::specs::Stub::found))]
+pub fn decode_at(_pages: &Pages, pc: u32) -> Decoded
+    ensures { decoded_as result ≡ found _pages.now pc }
+{
+    Decoded::Past(pc)
+}
+
+ghost use Rattle.flow_discovery.specs.Decoding.{decoded_as};
+
+#[derive(Clone, Copy, Debug)]
+pub struct Start {
+    pub pc: u32,
+    pub sp: u32,
+}
+
+#[derive(Debug, Drop)]
+pub struct Image {
+    pub threads: Vec<Start>,
+    pub entries: Vec<u32>,
+    pub pages: Pages,
+}
