@@ -1,1 +1,5 @@
 pub mod Pushed
+pub mod Decoded
+pub mod PageCount
+pub mod Work
+pub mod Instructions

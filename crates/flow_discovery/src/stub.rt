@@ -33,3 +33,11 @@ pub struct Image {
     pub entries: Vec<u32>,
     pub pages: Pages,
 }
+
+impl Model for Image {
+    ghost use Rattle.flow_discovery.specs.Values.{ImageValue};
+
+    ghost Value = { ImageValue };
+
+    ghost view = { λ i. record { threads = i.threads.items; entries = i.entries.items; pages = i.pages } };
+}
