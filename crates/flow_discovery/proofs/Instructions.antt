@@ -1,14 +1,16 @@
 -- The instructions at the members.
-use Rattle.std.proofs.Common.{◌≡◌, ◌∙◌, ◌≤◌, ◌||◌, ℕ, Bool, true, false, refl, sym, ap, ap₂, List, [], ◌∷◌, length, map, nat_eq, Option, Some, None, true≢false}
+use Rattle.std.proofs.Common.{◌≡◌, ◌≢◌, ◌∙◌, ◌≤◌, ◌||◌, ℕ, Bool, true, false, refl, sym, ap, ap₂, List, [], ◌∷◌, length, map, nat_eq, Option, Some, None, true≢false}
 use Rattle.std.specs.List.{All, cons_option, filter_map}
 use Rattle.std.specs.Option.{is_some}
 use Rattle.std.proofs.lemmas.Bool.{eq-eqb}
 use Rattle.std.proofs.lemmas.List.Elements.{All-cons, All-nil}
 use Rattle.std.proofs.lemmas.List.{length-map}
+use Rattle.vax_form.specs.Row.{class_at}
+use Rattle.vax_form.specs.declared.row.Class.TheVariants.{Reserved}
 use Rattle.vax_form.specs.declared.instr.Instr.{Instr}
 use Rattle.vax_form.specs.declared.pages.Pages.{Pages}
 use Rattle.flow_discovery.specs.Reach.{AreReached, IsReach, decodes, has, instruction_at}
-use Rattle.flow_discovery.proofs.Decoded.{address_of}
+use Rattle.flow_discovery.proofs.Decoded.{address_of, class_of}
 use Rattle.flow_discovery.proofs.Work.{decoded}
 
 or_right : (a b : Bool) → b ≡ true → (a || b) ≡ true
@@ -54,3 +56,14 @@ module _ (pages : Pages) where
   pub as_many : (starts addresses : List ℕ) (instrs : List Instr) → AreReached pages starts addresses → instrs ≡ read addresses → length instrs ≡ length addresses
   as_many starts addresses instrs reached is =
       sym (length-map instrs (λ (i : Instr). i.at)) ∙ ap length (same_addresses starts addresses instrs reached is)
+
+  all_listed : (addresses : List ℕ) → All (λ (i : Instr). class_at i.opcode ≢ Reserved) (read addresses)
+  all_listed [] = All-nil (λ (i : Instr). class_at i.opcode ≢ Reserved)
+  all_listed (x ∷ xs) = go (instruction_at pages x) refl (all_listed xs)
+    where
+      go : (o : Option Instr) → instruction_at pages x ≡ o → All (λ (i : Instr). class_at i.opcode ≢ Reserved) (read xs) → All (λ (i : Instr). class_at i.opcode ≢ Reserved) (cons_option o (read xs))
+      go (Some i) e rest = All-cons (λ (j : Instr). class_at j.opcode ≢ Reserved) i (read xs) (class_of pages x i e) rest
+      go None e rest = rest
+
+  pub are_listed : (addresses : List ℕ) (instrs : List Instr) → instrs ≡ read addresses → All (λ (i : Instr). class_at i.opcode ≢ Reserved) instrs
+  are_listed addresses instrs is = rw is (all_listed addresses)

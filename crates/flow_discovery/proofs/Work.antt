@@ -1,5 +1,5 @@
 -- What the work list has found, and what it has still to visit.
-use Rattle.std.proofs.Common.{◌≡◌, ◌∙◌, ◌<◌, ◌≤◌, ◌+◌, ◌||◌, ◌&&◌, ◌⊎◌, ℕ, Bool, cond, true, false, zero, suc, refl, sym, ap, arith, inl, inr, List, [], ◌∷◌, ◌++◌, length, filter, nat_eq, eqb-true, nat_lt, ltb-true, ltb-false, slice_index_or, Option, Some, None, true≢false, length-append}
+use Rattle.std.proofs.Common.{◌≡◌, ◌∙◌, ◌<◌, ◌≤◌, ◌+◌, ◌^◌, ◌||◌, ◌&&◌, ◌⊎◌, ℕ, Bool, cond, true, false, zero, suc, refl, sym, ap, arith, inl, inr, List, [], ◌∷◌, ◌++◌, length, filter, take, nat_eq, eqb-true, nat_lt, ltb-true, ltb-false, slice_index_or, Option, Some, None, true≢false, length-append}
 use Rattle.std.specs.Prelude.{slice_get}
 use Rattle.std.specs.List.{IsDistinct}
 use Rattle.std.specs.Option.{is_some}
@@ -10,7 +10,8 @@ use Rattle.std.proofs.lemmas.Bool.{eq-eqb}
 use Rattle.std.specs.List.Sorted.{IsSorted}
 use Rattle.std.specs.Ordering.{nat_cmp}
 use Rattle.std.proofs.lemmas.List.Sorted.{IsNonDecreasingBy-from_sort}
-use Rattle.std.proofs.lemmas.Map.Keys.{IsStrictlyIncreasing-from_distinct}
+use Rattle.std.proofs.lemmas.Map.Keys.{IsDistinct-from_apart, IsStrictlyIncreasing-from_distinct, apart_from_distinct}
+use Rattle.std.proofs.lemmas.List.{get_or-take, length-take, length-take-le}
 use Rattle.indexmap.specs.IndexSet.{insert_all, insert_key}
 use Rattle.vax_form.specs.PageTable.{code_length}
 use Rattle.vax_form.specs.declared.instr.Instr.{Instr}
@@ -146,6 +147,14 @@ at_place (x ∷ xs) (suc k) lt = or_right (nat_eq (slice_index_or xs k 0) x) _ (
 
 -- ---- the work list
 
+IsDistinct-take : (n : ℕ) (ks : List ℕ) → IsDistinct nat_eq ks → IsDistinct nat_eq (take n ks)
+IsDistinct-take n ks unique = IsDistinct-from_apart nat_eq (take n ks) apart
+  where
+    apart : (i j d : ℕ) → i < j → j < length (take n ks) → nat_eq (slice_index_or (take n ks) i d) (slice_index_or (take n ks) j d) ≡ false
+    apart i j d less within =
+        let size = length-take n ks in
+        rw (get_or-take n ks i d (omega arith), get_or-take n ks j d (omega arith)) (apart_from_distinct nat_eq ks i j d unique less (omega arith))
+
 module _ (pages : Pages) (starts : List ℕ) where
   -- what holds when the places below `at` are visited
   pub record Found (keys : List ℕ) (at : ℕ) : Type 0 where
@@ -153,6 +162,7 @@ module _ (pages : Pages) (starts : List ℕ) where
     pub started : (a : ℕ) → has starts a ≡ true → decodes pages a ≡ true → has keys a ≡ true
     pub visited : (k b : ℕ) → k < at → has (successors pages (slice_index_or keys k 0)) b ≡ true → decodes pages b ≡ true → has keys b ≡ true
     pub within : at ≤ length keys
+    pub small : (k : ℕ) → k < at → slice_index_or keys k 0 < 2 ^ 32
 
   abbrev pub wanted : List ℕ → List ℕ
   wanted addresses = filter (decodes pages) addresses
@@ -171,11 +181,12 @@ module _ (pages : Pages) (starts : List ℕ) where
     started = λ a h d. ap (λ ks. has ks a) is ∙ has_all (wanted starts) [] a ∙ has_wanted starts a h d;
     visited = λ k b lt h d. absurd (omega arith);
     within = omega arith;
+    small = λ k lt. absurd (omega arith);
   }
 
-  pub goes : (keys after : List ℕ) (at address : ℕ) → Found keys at → at < length keys → address ≡ slice_index_or keys at 0
+  pub goes : (keys after : List ℕ) (at address : ℕ) → Found keys at → at < length keys → address < 2 ^ 32 → address ≡ slice_index_or keys at 0
       → after ≡ insert_all nat_eq keys (wanted (successors pages address)) → Found after (at + 1)
-  goes keys after at address found lt here is =
+  goes keys after at address found lt fits here is =
       let grown : (a : ℕ) → has after a ≡ (has keys a || has (wanted (successors pages address)) a) = λ a. ap (λ ks. has ks a) is ∙ has_all (wanted (successors pages address)) keys a in
       let longer : length keys ≤ length after = rw is (all_longer (wanted (successors pages address)) keys) in
       let stays : (k : ℕ) → k < length keys → slice_index_or after k 0 ≡ slice_index_or keys k 0 = λ k less. ap (λ ks. slice_index_or ks k 0) is ∙ all_keep (wanted (successors pages address)) keys k 0 less in
@@ -188,8 +199,22 @@ module _ (pages : Pages) (starts : List ℕ) where
         started = λ a h d. grown a ∙ or_left (has keys a) _ (found.started a h d);
         visited = λ k b less h d. visited_at found grown stays k b less h d (nat_lt k at) refl;
         within = omega (arith, found.within);
+        small = λ k less. small_at found stays k less (nat_lt k at) refl;
       }
     where
+      small_at : Found keys at → ((k : ℕ) → k < length keys → slice_index_or after k 0 ≡ slice_index_or keys k 0) → (k : ℕ) → k < at + 1 → (c : Bool) → nat_lt k at ≡ c → slice_index_or after k 0 < 2 ^ 32
+      small_at found stays k less true e =
+          let before : k < at = ltb-true k at e in
+          let same = stays k (omega (arith, found.within)) in
+          let old = found.small k before in
+          omega arith
+      small_at found stays k less false e =
+          let late : at ≤ k = ltb-false k at e in
+          let now : k ≡ at = omega arith in
+          let same = stays k (omega arith) in
+          let there = ap (λ j. slice_index_or keys j 0) now in
+          omega arith
+
       visited_at : Found keys at → ((a : ℕ) → has after a ≡ (has keys a || has (wanted (successors pages address)) a))
           → ((k : ℕ) → k < length keys → slice_index_or after k 0 ≡ slice_index_or keys k 0)
           → (k b : ℕ) → k < at + 1 → has (successors pages (slice_index_or after k 0)) b ≡ true → decodes pages b ≡ true
@@ -217,16 +242,39 @@ module _ (pages : Pages) (starts : List ℕ) where
   decoded _ (start a h d) = d
   decoded _ (step a b m h d) = d
 
-  in_code : (a : ℕ) → decodes pages a ≡ true → is_code pages a ≡ true
-  in_code a d = go (instruction_at pages a) refl d
+  in_code : (a : ℕ) → a < 2 ^ 32 → decodes pages a ≡ true → is_code pages a ≡ true
+  in_code a small d = go (instruction_at pages a) refl d
     where
       go : (o : Option Instr) → instruction_at pages a ≡ o → is_some o ≡ true → is_code pages a ≡ true
-      go (Some i) e d = code_at pages a i e
+      go (Some i) e d = code_at pages a i small e
       go None e d = absurd (true≢false (sym d))
 
-  -- no more addresses are found than read-only pages have bytes
-  pub few : (keys : List ℕ) (at : ℕ) → Found keys at → IsDistinct nat_eq keys → length keys ≤ code_length pages.ranges
-  few keys at found unique = few_in_pages pages.ranges keys unique (λ a h. in_code a (decoded a (found.sound a h)))
+  -- fewer addresses are visited than read-only pages have bytes
+  pub few : (keys : List ℕ) (at : ℕ) → Found keys at → IsDistinct nat_eq keys → at < length keys → slice_index_or keys at 0 < 2 ^ 32 → at < code_length pages.ranges
+  few keys at found unique within fits =
+      let front : List ℕ = take (at + 1) keys in
+      let size : length front ≡ at + 1 = length-take-le (at + 1) keys (omega arith) in
+      let most : length front ≤ code_length pages.ranges = few_in_pages pages.ranges front (IsDistinct-take (at + 1) keys unique) in_front in
+      omega arith
+    where
+      small_at : (k : ℕ) → k < at + 1 → slice_index_or keys k 0 < 2 ^ 32
+      small_at k less = go (nat_lt k at) refl
+        where
+          go : (c : Bool) → nat_lt k at ≡ c → slice_index_or keys k 0 < 2 ^ 32
+          go true e = found.small k (ltb-true k at e)
+          go false e =
+              let late : at ≤ k = ltb-false k at e in
+              let now : k ≡ at = omega arith in
+              rw now fits
+
+      in_front : (x : ℕ) → has (take (at + 1) keys) x ≡ true → is_code pages x ≡ true
+      in_front x h =
+          let p = place_of (take (at + 1) keys) x h in
+          let below : p.0 < at + 1 = omega (arith, length-take-le (at + 1) keys (omega arith)) in
+          let same : slice_index_or keys p.0 0 ≡ x = sym (get_or-take (at + 1) keys p.0 0 below) ∙ p.2 in
+          let small = small_at p.0 below in
+          let there = at_place keys p.0 (omega arith) in
+          in_code x (omega arith) (decoded x (found.sound x (ap (has keys) (sym same) ∙ there)))
 
   pub some_at : (keys : List ℕ) (i x : ℕ) → slice_get keys i ≡ Some x → x ≡ slice_index_or keys i 0
   some_at [] i x e = cc

@@ -1,4 +1,3 @@
-pub mod Stub
 pub mod Decoding
 pub mod Values
 pub mod Flow

@@ -7,7 +7,7 @@ use Rattle.std.specs.List.Sorted.{IsStrictlyIncreasing}
 use Rattle.vax_form.specs.Grammar.{Found, instruction, past, reserved_instruction, reserved_mode}
 use Rattle.vax_form.specs.declared.instr.Instr.{Instr}
 use Rattle.vax_form.specs.declared.pages.Pages.{Pages}
-use Rattle.flow_discovery.specs.Stub.{found}
+use Rattle.vax_form.specs.GrammarFound.{found}
 use Rattle.flow_discovery.specs.Flow.{goes_on}
 
 -- the address is in the list

@@ -6,13 +6,14 @@ mod flow;
 mod members;
 mod stub;
 
-ghost use Rattle.std.specs.Prelude.{◌≡◌, ◌≤◌, IfErr, IfOk, length, map};
+ghost use Rattle.std.specs.Prelude.{◌≡◌, ◌≢◌, ◌≤◌, All, IfErr, IfOk, length, map};
+ghost use Rattle.vax_form.specs.Row.{class_at};
 ghost use Rattle.flow_discovery.specs.Reach.{IsReach, has, most};
 ghost use Rattle.flow_discovery.specs.Starts.{starts};
 
 use std::alloc::{AllocError, Global};
 use stub::{Image, Start};
-use vax_form::Instr;
+use vax_form::{Class, Instr};
 
 /// More instructions are not translated.
 pub const MOST_INSTRUCTIONS: u64 = 32_768;
@@ -92,6 +93,7 @@ ghost use Rattle.flow_discovery.specs.Refusal.{IsRefused};
 /// The instructions that can be reached, in rising order of address.
 pub fn reach(alloc: Global, image: &Image, hints: &[u32]) -> Result<Vec<Instr>, FlowRefusal>
     ensures reached { IfOk result (λ v. IsReach image.now.pages (starts image.now hints.now) v.items) }
+    ensures classes { IfOk result (λ v. All (λ instr. class_at instr.opcode ≢ Class.Reserved) v.items) }
     ensures few { IfOk result (λ v. length v.items ≤ most) }
     ensures refused { IfErr result (IsRefused image.now.pages (starts image.now hints.now)) }
 {

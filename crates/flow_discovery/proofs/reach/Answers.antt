@@ -3,7 +3,7 @@ use Rattle.std.specs.List.{filter_map}
 use Rattle.vax_form.specs.declared.pages.Pages.{Pages}
 use Rattle.flow_discovery.specs.Reach.{AreReached, IsReach, instruction_at}
 use Rattle.flow_discovery.specs.Starts.{starts}
-use Rattle.flow_discovery.proofs.Instructions.{are_reach, as_many}
+use Rattle.flow_discovery.proofs.Instructions.{are_listed, are_reach, as_many}
 use Rattle.flow_discovery.proofs.reach.Goals as goal
 
 pub returns-clause-reached : goal.returns-clause-reached
@@ -25,3 +25,9 @@ returns-clause-few c =
     let read = c.in_ok-instrs.ensures ∙ ap (λ (ks : List ℕ). filter_map (instruction_at pages) ks) c.as_slice-2.ensures.keys in
     let many : length c.in_ok-instrs.instrs.items ≡ length keys = as_many pages c.as_slice.result.now keys c.in_ok-instrs.instrs.items c.in_ok-found.ensures read in
     omega (arith, c.len-count.ensures.len)
+
+pub returns-clause-classes : goal.returns-clause-classes
+returns-clause-classes c =
+    let pages = c.image.inside.pages in
+    let read = c.in_ok-instrs.ensures ∙ ap (λ (ks : List ℕ). filter_map (instruction_at pages) ks) c.as_slice-2.ensures.keys in
+    are_listed pages c.in_ok-found.found.keys c.in_ok-instrs.instrs.items read
