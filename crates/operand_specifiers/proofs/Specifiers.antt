@@ -73,3 +73,53 @@ module _ (at : ℕ) (size : Size) (a x : ℕ) (bytes : List ℕ) (place next fir
         ∙ ap (base_of (first % 16) value (wrapped (a + 1)) (wrapped (a + 1 + count))) is_mode in
       ap (λ n. Ok (Place b (Some x), n)) len ∙ ap (λ k. Ok (Place k (Some x), at + (2 + count))) gives'
       ∙ ap (answer_of at) (sym (base_at ∙ cond-false _ _ _ fine' ∙ ap (option_map _) (sym reads')))
+
+-- ---- a specifier that begins with its mode
+
+pub general_none : (at : ℕ) (a : Access) (size : Size) (p : ℕ) (bytes : List ℕ) → length bytes ≤ at
+    → Err Past ≡ answer_of at (read_general a size p (drop at bytes))
+unfolding read_general
+general_none at a size p bytes h = ap (answer_of at) (sym (at_drop_all (read_general a size p) bytes at h))
+
+read_by_mode-plain : (a : Access) (size : Size) (p first : ℕ) (m : Mode) (rest : List ℕ) → m ≢ mode.Index
+    → read_by_mode a size p first m rest ≡ read_plain a size p first m rest
+unfolding read_by_mode
+read_by_mode-plain a size p first mode.Index rest other = absurd (other refl)
+read_by_mode-plain a size p first m rest other = refl
+
+module _ (at : ℕ) (a : Access) (size : Size) (p : ℕ) (bytes : List ℕ) (first : ℕ) (m : Mode) (is : IsAt bytes at first) (is_mode : m ≡ mode_of first) where
+  general_at : read_general a size p (drop at bytes) ≡ read_by_mode a size p first m (drop (at + 1) bytes)
+  unfolding read_general
+  general_at = at_byte (read_general a size p) bytes at first is ∙ ap (λ k. read_by_mode a size p first k (drop (at + 1) bytes)) (sym is_mode)
+
+  pub general_index : m ≡ mode.Index
+      → answer_of at (read_base size (p + 1) (first % 16) (drop (at + 1) bytes)) ≡ answer_of at (read_general a size p (drop at bytes))
+  unfolding read_by_mode
+  general_index index =
+      ap (answer_of at) (sym (general_at ∙ ap (λ k. read_by_mode a size p first k (drop (at + 1) bytes)) index))
+
+  plain_at : m ≢ mode.Index → read_general a size p (drop at bytes) ≡ read_plain a size p first m (drop (at + 1) bytes)
+  plain_at other = general_at ∙ read_by_mode-plain a size p first m (drop (at + 1) bytes) other
+
+  pub general_reserved : m ≢ mode.Index → is_reserved_mode a size (first % 16) m ≡ true
+      → Err ReservedMode ≡ answer_of at (read_general a size p (drop at bytes))
+  unfolding read_plain
+  general_reserved other bad = ap (answer_of at) (sym (plain_at other ∙ cond-true _ _ _ bad))
+
+  pub general_short : m ≢ mode.Index → is_reserved_mode a size (first % 16) m ≡ false
+      → None ≡ read_extension (extension_size size m) (drop (at + 1) bytes)
+      → Err Past ≡ answer_of at (read_general a size p (drop at bytes))
+  unfolding read_plain
+  general_short other fine none = ap (answer_of at) (sym (plain_at other ∙ cond-false _ _ _ fine ∙ ap (option_map _) (sym none)))
+
+  pub general_whole : (value count from after : ℕ) (o : Operand) (behind : ℕ) → m ≢ mode.Index
+      → is_reserved_mode a size (first % 16) m ≡ false
+      → Some (value, count) ≡ read_extension (extension_size size m) (drop (at + 1) bytes) → from ≡ wrapped (p + 1)
+      → after ≡ wrapped (p + 1 + count) → o ≡ operand_of a first value from after m → behind ≡ at + (1 + count)
+      → Ok (o, behind) ≡ answer_of at (read_general a size p (drop at bytes))
+  unfolding read_plain
+  general_whole value count from after o behind other fine reads from_is after_is gives len =
+      let gives' : o ≡ operand_of a first value (wrapped (p + 1)) (wrapped (p + 1 + count)) m =
+        gives ∙ ap (λ n. operand_of a first value n after m) from_is ∙ ap (λ n. operand_of a first value (wrapped (p + 1)) n m) after_is in
+      ap (λ n. Ok (o, n)) len ∙ ap (λ k. Ok (k, at + (1 + count))) gives'
+      ∙ ap (answer_of at) (sym (plain_at other ∙ cond-false _ _ _ fine ∙ ap (option_map _) (sym reads)))

@@ -1,7 +1,9 @@
 -- The answer of a call that reads an operand specifier.
-use Rattle.std.specs.Prelude.{◌≡◌, ℕ, ◌+◌, ◌*◌, ◌<◌, ◌^◌, Option, Some, None, Result, Ok, Err}
+use Rattle.std.specs.Prelude.{◌≡◌, ◌≤◌, List, length, take, slice_range, ℕ, ◌+◌, ◌*◌, ◌<◌, ◌^◌, Option, Some, None, Result, Ok, Err}
 use Rattle.vax_form.specs.Size.{bytes_of}
+use Rattle.vax_form.specs.Grammar.{ShowsReservedMode, Specifies}
 use Rattle.vax_form.specs.GrammarReading.{Shown, complete, reserved}
+use Rattle.vax_form.specs.declared.instr.Access.{Access}
 use Rattle.vax_form.specs.declared.instr.Operand.{Operand}
 use Rattle.vax_form.specs.declared.instr.Size.{Size}
 use Rattle.vax_form.specs.declared.mode.Mode.{Mode}
@@ -26,3 +28,18 @@ FitsExtension _ value = Unit {0}
 abbrev pub FitsSize : Option Size → ℕ → Type 0
 FitsSize None value = value ≡ 0
 FitsSize (Some size) value = value < 2 ^ (8 * bytes_of size)
+
+-- The bytes from one place to another are a specifier of that operand. The first byte of all stands at origin.
+pub record IsSpecified (access : Access) (size : Size) (origin : ℕ) (bytes : List ℕ) (at : ℕ) (found : Operand × ℕ) : Type 0 where
+  pub in_order : at ≤ found.1
+  pub within : found.1 ≤ length bytes
+  pub specifies : Specifies access size (origin + at) (slice_range bytes at found.1) found.0
+
+-- some first bytes show a reserved addressing mode
+abbrev pub BeginsReserved : Access → Size → List ℕ → Type 0
+BeginsReserved access size bytes = (n : ℕ) × ShowsReservedMode access size (take n bytes)
+
+-- no first bytes are a specifier, and none show a reserved addressing mode
+pub record IsUndecided (access : Access) (size : Size) (at : ℕ) (bytes : List ℕ) : Type 0 where
+  pub unspecified : (n : ℕ) (operand : Operand) → ¬ Specifies access size at (take n bytes) operand
+  pub unreserved : (n : ℕ) → ¬ ShowsReservedMode access size (take n bytes)

@@ -1,6 +1,7 @@
-ghost use Rattle.std.specs.Prelude.{◌≡◌, ◌+◌, ◌≤◌, ◌<◌, length, drop, IfSome};
-ghost use Rattle.vax_form.specs.GrammarReading.{read_base, read_displacement, read_extension, read_specifier};
-ghost use Rattle.operand_specifiers.specs.Answer.{FitsSize, answer_of};
+ghost use Rattle.std.specs.Prelude.{◌≡◌, ◌+◌, ◌≤◌, ◌<◌, ◌↔◌, ℕ, length, drop, IfSome, IfOk};
+ghost use Rattle.vax_form.specs.GrammarReading.{read_base, read_displacement, read_extension, read_general, read_specifier};
+ghost use Rattle.operand_specifiers.specs.Answer.{BeginsReserved, FitsSize, IsSpecified, IsUndecided, answer_of};
+ghost use Rattle.vax_form.specs.declared.instr.Operand.{Operand};
 
 use vax_form::{Access, Mode, Operand, Size};
 
@@ -17,8 +18,38 @@ pub enum SpecFault {
 }
 
 /// Reads the operand specifier at a place in bytes that begin at the VAX address `origin`: its operand and the place
-/// behind it.
+/// behind it. A branch displacement is a specifier too, and its operand is the `Target`.
 pub fn read_spec(
+    bytes: &[u8],
+    at: usize,
+    origin: u32,
+    access: Access,
+    size: Size,
+) -> Result<(Operand, usize), SpecFault>
+    requires { at ≤ length bytes.now }
+
+    // The bytes are read from left to right.
+    ensures reading { result
+        ≡ answer_of at (read_specifier access size (origin + at) (drop at bytes.now)) }
+
+    // The operand is the one that the bytes specify, and there is no other.
+    ensures found { IfOk result (λ found. IsSpecified access size origin bytes.now at found) }
+    ensures only { (found : Operand × ℕ) → IsSpecified access size origin bytes.now at found
+        → result ≡ Ok found }
+
+    // A reserved addressing mode is shown by the last of the bytes that are read.
+    ensures reserved { (result ≡ Err SpecFault.ReservedMode)
+        ↔ BeginsReserved access size (drop at bytes.now) }
+
+    // The bytes end first.
+    ensures past { (result ≡ Err SpecFault.Past)
+        ↔ IsUndecided access size (origin + at) (drop at bytes.now) }
+{
+    read(bytes, at, origin, access, size)
+}
+
+#[tactic(auto, unfolding(vax_form::specs::GrammarReading::read_specifier))]
+fn read(
     bytes: &[u8],
     at: usize,
     origin: u32,
@@ -28,14 +59,28 @@ pub fn read_spec(
     requires { at ≤ length bytes.now }
     ensures { result ≡ answer_of at (read_specifier access size (origin + at) (drop at bytes.now)) }
 {
-    if access == Access::Branch {
-        return displacement(bytes, at, origin, size);
+    match access {
+        Access::Branch => displacement(bytes, at, origin, size),
+        _ => specifier(bytes, at, origin, access, size),
     }
+}
+
+// A specifier that begins with its addressing mode.
+fn specifier(
+    bytes: &[u8],
+    at: usize,
+    origin: u32,
+    access: Access,
+    size: Size,
+) -> Result<(Operand, usize), SpecFault>
+    requires { at ≤ length bytes.now }
+    ensures { result ≡ answer_of at (read_general access size (origin + at) (drop at bytes.now)) }
+{
     let Some(first) = bytes.get(at) else {
         return Err(SpecFault::Past);
     };
     let (register, mode) = (first % 16, Mode::of(*first));
-    if mode == Mode::Index {
+    if let Mode::Index = mode {
         return indexed(bytes, at, origin, size, register);
     }
     if is_reserved(access, size, register, mode) {

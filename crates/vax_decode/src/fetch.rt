@@ -1,0 +1,22 @@
+ghost use Rattle.std.specs.Prelude.{◌≡◌, ◌≤◌, take};
+ghost use Rattle.vax_form.specs.GrammarFound.{fetched};
+
+use vax_form::Pages;
+
+/// No instruction has more bytes.
+pub(crate) const LONGEST: usize = 64;
+
+/// The bytes from an address on, as far as they can be fetched one after the other, and their number.
+pub(crate) fn fetch(pages: &Pages, pc: u32) -> ([u8; LONGEST], usize)
+    ensures few { result.1 ≤ 64 }
+    ensures bytes { take result.1 result.0 ≡ fetched pages.now pc 64 }
+{
+    let mut bytes = [0; LONGEST];
+    for i in 0..LONGEST {
+        let Some(byte) = pages.code_byte(pc.wrapping_add(i as u32)) else {
+            return (bytes, i);
+        };
+        bytes[i] = byte;
+    }
+    (bytes, LONGEST)
+}
