@@ -62,7 +62,7 @@ abbrev pub table_addresses : Pages → (table count : ℕ) → List ℕ
 table_addresses pages table count =
     filter_map (table_target pages table) (range_with_len 0 count) ++ wrapped (table + 2 * count) ∷ []
 
--- tables with more words are not followed
+-- a limit from this number on is not followed
 abbrev pub table_limit : ℕ
 table_limit = 4096
 

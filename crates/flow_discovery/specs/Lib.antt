@@ -1,5 +1,6 @@
-pub mod Stub
 pub mod Decoding
+pub mod Values
 pub mod Flow
 pub mod Reach
+pub mod Refusal
 pub mod Starts

@@ -1,12 +1,13 @@
 -- The addresses of instructions that can be reached: the least set that has the starts, and with each of its members
 -- the addresses to which that goes on, as far as instructions stand there.
-use Rattle.std.specs.Prelude.{◌≡◌, ◌↔◌, ◌<◌, ◌++◌, ℕ, Bool, IsTrue, List, All, Option, Some, None, length, map, nat_eq}
+use Rattle.std.specs.Prelude.{◌≡◌, ◌↔◌, ◌<◌, ◌++◌, ℕ, Bool, IsTrue, List, [], All, Option, Some, None, is_some, length, map, nat_eq}
+use Rattle.std.specs.Option.{option_map_or}
 use Rattle.std.specs.List.{list_any}
 use Rattle.std.specs.List.Sorted.{IsStrictlyIncreasing}
 use Rattle.vax_form.specs.Grammar.{Found, instruction, past, reserved_instruction, reserved_mode}
 use Rattle.vax_form.specs.declared.instr.Instr.{Instr}
 use Rattle.vax_form.specs.declared.pages.Pages.{Pages}
-use Rattle.flow_discovery.specs.Stub.{found}
+use Rattle.vax_form.specs.GrammarFound.{found}
 use Rattle.flow_discovery.specs.Flow.{goes_on}
 
 -- the address is in the list
@@ -23,12 +24,19 @@ instruction_in (past address) = None
 unfoldable pub instruction_at : Pages → ℕ → Option Instr
 instruction_at pages address = instruction_in (found pages address)
 
+-- an instruction stands at the address
+abbrev pub decodes : Pages → ℕ → Bool
+decodes pages address = is_some (instruction_at pages address)
+
+-- the addresses to which the instruction at an address goes on
+abbrev pub successors : Pages → ℕ → List ℕ
+successors pages address = option_map_or (goes_on pages) (instruction_at pages address) []
+
+-- A start is a member where an instruction stands, and so is an address to which a member goes on.
 pub data Member (pages : Pages) (starts : List ℕ) : ℕ → Type 0 where
-  start : (address : ℕ) (instr : Instr) → IsTrue (has starts address) → instruction_at pages address ≡ Some instr
-      → Member pages starts address
-  step : (from address : ℕ) (before instr : Instr) → Member pages starts from → instruction_at pages from ≡ Some before
-      → IsTrue (has (goes_on pages before) address) → instruction_at pages address ≡ Some instr
-      → Member pages starts address
+  start : (address : ℕ) → IsTrue (has starts address) → IsTrue (decodes pages address) → Member pages starts address
+  step : (from address : ℕ) → Member pages starts from → IsTrue (has (successors pages from) address)
+      → IsTrue (decodes pages address) → Member pages starts address
 
 -- the list has the members, and nothing else
 abbrev pub HasMembers : Pages → List ℕ → List ℕ → Type 0

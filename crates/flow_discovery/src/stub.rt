@@ -1,5 +1,5 @@
 ghost use Rattle.std.specs.Prelude.{◌≡◌};
-ghost use Rattle.flow_discovery.specs.Stub.{found};
+ghost use Rattle.vax_form.specs.GrammarFound.{found};
 ghost use Rattle.vax_form.specs.Grammar.{past};
 
 use std::marker::Model;
@@ -12,7 +12,6 @@ pub enum Decoded {
     Past(u32),
 }
 
-#[tactic(auto, unfolding(crate::specs::Stub::found))]
 pub fn decode_at(_pages: &Pages, pc: u32) -> Decoded
     ensures { decoded_as result ≡ found _pages.now pc }
 {
@@ -32,4 +31,12 @@ pub struct Image {
     pub threads: Vec<Start>,
     pub entries: Vec<u32>,
     pub pages: Pages,
+}
+
+impl Model for Image {
+    ghost use Rattle.flow_discovery.specs.Values.{ImageValue};
+
+    ghost Value = { ImageValue };
+
+    ghost view = { λ i. record { threads = i.threads.items; entries = i.entries.items; pages = i.pages } };
 }
