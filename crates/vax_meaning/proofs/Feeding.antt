@@ -1,5 +1,5 @@
 -- A function that does what a script does passes what feeding its tree passes.
-use Rattle.std.proofs.Common.{◌≡◌, Result, Ok, Err, false}
+use Rattle.std.proofs.Common.{Result, Ok, Err}
 use Rattle.vax_form.specs.Script.{Script}
 use Rattle.vax_form.specs.Tree.{Fault}
 use Rattle.vax_form.specs.declared.script.Stop.{Stop}

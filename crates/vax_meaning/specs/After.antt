@@ -1,8 +1,7 @@
 -- A thread after some instructions.
 use Rattle.std.specs.Prelude.{◌≡◌, ℕ, zero, suc, List, ◌++◌, Option, Some, None}
-use Rattle.vax_form.specs.Tree.{Tree, Wants, answer, Life, Runs, Exited, Trapped, Retired, retires}
+use Rattle.vax_form.specs.Tree.{Tree, answer, Life, Runs, Exited, Trapped, Retired, retires}
 use Rattle.vax_form.specs.declared.pages.Pages.{Pages}
-use Rattle.vax_form.specs.declared.state.Reference.{Reference}
 use Rattle.vax_form.specs.declared.state.VaxState.{VaxState}
 
 -- only a thread that did not exit or trap goes on

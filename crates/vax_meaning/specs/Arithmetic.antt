@@ -1,6 +1,6 @@
 -- Arithmetic and logical instructions.
 -- VAX Architecture Reference Manual, "Integer Arithmetic and Logical Instructions"; the entry is named at each.
-use Rattle.std.specs.Prelude.{ℕ, ◌+◌, ◌-◌, ◌*◌, ◌%◌, ◌^◌, nat_lt, ◌==◌, List, Bool, true, false, ◌&&◌, bit_or, bit_xor, if◌then◌else◌}
+use Rattle.std.specs.Prelude.{ℕ, ◌-◌, ◌%◌, nat_lt, ◌==◌, List, Bool, true, false, bit_or, bit_xor, if◌then◌else◌}
 use Rattle.vax_form.specs.Size.{bytes_of, size_of}
 use Rattle.vax_form.specs.State.{register, with_pc}
 use Rattle.vax_form.specs.Script.{Script, ◌>>=◌, ◌>>◌, pure, get, change, fail, when◌then◌else◌}
@@ -11,7 +11,7 @@ use Rattle.vax_form.specs.declared.instr.Instr.{Instr}
 use Rattle.vax_form.specs.declared.operation.BinaryOperation.{BinaryOperation}
 use Rattle.vax_form.specs.declared.operation.BinaryOperation.TheVariants.{Add, Subtract, Multiply, Divide, BitSet, BitClear, ExclusiveOr}
 use Rattle.vax_form.specs.declared.script.End.{End}
-use Rattle.vax_form.specs.declared.script.End.TheVariants.{Done, Traps}
+use Rattle.vax_form.specs.declared.script.End.TheVariants.{Traps}
 use Rattle.vax_form.specs.declared.state.Exception.TheVariants.{ReservedOperand}
 use Rattle.vax_form.specs.declared.state.RefKind.TheVariants as references
 use Rattle.vt_words.specs.Arithmetic.{coded_value, sum_of, difference_of, negation_of, product_of, quotient_of, conversion_of, extended_product_of}

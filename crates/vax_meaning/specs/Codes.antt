@@ -3,7 +3,7 @@
 use Rattle.std.specs.Prelude.{ℕ, ◌+◌, ◌*◌, ◌/◌, ◌%◌, ◌^◌, nat_le, ◌==◌, Bool, false, if◌then◌else◌, ◌&&◌}
 use Rattle.vax_form.specs.Size.{bytes_of}
 use Rattle.vax_form.specs.State.{with_pc, with_psw}
-use Rattle.vax_form.specs.Script.{Script, ◌>>=◌, ◌>>◌, pure, get, change}
+use Rattle.vax_form.specs.Script.{Script, ◌>>◌, pure, get, change}
 use Rattle.vax_form.specs.declared.instr.Size.{Size}
 use Rattle.vax_form.specs.declared.script.End.{End}
 use Rattle.vax_form.specs.declared.script.End.TheVariants.{Done, Traps}

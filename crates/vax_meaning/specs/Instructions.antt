@@ -2,7 +2,7 @@
 -- VAX Architecture Reference Manual, "Instruction Descriptions".
 use Rattle.std.specs.Prelude.{ℕ, true, false, List, Option, Some, None}
 use Rattle.vax_form.specs.Operation.{operation_at}
-use Rattle.vax_form.specs.Script.{Script, ◌>>=◌, pure, fail}
+use Rattle.vax_form.specs.Script.{Script, ◌>>=◌, fail}
 use Rattle.vax_form.specs.Tree.{Tree, instruction_tree, answer, outcome}
 use Rattle.vax_form.specs.declared.instr.Instr.{Instr}
 use Rattle.vax_form.specs.declared.operation.Operation.{Operation}

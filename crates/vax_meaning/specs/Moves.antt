@@ -4,7 +4,7 @@
 use Rattle.std.specs.Prelude.{ℕ, ◌+◌, ◌-◌, ◌%◌, ◌^◌, nat_lt, int_lt, ◌==◌, List, Bool, true, false, bit_and, bit_or, if◌then◌else◌}
 use Rattle.vax_form.specs.Size.{bytes_of, size_of}
 use Rattle.vax_form.specs.State.{with_psw}
-use Rattle.vax_form.specs.Script.{Script, ◌>>=◌, ◌>>◌, pure, get, change, fail, when◌then◌else◌}
+use Rattle.vax_form.specs.Script.{Script, ◌>>=◌, ◌>>◌, get, change, fail, when◌then◌else◌}
 use Rattle.vax_form.specs.declared.instr.Size.{Size}
 use Rattle.vax_form.specs.declared.instr.Size.TheVariants.{Word, Long}
 use Rattle.vax_form.specs.declared.instr.Width.{Width}

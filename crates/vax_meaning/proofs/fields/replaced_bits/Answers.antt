@@ -1,5 +1,5 @@
 -- Each part is below the whole, which is a quadword.
-use Rattle.std.proofs.Common.{◌+◌, ◌*◌, ◌/◌, ◌%◌, ◌^◌, ◌<◌, arith}
+use Rattle.std.proofs.Common.{arith}
 use Rattle.vax_meaning.proofs.Bits.{with_bits_below}
 use Rattle.vax_meaning.proofs.fields.replaced_bits.Goals as goal
 
