@@ -85,7 +85,7 @@ row_again r rest sound =
       start = word_again r.start (to_le_bytes w32 r.size ++ (to_le_bytes w32 r.stored ++ (to_le_bytes w32 r.flags ++ rest))) fits.start i;
       size = word_again r.size (to_le_bytes w32 r.stored ++ (to_le_bytes w32 r.flags ++ rest)) fits.size i;
       stored = word_again r.stored (to_le_bytes w32 r.flags ++ rest) fits.stored i;
-      flags = word_again r.flags rest fits.flags i
+      flags = word_again r.flags rest fits.flags i;
     }
 
 flag_back : (writable : Bool) → (cond writable 1 0 == 1) ≡ writable
@@ -132,11 +132,11 @@ read_again image whole =
     let d_long : length d ≡ 4 * k = length-written 4 (to_le_bytes w32) (λ x. refl) image.entries in
     let e_long : length e ≡ stored_bytes rows = stored_length image.sections in
     let long : length bytes ≡ 12 + 8 * t + 16 * n + 4 * k + stored_bytes rows =
-        omega (arith, length-append a (b ++ (c ++ (d ++ e))), length-append b (c ++ (d ++ e)), length-append c (d ++ e), length-append d e, b_long, c_long, d_long, e_long) in
+    omega (arith, length-append a (b ++ (c ++ (d ++ e))), length-append b (c ++ (d ++ e)), length-append c (d ++ e), length-append d e, b_long, c_long, d_long, e_long) in
     let numbers : counts_in bytes ≡ counts = λ i. record {
       threads = from_le_bytes-to_le_bytes_2 t (omega (arith, room.threads)) i;
       sections = from_le_bytes-to_le_bytes_2 n (omega (arith, room.sections)) i;
-      entries = from_le_bytes-to_le_bytes_2 k (omega (arith, room.entries)) i
+      entries = from_le_bytes-to_le_bytes_2 k (omega (arith, room.entries)) i;
     } in
     let counted : counts_of bytes ≡ Ok counts = counts_pass bytes counts refl refl numbers (allowed image room) (omega (arith, long)) in
     let ab : bytes ≡ (a ++ b) ++ (c ++ (d ++ e)) = simp append_assoc in
@@ -147,11 +147,11 @@ read_again image whole =
     let behind_d : drop (tables_end counts) bytes ≡ e = ap (drop (tables_end counts)) abcd ∙ drop_at (a ++ b ++ c ++ d) e (tables_end counts) (omega (arith, length-append a b, length-append (a ++ b) c, length-append (a ++ b ++ c) d, b_long, c_long, d_long)) in
     let threads : threads_in counts bytes ≡ image.threads = table_again StartFits 8 start_in start_bytes start_again (λ x. refl) image.threads (c ++ (d ++ e)) room.starts_fit in
     let table : rows_in counts bytes ≡ rows =
-        (λ i. table_in 16 row_in (sym (length-map image.sections row_of) i) (behind_b i)) ∙ table_again (λ r. is_sound r ≡ true) 16 row_in row_bytes row_again (λ x. refl) rows (d ++ e) (each_passes is_sound rows laid_out.sound) in
+    (λ i. table_in 16 row_in (sym (length-map image.sections row_of) i) (behind_b i)) ∙ table_again (λ r. is_sound r ≡ true) 16 row_in row_bytes row_again (λ x. refl) rows (d ++ e) (each_passes is_sound rows laid_out.sound) in
     let entries : entries_in counts bytes ≡ image.entries = ap (table_in 4 word k) behind_c ∙ table_again (λ (m : ℕ). m < 2 ^ 32) 4 word (to_le_bytes w32) word_again (λ x. refl) image.entries e room.entries_fit in
     let sections : sections_in (rows_in counts bytes) (drop (tables_end counts) bytes) ≡ image.sections = (λ i. sections_in (table i) (behind_d i)) ∙ sections_again image.sections in
     let laid : layout_of (rows_in counts bytes) (entries_in counts bytes) ≡ Ok tt =
-        (λ i. layout_of (table i) (entries i)) ∙ layout_pass rows image.entries laid_out.sound laid_out.apart laid_out.small laid_out.entries_in_code in
+    (λ i. layout_of (table i) (entries i)) ∙ layout_pass rows image.entries laid_out.sound laid_out.apart laid_out.small laid_out.entries_in_code in
     let ended : length bytes ≡ tables_end counts + stored_bytes (rows_in counts bytes) = long ∙ ap (λ rs. tables_end counts + stored_bytes rs) (sym table) in
     let same : image_in counts bytes ≡ image = λ i. record { threads = threads i; sections = sections i; entries = entries i; pages = (ap pages_of sections ∙ sym laid_out.pages) i } in
     ap image_of parts ∙ image_is bytes counts tt counted laid ended ∙ ap done same

@@ -1,6 +1,8 @@
 -- Small laws about tests and places in lists.
-use Rattle.std.proofs.Common.{◌≡◌, ◌≤◌, ◌<◌, ℕ, zero, suc, ◌+◌, Bool, true, false, not, cond, ◌&&◌, ◌||◌, List, [], ◌∷◌, ◌++◌, Option, Some, None, length, map, refl, sym, ap, ◌∙◌, arith, nat_lt}
-use Rattle.std.specs.Prelude.{position, option_map, unwrap_or}
+use Rattle.std.proofs.Common.{get_or, drop, add-one, ◌≡◌, ◌≤◌, ◌<◌, ℕ, zero, suc, ◌+◌, Bool, true, false, not, cond, ◌&&◌, ◌||◌, List, [], ◌∷◌, ◌++◌, Option, Some, None, length, map, refl, sym, ap, ◌∙◌, arith, nat_lt}
+use Rattle.std.specs.Prelude.{position, find, unwrap_or}
+use Rattle.std.proofs.Math.Seq.{drop-cons}
+use Rattle.std.proofs.lemmas.List.{drop_all}
 use Rattle.std.specs.List.{list_all, AllByRecursion, position_or_len, prefix_len}
 use Rattle.std.proofs.lemmas.List.Sums.{prefix_len-le-length}
 use Rattle.std.proofs.lemmas.Bool.{ltb-false, ltb-true, lt-ltb, le-ltb}
@@ -25,15 +27,17 @@ was_true false is = absurd cc
 none_to_len : {X : Type 0} (p : X → Bool) (xs : List X) → position p xs ≡ None → length xs ≤ position_or_len p xs
 none_to_len p xs none =
     (elim (nat_lt (position_or_len p xs) (length xs)) as (λ b. nat_lt (position_or_len p xs) (length xs) ≡ b → cond b (Some (position_or_len p xs)) None ≡ None → length xs ≤ position_or_len p xs) [
-        true ↦ λ is none. absurd cc
-      | false ↦ λ is none. ltb-false _ _ is ]) refl none
+      | true ↦ λ is none. absurd cc
+      | false ↦ λ is none. ltb-false _ _ is
+    ]) refl none
 
 len_none : {X : Type 0} (p : X → Bool) (xs : List X) → length xs ≤ position_or_len p xs → AllByRecursion (λ x. p x ≡ false) xs
 len_none p [] all = tt
 len_none p (x ∷ xs) all =
     (elim (p x) as (λ b. p x ≡ b → suc (length xs) ≤ cond (not b) (1 + prefix_len (λ y. not (p y)) xs) 0 → (p x ≡ false) × AllByRecursion (λ y. p y ≡ false) xs) [
-        true ↦ λ is all. absurd (omega arith)
-      | false ↦ λ is all. (is, len_none p xs (omega arith)) ]) refl all
+      | true ↦ λ is all. absurd (omega arith)
+      | false ↦ λ is all. (is, len_none p xs (omega arith))
+    ]) refl all
 
 pub position_none : {X : Type 0} (p : X → Bool) (xs : List X) → position p xs ≡ None → AllByRecursion (λ x. p x ≡ false) xs
 position_none p xs none = len_none p xs (none_to_len p xs none)
@@ -62,5 +66,19 @@ each_passes p (x ∷ xs) pass = let both = both_true (p x) (list_all p xs) pass 
 pub position_or_end : {X : Type 0} (p : X → Bool) (xs : List X) → unwrap_or (position p xs) (length xs) ≡ position_or_len p xs
 position_or_end p xs =
     (elim (nat_lt (position_or_len p xs) (length xs)) as (λ b. nat_lt (position_or_len p xs) (length xs) ≡ b → unwrap_or (cond b (Some (position_or_len p xs)) None) (length xs) ≡ position_or_len p xs) [
-        true ↦ λ is. refl
-      | false ↦ λ is. omega (arith, ltb-false _ _ is, prefix_len-le-length (λ x. not (p x)) xs) ]) refl
+      | true ↦ λ is. refl
+      | false ↦ λ is. omega (arith, ltb-false _ _ is, prefix_len-le-length (λ x. not (p x)) xs)
+    ]) refl
+
+-- a search that has come to place k
+find_from : {X : Type 0} (p : X → Bool) (xs : List X) (k : ℕ) (x : X) → k < length xs → x ≡ get_or xs k x → find p (drop k xs) ≡ cond (p x) (Some x) (find p (drop (k + 1) xs))
+find_from p xs k x within is = ap (find p) (drop-cons xs k x within) ∙ (λ i. find p (sym is i ∷ drop (sym (add-one k) i) xs))
+
+pub found_here : {X : Type 0} (p : X → Bool) (xs : List X) (k : ℕ) (x : X) → k < length xs → x ≡ get_or xs k x → find p (drop k xs) ≡ find p xs → p x ≡ true → find p xs ≡ Some x
+found_here p xs k x within is so_far passes = sym so_far ∙ find_from p xs k x within is ∙ ap (λ b. cond b (Some x) (find p (drop (k + 1) xs))) passes
+
+pub found_later : {X : Type 0} (p : X → Bool) (xs : List X) (k : ℕ) (x : X) → k < length xs → x ≡ get_or xs k x → find p (drop k xs) ≡ find p xs → p x ≡ false → find p (drop (k + 1) xs) ≡ find p xs
+found_later p xs k x within is so_far fails = sym (find_from p xs k x within is ∙ ap (λ b. cond b (Some x) (find p (drop (k + 1) xs))) fails) ∙ so_far
+
+pub found_nowhere : {X : Type 0} (p : X → Bool) (xs : List X) (k : ℕ) → length xs ≤ k → find p (drop k xs) ≡ find p xs → find p xs ≡ None
+found_nowhere p xs k all so_far = sym so_far ∙ ap (find p) (drop_all k xs all)

@@ -55,7 +55,7 @@ layout_ok rows entries u e =
       sound = all_pass is_sound rows (position_none (λ r. not (is_sound r)) rows (passed_at _ _ a.0 a.1));
       apart = passed_at _ _ b.0 b.1;
       small = ltb-false _ _ (passed _ _ c.0 c.1);
-      in_code = all_pass (λ (e : ℕ). list_any (has_code e) rows) entries (position_none (λ (e : ℕ). not (list_any (has_code e) rows)) entries (passed_at _ _ u c.2))
+      in_code = all_pass (λ (e : ℕ). list_any (has_code e) rows) entries (position_none (λ (e : ℕ). not (list_any (has_code e) rows)) entries (passed_at _ _ u c.2));
     }
 
 -- ---- the sections of the rows
@@ -124,10 +124,11 @@ image_ok bytes image e =
     let c = bind_ok (refuse_if (nat_lt (length bytes) end) (Truncated (length bytes))) _ image b.2 in
     let d = bind_ok (refuse_if (nat_lt end (length bytes)) (Trailing end)) _ image c.2 in
     record {
-      counts = a.0; counted = a.1;
+      counts = a.0;
+      counted = a.1;
       layout = layout_ok (rows_in a.0 bytes) (entries_in a.0 bytes) b.0 b.1;
       ended = omega (arith, ltb-false _ _ (passed _ _ c.0 c.1), ltb-false _ _ (passed _ _ d.0 d.1));
-      is = ok_is _ _ d.2
+      is = ok_is _ _ d.2;
     }
 
 -- ---- the header
@@ -162,7 +163,7 @@ allowed_ok counts u e =
       some = not_zero _ (passed _ _ a.0 a.1);
       threads = ltb-false _ _ (passed _ _ b.0 b.1);
       sections = ltb-false _ _ (passed _ _ c.0 c.1);
-      entries = ltb-false _ _ (passed _ _ u c.2)
+      entries = ltb-false _ _ (passed _ _ u c.2);
     }
 
 pub counts_ok : (bytes : List ℕ) (counts : Counts) → counts_of bytes ≡ Ok counts → IsHeader bytes counts
@@ -178,7 +179,10 @@ counts_ok bytes counts e =
     record {
       magic = eqb-true _ _ (was_true _ (passed _ _ b.0 b.1));
       version = eqb-true _ _ (was_true _ (passed _ _ c.0 c.1));
-      some = allowed.some; threads = allowed.threads; sections = allowed.sections; entries = allowed.entries;
+      some = allowed.some;
+      threads = allowed.threads;
+      sections = allowed.sections;
+      entries = allowed.entries;
       tables = subst (λ (k : Counts). tables_end k ≤ length bytes) is (ltb-false _ _ (passed _ _ f.0 f.1));
-      is = is
+      is = is;
     }

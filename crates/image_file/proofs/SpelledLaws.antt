@@ -55,7 +55,7 @@ counts_are : (bytes : List ℕ) (counts : Counts) → HasCounts counts (image_in
 counts_are bytes counts = record {
   threads = length-table START_BYTES start_in counts.threads (drop HEADER bytes);
   sections = length-sections (rows_in counts bytes) (drop (tables_end counts) bytes) ∙ length-table ROW_BYTES row_in counts.sections (drop (HEADER + START_BYTES * counts.threads) bytes);
-  entries = length-table ENTRY_BYTES word counts.entries (drop (HEADER + START_BYTES * counts.threads + ROW_BYTES * counts.sections) bytes)
+  entries = length-table ENTRY_BYTES word counts.entries (drop (HEADER + START_BYTES * counts.threads + ROW_BYTES * counts.sections) bytes);
 }
 
 -- the sections' rows are those of the table
@@ -74,7 +74,7 @@ spelled_so bytes image fits read =
     let front : header_bytes (length made.threads) (length made.sections) (length made.entries) ≡ take 12 bytes = (λ i. header_bytes (has.threads i) (has.sections i) (has.entries i)) ∙ header_back bytes counts fits header in
     let threads : flat_map start_bytes made.threads ≡ take (8 * counts.threads) (drop 12 bytes) = table_back 8 start_in start_bytes start_back counts.threads (drop 12 bytes) (omega (arith, header.tables, length-drop 12 bytes)) (IsBytes-drop 12 bytes fits) in
     let rows : flat_map row_bytes (map row_of made.sections) ≡ take (16 * counts.sections) (drop t bytes) =
-        ap (λ rs. flat_map row_bytes rs) (rows_are bytes image read) ∙ table_back 16 row_in row_bytes row_back counts.sections (drop t bytes) (omega (arith, header.tables, length-drop t bytes)) (IsBytes-drop t bytes fits) in
+    ap (λ rs. flat_map row_bytes rs) (rows_are bytes image read) ∙ table_back 16 row_in row_bytes row_back counts.sections (drop t bytes) (omega (arith, header.tables, length-drop t bytes)) (IsBytes-drop t bytes fits) in
     let entries : flat_map (to_le_bytes w32) made.entries ≡ take (4 * counts.entries) (drop s bytes) = table_back 4 word (to_le_bytes w32) word_back counts.entries (drop s bytes) (omega (arith, header.tables, length-drop s bytes)) (IsBytes-drop s bytes fits) in
     let stored = stored_back (rows_in counts bytes) (drop (tables_end counts) bytes) in
     let whole : take (tables_end counts + stored_bytes (rows_in counts bytes)) bytes ≡ bytes = take_all (tables_end counts + stored_bytes (rows_in counts bytes)) bytes (omega (arith, read.ended)) in
@@ -96,13 +96,13 @@ whole_image bytes image fits read =
       sections = omega (arith, has.sections, header.sections);
       entries = omega (arith, has.entries, header.entries);
       starts_fit = table_all StartFits 8 start_in (λ bs f. (word_fits bs f, word_fits (drop 4 bs) (IsBytes-drop 4 bs f))) counts.threads (drop 12 bytes) (IsBytes-drop 12 bytes fits);
-      entries_fit = table_all (λ e. e < 2 ^ 32) 4 word word_fits counts.entries (drop s bytes) (IsBytes-drop s bytes fits)
+      entries_fit = table_all (λ e. e < 2 ^ 32) 4 word word_fits counts.entries (drop s bytes) (IsBytes-drop s bytes fits);
     } in
     let laid_out : IsLaidOut made = record {
       sound = ap (λ rs. list_all is_sound rs) rows ∙ read.layout.sound;
       apart = ap (λ rs. first_overlap 0 rs) rows ∙ read.layout.apart;
       small = subst (λ rs. total_bytes rs ≤ MOST_BYTES) (sym rows) read.layout.small;
       entries_in_code = ap (λ rs. list_all (λ (e : ℕ). list_any (has_code e) rs) made.entries) rows ∙ read.layout.in_code;
-      pages = refl
+      pages = refl;
     } in
     subst IsWhole read.is (record { room = room; laid_out = laid_out })

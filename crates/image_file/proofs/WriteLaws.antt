@@ -35,8 +35,8 @@ rows_more old out new sections k s within is before more =
     let bytes : List SectionValue → List ℕ = λ ss. flat_map row_bytes (map row_of ss) in
     let last : take (k + 1) sections ≡ take k sections ++ s ∷ [] = take_more sections k s within ∙ ap (λ t. take k sections ++ t ∷ []) (sym is) in
     let all : bytes (take (k + 1) sections) ≡ bytes (take k sections) ++ row_bytes (row_of s) =
-        ap bytes last ∙ ap (λ rs. flat_map row_bytes rs) (map-append row_of (take k sections) (s ∷ [])) ∙ flat_map-append row_bytes (map row_of (take k sections)) (row_of s ∷ [])
-        ∙ ap (λ rest. bytes (take k sections) ++ rest) (append-nil (row_bytes (row_of s))) in
+    ap bytes last ∙ ap (λ rs. flat_map row_bytes rs) (map-append row_of (take k sections) (s ∷ [])) ∙ flat_map-append row_bytes (map row_of (take k sections)) (row_of s ∷ [])
+    ∙ ap (λ rest. bytes (take k sections) ++ rest) (append-nil (row_bytes (row_of s))) in
     more ∙ ap (λ o. o ++ row_bytes (row_of s)) before ∙ append_assoc old (bytes (take k sections)) (row_bytes (row_of s)) ∙ ap (λ rest. old ++ rest) (sym all)
 
 pub spelled_again : (image : ImageValue) (E : Type 0) (r : Result (Vec ℕ) E) → IsWhole image → IfOk r (λ v. v.items ≡ spelling image) → IfOk r (λ v. image_of v.items ≡ Ok image)

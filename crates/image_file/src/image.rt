@@ -1,13 +1,30 @@
-ghost use Rattle.std.specs.Prelude.{◌≡◌};
+ghost use Rattle.std.specs.Prelude.{◌≡◌, false, is_some};
 
 use std::marker::Model;
-use vax_form::Pages;
+use vax_form::{Pages, VaxState};
 
 /// Where a thread starts: its PC and its stack pointer.
 #[derive(Clone, Copy, Debug, PartialEq, Eq)]
 pub struct Start {
     pub pc: u32,
     pub sp: u32,
+}
+
+impl Start {
+    ghost use Rattle.image_file.specs.Start.{start_state};
+
+    /// The thread's state before its first instruction.
+    pub fn state(&self) -> VaxState
+        ensures { result ≡ start_state self.now }
+    {
+        let mut r = [0; 15];
+        r[14] = self.sp;
+        VaxState {
+            r,
+            pc: self.pc,
+            psw: 0,
+        }
+    }
 }
 
 /// A section of memory: `size` bytes from the page at `start` on, of which the first are stored and the others are 0.
@@ -27,6 +44,25 @@ impl Model for Section {
     ghost view = { λ s. record { start = s.start; size = s.size; writable = s.writable; stored = s.stored.items } };
 }
 
+impl Section {
+    ghost use Rattle.image_file.specs.Memory.{has_address, byte_at};
+
+    fn has(&self, address: u32) -> bool
+        ensures { result ≡ has_address address self.now }
+    {
+        let page = address / 512;
+        let first = self.start / 512;
+        first <= page && page - first < self.size.div_ceil(512)
+    }
+
+    fn byte(&self, address: u32) -> u8
+        ensures { result ≡ byte_at address self.now }
+    {
+        let place = address.saturating_sub(self.start) as usize;
+        self.stored.get(place).copied().unwrap_or(0)
+    }
+}
+
 /// A VAX image. `entries` are addresses of code beside those at which threads start, and `pages` is the page table of
 /// the sections.
 #[derive(Debug, Drop)]
@@ -43,4 +79,23 @@ impl Model for Image {
     ghost Value = { ImageValue };
 
     ghost view = { λ i. record { threads = i.threads.items; sections = i.sections.items; entries = i.entries.items; pages = i.pages } };
+}
+
+impl Image {
+    ghost use Rattle.vax_form.specs.Pages.{is_allowed};
+    ghost use Rattle.image_file.specs.Memory.{byte_of_image};
+    ghost use Rattle.image_file.specs.Whole.{IsWhole};
+
+    /// The byte at an address before any thread has run, where a section has its page.
+    pub fn byte(&self, address: u32) -> Option<u8>
+        ensures value { result ≡ byte_of_image self.now address }
+        ensures in_pages { IsWhole self.now → is_some result ≡ is_allowed self.now.pages address false }
+    {
+        for section in &self.sections {
+            if section.has(address) {
+                return Some(section.byte(address));
+            }
+        }
+        None
+    }
 }

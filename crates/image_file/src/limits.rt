@@ -11,10 +11,13 @@ pub const ADDRESS_END: u64 = 0x8000_0000;
 
 /// The bytes `VXIM`, the lowest first.
 pub const MAGIC: u32 = 0x4d49_5856;
+
 pub const VERSION: u16 = 1;
 /// The bytes of the header.
 pub const HEADER: usize = 12;
 /// The bytes of a thread, of a row of the section table and of an entry.
 pub const START_BYTES: usize = 8;
+
 pub const ROW_BYTES: usize = 16;
+
 pub const ENTRY_BYTES: usize = 4;

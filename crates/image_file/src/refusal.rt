@@ -7,45 +7,24 @@ use std::alloc::{AllocError, AllocFailed};
 #[derive(Clone, Copy, Debug, PartialEq, Eq)]
 pub enum ImageRefusal {
     /// The file ends inside its header, its tables or its stored bytes; `at` is its length.
-    Truncated {
-        at: u64,
-    },
+    Truncated { at: u64 },
     BadMagic,
-    BadVersion {
-        found: u16,
-    },
+    BadVersion { found: u16 },
     NoThread,
-    TooManyThreads {
-        count: u16,
-    },
-    TooManySections {
-        count: u16,
-    },
+    TooManyThreads { count: u16 },
+    TooManySections { count: u16 },
     /// The first section whose start isn't at a page, whose size is 0 or less than what it stores, that ends above
     /// address 80000000, or whose flags are above 1.
-    BadSection {
-        place: u16,
-    },
+    BadSection { place: u16 },
     /// The first two sections that share a page.
-    Overlap {
-        low: u16,
-        high: u16,
-    },
+    Overlap { low: u16, high: u16 },
     /// The bytes of all sections, each with the rest of its last page, are too many.
-    TooLarge {
-        total: u64,
-    },
+    TooLarge { total: u64 },
     /// The first entry that is in no read-only page.
-    BadEntry {
-        place: u16,
-    },
+    BadEntry { place: u16 },
     /// A byte stands behind the stored bytes.
-    Trailing {
-        at: u64,
-    },
-    TooManyEntries {
-        count: u16,
-    },
+    Trailing { at: u64 },
+    TooManyEntries { count: u16 },
     WantOfMemory,
 }
 
