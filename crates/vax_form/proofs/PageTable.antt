@@ -1,5 +1,5 @@
 -- Where the bytes of a page table's read-only ranges stand.
-use Rattle.std.proofs.Common.{subst, ◌≡◌, ℕ, ◌+◌, ◌-◌, ◌*◌, ◌/◌, ◌<◌, ◌≤◌, Bool, true, false, List, [], ◌∷◌, Option, Some, None, length, refl, ap, sym, ◌∙◌, arith, rules, nat_le, nat_lt, not, ◌&&◌, ◌||◌, cond}
+use Rattle.std.proofs.Common.{subst, ◌≡◌, ℕ, ◌+◌, ◌-◌, ◌*◌, ◌/◌, ◌<◌, ◌≤◌, Bool, true, false, List, [], ◌∷◌, Some, length, refl, ap, sym, ◌∙◌, arith, nat_le, nat_lt, not, ◌&&◌, ◌||◌, cond}
 use Rattle.std.specs.Prelude.{find, option_map, is_some}
 use Rattle.std.specs.List.{list_any}
 use Rattle.std.proofs.lemmas.Bool.{ltb-true, leb-true}
@@ -16,8 +16,9 @@ found_passes : {X : Type 0} (test : X → Bool) (xs : List X) (x : X) → find t
 found_passes test [] x found = absurd cc
 found_passes {X} test (y ∷ ys) x found =
     (elim (test y) as (λ b. test y ≡ b → cond b (Some y) (find test ys) ≡ Some x → test x ≡ true) [
-        true ↦ λ passes same. let here : y ≡ x = cc in ap test (sym here) ∙ passes
-      | false ↦ λ fails later. found_passes test ys x later ]) refl found
+      | true ↦ λ passes same. let here : y ≡ x = cc in ap test (sym here) ∙ passes
+      | false ↦ λ fails later. found_passes test ys x later
+    ]) refl found
 
 both_true : (a b : Bool) → (a && b) ≡ true → (a ≡ true) × (b ≡ true)
 both_true true b both = (refl, both)
@@ -49,16 +50,17 @@ placed_within : (ranges : List PageRange) (address place : ℕ) (r : PageRange) 
 placed_within [] address place r placed found = absurd cc
 placed_within (s ∷ ss) address place r placed found =
     (elim (has_code address s) as (λ b. has_code address s ≡ b → cond b (Some s) (find (has_code address) ss) ≡ Some r → r.place + code_bytes r ≤ place + (code_bytes s + code_length ss)) [
-        true ↦ λ passes same.
-            let here : s ≡ r = cc in
-            let parts = both_true (has_page (address / 512) s) (not s.writable) passes in
-            let at : s.place ≡ place = code_placed s.writable place s.place 0 parts.1 placed.0 in
-            let bound : s.place + code_bytes s ≤ place + (code_bytes s + code_length ss) = omega arith in
-            let P : PageRange → Type 0 = λ t. t.place + code_bytes t ≤ place + (code_bytes s + code_length ss) in
-            subst P here bound
+      | true ↦ λ passes same.
+          let here : s ≡ r = cc in
+          let parts = both_true (has_page (address / 512) s) (not s.writable) passes in
+          let at : s.place ≡ place = code_placed s.writable place s.place 0 parts.1 placed.0 in
+          let bound : s.place + code_bytes s ≤ place + (code_bytes s + code_length ss) = omega arith in
+          let P : PageRange → Type 0 = λ t. t.place + code_bytes t ≤ place + (code_bytes s + code_length ss) in
+          subst P here bound
       | false ↦ λ fails later.
-            let rest = placed_within ss address (place + code_bytes s) r placed.1 later in
-            omega arith ]) refl found
+          let rest = placed_within ss address (place + code_bytes s) r placed.1 later in
+          omega arith
+    ]) refl found
 
 code_bytes_most : (writable : Bool) (n : ℕ) → cond writable 0 n ≤ n
 code_bytes_most true n = omega arith

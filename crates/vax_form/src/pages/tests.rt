@@ -8,9 +8,25 @@ fn table(alloc: std::alloc::Global) -> Result<Pages, std::alloc::AllocError> {
     code[511] = 0x50;
     code[512] = 0xbc;
     let ranges = vec![in alloc;
-        PageRange { first: 1, count: 1, writable: false, place: 0 },
-        PageRange { first: 8, count: 1, writable: true, place: 0 },
-        PageRange { first: 9, count: 1, writable: false, place: 512 }]?;
+        PageRange {
+            first: 1,
+            count: 1,
+            writable: false,
+            place: 0
+        },
+        PageRange {
+            first: 8,
+            count: 1,
+            writable: true,
+            place: 0
+        },
+        PageRange {
+            first: 9,
+            count: 1,
+            writable: false,
+            place: 512
+        },
+    ]?;
     Ok(Pages { ranges, code })
 }
 

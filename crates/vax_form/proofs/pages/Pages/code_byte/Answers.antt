@@ -1,10 +1,10 @@
-use Rattle.std.proofs.Common.{◌≡◌, ◌≤◌, ◌<◌, ◌+◌, ◌-◌, ◌*◌, ℕ, Option, Some, None, sym, ap, ◌∙◌, arith, refl, length, subst, get_or}
+use Rattle.std.proofs.Common.{◌≡◌, ◌+◌, ◌-◌, ◌*◌, Some, sym, ap, ◌∙◌, arith, length, subst, get_or}
 use Rattle.std.proofs.lemmas.List.{get_or_default}
-use Rattle.std.specs.Prelude.{find, is_some, option_map, slice_index}
+use Rattle.std.specs.Prelude.{is_some, option_map, slice_index}
 use Rattle.vax_form.specs.PageTable.{PageTable, IsPageTable}
-use Rattle.vax_form.specs.Pages.{has_code, is_code, code_byte_at}
+use Rattle.vax_form.specs.Pages.{has_code}
 use Rattle.vax_form.specs.declared.pages.PageRange.{PageRange}
-use Rattle.vax_form.proofs.PageTable.{IsInCode, found_is_some, found_in_code}
+use Rattle.vax_form.proofs.PageTable.{found_is_some, found_in_code}
 use Rattle.vax_form.proofs.pages.Pages.code_byte.Goals as goal
 
 pub returns-in_err-range-clause-variant : goal.returns-in_err-range-clause-variant

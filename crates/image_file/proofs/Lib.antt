@@ -1,0 +1,11 @@
+pub mod TableItems
+pub mod Overlaps
+pub mod Placing
+pub mod Laws
+pub mod FieldLaws
+pub mod ReadLaws
+pub mod SpelledLaws
+pub mod AgainLaws
+pub mod WriteLaws
+pub mod Found
+pub mod PageLaws

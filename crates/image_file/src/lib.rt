@@ -1,0 +1,20 @@
+//! The file format of VAX images: reading, with the first refusal of a file that is none, and writing.
+#![tactic(auto)]
+
+mod checks;
+mod fields;
+mod header;
+mod image;
+mod limits;
+mod pages;
+mod reading;
+mod refusal;
+mod rows;
+mod tables;
+mod writing;
+
+pub use image::{Image, Section, Start};
+pub use limits::{ADDRESS_END, MOST_BYTES, MOST_ENTRIES, MOST_SECTIONS, MOST_THREADS};
+pub use reading::read_image;
+pub use refusal::ImageRefusal;
+pub use writing::write_image;

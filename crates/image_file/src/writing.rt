@@ -1,0 +1,106 @@
+ghost use Rattle.std.specs.Prelude.{◌≡◌, ◌++◌, length, true, map, IfOk, OnOk, Ok};
+ghost use Rattle.std.specs.List.{flat_map, list_all};
+ghost use Rattle.std.specs.Int.{w32, to_le_bytes};
+ghost use Rattle.image_file.specs.Values.{SectionValue};
+ghost use Rattle.image_file.specs.Rows.{is_sound};
+ghost use Rattle.image_file.specs.Spelling.{row_of, header_bytes, start_bytes, row_bytes, spelling};
+ghost use Rattle.image_file.specs.Whole.{IsWhole};
+ghost use Rattle.image_file.specs.Reading.{image_of};
+
+use crate::image::{Image, Section, Start};
+use crate::limits::*;
+use std::alloc::{AllocError, Global};
+use vax_form::WantOfMemory;
+
+fn put_header(
+    out: &mut Vec<u8>,
+    threads: u16,
+    sections: u16,
+    entries: u16,
+) -> Result<(), AllocError>
+    ensures { OnOk result (out.new.items ≡ out.old.items ++ header_bytes threads sections entries) }
+{
+    out.extend_from_slice(&MAGIC.to_le_bytes())?;
+    out.extend_from_slice(&VERSION.to_le_bytes())?;
+    out.extend_from_slice(&threads.to_le_bytes())?;
+    out.extend_from_slice(&sections.to_le_bytes())?;
+    out.extend_from_slice(&entries.to_le_bytes())?;
+    Ok(())
+}
+
+fn put_threads(out: &mut Vec<u8>, threads: &[Start]) -> Result<(), AllocError>
+    ensures { OnOk result (out.new.items ≡ out.old.items ++ flat_map start_bytes threads.now) }
+{
+    for start in threads {
+        out.extend_from_slice(&start.pc.to_le_bytes())?;
+        out.extend_from_slice(&start.sp.to_le_bytes())?;
+    }
+    Ok(())
+}
+
+fn put_row(out: &mut Vec<u8>, section: &Section) -> Result<(), AllocError>
+    requires { is_sound (row_of section.now) ≡ true }
+    ensures { OnOk result (out.new.items ≡ out.old.items ++ row_bytes (row_of section.now)) }
+{
+    out.extend_from_slice(&section.start.to_le_bytes())?;
+    out.extend_from_slice(&section.size.to_le_bytes())?;
+    out.extend_from_slice(&(section.stored.len() as u32).to_le_bytes())?;
+    out.extend_from_slice(&u32::from(section.writable).to_le_bytes())?;
+    Ok(())
+}
+
+fn put_rows(out: &mut Vec<u8>, sections: &[Section]) -> Result<(), AllocError>
+    requires { list_all is_sound (map row_of sections.now) ≡ true }
+    ensures { OnOk result (out.new.items ≡ out.old.items ++ flat_map row_bytes (map row_of sections.now)) }
+{
+    for section in sections {
+        put_row(out, section)?;
+    }
+    Ok(())
+}
+
+fn put_entries(out: &mut Vec<u8>, entries: &[u32]) -> Result<(), AllocError>
+    ensures { OnOk result (out.new.items ≡ out.old.items ++ flat_map (to_le_bytes w32) entries.now) }
+{
+    for entry in entries {
+        out.extend_from_slice(&entry.to_le_bytes())?;
+    }
+    Ok(())
+}
+
+fn put_stored(out: &mut Vec<u8>, sections: &[Section]) -> Result<(), AllocError>
+    ensures { OnOk result (out.new.items ≡ out.old.items ++ flat_map (λ (s : SectionValue). s.stored) sections.now) }
+{
+    for section in sections {
+        out.extend_from_slice(&section.stored)?;
+    }
+    Ok(())
+}
+
+#[tactic(auto, unfolding(crate::specs::Spelling::spelling))]
+fn spelled(alloc: Global, image: &Image) -> Result<Vec<u8>, AllocError>
+    requires { IsWhole image.now }
+    ensures { IfOk result (λ v. v.items ≡ spelling image.now) }
+{
+    let mut out = Vec::new(alloc);
+    put_header(
+        &mut out,
+        image.threads.len() as u16,
+        image.sections.len() as u16,
+        image.entries.len() as u16,
+    )?;
+    put_threads(&mut out, &image.threads)?;
+    put_rows(&mut out, &image.sections)?;
+    put_entries(&mut out, &image.entries)?;
+    put_stored(&mut out, &image.sections)?;
+    Ok(out)
+}
+
+/// The bytes of a whole image's file.
+pub fn write_image(alloc: Global, image: &Image) -> Result<Vec<u8>, WantOfMemory>
+    requires { IsWhole image.now }
+    ensures spelled { IfOk result (λ v. v.items ≡ spelling image.now) }
+    ensures read_again { IfOk result (λ v. image_of v.items ≡ Ok image.now) }
+{
+    spelled(alloc, image).map_err(|_| WantOfMemory)
+}
