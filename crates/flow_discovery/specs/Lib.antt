@@ -1,5 +1,4 @@
 pub mod Decoding
-pub mod Values
 pub mod Flow
 pub mod Reach
 pub mod Refusal

@@ -11,8 +11,8 @@ ghost use Rattle.vax_form.specs.Row.{class_at};
 ghost use Rattle.flow_discovery.specs.Reach.{IsReach, has, most};
 ghost use Rattle.flow_discovery.specs.Starts.{starts};
 
+use image_file::{Image, Start};
 use std::alloc::{AllocError, Global};
-use stub::{Image, Start};
 use vax_form::{Class, Instr};
 
 /// More instructions are not translated.
