@@ -1,2 +1,3 @@
 pub mod Fetching
 pub mod Reading
+pub mod Decoding

@@ -49,14 +49,14 @@ length-types_of row accesses sizes few =
     omega (arith, length-take row.count (zip row.access row.size), length-zip row.access row.size (accesses ∙ sym sizes))
 
 type_at : {Y : Type 0} (F : List (Access × Size) → Y) (row : Row) (i : ℕ) (a : Access) (s : Size) → length row.access ≡ 6
-    → length row.size ≡ 6 → row.count ≤ 6 → i < row.count → a ≡ get_or row.access i a → s ≡ get_or row.size i s
-    → F (drop i (types_of row)) ≡ F ((a, s) ∷ drop (i + 1) (types_of row))
-type_at F row i a s accesses sizes few below is_access is_size =
+    → length row.size ≡ 6 → row.count ≤ 6 → i < row.count
+    → F (drop i (types_of row)) ≡ F ((get_or row.access i a, get_or row.size i s) ∷ drop (i + 1) (types_of row))
+type_at F row i a s accesses sizes few below =
     let within : i < length (types_of row) = omega (arith, length-types_of row accesses sizes few) in
     at_drop_more F (types_of row) i (a, s) within
     ∙ ap (λ t. F (t ∷ drop (i + 1) (types_of row)))
       (get_or-take row.count (zip row.access row.size) i (a, s) below
-      ∙ get_or-zip row.access row.size i (a, s) (omega (arith, accesses)) (omega (arith, sizes)) ∙ cc)
+      ∙ get_or-zip row.access row.size i (a, s) (omega (arith, accesses)) (omega (arith, sizes)))
 
 -- ---- the loop
 
@@ -113,18 +113,18 @@ padded-set done operand few =
 
 module _ (row : Row) (pc i place : ℕ) (bytes : List ℕ) (operands : List Operand) (r : Reading row pc i place bytes operands)
     (accesses : length row.access ≡ 6) (sizes : length row.size ≡ 6) (few : row.count ≤ 6) where
-  module _ (a : Access) (s : Size) (below : i < row.count) (is_access : a ≡ get_or row.access i a) (is_size : s ≡ get_or row.size i s) where
-    rest_at : (one : Option (Shown Operand × ℕ)) → read_specifier a s (pc + place) (drop place bytes) ≡ one
+  module _ (a : Access) (s : Size) (below : i < row.count) where
+    rest_at : (one : Option (Shown Operand × ℕ)) → read_specifier (get_or row.access i a) (get_or row.size i s) (pc + place) (drop place bytes) ≡ one
         → joined r.done (place - 1) (followed one (λ n. read_specifiers (drop (i + 1) (types_of row)) (pc + place + n) (drop n (drop place bytes))))
         ≡ read_specifiers (types_of row) (pc + 1) (drop 1 bytes)
     unfolding read_specifiers
     rest_at one e =
         ap (λ o. joined r.done (place - 1) (followed o (λ n. read_specifiers (drop (i + 1) (types_of row)) (pc + place + n) (drop n (drop place bytes))))) (sym e)
-        ∙ sym (type_at (λ ts. joined r.done (place - 1) (read_specifiers ts (pc + place) (drop place bytes))) row i a s accesses sizes few below is_access is_size)
+        ∙ sym (type_at (λ ts. joined r.done (place - 1) (read_specifiers ts (pc + place) (drop place bytes))) row i a s accesses sizes few below)
         ∙ r.rest
 
     pub reading_more : (operand : Operand) (behind : ℕ)
-        → Ok (operand, behind) ≡ answer_of place (read_specifier a s (pc + place) (drop place bytes)) → behind ≤ length bytes
+        → Ok (operand, behind) ≡ answer_of place (read_specifier (get_or row.access i a) (get_or row.size i s) (pc + place) (drop place bytes)) → behind ≤ length bytes
         → Reading row pc (i + 1) behind bytes (set operands i operand)
     reading_more operand behind e within =
         let x = answer-ok place behind operand _ e in
@@ -149,7 +149,7 @@ module _ (row : Row) (pc i place : ℕ) (bytes : List ℕ) (operands : List Oper
             ∙ rest_at (Some (complete operand, n)) x.1;
         }
 
-    pub reading_stops : (fault : SpecFault) (opcode : ℕ) → Err fault ≡ answer_of place (read_specifier a s (pc + place) (drop place bytes))
+    pub reading_stops : (fault : SpecFault) (opcode : ℕ) → Err fault ≡ answer_of place (read_specifier (get_or row.access i a) (get_or row.size i s) (pc + place) (drop place bytes))
         → Err fault ≡ instr_answer pc opcode row.count (read_specifiers (types_of row) (pc + 1) (drop 1 bytes))
     reading_stops Past opcode e =
         ap (instr_answer pc opcode row.count) (rest_at None (answer-past place _ e))
@@ -157,15 +157,16 @@ module _ (row : Row) (pc i place : ℕ) (bytes : List ℕ) (operands : List Oper
         let x = answer-reserved place _ e in
         ap (instr_answer pc opcode row.count) (rest_at (Some (reserved, x.0)) x.1)
 
-  pub reading_ended : (opcode : ℕ) → i ≡ row.count
-      → Ok (record { at = pc; opcode = opcode; count = row.count; operands = operands; after = wrapped (pc + place) })
-      ≡ instr_answer pc opcode row.count (read_specifiers (types_of row) (pc + 1) (drop 1 bytes))
-  unfolding read_specifiers
-  reading_ended opcode end =
-      let none : length (types_of row) ≤ i = omega (arith, length-types_of row accesses sizes few) in
-      let last = at_drop_all (λ ts. joined r.done (place - 1) (read_specifiers ts (pc + place) (drop place bytes))) (types_of row) i none in
-      let behind : pc + place ≡ pc + (1 + (place - 1 + 0)) = omega (arith, r.begun) in
-      ap (λ l. Ok (record { at = pc; opcode = opcode; count = row.count; operands = l; after = wrapped (pc + place) }))
-        (r.are_operands ∙ ap padded (sym (append-nil r.done)))
-      ∙ ap (λ n. Ok (record { at = pc; opcode = opcode; count = row.count; operands = padded (r.done ++ []); after = wrapped n })) behind
-      ∙ ap (instr_answer pc opcode row.count) (sym last ∙ r.rest)
+pub reading_ended : (row : Row) (pc i place : ℕ) (bytes : List ℕ) (operands : List Operand) → Reading row pc i place bytes operands
+    → (opcode : ℕ) → i ≡ row.count
+    → Ok (record { at = pc; opcode = opcode; count = row.count; operands = operands; after = wrapped (pc + place) })
+    ≡ instr_answer pc opcode row.count (read_specifiers (types_of row) (pc + 1) (drop 1 bytes))
+unfolding read_specifiers
+reading_ended row pc i place bytes operands r opcode end =
+    let none : length (types_of row) ≤ i = omega (arith, length-take row.count (zip row.access row.size)) in
+    let last = at_drop_all (λ ts. joined r.done (place - 1) (read_specifiers ts (pc + place) (drop place bytes))) (types_of row) i none in
+    let behind : pc + place ≡ pc + (1 + (place - 1 + 0)) = omega (arith, r.begun) in
+    ap (λ l. Ok (record { at = pc; opcode = opcode; count = row.count; operands = l; after = wrapped (pc + place) }))
+      (r.are_operands ∙ ap padded (sym (append-nil r.done)))
+    ∙ ap (λ n. Ok (record { at = pc; opcode = opcode; count = row.count; operands = padded (r.done ++ []); after = wrapped n })) behind
+    ∙ ap (instr_answer pc opcode row.count) (sym last ∙ r.rest)

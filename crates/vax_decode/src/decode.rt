@@ -1,6 +1,7 @@
 ghost use Rattle.std.specs.Prelude.{◌≡◌, ◌≤◌, length};
 ghost use Rattle.vax_form.specs.Grammar.{Found};
 ghost use Rattle.vax_form.specs.GrammarFound.{Stands, found, found_in};
+ghost use Rattle.vax_form.specs.GrammarLaws.{AreBytes};
 ghost use Rattle.vax_decode.specs.Decoded.{IfInstr, found_of, IsInstructionAt};
 
 use operand_specifiers::SpecFault;
@@ -35,7 +36,8 @@ pub fn decode_at(pages: &Pages, pc: u32) -> Decoded
 // Decodes bytes that stand at an address.
 fn decode(bytes: &[u8], pc: u32) -> Decoded
     requires { length bytes.now ≤ 64 }
-    ensures { found_of result ≡ found_in pc bytes.now }
+    ensures exact { found_of result ≡ found_in pc bytes.now }
+    ensures bytes { AreBytes bytes.now }
 {
     let end = pc.wrapping_add(bytes.len() as u32);
     let Some(opcode) = bytes.first() else {

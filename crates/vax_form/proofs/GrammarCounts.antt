@@ -17,7 +17,7 @@ unfolding operands_of_long
 long_most Index = omega arith
 long_most _ = omega arith
 
-operation_most : (operation : Operation) → length (operands_of operation) ≤ 6
+pub operation_most : (operation : Operation) → length (operands_of operation) ≤ 6
 unfolding operands_of
 operation_most (operations.Long operation) = long_most operation
 operation_most _ = omega arith
