@@ -1,4 +1,3 @@
-pub mod Decoding
 pub mod Flow
 pub mod Reach
 pub mod Refusal
