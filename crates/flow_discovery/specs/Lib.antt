@@ -1,5 +1,3 @@
-pub mod Decoding
-pub mod Values
 pub mod Flow
 pub mod Reach
 pub mod Refusal

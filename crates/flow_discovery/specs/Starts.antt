@@ -1,7 +1,7 @@
 -- Where the flow of an image starts.
 use Rattle.std.specs.Prelude.{ℕ, List, map, ◌++◌}
-use Rattle.flow_discovery.specs.declared.stub.Image.{Image}
-use Rattle.flow_discovery.specs.declared.stub.Start.{Start}
+use Rattle.image_file.specs.declared.image.Image.{Image}
+use Rattle.image_file.specs.declared.image.Start.{Start}
 
 -- the addresses of the threads, the entries of the image, and the hints
 abbrev pub starts : Image → List ℕ → List ℕ

@@ -84,12 +84,7 @@ fn table_target(pages: &Pages, table: u32, number: u32) -> Option<u32>
     Some(table.wrapping_add(extended(displacement)))
 }
 
-fn push_table(
-    pages: &Pages,
-    table: u32,
-    count: u32,
-    into: &mut Vec<u32>,
-) -> Result<(), AllocError>
+fn push_table(pages: &Pages, table: u32, count: u32, into: &mut Vec<u32>) -> Result<(), AllocError>
     requires { count ≤ table_limit }
     ensures { OnOk result (into.new.items ≡ into.old.items ++ table_addresses pages.now table count) }
 {

@@ -4,15 +4,14 @@
 
 mod flow;
 mod members;
-mod stub;
 
 ghost use Rattle.std.specs.Prelude.{◌≡◌, ◌≢◌, ◌≤◌, All, IfErr, IfOk, length, map};
 ghost use Rattle.vax_form.specs.Row.{class_at};
 ghost use Rattle.flow_discovery.specs.Reach.{IsReach, has, most};
 ghost use Rattle.flow_discovery.specs.Starts.{starts};
 
+use image_file::{Image, Start};
 use std::alloc::{AllocError, Global};
-use stub::{Image, Start};
 use vax_form::{Class, Instr};
 
 /// More instructions are not translated.
@@ -54,11 +53,7 @@ impl From<AllocError> for FlowRefusal {
 fn all_starts(alloc: Global, image: &Image, hints: &[u32]) -> Result<Vec<u32>, AllocError>
     ensures { IfOk result (λ v. v.items ≡ starts image.now hints.now) }
 {
-    let mut all: Vec<u32> = image
-        .threads
-        .iter()
-        .map(|thread| thread.pc)
-        .collect(alloc)?;
+    let mut all: Vec<u32> = image.threads.iter().map(|thread| thread.pc).collect(alloc)?;
     all.extend_from_slice(image.entries.as_slice())?;
     all.extend_from_slice(hints)?;
     Ok(all)
@@ -106,3 +101,6 @@ pub fn reach(alloc: Global, image: &Image, hints: &[u32]) -> Result<Vec<Instr>, 
     let instrs = members::instructions(alloc, &image.pages, found.as_slice())?;
     Ok(instrs)
 }
+
+#[cfg(test)]
+mod tests;
