@@ -1,3 +1,5 @@
+ghost use Rattle.std.specs.Prelude.{◌≡◌};
+
 use super::*;
 use std::alloc::{AllocError, Global};
 use std::test::Fail;
@@ -253,12 +255,13 @@ fn pages_of(alloc: Global, case: &Case) -> Result<Pages, AllocError> {
         let code = Vec::new(alloc);
         return Ok(Pages { ranges, code });
     }
-    let mut code = vec![in alloc; 0u8; 512]?;
+    let mut bytes = [0u8; 512];
     for (address, byte) in &case.memory {
         if *address >= 0x200 && *address < 0x400 {
-            code[(*address - 0x200) as usize] = *byte;
+            bytes[(*address - 0x200) as usize] = *byte;
         }
     }
+    let code = bytes.to_vec(alloc)?;
     let ranges = vec![in alloc;
         range(0, 1, true),
         range(1, 1, false),
