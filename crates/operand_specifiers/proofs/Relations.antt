@@ -37,7 +37,7 @@ module _ (a : Access) (size : Size) (origin : ℕ) (bytes : List ℕ) (at : ℕ)
       let k = found.1 - at in
       let reads = read_specifier-specifies a size (origin + at) (take k (drop at bytes)) found.0 (drop k (drop at bytes)) h.specifies in
       let len : at + length (take k (drop at bytes)) ≡ found.1 =
-        omega (arith, h.in_order, h.within, length-take k (drop at bytes), length-drop at bytes) in
+      omega (arith, h.in_order, h.within, length-take k (drop at bytes), length-drop at bytes) in
       ap (answer_of at) (sym (read_again k) ∙ reads) ∙ ap (λ n. Ok (found.0, n)) len
 
   begins_by : (o : Option (Shown Operand × ℕ)) → read_specifier a size (origin + at) (drop at bytes) ≡ o
@@ -57,13 +57,13 @@ module _ (a : Access) (size : Size) (origin : ℕ) (bytes : List ℕ) (at : ℕ)
   undecided_from (Some (reserved, n)) e is = absurd cc
   undecided_from None e is = record {
     unspecified = λ n operand h.
-      let reads = read_specifier-specifies a size (origin + at) (take n (drop at bytes)) operand (drop n (drop at bytes)) h in
-      let same = read_again n in
-      cc;
+        let reads = read_specifier-specifies a size (origin + at) (take n (drop at bytes)) operand (drop n (drop at bytes)) h in
+        let same = read_again n in
+        cc;
     unreserved = λ n h.
-      let reads = read_specifier-shows a size (origin + at) (take n (drop at bytes)) (drop n (drop at bytes)) h in
-      let same = read_again n in
-      cc;
+        let reads = read_specifier-shows a size (origin + at) (take n (drop at bytes)) (drop n (drop at bytes)) h in
+        let same = read_again n in
+        cc;
   }
 
   past_from : (o : Option (Shown Operand × ℕ)) → read_specifier a size (origin + at) (drop at bytes) ≡ o

@@ -69,8 +69,8 @@ module _ (at : ℕ) (size : Size) (a x : ℕ) (bytes : List ℕ) (place next fir
       let fine' : is_reserved_base x (first % 16) (mode_of first) ≡ false = rw (← is_mode) fine in
       let reads' : Some (value, count) ≡ read_extension (extension_size size (mode_of first)) (drop next bytes) = rw (← is_mode) reads in
       let gives' : b ≡ base_of (first % 16) value (wrapped (a + 1)) (wrapped (a + 1 + count)) (mode_of first) =
-        gives ∙ ap (λ n. base_of (first % 16) value n after m) from_is ∙ ap (λ n. base_of (first % 16) value (wrapped (a + 1)) n m) after_is
-        ∙ ap (base_of (first % 16) value (wrapped (a + 1)) (wrapped (a + 1 + count))) is_mode in
+      gives ∙ ap (λ n. base_of (first % 16) value n after m) from_is ∙ ap (λ n. base_of (first % 16) value (wrapped (a + 1)) n m) after_is
+      ∙ ap (base_of (first % 16) value (wrapped (a + 1)) (wrapped (a + 1 + count))) is_mode in
       ap (λ n. Ok (Place b (Some x), n)) len ∙ ap (λ k. Ok (Place k (Some x), at + (2 + count))) gives'
       ∙ ap (answer_of at) (sym (base_at ∙ cond-false _ _ _ fine' ∙ ap (option_map _) (sym reads')))
 
@@ -120,6 +120,6 @@ module _ (at : ℕ) (a : Access) (size : Size) (p : ℕ) (bytes : List ℕ) (fir
   unfolding read_plain
   general_whole value count from after o behind other fine reads from_is after_is gives len =
       let gives' : o ≡ operand_of a first value (wrapped (p + 1)) (wrapped (p + 1 + count)) m =
-        gives ∙ ap (λ n. operand_of a first value n after m) from_is ∙ ap (λ n. operand_of a first value (wrapped (p + 1)) n m) after_is in
+      gives ∙ ap (λ n. operand_of a first value n after m) from_is ∙ ap (λ n. operand_of a first value (wrapped (p + 1)) n m) after_is in
       ap (λ n. Ok (o, n)) len ∙ ap (λ k. Ok (k, at + (1 + count))) gives'
       ∙ ap (answer_of at) (sym (plain_at other ∙ cond-false _ _ _ fine ∙ ap (option_map _) (sym reads)))

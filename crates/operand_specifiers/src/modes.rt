@@ -2,9 +2,8 @@ ghost use Rattle.std.specs.Prelude.{◌≡◌, ◌<◌, ◌%◌};
 ghost use Rattle.vax_form.specs.GrammarModes.{base_of, extension_size, is_reserved_base, is_reserved_mode, operand_of};
 ghost use Rattle.operand_specifiers.specs.Answer.{FitsExtension};
 
-use vax_form::{Access, Base, Mode, Operand, Size};
-
 use crate::number::extend;
+use vax_form::{Access, Base, Mode, Operand, Size};
 
 /// Whether a mode with that register is reserved for an operand of that use and length.
 #[tactic(auto, unfolding(vax_form::specs::GrammarModes::is_reserved_mode))]
@@ -57,8 +56,14 @@ pub(crate) fn base(register: u8, value: u64, from: u32, behind: u32, mode: Mode)
         Mode::Decrement => Base::Decrement(register),
         Mode::Increment => Base::Increment(register),
         Mode::IncrementDeferred => Base::IncrementDeferred(register),
-        Mode::Immediate => Base::Fixed { address: from, deferred: false },
-        Mode::Absolute => Base::Fixed { address: value as u32, deferred: false },
+        Mode::Immediate => Base::Fixed {
+            address: from,
+            deferred: false,
+        },
+        Mode::Absolute => Base::Fixed {
+            address: value as u32,
+            deferred: false,
+        },
         Mode::Displacement { size, deferred } => Base::Offset {
             register,
             offset: extend(size, value),
@@ -74,7 +79,14 @@ pub(crate) fn base(register: u8, value: u64, from: u32, behind: u32, mode: Mode)
 
 /// The operand of a specifier that isn't indexed.
 #[tactic(auto, unfolding(vax_form::specs::GrammarModes::operand_of))]
-pub(crate) fn operand(access: Access, first: u8, value: u64, from: u32, behind: u32, mode: Mode) -> Operand
+pub(crate) fn operand(
+    access: Access,
+    first: u8,
+    value: u64,
+    from: u32,
+    behind: u32,
+    mode: Mode,
+) -> Operand
     requires { FitsExtension mode value }
     ensures { result ≡ operand_of access first value from behind mode }
 {

@@ -3,10 +3,9 @@ ghost use Rattle.vax_form.specs.GrammarReading.{read_base, read_displacement, re
 ghost use Rattle.operand_specifiers.specs.Answer.{BeginsReserved, FitsSize, IsSpecified, IsUndecided, answer_of};
 ghost use Rattle.vax_form.specs.declared.instr.Operand.{Operand};
 
-use vax_form::{Access, Mode, Operand, Size};
-
 use crate::modes::{base, extension, is_reserved, is_reserved_behind_index, operand};
 use crate::number::{address_at, extend, number_in};
+use vax_form::{Access, Mode, Operand, Size};
 
 /// Why a specifier was not read.
 #[derive(Clone, Copy, Debug, PartialEq, Eq)]
@@ -155,3 +154,6 @@ fn number_behind(bytes: &[u8], at: usize, size: Option<Size>) -> Option<(u64, us
     let value = number_in(&bytes[at..], size)?;
     Some((value, size.bytes() as usize))
 }
+
+#[cfg(test)]
+mod tests;

@@ -11,30 +11,30 @@ returns-in-Index c =
     let get = c.in-Some.ensures.lookup in
     c.indexed.ensures
     ∙ general_index c.args.at c.args.access c.args.size (c.args.origin + c.args.at) c.args.bytes.now c.in-Some.first.now
-      c.of-mode.result (get.3.0, get.1) c.of-mode.ensures c.in-Index.is
+    c.of-mode.result (get.3.0, get.1) c.of-mode.ensures c.in-Index.is
 
 pub returns-then-is_reserved : goal.returns-then-is_reserved
 returns-then-is_reserved c =
     let get = c.in-Some.ensures.lookup in
     general_reserved c.args.at c.args.access c.args.size _ c.args.bytes.now c.in-Some.first.now c.of-mode.result
-      (get.3.0, get.1) c.of-mode.ensures c.in_default-mode.not-Index (cc)
+    (get.3.0, get.1) c.of-mode.ensures c.in_default-mode.not-Index (cc)
 
 pub returns-in_default-number_behind : goal.returns-in_default-number_behind
 returns-in_default-number_behind c =
     let get = c.in-Some.ensures.lookup in
     general_short c.args.at c.args.access c.args.size _ c.args.bytes.now c.in-Some.first.now c.of-mode.result
-      (get.3.0, get.1) c.of-mode.ensures c.in_default-mode.not-Index (cc) (cc c.in_default-number_behind.ensures.number)
+    (get.3.0, get.1) c.of-mode.ensures c.in_default-mode.not-Index (cc) (cc c.in_default-number_behind.ensures.number)
 
 pub operand-requires : goal.operand-requires
 operand-requires c =
     FitsExtension-from c.args.size c.of-mode.result c.in-Some-number_behind.value
-      (rw (← c.extension.ensures) c.in-Some-number_behind.ensures.fits)
+    (rw (← c.extension.ensures) c.in-Some-number_behind.ensures.fits)
 
 pub returns : goal.returns
 returns c =
     let get = c.in-Some.ensures.lookup in
     general_whole c.args.at c.args.access c.args.size (c.args.origin + c.args.at) c.args.bytes.now c.in-Some.first.now
-      c.of-mode.result (get.3.0, get.1) c.of-mode.ensures c.in-Some-number_behind.value c.in-Some-number_behind.count _ _
-      c.operand.result _ c.in_default-mode.not-Index (cc) (cc c.in-Some-number_behind.ensures.number)
-      (c.address_at-from.ensures ∙ ap wrapped (omega arith)) (c.address_at-after.ensures ∙ ap wrapped (omega arith))
-      c.operand.ensures (omega arith)
+    c.of-mode.result (get.3.0, get.1) c.of-mode.ensures c.in-Some-number_behind.value c.in-Some-number_behind.count _ _
+    c.operand.result _ c.in_default-mode.not-Index (cc) (cc c.in-Some-number_behind.ensures.number)
+    (c.address_at-from.ensures ∙ ap wrapped (omega arith)) (c.address_at-after.ensures ∙ ap wrapped (omega arith))
+    c.operand.ensures (omega arith)
