@@ -1,3 +1,4 @@
+pub mod Memory
 pub mod Pages
 pub mod Reading
 pub mod Refusal
