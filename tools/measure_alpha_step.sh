@@ -1,18 +1,9 @@
 #!/usr/bin/env bash
-# Prints how many steps a second alpha_machine makes in a loop of ADDL, CMPLT and BNE.
-# The program is written, proved, built and run in a temporary copy of the repository. Processor time
-# counts, so that other work on the machine weighs less.
+# Prints how many steps a second alpha_machine makes in a loop of ADDL, CMPLT and BNE. Processor time counts, so that
+# other work on the machine weighs less.
 set -euo pipefail
-root=$(cd "$(dirname "$0")/.." && pwd)
-room=$(mktemp -d)
-trap 'rm -rf "$room"' EXIT
-# out/ comes along, so that what is proved there isn't proved again
-tar -C "$root" --exclude=.git -cf - . | tar -C "$room" -xf -
-cd "$room"
-git init -q
-echo 'measure: alpha_machine alpha_meaning alpha_encode' >> crates.txt
-mkdir -p crates/measure/src
-cat > crates/measure/src/main.rt <<'EOF'
+. "$(dirname "$0")/scratch.sh"
+scratch "alpha_machine alpha_meaning alpha_encode" <<'PROGRAM'
 #![tactic(auto)]
 
 ghost use Rattle.std.specs.Prelude.{ℕ, ◌<◌, length, slice_index, IsSome};
@@ -49,8 +40,7 @@ fn main(rt: HostRuntime) -> io::Result<()> {
     let steps = run(&mut cpu, &CODE, 4 * TURNS);
     println!(rt; "{steps}")
 }
-EOF
-cd crates/measure
+PROGRAM
 rt run > "$room/log" 2>&1 || { tail -n 20 "$room/log"; exit 1; }
 TIMEFORMAT=%U
 for turn in 1 2 3; do

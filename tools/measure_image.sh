@@ -1,15 +1,8 @@
-#!/bin/sh
+#!/usr/bin/env bash
 # Prints how long it takes to read the largest image: 64 sections of 16,384 stored bytes, half of them read-only.
-# The program that is measured is made, proved and run in a temporary copy of the repository.
-set -eu
-top=$(cd "$(dirname "$0")/.." && pwd)
-copy=$(mktemp -d)
-trap 'rm -rf "$copy"' EXIT
-mkdir -p "$copy/crates/measure_image/src"
-cp -a "$top/crates/vax_form" "$top/crates/image_file" "$copy/crates/"
-printf 'vax_form:\nimage_file: vax_form byteorder\nmeasure_image: image_file anyhow\n' > "$copy/crates.txt"
-cp "$top/HANDLES" "$copy/"
-cat > "$copy/crates/measure_image/src/main.rt" <<'PROGRAM'
+set -euo pipefail
+. "$(dirname "$0")/scratch.sh"
+scratch "image_file anyhow" <<'PROGRAM'
 //! Reads the largest image some times and prints the time of the fastest.
 #![tactic(auto)]
 
@@ -46,5 +39,4 @@ fn main(rt: HostRuntime) -> Result<()> {
     Ok(())
 }
 PROGRAM
-cd "$copy/crates/measure_image"
 rt run

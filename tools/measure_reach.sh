@@ -1,15 +1,8 @@
 #!/usr/bin/env bash
-# Measures how long `reach` takes over 32,768 instructions, by a scratch program in a temporary copy of the repository.
+# Measures how long `reach` takes over 32,768 instructions.
 set -euo pipefail
-top="$(cd "$(dirname "$0")/.." && pwd)"
-room="$(mktemp -d)"
-trap 'rm -rf "$room"' EXIT
-cp -r "$top/crates" "$top/crates.txt" "$top/HANDLES" "$room"
-cd "$room"
-git init -q .
-echo 'measure_reach: vax_form vax_decode image_file flow_discovery' >> crates.txt
-mkdir -p crates/measure_reach/src
-cat > crates/measure_reach/src/main.rt <<'PROGRAM'
+. "$(dirname "$0")/scratch.sh"
+scratch "vax_form vax_decode image_file flow_discovery" <<'PROGRAM'
 //! The time of `reach` over groups of ADDL2, MOVL, BEQL and NOP.
 #![tactic(auto)]
 
@@ -61,5 +54,4 @@ fn main(rt: HostRuntime) -> io::Result<()> {
     }
 }
 PROGRAM
-cd crates/measure_reach
 rt run
