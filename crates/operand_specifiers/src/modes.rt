@@ -56,25 +56,30 @@ pub(crate) fn base(register: u8, value: u64, from: u32, behind: u32, mode: Mode)
         Mode::Decrement => Base::Decrement(register),
         Mode::Increment => Base::Increment(register),
         Mode::IncrementDeferred => Base::IncrementDeferred(register),
-        Mode::Immediate => Base::Fixed {
-            address: from,
-            deferred: false,
-        },
-        Mode::Absolute => Base::Fixed {
-            address: value as u32,
-            deferred: false,
-        },
-        Mode::Displacement { size, deferred } => Base::Offset {
-            register,
-            offset: extend(size, value),
-            deferred,
-        },
-        Mode::Relative { size, deferred } => Base::Fixed {
-            address: behind.wrapping_add(extend(size, value)),
-            deferred,
-        },
+        Mode::Immediate => fixed(from, false),
+        Mode::Absolute => fixed(value as u32, false),
+        Mode::Displacement { size, deferred } => offset(register, extend(size, value), deferred),
+        Mode::Relative { size, deferred } => {
+            fixed(behind.wrapping_add(extend(size, value)), deferred)
+        }
         _ => Base::Deferred(register),
     }
+}
+
+fn offset(register: u8, offset: u32, deferred: bool) -> Base
+    ensures { result ≡ Base.Offset register offset deferred }
+{
+    Base::Offset {
+        register,
+        offset,
+        deferred,
+    }
+}
+
+fn fixed(address: u32, deferred: bool) -> Base
+    ensures { result ≡ Base.Fixed address deferred }
+{
+    Base::Fixed { address, deferred }
 }
 
 /// The operand of a specifier that isn't indexed.

@@ -39,10 +39,10 @@ fetching_more pages pc i b bytes below e f =
     record {
       room = length-set bytes i b ∙ f.room;
       whole = ap (λ a. take (i + 1) (set bytes i b) ++ fetched pages a (64 - (i + 1))) next
-        ∙ ap (λ n. take (i + 1) (set bytes i b) ++ fetched pages (pc + i + 1) n) left
-        ∙ ap (λ l. l ++ rest) front ∙ append_assoc (take i bytes) (b ∷ []) rest
-        ∙ ap (λ l. take i bytes ++ l) (sym (fetched-some pages (pc + i) (64 - i) b (omega arith) (sym e)))
-        ∙ f.whole;
+          ∙ ap (λ n. take (i + 1) (set bytes i b) ++ fetched pages (pc + i + 1) n) left
+          ∙ ap (λ l. l ++ rest) front ∙ append_assoc (take i bytes) (b ∷ []) rest
+          ∙ ap (λ l. take i bytes ++ l) (sym (fetched-some pages (pc + i) (64 - i) b (omega arith) (sym e)))
+          ∙ f.whole;
     }
 
 pub fetching_none : (pages : Pages) (pc i : ℕ) (bytes : List ℕ) → i < 64 → None ≡ code_byte_at pages (wrapped (pc + i))

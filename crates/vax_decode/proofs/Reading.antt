@@ -55,8 +55,8 @@ type_at F row i a s accesses sizes few below =
     let within : i < length (types_of row) = omega (arith, length-types_of row accesses sizes few) in
     at_drop_more F (types_of row) i (a, s) within
     ∙ ap (λ t. F (t ∷ drop (i + 1) (types_of row)))
-      (get_or-take row.count (zip row.access row.size) i (a, s) below
-      ∙ get_or-zip row.access row.size i (a, s) (omega (arith, accesses)) (omega (arith, sizes)))
+    (get_or-take row.count (zip row.access row.size) i (a, s) below
+    ∙ get_or-zip row.access row.size i (a, s) (omega (arith, accesses)) (omega (arith, sizes)))
 
 -- ---- the loop
 
@@ -138,15 +138,15 @@ module _ (row : Row) (pc i place : ℕ) (bytes : List ℕ) (operands : List Oper
           done = done;
           count = length-append r.done (operand ∷ []) ∙ ap (λ k. k + 1) r.count;
           are_operands = ap (λ l. set l i operand) r.are_operands ∙ ap (λ k. set (padded r.done) k operand) (sym r.count)
-            ∙ padded-set r.done operand (omega (arith, r.count));
+              ∙ padded-set r.done operand (omega (arith, r.count));
           begun = omega (arith, r.begun, place_is);
           within = within;
           rest = ap (λ l. joined done (behind - 1) (read_specifiers ts (pc + behind) l))
               (ap (λ k. drop k bytes) (sym place_is) ∙ sym (drop-drop n place bytes))
-            ∙ ap (λ k. joined done (behind - 1) (read_specifiers ts k (drop n (drop place bytes)))) (sym address_is)
-            ∙ ap (λ k. joined done k (read_specifiers ts (pc + place + n) (drop n (drop place bytes)))) (sym left_is)
-            ∙ sym (joined-in_front r.done (place - 1) n operand _)
-            ∙ rest_at (Some (complete operand, n)) x.1;
+              ∙ ap (λ k. joined done (behind - 1) (read_specifiers ts k (drop n (drop place bytes)))) (sym address_is)
+              ∙ ap (λ k. joined done k (read_specifiers ts (pc + place + n) (drop n (drop place bytes)))) (sym left_is)
+              ∙ sym (joined-in_front r.done (place - 1) n operand _)
+              ∙ rest_at (Some (complete operand, n)) x.1;
         }
 
     pub reading_stops : (fault : SpecFault) (opcode : ℕ) → Err fault ≡ answer_of place (read_specifier (get_or row.access i a) (get_or row.size i s) (pc + place) (drop place bytes))
@@ -167,6 +167,6 @@ reading_ended row pc i place bytes operands r opcode end =
     let last = at_drop_all (λ ts. joined r.done (place - 1) (read_specifiers ts (pc + place) (drop place bytes))) (types_of row) i none in
     let behind : pc + place ≡ pc + (1 + (place - 1 + 0)) = omega (arith, r.begun) in
     ap (λ l. Ok (record { at = pc; opcode = opcode; count = row.count; operands = l; after = wrapped (pc + place) }))
-      (r.are_operands ∙ ap padded (sym (append-nil r.done)))
+    (r.are_operands ∙ ap padded (sym (append-nil r.done)))
     ∙ ap (λ n. Ok (record { at = pc; opcode = opcode; count = row.count; operands = padded (r.done ++ []); after = wrapped n })) behind
     ∙ ap (instr_answer pc opcode row.count) (sym last ∙ r.rest)

@@ -4,11 +4,10 @@ ghost use Rattle.vax_form.specs.GrammarFound.{Stands, found, found_in};
 ghost use Rattle.vax_form.specs.GrammarLaws.{AreBytes};
 ghost use Rattle.vax_decode.specs.Decoded.{IfInstr, found_of, IsInstructionAt};
 
-use operand_specifiers::SpecFault;
-use vax_form::{Instr, Pages, row_of};
-
 use crate::fetch::fetch;
 use crate::instr::read_instr;
+use operand_specifiers::SpecFault;
+use vax_form::{Instr, Pages, row_of};
 
 /// What stands at an address.
 #[derive(Clone, Copy, Debug, PartialEq, Eq)]
@@ -52,3 +51,6 @@ fn decode(bytes: &[u8], pc: u32) -> Decoded
         Err(SpecFault::ReservedMode) => Decoded::BadMode,
     }
 }
+
+#[cfg(test)]
+mod tests;

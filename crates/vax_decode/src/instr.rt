@@ -6,12 +6,7 @@ use operand_specifiers::{SpecFault, read_spec};
 use vax_form::{Instr, Operand, Row};
 
 /// Reads the instruction of an opcode with that row from bytes that begin with the opcode, at the address `pc`.
-pub(crate) fn read_instr(
-    bytes: &[u8],
-    pc: u32,
-    opcode: u8,
-    row: &Row,
-) -> Result<Instr, SpecFault>
+pub(crate) fn read_instr(bytes: &[u8], pc: u32, opcode: u8, row: &Row) -> Result<Instr, SpecFault>
     requires begun { 1 ≤ length bytes.now }
     requires few { length bytes.now ≤ 64 }
     requires places { row.now.count ≤ 6 }
@@ -27,5 +22,11 @@ pub(crate) fn read_instr(
         place = behind;
     }
     let after = pc.wrapping_add(place as u32);
-    Ok(Instr { at: pc, opcode, count, operands, after })
+    Ok(Instr {
+        at: pc,
+        opcode,
+        count,
+        operands,
+        after,
+    })
 }

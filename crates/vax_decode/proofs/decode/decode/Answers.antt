@@ -17,16 +17,16 @@ pub returns-in-Ok-clause-exact : goal.returns-in-Ok-clause-exact
 returns-in-Ok-clause-exact c =
     let row = IsRowOf-from c.in-Some.opcode.now c.in-Some-row_of.row c.in-Some-row_of.ensures.value in
     found_instr c.args.pc c.in-Some.opcode.now c.args.bytes.now c.in-Some.ensures.value c.in-Some-row_of.row row
-      c.read_instr.result c.read_instr.ensures c.in-Ok.instr c.in-Ok.is
+    c.read_instr.result c.read_instr.ensures c.in-Ok.instr c.in-Ok.is
 
 pub returns-in-Err-Past-clause-exact : goal.returns-in-Err-Past-clause-exact
 returns-in-Err-Past-clause-exact c =
     let row = IsRowOf-from c.in-Some.opcode.now c.in-Some-row_of.row c.in-Some-row_of.ensures.value in
     found_past c.args.pc c.in-Some.opcode.now c.args.bytes.now c.in-Some.ensures.value c.in-Some-row_of.row row
-      c.read_instr.result c.read_instr.ensures (c.in-Err-Past.is ∙ ap Err c.in-Err-Past.field-0-is)
+    c.read_instr.result c.read_instr.ensures (c.in-Err-Past.is ∙ ap Err c.in-Err-Past.field-0-is)
 
 pub returns-in-Err-ReservedMode-clause-exact : goal.returns-in-Err-ReservedMode-clause-exact
 returns-in-Err-ReservedMode-clause-exact c =
     let row = IsRowOf-from c.in-Some.opcode.now c.in-Some-row_of.row c.in-Some-row_of.ensures.value in
     found_bad c.args.pc c.in-Some.opcode.now c.args.bytes.now c.in-Some.ensures.value c.in-Some-row_of.row row
-      c.read_instr.result c.read_instr.ensures (c.in-Err-ReservedMode.is ∙ ap Err c.in-Err-ReservedMode.field-0-is)
+    c.read_instr.result c.read_instr.ensures (c.in-Err-ReservedMode.is ∙ ap Err c.in-Err-ReservedMode.field-0-is)

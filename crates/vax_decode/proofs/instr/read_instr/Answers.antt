@@ -12,7 +12,7 @@ returns-in_err-operand c =
     let accesses : length row.access ≡ 6 = omega arith in
     let sizes : length row.size ≡ 6 = omega arith in
     rw (p.1, p.2) (reading_stops row c.args.pc c.loop-i.i c.loop-i.place c.args.bytes.now c.loop-i.operands c.loop-i.invariant
-      accesses sizes c.requires.places Read Byte (omega arith) _ c.args.opcode c.in_err-operand.ensures.reading)
+    accesses sizes c.requires.places Read Byte (omega arith) _ c.args.opcode c.in_err-operand.ensures.reading)
 
 pub loop-i-preserved : goal.loop-i-preserved
 loop-i-preserved c =
@@ -20,10 +20,10 @@ loop-i-preserved c =
     let accesses : length row.access ≡ 6 = omega arith in
     let sizes : length row.size ≡ 6 = omega arith in
     reading_more row c.args.pc c.loop-i.i c.loop-i.place c.args.bytes.now c.loop-i.operands c.loop-i.invariant
-      accesses sizes c.requires.places Read Byte (omega arith) c.in_ok-operand.operand c.in_ok-operand.behind
-      c.in_ok-operand.ensures.reading c.in_ok-operand.ensures.found.within
+    accesses sizes c.requires.places Read Byte (omega arith) c.in_ok-operand.operand c.in_ok-operand.behind
+    c.in_ok-operand.ensures.reading c.in_ok-operand.ensures.found.within
 
 pub returns : goal.returns
 returns c =
     reading_ended c.args.row.now c.args.pc c.loop-i.i c.loop-i.place c.args.bytes.now c.loop-i.operands c.loop-i.invariant
-      c.args.opcode (omega arith)
+    c.args.opcode (omega arith)
