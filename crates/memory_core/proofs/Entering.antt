@@ -50,7 +50,7 @@ room_for_get m s room = omega (arith, s.taken, room, s.small, gets_le (reverse m
 pub tries_fit : (m : Inside) (p : ℕ) (r : Reservation) → IsSound m → length m.history.items < m.limit → p < length m.reservations.items → r ≡ slice_index_or m.reservations.items p none → r.tries + 1 < 2 ^ 32
 tries_fit m p r s room lt e =
     subst (λ (v : Reservation). v.tries + 1 < 2 ^ 32) (sym e)
-      (room_for_try (reverse m.history.items) p m.limit (slice_index_or m.reservations.items p none) (s.kept p lt) (omega (arith, room, length-reverse m.history.items)) s.small)
+    (room_for_try (reverse m.history.items) p m.limit (slice_index_or m.reservations.items p none) (s.kept p lt) (omega (arith, room, length-reverse m.history.items)) s.small)
 
 within_at : (m : Inside) → IsSound m → (address : ℕ) (o : Option ℕ) → quad_place m.ranges.items address ≡ o → IfSome o (λ i. i < length m.quads.items)
 within_at m s address None h = tt
@@ -86,24 +86,39 @@ append_nil (x ∷ xs) = ap (λ (ys : List ℕ). x ∷ ys) (append_nil xs)
 module _ (m : Inside) (e : Entry) (s : IsSound m) where
   pub entered_put : (out : Vec ℕ Global) → e.kind ≡ Put → out.items ≡ m.output.items ++ e.after ∷ [] → vec_capacity out ≡ vec_capacity m.output → IsEntered m (record m { output = out }) e
   entered_put out is items room = record {
-      set_up = refl; ranges = refl; reservations = refl; history = refl;
-      quads = rw is refl; taken = rw is refl; output = rw is items; output_room = omega (arith, room, s.output_room);
-    }
+    set_up = refl;
+    ranges = refl;
+    reservations = refl;
+    history = refl;
+    quads = rw is refl;
+    taken = rw is refl;
+    output = rw is items;
+    output_room = omega (arith, room, s.output_room);
+  }
 
   pub entered_get : e.kind ≡ Get → IsEntered m (record m { taken = m.taken + 1 }) e
   entered_get is = record {
-      set_up = refl; ranges = refl; reservations = refl; history = refl;
-      quads = rw is refl; taken = rw is (add-one m.taken); output = rw is (append_nil m.output.items); output_room = s.output_room;
-    }
+    set_up = refl;
+    ranges = refl;
+    reservations = refl;
+    history = refl;
+    quads = rw is refl;
+    taken = rw is (add-one m.taken);
+    output = rw is (append_nil m.output.items);
+    output_room = s.output_room;
+  }
 
   pub entered_memory : (quads : Vec ℕ Global) → (e.kind ≡ Put → ⊥) → (e.kind ≡ Get → ⊥) → quads.items ≡ stored_at (quad_place m.ranges.items e.quad) e.after m.quads.items → IsEntered m (record m { quads = quads }) e
   entered_memory quads p g items = record {
-      set_up = refl; ranges = refl; reservations = refl; history = refl;
-      quads = items ∙ ap (λ (b : Bool). if b then stored_at (quad_place m.ranges.items e.quad) e.after m.quads.items else m.quads.items) (sym (memory_kind e.kind p g));
-      taken = ap (λ (b : Bool). if b then suc m.taken else m.taken) (sym (no_get e.kind g));
-      output = append_nil m.output.items ∙ ap (λ (b : Bool). m.output.items ++ (if b then e.after ∷ [] else [])) (sym (no_put e.kind p));
-      output_room = s.output_room;
-    }
+    set_up = refl;
+    ranges = refl;
+    reservations = refl;
+    history = refl;
+    quads = items ∙ ap (λ (b : Bool). if b then stored_at (quad_place m.ranges.items e.quad) e.after m.quads.items else m.quads.items) (sym (memory_kind e.kind p g));
+    taken = ap (λ (b : Bool). if b then suc m.taken else m.taken) (sym (no_get e.kind g));
+    output = append_nil m.output.items ∙ ap (λ (b : Bool). m.output.items ++ (if b then e.after ∷ [] else [])) (sym (no_put e.kind p));
+    output_room = s.output_room;
+  }
 
 -- and once the entry is noted in reservations and history
 pub record IsNoted (m n o : Inside) (e : Entry) : Type 0 where
@@ -134,13 +149,13 @@ module _ (m n o : Inside) (e : Entry) (s : IsSound m) (f : Fits (set_up_of m) (r
   current : AreCurrent (set_up_of m) (e ∷ reverse m.history.items) (after_entry m.ranges.items m.quads.items e)
   current =
       subst (λ (rs : List PageRange). AreCurrent (set_up_of m) (e ∷ reverse m.history.items) (after_entry rs m.quads.items e)) (sym s.ranges)
-        (current_more (set_up_of m) (reverse m.history.items) m.quads.items e aligned s.quads)
+      (current_more (set_up_of m) (reverse m.history.items) m.quads.items e aligned s.quads)
 
   quads_more : AreCurrent (set_up_of o) (reverse o.history.items) o.quads.items
   quads_more =
       subst (λ (q : List ℕ). AreCurrent (set_up_of o) (reverse o.history.items) q) (sym (j.quads ∙ i.quads))
-        (subst (λ (h : List Entry). AreCurrent (set_up_of o) h (after_entry m.ranges.items m.quads.items e)) (sym past)
-          (subst (λ (k : SetUp). AreCurrent k (e ∷ reverse m.history.items) (after_entry m.ranges.items m.quads.items e)) (sym same_set_up) current))
+      (subst (λ (h : List Entry). AreCurrent (set_up_of o) h (after_entry m.ranges.items m.quads.items e)) (sym past)
+      (subst (λ (k : SetUp). AreCurrent k (e ∷ reverse m.history.items) (after_entry m.ranges.items m.quads.items e)) (sym same_set_up) current))
 
   kept_all : (p : ℕ) → p < length o.reservations.items → IsKept (reverse o.history.items) p (slice_index_or o.reservations.items p none)
   kept_all p lt =
@@ -149,7 +164,7 @@ module _ (m n o : Inside) (e : Entry) (s : IsSound m) (f : Fits (set_up_of m) (r
       let here : p < length n.reservations.items = omega (arith, lt, j.count) in
       let is : slice_index_or o.reservations.items p none ≡ next_reservation e p (slice_index_or m.reservations.items p none) = j.kept p here ∙ ap (λ (v : Vec Reservation Global). next_reservation e p (slice_index_or v.items p none)) same in
       subst (λ (h : List Entry). IsKept h p (slice_index_or o.reservations.items p none)) (sym past)
-        (subst (IsKept (e ∷ reverse m.history.items) p) (sym is) (kept_more (reverse m.history.items) e p (slice_index_or m.reservations.items p none) (s.kept p before)))
+      (subst (IsKept (e ∷ reverse m.history.items) p) (sym is) (kept_more (reverse m.history.items) e p (slice_index_or m.reservations.items p none) (s.kept p before)))
 
   gets_more : (b : Bool) → (if b then suc m.taken else m.taken) ≡ (if b then suc (gets (reverse m.history.items)) else gets (reverse m.history.items))
   gets_more true = ap suc s.taken
@@ -157,18 +172,18 @@ module _ (m n o : Inside) (e : Entry) (s : IsSound m) (f : Fits (set_up_of m) (r
 
   pub sound_more : IsSound o
   sound_more = record {
-      order = order_more;
-      small = omega (arith, s.small, ap (λ (k : SetUp). k.limit) same_set_up);
-      bound = omega (arith, room, ap length grown, length-append m.history.items (e ∷ []), ap (λ (k : SetUp). k.limit) same_set_up);
-      room = omega (arith, s.room, j.room, ap (λ (h : Vec Entry Global). vec_capacity h) i.history, ap (λ (k : SetUp). k.limit) same_set_up);
-      ranges = j.ranges ∙ i.ranges ∙ s.ranges ∙ ap (λ (k : SetUp). k.image.pages.ranges) (sym same_set_up);
-      few = subst (λ (rs : List PageRange). page_count rs ≤ 4194304) (sym (j.ranges ∙ i.ranges)) s.few;
-      quads = quads_more;
-      kept = kept_all;
-      taken = j.taken ∙ i.taken ∙ gets_more (is_get e.kind) ∙ ap gets (sym past);
-      output = ap (λ (v : Vec ℕ Global). v.items) j.output ∙ i.output ∙ ap (λ (xs : List ℕ). xs ++ (if is_put e.kind then e.after ∷ [] else [])) s.output ∙ sym (output_of-push m.history.items e) ∙ ap output_of (sym grown);
-      output_room = omega (arith, i.output_room, ap (λ (v : Vec ℕ Global). vec_capacity v) j.output, ap (λ (k : SetUp). k.limit) same_set_up);
-    }
+    order = order_more;
+    small = omega (arith, s.small, ap (λ (k : SetUp). k.limit) same_set_up);
+    bound = omega (arith, room, ap length grown, length-append m.history.items (e ∷ []), ap (λ (k : SetUp). k.limit) same_set_up);
+    room = omega (arith, s.room, j.room, ap (λ (h : Vec Entry Global). vec_capacity h) i.history, ap (λ (k : SetUp). k.limit) same_set_up);
+    ranges = j.ranges ∙ i.ranges ∙ s.ranges ∙ ap (λ (k : SetUp). k.image.pages.ranges) (sym same_set_up);
+    few = subst (λ (rs : List PageRange). page_count rs ≤ 4194304) (sym (j.ranges ∙ i.ranges)) s.few;
+    quads = quads_more;
+    kept = kept_all;
+    taken = j.taken ∙ i.taken ∙ gets_more (is_get e.kind) ∙ ap gets (sym past);
+    output = ap (λ (v : Vec ℕ Global). v.items) j.output ∙ i.output ∙ ap (λ (xs : List ℕ). xs ++ (if is_put e.kind then e.after ∷ [] else [])) s.output ∙ sym (output_of-push m.history.items e) ∙ ap output_of (sym grown);
+    output_room = omega (arith, i.output_room, ap (λ (v : Vec ℕ Global). vec_capacity v) j.output, ap (λ (k : SetUp). k.limit) same_set_up);
+  }
 
 -- ---- the request's entry
 
@@ -199,10 +214,10 @@ if_other false quad h = refl
 -- the entry that the order gives for a request fits
 pub fits_entry : (set_up : SetUp) (history : List Entry) (request : Request) → CanMake set_up request → Fits set_up (reverse history) (entry_for set_up history request)
 fits_entry set_up history request can = record {
-    before = found_same (is_memory request.kind) (left_by set_up (reverse history)) request.quad (if is_get request.kind then input_at set_up.input (gets (reverse history)) else 0);
-    success = succeeds_same request.kind set_up (reverse history) request.processor request.quad;
-    place = if_other (is_memory request.kind) request.quad;
-    change = request.change;
-    allowed = can.change;
-    after = refl;
-  }
+  before = found_same (is_memory request.kind) (left_by set_up (reverse history)) request.quad (if is_get request.kind then input_at set_up.input (gets (reverse history)) else 0);
+  success = succeeds_same request.kind set_up (reverse history) request.processor request.quad;
+  place = if_other (is_memory request.kind) request.quad;
+  change = request.change;
+  allowed = can.change;
+  after = refl;
+}

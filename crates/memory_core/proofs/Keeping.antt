@@ -116,7 +116,7 @@ module _ (set_up : SetUp) (past : List Entry) (quads : List ℕ) (e : Entry) (al
       → slice_index_or (stored_at (quad_place set_up.image.pages.ranges e.quad) e.after quads) place 0 ≡ slice_index_or quads place 0
   current_there address place p al there =
       stored_other (quad_place set_up.image.pages.ranges e.quad) e.after quads place
-        (λ i h same. there (let q = quad_of_place set_up.image.pages.ranges e.quad address place (h ∙ ap (λ (v : ℕ). Some v) same) p in omega (arith, q, al)))
+      (λ i h same. there (let q = quad_of_place set_up.image.pages.ranges e.quad address place (h ∙ ap (λ (v : ℕ). Some v) same) p in omega (arith, q, al)))
 
   current_step : (memory : Bool) → (memory ≡ true → e.quad % 8 ≡ 0) → (address place : ℕ) → quad_place set_up.image.pages.ranges address ≡ Some place → IsAt set_up past quads address place
       → (same : Bool) → (e.quad == address - address % 8) ≡ same

@@ -38,15 +38,15 @@ module _ (m : Inside) (f : IsFresh m) where
 
   pub fresh_sound : IsSound m
   fresh_sound = record {
-      order = subst (Meets (set_up_of m)) (sym past) tt;
-      small = f.small;
-      bound = omega (arith, ap length f.history);
-      room = f.room;
-      ranges = f.ranges;
-      few = omega (arith, rising_few 0 m.ranges.items (omega arith) f.rising);
-      quads = subst (λ (h : List Entry). AreCurrent (set_up_of m) h m.quads.items) (sym past) (subst (AreCurrent (set_up_of m) []) (sym f.quads) current);
-      kept = λ p l. subst (λ (h : List Entry). IsKept h p (slice_index_or m.reservations.items p none)) (sym past) (subst (IsKept [] p) (sym (f.kept p l)) (none_kept p));
-      taken = f.taken ∙ ap gets (sym past);
-      output = f.output ∙ ap output_of (sym f.history);
-      output_room = f.output_room;
-    }
+    order = subst (Meets (set_up_of m)) (sym past) tt;
+    small = f.small;
+    bound = omega (arith, ap length f.history);
+    room = f.room;
+    ranges = f.ranges;
+    few = omega (arith, rising_few 0 m.ranges.items (omega arith) f.rising);
+    quads = subst (λ (h : List Entry). AreCurrent (set_up_of m) h m.quads.items) (sym past) (subst (AreCurrent (set_up_of m) []) (sym f.quads) current);
+    kept = λ p l. subst (λ (h : List Entry). IsKept h p (slice_index_or m.reservations.items p none)) (sym past) (subst (IsKept [] p) (sym (f.kept p l)) (none_kept p));
+    taken = f.taken ∙ ap gets (sym past);
+    output = f.output ∙ ap output_of (sym f.history);
+    output_room = f.output_room;
+  }

@@ -51,7 +51,7 @@ pub byte_at-with_bytes : (mask value before at : ℕ) → at < 8 → byte_at at 
 unfolding with_bytes
 byte_at-with_bytes mask value before at l =
     byte_at-quad_of (λ k. if bit_at mask k == 1 then byte_at k value else byte_at k before)
-      (λ k _. choice_lt (bit_at mask k == 1) (byte_at k value) (byte_at k before) (byte_at-lt k value) (byte_at-lt k before)) at l
+    (λ k _. choice_lt (bit_at mask k == 1) (byte_at k value) (byte_at k before) (byte_at-lt k value) (byte_at-lt k before)) at l
 
 not_one : (b : ℕ) (x y : ℕ) → b ≡ 0 → (if b == 1 then x else y) ≡ y
 not_one b x y h = rw h refl
@@ -64,15 +64,15 @@ unnamed true x y h = absurd (cc h)
 word_mask : (place at : ℕ) → ((at == place) || (at == place + 1)) ≡ false → bit_at (3 * 2 ^ place) at ≡ 0
 word_mask place at t =
     ⊎_elim
-      (λ (h : at < place).
-        let e : 3 * 2 ^ place ≡ 3 * 2 ^ place + 0 = omega arith in
-        ap (λ n. bit_at n at) e ∙ bit_at_cat_low 3 place 0 at h ∙ bit_at-zero at)
-      (λ (h : place ≤ at).
-        let high : place + 2 ≤ at = grind (arith, nat_tests) in
-        let p = pow-add 2 place 2 in
-        let small : 3 * 2 ^ place < 2 ^ (place + 2) = rw p (omega (arith, pow_pos place)) in
-        bit_at_above (3 * 2 ^ place) (place + 2) at small high)
-      (cases_lt at place)
+    (λ (h : at < place).
+    let e : 3 * 2 ^ place ≡ 3 * 2 ^ place + 0 = omega arith in
+    ap (λ n. bit_at n at) e ∙ bit_at_cat_low 3 place 0 at h ∙ bit_at-zero at)
+    (λ (h : place ≤ at).
+    let high : place + 2 ≤ at = grind (arith, nat_tests) in
+    let p = pow-add 2 place 2 in
+    let small : 3 * 2 ^ place < 2 ^ (place + 2) = rw p (omega (arith, pow_pos place)) in
+    bit_at_above (3 * 2 ^ place) (place + 2) at small high)
+    (cases_lt at place)
 
 -- byte `at`, by powers of two
 byte_is : (at n : ℕ) → at < 8 → byte_at at n ≡ n / 2 ^ (8 * at) % 2 ^ 8
@@ -82,24 +82,24 @@ byte_is at n l = below_8 (λ at. byte_at at n ≡ n / 2 ^ (8 * at) % 2 ^ 8) (ome
 bit_apart : (n at : ℕ) → (at == n / 8) ≡ false → 2 ^ n / 2 ^ (8 * at) % 2 ^ 8 ≡ 0
 bit_apart n at t =
     ⊎_elim
-      (λ (h : n < 8 * at).
-        let small : 2 ^ n < 2 ^ (8 * at) = pow_below n (8 * at) h in
-        ap (λ q. q % 2 ^ 8) (div-eq_of_lt small))
-      (λ (h : 8 * at ≤ n).
-        let high : 8 * at + 8 ≤ n = grind (arith, nat_tests) in
-        let m = n - 8 * at - 8 in
-        let e : n ≡ m + 8 + 8 * at = omega arith in
-        ap (λ k. 2 ^ k / 2 ^ (8 * at) % 2 ^ 8) e
-        ∙ ap (λ q. q / 2 ^ (8 * at) % 2 ^ 8) (pow-add 2 (m + 8) (8 * at) ∙ ap (λ q. q * 2 ^ (8 * at)) (pow-add 2 m 8))
-        ∙ ap (λ q. q % 2 ^ 8) (shl-shr (2 ^ m * 2 ^ 8) (8 * at))
-        ∙ mul-mod_left (2 ^ m) (2 ^ 8))
-      (cases_lt n (8 * at))
+    (λ (h : n < 8 * at).
+    let small : 2 ^ n < 2 ^ (8 * at) = pow_below n (8 * at) h in
+    ap (λ q. q % 2 ^ 8) (div-eq_of_lt small))
+    (λ (h : 8 * at ≤ n).
+    let high : 8 * at + 8 ≤ n = grind (arith, nat_tests) in
+    let m = n - 8 * at - 8 in
+    let e : n ≡ m + 8 + 8 * at = omega arith in
+    ap (λ k. 2 ^ k / 2 ^ (8 * at) % 2 ^ 8) e
+    ∙ ap (λ q. q / 2 ^ (8 * at) % 2 ^ 8) (pow-add 2 (m + 8) (8 * at) ∙ ap (λ q. q * 2 ^ (8 * at)) (pow-add 2 m 8))
+    ∙ ap (λ q. q % 2 ^ 8) (shl-shr (2 ^ m * 2 ^ 8) (8 * at))
+    ∙ mul-mod_left (2 ^ m) (2 ^ 8))
+    (cases_lt n (8 * at))
 
 -- the byte of the complement
 complement : (m at : ℕ) → m < 2 ^ 64 → at < 8 → m / 2 ^ (8 * at) % 2 ^ 8 ≡ 0 → (2 ^ 64 - 1 - m) / 2 ^ (8 * at) % 2 ^ 8 ≡ 255
 complement m at s l =
     below_8 (λ at. m / 2 ^ (8 * at) % 2 ^ 8 ≡ 0 → (2 ^ 64 - 1 - m) / 2 ^ (8 * at) % 2 ^ 8 ≡ 255)
-      (λ h. omega arith) (λ h. omega arith) (λ h. omega arith) (λ h. omega arith) (λ h. omega arith) (λ h. omega arith) (λ h. omega arith) (λ h. omega arith) at l
+    (λ h. omega arith) (λ h. omega arith) (λ h. omega arith) (λ h. omega arith) (λ h. omega arith) (λ h. omega arith) (λ h. omega arith) (λ h. omega arith) at l
 
 set_bit_stays : (n before at : ℕ) → at < 8 → (at == n / 8) ≡ false → byte_at at (bit_or before (2 ^ n)) ≡ byte_at at before
 set_bit_stays n before at l t =

@@ -79,11 +79,11 @@ pub page_of_place : (rs : List PageRange) (page page' n : ℕ) → page_place rs
 page_of_place [] page page' n e e' = absurd (cc e)
 page_of_place (r ∷ rs) page page' n e e' =
     same_step (has_page page r) (has_page page' r) (page - r.first) (page' - r.first) r.count n (page_place rs page) (page_place rs page')
-      (λ h. let t = has_page_tells page r h in omega arith)
-      (λ h. let t = has_page_tells page' r h in omega arith)
-      (page_of_place rs page page')
-      (λ h h' i. let t = has_page_tells page r h in let t' = has_page_tells page' r h' in omega arith)
-      e e'
+    (λ h. let t = has_page_tells page r h in omega arith)
+    (λ h. let t = has_page_tells page' r h in omega arith)
+    (page_of_place rs page page')
+    (λ h h' i. let t = has_page_tells page r h in let t' = has_page_tells page' r h' in omega arith)
+    e e'
 
 quad_of_place_at : (rs : List PageRange) (x y i : ℕ) (o o' : Option ℕ) → page_place rs (x / 512) ≡ o → page_place rs (y / 512) ≡ o'
     → option_map (λ n. 64 * n + x % 512 / 8) o ≡ Some i → option_map (λ n. 64 * n + y % 512 / 8) o' ≡ Some i → x - x % 8 ≡ y - y % 8
@@ -173,7 +173,7 @@ module _ (image : ImageValue) (address : ℕ) where
   opening_pages [] n e = absurd (cc e)
   opening_pages (r ∷ rs) n e =
       opening_step r (quads_of image rs) (has_page (address / 512) r) (page_place rs (address / 512)) (64 * n + address % 512 / 8) refl
-        (λ m h. opening_pages rs m h) (ap (option_map (λ (v : ℕ). 64 * v + address % 512 / 8)) e)
+      (λ m h. opening_pages rs m h) (ap (option_map (λ (v : ℕ). 64 * v + address % 512 / 8)) e)
 
   opening_at : (rs : List PageRange) (o : Option ℕ) (place : ℕ) → page_place rs (address / 512) ≡ o → option_map (λ n. 64 * n + address % 512 / 8) o ≡ Some place → AreOpening image (quads_of image rs) address place
   opening_at rs None place p e = absurd (cc e)

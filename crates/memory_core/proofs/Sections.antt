@@ -1,5 +1,5 @@
 -- The quadwords that an image starts with, by its sections.
-use Rattle.std.proofs.Common.{◌≡◌, ℕ, ◌<◌, ◌≤◌, ◌+◌, ◌-◌, ◌/◌, ◌%◌, ◌==◌, ◌&&◌, Bool, true, false, cond, List, [], ◌∷◌, Option, Some, None, option_map, unwrap_or, slice_index, find, refl, sym, ap, ◌∙◌, subst, arith}
+use Rattle.std.proofs.Common.{◌≡◌, ℕ, ◌<◌, ◌≤◌, ◌+◌, ◌-◌, ◌/◌, ◌%◌, ◌==◌, ◌&&◌, Bool, true, false, cond, List, [], ◌∷◌, Option, Some, None, option_map, unwrap_or, slice_index, find, map, refl, sym, ap, ◌∙◌, subst, arith}
 use Rattle.std.proofs.lemmas.Bool.Decides.{nat_tests}
 use Rattle.std.specs.Prelude.{nat_le, nat_lt}
 use Rattle.std.specs.List.{list_all}
@@ -21,8 +21,8 @@ module _ (image : ImageValue) (address : ℕ) (aligned : address % 8 ≡ 0) wher
   unfolding opening
   opening_is =
       same_quad (λ at. byte_in image (address + at)) (λ at. byte_of (find (has_address address) image.sections) (address + at))
-        (λ at l. let page : (address + at) / 512 ≡ address / 512 = omega arith in
-          ap (λ (p : ℕ). byte_of (find (λ (s : SectionValue). has_page p (row_of s)) image.sections) (address + at)) page)
+      (λ at l. let page : (address + at) / 512 ≡ address / 512 = omega arith in
+      ap (λ (p : ℕ). byte_of (find (λ (s : SectionValue). has_page p (row_of s)) image.sections) (address + at)) page)
 
   pub opening_outside : find (has_address address) image.sections ≡ None → 0 ≡ opening image address
   opening_outside h = sym (opening_is ∙ ap (λ (f : Option SectionValue). quad_of (λ at. byte_of f (address + at))) h)
@@ -30,8 +30,8 @@ module _ (image : ImageValue) (address : ℕ) (aligned : address % 8 ≡ 0) wher
   pub opening_inside : (s : SectionValue) (offset : ℕ) → find (has_address address) image.sections ≡ Some s → s.start ≤ address → offset ≡ address - s.start → quad_of (λ at. slice_index s.stored (offset + at)) ≡ opening image address
   opening_inside s offset h l o =
       sym (opening_is ∙ ap (λ (f : Option SectionValue). quad_of (λ at. byte_of f (address + at))) h
-        ∙ same_quad (λ at. slice_index s.stored (address + at - s.start)) (λ at. slice_index s.stored (offset + at))
-            (λ at _. let e : address + at - s.start ≡ offset + at = omega arith in ap (slice_index s.stored) e))
+      ∙ same_quad (λ at. slice_index s.stored (address + at - s.start)) (λ at. slice_index s.stored (offset + at))
+      (λ at _. let e : address + at - s.start ≡ offset + at = omega arith in ap (slice_index s.stored) e))
 
 -- ---- a section that is found begins at the address or below
 
@@ -56,11 +56,11 @@ found_passes test (y ∷ ys) x h = passes_step (test y) refl h (found_passes tes
     passes_step true t h later = let same : y ≡ x = cc h in ap test (sym same) ∙ t
     passes_step false t h later = later h
 
-found_among : {A : Type 0} (test all : A → Bool) (xs : List A) (x : A) → list_all all xs ≡ true → find test xs ≡ Some x → all x ≡ true
-found_among test all [] x a h = absurd (cc h)
-found_among test all (y ∷ ys) x a h =
-    found_step (λ z. all z ≡ true) y x (find test ys) (first_true (all y) (list_all all ys) a)
-      (found_among test all ys x (second_true (all y) (list_all all ys) a)) (test y) h
+found_among : {A B : Type 0} (test : A → Bool) (form : A → B) (all : B → Bool) (xs : List A) (x : A) → list_all all (map form xs) ≡ true → find test xs ≡ Some x → all (form x) ≡ true
+found_among test form all [] x a h = absurd (cc h)
+found_among test form all (y ∷ ys) x a h =
+    found_step (λ z. all (form z) ≡ true) y x (find test ys) (first_true (all (form y)) (list_all all (map form ys)) a)
+    (found_among test form all ys x (second_true (all (form y)) (list_all all (map form ys)) a)) (test y) h
 
 low : (s : SectionValue) (address : ℕ) → is_sound (row_of s) ≡ true → has_address address s ≡ true → s.start ≤ address
 low s address h t =
@@ -70,4 +70,4 @@ low s address h t =
 
 pub found_low : (image : ImageValue) → IsWhole image → (address : ℕ) (s : SectionValue) → find (has_address address) image.sections ≡ Some s → s.start ≤ address
 found_low image whole address s h =
-    low s address (found_among (has_address address) (λ (t : SectionValue). is_sound (row_of t)) image.sections s whole.laid_out.sound h) (found_passes (has_address address) image.sections s h)
+    low s address (found_among (has_address address) row_of is_sound image.sections s whole.laid_out.sound h) (found_passes (has_address address) image.sections s h)

@@ -5,29 +5,24 @@ ghost use Rattle.memory_core.specs.Laws.{PairsAgree, BeginningsMeet, ReadersLeav
 /// what that one found.
 pub fn pairs_agree()
     ensures { PairsAgree }
-{
-}
+{}
 
 /// Each beginning of a history that meets the order meets it.
 pub fn beginnings_meet()
     ensures { BeginningsMeet }
-{
-}
+{}
 
 /// An entry that doesn't write leaves every quadword as it was.
 pub fn readers_leave()
     ensures { ReadersLeave }
-{
-}
+{}
 
 /// The bytes of a quadword that a change doesn't name stand.
 pub fn others_stay()
     ensures { OthersStay }
-{
-}
+{}
 
 /// A quadword of the image is what the earliest access to it found, and else the quadword now.
 pub fn opening_is_found()
     ensures { OpeningIsFound }
-{
-}
+{}

@@ -7,15 +7,12 @@ mod change;
 mod entry;
 pub mod laws;
 mod memory;
-
-
 mod page;
 mod reservation;
 mod state;
-
+#[cfg(test)]
+mod tests;
 
 pub use entry::{Change, Entry, Kind, Reply, Request, SetUp};
 pub use memory::Memory;
 pub use state::MemState;
-
-

@@ -196,7 +196,11 @@ impl MemState {
             retired: request.retired,
             before,
             after: left(request.kind, success, request.change, before),
-            quad: if request.kind.is_memory() { request.quad } else { 0 },
+            quad: if request.kind.is_memory() {
+                request.quad
+            } else {
+                0
+            },
             processor: request.processor,
             kind: request.kind,
             success,

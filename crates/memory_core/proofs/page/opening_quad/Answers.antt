@@ -15,8 +15,8 @@ returns-in-Some c =
     let found : find (has_address c.args.address) c.args.image.now.sections ≡ Some s = sym c.in-Some.ensures in
     c.stored_quad.ensures
     ∙ opening_inside c.args.image.now c.args.address c.requires.aligned s (c.args.address - c.section.inside.start) found
-        (found_low c.args.image.now c.requires.whole c.args.address s found)
-        (ap (λ (s : SectionValue). c.args.address - s.start) c.section.view_is)
+    (found_low c.args.image.now c.requires.whole c.args.address s found)
+    (ap (λ (s : SectionValue). c.args.address - s.start) c.section.view_is)
 
 pub returns-in-None : goal.returns-in-None
 returns-in-None c = opening_outside c.args.image.now c.args.address c.requires.aligned (sym c.in-None.ensures)

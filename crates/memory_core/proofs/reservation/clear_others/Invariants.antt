@@ -4,6 +4,6 @@ use Rattle.memory_core.proofs.reservation.clear_others.Given as goal
 
 abbrev pub invariant-loop-i : goal.invariant-loop-i
 invariant-loop-i l = record {
-    done : (p : ℕ) → p < l.i → slice_index_or l.reservations p none ≡ cleared_by l.processor l.block p (slice_index_or l.fn.reservations p none);
-    rest : (p : ℕ) → l.i ≤ p → slice_index_or l.reservations p none ≡ slice_index_or l.fn.reservations p none;
-  }
+  done : (p : ℕ) → p < l.i → slice_index_or l.reservations p none ≡ cleared_by l.processor l.block p (slice_index_or l.fn.reservations p none);
+  rest : (p : ℕ) → l.i ≤ p → slice_index_or l.reservations p none ≡ slice_index_or l.fn.reservations p none;
+}

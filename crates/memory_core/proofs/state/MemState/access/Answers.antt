@@ -16,4 +16,4 @@ returns-clause-order c =
     let fits = fits_entry old.set_up old.history c.args.request.now c.requires.request in
     let entered = c.enter.ensures in
     subst (λ (v : Contents). Meets v.set_up (reverse v.history)) (sym entered)
-      (meets-push old.set_up old.history (old.history ++ c.next_entry-entry.result ∷ []) c.next_entry-entry.result order (rw c.next_entry-entry.ensures fits) refl)
+    (meets-push old.set_up old.history (old.history ++ c.next_entry-entry.result ∷ []) c.next_entry-entry.result order (rw c.next_entry-entry.ensures fits) refl)

@@ -27,22 +27,22 @@ overflow_add-self c =
 
 pub store-requires : goal.store-requires
 store-requires c = record {
-    few = rw c.deref.ensures.value c.self.invariant.few;
-    place = rw (c.deref.ensures.value, c.deref_mut.ensures.value) (place_within c.self.inside c.self.invariant c.args.entry.quad);
-  }
+  few = rw c.deref.ensures.value c.self.invariant.few;
+  place = rw (c.deref.ensures.value, c.deref_mut.ensures.value) (place_within c.self.inside c.self.invariant c.args.entry.quad);
+}
 
 pub note-requires-clause-room : goal.note-requires-clause-room
 note-requires-clause-room c =
     let m = c.self.inside in
     let n = c.match-entry.self-inside in
     let same : n.reservations ≡ m.reservations =
-        elim c.match-entry.branch [ in-Put w ↦ ap (λ (x : Inside). x.reservations) w.self-inside-is | in-Get w ↦ ap (λ (x : Inside). x.reservations) w.self-inside-is | in_default w ↦ ap (λ (x : Inside). x.reservations) w.self-inside-is ] in
+    elim c.match-entry.branch [ in-Put w ↦ ap (λ (x : Inside). x.reservations) w.self-inside-is | in-Get w ↦ ap (λ (x : Inside). x.reservations) w.self-inside-is | in_default w ↦ ap (λ (x : Inside). x.reservations) w.self-inside-is ] in
     let items = ap (λ (v : Vec Reservation Global). v.items) same in
     let limit = ap (λ (v : Contents). v.set_up.limit) c.self.view_is in
     let history = ap (λ (v : Contents). length v.history) c.self.view_is in
     let processors = ap (λ (v : Contents). v.processors) c.self.view_is in
     rw (c.deref_mut-2.ensures.value, items)
-      (tries_fit m c.args.entry.processor (slice_index_or m.reservations.items c.args.entry.processor none) c.self.invariant (omega (arith, c.requires.room, limit, history)) (omega (arith, c.requires.processor, processors)) refl)
+    (tries_fit m c.args.entry.processor (slice_index_or m.reservations.items c.args.entry.processor none) c.self.invariant (omega (arith, c.requires.room, limit, history)) (omega (arith, c.requires.processor, processors)) refl)
 
 pub invariant_of-self : goal.invariant_of-self
 invariant_of-self c =
@@ -53,26 +53,30 @@ invariant_of-self c =
     let view = c.self.view_is in
     let fits : Fits (set_up_of m) (reverse m.history.items) e = subst (λ (v : Contents). Fits v.set_up (reverse v.history) e) (sym view) c.requires.fits in
     let entered : IsEntered m n e =
-        elim c.match-entry.branch [
-          | in-Put w ↦
-            let byte = byte_put (set_up_of m) (reverse m.history.items) e fits w.in-Put.is in
-            let items = w.push_reserved.ensures.items ∙ rw w.to_le_bytes.ensures (ap (λ (b : ℕ). m.output.items ++ b ∷ []) byte) in
-            subst (λ (x : Inside). IsEntered m x e) (sym w.self-inside-is) (entered_put m e s w.push_reserved.new.self w.in-Put.is items w.push_reserved.ensures.capacity)
-          | in-Get w ↦ subst (λ (x : Inside). IsEntered m x e) (sym w.self-inside-is) (entered_get m e s w.in-Get.is)
-          | in_default w ↦
-            subst (λ (x : Inside). IsEntered m x e) (sym w.self-inside-is)
-              (entered_memory m e s (with_items m.quads w.store.new.quads) w.in_default.not-Put w.in_default.not-Get
-                (with_items_is m.quads w.store.new.quads (omega (arith, w.store.auto.quads, w.deref_mut.ensures.len)) ∙ w.store.ensures ∙ rw (w.deref.ensures.value, w.deref_mut.ensures.value) refl))
-        ] in
+    elim c.match-entry.branch [
+      | in-Put w ↦
+          let byte = byte_put (set_up_of m) (reverse m.history.items) e fits w.in-Put.is in
+          let items = w.push_reserved.ensures.items ∙ rw w.to_le_bytes.ensures (ap (λ (b : ℕ). m.output.items ++ b ∷ []) byte) in
+          subst (λ (x : Inside). IsEntered m x e) (sym w.self-inside-is) (entered_put m e s w.push_reserved.new.self w.in-Put.is items w.push_reserved.ensures.capacity)
+      | in-Get w ↦ subst (λ (x : Inside). IsEntered m x e) (sym w.self-inside-is) (entered_get m e s w.in-Get.is)
+      | in_default w ↦
+          subst (λ (x : Inside). IsEntered m x e) (sym w.self-inside-is)
+          (entered_memory m e s (with_items m.quads w.store.new.quads) w.in_default.not-Put w.in_default.not-Get
+          (with_items_is m.quads w.store.new.quads (omega (arith, w.store.auto.quads, w.deref_mut.ensures.len)) ∙ w.store.ensures ∙ rw (w.deref.ensures.value, w.deref_mut.ensures.value) refl))
+    ] in
     let kept = with_items_is n.reservations c.note.new.reservations (omega (arith, c.note.auto.reservations, c.deref_mut-2.ensures.len)) in
     let o : Inside = record n { reservations = with_items n.reservations c.note.new.reservations; history = c.push_reserved-2.new.self } in
     let noted : IsNoted m n o e = record {
-        set_up = refl; ranges = refl; quads = refl; taken = refl; output = refl;
-        count = ap length kept ∙ c.note.auto.reservations ∙ ap length c.deref_mut-2.ensures.value;
-        kept = λ p lt. ap (λ (rs : List Reservation). slice_index_or rs p none) kept ∙ (rw c.deref_mut-2.ensures.value at c.note.ensures) p lt;
-        history = c.push_reserved-2.ensures.items;
-        room = c.push_reserved-2.ensures.capacity;
-      } in
+      set_up = refl;
+      ranges = refl;
+      quads = refl;
+      taken = refl;
+      output = refl;
+      count = ap length kept ∙ c.note.auto.reservations ∙ ap length c.deref_mut-2.ensures.value;
+      kept = λ p lt. ap (λ (rs : List Reservation). slice_index_or rs p none) kept ∙ (rw c.deref_mut-2.ensures.value at c.note.ensures) p lt;
+      history = c.push_reserved-2.ensures.items;
+      room = c.push_reserved-2.ensures.capacity;
+    } in
     let limit = ap (λ (v : Contents). v.set_up.limit) view in
     let history = ap (λ (v : Contents). length v.history) view in
     sound_more m n o e s fits c.requires.aligned (omega (arith, c.requires.room, limit, history)) entered noted
