@@ -22,6 +22,7 @@ use Rattle.memory_core.specs.Places.{page_count, quad_place}
 use Rattle.memory_core.specs.Requests.{CanMake}
 use Rattle.memory_core.specs.Reservations.{none, next_reservation}
 use Rattle.memory_core.specs.Sound.{set_up_of, IsSound}
+use Rattle.memory_core.proofs.Choices.{if_true, if_false}
 use Rattle.memory_core.proofs.Keeping.{kept_more, after_entry, current_more, reverse-push, output_of-push, room_for_try, gets_le, length-output_of}
 use Rattle.memory_core.proofs.Reading.{memory_kind, readable}
 
@@ -187,14 +188,10 @@ module _ (m n o : Inside) (e : Entry) (s : IsSound m) (f : Fits (set_up_of m) (r
 
 -- ---- the request's entry
 
-if_memory : (b : Bool) (quad : ℕ) → b ≡ true → (if b then quad else 0) ≡ quad
-if_memory true quad h = refl
-if_memory false quad h = absurd (cc h)
-
 pub entry_readable : (set_up : SetUp) (history : List Entry) (request : Request) → CanMake set_up request → is_memory request.kind ≡ true
     → is_allowed set_up.image.pages (entry_for set_up history request).quad false ≡ true
 entry_readable set_up history request can memory =
-    ap (λ (q : ℕ). is_allowed set_up.image.pages q false) (if_memory (is_memory request.kind) request.quad memory) ∙ readable set_up request can memory
+    ap (λ (q : ℕ). is_allowed set_up.image.pages q false) (if_true (is_memory request.kind) request.quad 0 memory) ∙ readable set_up request can memory
 
 pub meets-push : (set_up : SetUp) (history new : List Entry) (e : Entry) → Meets set_up (reverse history) → Fits set_up (reverse history) e → new ≡ history ++ e ∷ [] → Meets set_up (reverse new)
 meets-push set_up history new e m f is = subst (λ (h : List Entry). Meets set_up h) (sym (ap reverse is ∙ reverse-push history e)) (m, f)
@@ -207,16 +204,12 @@ succeeds_same : (kind : Kind) (set_up : SetUp) (past : List Entry) (p quad : ℕ
 succeeds_same StoreConditional _ _ _ _ = refl
 succeeds_same _ _ _ _ _ = refl
 
-if_other : (b : Bool) (quad : ℕ) → b ≡ false → (if b then quad else 0) ≡ 0
-if_other true quad h = absurd (cc h)
-if_other false quad h = refl
-
 -- the entry that the order gives for a request fits
 pub fits_entry : (set_up : SetUp) (history : List Entry) (request : Request) → CanMake set_up request → Fits set_up (reverse history) (entry_for set_up history request)
 fits_entry set_up history request can = record {
   before = found_same (is_memory request.kind) (left_by set_up (reverse history)) request.quad (if is_get request.kind then input_at set_up.input (gets (reverse history)) else 0);
   success = succeeds_same request.kind set_up (reverse history) request.processor request.quad;
-  place = if_other (is_memory request.kind) request.quad;
+  place = if_false (is_memory request.kind) request.quad 0;
   change = request.change;
   allowed = can.change;
   after = refl;

@@ -17,6 +17,7 @@ use Rattle.memory_core.specs.Order.{stands_on, left_by, block_of, reserved_by, r
 use Rattle.memory_core.specs.Places.{quad_place}
 use Rattle.memory_core.specs.Reservations.{holds, own_next, other_next, next_reservation}
 use Rattle.memory_core.specs.Fields.{IsKept, IsAt, AreCurrent, stored_at}
+use Rattle.memory_core.proofs.Choices.{same_number, other_number}
 use Rattle.memory_core.proofs.Placing.{quad_of_place, place_of_quad}
 
 -- ---- reservations
@@ -82,20 +83,6 @@ length-stored_at (Some i) v quads = length-set quads i v
 stored_other : (o : Option ℕ) (v : ℕ) (quads : List ℕ) (j : ℕ) → ((i : ℕ) → o ≡ Some i → i ≢ j) → slice_index_or (stored_at o v quads) j 0 ≡ slice_index_or quads j 0
 stored_other None v quads j h = refl
 stored_other (Some i) v quads j h = set_other quads i j v (h i refl)
-
-if_true : {A : Type 0} (b : Bool) (x y : A) → b ≡ true → (if b then x else y) ≡ x
-if_true true x y h = refl
-if_true false x y h = absurd (cc h)
-
-if_false : {A : Type 0} (b : Bool) (x y : A) → b ≡ false → (if b then x else y) ≡ y
-if_false false x y h = refl
-if_false true x y h = absurd (cc h)
-
-same_number : (a b : ℕ) → (a == b) ≡ true → a ≡ b
-same_number a b h = grind (arith, nat_tests)
-
-other_number : (a b : ℕ) → (a == b) ≡ false → a ≢ b
-other_number a b h = grind (arith, nat_tests)
 
 -- the quadwords behind an entry
 abbrev pub after_entry : List PageRange → List ℕ → Entry → List ℕ
@@ -179,8 +166,3 @@ length-output_of history = rw (length-map (filter (λ (x : Entry). is_put x.kind
 -- a processor has made fewer store conditionals than the history has room for
 pub room_for_try : (past : List Entry) (p limit : ℕ) (r : Reservation) → IsKept past p r → length past < limit → limit < 2 ^ 32 → r.tries + 1 < 2 ^ 32
 room_for_try past p limit r k room fits = omega (arith, k.tries, tries_le past p)
-
-pub any_default : {A : Type 0} (xs : List A) (i : ℕ) (c d : A) → i < length xs → slice_index_or xs i c ≡ slice_index_or xs i d
-any_default [] i c d h = absurd (omega arith)
-any_default (x ∷ xs) zero c d h = refl
-any_default (x ∷ xs) (suc i) c d h = any_default xs i c d (omega arith)

@@ -1,3 +1,4 @@
+pub mod Choices
 pub mod Filling
 pub mod Placing
 pub mod Keeping

@@ -13,24 +13,7 @@ use Rattle.memory_core.specs.Kinds.{is_memory, writes, is_conditional, is_get}
 use Rattle.memory_core.specs.Laws.{PairsAgree, BeginningsMeet, ReadersLeave, OpeningIsFound, first_found}
 use Rattle.memory_core.specs.Opening.{opening}
 use Rattle.memory_core.specs.Order.{own, stands_on, left_by, block_of, reserved_by, reserved, tries, strikes, succeeds, gets, input_at, found, Fits, Meets}
-
-if_true : {A : Type 0} (b : Bool) (x y : A) → b ≡ true → (if b then x else y) ≡ x
-if_true true x y h = refl
-if_true false x y h = absurd (cc h)
-
-first_true : (a b : Bool) → (a && b) ≡ true → a ≡ true
-first_true true b h = refl
-first_true false b h = absurd (cc h)
-
-second_true : (a b : Bool) → (a && b) ≡ true → b ≡ true
-second_true true b h = h
-second_true false b h = absurd (cc h)
-
-same_number : (a b : ℕ) → (a == b) ≡ true → a ≡ b
-same_number a b h = grind (arith, nat_tests)
-
-equal_number : (a b : ℕ) → a ≡ b → (a == b) ≡ true
-equal_number a b h = grind (arith, nat_tests)
+use Rattle.memory_core.proofs.Choices.{if_true, first_true, second_true, same_number, equal_number}
 
 -- what doesn't write leaves what it found
 unwritten : (kind : Kind) (success : Bool) (change : Change) (before : ℕ) → writes kind success ≡ false → is_memory kind ≡ true → leaves kind success change before ≡ before

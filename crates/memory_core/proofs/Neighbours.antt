@@ -7,6 +7,7 @@ use Rattle.std.proofs.lemmas.Nat.Bits.{bit_at_cat_low, bit_at-zero, bit_at_above
 use Rattle.std.proofs.Math.Nat.{div-eq_of_lt, mul-mod_left}
 use Rattle.std.specs.Int.Bits.{or_zero_r}
 use Rattle.std.specs.Int.{w64, bit_at, byte_at, from_le_bytes, to_le_bytes}
+use Rattle.memory_core.proofs.Choices.{if_false}
 use Rattle.memory_core.specs.declared.entry.Change.{Change}
 use Rattle.memory_core.specs.declared.entry.Change.TheVariants.{Nothing, Bytes, AddWord, SetBit, ClearBit, Byte}
 use Rattle.memory_core.specs.Bytes.{quad_of, with_bytes, word_at}
@@ -55,10 +56,6 @@ byte_at-with_bytes mask value before at l =
 
 not_one : (b : ℕ) (x y : ℕ) → b ≡ 0 → (if b == 1 then x else y) ≡ y
 not_one b x y h = rw h refl
-
-unnamed : (b : Bool) (x y : ℕ) → b ≡ false → (if b then x else y) ≡ y
-unnamed false x y h = refl
-unnamed true x y h = absurd (cc h)
 
 -- the mask of the two bytes of a word
 word_mask : (place at : ℕ) → ((at == place) || (at == place + 1)) ≡ false → bit_at (3 * 2 ^ place) at ≡ 0
@@ -127,7 +124,7 @@ clear_bit_stays n before at r l t =
 pub others_stay : OthersStay
 others_stay Nothing before at r l t = refl
 others_stay (Bytes mask value) before at r l t =
-    byte_at-with_bytes mask value before at l ∙ unnamed (bit_at mask at == 1) (byte_at at value) (byte_at at before) t
+    byte_at-with_bytes mask value before at l ∙ if_false (bit_at mask at == 1) (byte_at at value) (byte_at at before) t
 others_stay (AddWord place value) before at r l t =
     byte_at-with_bytes (3 * 2 ^ place) ((word_at place before + value) % 2 ^ 16 * 2 ^ (8 * place)) before at l
     ∙ not_one (bit_at (3 * 2 ^ place) at) (byte_at at ((word_at place before + value) % 2 ^ 16 * 2 ^ (8 * place))) (byte_at at before) (word_mask place at t)

@@ -10,6 +10,7 @@ use Rattle.image_file.specs.Values.{SectionValue, ImageValue}
 use Rattle.image_file.specs.Whole.{IsWhole}
 use Rattle.memory_core.specs.Bytes.{quad_of}
 use Rattle.memory_core.specs.Opening.{opening}
+use Rattle.memory_core.proofs.Choices.{first_true, second_true}
 use Rattle.memory_core.proofs.Filling.{same_quad}
 
 abbrev byte_of : Option SectionValue → ℕ → ℕ
@@ -34,14 +35,6 @@ module _ (image : ImageValue) (address : ℕ) (aligned : address % 8 ≡ 0) wher
       (λ at _. let e : address + at - s.start ≡ offset + at = omega arith in ap (slice_index s.stored) e))
 
 -- ---- a section that is found begins at the address or below
-
-first_true : (a b : Bool) → (a && b) ≡ true → a ≡ true
-first_true true b h = refl
-first_true false b h = absurd (cc h)
-
-second_true : (a b : Bool) → (a && b) ≡ true → b ≡ true
-second_true true b h = h
-second_true false b h = absurd (cc h)
 
 found_step : {A : Type 0} (P : A → Type 0) (y x : A) (rest : Option A) → P y → (rest ≡ Some x → P x) → (b : Bool) → cond b (Some y) rest ≡ Some x → P x
 found_step P y x rest here later true h = let same : y ≡ x = cc h in subst P same here

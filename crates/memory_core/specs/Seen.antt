@@ -1,5 +1,5 @@
 -- What an access adds to what is seen of a history. These lists are oldest first.
-use Rattle.std.specs.Prelude.{◌≡◌, ℕ, Bool, List, [], ◌∷◌, ◌++◌, length, reverse}
+use Rattle.std.specs.Prelude.{◌≡◌, ◌≤◌, ℕ, Bool, List, [], ◌∷◌, ◌++◌, length, reverse}
 use Rattle.memory_core.specs.declared.entry.Entry.{Entry}
 use Rattle.memory_core.specs.declared.entry.Request.{Request}
 use Rattle.memory_core.specs.declared.entry.SetUp.{SetUp}
@@ -15,6 +15,7 @@ pub record IsNext (set_up : SetUp) (may_come : List Entry → Type 0) (request :
   pub found : before ≡ (entry_for set_up (old ++ between) request).before
   pub succeeded : success ≡ (entry_for set_up (old ++ between) request).success
   pub order : Meets set_up (reverse new)
+  pub room : length new ≤ set_up.limit
 
 -- entries of other processors alone, up to the limit
 pub record IsOver (set_up : SetUp) (may_come : List Entry → Type 0) (processor : ℕ) (old new : List Entry) : Type 0 where

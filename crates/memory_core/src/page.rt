@@ -48,7 +48,7 @@ pub(crate) fn store(ranges: &[PageRange], quads: &mut [u64], address: u32, value
 }
 
 /// The quadword at an address, as the image's sections have it.
-pub(crate) fn opening_quad(image: &Image, address: u32) -> u64
+fn opening_quad(image: &Image, address: u32) -> u64
     requires whole { IsWhole image.now }
     requires aligned { address % 8 ≡ 0 }
     ensures { result ≡ opening image.now address }

@@ -6,7 +6,7 @@ ghost use Rattle.memory_core.specs.Reservations.{holds, none, own_next, cleared_
 use crate::entry::{Entry, Kind};
 
 /// The block of 16 bytes that a processor has reserved, and how many store conditionals it has made.
-#[derive(Clone, Copy, Debug)]
+#[derive(Clone, Copy)]
 pub(crate) struct Reservation {
     pub block: Option<u32>,
     pub tries: u32,

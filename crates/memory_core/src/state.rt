@@ -69,6 +69,7 @@ impl MemState {
         ensures full { (result ≡ Reply.Full) ↔ (length self.old.history ≡ self.old.set_up.limit) }
         ensures reply { MatchReply result (Appends self.old self.new request.now) (self.new ≡ self.old) }
         ensures order { Meets self.new.set_up (reverse self.new.history) }
+        ensures room { length self.new.history ≤ self.new.set_up.limit }
     {
         if self.history.len() == self.limit as usize {
             return Reply::Full;
@@ -114,6 +115,7 @@ impl MemState {
         self.history
     }
 
+    // All the memory that accesses use.
     fn reserve(
         alloc: Global,
         image: &Image,
@@ -143,7 +145,7 @@ impl MemState {
         })
     }
 
-    // The quadword that has the byte at an address.
+    // The quadword that has the byte at an address, now.
     fn quad(&self, address: u32) -> Option<u64>
         ensures { result ≡ quad_left self.now.set_up self.now.history address }
     {
@@ -151,6 +153,7 @@ impl MemState {
         Some(self.quads[place])
     }
 
+    // The next input byte, or minus 1 as a longword.
     fn next_input(&self) -> u64
         ensures { result ≡ input_at self.now.set_up.input (gets (reverse self.now.history)) }
     {
@@ -160,6 +163,7 @@ impl MemState {
         }
     }
 
+    // What the access finds.
     fn found(&self, request: &Request) -> u64
         requires { CanMake self.now.set_up request.now }
         ensures { result ≡ found self.now.set_up (reverse self.now.history) request.now.kind request.now.quad }
@@ -171,6 +175,7 @@ impl MemState {
         }
     }
 
+    // Whether the access succeeds.
     fn succeeds(&self, request: &Request) -> bool
         requires processor { request.now.processor < self.now.processors }
         requires room { length self.now.history < self.now.set_up.limit }
@@ -207,6 +212,7 @@ impl MemState {
         }
     }
 
+    // Appends an entry, and does what it says.
     fn enter(&mut self, entry: Entry)
         requires processor { entry.processor < self.old.processors }
         requires fits { Fits self.old.set_up (reverse self.old.history) entry }

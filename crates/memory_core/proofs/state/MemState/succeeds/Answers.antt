@@ -2,7 +2,7 @@ use Rattle.std.proofs.Common.{◌≡◌, ◌<◌, ◌^◌, ◌∙◌, ap, arith,
 use Rattle.memory_core.specs.Contents.{Contents}
 use Rattle.memory_core.specs.Reservations.{none}
 use Rattle.memory_core.proofs.Entering.{tries_fit}
-use Rattle.memory_core.proofs.Keeping.{any_default}
+use Rattle.memory_core.proofs.Choices.{any_default}
 use Rattle.memory_core.proofs.state.MemState.succeeds.Goals as goal
 
 pub overflow_add-own : goal.overflow_add-own

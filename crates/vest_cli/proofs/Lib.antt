@@ -1,0 +1,7 @@
+mod Blocks
+mod Digits
+mod Exactly
+mod Hexadecimal
+mod Progress
+mod Runs
+mod Walks

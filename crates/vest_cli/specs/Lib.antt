@@ -1,0 +1,13 @@
+pub mod Words
+pub mod Lent
+pub mod Kept
+pub mod Digits
+pub mod Line
+pub mod Stopping
+pub mod Built
+pub mod FirstRun
+pub mod Stages
+pub mod Delivery
+pub mod Run
+pub mod Vest
+pub mod Decided

@@ -1,0 +1,45 @@
+// What is kept of a call that made a run.
+
+use image_file::Image;
+use memory_core::Entry;
+use std::alloc::Global;
+use std::marker::Model;
+
+/// The image, the input and the history of the last run, and the numbers that it was made with: at most `budget` steps
+/// of a processor, at most `limit` entries, and the miss number of store conditionals.
+#[derive(Drop)]
+pub struct Kept {
+    pub image: Option<Image>,
+    pub input: Vec<u8>,
+    pub history: Vec<Entry>,
+    pub budget: u64,
+    pub limit: u32,
+    pub miss: u16,
+}
+
+impl Model for Kept {
+    ghost use Rattle.vest_cli.specs.Kept.{KeptValue};
+
+    ghost Value = { KeptValue };
+
+    ghost view = { λ k. record { image = k.image; input = k.input.items; history = k.history.items; budget = k.budget; limit = k.limit; miss = k.miss } };
+}
+
+impl Kept {
+    ghost use Rattle.std.specs.Prelude.{◌≡◌};
+    ghost use Rattle.vest_cli.specs.Kept.{nothing_kept};
+
+    /// Nothing is kept. It takes no memory.
+    pub fn empty(alloc: Global) -> Kept
+        ensures { result ≡ nothing_kept }
+    {
+        Kept {
+            image: None,
+            input: Vec::new(alloc),
+            history: Vec::new(alloc),
+            budget: 0,
+            limit: 0,
+            miss: 0,
+        }
+    }
+}

@@ -1,0 +1,22 @@
+//! The top call: it obeys one command line, over what it is lent of the outside.
+//!
+//! A call stops before its run (statuses 1, 2, 3, 6, 8 and 9) and says why in one line of the report, or it
+//! makes its run and delivers what came of it. `specs/Vest.antt` has the whole meaning.
+#![tactic(auto)]
+
+mod built;
+mod deliver;
+mod first_run;
+mod kept;
+mod line;
+mod run;
+mod stages;
+mod status;
+mod stop;
+mod top;
+mod words;
+
+pub use kept::Kept;
+pub use status::Status;
+pub use stop::NotBuilt;
+pub use top::vest;

@@ -1,0 +1,102 @@
+// A line of text in an array, made without memory.
+ghost use Rattle.std.specs.Prelude.{◌≡◌, ◌+◌, ◌<◌, ◌≤◌, [], ◌∷◌, ◌++◌, length, decimal};
+ghost use Rattle.vest_cli.specs.Digits.{digit_at, eight_digits};
+
+use std::marker::Model;
+
+pub const LINE_ROOM: usize = 96;
+
+/// The most digits of a number.
+pub const DIGITS: usize = 20;
+
+#[derive(Drop)]
+pub struct Line {
+    bytes: [u8; LINE_ROOM],
+    len: usize,
+}
+
+impl Model for Line {
+    ghost use Rattle.std.specs.Prelude.{◌≤◌, ℕ, List, take};
+
+    ghost Value = { List ℕ };
+
+    ghost view = { λ l. take l.len l.bytes };
+
+    ghost invariant = { λ l. l.len ≤ 96 };
+}
+
+impl Line {
+    pub fn new() -> Self
+        ensures { result ≡ [] }
+    {
+        Line {
+            bytes: [0; LINE_ROOM],
+            len: 0,
+        }
+    }
+
+    pub fn as_slice(&self) -> &[u8]
+        ensures { result.now ≡ self.now }
+    {
+        &self.bytes[..self.len]
+    }
+
+    pub fn push(&mut self, byte: u8)
+        requires { length self.old < LINE_ROOM }
+        ensures { self.new ≡ self.old ++ byte ∷ [] }
+    {
+        self.bytes[self.len] = byte;
+        self.len += 1;
+    }
+
+    pub fn push_text(&mut self, text: &[u8])
+        requires { length self.old + length text.now ≤ LINE_ROOM }
+        ensures { self.new ≡ self.old ++ text.now }
+    {
+        for byte in text {
+            self.push(*byte);
+        }
+    }
+
+    /// Eight hexadecimal digits with capital letters.
+    pub fn push_longword(&mut self, number: u32)
+        requires { length self.old + 8 ≤ LINE_ROOM }
+        ensures text { self.new ≡ self.old ++ eight_digits number }
+        ensures room { length self.new ≡ length self.old + 8 }
+    {
+        for place in 0..8 {
+            self.push(digit_at(7 - place, number));
+        }
+    }
+
+    /// A blank, and the number in decimal digits.
+    pub fn push_spaced(&mut self, number: u64)
+        requires { length self.old + 1 + DIGITS ≤ LINE_ROOM }
+        ensures text { self.new ≡ self.old ++ 32 ∷ decimal number }
+        ensures room { length self.new ≤ length self.old + 1 + DIGITS }
+    {
+        self.push(b' ');
+        push_digits(self, number);
+    }
+}
+
+#[tactic(auto, using(crate::proofs::Digits::digits_one, crate::proofs::Digits::digits_fewer))]
+fn push_digits(line: &mut Line, number: u64)
+    requires { length line.old + length (decimal number) ≤ LINE_ROOM }
+    ensures { line.new ≡ line.old ++ decimal number }
+{
+    if number < 10 {
+        line.push(b'0' + number as u8);
+    } else {
+        push_digits(line, number / 10);
+        line.push(b'0' + (number % 10) as u8);
+    }
+}
+
+// The hexadecimal digit at that place, from the lowest.
+fn digit_at(place: u32, number: u32) -> u8
+    requires { place < 8 }
+    ensures { result ≡ digit_at place number }
+{
+    b"0123456789ABCDEF"[(number / 16_u32.pow(place) % 16) as usize]
+}

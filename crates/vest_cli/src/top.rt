@@ -1,0 +1,73 @@
+// The top call.
+ghost use Rattle.std.specs.Prelude.{◌≡◌, ◌↔◌, IfOk, IfErr, IfSome};
+ghost use Rattle.vest_cli.specs.Words.{spelled};
+ghost use Rattle.vest_cli.specs.Lent.{lent};
+ghost use Rattle.vest_cli.specs.Kept.{nothing_kept};
+ghost use Rattle.vest_cli.specs.Stopping.{LeavesAll};
+ghost use Rattle.vest_cli.specs.Decided.{decided, IsOrFault};
+ghost use Rattle.vest_cli.specs.Vest.{Does, Ends, Stops};
+
+use crate::kept::Kept;
+use crate::run::run;
+use crate::status::Status;
+use crate::stop::{Stop, refuse};
+use crate::words::{Command, command_of};
+use std::alloc::Global;
+use vt_outside::{Desk, Gate, Sink, Source};
+
+/// Obeys one command line. `words` are the words after the program's name.
+pub fn vest<D: Desk, I: Source, K: Sink, E: Sink, G: Gate + Sync>(
+    alloc: Global,
+    words: &[String],
+    desk: &mut D,
+    input: &mut I,
+    out: &mut K,
+    report: &mut E,
+    gate: &G,
+    kept: &mut Kept,
+) -> Status
+    ensures meaning { Ends (spelled words.now) result
+        (lent (D.meaning desk.old) (I.meaning input.old) (K.meaning out.old) (E.meaning report.old))
+        (lent (D.meaning desk.new) (I.meaning input.new) (K.meaning out.new) (E.meaning report.new))
+        kept.new }
+
+    // What that says of the status.
+    ensures usage { (result ≡ Status.Usage) ↔ (spelled words.now ≡ None) }
+    ensures decided { IfSome (decided (spelled words.now) (D.meaning desk.old).files (I.meaning input.old).left)
+        (IsOrFault result) }
+{
+    *kept = Kept::empty(alloc);
+    match obey(alloc, words, desk, input, out, report, gate, kept) {
+        Ok(status) => status,
+        Err(stop) => refuse(stop, report),
+    }
+}
+
+// What the command does, or why it stops before it has written anything.
+fn obey<D: Desk, I: Source, K: Sink, E: Sink, G: Gate>(
+    alloc: Global,
+    words: &[String],
+    desk: &mut D,
+    input: &mut I,
+    out: &mut K,
+    report: &mut E,
+    gate: &G,
+    kept: &mut Kept,
+) -> Result<Status, Stop>
+    requires { kept.old ≡ nothing_kept }
+    ensures does { IfOk result (λ status. Does (spelled words.now) status
+        (lent (D.meaning desk.old) (I.meaning input.old) (K.meaning out.old) (E.meaning report.old))
+        (lent (D.meaning desk.new) (I.meaning input.new) (K.meaning out.new) (E.meaning report.new))
+        kept.new) }
+    ensures why { IfErr result (λ stop. Stops (spelled words.now) stop
+        (D.meaning desk.old) (D.meaning desk.new) (I.meaning input.old) (I.meaning input.new)) }
+    ensures leaves { IfErr result (λ _. LeavesAll
+        (lent (D.meaning desk.old) (I.meaning input.old) (K.meaning out.old) (E.meaning report.old))
+        (lent (D.meaning desk.new) (I.meaning input.new) (K.meaning out.new) (E.meaning report.new))
+        kept.new) }
+{
+    match command_of(words) {
+        None => Err(Stop::Usage),
+        Some(Command::Run(name)) => run(alloc, name, desk, input, out, report, gate, kept),
+    }
+}
