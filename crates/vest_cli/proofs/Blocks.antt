@@ -88,7 +88,7 @@ pub loaded : (block : List ℕ) (old new : Cpu) (result : AlphaStep) (place : �
     → Stepped block old result new → Loaded ra (address_of op (regs_of old.r rb) disp) place result old new
 loaded block old new result place op ra rb disp at small none holds stepped =
     let step = subst (λ k. IsStep (memory_act_by k op ra rb disp (state_of old)) result old new) none
-      (did block old new result place (Memory op ra rb disp) at holds stepped) in
+    (did block old new result place (Memory op ra rb disp) at holds stepped) in
     let next : new.pc ≡ (old.pc + 1) % 2 ^ 32 = ap (λ (s : Alpha). s.pc) step.1 in
     record {
       is_local = step.0;
@@ -168,14 +168,14 @@ module _ (block : List ℕ) (start first second : Cpu) (r1 r2 : AlphaStep) (begi
 
         moved_r0 : slice_index first.r 0 ≡ cond (register == 0) value (slice_index start.r 0)
         moved_r0 = (move1 value register b).written 0 refl
-          ∙ first_register start.r register (address_of Lda (regs_of start.r 31) (pos value)) b.general
-          ∙ ap (λ v. cond (register == 0) v (slice_index start.r 0)) (constant start.r value b.short)
+            ∙ first_register start.r register (address_of Lda (regs_of start.r 31) (pos value)) b.general
+            ∙ ap (λ v. cond (register == 0) v (slice_index start.r 0)) (constant start.r value b.short)
 
         move_runs : LeavesBlock (Move value register) r4 start last
         move_runs = record {
           register = kept_by 18 _ 3 r4 third last 0 refl refl move4
-          ∙ kept_by 17 _ 2 r3 second third 0 refl refl (move3 value register b)
-          ∙ kept_by 16 _ 1 r2 first second 0 refl refl (move2 value register b) ∙ moved_r0;
+              ∙ kept_by 17 _ 2 r3 second third 0 refl refl (move3 value register b)
+              ∙ kept_by 16 _ 1 r2 first second 0 refl refl (move2 value register b) ∙ moved_r0;
           answers = move4.is_local;
         }
 
@@ -185,15 +185,15 @@ module _ (block : List ℕ) (start first second : Cpu) (r1 r2 : AlphaStep) (begi
 
         serve_r0 : slice_index last.r 0 ≡ slice_index start.r 0
         serve_r0 = ap (λ (c : Cpu). slice_index c.r 0) serve4.1
-          ∙ kept_by 26 _ 2 r3 second third 0 refl refl (serve3 number after b)
-          ∙ kept_by 26 _ 1 r2 first second 0 refl refl (serve2 number after b)
-          ∙ kept_by 21 _ 0 r1 start first 0 refl refl (serve1 number after b)
+            ∙ kept_by 26 _ 2 r3 second third 0 refl refl (serve3 number after b)
+            ∙ kept_by 26 _ 1 r2 first second 0 refl refl (serve2 number after b)
+            ∙ kept_by 21 _ 0 r1 start first 0 refl refl (serve1 number after b)
 
         serve_code : slice_index last.r 21 ≡ number
         serve_code = ap (λ (c : Cpu). slice_index c.r 21) serve4.1
-          ∙ kept_by 26 _ 2 r3 second third 21 refl refl (serve3 number after b)
-          ∙ kept_by 26 _ 1 r2 first second 21 refl refl (serve2 number after b)
-          ∙ (serve1 number after b).written 21 refl ∙ constant start.r number small
+            ∙ kept_by 26 _ 2 r3 second third 21 refl refl (serve3 number after b)
+            ∙ kept_by 26 _ 1 r2 first second 21 refl refl (serve2 number after b)
+            ∙ (serve1 number after b).written 21 refl ∙ constant start.r number small
 
       pub runs_block : (step : Step) → IsBlock step block → LeavesBlock step r4 start last
       runs_block (Move value register) b = move_runs value register b

@@ -135,20 +135,20 @@ module _ (f : Files) (r w : ℕ) (left : Option (List ℕ)) (n : ℕ) (out repor
   run_stops name stop (inl file) = load_meets stop name f r w new.desk _ file
   run_stops name stop (inr (image, accepted, rest)) =
       meets_as (status_of stop) _ (with_steps (steps_of image) (with_input left))
-        (image_meets f name image (λ i. with_steps (steps_of i) (with_input left)) accepted)
-        (elim rest [
-          | inl unbuilt ↦ build_meets stop image (with_input left) unbuilt
-          | inr (steps, built, unread) ↦ meets_as (status_of stop) _ (with_input left)
-              (ap (λ s. with_steps s (with_input left)) built) (input_meets stop left n new.input unread)
-        ])
+      (image_meets f name image (λ i. with_steps (steps_of i) (with_input left)) accepted)
+      (elim rest [
+        | inl unbuilt ↦ build_meets stop image (with_input left) unbuilt
+        | inr (steps, built, unread) ↦ meets_as (status_of stop) _ (with_input left)
+            (ap (λ s. with_steps s (with_input left)) built) (input_meets stop left n new.input unread)
+      ])
 
   runs_meet : (name : List ℕ) (result : Status) → Runs result name told new kept
       → Meets result (decided (Some (run name)) (Some f) left)
   runs_meet name result h =
       meets_as result _ (with_input left)
-        (image_meets f name h.image (λ i. with_steps (steps_of i) (with_input left)) h.accepted
-        ∙ ap (λ s. with_steps s (with_input left)) h.built)
-        (input_fits left n new.input kept.input result h.input (delivers_meets result _ _ _ _ _ _ h.delivered))
+      (image_meets f name h.image (λ i. with_steps (steps_of i) (with_input left)) h.accepted
+      ∙ ap (λ s. with_steps s (with_input left)) h.built)
+      (input_fits left n new.input kept.input result h.input (delivers_meets result _ _ _ _ _ _ h.delivered))
 
 ends_meet : (command : Option CommandValue) (result : Status) (files : Option Files) (r w : ℕ) (left : Option (List ℕ)) (n : ℕ)
     (out report : SinkMeaning) (new : Lent) (kept : KeptValue)
@@ -160,7 +160,7 @@ ends_meet None result files r w left n out report new kept (done h) = absurd h
 ends_meet (Some (run name)) result None r w left n out report new kept h = tt
 ends_meet (Some (run name)) result (Some f) r w left n out report new kept (stopped stop is why leaves) =
     subst (λ s. Meets s (decided (Some (run name)) (Some f) left)) (sym is)
-      (run_stops f r w left n out report new kept name stop why)
+    (run_stops f r w left n out report new kept name stop why)
 ends_meet (Some (run name)) result (Some f) r w left n out report new kept (done h) =
     runs_meet f r w left n out report new kept name result h
 
@@ -168,7 +168,7 @@ pub exactly : (command : Option CommandValue) (result : Status) (old new : Lent)
     → IfSome (decided command old.desk.files old.input.left) (IsOrFault result)
 exactly command result old new kept h =
     ends_meet command result old.desk.files old.desk.read_faults old.desk.write_faults old.input.left old.input.faults
-      old.out old.report new kept h
+    old.out old.report new kept h
 
 -- no command stops or ends with the status of the usage line
 load_no_usage : (stop : Stop) (name : List ℕ) (old new : DeskMeaning) → StopsAtLoad stop name old new

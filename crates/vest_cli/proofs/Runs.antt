@@ -88,17 +88,17 @@ next_run steps blocks place r0 r0' old new new' run here register entered =
     let one : length entry ≤ 1 = one_entry here.step place r0 in
     record {
       entries = ap (λ h. h ++ entries_from (drop (place + 1) steps) (place + 1) r0') history
-      ∙ ap (λ n. (new.history ++ entry) ++ entries_from (drop n steps) (place + 1) r0') next
-      ∙ ap (λ r. (new.history ++ entry) ++ entries_from (drop (suc place) steps) (place + 1) r) register
-      ∙ append_assoc new.history entry (entries_from (drop (suc place) steps) (place + 1) (moved here.step r0))
-      ∙ ap (λ s. new.history ++ entries_from s place r0) (sym here.from_here) ∙ run.entries;
+          ∙ ap (λ n. (new.history ++ entry) ++ entries_from (drop n steps) (place + 1) r0') next
+          ∙ ap (λ r. (new.history ++ entry) ++ entries_from (drop (suc place) steps) (place + 1) r) register
+          ∙ append_assoc new.history entry (entries_from (drop (suc place) steps) (place + 1) (moved here.step r0))
+          ∙ ap (λ s. new.history ++ entries_from s place r0) (sym here.from_here) ∙ run.entries;
       register = ap (λ n. moved_by (drop n steps) r0') next
-      ∙ ap (λ r. moved_by (drop (suc place) steps) r) register
-      ∙ ap (λ s. moved_by s r0) (sym here.from_here) ∙ run.register;
+          ∙ ap (λ r. moved_by (drop (suc place) steps) r) register
+          ∙ ap (λ s. moved_by s r0) (sym here.from_here) ∙ run.register;
       few = omega (arith, one, run.few, simp length-append at (ap length history));
       short = subst (λ (r : ℕ). r < 64) (sym register) (short_step here.step _ r0 here.is_block run.short);
       memory = entered ∙ ap (λ (m : Contents). record m { history = new.history ++ entry }) run.memory
-      ∙ ap (λ h. record old { history = h }) (sym history);
+          ∙ ap (λ h. record old { history = h }) (sym history);
     }
 
 -- all blocks have run
@@ -107,8 +107,7 @@ pub all_run : (steps : List Step) (place r0 : ℕ) (old new : Contents) → leng
 all_run steps place r0 old new h run =
     let none : drop place steps ≡ [] = drop_all place steps h in
     let entries : new.history ≡ entries_from steps 0 0 =
-    sym (append-nil new.history) ∙ ap (λ s. new.history ++ entries_from s place r0) (sym none) ∙ run.entries in
-    (
+    sym (append-nil new.history) ∙ ap (λ s. new.history ++ entries_from s place r0) (sym none) ∙ run.entries in (
       run.memory ∙ ap (λ h. record old { history = h }) entries,
       ap (λ s. moved_by s r0) (sym none) ∙ run.register,
     )

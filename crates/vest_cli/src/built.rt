@@ -93,7 +93,10 @@ fn moves(from: Operand, to: Operand) -> Option<Step>
 {
     match (from, to) {
         (Operand::Value(value), Operand::Register(register)) if value < 64 && register < 15 => {
-            Some(Step::Move { value: value as u8, register })
+            Some(Step::Move {
+                value: value as u8,
+                register,
+            })
         }
         _ => None,
     }

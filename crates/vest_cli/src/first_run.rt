@@ -20,9 +20,13 @@ const SERVICE: u8 = 0x82;
 
 // Registers of translated code: N, Z and V, the code of a service, and the address behind it.
 const NEGATIVE: u8 = 16;
+
 const ZERO: u8 = 17;
+
 const OVERFLOW: u8 = 18;
+
 const CODE: u8 = 21;
+
 const TARGET: u8 = 26;
 
 /// The register that reads zero.
@@ -30,6 +34,7 @@ const NOTHING: u8 = 31;
 
 /// The services: the one that ends a thread, and the one that puts a byte.
 const EXIT: u8 = 1;
+
 const PUT: u64 = 2;
 
 /// The blocks of the steps, in order.
@@ -91,7 +96,12 @@ fn address(op: MemoryOp, rb: u8, disp: i16) -> u32
     requires { rb < 32 }
     ensures { instr_at result ≡ Some (AlphaInstr.Memory op TARGET rb disp) }
 {
-    encode(AlphaInstr::Memory { op, ra: TARGET, rb, disp })
+    encode(AlphaInstr::Memory {
+        op,
+        ra: TARGET,
+        rb,
+        disp,
+    })
 }
 
 /// Runs the blocks of a thread, and answers its R0 at the end. It takes no memory.

@@ -16,7 +16,7 @@ returns-in-Exit-clause-steps c =
     sym c.step_at.ensures.step ∙ c.in-Some.is in
     ap (λ items. Some items) c.in_ok-push.ensures.items
     ∙ walk_ends _ _ _ _ c.loop-count.steps.items _ left c.loop-count.invariant.walked c.in-Some.step c.in-Some.after found
-      (ap is_exit c.in-Exit.is)
+    (ap is_exit c.in-Exit.is)
 
 pub loop-count-preserved : goal.loop-count-preserved
 loop-count-preserved c =
@@ -24,12 +24,12 @@ loop-count-preserved c =
     let found : step_at c.args.pages.now c.loop-count.pc ≡ Some (c.in-Some.step, c.in-Some.after) =
     sym c.step_at.ensures.step ∙ c.in-Some.is in
     let more = one_more_step c.loop-count.steps.items c.push.new.self.items c.in-Some.step c.loop-count.count
-      c.in_ok-push.ensures.items c.in-Some.ensures.fits c.loop-count.invariant.few c.loop-count.invariant.fit in
+    c.in_ok-push.ensures.items c.in-Some.ensures.fits c.loop-count.invariant.few c.loop-count.invariant.fit in
     record {
       walked = ap (λ items. behind items (walk_from (MOST_STEPS - (c.loop-count.count + 1)) c.args.pages.now c.in-Some.after))
-        c.in_ok-push.ensures.items
-      ∙ walk_goes_on _ _ _ _ c.loop-count.steps.items _ left c.loop-count.invariant.walked c.in-Some.step c.in-Some.after found
-        (not_exit c.in-Some.step c.in_default-step.not-Exit);
+          c.in_ok-push.ensures.items
+          ∙ walk_goes_on _ _ _ _ c.loop-count.steps.items _ left c.loop-count.invariant.walked c.in-Some.step c.in-Some.after found
+          (not_exit c.in-Some.step c.in_default-step.not-Exit);
       few = more.0;
       fit = more.1;
     }

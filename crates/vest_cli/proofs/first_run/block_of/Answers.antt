@@ -12,11 +12,11 @@ pub returns-in-Move : goal.returns-in-Move
 returns-in-Move c =
     let fits = subst StepFits c.in-Move.is c.requires in
     subst (λ step. IsBlock step (c.load.result ∷ c.load-in-Move.result ∷ c.load-in-Move-2.result ∷ c.load-in-Move-3.result ∷ []))
-      (sym c.in-Move.is) (record {
-        general = fits.1;
-        short = fits.0;
-        moves = c.load.ensures;
-        negative = c.load-in-Move.ensures;
-        zero = c.load-in-Move-2.ensures ∙ ap (λ n. Some (load 17 n)) (one_or_none (c.in-Move.value == 0));
-        overflow = c.load-in-Move-3.ensures;
-      })
+    (sym c.in-Move.is) (record {
+      general = fits.1;
+      short = fits.0;
+      moves = c.load.ensures;
+      negative = c.load-in-Move.ensures;
+      zero = c.load-in-Move-2.ensures ∙ ap (λ n. Some (load 17 n)) (one_or_none (c.in-Move.value == 0));
+      overflow = c.load-in-Move-3.ensures;
+    })

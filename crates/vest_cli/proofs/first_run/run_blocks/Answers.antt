@@ -23,11 +23,11 @@ loop-retired-preserved c = λ steps all.
     let entered : c.if-eq.memory ≡ record c.loop-retired.memory { history = c.loop-retired.memory.history ++ entries_by here.step c.loop-retired.retired r0 } =
     elim c.if-eq.branch [
       | then-eq w ↦ w.memory-is ∙ w.put.ensures
-        ∙ ap (λ r. record c.loop-retired.memory { history = c.loop-retired.memory.history ++ put_entry c.loop-retired.retired r ∷ [] }) block.register
-        ∙ ap (λ e. record c.loop-retired.memory { history = c.loop-retired.memory.history ++ e })
+          ∙ ap (λ r. record c.loop-retired.memory { history = c.loop-retired.memory.history ++ put_entry c.loop-retired.retired r ∷ [] }) block.register
+          ∙ ap (λ e. record c.loop-retired.memory { history = c.loop-retired.memory.history ++ e })
           (enters_by here.step c.loop-retired.retired r0 (sym called ∙ w.if-eq.true))
       | else-eq w ↦ w.memory-is ∙ sym (ap (λ h. record c.loop-retired.memory { history = h }) (append-nil c.loop-retired.memory.history))
-        ∙ ap (λ e. record c.loop-retired.memory { history = c.loop-retired.memory.history ++ e })
+          ∙ ap (λ e. record c.loop-retired.memory { history = c.loop-retired.memory.history ++ e })
           (enters_nothing here.step c.loop-retired.retired r0 (sym called ∙ w.if-eq.false))
     ] in
     next_run steps c.args.code.now c.loop-retired.retired r0 _ _ _ _ run here block.register entered

@@ -15,8 +15,8 @@ loop-place-preserved c =
     record {
       count = simp length-append at (ap length c.push.ensures) ∙ omega arith;
       text = ap (λ front. front ++ digits_from (8 - (c.loop-place.place + 1)) c.args.number) pushed
-      ∙ ap (λ k. (c.loop-place.self ++ digit_at (7 - c.loop-place.place) c.args.number ∷ []) ++ digits_from k c.args.number) same
-      ∙ next_digit c.loop-place.self _ _ _ c.args.number one_less c.loop-place.invariant.text;
+          ∙ ap (λ k. (c.loop-place.self ++ digit_at (7 - c.loop-place.place) c.args.number ∷ []) ++ digits_from k c.args.number) same
+          ∙ next_digit c.loop-place.self _ _ _ c.args.number one_less c.loop-place.invariant.text;
     }
 
 pub returns-clause-text : goal.returns-clause-text
