@@ -1,3 +1,5 @@
 pub mod Forms
 pub mod Operands
 pub mod ReadLaws
+pub mod WriteLaws
+pub mod Encoded
