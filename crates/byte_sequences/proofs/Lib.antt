@@ -2,4 +2,5 @@ pub mod Forms
 pub mod Operands
 pub mod ReadLaws
 pub mod WriteLaws
+pub mod LockLaws
 pub mod Encoded
