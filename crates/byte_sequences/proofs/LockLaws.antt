@@ -141,12 +141,12 @@ module _ (place from to : ℕ) (f : Regs) (a_place : IsArgument place) (a_from :
         n (1 + (length middle + 3)) (omega arith) enough
 
 pub locks : (kind : LockedOp) (place from to : ℕ) → IsArgument place → IsArgument from → IsArgument to → place ≢ to → from ≢ to → LockedPlan kind place from to (locked_code kind place from to)
-locks AddWord place from to a_place a_from a_to p_to f_to fetch terms pc f low fits may has n =
-    whole place from to f a_place a_from a_to (ne_eqb place to p_to) (ne_eqb from to f_to) fits fetch terms pc n may.retries may.page may.readable _ _ _ 2 (λ x. omega arith)
-    (add_is place from to f a_place a_from a_to (ne_eqb place to p_to) (ne_eqb from to f_to) fits may.operand) low has
-locks SetBit place from to a_place a_from a_to p_to f_to fetch terms pc f low fits may has n =
-    whole place from to f a_place a_from a_to (ne_eqb place to p_to) (ne_eqb from to f_to) fits fetch terms pc n may.retries may.page may.readable _ _ _ 1 (λ x. omega arith)
-    (bit_is place from to f a_place a_from a_to (ne_eqb place to p_to) (ne_eqb from to f_to) fits Bis (λ a. bit_or a (2 ^ f from)) may.operand (λ a held. refl)) low has
-locks ClearBit place from to a_place a_from a_to p_to f_to fetch terms pc f low fits may has n =
-    whole place from to f a_place a_from a_to (ne_eqb place to p_to) (ne_eqb from to f_to) fits fetch terms pc n may.retries may.page may.readable _ _ _ 1 (λ x. omega arith)
-    (bit_is place from to f a_place a_from a_to (ne_eqb place to p_to) (ne_eqb from to f_to) fits Bic (λ a. bit_and a (inverse (2 ^ f from))) may.operand (λ a held. refl)) low has
+locks AddWord place from to a_place a_from a_to p_to f_to fetch terms pc f low may has n =
+    whole place from to f a_place a_from a_to (ne_eqb place to p_to) (ne_eqb from to f_to) (let within = may.within in omega arith) fetch terms pc n may.retries may.page may.readable _ _ _ 2 (λ x. omega arith)
+    (add_is place from to f a_place a_from a_to (ne_eqb place to p_to) (ne_eqb from to f_to) (let within = may.within in omega arith) may.operand) low has
+locks SetBit place from to a_place a_from a_to p_to f_to fetch terms pc f low may has n =
+    whole place from to f a_place a_from a_to (ne_eqb place to p_to) (ne_eqb from to f_to) (let within = may.within in omega arith) fetch terms pc n may.retries may.page may.readable _ _ _ 1 (λ x. omega arith)
+    (bit_is place from to f a_place a_from a_to (ne_eqb place to p_to) (ne_eqb from to f_to) (let within = may.within in omega arith) Bis (λ a. bit_or a (2 ^ f from)) may.operand (λ a held. refl)) low has
+locks ClearBit place from to a_place a_from a_to p_to f_to fetch terms pc f low may has n =
+    whole place from to f a_place a_from a_to (ne_eqb place to p_to) (ne_eqb from to f_to) (let within = may.within in omega arith) fetch terms pc n may.retries may.page may.readable _ _ _ 1 (λ x. omega arith)
+    (bit_is place from to f a_place a_from a_to (ne_eqb place to p_to) (ne_eqb from to f_to) (let within = may.within in omega arith) Bic (λ a. bit_and a (inverse (2 ^ f from))) may.operand (λ a held. refl)) low has

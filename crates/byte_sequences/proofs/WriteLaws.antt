@@ -309,7 +309,7 @@ module _ (fetch : Fetch) (terms : Terms) (pc : ℕ) (f : Regs) (place from : ℕ
       roomy longs (Keeps f) most 20 21 Plain (at_place f pc) (write_plan (parts_by (lies_within (f place) 4) (f place) 4) (f from)) (lit≤ tt)
       (operates longs (Keeps f) most 19 Plain (Operate And place (Literal 3) 25 ∷ []) f pc (write_plan (parts_by (lies_within (f place) 4) (f place) 4) (f from)) (has.0, tt) refl (omega arith) (omega arith) (long_is most (f place % 4 == 0) refl))
 
-module _ (fetch : Fetch) (terms : Terms) (pc : ℕ) (f : Regs) (place from : ℕ) (a_place : IsArgument place) (a_from : IsArgument from) (low : pc + 24 ≤ 2 ^ 23) (fits : f place < 2 ^ 32) (value_fits : f from < 2 ^ 64) (may : MayWrite terms (f place) 8) (has : HasAt fetch pc (quadword_write place from)) where
+module _ (fetch : Fetch) (terms : Terms) (pc : ℕ) (f : Regs) (place from : ℕ) (a_place : IsArgument place) (a_from : IsArgument from) (low : pc + 24 ≤ 2 ^ 23) (fits : f place < 2 ^ 32) (may : MayWrite terms (f place) 8) (has : HasAt fetch pc (quadword_write place from)) where
   abbrev quads : Piece
   quads = piece fetch terms pc (pc + 24)
 
@@ -445,14 +445,16 @@ module _ (fetch : Fetch) (terms : Terms) (pc : ℕ) (f : Regs) (place from : ℕ
 
 -- ---- the whole
 pub writes : (place count from : ℕ) → IsCount count → IsArgument place → IsArgument from → WritesPlan place count from (write_code place count from)
-writes place count from c1 a_place a_from fetch terms pc f low fits value_fits may has n =
+writes place count from c1 a_place a_from fetch terms pc f low may has n =
+    let within = may.within in
+    let fits : f place < 2 ^ 32 = omega arith in
     let p = piece fetch terms pc (pc + 7) in
     subst (λ b. Runs (piece fetch terms pc (pc + 7)) (Keeps f) n Plain 7 (at_place f pc) (write_plan (parts_by b (f place) 1) (f from))) (sym (byte_within (f place)))
     (first_part p f place from a_place a_from low fits 1 c1 may.within may.stores may.pages may.readable n 0 pc f true (λ _. Over tt) (byte_within (f place)) (λ n _. refl) has (omega arith) (omega arith)
     (λ x g lt r. finish p f place from a_place a_from low fits 1 c1 may.within may.stores may.pages may.readable n (pc + 7) g refl r.only) n 7 (omega arith) (lit≤ tt))
-writes place count from c2 a_place a_from fetch terms pc f low fits value_fits may has n =
-    any_is (piece fetch terms pc (pc + 17)) f place from a_place a_from low fits 2 c2 may.within may.stores may.pages may.readable n pc f (λ n _. refl) has (omega arith) refl n 17 (omega arith) (lit≤ tt)
-writes place count from c4 a_place a_from fetch terms pc f low fits value_fits may has n =
-    long_writes fetch terms pc f place from a_place a_from low fits may has n n 21 (omega arith) (lit≤ tt)
-writes place count from c8 a_place a_from fetch terms pc f low fits value_fits may has n =
-    quad_writes fetch terms pc f place from a_place a_from low fits value_fits may has n n 24 (omega arith) (lit≤ tt)
+writes place count from c2 a_place a_from fetch terms pc f low may has n =
+    any_is (piece fetch terms pc (pc + 17)) f place from a_place a_from low (let within = may.within in omega arith) 2 c2 may.within may.stores may.pages may.readable n pc f (λ n _. refl) has (omega arith) refl n 17 (omega arith) (lit≤ tt)
+writes place count from c4 a_place a_from fetch terms pc f low may has n =
+    long_writes fetch terms pc f place from a_place a_from low (let within = may.within in omega arith) may has n n 21 (omega arith) (lit≤ tt)
+writes place count from c8 a_place a_from fetch terms pc f low may has n =
+    quad_writes fetch terms pc f place from a_place a_from low (let within = may.within in omega arith) may has n n 24 (omega arith) (lit≤ tt)

@@ -50,6 +50,7 @@ IsLockable SetBit address from = from < 8
 IsLockable ClearBit address from = from < 8
 
 pub record MayLock (terms : Terms) (kind : LockedOp) (address from : ℕ) : Type 0 where
+  pub within : address + locked_count kind ≤ 2 ^ 32
   pub operand : IsLockable kind address from
   pub page : terms.allowed true (address / 8 * 8) ≡ true
   pub readable : (quad : ℕ) → terms.allowed true quad ≡ true → terms.allowed false quad ≡ true
@@ -81,21 +82,21 @@ RunsAt fetch terms first words Ends regs plan =
 abbrev pub ReadsPlan : (place count to : ℕ) → List AlphaInstr → Type 0
 ReadsPlan place count to words =
     (fetch : Fetch) (terms : Terms) (first : ℕ) (regs : Regs)
-    → first + length words ≤ most_words → regs place < 2 ^ 32 → MayRead terms (regs place) count → HasAt fetch first words
+    → first + length words ≤ most_words → MayRead terms (regs place) count → HasAt fetch first words
     → RunsAt fetch terms first words (Holds regs to count) regs (read_plan (parts (regs place) count))
 
 -- writes the low bytes of `from` to the operand at the address in `place`
 abbrev pub WritesPlan : (place count from : ℕ) → List AlphaInstr → Type 0
 WritesPlan place count from words =
     (fetch : Fetch) (terms : Terms) (first : ℕ) (regs : Regs)
-    → first + length words ≤ most_words → regs place < 2 ^ 32 → regs from < 2 ^ 64 → MayWrite terms (regs place) count → HasAt fetch first words
+    → first + length words ≤ most_words → MayWrite terms (regs place) count → HasAt fetch first words
     → RunsAt fetch terms first words (Keeps regs) regs (write_plan (parts (regs place) count) (regs from))
 
 -- changes the word or byte at the address in `place` by `from`, and puts what was there before into `to`
 abbrev pub LockedPlan : LockedOp → (place from to : ℕ) → List AlphaInstr → Type 0
 LockedPlan kind place from to words =
     (fetch : Fetch) (terms : Terms) (first : ℕ) (regs : Regs)
-    → first + length words ≤ most_words → regs place < 2 ^ 32 → MayLock terms kind (regs place) (regs from) → HasAt fetch first words
+    → first + length words ≤ most_words → MayLock terms kind (regs place) (regs from) → HasAt fetch first words
     → RunsAt fetch terms first words (Holds regs to (locked_count kind)) regs (locked_plan kind (regs place) (regs from))
 
 -- ---- lengths
