@@ -9,6 +9,7 @@ pub(crate) const QUAD: u8 = 25;
 pub(crate) const BYTES: u8 = 26;
 /// The address of the quadword that a loop changes.
 pub(crate) const QUAD_ADDRESS: u8 = 27;
+
 pub(crate) const ZERO: u8 = 31;
 
 pub(crate) fn memory(op: MemoryOp, ra: u8, rb: u8, disp: i16) -> AlphaInstr
