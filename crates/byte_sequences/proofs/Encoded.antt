@@ -8,7 +8,7 @@ use Rattle.alpha_encode.specs.declared.instr.OperateOp.{OperateOp}
 use Rattle.alpha_encode.specs.Words.{IsEncodable}
 use Rattle.alpha_meaning.specs.Loops.{retry}
 use Rattle.byte_sequences.specs.Instructions.{IsArgument}
-use Rattle.byte_sequences.specs.Words.{replacing, first_write, second_write, write_test, tested_second_write, unaligned_write, longword_write, quadword_write, write_code}
+use Rattle.byte_sequences.specs.Words.{replacing, first_write, second_write, tested_second_write, unaligned_write, longword_write, quadword_write, write_code}
 
 abbrev pub EachEncodable : List AlphaInstr → Type 0
 EachEncodable [] = Unit {0}

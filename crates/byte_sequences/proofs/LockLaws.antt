@@ -15,7 +15,7 @@ use Rattle.alpha_encode.specs.declared.instr.AlphaInstr.TheVariants.{Operate}
 use Rattle.alpha_meaning.specs.State.{Regs, put, at_place}
 use Rattle.alpha_meaning.specs.Result.{plus, inverse, result_of}
 use Rattle.alpha_meaning.specs.Pieces.{Fetch, Terms, Access, Over, Plain, Runs, HasAt, piece, Only}
-use Rattle.alpha_meaning.specs.Loops.{is_operate, effect, effects, fine, retry}
+use Rattle.alpha_meaning.specs.Loops.{is_operate, effect, effects, fine}
 use Rattle.alpha_meaning.proofs.Rules.{done, operates, put_only, effects_only}
 use Rattle.alpha_meaning.proofs.Retry.{Changes, turns}
 use Rattle.micro_ops.specs.declared.program.LockedOp.{LockedOp}

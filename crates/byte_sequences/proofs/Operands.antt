@@ -1,5 +1,5 @@
 -- Registers that are kept, and the parts of an operand of 1, 2, 4 or 8 bytes.
-use Rattle.std.proofs.Common.{◌≡◌, ℕ, ◌+◌, ◌-◌, ◌*◌, ◌/◌, ◌%◌, ◌^◌, ◌<◌, ◌≤◌, refl, sym, ap, ◌∙◌, subst, arith, List, [], ◌∷◌, Bool, true, false, eqb, cond, ne_eqb, eq-eqb, lit<, lit≤}
+use Rattle.std.proofs.Common.{◌≡◌, ℕ, ◌+◌, ◌-◌, ◌*◌, ◌/◌, ◌%◌, ◌^◌, ◌<◌, ◌≤◌, refl, arith, List, [], ◌∷◌, Bool, true, false, eqb, cond, ne_eqb, eq-eqb, lit≤}
 use Rattle.std.specs.Prelude.{pos, nat_lt, nat_le, ◌||◌, if◌then◌else◌}
 use Rattle.std.specs.Int.{cast_unsigned, w64}
 use Rattle.std.proofs.lemmas.Bool.Decides.{nat_tests}

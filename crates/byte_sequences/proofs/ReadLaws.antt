@@ -22,8 +22,8 @@ use Rattle.alpha_meaning.proofs.Rules.{Always, done, roomy, goes, load, operates
 use Rattle.byte_sequences.specs.Instructions.{IsArgument, is_scratch, is_scratch_or}
 use Rattle.byte_sequences.specs.Words.{extract_low, extract_high, byte_read, read_test, tested_read, unaligned_read, read_code}
 use Rattle.byte_sequences.specs.Plans.{quad_of_part, read_plan}
-use Rattle.byte_sequences.specs.Promises.{MayRead, Holds, ReadsPlan}
-use Rattle.byte_sequences.proofs.Operands.{other, eqb_self, or_true, put_same, put_other, lies_within, next_of, parts_by, is_within, is_across, test_same, byte_within, some_bytes, disp_is, next_quad, of_parts, crossing_is}
+use Rattle.byte_sequences.specs.Promises.{Holds, ReadsPlan}
+use Rattle.byte_sequences.proofs.Operands.{other, eqb_self, or_true, put_same, put_other, lies_within, next_of, parts_by, is_across, test_same, byte_within, some_bytes, disp_is, next_quad, of_parts, crossing_is}
 
 low_is : {c : ℕ} → IsCount c → (a b held : ℕ) → result_of (extract_low c) a b held ≡ ext_low (2 ^ c - 1) a b
 low_is c1 a b held = refl

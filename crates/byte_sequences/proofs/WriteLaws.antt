@@ -1,6 +1,6 @@
 -- The words that write an operand.
 use Rattle.std.proofs.Common.{◌≡◌, ℕ, ◌+◌, ◌-◌, ◌*◌, ◌/◌, ◌%◌, ◌^◌, ◌<◌, ◌≤◌, refl, sym, ap, ◌∙◌, subst, arith, [], ◌∷◌, ◌++◌, Bool, true, false, eqb-true, lit<, lit≤, Option, Some, None}
-use Rattle.std.specs.Prelude.{pos, nat_lt, nat_le, bit_and, bit_or, ◌==◌, ◌&&◌, All, if◌then◌else◌}
+use Rattle.std.specs.Prelude.{pos, nat_lt, bit_and, bit_or, ◌==◌, All, if◌then◌else◌}
 use Rattle.std.specs.Int.Bits.{or_comm}
 use Rattle.std.proofs.lemmas.Nat.{and_mask, mul-add-lt, mod_below, pow_pos, shr_below, pow-add}
 use Rattle.std.proofs.lemmas.Nat.Bits.{and_high_mask}

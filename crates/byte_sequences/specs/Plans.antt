@@ -1,6 +1,6 @@
 -- The accesses that count: one for each part of an operand, the part at the lower address first.
 -- VAX Architecture Reference Manual, "Memory": the low byte of a value has the lowest address.
-use Rattle.std.specs.Prelude.{ℕ, ◌≡◌, ◌+◌, ◌-◌, ◌*◌, ◌/◌, ◌%◌, ◌^◌, ◌<◌, ◌==◌, ◌&&◌, ◌||◌, Bool, true, false, List, [], ◌∷◌, bit_and, bit_or}
+use Rattle.std.specs.Prelude.{ℕ, ◌+◌, ◌*◌, ◌/◌, ◌%◌, ◌^◌, List, [], ◌∷◌, bit_and, bit_or}
 use Rattle.vt_words.specs.Quad.{field_of, with_field_of}
 use Rattle.alpha_meaning.specs.Result.{inverse}
 use Rattle.alpha_meaning.specs.Pieces.{Plan, Access, Over, bind}
