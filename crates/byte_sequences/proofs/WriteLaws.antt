@@ -25,7 +25,7 @@ use Rattle.alpha_meaning.proofs.Retry.{Changes, turns}
 use Rattle.byte_sequences.specs.Instructions.{IsArgument, is_scratch}
 use Rattle.byte_sequences.specs.Words.{insert_low, insert_high, mask_low, mask_high, replacing, first_write, second_write, write_test, tested_second_write, unaligned_write, longword_write, quadword_write, write_code}
 use Rattle.byte_sequences.specs.Plans.{quad_of_part, write_plan}
-use Rattle.byte_sequences.specs.Promises.{MayRetry, MayStore, MayWrite, Keeps, WritesPlan}
+use Rattle.byte_sequences.specs.Promises.{MayRetry, MayStore, MayWrite, stored_bytes, Keeps, WritesPlan}
 use Rattle.byte_sequences.proofs.Operands.{other, lies_within, next_of, parts_by, is_within, is_across, test_same, byte_within, some_bytes, next_quad}
 
 -- a changed quadword is one
@@ -266,7 +266,7 @@ stored_4 b = if b then Some 4 else None
 abbrev stored_8 : (by_eight by_four : Bool) → Option ℕ
 stored_8 by_eight by_four = if by_eight then Some 8 else if by_four then Some 4 else None
 
-module _ (fetch : Fetch) (terms : Terms) (pc : ℕ) (f : Regs) (place from : ℕ) (a_place : IsArgument place) (a_from : IsArgument from) (low : pc + 21 ≤ 2 ^ 23) (fits : f place < 2 ^ 32) (may : MayWrite terms (f place) 4) (has : HasAt fetch pc (longword_write place from)) where
+module _ (fetch : Fetch) (terms : Terms) (pc : ℕ) (f : Regs) (place from : ℕ) (a_place : IsArgument place) (a_from : IsArgument from) (low : pc + 21 ≤ 2 ^ 23) (fits : f place < 2 ^ 32) (may : MayWrite stored_bytes terms (f place) 4) (has : HasAt fetch pc (longword_write place from)) where
   abbrev longs : Piece
   longs = piece fetch terms pc (pc + 21)
 
@@ -309,7 +309,7 @@ module _ (fetch : Fetch) (terms : Terms) (pc : ℕ) (f : Regs) (place from : ℕ
       roomy longs (Keeps f) most 20 21 Plain (at_place f pc) (write_plan (parts_by (lies_within (f place) 4) (f place) 4) (f from)) (lit≤ tt)
       (operates longs (Keeps f) most 19 Plain (Operate And place (Literal 3) 25 ∷ []) f pc (write_plan (parts_by (lies_within (f place) 4) (f place) 4) (f from)) (has.0, tt) refl (omega arith) (omega arith) (long_is most (f place % 4 == 0) refl))
 
-module _ (fetch : Fetch) (terms : Terms) (pc : ℕ) (f : Regs) (place from : ℕ) (a_place : IsArgument place) (a_from : IsArgument from) (low : pc + 24 ≤ 2 ^ 23) (fits : f place < 2 ^ 32) (may : MayWrite terms (f place) 8) (has : HasAt fetch pc (quadword_write place from)) where
+module _ (fetch : Fetch) (terms : Terms) (pc : ℕ) (f : Regs) (place from : ℕ) (a_place : IsArgument place) (a_from : IsArgument from) (low : pc + 24 ≤ 2 ^ 23) (fits : f place < 2 ^ 32) (may : MayWrite stored_bytes terms (f place) 8) (has : HasAt fetch pc (quadword_write place from)) where
   abbrev quads : Piece
   quads = piece fetch terms pc (pc + 24)
 
@@ -444,7 +444,7 @@ module _ (fetch : Fetch) (terms : Terms) (pc : ℕ) (f : Regs) (place from : ℕ
       (operates quads (Keeps f) most 15 Plain (Operate And place (Literal 3) 25 ∷ []) f pc (plan_by (lies_within (f place) 8)) (has.0, tt) refl (omega arith) (omega arith) (by_four most (f place % 4 == 0) refl))
 
 -- ---- the whole
-pub writes : (place count from : ℕ) → IsCount count → IsArgument place → IsArgument from → WritesPlan place count from (write_code place count from)
+pub writes : (place count from : ℕ) → IsCount count → IsArgument place → IsArgument from → WritesPlan stored_bytes place count from (write_code place count from)
 writes place count from c1 a_place a_from fetch terms pc f low may has n =
     let within = may.within in
     let fits : f place < 2 ^ 32 = omega arith in

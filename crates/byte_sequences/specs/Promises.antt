@@ -12,12 +12,11 @@ use Rattle.byte_sequences.specs.Words.{by_count}
 use Rattle.byte_sequences.specs.Plans.{quad_of_part, read_plan, write_plan, locked_count, locked_plan}
 
 -- ---- what has to be allowed
--- loads of whole quadwords
 pub record MayRead (terms : Terms) (address count : ℕ) : Type 0 where
   -- the operand ends within the address space
   pub within : address + count ≤ 2 ^ 32
   pub pages : All (λ part. terms.allowed false (quad_of_part part) ≡ true) (parts address count)
-  pub loads : terms.kinds Load 8 ≡ true
+  pub loads : (bytes : ℕ) → terms.kinds Load bytes ≡ true
 
 -- load-locked accesses and stores conditional of whole quadwords
 pub record MayRetry (terms : Terms) : Type 0 where
@@ -34,13 +33,14 @@ abbrev pub MayStore : Terms → Option ℕ → Type 0
 MayStore terms (Some bytes) = terms.kinds Store bytes ≡ true
 MayStore terms None = MayRetry terms
 
-pub record MayWrite (terms : Terms) (address count : ℕ) : Type 0 where
+-- `stored` gives the number of bytes of each store, or none for a load-locked loop
+pub record MayWrite (stored : (address count : ℕ) → Option ℕ) (terms : Terms) (address count : ℕ) : Type 0 where
   -- the operand ends within the address space
   pub within : address + count ≤ 2 ^ 32
   pub pages : All (λ part. terms.allowed true (quad_of_part part) ≡ true) (parts address count)
   -- what may be stored may be loaded
   pub readable : (quad : ℕ) → terms.allowed true quad ≡ true → terms.allowed false quad ≡ true
-  pub stores : MayStore terms (stored_bytes address count)
+  pub stores : MayStore terms (stored address count)
 
 -- a word lies at an even address, and a byte has the bits 0 to 7
 abbrev pub IsLockable : LockedOp → (address from : ℕ) → Type 0
@@ -67,9 +67,9 @@ pub record Keeps (before : Regs) (done : Unit {0}) (regs : Regs) : Type 0 where
   pub only : Only is_scratch before regs
 
 -- ---- the promises
--- The number of words that the code may have: an address of 25 bits, in bytes.
-abbrev pub most_words : ℕ
-most_words = 2 ^ 23
+-- the words of the largest code, which has 33,554,432 bytes
+abbrev pub code_words : ℕ
+code_words = 2 ^ 23
 
 -- The words run the plan at each place, for every number of steps, whatever memory answers and however often a store
 -- conditional fails: in as many steps as there are words, and 16 more for each store that failed.
@@ -81,21 +81,21 @@ RunsAt fetch terms first words Ends regs plan =
 abbrev pub ReadsPlan : (place count to : ℕ) → List AlphaInstr → Type 0
 ReadsPlan place count to words =
     (fetch : Fetch) (terms : Terms) (first : ℕ) (regs : Regs)
-    → first + length words ≤ most_words → MayRead terms (regs place) count → HasAt fetch first words
+    → first + length words ≤ code_words → MayRead terms (regs place) count → HasAt fetch first words
     → RunsAt fetch terms first words (Holds regs to count) regs (read_plan (parts (regs place) count))
 
 -- writes the low bytes of `from` to the operand at the address in `place`
-abbrev pub WritesPlan : (place count from : ℕ) → List AlphaInstr → Type 0
-WritesPlan place count from words =
+abbrev pub WritesPlan : (stored : (address count : ℕ) → Option ℕ) → (place count from : ℕ) → List AlphaInstr → Type 0
+WritesPlan stored place count from words =
     (fetch : Fetch) (terms : Terms) (first : ℕ) (regs : Regs)
-    → first + length words ≤ most_words → MayWrite terms (regs place) count → HasAt fetch first words
+    → first + length words ≤ code_words → MayWrite stored terms (regs place) count → HasAt fetch first words
     → RunsAt fetch terms first words (Keeps regs) regs (write_plan (parts (regs place) count) (regs from))
 
 -- changes the word or byte at the address in `place` by `from`, and puts what was there before into `to`
 abbrev pub LockedPlan : LockedOp → (place from to : ℕ) → List AlphaInstr → Type 0
 LockedPlan kind place from to words =
     (fetch : Fetch) (terms : Terms) (first : ℕ) (regs : Regs)
-    → first + length words ≤ most_words → MayLock terms kind (regs place) (regs from) → HasAt fetch first words
+    → first + length words ≤ code_words → MayLock terms kind (regs place) (regs from) → HasAt fetch first words
     → RunsAt fetch terms first words (Holds regs to (locked_count kind)) regs (locked_plan kind (regs place) (regs from))
 
 -- ---- lengths

@@ -5,7 +5,7 @@ ghost use Rattle.alpha_encode.specs.Words.{IsEncodable};
 ghost use Rattle.alpha_meaning.specs.Loops.{retry};
 ghost use Rattle.byte_sequences.specs.Instructions.{IsArgument, is_scratch, writes_only};
 ghost use Rattle.byte_sequences.specs.Words.{replacing, first_write, second_write, tested_second_write, unaligned_write, longword_write, quadword_write, write_code};
-ghost use Rattle.byte_sequences.specs.Promises.{WritesPlan, most_write_words};
+ghost use Rattle.byte_sequences.specs.Promises.{WritesPlan, stored_bytes, most_write_words};
 
 use crate::instructions::{BYTES, QUAD, QUAD_ADDRESS, ZERO, branch, memory, operate, operate_by};
 use crate::operators::{insert_high, insert_low, mask_high, mask_low};
@@ -156,7 +156,7 @@ pub fn write_words(
     requires from { IsArgument from }
     requires count { IsCount count }
     // Each part is written once, wherever the words stand and however often a store conditional fails.
-    ensures writes { IfOk result (λ words. WritesPlan place count from words.items) }
+    ensures writes { IfOk result (λ words. WritesPlan stored_bytes place count from words.items) }
     ensures short { IfOk result (λ words. length words.items ≤ most_write_words count) }
     ensures encodable { IfOk result (λ words. All IsEncodable words.items) }
     ensures scratch { IfOk result (λ words. list_all (writes_only is_scratch) words.items ≡ true) }
