@@ -1,0 +1,6 @@
+pub mod Forms
+pub mod Operands
+pub mod ReadLaws
+pub mod WriteLaws
+pub mod LockLaws
+pub mod Encoded

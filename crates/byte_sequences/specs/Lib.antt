@@ -1,0 +1,4 @@
+pub mod Instructions
+pub mod Words
+pub mod Plans
+pub mod Promises

@@ -1,0 +1,148 @@
+-- The words that read, write and change operands in memory.
+-- Alpha Architecture Reference Manual, 4.6 "Byte Manipulation Instructions", has the sequences for unaligned operands,
+-- and 5.5 "Data Sharing (Multiprocessor)" the loops of a load-locked access and a store conditional.
+use Rattle.std.specs.Prelude.{ℕ, pos, ◌-◌, ◌==◌, List, [], ◌∷◌, ◌++◌, if◌then◌else◌}
+use Rattle.alpha_encode.specs.declared.instr.MemoryOp.TheVariants.{LdqU, Stl, Stq}
+use Rattle.alpha_encode.specs.declared.instr.BranchOp.TheVariants.{Br, Bne}
+use Rattle.alpha_encode.specs.declared.instr.OperateOp.{OperateOp}
+use Rattle.alpha_encode.specs.declared.instr.OperateOp.TheVariants.{Extbl, Extwl, Extll, Extql, Extwh, Extlh, Extqh, Mskbl, Mskwl, Mskll, Mskql, Mskwh, Msklh, Mskqh, Insbl, Inswl, Insll, Insql, Inswh, Inslh, Insqh, Bis, Bic, And, Cmpult, Cmpeq, Addq, Srl, Sll}
+use Rattle.alpha_encode.specs.declared.instr.Second.TheVariants.{Register, Literal}
+use Rattle.alpha_encode.specs.declared.instr.AlphaInstr.{AlphaInstr}
+use Rattle.alpha_encode.specs.declared.instr.AlphaInstr.TheVariants.{Memory, Branch, Operate}
+use Rattle.alpha_meaning.specs.Loops.{retry}
+use Rattle.micro_ops.specs.declared.program.LockedOp.{LockedOp}
+use Rattle.micro_ops.specs.declared.program.LockedOp.TheVariants.{AddWord, SetBit, ClearBit}
+
+-- ---- byte manipulation instructions by the number of bytes; a byte never crosses to the next quadword
+abbrev pub by_count : {A : Type 0} → (count : ℕ) → (byte word longword quadword : A) → A
+by_count count byte word longword quadword =
+    if count == 1 then byte else if count == 2 then word else if count == 4 then longword else quadword
+
+abbrev pub extract_low : (count : ℕ) → OperateOp
+extract_low count = by_count count Extbl Extwl Extll Extql
+
+abbrev pub extract_high : (count : ℕ) → OperateOp
+extract_high count = by_count count Extwh Extwh Extlh Extqh
+
+abbrev pub insert_low : (count : ℕ) → OperateOp
+insert_low count = by_count count Insbl Inswl Insll Insql
+
+abbrev pub insert_high : (count : ℕ) → OperateOp
+insert_high count = by_count count Inswh Inswh Inslh Insqh
+
+abbrev pub mask_low : (count : ℕ) → OperateOp
+mask_low count = by_count count Mskbl Mskwl Mskll Mskql
+
+abbrev pub mask_high : (count : ℕ) → OperateOp
+mask_high count = by_count count Mskwh Mskwh Msklh Mskqh
+
+-- ---- reads
+abbrev pub byte_read : (place to : ℕ) → List AlphaInstr
+byte_read place to = Memory LdqU 25 place (pos 0) ∷ Operate Extbl 25 (Register place) to ∷ []
+
+-- R26 says whether the operand lies in one quadword
+abbrev pub read_test : (place count : ℕ) → List AlphaInstr
+read_test place count = Operate And place (Literal 7) 26 ∷ Operate Cmpult 26 (Literal (9 - count)) 26 ∷ []
+
+abbrev pub tested_read : (place count to : ℕ) → List AlphaInstr
+tested_read place count to =
+    Memory LdqU 25 place (pos 0)
+    ∷ Operate (extract_low count) 25 (Register place) 25
+    ∷ Branch Bne 26 (pos 3)
+    ∷ Memory LdqU 26 place (pos (count - 1))
+    ∷ Operate (extract_high count) 26 (Register place) 26
+    ∷ Operate Bis 25 (Register 26) 25
+    ∷ Operate Bis 25 (Literal 0) to
+    ∷ []
+
+abbrev pub unaligned_read : (place count to : ℕ) → List AlphaInstr
+unaligned_read place count to = read_test place count ++ tested_read place count to
+
+abbrev pub read_code : (place count to : ℕ) → List AlphaInstr
+read_code place count to = if count == 1 then byte_read place to else unaligned_read place count to
+
+-- ---- writes
+-- the bytes of R25 that the mask names are replaced by those of `from`
+abbrev pub replacing : (mask insert : OperateOp) (place from : ℕ) → List AlphaInstr
+replacing mask insert place from =
+    Operate mask 25 (Register place) 25 ∷ Operate insert from (Register place) 26 ∷ Operate Bis 25 (Register 26) 25 ∷ []
+
+-- the part in the quadword of the address
+abbrev pub first_write : (place count from : ℕ) → List AlphaInstr
+first_write place count from = Operate Bic place (Literal 7) 27 ∷ retry (replacing (mask_low count) (insert_low count) place from)
+
+-- the part in the next quadword
+abbrev pub second_write : (place count from : ℕ) → List AlphaInstr
+second_write place count from = Operate Addq 27 (Literal 8) 27 ∷ retry (replacing (mask_high count) (insert_high count) place from)
+
+-- R25 says whether the operand lies in one quadword
+abbrev pub write_test : (place count : ℕ) → List AlphaInstr
+write_test place count = Operate And place (Literal 7) 25 ∷ Operate Cmpult 25 (Literal (9 - count)) 25 ∷ []
+
+abbrev pub tested_second_write : (place count from : ℕ) → List AlphaInstr
+tested_second_write place count from = write_test place count ++ (Branch Bne 25 (pos 7) ∷ second_write place count from)
+
+abbrev pub unaligned_write : (place count from : ℕ) → List AlphaInstr
+unaligned_write place count from = first_write place count from ++ tested_second_write place count from
+
+-- an aligned longword by STL
+abbrev pub longword_write : (place from : ℕ) → List AlphaInstr
+longword_write place from =
+    Operate And place (Literal 3) 25
+    ∷ Branch Bne 25 (pos 2)
+    ∷ Memory Stl from place (pos 0)
+    ∷ Branch Br 31 (pos 17)
+    ∷ unaligned_write place 4 from
+
+-- an aligned quadword by STQ, and one at 4 modulo 8 by two STL
+abbrev pub quadword_write : (place from : ℕ) → List AlphaInstr
+quadword_write place from =
+    Operate And place (Literal 3) 25
+    ∷ Branch Bne 25 (pos 8)
+    ∷ Operate And place (Literal 7) 25
+    ∷ Branch Bne 25 (pos 2)
+    ∷ Memory Stq from place (pos 0)
+    ∷ Branch Br 31 (pos 18)
+    ∷ Memory Stl from place (pos 0)
+    ∷ Operate Srl from (Literal 32) 25
+    ∷ Memory Stl 25 place (pos 4)
+    ∷ Branch Br 31 (pos 14)
+    ∷ (first_write place 8 from ++ second_write place 8 from)
+
+abbrev pub write_code : (place count from : ℕ) → List AlphaInstr
+write_code place count from = by_count count (first_write place 1 from) (unaligned_write place 2 from) (longword_write place from) (quadword_write place from)
+
+-- ---- interlocked changes
+-- `to` gets the word before, and its sum with `from` goes into R25
+abbrev pub word_added : (place from to : ℕ) → List AlphaInstr
+word_added place from to =
+    Operate Extwl 25 (Register place) to
+    ∷ Operate Addq to (Register from) 26
+    ∷ Operate Inswl 26 (Register place) 26
+    ∷ Operate Mskwl 25 (Register place) 25
+    ∷ Operate Bis 25 (Register 26) 25
+    ∷ []
+
+-- `to` gets the byte before, R26 a one at the place of the bit; BIS sets it, BIC clears it
+abbrev pub bit_changed : OperateOp → (place from to : ℕ) → List AlphaInstr
+bit_changed op place from to =
+    Operate Extbl 25 (Register place) to
+    ∷ Operate Cmpeq 25 (Register 25) 26
+    ∷ Operate Sll 26 (Register from) 26
+    ∷ Operate op to (Register 26) 26
+    ∷ Operate Insbl 26 (Register place) 26
+    ∷ Operate Mskbl 25 (Register place) 25
+    ∷ Operate Bis 25 (Register 26) 25
+    ∷ []
+
+abbrev pub change_of : LockedOp → (place from to : ℕ) → List AlphaInstr
+change_of AddWord place from to = word_added place from to
+change_of SetBit place from to = bit_changed Bis place from to
+change_of ClearBit place from to = bit_changed Bic place from to
+
+-- a loop that changes the quadword of the address
+abbrev pub locked_loop : (place : ℕ) (change : List AlphaInstr) → List AlphaInstr
+locked_loop place change = Operate Bic place (Literal 7) 27 ∷ retry change
+
+abbrev pub locked_code : LockedOp → (place from to : ℕ) → List AlphaInstr
+locked_code kind place from to = locked_loop place (change_of kind place from to)
