@@ -3,5 +3,7 @@
 #![tactic(auto)]
 
 mod program;
+mod values;
 
 pub use program::{Arg, Exit, LockedOp, Micro, MicroOp};
+pub use values::compute;
