@@ -1,3 +1,7 @@
 pub mod Values
 pub mod Course
 pub mod Meaning
+pub mod Uses
+pub mod LeftOut
+pub mod WordCounts
+pub mod Fits

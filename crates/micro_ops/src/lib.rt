@@ -2,8 +2,13 @@
 //! words it is counted as, and which programs fit a block.
 #![tactic(auto)]
 
+mod codes;
 mod program;
+mod uses;
 mod values;
+mod words;
 
+pub use codes::{CodeSource, CodeSources};
 pub use program::{Arg, Exit, LockedOp, Micro, MicroOp};
 pub use values::compute;
+pub use words::words_of;
