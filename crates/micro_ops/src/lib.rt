@@ -3,12 +3,14 @@
 #![tactic(auto)]
 
 mod codes;
+mod left_out;
 mod program;
 mod uses;
 mod values;
 mod words;
 
 pub use codes::{CodeSource, CodeSources};
+pub use left_out::is_left_out;
 pub use program::{Arg, Exit, LockedOp, Micro, MicroOp};
 pub use values::compute;
 pub use words::words_of;
