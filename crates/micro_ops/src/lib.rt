@@ -2,6 +2,7 @@
 //! words it is counted as, and which programs fit a block.
 #![tactic(auto)]
 
+mod check;
 mod codes;
 mod left_out;
 mod program;
@@ -9,8 +10,9 @@ mod uses;
 mod values;
 mod words;
 
+pub use check::fits;
 pub use codes::{CodeSource, CodeSources};
 pub use left_out::is_left_out;
 pub use program::{Arg, Exit, LockedOp, Micro, MicroOp};
 pub use values::compute;
-pub use words::words_of;
+pub use words::{program_words, words_of};
