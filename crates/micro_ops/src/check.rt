@@ -1,6 +1,7 @@
-ghost use Rattle.std.specs.Prelude.{◌≡◌, ℕ};
+ghost use Rattle.std.specs.Prelude.{◌≡◌, [], nat_le};
 ghost use Rattle.micro_ops.specs.Uses.{writes, commits, is_change, is_codes, is_set_psw};
-ghost use Rattle.micro_ops.specs.Fits.{is_count, is_argument, is_known, is_known_code, is_exit, is_in_range, keeps_low, has_any, reads_written, is_lost, reads_kept, is_longword, has_longword_place, temp_fits, each_below, is_apart, has_apart_temps, faults_first, reads_flags_first, commits_last, sets_once, leaves_last, leaves_apart, operation_fits, fits};
+ghost use Rattle.micro_ops.specs.Fits.{is_count, is_argument, is_known, is_known_code, is_exit, is_in_range, keeps_low, has_any, reads_written, is_lost, reads_kept, is_longword, has_longword_place, temp_fits, each_below, is_apart, has_apart_temps, faults_first, reads_flags_first, commits_last, sets_once, leaves_last, leaves_apart, operation_fits, each_fits, fits};
+ghost use Rattle.micro_ops.specs.WordCounts.{program_words};
 
 use crate::codes::CodeSources;
 use crate::left_out::{is_left_out, is_low};
@@ -312,15 +313,28 @@ fn operation_fits(codes: CodeSources, before: &[Micro], operation: Micro, behind
         && leaves_apart(operation)
 }
 
-/// Whether a program fits a block, as far as the program alone tells. `codes` says where its instruction's codes come
-/// from.
-pub fn fits(codes: CodeSources, program: &[Micro]) -> bool
-    ensures { result ≡ fits codes program.now }
+/// Each operation fits where it stands.
+fn each_fits(codes: CodeSources, program: &[Micro]) -> bool
+    ensures { result ≡ each_fits codes [] program.now }
 {
     for i in 0..program.len() {
         if !operation_fits(codes, &program[..i], program[i], &program[i + 1..]) {
             return false;
         }
     }
-    !program.is_empty() && program_words(codes, program) <= 192
+    true
+}
+
+fn has_room(codes: CodeSources, program: &[Micro]) -> bool
+    ensures { result ≡ nat_le (program_words codes program.now) 192 }
+{
+    program_words(codes, program) <= 192
+}
+
+/// Whether a program fits a block, as far as the program alone tells. `codes` says where its instruction's codes come
+/// from.
+pub fn fits(codes: CodeSources, program: &[Micro]) -> bool
+    ensures { result ≡ fits codes program.now }
+{
+    !program.is_empty() && each_fits(codes, program) && has_room(codes, program)
 }
