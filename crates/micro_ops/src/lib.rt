@@ -6,6 +6,8 @@ mod check;
 mod codes;
 mod left_out;
 mod program;
+#[cfg(test)]
+mod tests;
 mod uses;
 mod values;
 mod words;
