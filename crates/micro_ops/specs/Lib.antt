@@ -5,3 +5,4 @@ pub mod Uses
 pub mod LeftOut
 pub mod WordCounts
 pub mod Fits
+pub mod Leaving
