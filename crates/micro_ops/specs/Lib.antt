@@ -6,3 +6,4 @@ pub mod LeftOut
 pub mod WordCounts
 pub mod Fits
 pub mod Leaving
+pub mod Laws

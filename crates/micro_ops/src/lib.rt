@@ -4,6 +4,7 @@
 
 mod check;
 mod codes;
+mod laws;
 mod left_out;
 mod program;
 #[cfg(test)]
@@ -14,6 +15,7 @@ mod words;
 
 pub use check::fits;
 pub use codes::{CodeSource, CodeSources};
+pub use laws::part_laws;
 pub use left_out::is_left_out;
 pub use program::{Arg, Exit, LockedOp, Micro, MicroOp};
 pub use values::compute;
