@@ -1,12 +1,13 @@
 -- Procedure calls.
 -- VAX Architecture Reference Manual, "Procedure Call Instructions": CALLG, CALLS and RET, and the call frame.
 use Rattle.std.specs.Prelude.{ℕ, ◌+◌, ◌*◌, ◌/◌, ◌%◌, ◌^◌, ◌==◌, List, Bool, true, false}
-use Rattle.vax_form.specs.State.{register, with_psw}
+use Rattle.vax_form.specs.State.{register, with_register, with_psw}
 use Rattle.vax_form.specs.Script.{Script, ◌>>=◌, ◌>>◌, pure, get, change, fail, when◌then◌else◌}
 use Rattle.vax_form.specs.declared.instr.Size.TheVariants.{Long}
 use Rattle.vax_form.specs.declared.instr.Instr.{Instr}
 use Rattle.vax_form.specs.declared.script.End.{End}
 use Rattle.vax_form.specs.declared.state.Exception.TheVariants.{ReservedOperand}
+use Rattle.vax_form.specs.declared.state.VaxState.{VaxState}
 use Rattle.vt_words.specs.Values.{bit}
 use Rattle.vax_meaning.specs.declared.evaluation.Evaluated.{Evaluated}
 use Rattle.vax_meaning.specs.Memory.{low_bytes, fetch, code_word}
@@ -87,11 +88,9 @@ call_stack instr values = do
   push_frame instr.after true mask
   enter destination mask list
 
--- raises SP
-unfoldable pub release : (bytes : ℕ) → Script (Unit {0})
-release bytes = do
-  top ← get_register 14
-  set_register 14 ((top + bytes) % 2 ^ 32)
+-- SP raised by so many bytes
+abbrev pub with_released : (bytes : ℕ) → VaxState → VaxState
+with_released bytes state = with_register 14 ((register 14 state + bytes) % 2 ^ 32) state
 
 -- the argument list of CALLS goes: its count, and the longwords that the count's low byte says
 unfoldable pub release_arguments : (stack : Bool) → Script (Unit {0})
@@ -99,7 +98,7 @@ release_arguments stack =
     when stack
     then (do
       count ← pop
-      release (count % 256 * 4))
+      change (with_released (count % 256 * 4)))
     else pure tt
 
 -- leaves a frame by its status, in reverse order
@@ -110,7 +109,7 @@ leave frame status = do
   pop_register 13
   pc ← pop
   pop_registers 12 0 (status / 2 ^ 16)
-  release (status / 2 ^ 30)
+  change (with_released (status / 2 ^ 30))
   release_arguments (is_in_mask 29 status)
   change (with_psw (status % 2 ^ 16))
   go_to pc

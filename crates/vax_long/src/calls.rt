@@ -1,7 +1,7 @@
-ghost use Rattle.std.specs.Prelude.{◌≡◌, ◌<◌, ◌^◌, IfOk};
+ghost use Rattle.std.specs.Prelude.{◌≡◌, ◌<◌};
 ghost use Rattle.vax_form.specs.Script.{changed};
 ghost use Rattle.vax_meaning.specs.Play.{Plays, view};
-ghost use Rattle.vax_long.specs.Calls.{aligned, entry_mask, check_frame, frame_status, push_frame, entry_psw, enter, call_general, call_stack, release, release_arguments, leave, return_from_procedure};
+ghost use Rattle.vax_long.specs.Calls.{aligned, entry_mask, check_frame, frame_status, push_frame, entry_psw, enter, call_general, call_stack, with_released, release_arguments, leave, return_from_procedure};
 
 use crate::registers::{
     is_in_mask, longword_popped, longword_pushed, push_allowed, register_popped, registers_allowed,
@@ -24,7 +24,6 @@ fn aligned(address: u32) -> u32
 #[tactic(auto, unfolding(crate::specs::Calls::entry_mask))]
 fn entry_mask_read(cursor: &mut Cursor, destination: u32) -> Result<u32, Stop>
     ensures plays { Plays (entry_mask destination) cursor.old result cursor.new }
-    ensures bound { IfOk result (λ mask. mask < 65536) }
 {
     let mask = code_word_read(cursor, destination)?;
     if mask / 4096 % 4 == 0 {
@@ -130,13 +129,11 @@ pub fn called_stack(
 }
 
 /// Raises SP.
-#[tactic(auto, unfolding(crate::specs::Calls::release))]
-fn released(cursor: &mut Cursor, bytes: u32) -> Result<(), Stop>
-    ensures plays { Plays (release bytes) cursor.old result cursor.new }
+fn release(cursor: &mut Cursor, bytes: u32)
+    ensures { view cursor.new ≡ changed (with_released bytes) (view cursor.old) }
 {
     let top = register_of(cursor, 14);
     set_register_of(cursor, 14, top.wrapping_add(bytes));
-    Ok(())
 }
 
 /// Takes the argument list of CALLS off the stack.
@@ -146,7 +143,7 @@ fn arguments_released(cursor: &mut Cursor, stack: bool) -> Result<(), Stop>
 {
     if stack {
         let count = longword_popped(cursor)?;
-        released(cursor, count % 256 * 4)?;
+        release(cursor, count % 256 * 4);
     }
     Ok(())
 }
@@ -161,7 +158,7 @@ fn frame_left(cursor: &mut Cursor, frame: u32, status: u32) -> Result<End, Stop>
     register_popped(cursor, 13)?;
     let pc = longword_popped(cursor)?;
     registers_popped(cursor, 12, status / 0x1_0000)?;
-    released(cursor, status / 0x4000_0000)?;
+    release(cursor, status / 0x4000_0000);
     arguments_released(cursor, is_in_mask(29, status))?;
     cursor.state.psw = (status % 0x1_0000) as u16;
     gone_to(cursor, pc)
