@@ -5,8 +5,7 @@ ghost use Rattle.vax_meaning.specs.Memory.{check, read_part, write_part};
 ghost use Rattle.vax_long.specs.Strings.{beyond, beside, fetch_byte};
 
 use vax_form::{Exception, Pages, RefKind, Reference, Stop};
-use vax_meaning::Cursor;
-use vax_meaning::checked;
+use vax_meaning::{Cursor, checked};
 
 /// So many bytes beyond an address.
 pub fn beyond(address: u32, count: u16) -> u32

@@ -5,9 +5,7 @@ ghost use Rattle.vax_long.specs.Strings.{beginning, move_bytes, move_string, fil
 
 use crate::bytes::{beside, beyond, byte_read, byte_written, string_checked};
 use vax_form::{End, Instr, Size, Stop, Width};
-use vax_meaning::{
-    Cursor, Evaluated, gone_to, set_codes, set_compared, set_register_of, value_at,
-};
+use vax_meaning::{Cursor, Evaluated, gone_to, set_codes, set_compared, set_register_of, value_at};
 
 /// The byte at which a string is begun: its first, or its last.
 fn beginning(down: bool, address: u32, count: u16) -> u32
@@ -123,7 +121,12 @@ pub fn characters_moved_filled(
     string_checked(cursor, destination, room, true)?;
     string_moved(cursor, count, source, destination)?;
     bytes_filled(cursor, room - count, beyond(destination, count), fill)?;
-    set_moved(cursor, length - count, beyond(source, count), beyond(destination, room));
+    set_moved(
+        cursor,
+        length - count,
+        beyond(source, count),
+        beyond(destination, room),
+    );
     set_compared(cursor, Width::Word, length as u64, room as u64);
     gone_to(cursor, instr.after)
 }

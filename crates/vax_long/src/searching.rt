@@ -4,18 +4,11 @@ ghost use Rattle.vax_long.specs.Strings.{compare_bytes, compare_characters, stop
 
 use crate::bytes::{beside, beyond, byte_fetched};
 use vax_form::{End, Instr, Size, Stop, Width};
-use vax_meaning::{
-    Cursor, Evaluated, gone_to, set_codes, set_compared, set_register_of, value_at,
-};
+use vax_meaning::{Cursor, Evaluated, gone_to, set_codes, set_compared, set_register_of, value_at};
 
 /// Compares bytes until two differ or none is left, sets the codes, and gives the number of bytes left.
 #[tactic(auto, unfolding(crate::specs::Strings::compare_bytes))]
-pub fn bytes_compared(
-    cursor: &mut Cursor,
-    count: u16,
-    first: u32,
-    second: u32,
-) -> Result<u16, Stop>
+pub fn bytes_compared(cursor: &mut Cursor, count: u16, first: u32, second: u32) -> Result<u16, Stop>
     ensures plays { Plays (compare_bytes count first second) cursor.old result cursor.new }
     ensures most { IfOk result (λ left. left ≤ count) }
 {
