@@ -10,21 +10,21 @@ allowed : (rest mask top : ℕ) (moment : Moment) → run (check_registers (suc 
 unfolding check_registers
 allowed rest mask top moment = refl
 
-pub allowed_step : (count rest place mask top : ℕ) (wanted : Bool) (moment : Moment) → count ≡ suc rest → place ≡ rest → wanted ≡ is_in_mask place mask
+pub allowed_step : (count rest mask top : ℕ) (wanted : Bool) (moment : Moment) → count ≡ suc rest → wanted ≡ is_in_mask rest mask
     → run (check_registers count mask top) moment
     ≡ then_do (run (when wanted then check_push top else pure top) moment) (λ next. run (check_registers rest mask next))
-allowed_step count rest place mask top wanted moment is at bit = rw (is, bit, at) (allowed rest mask top moment)
+allowed_step count rest mask top wanted moment is bit = rw (is, bit) (allowed rest mask top moment)
 
 pushed : (rest mask : ℕ) (values : VaxState) (moment : Moment) → run (push_registers (suc rest) mask values) moment
     ≡ then_do (run (when is_in_mask rest mask then push_checked (register rest values) else pure tt) moment) (λ _. run (push_registers rest mask values))
 unfolding push_registers
 pushed rest mask values moment = refl
 
-pub pushed_step : (count rest place mask value : ℕ) (values : VaxState) (wanted : Bool) (moment : Moment) → count ≡ suc rest → place ≡ rest
-    → wanted ≡ is_in_mask place mask → value ≡ register place values
+pub pushed_step : (count rest mask value : ℕ) (values : VaxState) (wanted : Bool) (moment : Moment) → count ≡ suc rest
+    → wanted ≡ is_in_mask rest mask → value ≡ register rest values
     → run (push_registers count mask values) moment
     ≡ then_do (run (when wanted then push_checked value else pure tt) moment) (λ _. run (push_registers rest mask values))
-pushed_step count rest place mask value values wanted moment is at bit same = rw (is, bit, same, at) (pushed rest mask values moment)
+pushed_step count rest mask value values wanted moment is bit same = rw (is, bit, same) (pushed rest mask values moment)
 
 popped : (rest number mask : ℕ) (moment : Moment) → run (pop_registers (suc rest) number mask) moment
     ≡ then_do (run (when is_in_mask number mask then pop_register number else pure tt) moment) (λ _. run (pop_registers rest (number + 1) mask))

@@ -1,6 +1,6 @@
 ghost use Rattle.std.specs.Prelude.{◌≡◌, ◌<◌};
 ghost use Rattle.vax_form.specs.Pages.{first_bad};
-ghost use Rattle.vax_meaning.specs.Play.{Plays};
+ghost use Rattle.vax_meaning.specs.Play.{Plays, Uses};
 ghost use Rattle.vax_meaning.specs.Memory.{check, read_part, write_part};
 ghost use Rattle.vax_long.specs.Strings.{beyond, beside, fetch_byte};
 
@@ -47,6 +47,7 @@ pub fn string_checked(
     write: bool,
 ) -> Result<(), Stop>
     ensures plays { Plays (check address count write) cursor.old result cursor.new }
+    ensures few { Uses 0 cursor.old result cursor.new }
 {
     match first_bad(cursor.pages, address, count, write) {
         None => Ok(()),
@@ -57,6 +58,7 @@ pub fn string_checked(
 /// Reads a byte.
 pub fn byte_read(cursor: &mut Cursor, address: u32) -> Result<u8, Stop>
     ensures plays { Plays (read_part address 1) cursor.old result cursor.new }
+    ensures few { Uses 1 cursor.old result cursor.new }
 {
     let reply = cursor.ask(Reference {
         address,
@@ -69,6 +71,7 @@ pub fn byte_read(cursor: &mut Cursor, address: u32) -> Result<u8, Stop>
 /// Writes a byte.
 pub fn byte_written(cursor: &mut Cursor, address: u32, byte: u8) -> Result<(), Stop>
     ensures plays { Plays (write_part address 1 byte) cursor.old result cursor.new }
+    ensures few { Uses 1 cursor.old result cursor.new }
 {
     cursor.ask(Reference {
         address,
@@ -82,6 +85,7 @@ pub fn byte_written(cursor: &mut Cursor, address: u32, byte: u8) -> Result<(), S
 #[tactic(auto, unfolding(crate::specs::Strings::fetch_byte))]
 pub fn byte_fetched(cursor: &mut Cursor, address: u32) -> Result<u8, Stop>
     ensures plays { Plays (fetch_byte address) cursor.old result cursor.new }
+    ensures few { Uses 1 cursor.old result cursor.new }
 {
     checked(cursor, address, 1, false)?;
     byte_read(cursor, address)

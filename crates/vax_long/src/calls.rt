@@ -1,6 +1,6 @@
 ghost use Rattle.std.specs.Prelude.{◌≡◌, ◌<◌};
 ghost use Rattle.vax_form.specs.Script.{changed};
-ghost use Rattle.vax_meaning.specs.Play.{Plays, view};
+ghost use Rattle.vax_meaning.specs.Play.{Plays, Uses, view};
 ghost use Rattle.vax_long.specs.Calls.{aligned, entry_mask, check_frame, frame_status, push_frame, entry_psw, enter, call_general, call_stack, with_released, release_arguments, leave, return_from_procedure};
 
 use crate::registers::{
@@ -14,7 +14,7 @@ use vax_meaning::{
 };
 
 /// The longword in which an address lies.
-fn aligned(address: u32) -> u32
+pub fn aligned(address: u32) -> u32
     ensures { result ≡ aligned address }
 {
     address / 4 * 4
@@ -22,8 +22,9 @@ fn aligned(address: u32) -> u32
 
 /// The entry mask at a procedure's address; its bits 13:12 are 0.
 #[tactic(auto, unfolding(crate::specs::Calls::entry_mask))]
-fn entry_mask_read(cursor: &mut Cursor, destination: u32) -> Result<u32, Stop>
+pub fn entry_mask_read(cursor: &mut Cursor, destination: u32) -> Result<u32, Stop>
     ensures plays { Plays (entry_mask destination) cursor.old result cursor.new }
+    ensures few { Uses 0 cursor.old result cursor.new }
 {
     let mask = code_word_read(cursor, destination)?;
     if mask / 4096 % 4 == 0 {
@@ -35,8 +36,9 @@ fn entry_mask_read(cursor: &mut Cursor, destination: u32) -> Result<u32, Stop>
 
 /// Checks the pushes of a call frame.
 #[tactic(auto, unfolding(crate::specs::Calls::check_frame))]
-fn frame_allowed(cursor: &mut Cursor, mask: u32, top: u32) -> Result<(), Stop>
+pub fn frame_allowed(cursor: &mut Cursor, mask: u32, top: u32) -> Result<(), Stop>
     ensures plays { Plays (check_frame mask top) cursor.old result cursor.new }
+    ensures few { Uses 0 cursor.old result cursor.new }
 {
     let pc = registers_allowed(cursor, 12, mask, top)?;
     let fp = push_allowed(cursor, pc)?;
@@ -47,7 +49,7 @@ fn frame_allowed(cursor: &mut Cursor, mask: u32, top: u32) -> Result<(), Stop>
 }
 
 /// The status in a frame: how far SP was aligned, whether the arguments are on the stack, the mask and the PSW.
-fn frame_status(low: u32, stack: bool, mask: u32, psw: u16) -> u32
+pub fn frame_status(low: u32, stack: bool, mask: u32, psw: u16) -> u32
     requires { low < 4 }
     ensures { result ≡ frame_status low stack mask psw }
 {
@@ -58,6 +60,7 @@ fn frame_status(low: u32, stack: bool, mask: u32, psw: u16) -> u32
 #[tactic(auto, unfolding(crate::specs::Calls::push_frame))]
 fn frame_pushed(cursor: &mut Cursor, pc: u32, stack: bool, mask: u32) -> Result<(), Stop>
     ensures plays { Plays (push_frame pc stack mask) cursor.old result cursor.new }
+    ensures few { Uses 34 cursor.old result cursor.new }
 {
     let state = cursor.state;
     let top = state.register(14);
@@ -71,7 +74,7 @@ fn frame_pushed(cursor: &mut Cursor, pc: u32, stack: bool, mask: u32) -> Result<
 }
 
 /// The PSW in a procedure.
-fn entry_psw(mask: u32, psw: u16) -> u16
+pub fn entry_psw(mask: u32, psw: u16) -> u16
     ensures { result ≡ entry_psw mask psw }
 {
     let decimal = (mask / 0x8000 % 2) as u16;
@@ -81,8 +84,9 @@ fn entry_psw(mask: u32, psw: u16) -> u16
 
 /// Enters a procedure behind its mask.
 #[tactic(auto, unfolding(crate::specs::Calls::enter))]
-fn entered(cursor: &mut Cursor, destination: u32, mask: u32, list: u32) -> Result<End, Stop>
+pub fn entered(cursor: &mut Cursor, destination: u32, mask: u32, list: u32) -> Result<End, Stop>
     ensures plays { Plays (enter destination mask list) cursor.old result cursor.new }
+    ensures few { Uses 0 cursor.old result cursor.new }
 {
     let frame = register_of(cursor, 14);
     set_register_of(cursor, 13, frame);
@@ -99,6 +103,7 @@ pub fn called_general(
     values: &[Evaluated; 6],
 ) -> Result<End, Stop>
     ensures plays { Plays (call_general instr.now values.now) cursor.old result cursor.new }
+    ensures few { Uses 34 cursor.old result cursor.new }
 {
     let destination = value_at(values, 1, Size::Long) as u32;
     let mask = entry_mask_read(cursor, destination)?;
@@ -117,6 +122,7 @@ pub fn called_stack(
     values: &[Evaluated; 6],
 ) -> Result<End, Stop>
     ensures plays { Plays (call_stack instr.now values.now) cursor.old result cursor.new }
+    ensures few { Uses 36 cursor.old result cursor.new }
 {
     let destination = value_at(values, 1, Size::Long) as u32;
     let mask = entry_mask_read(cursor, destination)?;
@@ -129,7 +135,7 @@ pub fn called_stack(
 }
 
 /// Raises SP.
-fn release(cursor: &mut Cursor, bytes: u32)
+pub fn release(cursor: &mut Cursor, bytes: u32)
     ensures { view cursor.new ≡ changed (with_released bytes) (view cursor.old) }
 {
     let top = register_of(cursor, 14);
@@ -140,6 +146,7 @@ fn release(cursor: &mut Cursor, bytes: u32)
 #[tactic(auto, unfolding(crate::specs::Calls::release_arguments))]
 fn arguments_released(cursor: &mut Cursor, stack: bool) -> Result<(), Stop>
     ensures plays { Plays (release_arguments stack) cursor.old result cursor.new }
+    ensures few { Uses 2 cursor.old result cursor.new }
 {
     if stack {
         let count = longword_popped(cursor)?;
@@ -152,6 +159,7 @@ fn arguments_released(cursor: &mut Cursor, stack: bool) -> Result<(), Stop>
 #[tactic(auto, unfolding(crate::specs::Calls::leave))]
 fn frame_left(cursor: &mut Cursor, frame: u32, status: u32) -> Result<End, Stop>
     ensures plays { Plays (leave frame status) cursor.old result cursor.new }
+    ensures few { Uses 32 cursor.old result cursor.new }
 {
     set_register_of(cursor, 14, frame.wrapping_add(8));
     register_popped(cursor, 12)?;
@@ -168,6 +176,7 @@ fn frame_left(cursor: &mut Cursor, frame: u32, status: u32) -> Result<End, Stop>
 #[tactic(auto, unfolding(crate::specs::Calls::return_from_procedure))]
 pub fn returned_from_procedure(cursor: &mut Cursor) -> Result<End, Stop>
     ensures plays { Plays return_from_procedure cursor.old result cursor.new }
+    ensures few { Uses 34 cursor.old result cursor.new }
 {
     let frame = register_of(cursor, 13);
     let longword = fetched(cursor, frame.wrapping_add(4), 4)?;

@@ -1,5 +1,5 @@
 ghost use Rattle.std.specs.Prelude.{◌≡◌, ◌<◌, ◌^◌};
-ghost use Rattle.vax_meaning.specs.Play.{Plays};
+ghost use Rattle.vax_meaning.specs.Play.{Plays, Uses};
 ghost use Rattle.vax_long.specs.Index.{is_outside, index_of, index};
 
 use vax_form::{End, Instr, Size, Stop};
@@ -32,6 +32,7 @@ fn index(sum: u64, subscript: u64, size: u64) -> u32
 #[tactic(auto, unfolding(crate::specs::Index::index))]
 pub fn indexed(cursor: &mut Cursor, instr: &Instr, values: &[Evaluated; 6]) -> Result<End, Stop>
     ensures plays { Plays (index instr.now values.now) cursor.old result cursor.new }
+    ensures few { Uses 2 cursor.old result cursor.new }
 {
     let long = Size::Long;
     let subscript = value_at(values, 0, long);

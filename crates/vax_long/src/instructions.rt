@@ -1,5 +1,5 @@
 ghost use Rattle.std.specs.Prelude.{◌≡◌};
-ghost use Rattle.vax_meaning.specs.Play.{Plays};
+ghost use Rattle.vax_meaning.specs.Play.{Plays, Uses};
 ghost use Rattle.vax_long.specs.Instructions.{long_body, long_script, long_operation, long_at};
 
 use crate::calls::{called_general, called_stack, returned_from_procedure};
@@ -30,6 +30,7 @@ pub fn long_body_run(
     values: &[Evaluated; 6],
 ) -> Result<End, Stop>
     ensures plays { Plays (long_body operation instr.now values.now) cursor.old result cursor.new }
+    ensures few { Uses 131070 cursor.old result cursor.new }
 {
     match operation {
         LongOperation::Index => indexed(cursor, instr, values),
@@ -54,6 +55,7 @@ pub fn long_operation_run(
     instr: &Instr,
 ) -> Result<End, Stop>
     ensures plays { Plays (long_script operation instr.now) cursor.old result cursor.new }
+    ensures few { Uses 131094 cursor.old result cursor.new }
 {
     let row = Operation::Long(operation).row();
     let values = operands_evaluated(cursor, &row, instr)?;

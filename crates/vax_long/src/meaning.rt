@@ -1,6 +1,7 @@
 ghost use Rattle.std.specs.Prelude.{◌≡◌};
 ghost use Rattle.vax_form.specs.Script.{Moment, run};
 ghost use Rattle.vax_form.specs.Tree.{run_outcome};
+ghost use Rattle.vax_meaning.specs.Play.{Within};
 ghost use Rattle.vax_long.specs.Instructions.{long_script_of, next_long_of};
 
 use crate::instructions::{long_operation_of, long_operation_run};
@@ -10,6 +11,7 @@ use vax_meaning::Cursor;
 /// Goes through the script of a long instruction.
 fn played(state: &VaxState, instr: &Instr, pages: &Pages, replies: &[u64]) -> Outcome
     ensures value { result ≡ run_outcome state.now (run (long_script_of instr.now) (record { state = state.now; pages = pages.now; replies = replies.now })) }
+    ensures few { Within 131094 replies.now result }
 {
     let Some(operation) = long_operation_of(instr.opcode) else {
         return Outcome::Raises(Exception::ReservedInstruction, *state);
@@ -38,6 +40,7 @@ pub fn next_long(
     replies: &[u64],
 ) -> Outcome
     ensures value { result ≡ next_long_of state.now instr.now pages.now replies.now }
+    ensures few { Within 131094 replies.now result }
 {
     played(state, instr, pages, replies)
 }

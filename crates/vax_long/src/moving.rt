@@ -1,6 +1,6 @@
-ghost use Rattle.std.specs.Prelude.{◌≡◌};
+ghost use Rattle.std.specs.Prelude.{◌≡◌, ◌*◌};
 ghost use Rattle.vax_form.specs.Script.{changed};
-ghost use Rattle.vax_meaning.specs.Play.{Plays, view};
+ghost use Rattle.vax_meaning.specs.Play.{Plays, Uses, view};
 ghost use Rattle.vax_long.specs.Strings.{beginning, move_bytes, move_string, fill_bytes, with_moved, move_characters, move_characters_filled};
 
 use crate::bytes::{beside, beyond, byte_read, byte_written, string_checked};
@@ -8,7 +8,7 @@ use vax_form::{End, Instr, Size, Stop, Width};
 use vax_meaning::{Cursor, Evaluated, gone_to, set_codes, set_compared, set_register_of, value_at};
 
 /// The byte at which a string is begun: its first, or its last.
-fn beginning(down: bool, address: u32, count: u16) -> u32
+pub fn beginning(down: bool, address: u32, count: u16) -> u32
     ensures { result ≡ beginning down address count }
 {
     if down {
@@ -28,6 +28,7 @@ pub fn bytes_moved(
     to: u32,
 ) -> Result<(), Stop>
     ensures plays { Plays (move_bytes down count from to) cursor.old result cursor.new }
+    ensures few { Uses (2 * count) cursor.old result cursor.new }
 {
     let mut source = from;
     let mut target = to;
@@ -49,6 +50,7 @@ pub fn string_moved(
     destination: u32,
 ) -> Result<(), Stop>
     ensures plays { Plays (move_string count source destination) cursor.old result cursor.new }
+    ensures few { Uses (2 * count) cursor.old result cursor.new }
 {
     let down = destination > source;
     let from = beginning(down, source, count);
@@ -60,6 +62,7 @@ pub fn string_moved(
 #[tactic(auto, unfolding(crate::specs::Strings::fill_bytes))]
 pub fn bytes_filled(cursor: &mut Cursor, count: u16, to: u32, byte: u8) -> Result<(), Stop>
     ensures plays { Plays (fill_bytes count to byte) cursor.old result cursor.new }
+    ensures few { Uses count cursor.old result cursor.new }
 {
     let mut target = to;
     for _ in 0..count {
@@ -70,7 +73,7 @@ pub fn bytes_filled(cursor: &mut Cursor, count: u16, to: u32, byte: u8) -> Resul
 }
 
 /// Sets the registers as they are behind a move.
-fn set_moved(cursor: &mut Cursor, left: u16, source: u32, destination: u32)
+pub fn set_moved(cursor: &mut Cursor, left: u16, source: u32, destination: u32)
     ensures { view cursor.new ≡ changed (with_moved left source destination) (view cursor.old) }
 {
     let registers = [left as u32, source, 0, destination, 0, 0];
@@ -90,6 +93,7 @@ pub fn characters_moved(
     values: &[Evaluated; 6],
 ) -> Result<End, Stop>
     ensures plays { Plays (move_characters instr.now values.now) cursor.old result cursor.new }
+    ensures few { Uses 131070 cursor.old result cursor.new }
 {
     let count = value_at(values, 0, Size::Word) as u16;
     let source = value_at(values, 1, Size::Long) as u32;
@@ -110,6 +114,7 @@ pub fn characters_moved_filled(
     values: &[Evaluated; 6],
 ) -> Result<End, Stop>
     ensures plays { Plays (move_characters_filled instr.now values.now) cursor.old result cursor.new }
+    ensures few { Uses 131070 cursor.old result cursor.new }
 {
     let length = value_at(values, 0, Size::Word) as u16;
     let source = value_at(values, 1, Size::Long) as u32;

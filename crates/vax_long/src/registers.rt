@@ -1,6 +1,6 @@
-ghost use Rattle.std.specs.Prelude.{◌≡◌, ◌<◌, ◌≤◌, ◌+◌};
+ghost use Rattle.std.specs.Prelude.{◌≡◌, ◌<◌, ◌≤◌, ◌+◌, ◌*◌};
 ghost use Rattle.vax_form.specs.Script.{pure, when◌then◌else◌};
-ghost use Rattle.vax_meaning.specs.Play.{Plays};
+ghost use Rattle.vax_meaning.specs.Play.{Plays, Uses};
 ghost use Rattle.vax_long.specs.Registers.{is_in_mask, below, check_push, check_registers, push_checked, push_registers, pop, pop_register, pop_registers, push_by_mask, pop_by_mask};
 
 use vax_form::{End, Instr, Size, Stop, VaxState};
@@ -21,6 +21,7 @@ pub fn is_in_mask(number: u8, mask: u32) -> bool
 #[tactic(auto, unfolding(crate::specs::Registers::check_push))]
 pub fn push_allowed(cursor: &mut Cursor, top: u32) -> Result<u32, Stop>
     ensures plays { Plays (check_push top) cursor.old result cursor.new }
+    ensures few { Uses 0 cursor.old result cursor.new }
 {
     let next = top.wrapping_sub(4);
     checked(cursor, next, 4, true)?;
@@ -30,6 +31,7 @@ pub fn push_allowed(cursor: &mut Cursor, top: u32) -> Result<u32, Stop>
 /// Does so where a register is in the mask.
 fn push_allowed_if(cursor: &mut Cursor, wanted: bool, top: u32) -> Result<u32, Stop>
     ensures plays { Plays (when wanted then check_push top else pure top) cursor.old result cursor.new }
+    ensures few { Uses 0 cursor.old result cursor.new }
 {
     if wanted {
         push_allowed(cursor, top)
@@ -43,10 +45,11 @@ fn push_allowed_if(cursor: &mut Cursor, wanted: bool, top: u32) -> Result<u32, S
 pub fn registers_allowed(cursor: &mut Cursor, number: u8, mask: u32, top: u32) -> Result<u32, Stop>
     requires { number < 32 }
     ensures plays { Plays (check_registers number mask top) cursor.old result cursor.new }
+    ensures few { Uses 0 cursor.old result cursor.new }
 {
     let mut next = top;
     for done in 0..number {
-        let wanted = is_in_mask(number - 1 - done, mask);
+        let wanted = is_in_mask(number - (done + 1), mask);
         next = push_allowed_if(cursor, wanted, next)?;
     }
     Ok(next)
@@ -56,6 +59,7 @@ pub fn registers_allowed(cursor: &mut Cursor, number: u8, mask: u32, top: u32) -
 #[tactic(auto, unfolding(crate::specs::Registers::push_checked))]
 pub fn longword_pushed(cursor: &mut Cursor, value: u32) -> Result<(), Stop>
     ensures plays { Plays (push_checked value) cursor.old result cursor.new }
+    ensures few { Uses 2 cursor.old result cursor.new }
 {
     let top = register_of(cursor, 14).wrapping_sub(4);
     written(cursor, top, 4, value as u64)?;
@@ -66,6 +70,7 @@ pub fn longword_pushed(cursor: &mut Cursor, value: u32) -> Result<(), Stop>
 /// Does so where a register is in the mask.
 fn longword_pushed_if(cursor: &mut Cursor, wanted: bool, value: u32) -> Result<(), Stop>
     ensures plays { Plays (when wanted then push_checked value else pure tt) cursor.old result cursor.new }
+    ensures few { Uses 2 cursor.old result cursor.new }
 {
     if wanted {
         longword_pushed(cursor, value)
@@ -84,9 +89,10 @@ pub fn registers_pushed(
 ) -> Result<(), Stop>
     requires { number < 32 }
     ensures plays { Plays (push_registers number mask values.now) cursor.old result cursor.new }
+    ensures few { Uses (2 * number) cursor.old result cursor.new }
 {
     for done in 0..number {
-        let next = number - 1 - done;
+        let next = number - (done + 1);
         longword_pushed_if(cursor, is_in_mask(next, mask), values.register(next))?;
     }
     Ok(())
@@ -96,6 +102,7 @@ pub fn registers_pushed(
 #[tactic(auto, unfolding(crate::specs::Registers::pop))]
 pub fn longword_popped(cursor: &mut Cursor) -> Result<u32, Stop>
     ensures plays { Plays pop cursor.old result cursor.new }
+    ensures few { Uses 2 cursor.old result cursor.new }
 {
     let top = register_of(cursor, 14);
     let value = fetched(cursor, top, 4)?;
@@ -107,6 +114,7 @@ pub fn longword_popped(cursor: &mut Cursor) -> Result<u32, Stop>
 #[tactic(auto, unfolding(crate::specs::Registers::pop_register))]
 pub fn register_popped(cursor: &mut Cursor, number: u8) -> Result<(), Stop>
     ensures plays { Plays (pop_register number) cursor.old result cursor.new }
+    ensures few { Uses 2 cursor.old result cursor.new }
 {
     let value = longword_popped(cursor)?;
     set_register_of(cursor, number, value);
@@ -116,6 +124,7 @@ pub fn register_popped(cursor: &mut Cursor, number: u8) -> Result<(), Stop>
 /// Does so where a register is in the mask.
 fn register_popped_if(cursor: &mut Cursor, wanted: bool, number: u8) -> Result<(), Stop>
     ensures plays { Plays (when wanted then pop_register number else pure tt) cursor.old result cursor.new }
+    ensures few { Uses 2 cursor.old result cursor.new }
 {
     if wanted {
         register_popped(cursor, number)
@@ -129,6 +138,7 @@ fn register_popped_if(cursor: &mut Cursor, wanted: bool, number: u8) -> Result<(
 pub fn registers_popped(cursor: &mut Cursor, count: u8, mask: u32) -> Result<(), Stop>
     requires { count < 32 }
     ensures plays { Plays (pop_registers count 0 mask) cursor.old result cursor.new }
+    ensures few { Uses (2 * count) cursor.old result cursor.new }
 {
     for number in 0..count {
         register_popped_if(cursor, is_in_mask(number, mask), number)?;
@@ -144,6 +154,7 @@ pub fn pushed_by_mask(
     values: &[Evaluated; 6],
 ) -> Result<End, Stop>
     ensures plays { Plays (push_by_mask instr.now values.now) cursor.old result cursor.new }
+    ensures few { Uses 30 cursor.old result cursor.new }
 {
     let mask = value_at(values, 0, Size::Word) as u32;
     let state = cursor.state;
@@ -160,6 +171,7 @@ pub fn popped_by_mask(
     values: &[Evaluated; 6],
 ) -> Result<End, Stop>
     ensures plays { Plays (pop_by_mask instr.now values.now) cursor.old result cursor.new }
+    ensures few { Uses 30 cursor.old result cursor.new }
 {
     let mask = value_at(values, 0, Size::Word) as u32;
     registers_popped(cursor, 15, mask)?;

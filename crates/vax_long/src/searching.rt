@@ -1,5 +1,5 @@
-ghost use Rattle.std.specs.Prelude.{◌≡◌, ◌≤◌, IfOk};
-ghost use Rattle.vax_meaning.specs.Play.{Plays};
+ghost use Rattle.std.specs.Prelude.{◌≡◌, ◌≤◌, IfOk, ◌*◌};
+ghost use Rattle.vax_meaning.specs.Play.{Plays, Uses};
 ghost use Rattle.vax_long.specs.Strings.{compare_bytes, compare_characters, stops_at, scan_bytes, scan_characters};
 
 use crate::bytes::{beside, beyond, byte_fetched};
@@ -10,6 +10,7 @@ use vax_meaning::{Cursor, Evaluated, gone_to, set_codes, set_compared, set_regis
 #[tactic(auto, unfolding(crate::specs::Strings::compare_bytes))]
 pub fn bytes_compared(cursor: &mut Cursor, count: u16, first: u32, second: u32) -> Result<u16, Stop>
     ensures plays { Plays (compare_bytes count first second) cursor.old result cursor.new }
+    ensures few { Uses (2 * count) cursor.old result cursor.new }
     ensures most { IfOk result (λ left. left ≤ count) }
 {
     let mut place = first;
@@ -36,6 +37,7 @@ pub fn characters_compared(
     values: &[Evaluated; 6],
 ) -> Result<End, Stop>
     ensures plays { Plays (compare_characters instr.now values.now) cursor.old result cursor.new }
+    ensures few { Uses 131070 cursor.old result cursor.new }
 {
     let count = value_at(values, 0, Size::Word) as u16;
     let first = value_at(values, 1, Size::Long) as u32;
@@ -49,7 +51,7 @@ pub fn characters_compared(
 }
 
 /// Whether LOCC, or else SKPC, stops at a byte.
-fn stops_at(locates: bool, character: u8, byte: u8) -> bool
+pub fn stops_at(locates: bool, character: u8, byte: u8) -> bool
     ensures { result ≡ stops_at locates character byte }
 {
     if locates {
@@ -69,6 +71,7 @@ pub fn bytes_scanned(
     address: u32,
 ) -> Result<u16, Stop>
     ensures plays { Plays (scan_bytes locates character count address) cursor.old result cursor.new }
+    ensures few { Uses count cursor.old result cursor.new }
     ensures most { IfOk result (λ left. left ≤ count) }
 {
     let mut place = address;
@@ -91,6 +94,7 @@ pub fn characters_scanned(
     values: &[Evaluated; 6],
 ) -> Result<End, Stop>
     ensures plays { Plays (scan_characters instr.now locates values.now) cursor.old result cursor.new }
+    ensures few { Uses 65535 cursor.old result cursor.new }
 {
     let character = value_at(values, 0, Size::Byte) as u8;
     let count = value_at(values, 1, Size::Word) as u16;

@@ -236,26 +236,37 @@ fn range(first: u32, count: u32, writable: bool) -> PageRange
     }
 }
 
-/// All pages are writable, but for the first 2 or 10 where the row says so, which have the code.
-fn pages_of(alloc: Global, case: &Case) -> Result<Pages, AllocError> {
-    let mut bytes = [0u8; 5120];
+/// The bytes of the code, from address 0 on.
+fn code_of<const N: usize>(case: &Case) -> [u8; N] {
+    let mut bytes = [0; N];
     for (address, byte) in &case.memory {
-        if *address < 5120 {
+        if (*address as usize) < N {
             bytes[*address as usize] = *byte;
         }
     }
-    let (ranges, code) = match case.code {
-        2 => (
-            vec![in alloc; range(0, 2, false), range(2, 4_194_302, true)]?,
-            bytes[..1024].to_vec(alloc)?,
-        ),
-        10 => (
-            vec![in alloc; range(0, 10, false), range(10, 4_194_294, true)]?,
-            bytes.to_vec(alloc)?,
-        ),
-        _ => (vec![in alloc; range(0, 4_194_304, true)]?, Vec::new(alloc)),
-    };
-    Ok(Pages { ranges, code })
+    bytes
+}
+
+/// All pages are writable, but for the first 2 or 10 where the row says so, which have the code.
+fn pages_of(alloc: Global, case: &Case) -> Result<Pages, AllocError> {
+    if case.code == 2 {
+        let code: [u8; 1024] = code_of(case);
+        return Ok(Pages {
+            ranges: vec![in alloc; range(0, 2, false), range(2, 4_194_302, true)]?,
+            code: code.to_vec(alloc)?,
+        });
+    }
+    if case.code == 10 {
+        let code: [u8; 5120] = code_of(case);
+        return Ok(Pages {
+            ranges: vec![in alloc; range(0, 10, false), range(10, 4_194_294, true)]?,
+            code: code.to_vec(alloc)?,
+        });
+    }
+    Ok(Pages {
+        ranges: vec![in alloc; range(0, 4_194_304, true)]?,
+        code: Vec::new(alloc),
+    })
 }
 
 fn byte_at(memory: &[(u32, u8)], address: u32) -> u8 {
@@ -315,10 +326,7 @@ fn instructions_of_the_simulator(rt: HostRuntime) -> Result<(), Fail> {
 
 #[test]
 fn longest_strings(rt: HostRuntime) -> Result<(), Fail> {
-    let mut zeros = Vec::new(rt.alloc());
-    for _ in 0..131_070 {
-        zeros.push(0u64)?;
-    }
+    let zeros = vec![in rt.alloc(); 0; 131_070]?;
     for (row, references) in LONGEST {
         let case = case_of(rt.alloc(), row)?;
         let pages = pages_of(rt.alloc(), &case)?;

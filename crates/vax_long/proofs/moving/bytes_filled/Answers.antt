@@ -9,4 +9,4 @@ loop-preserved c =
     let left : c.args.count - c.loop.counter ≡ suc (c.args.count - (c.loop.counter + 1)) = omega arith in
     let step = fill_step _ _ c.loop.target c.args.byte (view c.loop.cursor) left in
     let written = rw c.in_ok-byte_written.ensures.plays at step in
-    rw c.beside-target.ensures (sym written ∙ c.loop.invariant)
+    record { plays = rw c.beside-target.ensures (sym written ∙ c.loop.invariant.plays); few = omega (arith, c.loop.invariant.few, c.in_ok-byte_written.ensures.few) }

@@ -10,4 +10,4 @@ loop-preserved c =
     let step = move_step c.args.down _ _ c.loop.source c.loop.target (view c.loop.cursor) left in
     let read = rw c.in_ok-byte.ensures.plays at step in
     let written = rw c.in_ok-byte_written.ensures.plays at read in
-    rw (c.beside-source.ensures, c.beside-target.ensures) (sym written ∙ c.loop.invariant)
+    record { plays = rw (c.beside-source.ensures, c.beside-target.ensures) (sym written ∙ c.loop.invariant.plays); few = omega (arith, c.loop.invariant.few, c.in_ok-byte.ensures.few, c.in_ok-byte_written.ensures.few) }

@@ -9,4 +9,4 @@ loop-number-preserved c =
     let left : c.args.count - c.loop-number.number ≡ suc (c.args.count - (c.loop-number.number + 1)) = omega arith in
     let step = popped_step _ _ c.loop-number.number _ _ (view c.loop-number.cursor) left c.is_in_mask.ensures in
     let popped = rw c.in_ok-register_popped_if.ensures.plays at step in
-    sym popped ∙ c.loop-number.invariant
+    record { plays = sym popped ∙ c.loop-number.invariant.plays; few = omega (arith, c.loop-number.invariant.few, c.in_ok-register_popped_if.ensures.few) }

@@ -11,4 +11,4 @@ loop-done-preserved c =
     let one = rw c.in_ok-one.ensures.plays at step in
     let other = rw c.in_ok-other.ensures.plays at one in
     let passed = compared_equal _ _ (c.args.count - (c.loop-done.done + 1)) c.loop-done.place c.loop-done.against (view c.byte_fetched-in-loop-done.new.cursor) c.if-one-other.false in
-    rw (c.beside-place.ensures, c.beside-against.ensures) (sym passed ∙ sym other ∙ c.loop-done.invariant)
+    record { plays = rw (c.beside-place.ensures, c.beside-against.ensures) (sym passed ∙ sym other ∙ c.loop-done.invariant.plays); few = omega (arith, c.loop-done.invariant.few, c.in_ok-one.ensures.few, c.in_ok-other.ensures.few) }

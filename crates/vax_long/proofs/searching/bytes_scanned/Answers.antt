@@ -10,4 +10,4 @@ loop-done-preserved c =
     let step = scan_step c.args.locates c.args.character _ _ c.loop-done.place (view c.loop-done.cursor) left in
     let read = rw c.in_ok-byte.ensures.plays at step in
     let passed = looked_on c.args.locates _ c.args.character _ (c.args.count - (c.loop-done.done + 1)) c.loop-done.place (view c.byte_fetched.new.cursor) c.stops_at.ensures c.if-stops_at.false in
-    rw c.beside-place.ensures (sym passed ∙ sym read ∙ c.loop-done.invariant)
+    record { plays = rw c.beside-place.ensures (sym passed ∙ sym read ∙ c.loop-done.invariant.plays); few = omega (arith, c.loop-done.invariant.few, c.in_ok-byte.ensures.few) }
