@@ -1,5 +1,5 @@
 -- One more step of scripts that go through strings.
-use Rattle.std.proofs.Common.{◌≡◌, ℕ, suc, ◌+◌, ◌%◌, ◌^◌, ◌==◌, Bool, true, false, refl, sym, ◌∙◌, arith}
+use Rattle.std.proofs.Common.{◌≡◌, ℕ, suc, ◌==◌, Bool, true, false, refl, sym, ◌∙◌, arith}
 use Rattle.std.proofs.lemmas.Grind.{common_steps}
 use Rattle.vax_form.specs.Pages.{is_allowed, first_bad}
 use Rattle.vax_form.specs.Script.{Moment, Script, ◌>>◌, pure, change, run, then_do, when◌then◌else◌}
