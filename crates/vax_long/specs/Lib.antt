@@ -3,3 +3,4 @@ pub mod Calls
 pub mod Strings
 pub mod Index
 pub mod Instructions
+pub mod TreeAt

@@ -11,6 +11,7 @@ mod meaning;
 mod moving;
 mod registers;
 mod searching;
+mod standing;
 
 pub use bytes::{beside, beyond, byte_fetched, byte_read, byte_written, string_checked};
 pub use calls::{
@@ -26,6 +27,7 @@ pub use registers::{
     register_popped, registers_allowed,
 };
 pub use searching::{characters_compared, characters_scanned, stops_at};
+pub use standing::laws_of_tree_at;
 
 #[cfg(test)]
 mod tests;
