@@ -1,0 +1,4 @@
+pub mod Stops
+pub mod RegisterSteps
+pub mod StringSteps
+pub mod TreesAt

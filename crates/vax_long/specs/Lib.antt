@@ -1,0 +1,6 @@
+pub mod Registers
+pub mod Calls
+pub mod Strings
+pub mod Index
+pub mod Instructions
+pub mod TreeAt
