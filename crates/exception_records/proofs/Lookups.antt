@@ -84,4 +84,3 @@ searched_at ps x i rise within found d = find_at ps i x d rise within (ranked _ 
 
 pub searched_none : (ps : List Entry) (x i : ℕ) → KeysRise ps → IsBinarySearchResult (λ p. nat_cmp (key p) x) ps (Err i) → find (λ p. eqb (key p) x) ps ≡ None
 searched_none ps x i rise parts = find_none ps x (apart ps x i (parts (not_falling ps x rise)))
-

@@ -4,13 +4,13 @@
 
 mod block;
 mod points;
+mod registers;
 mod rules;
-//mod shown;
 
 pub use block::Block;
 pub use points::{Point, PointRefusal, Points, build};
+pub use registers::{codes_shown, shown};
 pub use rules::{CodeRule, Rules};
-//pub use shown::{codes_shown, shown};
 
 //
 //mod tests;
