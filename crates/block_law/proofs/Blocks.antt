@@ -14,6 +14,7 @@ use Rattle.alpha_meaning.proofs.Laws.{steps_map, Covers, onto, steps_refine, ste
 use Rattle.exception_records.specs.declared.points.Point.{Point}
 use Rattle.block_law.specs.References.{reply_by, is_of_memory, wanted_by, wants}
 use Rattle.block_law.specs.Placements.{Placement, terms_of, state_shown, target}
+use Rattle.block_law.specs.Laws.{Ever, OneStepOpens, FewerStepsFollow, SameTreeFollows}
 use Rattle.block_law.specs.Follows.{Call, Probe, LookUp, Serve, Raise, Arithmetic, Switch, Other, call_of, Called, Landed, Lands, Onward, Clause, Follows}
 
 pub no_steps : (p : Placement) (phase : Phase) (spare : ℕ) (c : Alpha) (t : Tree) → Follows p 0 phase spare c t
@@ -98,14 +99,11 @@ lands_open : (o : Option ℕ) (point : Option Point) (phase : Phase) (t : Tree) 
 lands_open (Some address) point phase t p regs Way Next h = h 0
 lands_open None point phase t p regs Way Next h = ((h 0).0, λ n. (h n).1)
 
--- what holds for every number of steps
-abbrev pub Ever : Placement → Phase → (spare : ℕ) → Alpha → Tree → Type 0
-Ever p phase spare c t = (n : ℕ) → Follows p n phase spare c t
 
 onward_open : (p : Placement) (phase : Phase) (spare : ℕ) (d : Alpha) (u : Tree) → ((n : ℕ) → Onward p (Follows p n) phase spare d u) → Onward p (Ever p) phase spare d u
 onward_open p phase spare d u h = ((h 0).0, λ n. (h n).1)
 
-pub open_follows : (p : Placement) (phase : Phase) (spare : ℕ) (c : Alpha) (t : Tree) → Ever p phase spare c t → Clause p (Ever p) phase spare c t
+pub open_follows : OneStepOpens
 open_follows p phase spare c t h =
     let one = clause_of p 0 phase spare c t (h 1) in (
       one.0,
@@ -237,8 +235,8 @@ follows_as p (suc n) (suc m) more le phase spare c t u h f =
           (p.fetch c.pc) x.3),
     )
 
-pub fewer : (p : Placement) (n m more : ℕ) → n ≤ m → (phase : Phase) (spare : ℕ) (c : Alpha) (t : Tree) → Follows p m phase spare c t → Follows p n phase (spare + more) c t
+pub fewer : FewerStepsFollow
 fewer p n m more le phase spare c t f = follows_as p n m more le phase spare c t t (same_refl t) f
 
-pub follows_same : (p : Placement) (n : ℕ) (phase : Phase) (spare : ℕ) (c : Alpha) (t u : Tree) → Same u t → Follows p n phase spare c t → Follows p n phase spare c u
+pub follows_same : SameTreeFollows
 follows_same p n phase spare c t u h f = subst (λ s. Follows p n phase s c u) (add-zero spare) (follows_as p n n 0 (omega arith) phase spare c t u h f)
