@@ -1,10 +1,8 @@
 -- Laws of the judgement on blocks.
 use Rattle.std.proofs.Common.{◌≡◌, ℕ, zero, suc, ◌+◌, ◌-◌, ◌*◌, ◌/◌, ◌%◌, ◌^◌, ◌<◌, ◌≤◌, refl, sym, ◌∙◌, subst, add-zero, arith, Bool, true, false, Option, Some, None}
 use Rattle.std.proofs.lemmas.Nat.{mod_below, pow_pos}
-use Rattle.vt_words.specs.Quad.{sign_extended}
-use Rattle.vax_form.specs.Pages.{first_bad}
 use Rattle.vax_form.specs.State.{AnswersKind, Answers, with_register}
-use Rattle.vax_form.specs.Tree.{Tree, Check, Ask, Fault, Ends, Ending, Finish, Exit, Trap, Same}
+use Rattle.vax_form.specs.Tree.{Tree, Check, Ask, Fault, Ends, Ending, Finish, Trap, Same}
 use Rattle.vax_form.specs.declared.state.Reference.{Reference}
 use Rattle.vax_form.specs.declared.state.RefKind.{RefKind}
 use Rattle.vax_form.specs.declared.state.RefKind.TheVariants.{Read, Write, Add, SetBit, ClearBit, Put, Get}
@@ -15,7 +13,7 @@ use Rattle.exception_records.specs.declared.points.Point.{Point}
 use Rattle.block_law.specs.References.{reply_by, is_of_memory, wanted_by, wants}
 use Rattle.block_law.specs.Placements.{Placement, terms_of, state_shown, target}
 use Rattle.block_law.specs.Laws.{Ever, OneStepOpens, FewerStepsFollow, SameTreeFollows}
-use Rattle.block_law.specs.Follows.{Call, Probe, LookUp, Serve, Raise, Arithmetic, Switch, Other, call_of, Called, Landed, Lands, Onward, Clause, Follows}
+use Rattle.block_law.specs.Follows.{Call, Probe, LookUp, Serve, Raise, Arithmetic, Switch, call_of, Called, Landed, Lands, Onward, Clause, Follows}
 
 pub no_steps : (p : Placement) (phase : Phase) (spare : ℕ) (c : Alpha) (t : Tree) → Follows p 0 phase spare c t
 unfolding Follows
@@ -99,7 +97,6 @@ lands_open : (o : Option ℕ) (point : Option Point) (phase : Phase) (t : Tree) 
 lands_open (Some address) point phase t p regs Way Next h = h 0
 lands_open None point phase t p regs Way Next h = ((h 0).0, λ n. (h n).1)
 
-
 onward_open : (p : Placement) (phase : Phase) (spare : ℕ) (d : Alpha) (u : Tree) → ((n : ℕ) → Onward p (Follows p n) phase spare d u) → Onward p (Ever p) phase spare d u
 onward_open p phase spare d u h = ((h 0).0, λ n. (h n).1)
 
@@ -154,9 +151,13 @@ same_covers (Ask r on) (Ask r' on') h =
     subst (λ (x : Reference). Covers (λ (t : Tree) (u : Tree). Same u t) (wants (Ask r on)) (wants (Ask x on'))) (sym h.0) (by (is_of_memory r.kind) refl)
   where
     by : (m : Bool) → is_of_memory r.kind ≡ m → Covers (λ (t : Tree) (u : Tree). Same u t) (wanted_by m r on) (wanted_by m r on')
-    by true e =
-        (refl, λ before lt. (refl,
-        h.1 (reply_by r.kind (r.address % 8) r.count before) (subst (λ (x : Reference). Answers x (reply_by r.kind (r.address % 8) r.count before)) (sym h.0) (reply_answers r.kind (r.address % 8) r.count before e))))
+    by true e = (
+      refl,
+      λ before lt. (
+        refl,
+        h.1 (reply_by r.kind (r.address % 8) r.count before) (subst (λ (x : Reference). Answers x (reply_by r.kind (r.address % 8) r.count before)) (sym h.0) (reply_answers r.kind (r.address % 8) r.count before e)),
+      ),
+    )
     by false e = tt
 same_covers (Check address count write t) u h = tt
 same_covers (Fault exception) u h = tt

@@ -1,9 +1,7 @@
 -- What the registers show where others of them change, and where one is written.
-use Rattle.std.proofs.Common.{◌≡◌, ℕ, zero, suc, ◌+◌, ◌*◌, ◌/◌, ◌%◌, ◌^◌, ◌<◌, ◌≤◌, refl, sym, ap, ◌∙◌, subst, arith, Bool, true, false, eqb, ltb-true, cond}
-use Rattle.std.specs.Prelude.{◌==◌, ◌||◌, ◌&&◌, nat_lt, nat_le, slice_set}
+use Rattle.std.proofs.Common.{◌≡◌, ℕ, zero, suc, ◌%◌, ◌^◌, ◌<◌, refl, ◌∙◌, arith, true}
+use Rattle.std.specs.Prelude.{slice_set}
 use Rattle.std.proofs.lemmas.Bool.Decides.{nat_tests}
-use Rattle.vt_words.specs.Quad.{sign_extended}
-use Rattle.vax_form.specs.State.{with_core}
 use Rattle.vax_form.specs.declared.state.Flags.{Flags}
 use Rattle.alpha_meaning.specs.State.{Regs, put}
 use Rattle.exception_records.specs.Shown.{registers_shown, psw_shown}

@@ -1,6 +1,6 @@
 -- How to prove, word by word, that a block follows a tree.
 use Rattle.std.proofs.Common.{◌≡◌, ℕ, zero, suc, ◌+◌, ◌-◌, ◌%◌, ◌^◌, ◌<◌, ◌≤◌, refl, sym, subst, arith, List, [], ◌∷◌, length, Option, Some, None, Bool, true, false}
-use Rattle.std.specs.Prelude.{ℤ, ◌&&◌}
+use Rattle.std.specs.Prelude.{ℤ}
 use Rattle.std.specs.List.{list_all}
 use Rattle.vt_words.specs.Quad.{sign_extended}
 use Rattle.vax_form.specs.Pages.{first_bad}

@@ -3,9 +3,9 @@ use Rattle.std.specs.Prelude.{◌≡◌, ℕ, zero, suc, ◌<◌, ◌≤◌, ◌
 use Rattle.vt_words.specs.Quad.{sign_extended}
 use Rattle.vax_form.specs.Pages.{first_bad}
 use Rattle.vax_form.specs.State.{with_register}
-use Rattle.vax_form.specs.Tree.{Tree, Check, Ask, Fault, Ends, Ending, Finish, Exit, Trap, Same}
+use Rattle.vax_form.specs.Tree.{Tree, Check, Fault, Ends, Finish, Trap, Same}
 use Rattle.alpha_meaning.specs.State.{Alpha, Regs, put, at_place}
-use Rattle.alpha_meaning.specs.Pieces.{Phase, Plain, Held, Failed, Steps, Forth, phase_after}
+use Rattle.alpha_meaning.specs.Pieces.{Phase, Plain, Steps, Forth, phase_after}
 use Rattle.exception_records.specs.Points.{raised_at}
 use Rattle.exception_records.specs.declared.points.Point.{Point}
 use Rattle.exception_records.specs.declared.rules.Rules.{Rules}

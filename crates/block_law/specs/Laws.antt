@@ -1,5 +1,5 @@
 -- Laws of the judgement on blocks.
-use Rattle.std.specs.Prelude.{◌≡◌, ℕ, suc, ◌≤◌, ◌+◌}
+use Rattle.std.specs.Prelude.{ℕ, ◌≤◌, ◌+◌}
 use Rattle.vax_form.specs.Tree.{Tree, Same}
 use Rattle.alpha_meaning.specs.State.{Alpha}
 use Rattle.alpha_meaning.specs.Pieces.{Phase}

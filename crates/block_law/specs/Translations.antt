@@ -1,5 +1,5 @@
 -- What a translation has to meet.
-use Rattle.std.specs.Prelude.{◌≡◌, ℕ, zero, suc, ◌<◌, ◌≤◌, ◌+◌, ◌-◌, ◌==◌, nat_lt, Bool, List, [], ◌∷◌, length, find, take, drop, map, slice_index, Option, Some, None, if◌then◌else◌}
+use Rattle.std.specs.Prelude.{◌≡◌, ℕ, ◌<◌, ◌≤◌, ◌+◌, ◌==◌, nat_lt, Bool, List, length, find, slice_index, Option, Some, None, if◌then◌else◌}
 use Rattle.vax_form.specs.State.{IsState}
 use Rattle.vax_form.specs.Tree.{Tree}
 use Rattle.vax_form.specs.declared.pages.Pages.{Pages}
