@@ -1,21 +1,20 @@
 -- Quadwords of a memory of bytes, and what references make of them.
-use Rattle.std.proofs.Common.{◌≡◌, ◌≢◌, ℕ, zero, suc, ◌<◌, ◌≤◌, ◌+◌, ◌-◌, ◌*◌, ◌/◌, ◌%◌, ◌^◌, ◌==◌, Bool, true, false, if◌then◌else◌, List, [], ◌∷◌, slice_index, refl, sym, ap, ◌∙◌, subst, arith, lit<, ◌⊎◌, inl, inr, ⊎_elim, bit_and, bit_or}
+use Rattle.std.proofs.Common.{◌≡◌, ◌≢◌, ℕ, zero, suc, ◌<◌, ◌≤◌, ◌+◌, ◌-◌, ◌*◌, ◌/◌, ◌%◌, ◌^◌, ◌==◌, Bool, true, false, if◌then◌else◌, refl, sym, ap, ◌∙◌, arith, lit<, ◌⊎◌, inl, inr, ⊎_elim, bit_and, bit_or}
 use Rattle.std.proofs.lemmas.Bool.{cases_lt}
 use Rattle.std.proofs.lemmas.Bool.Decides.{nat_tests}
-use Rattle.std.proofs.lemmas.Nat.{or_lt, or_shr, or_mod, and_shr, and_mod, and_le_l, pow-add, pow_below, pow_pos, shl-shr, shr-shr, mod-pow-add, mod_below, from_le_bytes-to_le_bytes_8}
+use Rattle.std.proofs.lemmas.Nat.{or_lt, or_shr, or_mod, and_shr, and_mod, and_le_l, pow-add, pow_below, shl-shr, shr-shr, mod-pow-add, mod_below, from_le_bytes-to_le_bytes_8}
 use Rattle.std.proofs.lemmas.Nat.Bits.{bit_at_mask_inside, bit_at_mask_below, bit_at_mask_above}
-use Rattle.std.specs.Int.{w64, bit_at, byte_at, from_le_bytes, to_le_bytes}
+use Rattle.std.specs.Int.{bit_at, byte_at}
 use Rattle.memory_core.specs.Bytes.{quad_of, with_bytes, word_at}
 use Rattle.memory_core.specs.Changes as quadwords
 use Rattle.memory_core.specs.declared.entry.Change.TheVariants as changes
 use Rattle.memory_core.proofs.Neighbours.{below_8, byte_at-quad_of, byte_at-with_bytes, others_stay}
 use Rattle.vt_words.specs.Quad.{field_of}
-use Rattle.vax_form.specs.declared.state.Reference.{Reference}
 use Rattle.vax_form.specs.declared.state.RefKind.{RefKind}
 use Rattle.vax_form.specs.declared.state.RefKind.TheVariants.{Read, Write, Add, SetBit, ClearBit, Put, Get}
-use Rattle.vax_driven.specs.References.{value_at, with_byte, with_value, reply_by, reply_of, changed_by, changed, AreBytes, byte_count_of, byte_count, FitsKind, FitsQuadword}
+use Rattle.vax_driven.specs.References.{value_at, with_byte, with_value, reply_by, changed_by, changed, AreBytes, byte_count_of, byte_count, FitsKind}
 use Rattle.vax_driven.proofs.Changing.{elsewhere, with_value_elsewhere, others_stay as named_alone}
-use Rattle.history_order.specs.Quadwords.{quad_at, place_of, quad_address, names_memory, change_by, change_of, reply_found}
+use Rattle.history_order.specs.Quadwords.{quad_at, quad_address, names_memory, change_by, reply_found}
 use Rattle.history_order.specs.Laws.{QuadwordChanges, OtherQuadwordsStay, QuadwordReplies}
 
 -- ---- quadwords and their bytes
@@ -90,16 +89,16 @@ value_at-field byte quad place (suc count) are small within =
     let l : place < 8 = omega arith in
     let here : (quad + place) % 2 ^ 32 ≡ quad + place = omega arith in
     let low : byte ((quad + place) % 2 ^ 32) ≡ x / 2 ^ (8 * place) % 2 ^ 8 =
-        ap byte here ∙ sym (byte_at-quad_at byte quad place are l) ∙ byte_is place x l in
+    ap byte here ∙ sym (byte_at-quad_at byte quad place are l) ∙ byte_is place x l in
     let next : quad + place + 1 ≡ quad + (place + 1) = omega arith in
     let shift : 8 * place + 8 ≡ 8 * (place + 1) = omega arith in
     let high : value_at byte (quad + place + 1) count ≡ x / 2 ^ (8 * place) / 2 ^ 8 % 2 ^ (8 * count) =
-        ap (λ a. value_at byte a count) next ∙ value_at-field byte quad (place + 1) count are small (omega arith)
-        ∙ ap (λ k. x / 2 ^ k % 2 ^ (8 * count)) (sym shift) ∙ ap (λ n. n % 2 ^ (8 * count)) (sym (shr-shr x (8 * place) 8)) in
+    ap (λ a. value_at byte a count) next ∙ value_at-field byte quad (place + 1) count are small (omega arith)
+    ∙ ap (λ k. x / 2 ^ k % 2 ^ (8 * count)) (sym shift) ∙ ap (λ n. n % 2 ^ (8 * count)) (sym (shr-shr x (8 * place) 8)) in
     let split = mod-pow-add (x / 2 ^ (8 * place)) (8 * count) 8 in
     let width : 8 * count + 8 ≡ 8 * suc count = omega arith in
     let whole : x / 2 ^ (8 * place) % 2 ^ (8 * suc count) ≡ (x / 2 ^ (8 * place) / 2 ^ 8 % 2 ^ (8 * count)) * 2 ^ 8 + x / 2 ^ (8 * place) % 2 ^ 8 =
-        ap (λ k. x / 2 ^ (8 * place) % 2 ^ k) (sym width) ∙ split in
+    ap (λ k. x / 2 ^ (8 * place) % 2 ^ k) (sym width) ∙ split in
     sum_turned (byte ((quad + place) % 2 ^ 32)) (value_at byte (quad + place + 1) count) (x / 2 ^ (8 * place) % 2 ^ 8) (x / 2 ^ (8 * place) / 2 ^ 8 % 2 ^ (8 * count)) (x / 2 ^ (8 * place) % 2 ^ (8 * suc count)) low high whole
   where
     sum_turned : (a b c d e : ℕ) → a ≡ c → b ≡ d → e ≡ d * 2 ^ 8 + c → a + 256 * b ≡ e
@@ -134,7 +133,7 @@ pub masked_outside : (place count value before k : ℕ) → k < 8 → (k < place
 masked_outside place count value before k l apart =
     byte_at-with_bytes (2 ^ (place + count) - 2 ^ place) (value * 2 ^ (8 * place)) before k l
     ∙ passed (bit_at (2 ^ (place + count) - 2 ^ place) k) (byte_at k (value * 2 ^ (8 * place))) (byte_at k before)
-      (⊎_elim (λ h. bit_at_mask_below place (place + count) k h) (λ h. bit_at_mask_above place (place + count) k h) apart)
+    (⊎_elim (λ h. bit_at_mask_below place (place + count) k h) (λ h. bit_at_mask_above place (place + count) k h) apart)
 
 pub word_mask : (place : ℕ) → 3 * 2 ^ place ≡ 2 ^ (place + 2) - 2 ^ place
 word_mask place = let p = pow-add 2 place 2 in omega arith
@@ -147,6 +146,7 @@ with_bytes-lt mask value before = quad_of-lt (λ at. if bit_at mask at == 1 then
     small : (b : Bool) (x y : ℕ) → x < 256 → y < 256 → (if b then x else y) < 256
     small true x y h k = h
     small false x y h k = k
+
     byte_lt : (at n : ℕ) → byte_at at n < 256
     byte_lt zero n = mod_below n 256 (lit< tt)
     byte_lt (suc at) n = mod_below (n / 256 ^ suc at) 256 (lit< tt)
@@ -175,8 +175,8 @@ module _ (byte : ℕ → ℕ) (quad place : ℕ) (are : AreBytes byte) (small : 
   written : (count value : ℕ) → place + count ≤ 8 → quad_at (with_value byte (quad + place) count value) quad ≡ with_bytes (2 ^ (place + count) - 2 ^ place) (value * 2 ^ (8 * place)) (quad_at byte quad)
   written count value within =
       quad_at-is (with_value byte (quad + place) count value) quad (with_bytes (2 ^ (place + count) - 2 ^ place) (value * 2 ^ (8 * place)) (quad_at byte quad))
-        (with_bytes-lt (2 ^ (place + count) - 2 ^ place) (value * 2 ^ (8 * place)) (quad_at byte quad))
-        (λ k l. written_byte count value k within l (cases_lt k place) (cases_lt k (place + count)))
+      (with_bytes-lt (2 ^ (place + count) - 2 ^ place) (value * 2 ^ (8 * place)) (quad_at byte quad))
+      (λ k l. written_byte count value k within l (cases_lt k place) (cases_lt k (place + count)))
 
   -- one byte of the quadword replaced
   replaced : (value n : ℕ) → place < 8 → n < 2 ^ 64 → byte_at place n ≡ value → ((k : ℕ) → k < 8 → (k == place) ≡ false → byte_at k n ≡ byte_at k (quad_at byte quad))
@@ -186,12 +186,16 @@ module _ (byte : ℕ → ℕ) (quad place : ℕ) (are : AreBytes byte) (small : 
     where
       put_there : (byte : ℕ → ℕ) (address at value : ℕ) → address ≡ at → with_byte byte address value at ≡ value
       put_there byte address at value same = grind (arith, nat_tests)
+
       same_place : (k place : ℕ) → (k == place) ≡ true → k ≡ place
       same_place k place h = grind (arith, nat_tests)
+
       apart : (k place : ℕ) → (k == place) ≡ false → (k < place) ⊎ (place < k)
       apart k place h = ⊎_elim (λ (l : k < place). inl l) (λ (l : place ≤ k). inr (grind (arith, nat_tests))) (cases_lt k place)
+
       moved : (k : ℕ) → (k < place) ⊎ (place < k) → (quad + k < (quad + place) % 2 ^ 32) ⊎ ((quad + place) % 2 ^ 32 < quad + k)
       moved k a = ⊎_elim (λ (before : k < place). inl (omega arith)) (λ (behind : place < k). inr (omega arith)) a
+
       each : (k : ℕ) → k < 8 → (b : Bool) → (k == place) ≡ b → with_byte byte ((quad + place) % 2 ^ 32) value (quad + k) ≡ byte_at k n
       each k b true h =
           let e : k ≡ place = same_place k place h in
@@ -249,9 +253,9 @@ module _ (byte : ℕ → ℕ) (quad place : ℕ) (are : AreBytes byte) (small : 
       let n = 8 * place + bit in
       let few : n < 64 = omega arith in
       replaced (bit_or (byte ((quad + place) % 2 ^ 32)) (2 ^ bit)) (bit_or (quad_at byte quad) (2 ^ n)) l
-        (or_lt 64 (quad_at byte quad) (2 ^ n) (quad_at-lt byte quad are) (pow_below n 64 few))
-        (set_place bit l b)
-        (λ k under other. others_stay (changes.SetBit n) (quad_at byte quad) k few under (apart_byte bit k b other))
+      (or_lt 64 (quad_at byte quad) (2 ^ n) (quad_at-lt byte quad are) (pow_below n 64 few))
+      (set_place bit l b)
+      (λ k under other. others_stay (changes.SetBit n) (quad_at byte quad) k few under (apart_byte bit k b other))
 
   bit_cleared : (bit : ℕ) → place < 8 → bit < 8 → quad_at (with_byte byte ((quad + place) % 2 ^ 32) (bit_and (byte ((quad + place) % 2 ^ 32)) (255 - 2 ^ bit))) quad ≡ bit_and (quad_at byte quad) (2 ^ 64 - 1 - 2 ^ (8 * place + bit))
   bit_cleared bit l b =
@@ -261,9 +265,9 @@ module _ (byte : ℕ → ℕ) (quad place : ℕ) (are : AreBytes byte) (small : 
       let whole = quad_at-lt byte quad are in
       let less = and_le_l x (2 ^ 64 - 1 - 2 ^ n) in
       replaced (bit_and (byte ((quad + place) % 2 ^ 32)) (255 - 2 ^ bit)) (bit_and x (2 ^ 64 - 1 - 2 ^ n)) l
-        (omega arith)
-        (clear_place bit l b)
-        (λ k under other. others_stay (changes.ClearBit n) x k few under (apart_byte bit k b other))
+      (omega arith)
+      (clear_place bit l b)
+      (λ k under other. others_stay (changes.ClearBit n) x k few under (apart_byte bit k b other))
 
   changes_alike : (kind : RefKind) (count : ℕ) → names_memory kind ≡ true → place < 8 → place + byte_count_of kind count ≤ 8 → FitsKind kind
       → quad_at (changed_by kind byte (quad + place) count) quad ≡ quadwords.changed (change_by kind place count) (quad_at byte quad)
@@ -271,7 +275,7 @@ module _ (byte : ℕ → ℕ) (quad place : ℕ) (are : AreBytes byte) (small : 
   changes_alike (Write value) count m l within fits = written count value within
   changes_alike (Add value) count m l within fits =
       let sum : (value_at byte (quad + place) 2 + value) % 2 ^ 16 ≡ (word_at place (quad_at byte quad) + value) % 2 ^ 16 =
-          ap (λ n. (n + value) % 2 ^ 16) (value_at-field byte quad place 2 are small within) in
+      ap (λ n. (n + value) % 2 ^ 16) (value_at-field byte quad place 2 are small within) in
       written 2 ((value_at byte (quad + place) 2 + value) % 2 ^ 16) within
       ∙ ap (λ mask. with_bytes mask ((value_at byte (quad + place) 2 + value) % 2 ^ 16 * 2 ^ (8 * place)) (quad_at byte quad)) (sym (word_mask place))
       ∙ ap (λ n. with_bytes (3 * 2 ^ place) (n * 2 ^ (8 * place)) (quad_at byte quad)) sum
@@ -326,4 +330,4 @@ outside address count quad k within aligned other l =
 pub other_quadwords_stay : OtherQuadwordsStay
 other_quadwords_stay reference byte quad fits aligned other =
     quad_of-same (λ at. changed reference byte (quad + at)) (λ at. byte (quad + at))
-      (λ k l. named_alone reference byte (quad + k) fits (outside reference.address (byte_count reference) quad k fits.within aligned other l))
+    (λ k l. named_alone reference byte (quad + k) fits (outside reference.address (byte_count reference) quad k fits.within aligned other l))

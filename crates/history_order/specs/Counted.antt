@@ -1,5 +1,5 @@
 -- The order of references that a history keeps.
-use Rattle.std.specs.Prelude.{ℕ, Bool, true, false, List, map, filter}
+use Rattle.std.specs.Prelude.{Bool, true, false, List, map, filter}
 use Rattle.vax_form.specs.declared.state.Pick.{Pick}
 use Rattle.memory_core.specs.declared.entry.Kind.{Kind}
 use Rattle.memory_core.specs.declared.entry.Kind.TheVariants.{Load, LoadLocked, Store, StoreConditional, TieRead, TieWrite, TieLocked, Put, Get}

@@ -1,9 +1,10 @@
 -- Laws of references and their quadwords.
-use Rattle.std.specs.Prelude.{◌≡◌, ◌≢◌, ℕ, ◌%◌, true}
+use Rattle.std.specs.Prelude.{◌≡◌, ◌≢◌, ℕ, ◌%◌, true, List, reverse}
 use Rattle.vax_form.specs.declared.state.Reference.{Reference}
 use Rattle.memory_core.specs.declared.entry.Entry.{Entry}
 use Rattle.memory_core.specs.Changes as quadwords
 use Rattle.vax_driven.specs.References.{reply_of, changed, AreBytes, FitsQuadword}
+use Rattle.history_order.specs.Counted.{order}
 use Rattle.history_order.specs.Quadwords.{quad_at, place_of, quad_address, names_memory, change_of, reply_found, IsOf}
 use Rattle.history_order.specs.Matches.{KeepsOthers}
 
@@ -25,3 +26,7 @@ QuadwordReplies = (reference : Reference) (byte : ℕ → ℕ) (next_input after
 -- an access for a reference changes the reference's bytes alone
 abbrev pub NeighboursStay : Type 0
 NeighboursStay = (reference : Reference) (e : Entry) → IsOf reference e → KeepsOthers e reference
+
+-- the order of a history told the other way round
+abbrev pub OrderTurns : Type 0
+OrderTurns = (history : List Entry) → order (reverse history) ≡ reverse (order history)

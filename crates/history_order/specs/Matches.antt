@@ -19,8 +19,8 @@ InStep Holds [] [] = Unit {0}
 InStep Holds [] (m ∷ made) = ⊥
 InStep Holds (e ∷ past) made =
     MatchBool (is_counted e)
-      ((m : Made) × (before : List Made) × (made ≡ m ∷ before) × Holds e m before × InStep Holds past before)
-      (InStep Holds past made)
+    ((m : Made) × (before : List Made) × (made ≡ m ∷ before) × Holds e m before × InStep Holds past before)
+    (InStep Holds past made)
 
 -- an access to the reference's quadword, with that quadword before and after the reference
 pub record IsSameAccess (byte : ℕ → ℕ) (reference : Reference) (e : Entry) : Type 0 where

@@ -6,3 +6,6 @@ pub mod laws;
 mod order;
 
 pub use order::order_of;
+
+#[cfg(test)]
+mod tests;
