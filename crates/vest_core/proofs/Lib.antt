@@ -1,0 +1,4 @@
+pub mod Paths
+pub mod Quads
+pub mod Locks
+pub mod Reached

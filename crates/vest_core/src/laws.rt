@@ -1,0 +1,6 @@
+//! The laws.
+ghost use Rattle.std.specs.Prelude.{◌<◌};
+
+pub fn nothing()
+    ensures { 0 < 1 }
+{}

@@ -1,0 +1,4 @@
+//! A legal history has the headline.
+#![tactic(auto)]
+
+pub mod laws;
