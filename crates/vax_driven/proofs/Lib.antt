@@ -1,0 +1,4 @@
+pub mod Reaching
+pub mod Walking
+pub mod Changing
+pub mod Rows

@@ -1,0 +1,5 @@
+pub mod References
+pub mod Made
+pub mod Threads
+pub mod Driven
+pub mod Laws
