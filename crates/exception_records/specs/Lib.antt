@@ -1,0 +1,4 @@
+pub mod Codes
+pub mod Shown
+pub mod Points
+pub mod Blocks
