@@ -1,5 +1,6 @@
 -- Processors: each runs one thread, by Alpha steps in translated code and by interpreted steps elsewhere.
 use Rattle.std.specs.Prelude.{◌≡◌, ℕ, zero, suc, ◌+◌, ◌-◌, ◌*◌, ◌/◌, ◌%◌, ◌^◌, ◌==◌, Bool, true, false, List, [], ◌∷◌, ◌++◌, Option, Some, None, nat_lt, slice_index, if◌then◌else◌}
+use Rattle.std.specs.Int.{byte_at}
 use Rattle.alpha_meaning.specs.State.{Alpha, Regs, at_place}
 use Rattle.memory_core.specs.declared.entry.Change.{Change}
 use Rattle.memory_core.specs.declared.entry.Change.TheVariants as changes
@@ -7,6 +8,7 @@ use Rattle.memory_core.specs.declared.entry.Entry.{Entry}
 use Rattle.memory_core.specs.declared.entry.Kind.{Kind}
 use Rattle.memory_core.specs.declared.entry.Kind.TheVariants as kinds
 use Rattle.memory_core.specs.declared.entry.Request.{Request}
+use Rattle.memory_core.specs.Bytes.{word_at}
 use Rattle.memory_core.specs.Changes.{leaves}
 use Rattle.memory_core.specs.Kinds.{is_memory}
 use Rattle.vt_words.specs.Quad.{field_of}
@@ -113,13 +115,9 @@ alpha_turn setting p (Wants request on) = Asks request (λ before success. place
 alpha_turn setting p Stuck = Lost
 
 -- ---- references as accesses
--- the first byte of the quadword that an address stands in
-abbrev pub quad_at : (address : ℕ) → ℕ
-quad_at address = address / 8 * 8
-
--- so many bytes from a place of the quadword on
-abbrev pub mask_of : (at count : ℕ) → ℕ
-mask_of at count = (2 ^ count - 1) * 2 ^ at
+-- the address of the quadword that an address stands in
+abbrev pub quad_address : (address : ℕ) → ℕ
+quad_address address = address - address % 8
 
 abbrev pub kind_by : RefKind → Kind
 kind_by Read = kinds.TieRead
@@ -132,7 +130,7 @@ kind_by Get = kinds.Get
 
 abbrev pub change_by : RefKind → (at count : ℕ) → Change
 change_by Read at count = changes.Nothing
-change_by (Write value) at count = changes.Bytes (mask_of at count) (value * 2 ^ (8 * at))
+change_by (Write value) at count = changes.Bytes (2 ^ (at + count) - 2 ^ at) (value * 2 ^ (8 * at))
 change_by (Add value) at count = changes.AddWord at value
 change_by (SetBit n) at count = changes.SetBit (8 * at + n)
 change_by (ClearBit n) at count = changes.ClearBit (8 * at + n)
@@ -144,7 +142,7 @@ request_of thread retired reference = record {
   processor = thread;
   retired = retired;
   kind = kind_by reference.kind;
-  quad = quad_at reference.address;
+  quad = quad_address reference.address;
   change = change_by reference.kind (reference.address % 8) reference.count;
 }
 
@@ -152,9 +150,9 @@ request_of thread retired reference = record {
 abbrev pub reply_by : RefKind → (at count before : ℕ) → ℕ
 reply_by Read at count before = field_of before at count
 reply_by (Write value) at count before = 0
-reply_by (Add value) at count before = field_of before at 2
-reply_by (SetBit n) at count before = field_of before at 1
-reply_by (ClearBit n) at count before = field_of before at 1
+reply_by (Add value) at count before = word_at at before
+reply_by (SetBit n) at count before = byte_at at before
+reply_by (ClearBit n) at count before = byte_at at before
 reply_by (Put byte) at count before = 0
 reply_by Get at count before = before
 

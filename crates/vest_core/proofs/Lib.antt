@@ -2,3 +2,6 @@ pub mod Paths
 pub mod Quads
 pub mod Locks
 pub mod Reached
+pub mod Replying
+pub mod Owed
+pub mod Processors

@@ -10,7 +10,7 @@ use Rattle.vax_form.specs.declared.state.Reference.{Reference}
 use Rattle.vax_form.specs.declared.state.Exception.{Exception}
 use Rattle.vax_form.specs.declared.state.Exception.TheVariants.{AccessViolation}
 use Rattle.vest_core.specs.Interpreted.{made_in, unless}
-use Rattle.vest_core.specs.Ranges.{EndsInStates, ending_state}
+use Rattle.vest_core.specs.Ranges.{IsInRange, ending_state}
 
 -- from one place in a tree to another, by checks that hold and just these replies
 pub data Path (pages : Pages) : Tree → List ℕ → Tree → Type 0 where
@@ -45,12 +45,12 @@ module _ (pages : Pages) where
       by (Some bad) ok again e = absurd (cc e)
 
   -- a place to which replies led ends in states where the tree does
-  pub silent_ends : (t u : Tree) (v : List ℕ) → v ≡ [] → Path pages t v u → EndsInStates t → EndsInStates u
+  pub silent_ends : (t u : Tree) (v : List ℕ) → v ≡ [] → Path pages t v u → IsInRange t → IsInRange u
   silent_ends t u v n Here h = h
   silent_ends t u v n (Passes {t = t'} {v = v'} ok p) h = silent_ends t' u v' n p h
   silent_ends t u v n (Takes p) h = absurd (cc n)
 
-  pub comes_state : (t : Tree) (e : Ending) (left : List ℕ) → EndsInStates t → answer pages t [] ≡ Comes e left → IsState (ending_state e) × (left ≡ [])
+  pub comes_state : (t : Tree) (e : Ending) (left : List ℕ) → IsInRange t → answer pages t [] ≡ Comes e left → IsState (ending_state e) × (left ≡ [])
   comes_state (Ask q on) e left h a = absurd (cc a)
   comes_state (Fault x) e left h a = absurd (cc a)
   comes_state (Ends x) e left h a =

@@ -7,7 +7,7 @@ use Rattle.vax_form.specs.declared.state.Reference.{Reference}
 use Rattle.vax_meaning.specs.After.{if_runs, one_more, after, with_left, KeepsRetired}
 use Rattle.vax_meaning.proofs.Afters.{after_with_more}
 use Rattle.system_model.specs.Settings.{Setting}
-use Rattle.vest_core.specs.Threads.{Threads, after_start, reached, wanted_of, wanted_in, wanted_at, wanted}
+use Rattle.vax_driven.specs.Threads.{Threads, after_start, reached, wanted_of, wanted_in, wanted_at, wanted}
 use Rattle.vest_core.specs.Interpreted.{threads_of, is_translated, made_in, ties_by, ties_in, end_by, end_in, ties_of}
 use Rattle.vest_core.proofs.Paths.{made_more}
 

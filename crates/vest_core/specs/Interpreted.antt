@@ -7,9 +7,11 @@ use Rattle.vax_form.specs.Pages.{first_bad}
 use Rattle.vax_form.specs.Tree.{Tree, Check, Ask, Fault, Ends, Life, Runs, Exited, Trapped, Retired}
 use Rattle.vax_form.specs.declared.pages.Pages.{Pages}
 use Rattle.vax_form.specs.declared.state.VaxState.{VaxState}
+use Rattle.system_model.specs.declared.translation.End.TheVariants as ends
+use Rattle.system_model.specs.Processors.{Mode, Ended}
 use Rattle.system_model.specs.Settings.{Setting, goes_on}
-use Rattle.vest_core.specs.Threads.{Threads, reached}
-use Rattle.vest_core.specs.Replies.{replies}
+use Rattle.vax_driven.specs.Threads.{Threads, reached}
+use Rattle.vest_core.specs.Explained.{replies_by}
 
 abbrev pub threads_of : Setting → (ℕ → Option VaxState) → Threads
 threads_of setting starts = record { pages = setting.pages; start = starts; tree = setting.tree }
@@ -50,7 +52,7 @@ abbrev pub AllMadeIn : Setting → (starts : ℕ → Option VaxState) → (threa
 AllMadeIn setting starts thread [] = Unit {0}
 AllMadeIn setting starts thread (e ∷ mine) =
     AllMadeIn setting starts thread mine
-    × IsMadeIn (translated_at setting thread (reached (threads_of setting starts) thread e.retired (replies (threads_of setting starts) thread mine))) e.kind
+    × IsMadeIn (translated_at setting thread (reached (threads_of setting starts) thread e.retired (replies_by (threads_of setting starts) thread mine))) e.kind
 
 -- ---- interpreted steps
 abbrev pub unless : Option ℕ → ℕ → ℕ
@@ -90,3 +92,12 @@ ties_of setting starts thread zero w = 0
 ties_of setting starts thread (suc n) w =
     ties_of setting starts thread n w
     + (end_in setting thread (reached (threads_of setting starts) thread n w) + ties_in setting thread (reached (threads_of setting starts) thread n w))
+
+-- the processor reported that its thread raised an exception
+abbrev pub has_raised : Mode → Bool
+has_raised (Ended (ends.Raised exception)) = true
+has_raised mode = false
+
+-- the interpreted steps of the instruction in flight, with the fault that was reported
+abbrev pub ties_open : Setting → (thread : ℕ) → Option Retired → Mode → ℕ
+ties_open setting thread here mode = ties_in setting thread here + (if has_raised mode then end_in setting thread here else 0)

@@ -1,5 +1,7 @@
 pub mod Own
-pub mod Threads
-pub mod Replies
+pub mod Counted
+pub mod Quadwords
+pub mod Explained
 pub mod Interpreted
 pub mod Ranges
+pub mod Judged

@@ -1,0 +1,40 @@
+-- What is owed of each step of Alpha code.
+use Rattle.std.specs.Prelude.{◌≡◌, ℕ, ◌+◌, ◌-◌, ◌<◌, ◌≤◌, Bool, true, false, List, [], ◌∷◌, Option, Some, None, MatchBool, if◌then◌else◌}
+use Rattle.alpha_meaning.specs.State.{Alpha, Regs}
+use Rattle.memory_core.specs.declared.entry.Entry.{Entry}
+use Rattle.memory_core.specs.declared.entry.Kind.{Kind}
+use Rattle.memory_core.specs.declared.entry.Kind.TheVariants.{LoadLocked, StoreConditional}
+use Rattle.memory_core.specs.declared.entry.Request.{Request}
+use Rattle.memory_core.specs.Kinds.{is_memory}
+use Rattle.vax_form.specs.Tree.{Tree, Check, Ask, Fault, Ends, Ending, Finish, Answer}
+use Rattle.vax_form.specs.declared.state.Flags.{Flags}
+use Rattle.vax_form.specs.declared.state.VaxState.{VaxState}
+use Rattle.system_model.specs.Processors.{entry_by}
+use Rattle.vest_core.specs.Own.{Lock, lock_by, IsFair}
+use Rattle.vest_core.specs.Counted.{counts}
+use Rattle.vest_core.specs.Interpreted.{IsAlpha}
+use Rattle.vest_core.specs.Quadwords.{reply_from, IsOf}
+
+-- a store conditional stands directly behind a load-locked access of the same quadword, and each load-locked one
+-- directly before a store conditional
+abbrev pub Paired : Kind → Option Lock → (quad : ℕ) → Type 0
+Paired StoreConditional None quad = ⊥
+Paired StoreConditional (Some lock) quad = quad ≡ lock.quad
+Paired _ None quad = Unit {0}
+Paired _ (Some lock) quad = ⊥
+
+-- the entry is of the reference that the tree wants, and what it replies leads to a place of which that holds
+abbrev pub MadeBy : Tree → Entry → (Tree → Type 0) → Type 0
+MadeBy (Ask reference on) e Goes = IsOf reference e × Goes (on (reply_from reference e))
+MadeBy _ e Goes = ⊥
+
+-- what an access adds to the number of steps that a processor may make: 256 where it counts, 16 where a store fails
+abbrev pub share_by : Kind → (success : Bool) → ℕ → ℕ
+share_by StoreConditional false share = share + 16
+share_by StoreConditional true share = share + 256
+share_by LoadLocked success share = share
+share_by _ success share = share + 256
+
+abbrev pub share_of : List Entry → ℕ
+share_of [] = 0
+share_of (e ∷ mine) = share_by e.kind e.success (share_of mine)
