@@ -17,7 +17,8 @@ use Rattle.vax_form.specs.declared.state.Exception.TheVariants.{Arithmetic}
 use Rattle.vax_form.specs.declared.state.Flags.{Flags}
 use Rattle.vax_form.specs.declared.state.Reference.{Reference}
 use Rattle.vax_form.specs.declared.state.VaxState.{VaxState}
-use Rattle.vax_driven.specs.Threads.{Threads, reached, wanted, run_in, run_at, fault_of, thread_run}
+use Rattle.vax_driven.specs.declared.ThreadRun.{ThreadRun}
+use Rattle.vax_driven.specs.Threads.{Threads, after_start, reached, wanted, run_in, run_at, fault_of, thread_run}
 use Rattle.system_model.specs.declared.translation.End.{End}
 use Rattle.system_model.specs.declared.translation.End.TheVariants as ends
 use Rattle.system_model.specs.Settings.{Setting, goes_on}
@@ -25,8 +26,9 @@ use Rattle.system_model.specs.Steps.{Last, Comes, Fails, Place, Inside, Lands, L
 use Rattle.system_model.specs.Processors.{Mode, New, Runs, Interprets, Ended, Processor, all_held, registers_of, mode_by, mode_at, begun, stepped, tied, arrived, left, placed, Turn, Went, Asks, Over, Lost, alpha_turn, kind_by, request_of, reply_of, tie_turn, turn_in, mode_of, turn, entry_by, Reaches, Begins, Steps, Takes}
 use Rattle.vest_core.specs.Counted.{counts, is_counted}
 use Rattle.vest_core.specs.Explained.{with_reply, replies_by, IsWanted, Explained}
+use Rattle.vest_core.specs.Headline.{Claims, IsShown, Facts}
 use Rattle.vest_core.specs.Interpreted.{threads_of, is_some, is_translated, IsAlpha, IsMadeIn, translated_at, AllMadeIn, made_in, ties_in, end_in, ties_of, has_raised, ties_open}
-use Rattle.vest_core.specs.Judged.{Paired, MadeBy, share_by, share_of}
+use Rattle.vest_core.specs.Judged.{Paired, AllPaired, MadeBy, share_by, share_of, fails, counted_in, failed_in}
 use Rattle.vest_core.specs.Own.{Lock, lock_by, lock_of, IsFair, AllFair}
 use Rattle.vest_core.specs.Quadwords.{reply_from, IsOf}
 use Rattle.vest_core.specs.Ranges.{ending_state, IsInRange, StaysInRange}
@@ -269,14 +271,14 @@ module _ (setting : Setting) (starts : ℕ → Option VaxState) (thread : ℕ) w
     -- ---- one access of Alpha code
     module _ (mine : List Entry) (lock : Option Lock) (p : Processor) (alpha : Alpha) (s : Flies (replies_by threads thread mine) lock (share_of mine) p alpha) (r : Request) (on : ℕ → Bool → Place) (is : p.thread ≡ thread) (some : 0 < s.spare)
         (owed : OwedAccess setting.pages (Owes p.boundary p.held) Form p.retired lock (s.spare - 1) s.rest r on) (before : ℕ) (success : Bool) where
-      abbrev told : List ℕ
-      told = replies_by threads thread mine
+      abbrev said : List ℕ
+      said = replies_by threads thread mine
 
       abbrev made : Entry
       made = entry_by r before success
 
-      at_retired : here setting starts thread made.retired told ≡ running p.boundary s.pending
-      at_retired = ap (λ n. here setting starts thread n told) owed.same ∙ s.flight.at
+      at_retired : here setting starts thread made.retired said ≡ running p.boundary s.pending
+      at_retired = ap (λ n. here setting starts thread n said) owed.same ∙ s.flight.at
 
       takes_silent : counts r.kind success ≡ false → OwedPlace setting.pages (Owes p.boundary p.held) Form (lock_by made.kind made.quad made.before) (more_by r.kind success (s.spare - 1)) s.rest (on before success)
           → Tells mine lock made (placed setting (stepped p) (on before success))
@@ -286,9 +288,9 @@ module _ (setting : Setting) (starts : ℕ → Option VaxState) (thread : ℕ) w
           record {
             counted = λ c'. absurd (cc (c, c'));
             paired = owed.paired;
-            made = made_at told made.retired p.boundary s.pending true r.kind at_retired s.translated owed.alpha;
+            made = made_at said made.retired p.boundary s.pending true r.kind at_retired s.translated owed.alpha;
             stands = subst (λ u. Stands u (lock_by made.kind made.quad made.before) (share_of (made ∷ mine)) q q.mode) (sym (silent_replies mine made c))
-                (place told (lock_by made.kind made.quad made.before) (share_of (made ∷ mine)) (stepped p) s.pending s.rest (more_by r.kind success (s.spare - 1)) (on before success) is s.flight
+                (place said (lock_by made.kind made.quad made.before) (share_of (made ∷ mine)) (stepped p) s.pending s.rest (more_by r.kind success (s.spare - 1)) (on before success) is s.flight
                 (spared r.kind success (suc p.steps) (s.spare - 1) (256 * p.retired + 256) (share_of mine) c room) place_owed s.translated s.ties);
           }
 
@@ -301,18 +303,18 @@ module _ (setting : Setting) (starts : ℕ → Option VaxState) (thread : ℕ) w
       takes_made (Ask a next_tree) same more few c fair m =
           let q = placed setting (stepped p) (on before success) in
           let v = reply_from a made in
-          let f : Flight told p.retired p.boundary s.pending (Ask a next_tree) = subst (Flight told p.retired p.boundary s.pending) (sym same) s.flight in
-          let want : wanted threads thread made.retired told ≡ Some a = ap (λ n. wanted threads thread n told) owed.same ∙ fly_wants told p.retired p.boundary s.pending a next_tree f in
+          let f : Flight said p.retired p.boundary s.pending (Ask a next_tree) = subst (Flight said p.retired p.boundary s.pending) (sym same) s.flight in
+          let want : wanted threads thread made.retired said ≡ Some a = ap (λ n. wanted threads thread n said) owed.same ∙ fly_wants said p.retired p.boundary s.pending a next_tree f in
           let fits = reply_fits a made lock m.0 fair (λ k. ap (λ (x : Kind). leaves x success r.change before) k) in
-          let on_flight = fly_on told p.retired p.boundary s.pending a next_tree v (f.range.1 v fits) f in
+          let on_flight = fly_on said p.retired p.boundary s.pending a next_tree v (f.range.1 v fits) f in
           let room : suc p.steps + (s.spare - 1 + more) ≤ 256 * p.retired + 256 + share_of (made ∷ mine) = omega (arith, some, s.room, few, granted r.kind success (share_of mine) c) in
           record {
             counted = λ _. record { reference = a; wants = want; of = m.0 };
             paired = owed.paired;
-            made = made_at told made.retired p.boundary s.pending true r.kind at_retired s.translated owed.alpha;
+            made = made_at said made.retired p.boundary s.pending true r.kind at_retired s.translated owed.alpha;
             stands = subst (λ u. Stands u (lock_by made.kind made.quad made.before) (share_of (made ∷ mine)) q q.mode) (sym (counted_replies mine made a c want))
-                (place (told ++ v ∷ []) (lock_by made.kind made.quad made.before) (share_of (made ∷ mine)) (stepped p) (s.pending ++ v ∷ []) (next_tree v) (s.spare - 1 + more) (on before success) is on_flight
-                room m.1 s.translated (s.ties ∙ sym (ties_more setting starts thread p.retired told (v ∷ []) p.boundary s.pending s.flight.at)));
+                (place (said ++ v ∷ []) (lock_by made.kind made.quad made.before) (share_of (made ∷ mine)) (stepped p) (s.pending ++ v ∷ []) (next_tree v) (s.spare - 1 + more) (on before success) is on_flight
+                room m.1 s.translated (s.ties ∙ sym (ties_more setting starts thread p.retired said (v ∷ []) p.boundary s.pending s.flight.at)));
           }
 
       takes_either : IsFair r.kind lock made.quad before success → (b : Bool) → counts r.kind success ≡ b
@@ -383,3 +385,212 @@ module _ (setting : Setting) (starts : ℕ → Option VaxState) (thread : ℕ) w
     takes_in mine lock p (Interprets state pending) before success is s =
         takes_tie mine lock p state pending s (answer setting.pages (setting.tree p.thread state) pending) before success is
         (ap (λ b. answer setting.pages (tree b) pending) (sym s.same) ∙ ap (λ t. answer setting.pages (setting.tree t state) pending) (sym is))
+
+either_none : (b : Bool) (n : ℕ) → n ≡ 0 → (if b then 0 else n) ≡ 0
+either_none true n e = refl
+either_none false n e = e
+
+-- ---- a turn keeps the thread
+left_thread : (setting : Setting) (p : Processor) (last : Last) → (left setting p last).thread ≡ p.thread
+left_thread setting p (Comes (Finish s)) = refl
+left_thread setting p (Comes (Exit s)) = refl
+left_thread setting p (Comes (Trap kind s)) = refl
+left_thread setting p (Fails x) = refl
+
+placed_thread : (setting : Setting) (p : Processor) (to : Place) → (placed setting p to).thread ≡ p.thread
+placed_thread setting p (Inside alpha) = refl
+placed_thread setting p (Lands s held regs) = refl
+placed_thread setting p (Leaves last) = left_thread setting p last
+
+abbrev KeepsThread : Processor → Turn → Type 0
+KeepsThread p (Went q) = q.thread ≡ p.thread
+KeepsThread p (Asks r on) = (before : ℕ) (success : Bool) → (on before success).thread ≡ p.thread
+KeepsThread p Over = Unit {0}
+KeepsThread p Lost = Unit {0}
+
+alpha_thread : (setting : Setting) (p : Processor) (to : Next) → KeepsThread p (alpha_turn setting p to)
+alpha_thread setting p (Moves to) = placed_thread setting (stepped p) to
+alpha_thread setting p (Wants r on) = λ before success. placed_thread setting (stepped p) (on before success)
+alpha_thread setting p Stuck = tt
+
+tie_thread : (setting : Setting) (p : Processor) (state : VaxState) (pending : List ℕ) (a : Answer) → KeepsThread p (tie_turn setting p state pending a)
+tie_thread setting p state pending (trees.Wants q) = λ before success. refl
+tie_thread setting p state pending (trees.Fails x) = refl
+tie_thread setting p state pending (trees.Comes x rest) = left_thread setting (tied p) (Comes x)
+
+turn_thread : (setting : Setting) (p : Processor) (m : Mode) → KeepsThread p (turn_in setting p m)
+turn_thread setting p New = tt
+turn_thread setting p (Runs alpha) = alpha_thread setting p (next setting p.thread p.retired p.boundary p.held alpha)
+turn_thread setting p (Interprets state pending) = tie_thread setting p state pending (answer setting.pages (setting.tree p.thread state) pending)
+turn_thread setting p (Ended end) = tt
+
+-- ---- a turn is one step
+left_steps : (setting : Setting) (p : Processor) (last : Last) → (left setting p last).steps ≡ p.steps
+left_steps setting p (Comes (Finish s)) = refl
+left_steps setting p (Comes (Exit s)) = refl
+left_steps setting p (Comes (Trap kind s)) = refl
+left_steps setting p (Fails x) = refl
+
+-- ---- how many entries a processor may have
+abbrev pub open_by : Option Lock → ℕ
+open_by None = 0
+open_by (Some lock) = 1
+
+pairs : (kind : Kind) (lock : Option Lock) (success : Bool) (quad before n c f : ℕ) → Paired kind lock quad → n ≤ 2 * (c + f) + open_by lock
+    → suc n ≤ 2 * ((if counts kind success then suc c else c) + (if fails kind success then suc f else f)) + open_by (lock_by kind quad before)
+pairs StoreConditional None success quad before n c f p h = absurd p
+pairs StoreConditional (Some l) true quad before n c f p h = omega arith
+pairs StoreConditional (Some l) false quad before n c f p h = omega arith
+pairs LoadLocked None success quad before n c f p h = omega arith
+pairs LoadLocked (Some l) success quad before n c f p h = absurd p
+pairs _ None success quad before n c f p h = omega arith
+pairs _ (Some l) success quad before n c f p h = absurd p
+
+pub open_one : (lock : Option Lock) → open_by lock ≤ 1
+open_one None = omega arith
+open_one (Some l) = omega arith
+
+shares : (kind : Kind) (success : Bool) (c f : ℕ) → share_by kind success (256 * c + 16 * f) ≡ 256 * (if counts kind success then suc c else c) + 16 * (if fails kind success then suc f else f)
+shares StoreConditional true c f = omega arith
+shares StoreConditional false c f = omega arith
+shares LoadLocked success c f = refl
+shares _ success c f = omega arith
+
+pub share_is : (mine : List Entry) → share_of mine ≡ 256 * counted_in mine + 16 * failed_in mine
+share_is [] = refl
+share_is (e ∷ mine) = ap (share_by e.kind e.success) (share_is mine) ∙ shares e.kind e.success (counted_in mine) (failed_in mine)
+
+module _ (setting : Setting) (starts : ℕ → Option VaxState) (thread : ℕ) (start : VaxState) (started : starts thread ≡ Some start) (ranged : IsState start)
+    (keeps : StaysInRange (setting.tree thread))
+    (Owes : VaxState → Flags → Option Lock → (spare : ℕ) → Alpha → Tree → Type 0)
+    (Form : VaxState → Flags → Regs → Type 0)
+    (fresh : (state : VaxState) → IsState state → Form state all_held (registers_of state))
+    (enter : (state : VaxState) (held : Flags) (regs : Regs) (word : ℕ) → IsState state → Form state held regs → goes_on setting thread state.pc ≡ Some word → Owes state held None 256 (at_place regs word) (setting.tree thread state))
+    (opens : (retired : ℕ) (b : VaxState) (held : Flags) (lock : Option Lock) (spare : ℕ) (alpha : Alpha) (k : Tree) → Owes b held lock spare alpha k
+    → (0 < spare) × OwedNext setting.pages (Owes b held) Form retired lock (spare - 1) k (next setting thread retired b held alpha)) where
+  abbrev its_threads : Threads
+  its_threads = threads_of setting starts
+
+  abbrev Here_stands : List ℕ → Option Lock → (share : ℕ) → Processor → Mode → Type 0
+  Here_stands = Stands setting starts thread keeps Owes Form fresh enter opens
+
+  -- after any number of turns
+  record Told (mine : List Entry) (p : Processor) : Type 0 where
+    is : p.thread ≡ thread
+    explained : Explained its_threads thread mine
+    stands : Here_stands (replies_by its_threads thread mine) (lock_of mine) (share_of mine) p p.mode
+    made : AllMadeIn setting starts thread mine
+    paired : AllPaired mine
+    long : length mine ≤ 2 * (counted_in mine + failed_in mine) + open_by (lock_of mine)
+
+  begins : Here_stands [] None 0 (begun thread start) New
+  begins = record { at = ap (λ (o : Option VaxState). after_start (setting.tree thread) setting.pages o 0 []) started; state = ranged; held = refl; free = refl; room = omega arith; ties = refl }
+
+  told : (n : ℕ) (mine : List Entry) (p : Processor) → Reaches setting (begun thread start) n mine p → AllFair mine → Told mine p
+  told n mine p Begins fair = record { is = refl; explained = tt; stands = begins; made = tt; paired = tt; long = omega arith }
+  told n mine p (Steps {p = q} reached_q e) fair =
+      let before = told _ mine q reached_q fair in
+      let settled = settle setting starts thread keeps Owes Form fresh enter opens (replies_by its_threads thread mine) (lock_of mine) (share_of mine) q q.mode before.is before.stands in
+      record {
+        is = subst (KeepsThread q) e (turn_thread setting q (mode_of setting q q.mode)) ∙ before.is;
+        explained = before.explained;
+        stands = moves setting starts thread keeps Owes Form fresh enter opens (replies_by its_threads thread mine) (lock_of mine) (share_of mine) q p (mode_of setting q q.mode) before.is settled e;
+        made = before.made;
+        paired = before.paired;
+        long = before.long;
+      }
+  told n mine p (Takes {mine = older} {p = q} {request = r} {on = on} reached_q e found success) fair =
+      let before = told _ older q reached_q fair.0 in
+      let settled = settle setting starts thread keeps Owes Form fresh enter opens (replies_by its_threads thread older) (lock_of older) (share_of older) q q.mode before.is before.stands in
+      let owed = subst (Owed setting starts thread keeps Owes Form fresh enter opens older (lock_of older) found success) e (takes_in setting starts thread keeps Owes Form fresh enter opens older (lock_of older) q (mode_of setting q q.mode) found success before.is settled) in
+      let x = owed fair.1 in
+      record {
+        is = subst (KeepsThread q) e (turn_thread setting q (mode_of setting q q.mode)) found success ∙ before.is;
+        explained = (before.explained, x.counted);
+        stands = x.stands;
+        made = (before.made, x.made);
+        paired = (before.paired, x.paired);
+        long = pairs r.kind (lock_of older) success (entry_by r found success).quad found (length older) (counted_in older) (failed_in older) x.paired before.long;
+      }
+
+  shown_running : (w : List ℕ) (p : Processor) (pending : List ℕ) → here setting starts thread p.retired w ≡ running p.boundary pending → ((run : ThreadRun) → run.exited ≡ false → Claims p.mode run) → IsShown setting starts thread w p
+  shown_running w p pending at claims =
+      let run : ThreadRun = record { state = p.boundary; exited = false; raised = fault_of (answer setting.pages (setting.tree thread p.boundary) pending) } in
+      record { run = run; driven = ap (run_at its_threads thread) at; state = refl; claims = claims run refl }
+
+  shown_ended : (w : List ℕ) (p : Processor) (end : End) → p.mode ≡ Ended end → Left setting starts thread keeps Owes Form fresh enter opens w p end → IsShown setting starts thread w p
+  shown_ended w p (ends.Exit value) m l =
+      let run : ThreadRun = record { state = p.boundary; exited = true; raised = None } in
+      record { run = run; driven = l.0; state = refl; claims = subst (λ m. Claims m run) (sym m) (refl, l.1) }
+  shown_ended w p (ends.Raised x) m l =
+      let run : ThreadRun = record { state = p.boundary; exited = false; raised = Some x } in
+      record { run = run; driven = l; state = refl; claims = subst (λ m. Claims m run) (sym m) refl }
+  shown_ended w p ends.Spent m l = absurd l
+
+  shown_in : (w : List ℕ) (lock : Option Lock) (share : ℕ) (p : Processor) (m : Mode) → p.mode ≡ m → Here_stands w lock share p m → IsShown setting starts thread w p
+  shown_in w lock share p New m s = shown_running w p [] s.at (λ run e. subst (λ m. Claims m run) (sym m) e)
+  shown_in w lock share p (Runs alpha) m s = shown_running w p s.pending s.flight.at (λ run e. subst (λ m. Claims m run) (sym m) e)
+  shown_in w lock share p (Interprets state pending) m s = shown_running w p pending s.flight.at (λ run e. subst (λ m. Claims m run) (sym m) e)
+  shown_in w lock share p (Ended end) m s = shown_ended w p end m s.left
+
+  bounded : (w : List ℕ) (lock : Option Lock) (share : ℕ) (p : Processor) (m : Mode) → Here_stands w lock share p m → p.steps ≤ 256 * p.retired + 256 + share
+  bounded w lock share p New s = omega (arith, s.room)
+  bounded w lock share p (Runs alpha) s = omega (arith, s.room)
+  bounded w lock share p (Interprets state pending) s = omega (arith, s.room)
+  bounded w lock share p (Ended end) s = s.room
+
+  none_made : (w : List ℕ) (n : ℕ) (b : VaxState) → here setting starts thread n w ≡ running b [] → ties_in setting thread (here setting starts thread n w) ≡ 0
+  none_made w n b at = ap (ties_in setting thread) at ∙ either_none (is_translated setting thread b.pc) (made_in setting.pages (setting.tree thread b) []) (made_none setting.pages (setting.tree thread b))
+
+  tied_in : (w : List ℕ) (lock : Option Lock) (share : ℕ) (p : Processor) (m : Mode) → Here_stands w lock share p m
+      → p.ties ≡ ties_of setting starts thread p.retired w + ties_open setting thread (here setting starts thread p.retired w) m
+  tied_in w lock share p New s = omega (arith, s.ties, none_made w p.retired p.boundary s.at)
+  tied_in w lock share p (Runs alpha) s = omega (arith, s.ties, ties_quiet setting starts thread p.retired w p.boundary s.pending s.flight.at s.translated)
+  tied_in w lock share p (Interprets state pending) s = omega (arith, s.ties, ties_loud setting starts thread p.retired w p.boundary pending s.flight.at s.interpreted)
+  tied_in w lock share p (Ended end) s = s.ties
+
+  alpha_moves : (p : Processor) (lock : Option Lock) (spare : ℕ) (k : Tree) (to : Next) → OwedNext setting.pages (Owes p.boundary p.held) Form p.retired lock spare k to → alpha_turn setting p to ≢ Lost
+  alpha_moves p lock spare k (Moves to) o e = absurd (cc e)
+  alpha_moves p lock spare k (Wants r on) o e = absurd (cc e)
+  alpha_moves p lock spare k Stuck o e = absurd o
+
+  tie_moves : (p : Processor) (state : VaxState) (pending : List ℕ) (a : Answer) → tie_turn setting p state pending a ≢ Lost
+  tie_moves p state pending (trees.Wants q) e = absurd (cc e)
+  tie_moves p state pending (trees.Fails x) e = absurd (cc e)
+  tie_moves p state pending (trees.Comes x rest) e = absurd (cc e)
+
+  new_moves : (p : Processor) (o : Option ℕ) (b : VaxState) (regs : Regs) → mode_by o b regs ≢ New
+  new_moves p None b regs e = absurd (cc e)
+  new_moves p (Some word) b regs e = absurd (cc e)
+
+  moves_in : (w : List ℕ) (lock : Option Lock) (share : ℕ) (p : Processor) (m : Mode) → p.thread ≡ thread → m ≢ New → Here_stands w lock share p m → turn_in setting p m ≢ Lost
+  moves_in w lock share p New is old s = absurd (old refl)
+  moves_in w lock share p (Runs alpha) is old s =
+      let o = opens p.retired p.boundary p.held lock s.spare alpha s.rest s.owed in
+      subst (λ t. alpha_turn setting p (next setting t p.retired p.boundary p.held alpha) ≢ Lost) (sym is) (alpha_moves p lock (s.spare - 1) s.rest (next setting thread p.retired p.boundary p.held alpha) o.1)
+  moves_in w lock share p (Interprets state pending) is old s = tie_moves p state pending (answer setting.pages (setting.tree p.thread state) pending)
+  moves_in w lock share p (Ended end) is old s = λ e. absurd (cc e)
+
+  not_new : (p : Processor) (m : Mode) → mode_of setting p m ≢ New
+  not_new p New = new_moves p (goes_on setting p.thread p.boundary.pc) p.boundary (registers_of p.boundary)
+  not_new p (Runs alpha) = λ e. absurd (cc e)
+  not_new p (Interprets state pending) = λ e. absurd (cc e)
+  not_new p (Ended end) = λ e. absurd (cc e)
+
+  -- what holds of a processor after any number of turns
+  pub facts : (n : ℕ) (mine : List Entry) (p : Processor) → Reaches setting (begun thread start) n mine p → AllFair mine → Facts setting starts thread mine p
+  facts n mine p reached_p fair =
+      let t = told n mine p reached_p fair in
+      let w = replies_by its_threads thread mine in
+      let settled = settle setting starts thread keeps Owes Form fresh enter opens w (lock_of mine) (share_of mine) p p.mode t.is t.stands in
+      let bound = bounded w (lock_of mine) (share_of mine) p p.mode t.stands in
+      record {
+        explained = t.explained;
+        shown = shown_in w (lock_of mine) (share_of mine) p p.mode refl t.stands;
+        ties = tied_in w (lock_of mine) (share_of mine) p p.mode t.stands;
+        steps = omega (arith, share_is mine, bound);
+        kinds = t.made;
+        paired = t.paired;
+        entries = omega (arith, t.long, open_one (lock_of mine));
+        goes_on = moves_in w (lock_of mine) (share_of mine) p (mode_of setting p p.mode) t.is (not_new p p.mode) settled;
+      }

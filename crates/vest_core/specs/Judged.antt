@@ -1,5 +1,5 @@
 -- What is owed of each step of Alpha code.
-use Rattle.std.specs.Prelude.{◌≡◌, ℕ, ◌+◌, ◌-◌, ◌<◌, ◌≤◌, Bool, true, false, List, [], ◌∷◌, Option, Some, None, MatchBool, if◌then◌else◌}
+use Rattle.std.specs.Prelude.{◌≡◌, ℕ, suc, ◌+◌, ◌-◌, ◌<◌, ◌≤◌, Bool, true, false, List, [], ◌∷◌, Option, Some, None, MatchBool, if◌then◌else◌}
 use Rattle.alpha_meaning.specs.State.{Alpha, Regs}
 use Rattle.memory_core.specs.declared.entry.Entry.{Entry}
 use Rattle.memory_core.specs.declared.entry.Kind.{Kind}
@@ -10,8 +10,8 @@ use Rattle.vax_form.specs.Tree.{Tree, Check, Ask, Fault, Ends, Ending, Finish, A
 use Rattle.vax_form.specs.declared.state.Flags.{Flags}
 use Rattle.vax_form.specs.declared.state.VaxState.{VaxState}
 use Rattle.system_model.specs.Processors.{entry_by}
-use Rattle.vest_core.specs.Own.{Lock, lock_by, IsFair}
-use Rattle.vest_core.specs.Counted.{counts}
+use Rattle.vest_core.specs.Own.{Lock, lock_by, lock_of, IsFair}
+use Rattle.vest_core.specs.Counted.{counts, is_counted}
 use Rattle.vest_core.specs.Interpreted.{IsAlpha}
 use Rattle.vest_core.specs.Quadwords.{reply_from, IsOf}
 
@@ -38,3 +38,21 @@ share_by _ success share = share + 256
 abbrev pub share_of : List Entry → ℕ
 share_of [] = 0
 share_of (e ∷ mine) = share_by e.kind e.success (share_of mine)
+
+-- each store conditional stands directly behind a load-locked access of its quadword, and each load-locked access
+-- directly before a store conditional or is the latest
+abbrev pub AllPaired : List Entry → Type 0
+AllPaired [] = Unit {0}
+AllPaired (e ∷ mine) = AllPaired mine × Paired e.kind (lock_of mine) e.quad
+
+abbrev pub fails : Kind → (success : Bool) → Bool
+fails StoreConditional false = true
+fails _ success = false
+
+abbrev pub counted_in : List Entry → ℕ
+counted_in [] = 0
+counted_in (e ∷ mine) = if is_counted e then suc (counted_in mine) else counted_in mine
+
+abbrev pub failed_in : List Entry → ℕ
+failed_in [] = 0
+failed_in (e ∷ mine) = if fails e.kind e.success then suc (failed_in mine) else failed_in mine

@@ -5,3 +5,4 @@ pub mod Explained
 pub mod Interpreted
 pub mod Ranges
 pub mod Judged
+pub mod Headline
