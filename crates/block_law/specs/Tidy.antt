@@ -1,0 +1,62 @@
+-- What is asked of the words of a block one by one.
+use Rattle.std.specs.Prelude.{◌≡◌, ℕ, ◌≤◌, ◌==◌, ◌&&◌, ◌||◌, not, nat_lt, nat_le, Bool, true, false, List, [], ◌∷◌, length, Option, Some, None, if◌then◌else◌}
+use Rattle.std.specs.List.{list_any}
+use Rattle.alpha_encode.specs.declared.instr.AlphaInstr.{AlphaInstr}
+use Rattle.alpha_encode.specs.declared.instr.AlphaInstr.TheVariants.{Memory, Branch, Operate, Jump, Pal}
+use Rattle.alpha_meaning.specs.declared.access.AlphaKind.{AlphaKind}
+use Rattle.alpha_meaning.specs.declared.access.AlphaKind.TheVariants.{Load, LoadLocked, Store, StoreConditional}
+use Rattle.alpha_meaning.specs.Memory.{kind_of}
+use Rattle.alpha_meaning.specs.Act.{links}
+
+-- R0 to R20 and R28 to R30 hold what a boundary shows
+abbrev pub is_kept : (register : ℕ) → Bool
+is_kept register = nat_lt register 21 || (nat_le 28 register && nat_lt register 31)
+
+-- a store writes no register; an instruction of the memory format that makes no access writes its address
+abbrev pub memory_writes : Option AlphaKind → (ra : ℕ) → ℕ
+memory_writes None ra = ra
+memory_writes (Some Load) ra = ra
+memory_writes (Some LoadLocked) ra = ra
+memory_writes (Some Store) ra = 31
+memory_writes (Some StoreConditional) ra = ra
+
+-- the register that an instruction writes, or 31: R31 is not written. A service may write R0
+abbrev pub register_written : AlphaInstr → ℕ
+register_written (Memory op ra rb disp) = memory_writes (kind_of op) ra
+register_written (Branch op ra disp) = if links op then ra else 31
+register_written (Operate op ra rb rc) = rc
+register_written (Jump ra rb) = ra
+register_written (Pal number) = if number == 0x82 then 0 else 31
+
+abbrev pub is_access : Option AlphaKind → Bool
+is_access None = false
+is_access (Some kind) = true
+
+-- a load, a store, a probe or an exception
+abbrev pub may_fault : AlphaInstr → Bool
+may_fault (Memory op ra rb disp) = is_access (kind_of op)
+may_fault (Branch op ra disp) = false
+may_fault (Operate op ra rb rc) = false
+may_fault (Jump ra rb) = false
+may_fault (Pal number) = number == 0x80 || number == 0x83
+
+-- no kept register is written before the last word that may fault
+abbrev pub keeps_until_faults : List AlphaInstr → Bool
+keeps_until_faults [] = true
+keeps_until_faults (i ∷ is) = not (is_kept (register_written i) && list_any may_fault is) && keeps_until_faults is
+
+-- a call that has the interpreter do the block's instruction
+abbrev pub interprets : AlphaInstr → Bool
+interprets (Pal number) = number == 0x85
+interprets i = false
+
+-- 1 to 256 words, none of which leaves its instruction to the interpreter
+pub record IsTidy (words : List AlphaInstr) : Type 0 where
+  pub some : 1 ≤ length words
+  pub few : length words ≤ 256
+  pub keeps : keeps_until_faults words ≡ true
+  pub translated : list_any interprets words ≡ false
+
+-- some word writes the register
+abbrev pub writes_register : (register : ℕ) → List AlphaInstr → Bool
+writes_register register words = list_any (λ i. register_written i == register) words

@@ -1,0 +1,17 @@
+//! What holds of every block that follows a tree, for the proofs of the crates above. Their functions do nothing.
+ghost use Rattle.block_law.specs.Laws.{OneStepOpens, FewerStepsFollow, SameTreeFollows};
+
+/// One step may be taken out of what holds for every number of steps.
+pub fn one_step_opens()
+    ensures { OneStepOpens }
+{}
+
+/// What holds for some steps and some room holds for fewer steps and more room.
+pub fn fewer_steps_follow()
+    ensures { FewerStepsFollow }
+{}
+
+/// A tree may be replaced by one with the same checks, references and ends.
+pub fn same_tree_follows()
+    ensures { SameTreeFollows }
+{}
