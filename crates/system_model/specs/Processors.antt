@@ -27,7 +27,7 @@ use Rattle.vt_words.specs.Quad.{sign_extended}
 use Rattle.system_model.specs.declared.translation.End.{End}
 use Rattle.system_model.specs.declared.translation.End.TheVariants as ends
 use Rattle.system_model.specs.Settings.{Setting, goes_on}
-use Rattle.system_model.specs.Steps.{Last, Comes, Fails, Place, Inside, Lands, Leaves, Next, Moves, Wants, Stuck, next}
+use Rattle.system_model.specs.Steps.{Last, Comes, Fails, Place, Inside, Lands, Leaves, Next, Moves, Wants, Stuck, Moment, next}
 
 pub data Mode : Type 0 where
   -- before its first turn
@@ -74,6 +74,9 @@ mode_at setting thread state regs = mode_by (goes_on setting thread state.pc) st
 
 abbrev pub begun : (thread : ℕ) → VaxState → Processor
 begun thread start = record { thread = thread; mode = New; boundary = start; held = all_held; retired = 0; steps = 0; ties = 0 }
+
+abbrev pub moment_of : Processor → Moment
+moment_of p = record { thread = p.thread; retired = p.retired; boundary = p.boundary; held = p.held }
 
 -- one more step
 abbrev pub stepped : Processor → Processor
@@ -168,8 +171,8 @@ tie_turn setting p state replies (trees.Comes e rest) = Went (left setting (tied
 
 abbrev pub turn_in : Setting → Processor → Mode → Turn
 turn_in setting p New = Lost
-turn_in setting p (Runs alpha) = alpha_turn setting p (next setting p.thread p.retired p.boundary p.held alpha)
-turn_in setting p (Interprets state replies) = tie_turn setting p state replies (answer setting.pages (setting.tree p.thread state) replies)
+turn_in setting p (Runs alpha) = alpha_turn setting p (next setting (moment_of p) alpha)
+turn_in setting p (Interprets state replies) = tie_turn setting p state replies (answer setting.meaning.pages (setting.meaning.tree p.thread state) replies)
 turn_in setting p (Ended end) = Over
 
 -- a new processor is at its first boundary

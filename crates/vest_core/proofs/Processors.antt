@@ -22,7 +22,7 @@ use Rattle.vax_driven.specs.Threads.{Threads, after_start, reached, wanted, run_
 use Rattle.system_model.specs.declared.translation.End.{End}
 use Rattle.system_model.specs.declared.translation.End.TheVariants as ends
 use Rattle.system_model.specs.Settings.{Setting, goes_on}
-use Rattle.system_model.specs.Steps.{Last, Comes, Fails, Place, Inside, Lands, Leaves, Next, Moves, Wants, Stuck, next}
+use Rattle.system_model.specs.Steps.{Last, Comes, Fails, Place, Inside, Lands, Leaves, Next, Moves, Wants, Stuck, Moment, next}
 use Rattle.system_model.specs.Processors.{Mode, New, Runs, Interprets, Ended, Processor, all_held, registers_of, mode_by, mode_at, begun, stepped, tied, arrived, left, placed, Turn, Went, Asks, Over, Lost, alpha_turn, kind_by, request_of, reply_of, tie_turn, turn_in, mode_of, turn, entry_by, Reaches, Begins, Steps, Takes}
 use Rattle.vest_core.specs.Counted.{counts, is_counted}
 use Rattle.vest_core.specs.Explained.{with_reply, replies_by, IsWanted, Explained}
@@ -36,6 +36,9 @@ use Rattle.vest_core.proofs.Paths.{Path, Here, Takes, joined, joined_here, answe
 use Rattle.vest_core.proofs.Reached.{running, here, reached_more, reached_suc, wanted_is, ties_more, ties_quiet, end_quiet, ties_loud, end_loud}
 use Rattle.vest_core.proofs.Replying.{reply_fits, tie_counts, tie_is, tie_reply, tie_free, tie_paired, tie_kind, tie_share}
 use Rattle.vest_core.proofs.Owed.{more_by, answer_by, OwedPlace, OwedBehind, OwedAccess, OwedNext}
+
+abbrev pub moment_at : (thread retired : ℕ) → VaxState → Flags → Moment
+moment_at thread retired boundary held = record { thread = thread; retired = retired; boundary = boundary; held = held }
 
 -- ---- numbers of steps
 spared : (kind : Kind) (success : Bool) (steps spare base share : ℕ) → counts kind success ≡ false → steps + spare ≤ base + share → steps + more_by kind success spare ≤ base + share_by kind success share
@@ -55,30 +58,30 @@ module _ (setting : Setting) (starts : ℕ → Option VaxState) (thread : ℕ) w
   threads = threads_of setting starts
 
   abbrev tree : VaxState → Tree
-  tree = setting.tree thread
+  tree = setting.meaning.tree thread
 
   -- the instruction in flight: so many have retired, and it has taken just the replies that are left
   record Flight (w : List ℕ) (n : ℕ) (b : VaxState) (pending : List ℕ) (k : Tree) : Type 0 where
     at : here setting starts thread n w ≡ running b pending
-    path : Path setting.pages (tree b) pending k
+    path : Path setting.meaning.pages (tree b) pending k
     range : IsInRange k
 
   fly_on : (w : List ℕ) (n : ℕ) (b : VaxState) (pending : List ℕ) (r : Reference) (on : ℕ → Tree) (v : ℕ) → IsInRange (on v)
       → Flight w n b pending (Ask r on) → Flight (w ++ v ∷ []) n b (pending ++ v ∷ []) (on v)
   fly_on w n b pending r on v range f = record {
     at = reached_more setting starts thread n w (v ∷ []) b pending f.at;
-    path = joined setting.pages (tree b) (Ask r on) (on v) pending (v ∷ []) f.path (Takes Here);
+    path = joined setting.meaning.pages (tree b) (Ask r on) (on v) pending (v ∷ []) f.path (Takes Here);
     range = range;
   }
 
   fly_wants : (w : List ℕ) (n : ℕ) (b : VaxState) (pending : List ℕ) (r : Reference) (on : ℕ → Tree) → Flight w n b pending (Ask r on) → wanted threads thread n w ≡ Some r
-  fly_wants w n b pending r on f = wanted_is setting starts thread n w b pending r f.at (answered setting.pages (tree b) (Ask r on) pending f.path)
+  fly_wants w n b pending r on f = wanted_is setting starts thread n w b pending r f.at (answered setting.meaning.pages (tree b) (Ask r on) pending f.path)
 
-  fly_to : (w : List ℕ) (n : ℕ) (b : VaxState) (pending : List ℕ) (k u : Tree) → Path setting.pages k [] u → Flight w n b pending k → Flight w n b pending u
+  fly_to : (w : List ℕ) (n : ℕ) (b : VaxState) (pending : List ℕ) (k u : Tree) → Path setting.meaning.pages k [] u → Flight w n b pending k → Flight w n b pending u
   fly_to w n b pending k u p f = record {
     at = f.at;
-    path = joined_here setting.pages (tree b) k u pending f.path p;
-    range = silent_ends setting.pages k u [] refl p f.range;
+    path = joined_here setting.meaning.pages (tree b) k u pending f.path p;
+    range = silent_ends setting.meaning.pages k u [] refl p f.range;
   }
 
   module _ (keeps : StaysInRange tree)
@@ -87,7 +90,7 @@ module _ (setting : Setting) (starts : ℕ → Option VaxState) (thread : ℕ) w
       (fresh : (state : VaxState) → IsState state → Form state all_held (registers_of state))
       (enter : (state : VaxState) (held : Flags) (regs : Regs) (word : ℕ) → IsState state → Form state held regs → goes_on setting thread state.pc ≡ Some word → Owes state held None 256 (at_place regs word) (tree state))
       (opens : (retired : ℕ) (b : VaxState) (held : Flags) (lock : Option Lock) (spare : ℕ) (alpha : Alpha) (k : Tree) → Owes b held lock spare alpha k
-      → (0 < spare) × OwedNext setting.pages (Owes b held) Form retired lock (spare - 1) k (next setting thread retired b held alpha)) where
+      → (0 < spare) × OwedNext setting.meaning.pages (Owes b held) Form retired lock (spare - 1) k (next setting (moment_at thread retired b held) alpha)) where
     -- what a processor's mode says of its thread, which was told w
     record Flies (w : List ℕ) (lock : Option Lock) (share : ℕ) (p : Processor) (alpha : Alpha) : Type 0 where
       pending : List ℕ
@@ -106,7 +109,7 @@ module _ (setting : Setting) (starts : ℕ → Option VaxState) (thread : ℕ) w
       free : lock ≡ None
       room : p.steps ≤ 256 * p.retired + share
       interpreted : is_translated setting thread p.boundary.pc ≡ false
-      ties : p.ties ≡ ties_of setting starts thread p.retired w + made_in setting.pages (tree p.boundary) pending
+      ties : p.ties ≡ ties_of setting starts thread p.retired w + made_in setting.meaning.pages (tree p.boundary) pending
 
     -- at a boundary
     record Waits (w : List ℕ) (lock : Option Lock) (share : ℕ) (p : Processor) : Type 0 where
@@ -145,7 +148,7 @@ module _ (setting : Setting) (starts : ℕ → Option VaxState) (thread : ℕ) w
       free = free;
       room = room;
       interpreted = ap is_some goes;
-      ties = omega (arith, sum, made_none setting.pages (tree q.boundary));
+      ties = omega (arith, sum, made_none setting.meaning.pages (tree q.boundary));
     }
     arrive w lock share q regs at state form free room sum (Some word) goes = record {
       pending = [];
@@ -167,15 +170,15 @@ module _ (setting : Setting) (starts : ℕ → Option VaxState) (thread : ℕ) w
     settle w lock share p (Ended end) is s = s
 
     -- ---- ends of instructions
-    comes : (w : List ℕ) (n : ℕ) (b : VaxState) (pending : List ℕ) (k : Tree) (a : Answer) → Flight w n b pending k → answer setting.pages k [] ≡ a → answer setting.pages (tree b) pending ≡ a
-    comes w n b pending k a f e = answered setting.pages (tree b) k pending f.path ∙ e
+    comes : (w : List ℕ) (n : ℕ) (b : VaxState) (pending : List ℕ) (k : Tree) (a : Answer) → Flight w n b pending k → answer setting.meaning.pages k [] ≡ a → answer setting.meaning.pages (tree b) pending ≡ a
+    comes w n b pending k a f e = answered setting.meaning.pages (tree b) k pending f.path ∙ e
 
-    leave : (w : List ℕ) (lock : Option Lock) (share : ℕ) (p : Processor) (pending : List ℕ) (k : Tree) (last : Last) → p.thread ≡ thread → Flight w p.retired p.boundary pending k → answer setting.pages k [] ≡ answer_by last → lock ≡ None
+    leave : (w : List ℕ) (lock : Option Lock) (share : ℕ) (p : Processor) (pending : List ℕ) (k : Tree) (last : Last) → p.thread ≡ thread → Flight w p.retired p.boundary pending k → answer setting.meaning.pages k [] ≡ answer_by last → lock ≡ None
         → p.steps ≤ 256 * p.retired + 256 + share
         → p.ties ≡ ties_of setting starts thread p.retired w + (end_in setting thread (here setting starts thread p.retired w) + ties_in setting thread (here setting starts thread p.retired w))
         → Stands w lock share (left setting p last) (left setting p last).mode
     leave w lock share p pending k (Comes (Finish s)) is f e free room sum =
-        let state = comes_state setting.pages k (Finish s) [] f.range e in
+        let state = comes_state setting.meaning.pages k (Finish s) [] f.range e in
         let at = reached_suc setting starts thread p.retired w p.boundary pending (trees.Comes (Finish s) []) f.at (comes w p.retired p.boundary pending k (trees.Comes (Finish s) []) f e) in
         arrive w lock share (left setting p (Comes (Finish s))) (registers_of s) at state.0 (fresh s state.0) free (omega (arith, room)) sum (goes_on setting p.thread s.pc) (ap (λ t. goes_on setting t s.pc) (sym is))
     leave w lock share p pending k (Comes (Exit s)) is f e free room sum =
@@ -197,12 +200,12 @@ module _ (setting : Setting) (starts : ℕ → Option VaxState) (thread : ℕ) w
     quiet w p ties pending k f t sum = omega (arith, sum, ties_quiet setting starts thread p.retired w p.boundary pending f.at t, end_quiet setting starts thread p.retired w p.boundary pending f.at t)
 
     place : (w : List ℕ) (lock : Option Lock) (share : ℕ) (p : Processor) (pending : List ℕ) (k : Tree) (spare : ℕ) (to : Place) → p.thread ≡ thread → Flight w p.retired p.boundary pending k → p.steps + spare ≤ 256 * p.retired + 256 + share
-        → OwedPlace setting.pages (Owes p.boundary p.held) Form lock spare k to → is_translated setting thread p.boundary.pc ≡ true → p.ties ≡ ties_of setting starts thread p.retired w
+        → OwedPlace setting.meaning.pages (Owes p.boundary p.held) Form lock spare k to → is_translated setting thread p.boundary.pc ≡ true → p.ties ≡ ties_of setting starts thread p.retired w
         → Stands w lock share (placed setting p to) (placed setting p to).mode
     place w lock share p pending k spare (Inside alpha) is f room owed t sum = record { pending = pending; rest = k; spare = spare; flight = f; room = room; owed = owed; translated = t; ties = sum }
     place w lock share p pending k spare (Lands s held regs) is f room owed t sum =
-        let e : answer setting.pages k [] ≡ trees.Comes (Finish s) [] = ap (λ x. answer setting.pages x []) owed.1 in
-        let state = comes_state setting.pages k (Finish s) [] f.range e in
+        let e : answer setting.meaning.pages k [] ≡ trees.Comes (Finish s) [] = ap (λ x. answer setting.meaning.pages x []) owed.1 in
+        let state = comes_state setting.meaning.pages k (Finish s) [] f.range e in
         let at = reached_suc setting starts thread p.retired w p.boundary pending (trees.Comes (Finish s) []) f.at (comes w p.retired p.boundary pending k (trees.Comes (Finish s) []) f e) in
         arrive w lock share (arrived setting p s held regs) regs at state.0 owed.2 owed.0 (omega (arith, room)) (quiet w p p.ties pending k f t sum) (goes_on setting p.thread s.pc) (ap (λ t. goes_on setting t s.pc) (sym is))
     place w lock share p pending k spare (Leaves last) is f room owed t sum =
@@ -210,7 +213,7 @@ module _ (setting : Setting) (starts : ℕ → Option VaxState) (thread : ℕ) w
 
     -- ---- a step that asks nothing
     moves_alpha : (w : List ℕ) (lock : Option Lock) (share : ℕ) (p q : Processor) (alpha : Alpha) (s : Flies w lock share p alpha) (to : Next) → p.thread ≡ thread
-        → 0 < s.spare → OwedNext setting.pages (Owes p.boundary p.held) Form p.retired lock (s.spare - 1) s.rest to → alpha_turn setting p to ≡ Went q → Stands w lock share q q.mode
+        → 0 < s.spare → OwedNext setting.meaning.pages (Owes p.boundary p.held) Form p.retired lock (s.spare - 1) s.rest to → alpha_turn setting p to ≡ Went q → Stands w lock share q q.mode
     moves_alpha w lock share p q alpha s (Moves to) is some owed e =
         let e' : placed setting (stepped p) to ≡ q = cc e in
         let room : suc p.steps + (s.spare - 1) ≤ 256 * p.retired + 256 + share = omega (arith, some, s.room) in
@@ -223,17 +226,17 @@ module _ (setting : Setting) (starts : ℕ → Option VaxState) (thread : ℕ) w
     last_of a last = a ≡ answer_by last
 
     moves_tie : (w : List ℕ) (lock : Option Lock) (share : ℕ) (p q : Processor) (state : VaxState) (pending : List ℕ) (s : Plays w lock share p state pending) (a : Answer) → p.thread ≡ thread
-        → answer setting.pages (tree p.boundary) pending ≡ a → tie_turn setting p state pending a ≡ Went q → Stands w lock share q q.mode
+        → answer setting.meaning.pages (tree p.boundary) pending ≡ a → tie_turn setting p state pending a ≡ Went q → Stands w lock share q q.mode
     moves_tie w lock share p q state pending s (trees.Wants r) is a e = absurd (cc e)
     moves_tie w lock share p q state pending s (trees.Fails x) is a e =
         let e' : left setting (tied p) (Fails x) ≡ q = cc e in
         subst (λ (y : Processor). Stands w lock share y y.mode) e'
-        (leave w lock share (tied p) pending s.rest (Fails x) is s.flight (sym (answered setting.pages (tree p.boundary) s.rest pending s.flight.path) ∙ a) s.free (omega (arith, s.room))
+        (leave w lock share (tied p) pending s.rest (Fails x) is s.flight (sym (answered setting.meaning.pages (tree p.boundary) s.rest pending s.flight.path) ∙ a) s.free (omega (arith, s.room))
         (omega (arith, s.ties, ties_loud setting starts thread p.retired w p.boundary pending s.flight.at s.interpreted, end_loud setting starts thread p.retired w p.boundary pending s.flight.at s.interpreted)))
     moves_tie w lock share p q state pending s (trees.Comes x rest) is a e =
         let e' : left setting (tied p) (Comes x) ≡ q = cc e in
-        let here_ends = sym (answered setting.pages (tree p.boundary) s.rest pending s.flight.path) ∙ a in
-        let none = comes_state setting.pages s.rest x rest s.flight.range here_ends in
+        let here_ends = sym (answered setting.meaning.pages (tree p.boundary) s.rest pending s.flight.path) ∙ a in
+        let none = comes_state setting.meaning.pages s.rest x rest s.flight.range here_ends in
         subst (λ (y : Processor). Stands w lock share y y.mode) e'
         (leave w lock share (tied p) pending s.rest (Comes x) is s.flight (here_ends ∙ ap (trees.Comes x) none.1) s.free (omega (arith, s.room))
         (omega (arith, s.ties, ties_loud setting starts thread p.retired w p.boundary pending s.flight.at s.interpreted, end_loud setting starts thread p.retired w p.boundary pending s.flight.at s.interpreted)))
@@ -242,10 +245,10 @@ module _ (setting : Setting) (starts : ℕ → Option VaxState) (thread : ℕ) w
     moves w lock share p q New is s e = absurd (cc e)
     moves w lock share p q (Runs alpha) is s e =
         let o = opens p.retired p.boundary p.held lock s.spare alpha s.rest s.owed in
-        moves_alpha w lock share p q alpha s (next setting thread p.retired p.boundary p.held alpha) is o.0 o.1 (ap (λ t. alpha_turn setting p (next setting t p.retired p.boundary p.held alpha)) (sym is) ∙ e)
+        moves_alpha w lock share p q alpha s (next setting (moment_at thread p.retired p.boundary p.held) alpha) is o.0 o.1 (ap (λ t. alpha_turn setting p (next setting (moment_at t p.retired p.boundary p.held) alpha)) (sym is) ∙ e)
     moves w lock share p q (Interprets state pending) is s e =
-        moves_tie w lock share p q state pending s (answer setting.pages (setting.tree p.thread state) pending) is
-        (ap (λ b. answer setting.pages (tree b) pending) (sym s.same) ∙ ap (λ t. answer setting.pages (setting.tree t state) pending) (sym is)) e
+        moves_tie w lock share p q state pending s (answer setting.meaning.pages (setting.meaning.tree p.thread state) pending) is
+        (ap (λ b. answer setting.meaning.pages (tree b) pending) (sym s.same) ∙ ap (λ t. answer setting.meaning.pages (setting.meaning.tree t state) pending) (sym is)) e
     moves w lock share p q (Ended end) is s e = absurd (cc e)
 
     -- ---- what an access makes of the replies
@@ -270,7 +273,7 @@ module _ (setting : Setting) (starts : ℕ → Option VaxState) (thread : ℕ) w
 
     -- ---- one access of Alpha code
     module _ (mine : List Entry) (lock : Option Lock) (p : Processor) (alpha : Alpha) (s : Flies (replies_by threads thread mine) lock (share_of mine) p alpha) (r : Request) (on : ℕ → Bool → Place) (is : p.thread ≡ thread) (some : 0 < s.spare)
-        (owed : OwedAccess setting.pages (Owes p.boundary p.held) Form p.retired lock (s.spare - 1) s.rest r on) (before : ℕ) (success : Bool) where
+        (owed : OwedAccess setting.meaning.pages (Owes p.boundary p.held) Form p.retired lock (s.spare - 1) s.rest r on) (before : ℕ) (success : Bool) where
       abbrev said : List ℕ
       said = replies_by threads thread mine
 
@@ -280,7 +283,7 @@ module _ (setting : Setting) (starts : ℕ → Option VaxState) (thread : ℕ) w
       at_retired : here setting starts thread made.retired said ≡ running p.boundary s.pending
       at_retired = ap (λ n. here setting starts thread n said) owed.same ∙ s.flight.at
 
-      takes_silent : counts r.kind success ≡ false → OwedPlace setting.pages (Owes p.boundary p.held) Form (lock_by made.kind made.quad made.before) (more_by r.kind success (s.spare - 1)) s.rest (on before success)
+      takes_silent : counts r.kind success ≡ false → OwedPlace setting.meaning.pages (Owes p.boundary p.held) Form (lock_by made.kind made.quad made.before) (more_by r.kind success (s.spare - 1)) s.rest (on before success)
           → Tells mine lock made (placed setting (stepped p) (on before success))
       takes_silent c place_owed =
           let q = placed setting (stepped p) (on before success) in
@@ -295,7 +298,7 @@ module _ (setting : Setting) (starts : ℕ → Option VaxState) (thread : ℕ) w
           }
 
       takes_made : (k : Tree) → k ≡ s.rest → (more : ℕ) → more ≤ 256 → counts r.kind success ≡ true → IsFair r.kind lock made.quad before success
-          → MadeBy k made (λ u. OwedPlace setting.pages (Owes p.boundary p.held) Form (lock_by made.kind made.quad made.before) (s.spare - 1 + more) u (on before success))
+          → MadeBy k made (λ u. OwedPlace setting.meaning.pages (Owes p.boundary p.held) Form (lock_by made.kind made.quad made.before) (s.spare - 1 + more) u (on before success))
           → Tells mine lock made (placed setting (stepped p) (on before success))
       takes_made (Check _ _ _ _) same more few c fair m = absurd m
       takes_made (Fault _) same more few c fair m = absurd m
@@ -305,21 +308,22 @@ module _ (setting : Setting) (starts : ℕ → Option VaxState) (thread : ℕ) w
           let v = reply_from a made in
           let f : Flight said p.retired p.boundary s.pending (Ask a next_tree) = subst (Flight said p.retired p.boundary s.pending) (sym same) s.flight in
           let want : wanted threads thread made.retired said ≡ Some a = ap (λ n. wanted threads thread n said) owed.same ∙ fly_wants said p.retired p.boundary s.pending a next_tree f in
-          let fits = reply_fits a made lock m.0 fair (λ k. ap (λ (x : Kind). leaves x success r.change before) k) in
+          let m' = m f.range.0 in
+          let fits = reply_fits a made lock m'.0 fair (λ k. ap (λ (x : Kind). leaves x success r.change before) k) in
           let on_flight = fly_on said p.retired p.boundary s.pending a next_tree v (f.range.1 v fits) f in
           let room : suc p.steps + (s.spare - 1 + more) ≤ 256 * p.retired + 256 + share_of (made ∷ mine) = omega (arith, some, s.room, few, granted r.kind success (share_of mine) c) in
           record {
-            counted = λ _. record { reference = a; wants = want; of = m.0 };
+            counted = λ _. record { reference = a; wants = want; of = m'.0 };
             paired = owed.paired;
             made = made_at said made.retired p.boundary s.pending true r.kind at_retired s.translated owed.alpha;
             stands = subst (λ u. Stands u (lock_by made.kind made.quad made.before) (share_of (made ∷ mine)) q q.mode) (sym (counted_replies mine made a c want))
                 (place (said ++ v ∷ []) (lock_by made.kind made.quad made.before) (share_of (made ∷ mine)) (stepped p) (s.pending ++ v ∷ []) (next_tree v) (s.spare - 1 + more) (on before success) is on_flight
-                room m.1 s.translated (s.ties ∙ sym (ties_more setting starts thread p.retired said (v ∷ []) p.boundary s.pending s.flight.at)));
+                room m'.1 s.translated (s.ties ∙ sym (ties_more setting starts thread p.retired said (v ∷ []) p.boundary s.pending s.flight.at)));
           }
 
       takes_either : IsFair r.kind lock made.quad before success → (b : Bool) → counts r.kind success ≡ b
-          → MatchBool b ((more : ℕ) × (more ≤ 256) × MadeBy s.rest made (λ u. OwedPlace setting.pages (Owes p.boundary p.held) Form (lock_by made.kind made.quad made.before) (s.spare - 1 + more) u (on before success)))
-            (OwedPlace setting.pages (Owes p.boundary p.held) Form (lock_by made.kind made.quad made.before) (more_by r.kind success (s.spare - 1)) s.rest (on before success))
+          → MatchBool b ((more : ℕ) × (more ≤ 256) × MadeBy s.rest made (λ u. OwedPlace setting.meaning.pages (Owes p.boundary p.held) Form (lock_by made.kind made.quad made.before) (s.spare - 1 + more) u (on before success)))
+            (OwedPlace setting.meaning.pages (Owes p.boundary p.held) Form (lock_by made.kind made.quad made.before) (more_by r.kind success (s.spare - 1)) s.rest (on before success))
           → Tells mine lock made (placed setting (stepped p) (on before success))
       takes_either fair true c m = takes_made s.rest refl m.0 m.1 c fair m.2
       takes_either fair false c m = takes_silent c m
@@ -330,21 +334,21 @@ module _ (setting : Setting) (starts : ℕ → Option VaxState) (thread : ℕ) w
     Owed mine lock before success turn = Unit {0}
 
     takes_alpha : (mine : List Entry) (lock : Option Lock) (p : Processor) (alpha : Alpha) (s : Flies (replies_by threads thread mine) lock (share_of mine) p alpha) (to : Next) (before : ℕ) (success : Bool) → p.thread ≡ thread
-        → 0 < s.spare → OwedNext setting.pages (Owes p.boundary p.held) Form p.retired lock (s.spare - 1) s.rest to → Owed mine lock before success (alpha_turn setting p to)
+        → 0 < s.spare → OwedNext setting.meaning.pages (Owes p.boundary p.held) Form p.retired lock (s.spare - 1) s.rest to → Owed mine lock before success (alpha_turn setting p to)
     takes_alpha mine lock p alpha s (Moves to) before success is some owed = tt
     takes_alpha mine lock p alpha s Stuck before success is some owed = tt
     takes_alpha mine lock p alpha s (Wants r on) before success is some owed =
         λ fair. takes_either mine lock p alpha s r on is some owed before success fair (counts r.kind success) refl (owed.behind before success fair)
 
     takes_tie : (mine : List Entry) (lock : Option Lock) (p : Processor) (state : VaxState) (pending : List ℕ) (s : Plays (replies_by threads thread mine) lock (share_of mine) p state pending) (a : Answer) (before : ℕ) (success : Bool) → p.thread ≡ thread
-        → answer setting.pages (tree p.boundary) pending ≡ a → Owed mine lock before success (tie_turn setting p state pending a)
+        → answer setting.meaning.pages (tree p.boundary) pending ≡ a → Owed mine lock before success (tie_turn setting p state pending a)
     takes_tie mine lock p state pending s (trees.Fails x) before success is a = tt
     takes_tie mine lock p state pending s (trees.Comes x rest) before success is a = tt
     takes_tie mine lock p state pending s (trees.Wants q) before success is a = λ fair.
         let told = replies_by threads thread mine in
         let r = request_of p.thread p.retired q in
         let e = entry_by r before success in
-        let asked = to_ask setting.pages s.rest q (sym (answered setting.pages (tree p.boundary) s.rest pending s.flight.path) ∙ a) in
+        let asked = to_ask setting.meaning.pages s.rest q (sym (answered setting.meaning.pages (tree p.boundary) s.rest pending s.flight.path) ∙ a) in
         let f = fly_to told p.retired p.boundary pending s.rest (Ask q asked.0) asked.1 s.flight in
         let want = fly_wants told p.retired p.boundary pending q asked.0 f in
         let of = tie_is q p.thread p.retired before success f.range.0 in
@@ -355,7 +359,7 @@ module _ (setting : Setting) (starts : ℕ → Option VaxState) (thread : ℕ) w
         let on_flight = fly_on told p.retired p.boundary pending q asked.0 v (f.range.1 v fits) f in
         let c : is_counted e ≡ true = tie_counts q success in
         let p' : Processor = record (tied p) { mode = Interprets state (pending ++ u ∷ []) } in
-        let made_more = made_one setting.pages (tree p.boundary) pending q asked.0 v (Ask q asked.0) refl f.path in
+        let made_more = made_one setting.meaning.pages (tree p.boundary) pending q asked.0 v (Ask q asked.0) refl f.path in
         let plays : Plays (told ++ v ∷ []) None (share_of (e ∷ mine)) p' state (pending ++ v ∷ []) = record {
             rest = asked.0 v;
             flight = on_flight;
@@ -380,11 +384,11 @@ module _ (setting : Setting) (starts : ℕ → Option VaxState) (thread : ℕ) w
     takes_in mine lock p (Ended end) before success is s = tt
     takes_in mine lock p (Runs alpha) before success is s =
         let o = opens p.retired p.boundary p.held lock s.spare alpha s.rest s.owed in
-        subst (λ t. Owed mine lock before success (alpha_turn setting p (next setting t p.retired p.boundary p.held alpha))) (sym is)
-        (takes_alpha mine lock p alpha s (next setting thread p.retired p.boundary p.held alpha) before success is o.0 o.1)
+        subst (λ t. Owed mine lock before success (alpha_turn setting p (next setting (moment_at t p.retired p.boundary p.held) alpha))) (sym is)
+        (takes_alpha mine lock p alpha s (next setting (moment_at thread p.retired p.boundary p.held) alpha) before success is o.0 o.1)
     takes_in mine lock p (Interprets state pending) before success is s =
-        takes_tie mine lock p state pending s (answer setting.pages (setting.tree p.thread state) pending) before success is
-        (ap (λ b. answer setting.pages (tree b) pending) (sym s.same) ∙ ap (λ t. answer setting.pages (setting.tree t state) pending) (sym is))
+        takes_tie mine lock p state pending s (answer setting.meaning.pages (setting.meaning.tree p.thread state) pending) before success is
+        (ap (λ b. answer setting.meaning.pages (tree b) pending) (sym s.same) ∙ ap (λ t. answer setting.meaning.pages (setting.meaning.tree t state) pending) (sym is))
 
 either_none : (b : Bool) (n : ℕ) → n ≡ 0 → (if b then 0 else n) ≡ 0
 either_none true n e = refl
@@ -420,8 +424,8 @@ tie_thread setting p state pending (trees.Comes x rest) = left_thread setting (t
 
 turn_thread : (setting : Setting) (p : Processor) (m : Mode) → KeepsThread p (turn_in setting p m)
 turn_thread setting p New = tt
-turn_thread setting p (Runs alpha) = alpha_thread setting p (next setting p.thread p.retired p.boundary p.held alpha)
-turn_thread setting p (Interprets state pending) = tie_thread setting p state pending (answer setting.pages (setting.tree p.thread state) pending)
+turn_thread setting p (Runs alpha) = alpha_thread setting p (next setting (moment_at p.thread p.retired p.boundary p.held) alpha)
+turn_thread setting p (Interprets state pending) = tie_thread setting p state pending (answer setting.meaning.pages (setting.meaning.tree p.thread state) pending)
 turn_thread setting p (Ended end) = tt
 
 -- ---- a turn is one step
@@ -461,13 +465,13 @@ share_is [] = refl
 share_is (e ∷ mine) = ap (share_by e.kind e.success) (share_is mine) ∙ shares e.kind e.success (counted_in mine) (failed_in mine)
 
 module _ (setting : Setting) (starts : ℕ → Option VaxState) (thread : ℕ) (start : VaxState) (started : starts thread ≡ Some start) (ranged : IsState start)
-    (keeps : StaysInRange (setting.tree thread))
+    (keeps : StaysInRange (setting.meaning.tree thread))
     (Owes : VaxState → Flags → Option Lock → (spare : ℕ) → Alpha → Tree → Type 0)
     (Form : VaxState → Flags → Regs → Type 0)
     (fresh : (state : VaxState) → IsState state → Form state all_held (registers_of state))
-    (enter : (state : VaxState) (held : Flags) (regs : Regs) (word : ℕ) → IsState state → Form state held regs → goes_on setting thread state.pc ≡ Some word → Owes state held None 256 (at_place regs word) (setting.tree thread state))
+    (enter : (state : VaxState) (held : Flags) (regs : Regs) (word : ℕ) → IsState state → Form state held regs → goes_on setting thread state.pc ≡ Some word → Owes state held None 256 (at_place regs word) (setting.meaning.tree thread state))
     (opens : (retired : ℕ) (b : VaxState) (held : Flags) (lock : Option Lock) (spare : ℕ) (alpha : Alpha) (k : Tree) → Owes b held lock spare alpha k
-    → (0 < spare) × OwedNext setting.pages (Owes b held) Form retired lock (spare - 1) k (next setting thread retired b held alpha)) where
+    → (0 < spare) × OwedNext setting.meaning.pages (Owes b held) Form retired lock (spare - 1) k (next setting (moment_at thread retired b held) alpha)) where
   abbrev its_threads : Threads
   its_threads = threads_of setting starts
 
@@ -484,7 +488,7 @@ module _ (setting : Setting) (starts : ℕ → Option VaxState) (thread : ℕ) (
     long : length mine ≤ 2 * (counted_in mine + failed_in mine) + open_by (lock_of mine)
 
   begins : Here_stands [] None 0 (begun thread start) New
-  begins = record { at = ap (λ (o : Option VaxState). after_start (setting.tree thread) setting.pages o 0 []) started; state = ranged; held = refl; free = refl; room = omega arith; ties = refl }
+  begins = record { at = ap (λ (o : Option VaxState). after_start (setting.meaning.tree thread) setting.meaning.pages o 0 []) started; state = ranged; held = refl; free = refl; room = omega arith; ties = refl }
 
   told : (n : ℕ) (mine : List Entry) (p : Processor) → Reaches setting (begun thread start) n mine p → AllFair mine → Told mine p
   told n mine p Begins fair = record { is = refl; explained = tt; stands = begins; made = tt; paired = tt; long = omega arith }
@@ -515,7 +519,7 @@ module _ (setting : Setting) (starts : ℕ → Option VaxState) (thread : ℕ) (
 
   shown_running : (w : List ℕ) (p : Processor) (pending : List ℕ) → here setting starts thread p.retired w ≡ running p.boundary pending → ((run : ThreadRun) → run.exited ≡ false → Claims p.mode run) → IsShown setting starts thread w p
   shown_running w p pending at claims =
-      let run : ThreadRun = record { state = p.boundary; exited = false; raised = fault_of (answer setting.pages (setting.tree thread p.boundary) pending) } in
+      let run : ThreadRun = record { state = p.boundary; exited = false; raised = fault_of (answer setting.meaning.pages (setting.meaning.tree thread p.boundary) pending) } in
       record { run = run; driven = ap (run_at its_threads thread) at; state = refl; claims = claims run refl }
 
   shown_ended : (w : List ℕ) (p : Processor) (end : End) → p.mode ≡ Ended end → Left setting starts thread keeps Owes Form fresh enter opens w p end → IsShown setting starts thread w p
@@ -540,7 +544,7 @@ module _ (setting : Setting) (starts : ℕ → Option VaxState) (thread : ℕ) (
   bounded w lock share p (Ended end) s = s.room
 
   none_made : (w : List ℕ) (n : ℕ) (b : VaxState) → here setting starts thread n w ≡ running b [] → ties_in setting thread (here setting starts thread n w) ≡ 0
-  none_made w n b at = ap (ties_in setting thread) at ∙ either_none (is_translated setting thread b.pc) (made_in setting.pages (setting.tree thread b) []) (made_none setting.pages (setting.tree thread b))
+  none_made w n b at = ap (ties_in setting thread) at ∙ either_none (is_translated setting thread b.pc) (made_in setting.meaning.pages (setting.meaning.tree thread b) []) (made_none setting.meaning.pages (setting.meaning.tree thread b))
 
   tied_in : (w : List ℕ) (lock : Option Lock) (share : ℕ) (p : Processor) (m : Mode) → Here_stands w lock share p m
       → p.ties ≡ ties_of setting starts thread p.retired w + ties_open setting thread (here setting starts thread p.retired w) m
@@ -549,7 +553,7 @@ module _ (setting : Setting) (starts : ℕ → Option VaxState) (thread : ℕ) (
   tied_in w lock share p (Interprets state pending) s = omega (arith, s.ties, ties_loud setting starts thread p.retired w p.boundary pending s.flight.at s.interpreted)
   tied_in w lock share p (Ended end) s = s.ties
 
-  alpha_moves : (p : Processor) (lock : Option Lock) (spare : ℕ) (k : Tree) (to : Next) → OwedNext setting.pages (Owes p.boundary p.held) Form p.retired lock spare k to → alpha_turn setting p to ≢ Lost
+  alpha_moves : (p : Processor) (lock : Option Lock) (spare : ℕ) (k : Tree) (to : Next) → OwedNext setting.meaning.pages (Owes p.boundary p.held) Form p.retired lock spare k to → alpha_turn setting p to ≢ Lost
   alpha_moves p lock spare k (Moves to) o e = absurd (cc e)
   alpha_moves p lock spare k (Wants r on) o e = absurd (cc e)
   alpha_moves p lock spare k Stuck o e = absurd o
@@ -567,8 +571,8 @@ module _ (setting : Setting) (starts : ℕ → Option VaxState) (thread : ℕ) (
   moves_in w lock share p New is old s = absurd (old refl)
   moves_in w lock share p (Runs alpha) is old s =
       let o = opens p.retired p.boundary p.held lock s.spare alpha s.rest s.owed in
-      subst (λ t. alpha_turn setting p (next setting t p.retired p.boundary p.held alpha) ≢ Lost) (sym is) (alpha_moves p lock (s.spare - 1) s.rest (next setting thread p.retired p.boundary p.held alpha) o.1)
-  moves_in w lock share p (Interprets state pending) is old s = tie_moves p state pending (answer setting.pages (setting.tree p.thread state) pending)
+      subst (λ t. alpha_turn setting p (next setting (moment_at t p.retired p.boundary p.held) alpha) ≢ Lost) (sym is) (alpha_moves p lock (s.spare - 1) s.rest (next setting (moment_at thread p.retired p.boundary p.held) alpha) o.1)
+  moves_in w lock share p (Interprets state pending) is old s = tie_moves p state pending (answer setting.meaning.pages (setting.meaning.tree p.thread state) pending)
   moves_in w lock share p (Ended end) is old s = λ e. absurd (cc e)
 
   not_new : (p : Processor) (m : Mode) → mode_of setting p m ≢ New

@@ -14,7 +14,7 @@ use Rattle.vax_driven.specs.Threads.{Threads, reached}
 use Rattle.vest_core.specs.Explained.{replies_by}
 
 abbrev pub threads_of : Setting → (ℕ → Option VaxState) → Threads
-threads_of setting starts = record { pages = setting.pages; start = starts; tree = setting.tree }
+threads_of setting starts = record { pages = setting.meaning.pages; start = starts; tree = setting.meaning.tree }
 
 abbrev pub is_some : Option ℕ → Bool
 is_some None = false
@@ -69,7 +69,7 @@ made_in pages (Ends e) w = 0
 
 -- an interpreted instruction's references, and its end
 abbrev pub ties_by : Setting → (thread : ℕ) → Life → VaxState → List ℕ → ℕ
-ties_by setting thread Runs state w = if is_translated setting thread state.pc then 0 else made_in setting.pages (setting.tree thread state) w
+ties_by setting thread Runs state w = if is_translated setting thread state.pc then 0 else made_in setting.meaning.pages (setting.meaning.tree thread state) w
 ties_by setting thread Exited state w = 0
 ties_by setting thread (Trapped kind) state w = 0
 

@@ -9,6 +9,7 @@ use Rattle.memory_core.specs.Kinds.{is_memory}
 use Rattle.vax_form.specs.Tree.{Tree, Check, Ask, Fault, Ends, Ending, Finish, Answer}
 use Rattle.vax_form.specs.declared.state.Flags.{Flags}
 use Rattle.vax_form.specs.declared.state.VaxState.{VaxState}
+use Rattle.vax_driven.specs.References.{FitsQuadword}
 use Rattle.system_model.specs.Processors.{entry_by}
 use Rattle.vest_core.specs.Own.{Lock, lock_by, lock_of, IsFair}
 use Rattle.vest_core.specs.Counted.{counts, is_counted}
@@ -25,7 +26,7 @@ Paired _ (Some lock) quad = ⊥
 
 -- the entry is of the reference that the tree wants, and what it replies leads to a place of which that holds
 abbrev pub MadeBy : Tree → Entry → (Tree → Type 0) → Type 0
-MadeBy (Ask reference on) e Goes = IsOf reference e × Goes (on (reply_from reference e))
+MadeBy (Ask reference on) e Goes = FitsQuadword reference → IsOf reference e × Goes (on (reply_from reference e))
 MadeBy _ e Goes = ⊥
 
 -- what an access adds to the number of steps that a processor may make: 256 where it counts, 16 where a store fails
