@@ -35,13 +35,13 @@ choice_lt : (b : Bool) (x y n : ℕ) → x < n → y < n → (if b then x else y
 choice_lt true x y n h g = h
 choice_lt false x y n h g = g
 
-with_bytes-lt : (mask value before : ℕ) → with_bytes mask value before < 2 ^ 64
+pub with_bytes-lt : (mask value before : ℕ) → with_bytes mask value before < 2 ^ 64
 unfolding with_bytes
 with_bytes-lt mask value before =
     quad_of-lt (λ k. if bit_at mask k == 1 then byte_at k value else byte_at k before)
     (λ k. choice_lt (bit_at mask k == 1) (byte_at k value) (byte_at k before) 256 (byte_at-lt k value) (byte_at-lt k before))
 
-changed-lt : (change : Change) (before : ℕ) → IsInRange change → before < 2 ^ 64 → changed change before < 2 ^ 64
+pub changed-lt : (change : Change) (before : ℕ) → IsInRange change → before < 2 ^ 64 → changed change before < 2 ^ 64
 changed-lt Nothing before r h = h
 changed-lt (Bytes mask value) before r h = with_bytes-lt mask value before
 changed-lt (AddWord at value) before r h = with_bytes-lt (3 * 2 ^ at) ((word_at at before + value) % 2 ^ 16 * 2 ^ (8 * at)) before
