@@ -6,3 +6,5 @@ pub mod Replying
 pub mod Fields
 pub mod Owed
 pub mod Processors
+pub mod Maps
+pub mod Blocks

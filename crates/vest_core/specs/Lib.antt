@@ -6,3 +6,4 @@ pub mod Interpreted
 pub mod Ranges
 pub mod Judged
 pub mod Headline
+pub mod Sound
