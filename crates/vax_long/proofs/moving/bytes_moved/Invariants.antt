@@ -1,0 +1,9 @@
+-- moving what is left from here is moving all from the beginning
+use Rattle.std.proofs.Common.{◌≡◌, ◌-◌}
+use Rattle.vax_form.specs.Script.{run}
+use Rattle.vax_meaning.specs.Play.{view}
+use Rattle.vax_long.specs.Strings.{move_bytes}
+use Rattle.vax_long.proofs.moving.bytes_moved.Given as goal
+
+abbrev pub invariant-loop : goal.invariant-loop
+invariant-loop l = run (move_bytes l.down (l.count - l.counter) l.source l.target) (view l.cursor) ≡ run (move_bytes l.down l.count l.fn.from l.fn.to) (view l.fn.cursor)

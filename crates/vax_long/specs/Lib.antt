@@ -1,0 +1,5 @@
+pub mod Registers
+pub mod Calls
+pub mod Strings
+pub mod Index
+pub mod Instructions

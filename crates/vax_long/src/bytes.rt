@@ -1,0 +1,88 @@
+ghost use Rattle.std.specs.Prelude.{◌≡◌, ◌<◌};
+ghost use Rattle.vax_form.specs.Pages.{first_bad};
+ghost use Rattle.vax_meaning.specs.Play.{Plays};
+ghost use Rattle.vax_meaning.specs.Memory.{check, read_part, write_part};
+ghost use Rattle.vax_long.specs.Strings.{beyond, beside, fetch_byte};
+
+use vax_form::{Exception, Pages, RefKind, Reference, Stop};
+use vax_meaning::{Cursor, checked};
+
+/// So many bytes beyond an address.
+pub fn beyond(address: u32, count: u16) -> u32
+    ensures { result ≡ beyond address count }
+{
+    address.wrapping_add(count as u32)
+}
+
+/// The address before or behind another.
+pub fn beside(down: bool, address: u32) -> u32
+    ensures { result ≡ beside down address }
+{
+    if down {
+        address.wrapping_sub(1)
+    } else {
+        address.wrapping_add(1)
+    }
+}
+
+/// The first of many bytes from the address on that may not be used with that intent.
+fn first_bad(pages: &Pages, address: u32, count: u16, write: bool) -> Option<u32>
+    ensures { result ≡ first_bad pages.now write address count }
+{
+    let mut place = address;
+    for _ in 0..count {
+        if !pages.allowed(place, write) {
+            return Some(place);
+        }
+        place = beside(false, place);
+    }
+    None
+}
+
+/// Checks a string.
+pub fn string_checked(
+    cursor: &mut Cursor,
+    address: u32,
+    count: u16,
+    write: bool,
+) -> Result<(), Stop>
+    ensures plays { Plays (check address count write) cursor.old result cursor.new }
+{
+    match first_bad(cursor.pages, address, count, write) {
+        None => Ok(()),
+        Some(address) => Err(Stop::Fails(Exception::AccessViolation { address, write })),
+    }
+}
+
+/// Reads a byte.
+pub fn byte_read(cursor: &mut Cursor, address: u32) -> Result<u8, Stop>
+    ensures plays { Plays (read_part address 1) cursor.old result cursor.new }
+{
+    let reply = cursor.ask(Reference {
+        address,
+        count: 1,
+        kind: RefKind::Read,
+    })?;
+    Ok((reply % 256) as u8)
+}
+
+/// Writes a byte.
+pub fn byte_written(cursor: &mut Cursor, address: u32, byte: u8) -> Result<(), Stop>
+    ensures plays { Plays (write_part address 1 byte) cursor.old result cursor.new }
+{
+    cursor.ask(Reference {
+        address,
+        count: 1,
+        kind: RefKind::Write(byte as u64),
+    })?;
+    Ok(())
+}
+
+/// Checks a byte, and reads it.
+#[tactic(auto, unfolding(crate::specs::Strings::fetch_byte))]
+pub fn byte_fetched(cursor: &mut Cursor, address: u32) -> Result<u8, Stop>
+    ensures plays { Plays (fetch_byte address) cursor.old result cursor.new }
+{
+    checked(cursor, address, 1, false)?;
+    byte_read(cursor, address)
+}
