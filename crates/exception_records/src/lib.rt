@@ -12,5 +12,5 @@ pub use points::{Point, PointRefusal, Points, build};
 pub use registers::{codes_shown, shown};
 pub use rules::{CodeRule, Rules};
 
-//
-//mod tests;
+#[cfg(test)]
+mod tests;
