@@ -7,4 +7,5 @@ pub mod Fields
 pub mod Owed
 pub mod Processors
 pub mod Maps
+pub mod Sames
 pub mod Blocks
