@@ -9,3 +9,4 @@ pub mod Processors
 pub mod Maps
 pub mod Sames
 pub mod Blocks
+pub mod Boundaries
