@@ -52,11 +52,11 @@ use Rattle.block_law.proofs.Blocks.{open_follows}
 use Rattle.system_model.specs.Settings.{Setting, covers, goes_on}
 use Rattle.system_model.specs.Steps.{Last, Comes, Fails, Place, Inside, Lands, Leaves, Next, Moves, Wants, Stuck, Moment, state_at, rules_of, held_behind, place_by, place_of, kind_of, change_of, request_for, is_defined, accesses, behind, with_r0, probed, raised, served, called, does, next_by, next}
 use Rattle.system_model.specs.Processors.{all_held, registers_of, entry_by}
-use Rattle.vest_core.specs.Counted.{counts, is_counted}
+use Rattle.history_order.specs.Counted.{counts, is_counted}
 use Rattle.vest_core.specs.Interpreted.{IsAlpha}
 use Rattle.vest_core.specs.Judged.{Paired, MadeBy}
 use Rattle.vest_core.specs.Own.{Lock, lock_by, IsFair}
-use Rattle.vest_core.specs.Quadwords.{quad_address, place_of as place_in, reply_found, reply_from, IsOf, IsOfKind, IsAccess, change_by}
+use Rattle.history_order.specs.Quadwords.{quad_address, place_of as place_in, reply_found, reply_from, IsOf, IsOfKind, IsAccess, change_by}
 use Rattle.vest_core.specs.Sound.{service, IsSound}
 use Rattle.vest_core.proofs.Fields.{field_stored, left_changed, reply_same}
 use Rattle.vest_core.proofs.Sames.{same_ends, same_ask}

@@ -18,7 +18,7 @@ use Rattle.vax_form.specs.declared.state.RefKind.{RefKind}
 use Rattle.vax_form.specs.declared.state.RefKind.TheVariants.{Read, Write, Add, SetBit, ClearBit, Put, Get}
 use Rattle.vax_driven.specs.References.{FitsKind, byte_count_of}
 use Rattle.block_law.specs.References as block
-use Rattle.vest_core.specs.Quadwords.{change_by, reply_found}
+use Rattle.history_order.specs.Quadwords.{change_by, reply_found}
 use Rattle.vest_core.proofs.Quads.{with_bytes-lt, changed-lt}
 
 byte_is : (at n : ℕ) → at < 8 → byte_at at n ≡ byte_of at n

@@ -10,3 +10,5 @@ pub mod Maps
 pub mod Sames
 pub mod Blocks
 pub mod Boundaries
+pub mod Sums
+pub mod Headlines

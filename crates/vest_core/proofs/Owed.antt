@@ -14,7 +14,7 @@ use Rattle.vax_form.specs.declared.state.Flags.{Flags}
 use Rattle.vax_form.specs.declared.state.VaxState.{VaxState}
 use Rattle.system_model.specs.Processors.{entry_by}
 use Rattle.system_model.specs.Steps.{Last, Comes, Fails, Place, Inside, Lands, Leaves, Next, Moves, Wants, Stuck}
-use Rattle.vest_core.specs.Counted.{counts, is_counted}
+use Rattle.history_order.specs.Counted.{counts, is_counted}
 use Rattle.vest_core.specs.Interpreted.{IsAlpha}
 use Rattle.vest_core.specs.Judged.{Paired, MadeBy}
 use Rattle.vest_core.specs.Own.{Lock, lock_by, IsFair}

@@ -24,13 +24,13 @@ use Rattle.system_model.specs.declared.translation.End.TheVariants as ends
 use Rattle.system_model.specs.Settings.{Setting, goes_on}
 use Rattle.system_model.specs.Steps.{Last, Comes, Fails, Place, Inside, Lands, Leaves, Next, Moves, Wants, Stuck, Moment, next}
 use Rattle.system_model.specs.Processors.{Mode, New, Runs, Interprets, Ended, Processor, all_held, registers_of, mode_by, mode_at, begun, stepped, tied, arrived, left, placed, Turn, Went, Asks, Over, Lost, alpha_turn, kind_by, request_of, reply_of, tie_turn, turn_in, mode_of, turn, entry_by, Reaches, Begins, Steps, Takes}
-use Rattle.vest_core.specs.Counted.{counts, is_counted}
-use Rattle.vest_core.specs.Explained.{with_reply, replies_by, IsWanted, Explained}
+use Rattle.history_order.specs.Counted.{counts, is_counted}
+use Rattle.history_order.specs.Explained.{with_reply, replies_by, IsWanted, Explained}
 use Rattle.vest_core.specs.Headline.{Claims, IsShown, Facts}
 use Rattle.vest_core.specs.Interpreted.{threads_of, is_some, is_translated, IsAlpha, IsMadeIn, translated_at, AllMadeIn, made_in, ties_in, end_in, ties_of, has_raised, ties_open}
 use Rattle.vest_core.specs.Judged.{Paired, AllPaired, MadeBy, share_by, share_of, fails, counted_in, failed_in}
 use Rattle.vest_core.specs.Own.{Lock, lock_by, lock_of, IsFair, AllFair}
-use Rattle.vest_core.specs.Quadwords.{reply_from, IsOf}
+use Rattle.history_order.specs.Quadwords.{reply_from, IsOf}
 use Rattle.vest_core.specs.Ranges.{ending_state, IsInRange, StaysInRange}
 use Rattle.vest_core.proofs.Paths.{Path, Here, Takes, joined, joined_here, answered, to_ask, silent_ends, comes_state, made_none, made_one}
 use Rattle.vest_core.proofs.Reached.{running, here, reached_more, reached_suc, wanted_is, ties_more, ties_quiet, end_quiet, ties_loud, end_loud}

@@ -17,12 +17,12 @@ use Rattle.vax_form.specs.declared.state.Reference.{Reference}
 use Rattle.vax_form.specs.declared.state.RefKind.{RefKind}
 use Rattle.vax_form.specs.declared.state.RefKind.TheVariants.{Read, Write, Add, SetBit, ClearBit, Put, Get}
 use Rattle.system_model.specs.Processors.{request_of, reply_by, reply_of, entry_by, kind_by, change_by, quad_address}
-use Rattle.vest_core.specs.Counted.{counts, is_counted}
+use Rattle.history_order.specs.Counted.{counts, is_counted}
 use Rattle.vest_core.specs.Interpreted.{IsMadeIn}
 use Rattle.vest_core.specs.Judged.{Paired, share_by}
 use Rattle.vest_core.specs.Own.{Lock, lock_by, IsFair}
-use Rattle.vest_core.specs.Quadwords.{place_of, reply_found, reply_from, IsOfKind, IsOf, IsAccess, change_of}
-use Rattle.vest_core.specs.Quadwords as quadwords
+use Rattle.history_order.specs.Quadwords.{place_of, reply_found, reply_from, IsOfKind, IsOf, IsAccess, change_of}
+use Rattle.history_order.specs.Quadwords as quadwords
 
 fits_kind : (what : RefKind) (r : Reference) (e : Entry) (lock : Option Lock) → IsOfKind what r e → IsFair e.kind lock e.quad e.before e.success → (e.kind ≡ kinds.Get → e.after ≡ e.before)
     → AnswersKind what r.count (reply_found what (place_of r) r.count e.before e.after)

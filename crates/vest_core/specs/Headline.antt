@@ -8,7 +8,7 @@ use Rattle.vax_driven.specs.Threads.{reached, thread_run}
 use Rattle.system_model.specs.Settings.{Setting}
 use Rattle.system_model.specs.Processors.{Mode, New, Runs, Interprets, Ended, Processor, Lost, turn}
 use Rattle.system_model.specs.declared.translation.End.TheVariants as ends
-use Rattle.vest_core.specs.Explained.{replies_by, Explained}
+use Rattle.history_order.specs.Explained.{replies_by, Explained}
 use Rattle.vest_core.specs.Interpreted.{threads_of, AllMadeIn, ties_of, ties_open}
 use Rattle.vest_core.specs.Judged.{AllPaired, counted_in, failed_in}
 

@@ -11,7 +11,7 @@ use Rattle.system_model.specs.declared.translation.End.TheVariants as ends
 use Rattle.system_model.specs.Processors.{Mode, Ended}
 use Rattle.system_model.specs.Settings.{Setting, goes_on}
 use Rattle.vax_driven.specs.Threads.{Threads, reached}
-use Rattle.vest_core.specs.Explained.{replies_by}
+use Rattle.history_order.specs.Explained.{replies_by}
 
 abbrev pub threads_of : Setting → (ℕ → Option VaxState) → Threads
 threads_of setting starts = record { pages = setting.meaning.pages; start = starts; tree = setting.meaning.tree }

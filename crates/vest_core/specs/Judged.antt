@@ -12,9 +12,9 @@ use Rattle.vax_form.specs.declared.state.VaxState.{VaxState}
 use Rattle.vax_driven.specs.References.{FitsQuadword}
 use Rattle.system_model.specs.Processors.{entry_by}
 use Rattle.vest_core.specs.Own.{Lock, lock_by, lock_of, IsFair}
-use Rattle.vest_core.specs.Counted.{counts, is_counted}
+use Rattle.history_order.specs.Counted.{counts, is_counted}
 use Rattle.vest_core.specs.Interpreted.{IsAlpha}
-use Rattle.vest_core.specs.Quadwords.{reply_from, IsOf}
+use Rattle.history_order.specs.Quadwords.{reply_from, IsOf}
 
 -- a store conditional stands directly behind a load-locked access of the same quadword, and each load-locked one
 -- directly before a store conditional
