@@ -112,7 +112,7 @@ module _ (setting : Setting) (set_up : SetUp) (budget : ℕ) (entries : List Ent
   was_facts : (thread : ℕ) (start : VaxState) (was : Processor) → begin thread ≡ Some start → Reaches setting (begun thread start) was.steps (own thread entries) was → Facts setting begin thread (own thread entries) was
   was_facts thread start was h reached_was =
       let s = started thread start h in
-      facts setting begin thread start h s.0 (sound.ranged thread) (Owes setting thread sound meets.map_rises) (IsForm setting) (fresh setting) (enter setting thread sound meets s.1) (opens setting thread sound meets.map_rises s.1)
+      facts setting begin thread start h s.0 (sound.ranged thread s.1) (Owes setting thread sound meets.map_rises) (IsForm setting) (fresh setting) (enter setting thread sound meets s.1) (opens setting thread sound meets.map_rises s.1)
       was.steps (own thread entries) was reached_was (all_fair set_up run.bytes entries legal.order thread)
 
   facts_of : (thread : ℕ) (start : VaxState) (p : Processor) → begin thread ≡ Some start → IsReached setting budget set_up.limit entries thread start p → Facts setting begin thread (own thread entries) p

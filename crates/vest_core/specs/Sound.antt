@@ -1,5 +1,5 @@
 -- Meanings of instructions that go with processors.
-use Rattle.std.specs.Prelude.{◌≡◌, ℕ, ◌%◌, ◌^◌, ◌≤◌, ◌==◌, if◌then◌else◌}
+use Rattle.std.specs.Prelude.{◌≡◌, ◌<◌, ℕ, ◌%◌, ◌^◌, ◌≤◌, ◌==◌, if◌then◌else◌}
 use Rattle.vax_form.specs.State.{register, with_register}
 use Rattle.vax_form.specs.Tree.{Tree, Ask, Ends, Finish, Exit}
 use Rattle.vax_form.specs.declared.state.RefKind.TheVariants.{Put, Get}
@@ -20,6 +20,6 @@ service thread code state =
 -- instructions keep to states and to references within quadwords, services are those above, and an access allows at
 -- most 256 steps more
 pub record IsSound (meaning : Meaning) : Type 0 where
-  pub ranged : (thread : ℕ) → StaysInRange (meaning.tree thread)
+  pub ranged : (thread : ℕ) → thread < 256 → StaysInRange (meaning.tree thread)
   pub serves : (thread code : ℕ) (state : VaxState) → meaning.serve thread code state ≡ service thread code state
   pub few : (address : ℕ) → meaning.bonus address ≤ 256

@@ -1,4 +1,5 @@
-//! A legal history has the headline.
+//! What a legal history of processors is for the VAX threads of its image, whose instructions are translated or
+//! interpreted in any mix.
 #![tactic(auto)]
 
 pub mod laws;
