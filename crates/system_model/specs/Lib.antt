@@ -1,3 +1,4 @@
+pub mod Ranges
 pub mod Settings
 pub mod Steps
 pub mod Processors

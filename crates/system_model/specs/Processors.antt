@@ -1,5 +1,5 @@
 -- Processors: each runs one thread, by Alpha steps in translated code and by interpreted steps elsewhere.
-use Rattle.std.specs.Prelude.{◌≡◌, ℕ, zero, suc, ◌+◌, ◌-◌, ◌*◌, ◌/◌, ◌%◌, ◌^◌, ◌==◌, Bool, true, false, List, [], ◌∷◌, ◌++◌, Option, Some, None, nat_lt, slice_index, if◌then◌else◌}
+use Rattle.std.specs.Prelude.{◌≡◌, ℕ, zero, suc, ◌+◌, ◌-◌, ◌*◌, ◌/◌, ◌%◌, ◌^◌, ◌==◌, Bool, true, List, [], ◌∷◌, ◌++◌, Option, Some, None, nat_lt, slice_index, if◌then◌else◌}
 use Rattle.std.specs.Int.{byte_at}
 use Rattle.alpha_meaning.specs.State.{Alpha, Regs, at_place}
 use Rattle.memory_core.specs.declared.entry.Change.{Change}
@@ -12,11 +12,9 @@ use Rattle.memory_core.specs.Bytes.{word_at}
 use Rattle.memory_core.specs.Changes.{leaves}
 use Rattle.memory_core.specs.Kinds.{is_memory}
 use Rattle.vt_words.specs.Quad.{field_of}
-use Rattle.vt_words.specs.Values.{bit}
 use Rattle.vax_form.specs.State.{register}
 use Rattle.vax_form.specs.Tree.{Tree, Ending, Finish, Exit, Trap, Answer, answer}
 use Rattle.vax_form.specs.Tree as trees
-use Rattle.vax_form.specs.declared.state.Exception.{Exception}
 use Rattle.vax_form.specs.declared.state.Exception.TheVariants.{Arithmetic}
 use Rattle.vax_form.specs.declared.state.Flags.{Flags}
 use Rattle.vax_form.specs.declared.state.Reference.{Reference}

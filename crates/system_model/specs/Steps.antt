@@ -1,6 +1,6 @@
 -- One step of Alpha code.
 -- Alpha Architecture Reference Manual, "Instruction Descriptions"; the PALcode calls are this system's own.
-use Rattle.std.specs.Prelude.{ℕ, ◌+◌, ◌-◌, ◌*◌, ◌/◌, ◌%◌, ◌^◌, ◌==◌, ◌&&◌, Bool, true, false, List, [], ◌∷◌, Option, Some, None, slice_index, if◌then◌else◌}
+use Rattle.std.specs.Prelude.{ℕ, ◌+◌, ◌-◌, ◌*◌, ◌%◌, ◌^◌, ◌==◌, ◌&&◌, Bool, true, false, Option, Some, None, if◌then◌else◌}
 use Rattle.vt_words.specs.Quad.{sign_extended}
 use Rattle.address_map.specs.Pairs.{address_at}
 use Rattle.alpha_encode.specs.declared.instr.AlphaInstr.{AlphaInstr}
@@ -11,7 +11,7 @@ use Rattle.alpha_meaning.specs.Act.{Does, Goes, Asks, Calls, act, finished}
 use Rattle.alpha_meaning.specs.Memory.{stores}
 use Rattle.alpha_meaning.specs.Pieces.{quad_of, loaded}
 use Rattle.alpha_meaning.specs.State.{Alpha, Regs, put, at_place}
-use Rattle.block_law.specs.Follows.{Call, Probe, LookUp, Serve, Raise, Arithmetic, Switch, Other, call_of, probe_count, probe_address}
+use Rattle.block_law.specs.Follows.{Call, Probe, LookUp, Serve, Raise, Arithmetic, Switch, call_of, probe_count, probe_address}
 use Rattle.block_law.specs.Placements.{target}
 use Rattle.block_law.specs.Translations.{fetch_of}
 use Rattle.exception_records.specs.Codes.{all_ready}
@@ -135,10 +135,10 @@ served setting moment code rules c =
     if code == 1 then Moves (Leaves (Comes (Exit (state_at moment.boundary c.regs (target c.regs) rules moment.held))))
     else if code == 2
     then Wants (record { processor = moment.thread; retired = moment.retired; kind = kinds.Put; quad = 0; change = Byte (c.regs 0 % 256) })
-        (λ before success. behind setting moment c c.regs)
+    (λ before success. behind setting moment c c.regs)
     else if code == 3
     then Wants (record { processor = moment.thread; retired = moment.retired; kind = kinds.Get; quad = 0; change = Nothing })
-        (λ before success. behind setting moment c (with_r0 c.regs before))
+    (λ before success. behind setting moment c (with_r0 c.regs before))
     else if code == 4 then Moves (behind setting moment c (with_r0 c.regs moment.thread))
     else Moves (behind setting moment c (with_r0 c.regs 0))
 

@@ -1,6 +1,14 @@
 //! Processors that run a translation and interpret the rest, and which histories of theirs are legal.
+//!
+//! `specs/` has the definitions: what a processor does in its turn, what it reaches with its own entries of a history, and
+//! when a history and its processors are legal.
 #![tactic(auto)]
 
+mod boundary;
 mod translation;
 
-pub use translation::{End, Range, Translation};
+pub use boundary::shown;
+pub use translation::{End, Range, Translation, word_for};
+
+#[cfg(test)]
+mod tests;

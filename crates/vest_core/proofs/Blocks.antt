@@ -1,11 +1,10 @@
 -- What a block's judgement owes at each step of a processor.
-use Rattle.std.proofs.Common.{◌≡◌, ℕ, zero, suc, ◌<◌, ◌≤◌, ◌+◌, ◌-◌, ◌*◌, ◌/◌, ◌%◌, ◌^◌, ◌==◌, ◌&&◌, ◌⊎◌, inl, inr, Bool, true, false, if◌then◌else◌, List, [], ◌∷◌, Option, Some, None, refl, sym, ap, ◌∙◌, subst, arith, lit<}
-use Rattle.std.specs.Prelude.{MatchBool, nat_lt, slice_set}
-use Rattle.std.specs.List.{list_any}
+use Rattle.std.proofs.Common.{◌≡◌, ℕ, ◌<◌, ◌≤◌, ◌+◌, ◌-◌, ◌*◌, ◌/◌, ◌%◌, ◌^◌, ◌==◌, ◌&&◌, ◌⊎◌, inl, inr, Bool, true, false, if◌then◌else◌, [], Option, Some, None, refl, sym, ap, ◌∙◌, subst, arith, lit<}
+use Rattle.std.specs.Prelude.{nat_lt}
 use Rattle.std.proofs.lemmas.Bool.Decides.{nat_tests}
 use Rattle.std.proofs.Math.Path.{fun_ext}
-use Rattle.vt_words.specs.Quad.{sign_extended, field_of, with_field_of}
-use Rattle.address_map.specs.Pairs.{Pair, AllRise, word_at, address_at}
+use Rattle.vt_words.specs.Quad.{sign_extended}
+use Rattle.address_map.specs.Pairs.{AllRise, word_at, address_at}
 use Rattle.alpha_encode.specs.declared.instr.AlphaInstr.{AlphaInstr}
 use Rattle.alpha_encode.specs.declared.instr.AlphaInstr.TheVariants.{Memory, Branch, Operate, Jump, Pal}
 use Rattle.alpha_encode.specs.declared.instr.MemoryOp.{MemoryOp}
@@ -15,23 +14,21 @@ use Rattle.alpha_meaning.specs.declared.access.AlphaKind.{AlphaKind}
 use Rattle.alpha_meaning.specs.declared.access.AlphaKind.TheVariants as alpha
 use Rattle.alpha_meaning.specs.Act.{Does, Goes, Asks, Calls, act, memory_act_by, finished}
 use Rattle.alpha_meaning.specs.Memory.{stores, bytes_of, address_of, access_of, kind_of as row_kind}
-use Rattle.alpha_meaning.specs.Pieces.{quad_of, loaded, changed, Wanted, Nothing, Phase, Plain, Held, Failed, Made, Accesses, Acts, Steps, Forth, phase_after}
-use Rattle.alpha_meaning.specs.Pieces as pieces
+use Rattle.alpha_meaning.specs.Pieces.{quad_of, loaded, changed, Phase, Plain, Held, Failed, Made, Accesses, Acts, Steps, Forth, phase_after}
 use Rattle.alpha_meaning.specs.State.{Alpha, Regs, put, at_place}
 use Rattle.exception_records.specs.Codes.{all_ready}
 use Rattle.exception_records.specs.Points.{point_at, raised_at}
-use Rattle.exception_records.specs.Shown.{registers_shown, psw_shown, Shows, still_held}
+use Rattle.exception_records.specs.Shown.{Shows}
 use Rattle.exception_records.specs.declared.points.Point.{Point}
 use Rattle.memory_core.specs.declared.entry.Change.TheVariants as changes
 use Rattle.memory_core.specs.declared.entry.Entry.{Entry}
-use Rattle.memory_core.specs.declared.entry.Kind.{Kind}
 use Rattle.memory_core.specs.declared.entry.Kind.TheVariants as kinds
 use Rattle.memory_core.specs.declared.entry.Request.{Request}
 use Rattle.memory_core.specs.Changes.{leaves}
-use Rattle.memory_core.specs.Kinds.{is_memory, is_conditional}
+use Rattle.memory_core.specs.Kinds.{is_memory}
 use Rattle.memory_core.proofs.Choices.{if_true}
 use Rattle.vax_form.specs.Pages.{is_allowed, first_bad}
-use Rattle.vax_form.specs.State.{IsState, Answers, register, with_register, with_core}
+use Rattle.vax_form.specs.State.{register, with_register}
 use Rattle.vax_form.specs.Tree.{Tree, Check, Ask, Fault, Ends, Ending, Finish, Exit, Trap, Same, unless_bad, answer}
 use Rattle.vax_form.specs.Tree as trees
 use Rattle.vax_form.specs.declared.state.Exception.{Exception}
@@ -45,23 +42,21 @@ use Rattle.vax_driven.specs.References.{FitsQuadword}
 use Rattle.block_law.specs.Follows.{Call, Probe, LookUp, Serve, Raise, Arithmetic, Switch, Other, call_of, probe_count, probe_address, Called, Landed, Clause}
 use Rattle.block_law.specs.Follows as block
 use Rattle.block_law.specs.Laws.{Ever}
-use Rattle.block_law.specs.Placements.{Placement, terms_of, InForm, state_shown, state_behind, state_ready, target}
-use Rattle.block_law.specs.References.{wants, wanted_by, is_of_memory, left_by, reply_by}
-use Rattle.block_law.specs.Translations.{Meaning, Code, fetch_of, placed, IsBlock, Meets}
+use Rattle.block_law.specs.Placements.{Placement, terms_of, InForm, state_shown, target}
+use Rattle.block_law.specs.References.{wants, wanted_by, is_of_memory, reply_by}
+use Rattle.block_law.specs.Translations.{fetch_of, placed}
 use Rattle.block_law.proofs.Blocks.{open_follows}
-use Rattle.system_model.specs.Settings.{Setting, covers, goes_on}
-use Rattle.system_model.specs.Steps.{Last, Comes, Fails, Place, Inside, Lands, Leaves, Next, Moves, Wants, Stuck, Moment, state_at, rules_of, held_behind, place_by, place_of, kind_of, change_of, request_for, is_defined, accesses, behind, with_r0, probed, raised, served, called, does, next_by, next}
-use Rattle.system_model.specs.Processors.{all_held, registers_of, entry_by}
-use Rattle.history_order.specs.Counted.{counts, is_counted}
-use Rattle.vest_core.specs.Interpreted.{IsAlpha}
-use Rattle.vest_core.specs.Judged.{Paired, MadeBy}
-use Rattle.vest_core.specs.Own.{Lock, lock_by, IsFair}
-use Rattle.history_order.specs.Quadwords.{quad_address, place_of as place_in, reply_found, reply_from, IsOf, IsOfKind, IsAccess, change_by}
-use Rattle.vest_core.specs.Sound.{service, IsSound}
+use Rattle.system_model.specs.Settings.{Setting}
+use Rattle.system_model.specs.Steps.{Comes, Place, Lands, Leaves, Moves, Wants, Moment, state_at, rules_of, held_behind, place_by, place_of, request_for, is_defined, accesses, behind, with_r0, probed, raised, called, does, next_by, next}
+use Rattle.system_model.specs.Processors.{entry_by}
+use Rattle.vest_core.specs.Judged.{MadeBy}
+use Rattle.vest_core.specs.Own.{Lock}
+use Rattle.history_order.specs.Quadwords.{quad_address, reply_from, IsOf, IsOfKind, IsAccess}
+use Rattle.vest_core.specs.Sound.{IsSound}
 use Rattle.vest_core.proofs.Fields.{field_stored, left_changed, reply_same}
 use Rattle.vest_core.proofs.Sames.{same_ends, same_ask}
 use Rattle.vest_core.proofs.Maps.{there_and_back}
-use Rattle.vest_core.proofs.Owed.{more_by, answer_by, OwedPlace, OwedBehind, OwedAccess, OwedNext}
+use Rattle.vest_core.proofs.Owed.{OwedPlace, OwedBehind, OwedAccess, OwedNext}
 use Rattle.vest_core.proofs.Paths.{Path, Here, Passes}
 use Rattle.vest_core.proofs.Processors.{moment_at}
 
@@ -144,13 +139,19 @@ module _ (setting : Setting) (thread : ℕ) (sound : IsSound setting.meaning) (r
 
     landed : (address : ℕ) (d : Alpha) → address_at setting.code.map d.pc ≡ Some address → (point : Option Point) → point_at setting.code.points d.pc ≡ point → (phase : Phase) (t : Tree) (spare : ℕ) → Landed phase t p address point d.regs
         → Owed_at (phase_lock phase) spare t (Lands (state_at b d.regs address (rules_of point) (held_behind setting m)) (held_behind setting m) d.regs)
-    landed address d at (Some point) has Plain (Ends (Finish s)) spare l =
-        (refl, ap (λ x. Ends (Finish x)) l.1, record { form = l.0; shows = λ word q w h.
-          let some_word : Some word ≡ Some d.pc = sym w ∙ there_and_back setting.code.map d.pc address rises at in
-          let same_word : word ≡ d.pc = cc some_word in
-          let some_point : Some q ≡ Some point = sym h ∙ ap (λ n. point_at setting.code.points n) same_word ∙ has in
-          let same_point : point ≡ q = cc some_point in
-          subst (λ (x : Point). Shows d.regs address x.rules (held_behind setting m) (state_at b d.regs address point.rules (held_behind setting m))) same_point refl })
+    landed address d at (Some point) has Plain (Ends (Finish s)) spare l = (
+      refl,
+      ap (λ x. Ends (Finish x)) l.1,
+      record {
+        form = l.0;
+        shows = λ word q w h.
+            let some_word : Some word ≡ Some d.pc = sym w ∙ there_and_back setting.code.map d.pc address rises at in
+            let same_word : word ≡ d.pc = cc some_word in
+            let some_point : Some q ≡ Some point = sym h ∙ ap (λ n. point_at setting.code.points n) same_word ∙ has in
+            let same_point : point ≡ q = cc some_point in
+            subst (λ (x : Point). Shows d.regs address x.rules (held_behind setting m) (state_at b d.regs address point.rules (held_behind setting m))) same_point refl;
+      },
+    )
     landed address d at None has Plain (Ends (Finish s)) spare l = absurd l
     landed address d at point has phase t spare l = absurd l
 
@@ -188,16 +189,15 @@ module _ (setting : Setting) (thread : ℕ) (sound : IsSound setting.meaning) (r
         by false k h fits = absurd h
         by true k h fits =
             let made = h.1 before small fit in
-            let same : quad_address r ≡ r.address / 8 * 8 = omega arith in
-            (
-            access_kind r.kind r e k (record {
+            let same : quad_address r ≡ r.address / 8 * 8 = omega arith in (
+              access_kind r.kind r e k (record {
                 memory = memory;
                 fits = fits;
                 quad = if_true (is_memory request.kind) request.quad 0 memory ∙ at ∙ sym h.0 ∙ sym same;
                 after = after ∙ made.0 ∙ left_changed r.kind before (r.address % 8) r.count small fits.within fits.bit k;
               }),
-            subst (λ v. Owed_at None spare (next_tree v) (place_of setting m (on before))) (reply_same r.kind before (r.address % 8) r.count e.after fits.within k)
-            (inside (on before) Plain None spare (next_tree (reply_by r.kind (r.address % 8) r.count before)) refl made.1)
+              subst (λ v. Owed_at None spare (next_tree v) (place_of setting m (on before))) (reply_same r.kind before (r.address % 8) r.count e.after fits.within k)
+                  (inside (on before) Plain None spare (next_tree (reply_by r.kind (r.address % 8) r.count before)) refl made.1),
             )
 
     abbrev an_access : AlphaKind → (address bytes value : ℕ) → AlphaAccess
@@ -212,28 +212,34 @@ module _ (setting : Setting) (thread : ℕ) (sound : IsSound setting.meaning) (r
 
     loads : (address bytes value : ℕ) (i : AlphaInstr) (c : Alpha) (spare : ℕ) (t : Tree) (before : ℕ) (success : Bool) → before < 2 ^ 64 → success ≡ true
         → let a = an_access alpha.Load address bytes value in
-          Made (wants t) (quad_of a) (λ before. before) (λ _. Unit {0}) (λ before u. block.Onward p (Ever p) Plain (spare + p.bonus) (leads i a c before true) u)
+        Made (wants t) (quad_of a) (λ before. before) (λ _. Unit {0}) (λ before u. block.Onward p (Ever p) Plain (spare + p.bonus) (leads i a c before true) u)
         → OwedBehind setting.meaning.pages (Owes b held) (IsForm setting) spare t (entry_by (request_for m a) before success) (place_of setting m (leads i a c before success))
     loads address bytes value i c spare t before success small is_true h =
         let a = an_access alpha.Load address bytes value in
-        let q = request_for m a in
-        (p.bonus, few, subst (λ s. MadeBy t (entry_by q before s) (λ u. Owed_at None (spare + p.bonus) u (place_of setting m (leads i a c before s)))) (sym is_true)
-        (made_by t q before true (quad_of a) (spare + p.bonus) (λ before. before) (λ _. Unit {0}) (λ before. leads i a c before true) refl refl small tt refl h))
+        let q = request_for m a in (
+          p.bonus,
+          few,
+          subst (λ s. MadeBy t (entry_by q before s) (λ u. Owed_at None (spare + p.bonus) u (place_of setting m (leads i a c before s)))) (sym is_true)
+              (made_by t q before true (quad_of a) (spare + p.bonus) (λ before. before) (λ _. Unit {0}) (λ before. leads i a c before true) refl refl small tt refl h),
+        )
 
     stores_all : (address bytes value : ℕ) (i : AlphaInstr) (c : Alpha) (spare : ℕ) (t : Tree) (before : ℕ) (success : Bool) → address % 8 + bytes ≤ 8 → before < 2 ^ 64 → success ≡ true
         → let a = an_access alpha.Store address bytes value in
-          Made (wants t) (quad_of a) (changed a) (λ _. Unit {0}) (λ before u. block.Onward p (Ever p) Plain (spare + p.bonus) (leads i a c before true) u)
+        Made (wants t) (quad_of a) (changed a) (λ _. Unit {0}) (λ before u. block.Onward p (Ever p) Plain (spare + p.bonus) (leads i a c before true) u)
         → OwedBehind setting.meaning.pages (Owes b held) (IsForm setting) spare t (entry_by (request_for m a) before success) (place_of setting m (leads i a c before success))
     stores_all address bytes value i c spare t before success within small is_true h =
         let a = an_access alpha.Store address bytes value in
-        let q = request_for m a in
-        (p.bonus, few, subst (λ s. MadeBy t (entry_by q before s) (λ u. Owed_at None (spare + p.bonus) u (place_of setting m (leads i a c before s)))) (sym is_true)
-        (made_by t q before true (quad_of a) (spare + p.bonus) (changed a) (λ _. Unit {0}) (λ before. leads i a c before true) refl refl small tt (field_stored before (address % 8) bytes value small within) h))
+        let q = request_for m a in (
+          p.bonus,
+          few,
+          subst (λ s. MadeBy t (entry_by q before s) (λ u. Owed_at None (spare + p.bonus) u (place_of setting m (leads i a c before s)))) (sym is_true)
+              (made_by t q before true (quad_of a) (spare + p.bonus) (changed a) (λ _. Unit {0}) (λ before. leads i a c before true) refl refl small tt (field_stored before (address % 8) bytes value small within) h),
+        )
 
     conditionals : (address bytes value quad found place : ℕ) (i : AlphaInstr) (c : Alpha) (spare : ℕ) (t : Tree) (before : ℕ) (success : Bool) → address % 8 + bytes ≤ 8 → before < 2 ^ 64
         → (success ≡ true → before ≡ found)
         → let a = an_access alpha.StoreConditional address bytes value in
-          Made (wants t) (quad_of a) (changed a) (λ before. before ≡ found) (λ before u. block.Onward p (Ever p) Plain (spare + p.bonus) (leads i a c before true) u)
+        Made (wants t) (quad_of a) (changed a) (λ before. before ≡ found) (λ before u. block.Onward p (Ever p) Plain (spare + p.bonus) (leads i a c before true) u)
         → ((before : ℕ) → before < 2 ^ 64 → block.Onward p (Ever p) (Failed place) (spare + 16) (leads i a c before false) t)
         → OwedBehind setting.meaning.pages (Owes b held) (IsForm setting) spare t (entry_by (request_for m a) before success) (place_of setting m (leads i a c before success))
     conditionals address bytes value quad found place i c spare t before true within small same h lost =
@@ -246,7 +252,7 @@ module _ (setting : Setting) (thread : ℕ) (sound : IsSound setting.meaning) (r
 
     access_owed : (kind : AlphaKind) (phase : Phase) (address bytes value : ℕ) (i : AlphaInstr) (c : Alpha) (spare : ℕ) (t : Tree) → address % 8 + bytes ≤ 8
         → let a = an_access kind address bytes value in
-          Accesses kind phase c.pc (wants t) (quad_of a) (changed a) (leads i a c) p.bonus spare t (block.Onward p (Ever p))
+        Accesses kind phase c.pc (wants t) (quad_of a) (changed a) (leads i a c) p.bonus spare t (block.Onward p (Ever p))
         → OwedAccess setting.meaning.pages (Owes b held) (IsForm setting) retired (phase_lock phase) spare t (request_for m a) (λ before success. place_of setting m (leads i a c before success))
     access_owed alpha.Load Plain address bytes value i c spare t within h = record {
       same = refl;
@@ -265,9 +271,9 @@ module _ (setting : Setting) (thread : ℕ) (sound : IsSound setting.meaning) (r
       paired = tt;
       alpha = tt;
       behind = λ before success fair.
-        let a = an_access alpha.LoadLocked address bytes value in
-        subst (λ s. Owed_at (Some (record { quad = quad_of a; found = before })) spare t (place_of setting m (leads i a c before s))) (sym (fair.others refl))
-        (inside (leads i a c before true) (Held (quad_of a) before c.pc) (Some (record { quad = quad_of a; found = before })) spare t refl (h before fair.small));
+          let a = an_access alpha.LoadLocked address bytes value in
+          subst (λ s. Owed_at (Some (record { quad = quad_of a; found = before })) spare t (place_of setting m (leads i a c before s))) (sym (fair.others refl))
+          (inside (leads i a c before true) (Held (quad_of a) before c.pc) (Some (record { quad = quad_of a; found = before })) spare t refl (h before fair.small));
     }
     access_owed alpha.StoreConditional (Held quad found first_word) address bytes value i c spare t within h = record {
       same = refl;
@@ -346,11 +352,11 @@ module _ (setting : Setting) (thread : ℕ) (sound : IsSound setting.meaning) (r
             paired = tt;
             alpha = tt;
             behind = λ before success fair. (
-                0,
-                omega arith,
-                subst (λ x. MadeBy x (entry_by q before success) (λ u. Owed_at None (spare + 0) u (behind setting m c c.regs))) (sym asks.is)
-                (λ fits. ((refl, byte), subst (λ n. Owed_at None n (asks.next 0) (behind setting m c c.regs)) no_more (stays_owed (asks.next 0) (same_ends (asks.next 0) (Finish s) (asks.same 0 refl)) on)))
-              );
+              0,
+              omega arith,
+              subst (λ x. MadeBy x (entry_by q before success) (λ u. Owed_at None (spare + 0) u (behind setting m c c.regs))) (sym asks.is)
+                  (λ fits. ((refl, byte), subst (λ n. Owed_at None n (asks.next 0) (behind setting m c c.regs)) no_more (stays_owed (asks.next 0) (same_ends (asks.next 0) (Finish s) (asks.same 0 refl)) on))),
+            );
           }
 
       get_owed : (t : Tree) → Same t (Ask (record { address = 0; count = 0; kind = Get }) (λ reply. Ends (Finish (with_register 0 (reply % 2 ^ 32) s)))) → After
@@ -365,15 +371,14 @@ module _ (setting : Setting) (thread : ℕ) (sound : IsSound setting.meaning) (r
             paired = tt;
             alpha = tt;
             behind = λ before success fair.
-              let small : before < 2 ^ 32 = longword_of before (fair.input refl) in
-              let kept : before % 2 ^ 32 ≡ before = omega (arith, small) in
-              let ended : asks.next before ≡ Ends (Finish (with_register 0 before s)) = same_ends (asks.next before) (Finish (with_register 0 (before % 2 ^ 32) s)) (asks.same before (fair.input refl)) ∙ ap (λ n. Ends (Finish (with_register 0 n s))) kept in
-              (
-                0,
-                omega arith,
-                subst (λ x. MadeBy x (entry_by q before success) (λ u. Owed_at None (spare + 0) u (behind setting m c (with_r0 c.regs before)))) (sym asks.is)
-                (λ fits. (refl, subst (λ n. Owed_at None n (asks.next before) (behind setting m c (with_r0 c.regs before))) no_more (r0_owed (asks.next before) before small ended on)))
-              );
+                let small : before < 2 ^ 32 = longword_of before (fair.input refl) in
+                let kept : before % 2 ^ 32 ≡ before = omega (arith, small) in
+                let ended : asks.next before ≡ Ends (Finish (with_register 0 before s)) = same_ends (asks.next before) (Finish (with_register 0 (before % 2 ^ 32) s)) (asks.same before (fair.input refl)) ∙ ap (λ n. Ends (Finish (with_register 0 n s))) kept in (
+                  0,
+                  omega arith,
+                  subst (λ x. MadeBy x (entry_by q before success) (λ u. Owed_at None (spare + 0) u (behind setting m c (with_r0 c.regs before)))) (sym asks.is)
+                      (λ fits. (refl, subst (λ n. Owed_at None n (asks.next before) (behind setting m c (with_r0 c.regs before))) no_more (r0_owed (asks.next before) before small ended on))),
+                );
           }
 
       moves_owed : (t : Tree) (value : ℕ) → value < 2 ^ 32 → Same t (Ends (Finish (with_register 0 value s))) → After → OwedNext setting.meaning.pages (Owes b held) (IsForm setting) retired None spare t (Moves (behind setting m c (with_r0 c.regs value)))
@@ -381,14 +386,14 @@ module _ (setting : Setting) (thread : ℕ) (sound : IsSound setting.meaning) (r
 
       serve_owed : (t : Tree) (one two three four : Bool)
           → Same t (if one then Ends (Exit s) else if two then Ask (record { address = 0; count = 0; kind = Put (register 0 s % 256) }) (λ _. Ends (Finish s))
-            else if three then Ask (record { address = 0; count = 0; kind = Get }) (λ reply. Ends (Finish (with_register 0 (reply % 2 ^ 32) s)))
-            else if four then Ends (Finish (with_register 0 thread s)) else Ends (Finish (with_register 0 0 s)))
+          else if three then Ask (record { address = 0; count = 0; kind = Get }) (λ reply. Ends (Finish (with_register 0 (reply % 2 ^ 32) s)))
+          else if four then Ends (Finish (with_register 0 thread s)) else Ends (Finish (with_register 0 0 s)))
           → After
           → OwedNext setting.meaning.pages (Owes b held) (IsForm setting) retired None spare t
-            (if one then Moves (Leaves (Comes (Exit s)))
-            else if two then Wants (record { processor = thread; retired = retired; kind = kinds.Put; quad = 0; change = changes.Byte (c.regs 0 % 256) }) (λ before success. behind setting m c c.regs)
-            else if three then Wants (record { processor = thread; retired = retired; kind = kinds.Get; quad = 0; change = changes.Nothing }) (λ before success. behind setting m c (with_r0 c.regs before))
-            else if four then Moves (behind setting m c (with_r0 c.regs thread)) else Moves (behind setting m c (with_r0 c.regs 0)))
+          (if one then Moves (Leaves (Comes (Exit s)))
+          else if two then Wants (record { processor = thread; retired = retired; kind = kinds.Put; quad = 0; change = changes.Byte (c.regs 0 % 256) }) (λ before success. behind setting m c c.regs)
+          else if three then Wants (record { processor = thread; retired = retired; kind = kinds.Get; quad = 0; change = changes.Nothing }) (λ before success. behind setting m c (with_r0 c.regs before))
+          else if four then Moves (behind setting m c (with_r0 c.regs thread)) else Moves (behind setting m c (with_r0 c.regs 0)))
       serve_owed t true two three four same on = ends_owed t (Exit s) (Exit s) spare (same_ends t (Exit s) same) refl
       serve_owed t false true three four same on = put_owed t same on
       serve_owed t false false true four same on = get_owed t same on
@@ -399,7 +404,7 @@ module _ (setting : Setting) (thread : ℕ) (sound : IsSound setting.meaning) (r
         → OwedNext setting.meaning.pages (Owes b held) (IsForm setting) retired (phase_lock phase) spare t (called setting m call point c)
     called_owed lt Probe (Some point) Plain (Check address count write tree) c spare h =
         let same : first_bad setting.meaning.pages point.write (probe_address c.regs) (probe_count point c.regs) ≡ first_bad setting.meaning.pages write address count =
-            sym (ap (λ w. first_bad setting.meaning.pages w address count) h.2 ∙ ap (λ a. first_bad setting.meaning.pages point.write a count) h.0 ∙ ap (λ n. first_bad setting.meaning.pages point.write (probe_address c.regs) n) h.1) in
+        sym (ap (λ w. first_bad setting.meaning.pages w address count) h.2 ∙ ap (λ a. first_bad setting.meaning.pages point.write a count) h.0 ∙ ap (λ n. first_bad setting.meaning.pages point.write (probe_address c.regs) n) h.1) in
         probe_owed point address count write tree c spare h.0 h.1 h.2 h.3 (first_bad setting.meaning.pages point.write (probe_address c.regs) (probe_count point c.regs)) (sym same)
     called_owed lt Raise (Some point) Plain (Fault x) c spare h = raise_owed (raised_at point.raises) x c spare h
     called_owed lt Arithmetic (Some point) Plain (Ends (Trap kind state)) c spare h =
@@ -428,9 +433,9 @@ module _ (setting : Setting) (thread : ℕ) (sound : IsSound setting.meaning) (r
 
     acts_owed : thread < 256 → (i : AlphaInstr) (phase : Phase) (t : Tree) (c : Alpha) (spare : ℕ) (what : Does) → act i c ≡ what
         → Acts what i (terms_of p) phase spare c (wants t) t
-          (λ d. block.Lands (p.stops d.pc) (p.points d.pc) phase t p d.regs (Forth phase p.first c.pc d.pc × Ever p (phase_after phase c.pc d.pc) spare d t))
-          (λ number. Called (call_of number) (p.points c.pc) phase t p c (λ d u. block.Onward p (Ever p) Plain spare d u))
-          (block.Onward p (Ever p))
+        (λ d. block.Lands (p.stops d.pc) (p.points d.pc) phase t p d.regs (Forth phase p.first c.pc d.pc × Ever p (phase_after phase c.pc d.pc) spare d t))
+        (λ number. Called (call_of number) (p.points c.pc) phase t p c (λ d u. block.Onward p (Ever p) Plain spare d u))
+        (block.Onward p (Ever p))
         → OwedNext setting.meaning.pages (Owes b held) (IsForm setting) retired (phase_lock phase) spare t (does setting m i what c)
     acts_owed lt i phase t c spare (Goes d) is h = (t, Here, goes_to c.pc d phase t spare (address_at setting.code.map d.pc) refl h)
     acts_owed lt i phase t c spare (Calls number) is h = called_owed lt (call_of number) (point_at setting.code.points c.pc) phase t c spare h
@@ -442,9 +447,9 @@ module _ (setting : Setting) (thread : ℕ) (sound : IsSound setting.meaning) (r
 
     step_owed : thread < 256 → (o : Option AlphaInstr) (phase : Phase) (t : Tree) (c : Alpha) (spare : ℕ)
         → Steps o (terms_of p) phase spare c (wants t) t
-          (λ d. block.Lands (p.stops d.pc) (p.points d.pc) phase t p d.regs (Forth phase p.first c.pc d.pc × Ever p (phase_after phase c.pc d.pc) spare d t))
-          (λ number. Called (call_of number) (p.points c.pc) phase t p c (λ d u. block.Onward p (Ever p) Plain spare d u))
-          (block.Onward p (Ever p))
+        (λ d. block.Lands (p.stops d.pc) (p.points d.pc) phase t p d.regs (Forth phase p.first c.pc d.pc × Ever p (phase_after phase c.pc d.pc) spare d t))
+        (λ number. Called (call_of number) (p.points c.pc) phase t p c (λ d u. block.Onward p (Ever p) Plain spare d u))
+        (block.Onward p (Ever p))
         → OwedNext setting.meaning.pages (Owes b held) (IsForm setting) retired (phase_lock phase) spare t (next_by setting m o c)
     step_owed lt None phase t c spare h = absurd h
     step_owed lt (Some i) phase t c spare h = acts_owed lt i phase t c spare (act i c) refl h
@@ -457,10 +462,9 @@ module _ (setting : Setting) (thread : ℕ) (sound : IsSound setting.meaning) (r
   pub opens : thread < 256 → (retired : ℕ) (b : VaxState) (held : Flags) (lock : Option Lock) (spare : ℕ) (c : Alpha) (t : Tree) → Owes b held lock spare c t
       → (0 < spare) × OwedNext setting.meaning.pages (Owes b held) (IsForm setting) retired lock (spare - 1) t (next setting (moment_at thread retired b held) c)
   opens lt retired b held lock spare c t o =
-      let one = open_follows (placed setting.meaning setting.code thread b held o.first) o.phase spare c t o.ever in
-      (
-      one.2,
-      subst (λ n. OwedNext setting.meaning.pages (Owes b held) (IsForm setting) retired lock (spare - 1) t n) (sym (next_is (moment_at thread retired b held) c))
-      (subst (λ l. OwedNext setting.meaning.pages (Owes b held) (IsForm setting) retired l (spare - 1) t (next_by setting (moment_at thread retired b held) (fetch_of setting.code.words c.pc) c)) o.is_lock
-      (step_owed b held retired o.first lt (fetch_of setting.code.words c.pc) o.phase t c (spare - 1) one.3))
+      let one = open_follows (placed setting.meaning setting.code thread b held o.first) o.phase spare c t o.ever in (
+        one.2,
+        subst (λ n. OwedNext setting.meaning.pages (Owes b held) (IsForm setting) retired lock (spare - 1) t n) (sym (next_is (moment_at thread retired b held) c))
+            (subst (λ l. OwedNext setting.meaning.pages (Owes b held) (IsForm setting) retired l (spare - 1) t (next_by setting (moment_at thread retired b held) (fetch_of setting.code.words c.pc) c)) o.is_lock
+            (step_owed b held retired o.first lt (fetch_of setting.code.words c.pc) o.phase t c (spare - 1) one.3)),
       )

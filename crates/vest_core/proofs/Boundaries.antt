@@ -1,17 +1,15 @@
 -- Boundaries: registers set from a state show it, and a mapped boundary begins a block.
-use Rattle.std.proofs.Common.{◌≡◌, ℕ, zero, suc, ◌<◌, ◌≤◌, ◌+◌, ◌-◌, ◌*◌, ◌/◌, ◌%◌, ◌^◌, ◌==◌, Bool, true, false, if◌then◌else◌, List, [], ◌∷◌, length, Option, Some, None, refl, sym, ap, ◌∙◌, subst, arith, lit<, All, ltb-true}
-use Rattle.std.specs.Prelude.{nat_lt, map, slice_index, slice_index_or}
+use Rattle.std.proofs.Common.{◌≡◌, ℕ, zero, suc, ◌<◌, ◌≤◌, ◌+◌, ◌-◌, ◌*◌, ◌/◌, ◌%◌, ◌^◌, ◌==◌, Bool, true, false, if◌then◌else◌, List, [], ◌∷◌, length, Option, Some, None, refl, sym, ap, ◌∙◌, arith, lit<, All}
+use Rattle.std.specs.Prelude.{nat_lt, map, slice_index}
 use Rattle.std.specs.List.{list_any}
 use Rattle.std.proofs.lemmas.Bool.Decides.{nat_tests}
 use Rattle.vt_words.specs.Quad.{sign_extended}
 use Rattle.vt_words.specs.Values.{bit}
-use Rattle.address_map.specs.Pairs.{Pair, word_at}
+use Rattle.address_map.specs.Pairs.{word_at}
 use Rattle.alpha_meaning.specs.Pieces.{Plain}
-use Rattle.alpha_meaning.specs.State.{Alpha, Regs, at_place}
+use Rattle.alpha_meaning.specs.State.{Regs, at_place}
 use Rattle.exception_records.specs.Codes.{codes_by}
-use Rattle.exception_records.specs.Points.{point_at}
-use Rattle.exception_records.specs.Shown.{registers_shown, code_shown, codes_shown, is_set, psw_with, psw_shown, Shows}
-use Rattle.exception_records.specs.declared.points.Point.{Point}
+use Rattle.exception_records.specs.Shown.{registers_shown, code_shown, is_set, psw_shown}
 use Rattle.exception_records.specs.declared.rules.CodeRule.{CodeRule}
 use Rattle.exception_records.specs.declared.rules.CodeRule.TheVariants.{Ready, Zero, Result, Add, Sub, Compare}
 use Rattle.exception_records.specs.declared.rules.Rules.{Rules}
@@ -19,8 +17,9 @@ use Rattle.vax_form.specs.State.{IsState, with_core}
 use Rattle.vax_form.specs.declared.state.Flags.{Flags}
 use Rattle.vax_form.specs.declared.state.VaxState.{VaxState}
 use Rattle.block_law.specs.Placements.{InForm}
-use Rattle.block_law.specs.Translations.{IsBlock, Meets}
-use Rattle.system_model.specs.Settings.{Setting, covers, goes_on}
+use Rattle.block_law.specs.Translations.{Meets}
+use Rattle.system_model.specs.Settings.{Setting, goes_on}
+use Rattle.system_model.specs.Ranges.{covers}
 use Rattle.system_model.specs.Processors.{all_held, registers_of}
 use Rattle.vest_core.specs.Sound.{IsSound}
 use Rattle.vest_core.proofs.Blocks.{IsForm, Owes}

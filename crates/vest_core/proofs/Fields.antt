@@ -1,7 +1,7 @@
 -- Fields of quadwords, as changes of memory.
-use Rattle.std.proofs.Common.{◌≡◌, ◌≢◌, ℕ, zero, suc, ◌<◌, ◌≤◌, ◌+◌, ◌-◌, ◌*◌, ◌/◌, ◌%◌, ◌^◌, ◌==◌, ◌||◌, Bool, true, false, if◌then◌else◌, refl, sym, ap, ◌∙◌, subst, arith, lit<, ⊎_elim, bit_and, bit_or}
+use Rattle.std.proofs.Common.{◌≡◌, ℕ, zero, suc, ◌<◌, ◌≤◌, ◌+◌, ◌-◌, ◌*◌, ◌/◌, ◌%◌, ◌^◌, ◌==◌, Bool, true, false, if◌then◌else◌, refl, sym, ap, ◌∙◌, subst, arith, lit<, ⊎_elim, bit_and, bit_or}
 use Rattle.std.proofs.lemmas.Bool.Decides.{nat_tests}
-use Rattle.std.proofs.lemmas.Nat.{or_lt, or_shr, or_mod, and_shr, and_mod, and_le_l, and_le_r, pow-add, pow_below, pow_pos, shl-shr, mod_below}
+use Rattle.std.proofs.lemmas.Nat.{or_lt, and_le_l, and_le_r, pow-add, pow_below, pow_pos, shl-shr, mod_below}
 use Rattle.std.proofs.lemmas.Nat.Bits.{bit_at-lt}
 use Rattle.std.specs.Int.{bit_at, byte_at}
 use Rattle.std.specs.Int.Bits.{or_zero_l, or_zero_r}
@@ -10,7 +10,7 @@ use Rattle.vt_words.proofs.Laws.{byte_of_or, byte_of_and, byte_of_kept, byte_of_
 use Rattle.vt_words.proofs.Fields.{IsRun, run_of, replaced_run}
 use Rattle.vt_words.proofs.Spreads.{bit_cases}
 use Rattle.memory_core.specs.Bytes.{with_bytes, word_at}
-use Rattle.memory_core.specs.Changes.{changed, touches}
+use Rattle.memory_core.specs.Changes.{changed}
 use Rattle.memory_core.specs.declared.entry.Change.{Change}
 use Rattle.memory_core.specs.declared.entry.Change.TheVariants as changes
 use Rattle.memory_core.proofs.Neighbours.{below_8, byte_at-with_bytes, others_stay}

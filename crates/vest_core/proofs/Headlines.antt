@@ -1,5 +1,5 @@
 -- A legal history has the headline.
-use Rattle.std.proofs.Common.{◌≡◌, ◌≢◌, ℕ, zero, suc, ◌<◌, ◌≤◌, ◌+◌, ◌*◌, ◌^◌, Bool, true, false, if◌then◌else◌, List, [], ◌∷◌, ◌++◌, length, Option, Some, None, refl, sym, ap, ◌∙◌, subst, arith, lit<, ◌⊎◌, inl, inr, ⊎_elim, All}
+use Rattle.std.proofs.Common.{◌≡◌, ◌≢◌, ℕ, zero, suc, ◌<◌, ◌≤◌, ◌+◌, ◌^◌, false, if◌then◌else◌, List, [], ◌∷◌, ◌++◌, length, Option, Some, None, refl, sym, ap, ◌∙◌, subst, arith, lit<, ⊎_elim, All}
 use Rattle.std.specs.Prelude.{map, option_map, slice_get, replicate}
 use Rattle.std.proofs.lemmas.List.Elements.{All-nil, All-cons}
 use Rattle.image_file.specs.Start.{start_state}
@@ -12,24 +12,19 @@ use Rattle.vax_form.specs.Tree.{Retired}
 use Rattle.vax_form.specs.declared.state.VaxState.{VaxState}
 use Rattle.vax_form.proofs.GrammarFinds.{option_map-some}
 use Rattle.vax_driven.specs.declared.ThreadRun.{ThreadRun}
-use Rattle.vax_driven.specs.Made.{Made, replies_to}
-use Rattle.vax_driven.specs.Threads.{Threads, reached, thread_run}
-use Rattle.vax_driven.specs.Driven.{Driven, run_before, runs_from, ended, driven_on, driven}
-use Rattle.history_order.specs.Counted.{order}
+use Rattle.vax_driven.specs.Made.{replies_to}
+use Rattle.vax_driven.specs.Threads.{Threads, reached}
+use Rattle.vax_driven.specs.Driven.{run_before, runs_from, ended, driven_on}
 use Rattle.history_order.specs.Explained.{replies_by, Explained}
 use Rattle.history_order.specs.OneHistory.{world_of, IsDriven}
 use Rattle.history_order.proofs.Histories.{one_history}
 use Rattle.block_law.specs.Translations.{Meets}
-use Rattle.system_model.specs.declared.translation.End.{End}
-use Rattle.system_model.specs.declared.translation.End.TheVariants as ends
 use Rattle.system_model.specs.Settings.{Setting}
-use Rattle.system_model.specs.Processors.{Mode, New, Runs, Interprets, Ended, Processor, Turn, Lost, begun, turn, Reaches}
-use Rattle.system_model.specs.Legal.{starts, spent, IsGoing, IsSpent, IsReached, IsLegal}
-use Rattle.vest_core.specs.Headline.{Claims, IsShown, HasTies, HasFewSteps, HasFewEntries, Facts}
-use Rattle.vest_core.specs.Interpreted.{threads_of, AllMadeIn, ties_of, ties_in, end_in, has_raised, ties_open}
-use Rattle.vest_core.specs.Judged.{AllPaired, counted_in, failed_in}
-use Rattle.vest_core.specs.Law.{IsRun, IsKept, HasHeadline, LegalHasHeadline}
-use Rattle.vest_core.specs.Own.{HasBytes, AllFair}
+use Rattle.system_model.specs.Processors.{Mode, New, Runs, Interprets, Ended, Processor, Lost, begun, turn, Reaches}
+use Rattle.system_model.specs.Legal.{starts, spent, IsGoing, IsReached, IsLegal}
+use Rattle.vest_core.specs.Headline.{Claims, IsShown, HasTies, HasFewEntries, Facts}
+use Rattle.vest_core.specs.Interpreted.{threads_of, ties_of, ties_in, end_in, has_raised}
+use Rattle.vest_core.specs.Law.{IsRun, HasHeadline, LegalHasHeadline}
 use Rattle.vest_core.specs.Sound.{IsSound}
 use Rattle.vest_core.proofs.Blocks.{Owes, IsForm, opens}
 use Rattle.vest_core.proofs.Boundaries.{fresh, enter}
@@ -181,17 +176,17 @@ module _ (setting : Setting) (set_up : SetUp) (budget : ℕ) (entries : List Ent
     runs = all_runs.runs;
     driven = ap (driven_on (world_of threads set_up) (map (λ (p : Processor). p.retired) processors)) whole.walked ∙ ap (ended whole.made) all_runs.are;
     each = λ thread p run a b.
-      let f = each_facts thread p a in
-      let r = all_runs.each thread p run a b in
-      record {
-        shown = r.0;
-        ends = r.1;
-        ties = subst (λ w. HasTies setting begin thread w p) (sym (whole.replies thread)) f.ties;
-        kinds = f.kinds;
-        goes_on = f.goes_on;
-        steps = f.steps;
-        paired = f.paired;
-      };
+        let f = each_facts thread p a in
+        let r = all_runs.each thread p run a b in
+        record {
+          shown = r.0;
+          ends = r.1;
+          ties = subst (λ w. HasTies setting begin thread w p) (sym (whole.replies thread)) f.ties;
+          kinds = f.kinds;
+          goes_on = f.goes_on;
+          steps = f.steps;
+          paired = f.paired;
+        };
     few_entries = all_entries (length processors) entries legal.known (λ t. few_by t (slice_get processors t) refl);
   }
 

@@ -1,13 +1,12 @@
 -- What the order of accesses tells each processor of its own entries.
-use Rattle.std.proofs.Common.{◌≡◌, ℕ, zero, suc, ◌+◌, ◌<◌, ◌^◌, ◌==◌, ◌&&◌, ◌⊎◌, inl, inr, Bool, true, false, if◌then◌else◌, List, [], ◌∷◌, Option, Some, None, refl, sym, ap, ◌∙◌, subst, arith, All, slice_index_or}
-use Rattle.std.proofs.lemmas.Bool.Decides.{nat_tests}
+use Rattle.std.proofs.Common.{◌≡◌, ℕ, zero, suc, ◌<◌, ◌^◌, ◌==◌, ◌⊎◌, inl, inr, Bool, true, false, if◌then◌else◌, List, [], ◌∷◌, Option, Some, None, refl, sym, ap, ◌∙◌, subst, arith, All}
 use Rattle.memory_core.specs.declared.entry.Kind.{Kind}
-use Rattle.memory_core.specs.declared.entry.Kind.TheVariants.{Load, LoadLocked, Store, StoreConditional, TieRead, TieWrite, TieLocked, Put, Get}
+use Rattle.memory_core.specs.declared.entry.Kind.TheVariants.{LoadLocked, StoreConditional, Put, Get}
 use Rattle.memory_core.specs.declared.entry.Entry.{Entry}
 use Rattle.memory_core.specs.declared.entry.SetUp.{SetUp}
-use Rattle.memory_core.specs.Kinds.{is_memory, is_conditional, is_get}
-use Rattle.memory_core.specs.Order.{own, left_by, reserved, block_of, strikes, tries, succeeds, gets, input_at, found, Fits, Meets}
-use Rattle.memory_core.proofs.Choices.{same_number, if_true, if_false}
+use Rattle.memory_core.specs.Kinds.{is_conditional}
+use Rattle.memory_core.specs.Order.{own, gets, input_at, found, Meets}
+use Rattle.memory_core.proofs.Choices.{same_number, if_false}
 use Rattle.memory_core.proofs.LookingBack.{pairs_agree}
 use Rattle.vest_core.specs.Own.{HasBytes, Lock, lock_by, lock_of, FindsLocked, IsFair, AllFair}
 use Rattle.vest_core.proofs.Quads.{left-lt}
@@ -52,12 +51,12 @@ module _ (set_up : SetUp) (bytes : HasBytes set_up) where
 
   fair_entry : (past : List Entry) (e : Entry) → Meets set_up (e ∷ past) → IsFair e.kind (lock_of (own e.processor past)) e.quad e.before e.success
   fair_entry past e m = let f = m.1 in record {
-      small = subst (λ n. n < 2 ^ 64) (sym f.before) (found-lt past m.0 e.kind e.quad);
-      others = λ k. f.success ∙ if_false (is_conditional e.kind) _ true k;
-      locked = λ k s. finds past e m (conditional e.kind k) s (own e.processor past) refl (lock_of (own e.processor past)) refl;
-      input = λ k. subst (λ n. (n < 256) ⊎ (n ≡ 0xFFFFFFFF)) (sym (f.before ∙ ap (λ (k : Kind). found set_up past k e.quad) k)) (input-within set_up.input (gets past) bytes.input);
-      output = λ k. f.before ∙ ap (λ (k : Kind). found set_up past k e.quad) k;
-    }
+    small = subst (λ n. n < 2 ^ 64) (sym f.before) (found-lt past m.0 e.kind e.quad);
+    others = λ k. f.success ∙ if_false (is_conditional e.kind) _ true k;
+    locked = λ k s. finds past e m (conditional e.kind k) s (own e.processor past) refl (lock_of (own e.processor past)) refl;
+    input = λ k. subst (λ n. (n < 256) ⊎ (n ≡ 0xFFFFFFFF)) (sym (f.before ∙ ap (λ (k : Kind). found set_up past k e.quad) k)) (input-within set_up.input (gets past) bytes.input);
+    output = λ k. f.before ∙ ap (λ (k : Kind). found set_up past k e.quad) k;
+  }
 
   pub all_fair : (h : List Entry) → Meets set_up h → (t : ℕ) → AllFair (own t h)
   all_fair [] m t = tt

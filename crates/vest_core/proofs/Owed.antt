@@ -1,10 +1,10 @@
 -- What is owed of each step of Alpha code, for a judgement on what is still to be done.
-use Rattle.std.proofs.Common.{◌≡◌, ℕ, zero, suc, ◌+◌, ◌-◌, ◌*◌, ◌<◌, ◌≤◌, Bool, true, false, if◌then◌else◌, List, [], ◌∷◌, ◌++◌, Option, Some, None, refl, sym, ap, ◌∙◌, subst, arith}
+use Rattle.std.proofs.Common.{◌≡◌, ℕ, ◌+◌, ◌≤◌, Bool, false, if◌then◌else◌, [], Option, None}
 use Rattle.std.specs.Prelude.{MatchBool}
 use Rattle.alpha_meaning.specs.State.{Alpha, Regs}
 use Rattle.memory_core.specs.declared.entry.Entry.{Entry}
 use Rattle.memory_core.specs.declared.entry.Kind.{Kind}
-use Rattle.memory_core.specs.declared.entry.Kind.TheVariants.{LoadLocked, StoreConditional}
+use Rattle.memory_core.specs.declared.entry.Kind.TheVariants.{StoreConditional}
 use Rattle.memory_core.specs.declared.entry.Request.{Request}
 use Rattle.memory_core.specs.Kinds.{is_memory}
 use Rattle.vax_form.specs.Tree.{Tree, Check, Ask, Fault, Ends, Ending, Finish, Answer, answer}
@@ -14,7 +14,7 @@ use Rattle.vax_form.specs.declared.state.Flags.{Flags}
 use Rattle.vax_form.specs.declared.state.VaxState.{VaxState}
 use Rattle.system_model.specs.Processors.{entry_by}
 use Rattle.system_model.specs.Steps.{Last, Comes, Fails, Place, Inside, Lands, Leaves, Next, Moves, Wants, Stuck}
-use Rattle.history_order.specs.Counted.{counts, is_counted}
+use Rattle.history_order.specs.Counted.{is_counted}
 use Rattle.vest_core.specs.Interpreted.{IsAlpha}
 use Rattle.vest_core.specs.Judged.{Paired, MadeBy}
 use Rattle.vest_core.specs.Own.{Lock, lock_by, IsFair}
@@ -40,8 +40,8 @@ module _ (pages : Pages) (Owes : Option Lock → (spare : ℕ) → Alpha → Tre
   abbrev pub OwedBehind : (spare : ℕ) → Tree → Entry → Place → Type 0
   OwedBehind spare t e place =
       MatchBool (is_counted e)
-        ((more : ℕ) × (more ≤ 256) × MadeBy t e (λ u. OwedPlace (lock_by e.kind e.quad e.before) (spare + more) u place))
-        (OwedPlace (lock_by e.kind e.quad e.before) (more_by e.kind e.success spare) t place)
+      ((more : ℕ) × (more ≤ 256) × MadeBy t e (λ u. OwedPlace (lock_by e.kind e.quad e.before) (spare + more) u place))
+      (OwedPlace (lock_by e.kind e.quad e.before) (more_by e.kind e.success spare) t place)
 
   pub record OwedAccess (retired : ℕ) (lock : Option Lock) (spare : ℕ) (t : Tree) (request : Request) (on : ℕ → Bool → Place) : Type 0 where
     pub same : request.retired ≡ retired

@@ -1,14 +1,11 @@
 -- Paths in the tree of an instruction: the replies taken and the checks passed.
-use Rattle.std.proofs.Common.{◌≡◌, ℕ, zero, suc, ◌+◌, Bool, true, false, if◌then◌else◌, List, [], ◌∷◌, ◌++◌, Option, Some, None, refl, sym, ap, ◌∙◌, subst, append_assoc}
+use Rattle.std.proofs.Common.{◌≡◌, ℕ, suc, Bool, List, [], ◌∷◌, ◌++◌, Option, Some, None, refl, sym, ap, ◌∙◌, subst}
 use Rattle.std.proofs.lemmas.List.{append-nil}
 use Rattle.vax_form.specs.Pages.{first_bad}
-use Rattle.vax_form.specs.State.{IsState, Answers}
-use Rattle.vax_form.specs.Tree.{Tree, Check, Ask, Fault, Ends, Ending, Finish, Exit, Trap, Answer, Wants, Fails, Comes, answer, unless_bad, Life, Runs, Exited, Trapped, Retired, retires}
+use Rattle.vax_form.specs.State.{IsState}
+use Rattle.vax_form.specs.Tree.{Tree, Check, Ask, Fault, Ends, Ending, Wants, Fails, Comes, answer, unless_bad}
 use Rattle.vax_form.specs.declared.pages.Pages.{Pages}
-use Rattle.vax_form.specs.declared.state.VaxState.{VaxState}
 use Rattle.vax_form.specs.declared.state.Reference.{Reference}
-use Rattle.vax_form.specs.declared.state.Exception.{Exception}
-use Rattle.vax_form.specs.declared.state.Exception.TheVariants.{AccessViolation}
 use Rattle.vest_core.specs.Interpreted.{made_in, unless}
 use Rattle.vest_core.specs.Ranges.{IsInRange, ending_state}
 

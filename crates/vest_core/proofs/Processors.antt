@@ -1,41 +1,37 @@
 -- Each processor's own entries are those of its thread.
-use Rattle.std.proofs.Common.{◌≡◌, ◌≢◌, ℕ, zero, suc, ◌+◌, ◌-◌, ◌*◌, ◌<◌, ◌≤◌, Bool, true, false, if◌then◌else◌, List, [], ◌∷◌, ◌++◌, Option, Some, None, refl, sym, ap, ◌∙◌, subst, arith, length}
+use Rattle.std.proofs.Common.{◌≡◌, ◌≢◌, ℕ, suc, ◌+◌, ◌-◌, ◌*◌, ◌<◌, ◌≤◌, Bool, true, false, if◌then◌else◌, List, [], ◌∷◌, ◌++◌, Option, Some, None, refl, sym, ap, ◌∙◌, subst, arith, length}
 use Rattle.std.specs.Prelude.{MatchBool}
 use Rattle.alpha_meaning.specs.State.{Alpha, Regs, at_place}
 use Rattle.memory_core.specs.declared.entry.Entry.{Entry}
 use Rattle.memory_core.specs.declared.entry.Kind.{Kind}
-use Rattle.memory_core.specs.declared.entry.Kind.TheVariants.{Load, LoadLocked, Store, StoreConditional, TieRead, TieWrite, TieLocked, Put, Get}
+use Rattle.memory_core.specs.declared.entry.Kind.TheVariants.{LoadLocked, StoreConditional}
 use Rattle.memory_core.specs.declared.entry.Request.{Request}
 use Rattle.memory_core.specs.Changes.{leaves}
-use Rattle.memory_core.specs.Kinds.{is_memory}
 use Rattle.vax_form.specs.State.{IsState, register}
 use Rattle.vax_form.specs.Tree.{Tree, Check, Ask, Fault, Ends, Ending, Finish, Exit, Trap, Answer, answer, Life, Exited, Trapped, Retired, retires}
 use Rattle.vax_form.specs.Tree as trees
-use Rattle.vax_form.specs.declared.pages.Pages.{Pages}
-use Rattle.vax_form.specs.declared.state.Exception.{Exception}
-use Rattle.vax_form.specs.declared.state.Exception.TheVariants.{Arithmetic}
 use Rattle.vax_form.specs.declared.state.Flags.{Flags}
 use Rattle.vax_form.specs.declared.state.Reference.{Reference}
 use Rattle.vax_form.specs.declared.state.VaxState.{VaxState}
 use Rattle.vax_driven.specs.declared.ThreadRun.{ThreadRun}
-use Rattle.vax_driven.specs.Threads.{Threads, after_start, reached, wanted, run_in, run_at, fault_of, thread_run}
+use Rattle.vax_driven.specs.Threads.{Threads, after_start, wanted, run_at, fault_of, thread_run}
 use Rattle.system_model.specs.declared.translation.End.{End}
 use Rattle.system_model.specs.declared.translation.End.TheVariants as ends
 use Rattle.system_model.specs.Settings.{Setting, goes_on}
 use Rattle.system_model.specs.Steps.{Last, Comes, Fails, Place, Inside, Lands, Leaves, Next, Moves, Wants, Stuck, Moment, next}
-use Rattle.system_model.specs.Processors.{Mode, New, Runs, Interprets, Ended, Processor, all_held, registers_of, mode_by, mode_at, begun, stepped, tied, arrived, left, placed, Turn, Went, Asks, Over, Lost, alpha_turn, kind_by, request_of, reply_of, tie_turn, turn_in, mode_of, turn, entry_by, Reaches, Begins, Steps, Takes}
+use Rattle.system_model.specs.Processors.{Mode, New, Runs, Interprets, Ended, Processor, all_held, registers_of, mode_by, begun, stepped, tied, arrived, left, placed, Turn, Went, Asks, Over, Lost, alpha_turn, kind_by, request_of, reply_of, tie_turn, turn_in, mode_of, turn, entry_by, Reaches, Begins, Steps, Takes}
 use Rattle.history_order.specs.Counted.{counts, is_counted}
 use Rattle.history_order.specs.Explained.{with_reply, replies_by, IsWanted, Explained}
 use Rattle.vest_core.specs.Headline.{Claims, IsShown, Facts}
-use Rattle.vest_core.specs.Interpreted.{threads_of, is_some, is_translated, IsAlpha, IsMadeIn, translated_at, AllMadeIn, made_in, ties_in, end_in, ties_of, has_raised, ties_open}
+use Rattle.vest_core.specs.Interpreted.{threads_of, is_some, is_translated, IsMadeIn, translated_at, AllMadeIn, made_in, ties_in, end_in, ties_of, ties_open}
 use Rattle.vest_core.specs.Judged.{Paired, AllPaired, MadeBy, share_by, share_of, fails, counted_in, failed_in}
 use Rattle.vest_core.specs.Own.{Lock, lock_by, lock_of, IsFair, AllFair}
-use Rattle.history_order.specs.Quadwords.{reply_from, IsOf}
-use Rattle.vest_core.specs.Ranges.{ending_state, IsInRange, StaysInRange}
+use Rattle.history_order.specs.Quadwords.{reply_from}
+use Rattle.vest_core.specs.Ranges.{IsInRange, StaysInRange}
 use Rattle.vest_core.proofs.Paths.{Path, Here, Takes, joined, joined_here, answered, to_ask, silent_ends, comes_state, made_none, made_one}
 use Rattle.vest_core.proofs.Reached.{running, here, reached_more, reached_suc, wanted_is, ties_more, ties_quiet, end_quiet, ties_loud, end_loud}
 use Rattle.vest_core.proofs.Replying.{reply_fits, tie_counts, tie_is, tie_reply, tie_free, tie_paired, tie_kind, tie_share}
-use Rattle.vest_core.proofs.Owed.{more_by, answer_by, OwedPlace, OwedBehind, OwedAccess, OwedNext}
+use Rattle.vest_core.proofs.Owed.{more_by, answer_by, OwedPlace, OwedAccess, OwedNext}
 
 abbrev pub moment_at : (thread retired : ℕ) → VaxState → Flags → Moment
 moment_at thread retired boundary held = record { thread = thread; retired = retired; boundary = boundary; held = held }
@@ -323,7 +319,7 @@ module _ (setting : Setting) (starts : ℕ → Option VaxState) (thread : ℕ) w
 
       takes_either : IsFair r.kind lock made.quad before success → (b : Bool) → counts r.kind success ≡ b
           → MatchBool b ((more : ℕ) × (more ≤ 256) × MadeBy s.rest made (λ u. OwedPlace setting.meaning.pages (Owes p.boundary p.held) Form (lock_by made.kind made.quad made.before) (s.spare - 1 + more) u (on before success)))
-            (OwedPlace setting.meaning.pages (Owes p.boundary p.held) Form (lock_by made.kind made.quad made.before) (more_by r.kind success (s.spare - 1)) s.rest (on before success))
+          (OwedPlace setting.meaning.pages (Owes p.boundary p.held) Form (lock_by made.kind made.quad made.before) (more_by r.kind success (s.spare - 1)) s.rest (on before success))
           → Tells mine lock made (placed setting (stepped p) (on before success))
       takes_either fair true c m = takes_made s.rest refl m.0 m.1 c fair m.2
       takes_either fair false c m = takes_silent c m
@@ -361,14 +357,14 @@ module _ (setting : Setting) (starts : ℕ → Option VaxState) (thread : ℕ) w
         let p' : Processor = record (tied p) { mode = Interprets state (pending ++ u ∷ []) } in
         let made_more = made_one setting.meaning.pages (tree p.boundary) pending q asked.0 v (Ask q asked.0) refl f.path in
         let plays : Plays (told ++ v ∷ []) None (share_of (e ∷ mine)) p' state (pending ++ v ∷ []) = record {
-            rest = asked.0 v;
-            flight = on_flight;
-            same = s.same;
-            free = refl;
-            room = omega (arith, s.room, tie_share q success (share_of mine));
-            interpreted = s.interpreted;
-            ties = omega (arith, s.ties, made_more, ties_more setting starts thread p.retired told (v ∷ []) p.boundary pending s.flight.at);
-          } in
+          rest = asked.0 v;
+          flight = on_flight;
+          same = s.same;
+          free = refl;
+          room = omega (arith, s.room, tie_share q success (share_of mine));
+          interpreted = s.interpreted;
+          ties = omega (arith, s.ties, made_more, ties_more setting starts thread p.retired told (v ∷ []) p.boundary pending s.flight.at);
+        } in
         record {
           counted = λ _. record { reference = q; wants = want; of = of };
           paired = tie_paired q lock e.quad s.free;

@@ -1,7 +1,7 @@
 -- Quadwords are below 2^64.
-use Rattle.std.proofs.Common.{◌≡◌, ℕ, zero, suc, ◌<◌, ◌≤◌, ◌+◌, ◌-◌, ◌*◌, ◌/◌, ◌%◌, ◌^◌, ◌==◌, Bool, true, false, if◌then◌else◌, List, [], ◌∷◌, refl, sym, ap, ◌∙◌, subst, arith, lit<, bit_and, bit_or}
+use Rattle.std.proofs.Common.{◌≡◌, ℕ, ◌<◌, ◌+◌, ◌-◌, ◌*◌, ◌%◌, ◌^◌, ◌==◌, Bool, true, false, if◌then◌else◌, List, [], ◌∷◌, refl, sym, subst, arith}
 use Rattle.std.proofs.lemmas.Nat.{and_le_l, pow_below, or_lt}
-use Rattle.std.specs.Int.{w64, bit_at, byte_at, from_le_bytes}
+use Rattle.std.specs.Int.{bit_at, byte_at}
 use Rattle.image_file.specs.Memory.{byte_in}
 use Rattle.image_file.specs.Values.{ImageValue}
 use Rattle.memory_core.specs.declared.entry.Kind.{Kind}

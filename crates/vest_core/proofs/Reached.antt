@@ -1,14 +1,13 @@
 -- A thread after some instructions: one instruction more, and one reply more.
-use Rattle.std.proofs.Common.{◌≡◌, ℕ, zero, suc, ◌+◌, Bool, true, false, if◌then◌else◌, List, [], ◌∷◌, ◌++◌, Option, Some, None, refl, sym, ap, ◌∙◌, subst, arith}
-use Rattle.vax_form.specs.Tree.{Tree, Check, Ask, Fault, Ends, Ending, Finish, Exit, Trap, Answer, Wants, Fails, Comes, answer, Life, Runs, Exited, Trapped, Retired, retires}
-use Rattle.vax_form.specs.declared.pages.Pages.{Pages}
+use Rattle.std.proofs.Common.{◌≡◌, ℕ, zero, suc, Bool, true, false, if◌then◌else◌, List, [], ◌++◌, Option, Some, None, refl, sym, ap, ◌∙◌, subst, arith}
+use Rattle.vax_form.specs.Tree.{Finish, Exit, Trap, Answer, Wants, Fails, Comes, answer, Life, Runs, Exited, Trapped, Retired, retires}
 use Rattle.vax_form.specs.declared.state.VaxState.{VaxState}
 use Rattle.vax_form.specs.declared.state.Reference.{Reference}
-use Rattle.vax_meaning.specs.After.{if_runs, one_more, after, with_left, KeepsRetired}
+use Rattle.vax_meaning.specs.After.{if_runs, one_more, after, KeepsRetired}
 use Rattle.vax_meaning.proofs.Afters.{after_with_more}
 use Rattle.system_model.specs.Settings.{Setting}
-use Rattle.vax_driven.specs.Threads.{Threads, after_start, reached, wanted_of, wanted_in, wanted_at, wanted}
-use Rattle.vest_core.specs.Interpreted.{threads_of, is_translated, made_in, ties_by, ties_in, end_by, end_in, ties_of}
+use Rattle.vax_driven.specs.Threads.{after_start, reached, wanted_of, wanted_at, wanted}
+use Rattle.vest_core.specs.Interpreted.{threads_of, is_translated, made_in, ties_in, end_in, ties_of}
 use Rattle.vest_core.proofs.Paths.{made_more}
 
 -- the thread goes on at a state, with these replies left
@@ -96,9 +95,9 @@ module _ (setting : Setting) (starts : ℕ → Option VaxState) (thread : ℕ) w
       let more = reached_more n w v l.0 l.1 l.2 in
       let ends_same : end_in setting thread (here n (w ++ v)) ≡ end_in setting thread (here n w) = ap (end_in setting thread) more ∙ sym (ap (end_in setting thread) l.2) in
       let ties_same : ties_in setting thread (here n (w ++ v)) ≡ ties_in setting thread (here n w) =
-          ap (ties_in setting thread) more
-          ∙ more_ties (is_translated setting thread l.0.pc) (made_in setting.meaning.pages (setting.meaning.tree thread l.0) l.1) (made_in setting.meaning.pages (setting.meaning.tree thread l.0) (l.1 ++ v)) (made_more setting.meaning.pages (setting.meaning.tree thread l.0) l.1 v left (Finish state) l.3)
-          ∙ sym (ap (ties_in setting thread) l.2) in
+      ap (ties_in setting thread) more
+      ∙ more_ties (is_translated setting thread l.0.pc) (made_in setting.meaning.pages (setting.meaning.tree thread l.0) l.1) (made_in setting.meaning.pages (setting.meaning.tree thread l.0) (l.1 ++ v)) (made_more setting.meaning.pages (setting.meaning.tree thread l.0) l.1 v left (Finish state) l.3)
+      ∙ sym (ap (ties_in setting thread) l.2) in
       omega (arith, ih, ends_same, ties_same)
 
   -- what a translated instruction adds, and what an interpreted one does

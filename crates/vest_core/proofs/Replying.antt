@@ -1,15 +1,10 @@
 -- The replies to references are in range, and those to interpreted references are their accesses'.
-use Rattle.std.proofs.Common.{◌≡◌, ℕ, zero, suc, ◌+◌, ◌-◌, ◌*◌, ◌/◌, ◌%◌, ◌^◌, ◌<◌, ◌≤◌, ◌⊎◌, Bool, true, false, List, [], ◌∷◌, Option, Some, None, refl, sym, ap, ◌∙◌, subst, arith, lit<}
+use Rattle.std.proofs.Common.{◌≡◌, ℕ, ◌+◌, ◌*◌, ◌/◌, ◌%◌, ◌^◌, ◌<◌, ◌⊎◌, Bool, true, false, Option, None, refl, sym, ap, subst}
 use Rattle.std.proofs.lemmas.Nat.{mod_below, pow_pos}
-use Rattle.std.specs.Int.{byte_at}
-use Rattle.vt_words.specs.Quad.{field_of}
 use Rattle.memory_core.specs.declared.entry.Entry.{Entry}
-use Rattle.memory_core.specs.declared.entry.Kind.{Kind}
 use Rattle.memory_core.specs.declared.entry.Kind.TheVariants as kinds
 use Rattle.memory_core.specs.declared.entry.Request.{Request}
-use Rattle.memory_core.specs.Bytes.{word_at}
-use Rattle.memory_core.specs.Changes.{changed, leaves}
-use Rattle.memory_core.specs.Kinds.{is_memory}
+use Rattle.memory_core.specs.Changes.{changed}
 use Rattle.memory_core.proofs.Neighbours.{byte_at-lt}
 use Rattle.vax_driven.specs.References.{FitsQuadword}
 use Rattle.vax_form.specs.State.{Answers, AnswersKind}
@@ -17,7 +12,7 @@ use Rattle.vax_form.specs.declared.state.Reference.{Reference}
 use Rattle.vax_form.specs.declared.state.RefKind.{RefKind}
 use Rattle.vax_form.specs.declared.state.RefKind.TheVariants.{Read, Write, Add, SetBit, ClearBit, Put, Get}
 use Rattle.system_model.specs.Processors.{request_of, reply_by, reply_of, entry_by, kind_by, change_by, quad_address}
-use Rattle.history_order.specs.Counted.{counts, is_counted}
+use Rattle.history_order.specs.Counted.{counts}
 use Rattle.vest_core.specs.Interpreted.{IsMadeIn}
 use Rattle.vest_core.specs.Judged.{Paired, share_by}
 use Rattle.vest_core.specs.Own.{Lock, lock_by, IsFair}

@@ -1,5 +1,5 @@
 -- Trees that are the same as an end, or as a reference.
-use Rattle.std.proofs.Common.{◌≡◌, ℕ, List, refl, sym, ap, ◌∙◌, subst}
+use Rattle.std.proofs.Common.{◌≡◌, ℕ, sym, ap, subst}
 use Rattle.vax_form.specs.State.{Answers}
 use Rattle.vax_form.specs.Tree.{Tree, Check, Ask, Fault, Ends, Ending, Same}
 use Rattle.vax_form.specs.declared.state.Reference.{Reference}

@@ -1,5 +1,5 @@
 -- What the headline says of one thread and its processor.
-use Rattle.std.specs.Prelude.{◌≡◌, ◌≢◌, ℕ, ◌+◌, ◌*◌, ◌≤◌, Bool, true, false, List, Option, Some, None, length}
+use Rattle.std.specs.Prelude.{◌≡◌, ◌≢◌, ℕ, ◌+◌, ◌*◌, ◌≤◌, true, false, List, Option, Some, length}
 use Rattle.memory_core.specs.declared.entry.Entry.{Entry}
 use Rattle.vax_form.specs.State.{register}
 use Rattle.vax_form.specs.declared.state.VaxState.{VaxState}

@@ -1,19 +1,12 @@
 -- What is owed of each step of Alpha code.
-use Rattle.std.specs.Prelude.{◌≡◌, ℕ, suc, ◌+◌, ◌-◌, ◌<◌, ◌≤◌, Bool, true, false, List, [], ◌∷◌, Option, Some, None, MatchBool, if◌then◌else◌}
-use Rattle.alpha_meaning.specs.State.{Alpha, Regs}
+use Rattle.std.specs.Prelude.{◌≡◌, ℕ, suc, ◌+◌, Bool, true, false, List, [], ◌∷◌, Option, Some, None, if◌then◌else◌}
 use Rattle.memory_core.specs.declared.entry.Entry.{Entry}
 use Rattle.memory_core.specs.declared.entry.Kind.{Kind}
 use Rattle.memory_core.specs.declared.entry.Kind.TheVariants.{LoadLocked, StoreConditional}
-use Rattle.memory_core.specs.declared.entry.Request.{Request}
-use Rattle.memory_core.specs.Kinds.{is_memory}
-use Rattle.vax_form.specs.Tree.{Tree, Check, Ask, Fault, Ends, Ending, Finish, Answer}
-use Rattle.vax_form.specs.declared.state.Flags.{Flags}
-use Rattle.vax_form.specs.declared.state.VaxState.{VaxState}
+use Rattle.vax_form.specs.Tree.{Tree, Ask}
 use Rattle.vax_driven.specs.References.{FitsQuadword}
-use Rattle.system_model.specs.Processors.{entry_by}
-use Rattle.vest_core.specs.Own.{Lock, lock_by, lock_of, IsFair}
-use Rattle.history_order.specs.Counted.{counts, is_counted}
-use Rattle.vest_core.specs.Interpreted.{IsAlpha}
+use Rattle.vest_core.specs.Own.{Lock, lock_of}
+use Rattle.history_order.specs.Counted.{is_counted}
 use Rattle.history_order.specs.Quadwords.{reply_from, IsOf}
 
 -- a store conditional stands directly behind a load-locked access of the same quadword, and each load-locked one

@@ -1,20 +1,19 @@
 -- A legal history has the headline. Lists of entries are newest first.
-use Rattle.std.specs.Prelude.{◌≡◌, ◌≢◌, ◌<◌, ◌≤◌, ◌+◌, ◌*◌, ◌^◌, ℕ, All, List, Option, Some, length, map, slice_get}
-use Rattle.image_file.specs.Memory.{byte_in}
+use Rattle.std.specs.Prelude.{◌≡◌, ◌≢◌, ◌<◌, ◌≤◌, ◌+◌, ◌*◌, ◌^◌, ℕ, List, Some, length, map, slice_get}
 use Rattle.image_file.specs.declared.image.Start.{Start}
 use Rattle.memory_core.specs.declared.entry.Entry.{Entry}
 use Rattle.memory_core.specs.declared.entry.SetUp.{SetUp}
 use Rattle.memory_core.specs.Order.{own}
 use Rattle.vax_driven.specs.declared.ThreadRun.{ThreadRun}
 use Rattle.vax_driven.specs.Made.{replies_to}
-use Rattle.vax_driven.specs.Driven.{Driven, driven}
+use Rattle.vax_driven.specs.Driven.{driven}
 use Rattle.history_order.specs.Counted.{order}
 use Rattle.history_order.specs.OneHistory.{world_of, IsDriven}
 use Rattle.block_law.specs.Translations.{Meets}
 use Rattle.system_model.specs.Settings.{Setting}
 use Rattle.system_model.specs.Processors.{Processor, Lost, turn}
 use Rattle.system_model.specs.Legal.{starts, IsLegal}
-use Rattle.vest_core.specs.Headline.{Claims, HasTies, HasFewSteps, HasFewEntries}
+use Rattle.vest_core.specs.Headline.{Claims, HasTies, HasFewSteps}
 use Rattle.vest_core.specs.Interpreted.{threads_of, AllMadeIn}
 use Rattle.vest_core.specs.Judged.{AllPaired, counted_in, failed_in}
 use Rattle.vest_core.specs.Own.{HasBytes}

@@ -1,7 +1,7 @@
 -- What the order of accesses tells a processor of its own entries. They are newest first.
 use Rattle.std.specs.Prelude.{◌≡◌, ℕ, ◌<◌, ◌^◌, ◌⊎◌, Bool, true, false, All, List, [], ◌∷◌, Option, Some, None}
 use Rattle.memory_core.specs.declared.entry.Kind.{Kind}
-use Rattle.memory_core.specs.declared.entry.Kind.TheVariants.{Load, LoadLocked, Store, StoreConditional, TieRead, TieWrite, TieLocked, Put, Get}
+use Rattle.memory_core.specs.declared.entry.Kind.TheVariants.{LoadLocked, Put, Get}
 use Rattle.memory_core.specs.declared.entry.Entry.{Entry}
 use Rattle.memory_core.specs.declared.entry.SetUp.{SetUp}
 use Rattle.memory_core.specs.Kinds.{is_conditional}
