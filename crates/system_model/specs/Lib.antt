@@ -3,3 +3,4 @@ pub mod Settings
 pub mod Steps
 pub mod Processors
 pub mod Legal
+pub mod Laws

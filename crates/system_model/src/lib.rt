@@ -5,6 +5,7 @@
 #![tactic(auto)]
 
 mod boundary;
+pub mod laws;
 mod translation;
 
 pub use boundary::shown;
