@@ -1,0 +1,107 @@
+-- A turn keeps its processor's thread, makes one step, and asks for that thread.
+use Rattle.std.proofs.Common.{◌≡◌, ℕ, suc, Bool, true, false, if◌then◌else◌, List, [], ◌∷◌, Option, Some, None, refl, sym, ap, ◌∙◌, subst}
+use Rattle.alpha_encode.specs.declared.instr.AlphaInstr.{AlphaInstr}
+use Rattle.alpha_meaning.specs.Act.{Does, Goes, Asks as AsksAccess, Calls, act}
+use Rattle.alpha_meaning.specs.State.{Alpha, Regs}
+use Rattle.alpha_meaning.specs.declared.access.AlphaAccess.{AlphaAccess}
+use Rattle.block_law.specs.Follows.{Call, Probe, LookUp, Serve, Raise, Arithmetic, Switch, Other, call_of}
+use Rattle.block_law.specs.Translations.{fetch_of}
+use Rattle.exception_records.specs.Points.{point_at, raised_at}
+use Rattle.exception_records.specs.declared.points.Point.{Point}
+use Rattle.exception_records.specs.declared.rules.Rules.{Rules}
+use Rattle.memory_core.specs.declared.entry.Request.{Request}
+use Rattle.vax_form.specs.Tree.{Tree, Ending, Finish, Exit, Trap, Answer, answer}
+use Rattle.vax_form.specs.Tree as trees
+use Rattle.vax_form.specs.declared.state.Exception.{Exception}
+use Rattle.vax_form.specs.declared.state.VaxState.{VaxState}
+use Rattle.system_model.specs.Settings.{Setting}
+use Rattle.system_model.specs.Steps.{Last, Comes, Fails, Place, Inside, Lands, Leaves, Next, Moves, Wants, Stuck, Moment, is_defined, accesses, raised, served, called, does, next_by, next}
+use Rattle.system_model.specs.Processors.{Mode, New, Runs, Interprets, Ended, Processor, moment_of, stepped, tied, arrived, left, placed, Turn, Went, Asks, Over, Lost, alpha_turn, tie_turn, turn_in, mode_of, turn}
+
+-- the request of a step is its thread's
+abbrev IsOfThread : ℕ → Next → Type 0
+IsOfThread thread (Moves place) = Unit {0}
+IsOfThread thread (Wants request on) = request.processor ≡ thread
+IsOfThread thread Stuck = Unit {0}
+
+of_access : (b : Bool) (setting : Setting) (m : Moment) (i : AlphaInstr) (a : AlphaAccess) (c : Alpha) → IsOfThread m.thread (accesses b setting m i a c)
+of_access true setting m i a c = refl
+of_access false setting m i a c = tt
+
+of_raised : (thread : ℕ) (o : Option Exception) → IsOfThread thread (raised o)
+of_raised thread None = tt
+of_raised thread (Some x) = tt
+
+of_choice : (thread : ℕ) (b : Bool) (x y : Next) → IsOfThread thread x → IsOfThread thread y → IsOfThread thread (if b then x else y)
+of_choice thread true x y h k = h
+of_choice thread false x y h k = k
+
+of_served : (setting : Setting) (m : Moment) (code : ℕ) (rules : Rules) (c : Alpha) → IsOfThread m.thread (served setting m code rules c)
+of_served setting m code rules c = of_choice m.thread _ _ _ tt (of_choice m.thread _ _ _ refl (of_choice m.thread _ _ _ refl (of_choice m.thread _ _ _ tt tt)))
+
+of_called : (setting : Setting) (m : Moment) (call : Call) (point : Option Point) (c : Alpha) → IsOfThread m.thread (called setting m call point c)
+of_called setting m Probe (Some point) c = tt
+of_called setting m Probe None c = tt
+of_called setting m Serve (Some point) c = of_served setting m _ point.rules c
+of_called setting m Serve None c = tt
+of_called setting m Raise (Some point) c = of_raised m.thread (raised_at point.raises)
+of_called setting m Raise None c = tt
+of_called setting m Arithmetic (Some point) c = tt
+of_called setting m Arithmetic None c = tt
+of_called setting m LookUp point c = tt
+of_called setting m Switch point c = tt
+of_called setting m Other point c = tt
+
+of_does : (setting : Setting) (m : Moment) (i : AlphaInstr) (what : Does) (c : Alpha) → IsOfThread m.thread (does setting m i what c)
+of_does setting m i (Goes d) c = tt
+of_does setting m i (AsksAccess a) c = of_access (is_defined setting a) setting m i a c
+of_does setting m i (Calls number) c = of_called setting m (call_of number) (point_at setting.code.points c.pc) c
+
+of_next_by : (setting : Setting) (m : Moment) (o : Option AlphaInstr) (c : Alpha) → IsOfThread m.thread (next_by setting m o c)
+of_next_by setting m None c = tt
+of_next_by setting m (Some i) c = of_does setting m i (act i c) c
+
+of_next : (setting : Setting) (m : Moment) (c : Alpha) → IsOfThread m.thread (next setting m c)
+unfolding next
+of_next setting m c = of_next_by setting m (fetch_of setting.code.words c.pc) c
+
+-- ---- one step of one thread
+pub record IsStep (p q : Processor) : Type 0 where
+  pub thread : q.thread ≡ p.thread
+  pub steps : q.steps ≡ suc p.steps
+
+left_step : (setting : Setting) (p q : Processor) (last : Last) → IsStep p q → IsStep p (left setting q last)
+left_step setting p q (Comes (Finish s)) h = record { thread = h.thread; steps = h.steps }
+left_step setting p q (Comes (Exit s)) h = record { thread = h.thread; steps = h.steps }
+left_step setting p q (Comes (Trap kind s)) h = record { thread = h.thread; steps = h.steps }
+left_step setting p q (Fails x) h = record { thread = h.thread; steps = h.steps }
+
+placed_step : (setting : Setting) (p : Processor) (to : Place) → IsStep p (placed setting (stepped p) to)
+placed_step setting p (Inside alpha) = record { thread = refl; steps = refl }
+placed_step setting p (Lands s held regs) = record { thread = refl; steps = refl }
+placed_step setting p (Leaves last) = left_step setting p (stepped p) last (record { thread = refl; steps = refl })
+
+abbrev pub Makes : Processor → Turn → Type 0
+Makes p (Went q) = IsStep p q
+Makes p (Asks request on) = (request.processor ≡ p.thread) × ((before : ℕ) (success : Bool) → IsStep p (on before success))
+Makes p Over = Unit {0}
+Makes p Lost = Unit {0}
+
+alpha_makes : (setting : Setting) (p : Processor) (to : Next) → IsOfThread p.thread to → Makes p (alpha_turn setting p to)
+alpha_makes setting p (Moves to) h = placed_step setting p to
+alpha_makes setting p (Wants request on) h = (h, λ before success. placed_step setting p (on before success))
+alpha_makes setting p Stuck h = tt
+
+tie_makes : (setting : Setting) (p : Processor) (state : VaxState) (replies : List ℕ) (a : Answer) → Makes p (tie_turn setting p state replies a)
+tie_makes setting p state replies (trees.Wants q) = (refl, λ before success. record { thread = refl; steps = refl })
+tie_makes setting p state replies (trees.Fails x) = left_step setting p (tied p) (Fails x) (record { thread = refl; steps = refl })
+tie_makes setting p state replies (trees.Comes x rest) = left_step setting p (tied p) (Comes x) (record { thread = refl; steps = refl })
+
+makes_in : (setting : Setting) (p : Processor) (mode : Mode) → Makes p (turn_in setting p mode)
+makes_in setting p New = tt
+makes_in setting p (Runs alpha) = alpha_makes setting p (next setting (moment_of p) alpha) (of_next setting (moment_of p) alpha)
+makes_in setting p (Interprets state replies) = tie_makes setting p state replies (answer setting.meaning.pages (setting.meaning.tree p.thread state) replies)
+makes_in setting p (Ended end) = tt
+
+pub makes : (setting : Setting) (p : Processor) → Makes p (turn setting p)
+makes setting p = makes_in setting p (mode_of setting p p.mode)

@@ -1,0 +1,6 @@
+pub mod Ranges
+pub mod Settings
+pub mod Steps
+pub mod Processors
+pub mod Legal
+pub mod Laws

@@ -1,0 +1,203 @@
+-- Processors: each runs one thread, by Alpha steps in translated code and by interpreted steps elsewhere.
+use Rattle.std.specs.Prelude.{◌≡◌, ℕ, zero, suc, ◌+◌, ◌-◌, ◌*◌, ◌/◌, ◌%◌, ◌^◌, ◌==◌, Bool, true, List, [], ◌∷◌, ◌++◌, Option, Some, None, nat_lt, slice_index, if◌then◌else◌}
+use Rattle.std.specs.Int.{byte_at}
+use Rattle.alpha_meaning.specs.State.{Alpha, Regs, at_place}
+use Rattle.memory_core.specs.declared.entry.Change.{Change}
+use Rattle.memory_core.specs.declared.entry.Change.TheVariants as changes
+use Rattle.memory_core.specs.declared.entry.Entry.{Entry}
+use Rattle.memory_core.specs.declared.entry.Kind.{Kind}
+use Rattle.memory_core.specs.declared.entry.Kind.TheVariants as kinds
+use Rattle.memory_core.specs.declared.entry.Request.{Request}
+use Rattle.memory_core.specs.Bytes.{word_at}
+use Rattle.memory_core.specs.Changes.{leaves}
+use Rattle.memory_core.specs.Kinds.{is_memory}
+use Rattle.vt_words.specs.Quad.{field_of}
+use Rattle.vax_form.specs.State.{register}
+use Rattle.vax_form.specs.Tree.{Tree, Ending, Finish, Exit, Trap, Answer, answer}
+use Rattle.vax_form.specs.Tree as trees
+use Rattle.vax_form.specs.declared.state.Exception.TheVariants.{Arithmetic}
+use Rattle.vax_form.specs.declared.state.Flags.{Flags}
+use Rattle.vax_form.specs.declared.state.Reference.{Reference}
+use Rattle.vax_form.specs.declared.state.RefKind.{RefKind}
+use Rattle.vax_form.specs.declared.state.RefKind.TheVariants.{Read, Write, Add, SetBit, ClearBit, Put, Get}
+use Rattle.vax_form.specs.declared.state.VaxState.{VaxState}
+use Rattle.vt_words.specs.Quad.{sign_extended}
+use Rattle.system_model.specs.declared.translation.End.{End}
+use Rattle.system_model.specs.declared.translation.End.TheVariants as ends
+use Rattle.system_model.specs.Settings.{Setting, goes_on}
+use Rattle.system_model.specs.Steps.{Last, Comes, Fails, Place, Inside, Lands, Leaves, Next, Moves, Wants, Stuck, Moment, next}
+
+pub data Mode : Type 0 where
+  -- before its first turn
+  New : Mode
+  -- in translated code
+  Runs : Alpha → Mode
+  -- at an interpreted instruction, with the replies to its references so far
+  Interprets : VaxState → List ℕ → Mode
+  Ended : End → Mode
+
+-- the boundary is the state at which the latest instruction began, or which an ended thread shows; held codes stand in
+-- their registers since the processor's last interpreted instruction
+pub record Processor : Type 0 where
+  pub thread : ℕ
+  pub mode : Mode
+  pub boundary : VaxState
+  pub held : Flags
+  pub retired : ℕ
+  pub steps : ℕ
+  pub ties : ℕ
+
+abbrev pub all_held : Flags
+all_held = record { n = true; z = true; v = true; c = true }
+
+-- Alpha registers with the values of a state: R0 to R14 as sign-extended longwords, N, Z, V and C in R16 to R19, bits
+-- 7:4 of the processor status word in R20, and all others 0
+unfoldable pub registers_of : VaxState → Regs
+registers_of state n =
+    if nat_lt n 15 then sign_extended (slice_index state.r n) 32
+    else if n == 16 then state.psw / 8 % 2
+    else if n == 17 then state.psw / 4 % 2
+    else if n == 18 then state.psw / 2 % 2
+    else if n == 19 then state.psw % 2
+    else if n == 20 then state.psw / 16 % 16 * 16
+    else 0
+
+-- the mode at a boundary, with these registers in Alpha code
+abbrev pub mode_by : Option ℕ → VaxState → Regs → Mode
+mode_by None state regs = Interprets state []
+mode_by (Some word) state regs = Runs (at_place regs word)
+
+abbrev pub mode_at : Setting → (thread : ℕ) → VaxState → Regs → Mode
+mode_at setting thread state regs = mode_by (goes_on setting thread state.pc) state regs
+
+abbrev pub begun : (thread : ℕ) → VaxState → Processor
+begun thread start = record { thread = thread; mode = New; boundary = start; held = all_held; retired = 0; steps = 0; ties = 0 }
+
+abbrev pub moment_of : Processor → Moment
+moment_of p = record { thread = p.thread; retired = p.retired; boundary = p.boundary; held = p.held }
+
+-- one more step
+abbrev pub stepped : Processor → Processor
+stepped p = record p { steps = suc p.steps }
+
+-- one more interpreted step
+abbrev pub tied : Processor → Processor
+tied p = record p { steps = suc p.steps; ties = suc p.ties }
+
+-- it retires its instruction and arrives at a boundary
+abbrev pub arrived : Setting → Processor → VaxState → (held : Flags) → Regs → Processor
+arrived setting p state held regs =
+    record p { mode = mode_at setting p.thread state regs; boundary = state; held = held; retired = suc p.retired }
+
+-- its instruction ended: it goes on, or it ends. A fault retires nothing and leaves the boundary
+abbrev pub left : Setting → Processor → Last → Processor
+left setting p (Comes (Finish state)) = arrived setting p state all_held (registers_of state)
+left setting p (Comes (Exit state)) = record p { mode = Ended (ends.Exit (register 0 state)); boundary = state; retired = suc p.retired }
+left setting p (Comes (Trap kind state)) = record p { mode = Ended (ends.Raised (Arithmetic kind)); boundary = state; retired = suc p.retired }
+left setting p (Fails exception) = record p { mode = Ended (ends.Raised exception) }
+
+abbrev pub placed : Setting → Processor → Place → Processor
+placed setting p (Inside alpha) = record p { mode = Runs alpha }
+placed setting p (Lands state held regs) = arrived setting p state held regs
+placed setting p (Leaves last) = left setting p last
+
+-- what a processor does in its turn
+pub data Turn : Type 0 where
+  Went : Processor → Turn
+  Asks : Request → ((before : ℕ) → (success : Bool) → Processor) → Turn
+  -- it has ended
+  Over : Turn
+  -- it has no step
+  Lost : Turn
+
+abbrev pub alpha_turn : Setting → Processor → Next → Turn
+alpha_turn setting p (Moves place) = Went (placed setting (stepped p) place)
+alpha_turn setting p (Wants request on) = Asks request (λ before success. placed setting (stepped p) (on before success))
+alpha_turn setting p Stuck = Lost
+
+-- ---- references as accesses
+-- the address of the quadword that an address stands in
+abbrev pub quad_address : (address : ℕ) → ℕ
+quad_address address = address - address % 8
+
+abbrev pub kind_by : RefKind → Kind
+kind_by Read = kinds.TieRead
+kind_by (Write value) = kinds.TieWrite
+kind_by (Add value) = kinds.TieLocked
+kind_by (SetBit n) = kinds.TieLocked
+kind_by (ClearBit n) = kinds.TieLocked
+kind_by (Put byte) = kinds.Put
+kind_by Get = kinds.Get
+
+abbrev pub change_by : RefKind → (at count : ℕ) → Change
+change_by Read at count = changes.Nothing
+change_by (Write value) at count = changes.Bytes (2 ^ (at + count) - 2 ^ at) (value * 2 ^ (8 * at))
+change_by (Add value) at count = changes.AddWord at value
+change_by (SetBit n) at count = changes.SetBit (8 * at + n)
+change_by (ClearBit n) at count = changes.ClearBit (8 * at + n)
+change_by (Put byte) at count = changes.Byte byte
+change_by Get at count = changes.Nothing
+
+abbrev pub request_of : (thread retired : ℕ) → Reference → Request
+request_of thread retired reference = record {
+  processor = thread;
+  retired = retired;
+  kind = kind_by reference.kind;
+  quad = quad_address reference.address;
+  change = change_by reference.kind (reference.address % 8) reference.count;
+}
+
+-- the reply to a reference whose access found that
+abbrev pub reply_by : RefKind → (at count before : ℕ) → ℕ
+reply_by Read at count before = field_of before at count
+reply_by (Write value) at count before = 0
+reply_by (Add value) at count before = word_at at before
+reply_by (SetBit n) at count before = byte_at at before
+reply_by (ClearBit n) at count before = byte_at at before
+reply_by (Put byte) at count before = 0
+reply_by Get at count before = before
+
+abbrev pub reply_of : Reference → (before : ℕ) → ℕ
+reply_of reference before = reply_by reference.kind (reference.address % 8) reference.count before
+
+-- ---- turns
+abbrev pub tie_turn : Setting → Processor → VaxState → (replies : List ℕ) → Answer → Turn
+tie_turn setting p state replies (trees.Wants reference) =
+    Asks (request_of p.thread p.retired reference) (λ before success. record (tied p) { mode = Interprets state (replies ++ reply_of reference before ∷ []) })
+tie_turn setting p state replies (trees.Fails exception) = Went (left setting (tied p) (Fails exception))
+tie_turn setting p state replies (trees.Comes e rest) = Went (left setting (tied p) (Comes e))
+
+abbrev pub turn_in : Setting → Processor → Mode → Turn
+turn_in setting p New = Lost
+turn_in setting p (Runs alpha) = alpha_turn setting p (next setting (moment_of p) alpha)
+turn_in setting p (Interprets state replies) = tie_turn setting p state replies (answer setting.meaning.pages (setting.meaning.tree p.thread state) replies)
+turn_in setting p (Ended end) = Over
+
+-- a new processor is at its first boundary
+abbrev pub mode_of : Setting → Processor → Mode → Mode
+mode_of setting p New = mode_at setting p.thread p.boundary (registers_of p.boundary)
+mode_of setting p mode = mode
+
+abbrev pub turn : Setting → Processor → Turn
+turn setting p = turn_in setting p (mode_of setting p p.mode)
+
+-- the entry of a request, by what it found and whether it succeeded
+abbrev pub entry_by : Request → (before : ℕ) → (success : Bool) → Entry
+entry_by request before success = record {
+  retired = request.retired;
+  before = before;
+  after = leaves request.kind success request.change before;
+  quad = if is_memory request.kind then request.quad else 0;
+  processor = request.processor;
+  kind = request.kind;
+  success = success;
+}
+
+-- a processor that began so, after so many turns, with its own entries, newest first
+pub data Reaches (setting : Setting) (first : Processor) : ℕ → List Entry → Processor → Type 0 where
+  Begins : Reaches setting first zero [] first
+  Steps : {n : ℕ} {mine : List Entry} {p q : Processor} → Reaches setting first n mine p
+      → turn setting p ≡ Went q → Reaches setting first (suc n) mine q
+  Takes : {n : ℕ} {mine : List Entry} {p : Processor} {request : Request} {on : ℕ → Bool → Processor} → Reaches setting first n mine p
+      → turn setting p ≡ Asks request on → (before : ℕ) (success : Bool)
+      → Reaches setting first (suc n) (entry_by request before success ∷ mine) (on before success)

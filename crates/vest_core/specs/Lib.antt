@@ -1,0 +1,7 @@
+pub mod Own
+pub mod Interpreted
+pub mod Ranges
+pub mod Judged
+pub mod Headline
+pub mod Sound
+pub mod Law
