@@ -1,0 +1,6 @@
+pub mod Sums
+pub mod Beginnings
+pub mod Own
+pub mod Keeps
+pub mod Keeper
+pub mod Accesses

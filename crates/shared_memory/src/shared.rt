@@ -11,7 +11,7 @@ use crate::steps::{enter, look, take_out, win};
 use crate::view::View;
 use atomic_table::{Refused, Table};
 use memory_core::{MemState, Reply, Request};
-use std::alloc::Global;
+use std::alloc::{AllocError, Global};
 use std::snapshot::Snapshot;
 use std::sync::Wait;
 use vax_form::WantOfMemory;
@@ -30,13 +30,7 @@ impl SharedMemory {
         requires { state.history ≡ [] }
         ensures { IfOk result (λ r. (start_of r.0 ≡ state) × IsKeeperOf r.0 r.1 × IsNew r.1) }
     {
-        let start = Snapshot::of(&state);
-        let mut slots = Vec::with_capacity(alloc, 1).map_err(|_| WantOfMemory)?;
-        slots.push_reserved(Some(state));
-        match Table::new(alloc, &[0, 0], slots, &start) {
-            Ok((table, seat)) => Ok((SharedMemory { table }, Pass { seat })),
-            Err(Refused { slots: _ }) => Err(WantOfMemory),
-        }
+        SharedMemory::share(alloc, state).map_err(|_| WantOfMemory)
     }
 
     /// A pass for a processor that had none before. It has seen what the keeper has.
@@ -102,5 +96,18 @@ impl SharedMemory {
         let whole = closed.take(0);
         closed.free();
         whole.unwrap()
+    }
+
+    fn share(alloc: Global, state: MemState) -> Result<(SharedMemory, Pass), AllocError>
+        requires { state.history ≡ [] }
+        ensures { IfOk result (λ r. (start_of r.0 ≡ state) × IsKeeperOf r.0 r.1 × IsNew r.1) }
+    {
+        let start = Snapshot::of(&state);
+        let mut slots = Vec::with_capacity(alloc, 1)?;
+        slots.push_reserved(Some(state));
+        match Table::new(alloc, &[0, 0], slots, &start) {
+            Ok((table, seat)) => Ok((SharedMemory { table }, Pass { seat })),
+            Err(Refused { slots: _ }) => Err(AllocError),
+        }
     }
 }
