@@ -11,6 +11,7 @@ use vt_outside::Gate;
 
 /// One processor's way to the shared memory: a memory as a processor needs it. `asked` counts the accesses that it has
 /// asked for; at the greatest number it stays.
+#[derive(Drop)]
 pub struct Port<'a, R: Wait, G: Gate> {
     pub rt: &'a R,
     pub memory: &'a SharedMemory,

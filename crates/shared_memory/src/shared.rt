@@ -17,6 +17,7 @@ use std::sync::Wait;
 use vax_form::WantOfMemory;
 
 /// One memory for all processors.
+#[derive(Drop)]
 pub struct SharedMemory {
     table: Table<Option<MemState>, View, Snapshot<MemState>, Order, Global>,
     ghost sized: { (table.shared.table_id.words ≡ 2) × (table.shared.table_id.slots ≡ 1) },
