@@ -4,3 +4,4 @@ pub mod Own
 pub mod Keeps
 pub mod Keeper
 pub mod Accesses
+pub mod Crossing

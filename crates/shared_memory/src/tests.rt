@@ -1,12 +1,12 @@
 // Threads that share one memory. Every test ends by itself, with the same result whatever the schedule.
-ghost use Rattle.std.specs.Prelude.{◌≡◌, ◌≤◌, ◌<◌, ◌×◌, [], All, IfOk, IfSome};
-ghost use Rattle.image_file.specs.Whole.{IsWhole};
+ghost use Rattle.std.specs.Prelude.{◌≡◌, ◌≤◌, ◌<◌, [], true, false, IfOk};
+ghost use Rattle.vax_form.specs.Pages.{is_allowed};
 ghost use Rattle.memory_core.specs.Requests.{CanMake};
 ghost use Rattle.shared_memory.specs.Lists.{times};
-ghost use Rattle.shared_memory.specs.Passes.{set_up_of, processors_of, number_of, given_of, IsPassOf, IsKeeperOf};
+ghost use Rattle.shared_memory.specs.Passes.{set_up_of, processors_of, number_of, given_of, IsPassOf, IsKeeperOf, IsNew};
 
 use crate::{Pass, Port, SharedMemory};
-use image_file::{Image, read_image};
+use image_file::read_image;
 use memory_core::{Change, Kind, MemState, Reply, Request};
 use std::alloc::Global;
 use std::process::Abort;
@@ -47,10 +47,12 @@ enum Way {
 #[derive(Drop)]
 struct Worker<'a, R: Wait + Abort, G: Gate> {
     port: Port<'a, R, G>,
-    image: &'a Image,
     number: u8,
+    way: Way,
+    count: u64,
+    made: u64,
     ghost mine: { number_of port.pass ≡ number },
-    ghost there: { (set_up_of port.memory.now).image ≡ image.now },
+    ghost opens: { (is_allowed (set_up_of port.memory.now).image.pages 4096 true ≡ true) × (is_allowed (set_up_of port.memory.now).image.pages 4096 false ≡ true) },
 }
 
 impl<'a, R: Wait + Abort, G: Gate> Worker<'a, R, G> {
@@ -58,9 +60,6 @@ impl<'a, R: Wait + Abort, G: Gate> Worker<'a, R, G> {
         ensures processor { result.processor ≡ self.now.number }
         ensures can { CanMake (set_up_of self.now.port.memory.now) result }
     {
-        let rt = self.port.rt;
-        assert!(rt; self.image.pages.allowed(QUAD, true));
-        assert!(rt; self.image.pages.allowed(QUAD, false));
         let (kind, change) = match op {
             Op::Load => (Kind::Load, Change::Nothing),
             Op::Add => (Kind::TieLocked, Change::AddWord { at: 0, value: 1 }),
@@ -109,125 +108,106 @@ impl<'a, R: Wait + Abort, G: Gate> Worker<'a, R, G> {
         }
     }
 
-    // How many of so many additions were made.
-    fn add_all(&mut self, way: Way, count: u64) -> u64
-        ensures { (self.new.port.memory ≡ self.old.port.memory) × (self.new.number ≡ self.old.number) }
-    {
-        let mut made = 0;
-        for _ in 0..count {
-            if !self.add(way) {
-                return made;
+    // Makes its additions, as long as there is room.
+    fn run(&mut self) {
+        for _ in 0..self.count {
+            if !self.add(self.way) {
+                return;
             }
-            made += 1;
+            self.made = self.made.wrapping_add(1);
         }
-        made
     }
 }
 
-#[derive(Drop)]
-struct Job {
-    number: u8,
-    pass: Option<Pass>,
-    made: u64,
-}
-
-// What the workers of one memory do.
-#[derive(Drop)]
-struct Task<'a, G: Gate> {
+fn worker_for<'a, R: Wait + Abort, G: Gate>(
+    rt: &'a R,
     memory: &'a SharedMemory,
-    image: &'a Image,
     gate: &'a G,
+    number: u8,
+    pass: Pass,
     way: Way,
     count: u64,
-    ghost there: { (set_up_of memory.now).image ≡ image.now },
-}
-
-impl<'a, G: Gate> Task<'a, G> {
-    fn worker<R: Wait + Abort>(&self, rt: &'a R, number: u8, pass: Pass) -> Worker<'a, R, G>
-        requires { IsPassOf self.now.memory.now number pass }
-        ensures { (result.port.memory ≡ self.now.memory) × (result.number ≡ number) }
-    {
-        Worker {
-            port: Port {
-                rt,
-                memory: self.memory,
-                pass,
-                gate: self.gate,
-                asked: 0,
-            },
-            image: self.image,
-            number,
-        }
-    }
-
-    fn run<R: Wait + Abort>(&self, rt: &R, job: &mut Job)
-        requires { IfSome job.old.pass (λ p. IsPassOf self.now.memory.now job.old.number p) }
-        ensures { IfSome job.new.pass (λ p. IsPassOf self.now.memory.now job.new.number p) }
-    {
-        let Some(pass) = job.pass.take() else {
-            return;
-        };
-        let mut worker = self.worker(rt, job.number, pass);
-        job.made = worker.add_all(self.way, self.count);
-        job.pass = Some(pass_of(worker));
-    }
-
-}
-
-impl<'a, G: Gate + Sync> Task<'a, G> {
-    // How many additions all jobs made, each in a thread of its own.
-    fn run_all<R: Threads + Wait + Abort + Sync>(&self, rt: &R, jobs: &mut [Job]) -> u64
-        requires { All (λ job. IfSome job.pass (λ p. IsPassOf self.now.memory.now job.number p)) jobs.old }
-    {
-        thread::for_each_mut(
+) -> Worker<'a, R, G>
+    requires pass { IsPassOf memory.now number pass }
+    requires opens { (is_allowed (set_up_of memory.now).image.pages 4096 true ≡ true) × (is_allowed (set_up_of memory.now).image.pages 4096 false ≡ true) }
+    ensures { (result.port.memory.now ≡ memory.now) × (result.number ≡ number) }
+{
+    Worker {
+        port: Port {
             rt,
-            jobs,
-            16,
-            &|_i, job|
-                requires { IfSome job.now.pass (λ p. IsPassOf self.now.memory.now job.now.number p) }
-            { self.run(rt, job) },
-        );
-        jobs.iter().fold(0u64, |made, job| made.wrapping_add(job.made))
+            memory,
+            pass,
+            gate,
+            asked: 0,
+        },
+        number,
+        way,
+        count,
+        made: 0,
     }
+}
+
+fn pass_of<R: Wait + Abort, G: Gate>(worker: Worker<'_, R, G>) -> Pass
+    ensures { IsPassOf worker.entry.port.memory.now worker.entry.number result }
+{
+    let Worker { port, .. } = worker;
+    let Port { pass, .. } = port;
+    pass
+}
+
+// How many additions all workers made, each in a thread of its own.
+fn run_all<R: Threads + Wait + Abort + Sync, G: Gate + Sync>(
+    rt: &R,
+    workers: &mut [Worker<'_, R, G>],
+) -> u64 {
+    thread::for_each_mut(rt, workers, 16, &|_i, worker| { worker.run() });
+    let mut made = 0u64;
+    for worker in workers.iter() {
+        made = made.wrapping_add(worker.made);
+    }
+    made
 }
 
 // A memory of the image, and its keeper.
-fn share(
+fn share<R: Abort>(
+    rt: &R,
     alloc: Global,
-    image: &Image,
     processors: u8,
     limit: u32,
 ) -> Result<(SharedMemory, Pass), Fail>
-    requires { IsWhole image.now }
-    ensures { IfOk result (λ r. IsKeeperOf r.0 r.1 × (given_of r.1 ≡ []) × (processors_of r.0 ≡ processors) × ((set_up_of r.0).image ≡ image.now)) }
+    ensures keeper { IfOk result (λ r. IsKeeperOf r.0 r.1 × IsNew r.1 × (processors_of r.0 ≡ processors)) }
+    ensures opens { IfOk result (λ r. (is_allowed (set_up_of r.0).image.pages 4096 true ≡ true) × (is_allowed (set_up_of r.0).image.pages 4096 false ≡ true)) }
 {
-    let state = MemState::new(alloc, image, Vec::new(alloc), processors, limit, 0)?;
+    let image = read_image(alloc, &IMAGE)?;
+    assert!(rt; image.pages.allowed(QUAD, true));
+    assert!(rt; image.pages.allowed(QUAD, false));
+    let state = MemState::new(alloc, &image, Vec::new(alloc), processors, limit, 0)?;
     Ok(SharedMemory::new(alloc, state)?)
 }
 
-// A job for each number below `count`.
-fn split_all(
-    memory: &SharedMemory,
-    keeper: &mut Pass,
+// A worker for each number below `threads`.
+fn split_all<'a, R: Wait + Abort, G: Gate>(
+    rt: &'a R,
     alloc: Global,
-    count: u8,
-) -> Result<Vec<Job>, Fail>
+    memory: &'a SharedMemory,
+    keeper: &mut Pass,
+    gate: &'a G,
+    way: Way,
+    threads: u8,
+    count: u64,
+) -> Result<Vec<Worker<'a, R, G>>, Fail>
     requires keeper { IsKeeperOf memory.now keeper.old × (given_of keeper.old ≡ []) }
-    requires count { count ≤ processors_of memory.now }
+    requires threads { threads ≤ processors_of memory.now }
+    requires opens { (is_allowed (set_up_of memory.now).image.pages 4096 true ≡ true) × (is_allowed (set_up_of memory.now).image.pages 4096 false ≡ true) }
     ensures keeper { IsKeeperOf memory.now keeper.new }
-    ensures jobs { IfOk result (λ jobs. All (λ job. IfSome job.pass (λ p. IsPassOf memory.now job.number p)) jobs.items) }
-    ensures fresh { IfOk result (λ jobs. times count (given_of keeper.new) ≡ 0) }
+    ensures fresh { IfOk result (λ workers. times threads (given_of keeper.new) ≡ 0) }
 {
-    let mut jobs = Vec::new(alloc);
-    for number in 0..count {
-        let pass = Some(memory.split(keeper, number));
-        jobs.push(Job {
-            number,
-            pass,
-            made: 0,
-        })?;
+    let mut workers = Vec::new(alloc);
+    for number in 0..threads {
+        let pass = memory.split(keeper, number);
+        workers.push(worker_for(rt, memory, gate, number, pass, way, count))?;
     }
-    Ok(jobs)
+    Ok(workers)
 }
 
 // So many threads count up one word, each so often; what they made, and what one more processor then finds.
@@ -242,19 +222,11 @@ fn count_up<R: Threads + Wait + Abort + Sync, G: Gate + Sync>(
 ) -> Result<(u64, Reply), Fail>
     requires { threads < 255 }
 {
-    let image = read_image(alloc, &IMAGE)?;
-    let (memory, mut keeper) = share(alloc, &image, threads + 1, limit)?;
-    let mut jobs = split_all(&memory, &mut keeper, alloc, threads)?;
+    let (memory, mut keeper) = share(rt, alloc, threads + 1, limit)?;
+    let mut workers = split_all(rt, alloc, &memory, &mut keeper, gate, way, threads, count)?;
     let last = memory.split(&mut keeper, threads);
-    let task = Task {
-        memory: &memory,
-        image: &image,
-        gate,
-        way,
-        count,
-    };
-    let made = task.run_all(rt, jobs.as_mut_slice());
-    let mut reader = task.worker(rt, threads, last);
+    let made = run_all(rt, workers.as_mut_slice());
+    let mut reader = worker_for(rt, &memory, gate, threads, last, way, 0);
     Ok((made, reader.ask(Op::Load)))
 }
 
@@ -341,29 +313,14 @@ fn made(before: u64) -> Reply {
 // What is made in the gate stands before the access, and needs no lock that the access holds.
 #[test]
 fn the_gate_comes_first(rt: HostRuntime) -> Result<(), Fail> {
-    let image = read_image(rt.alloc(), &IMAGE)?;
-    let (memory, mut keeper) = share(rt.alloc(), &image, 2, 10)?;
+    let (memory, mut keeper) = share(&rt, rt.alloc(), 2, 10)?;
     let first = memory.split(&mut keeper, 0);
     let second = memory.split(&mut keeper, 1);
-    let open = Task {
-        memory: &memory,
-        image: &image,
-        gate: &OpenGate,
-        way: Way::Interlocked,
-        count: 0,
-    };
     let gate = AskFirst {
         rt: &rt,
-        worker: Mutex::new(open.worker(&rt, 0, first)),
+        worker: Mutex::new(worker_for(&rt, &memory, &OpenGate, 0, first, Way::Interlocked, 0)),
     };
-    let task = Task {
-        memory: &memory,
-        image: &image,
-        gate: &gate,
-        way: Way::Interlocked,
-        count: 0,
-    };
-    let mut worker = task.worker(&rt, 1, second);
+    let mut worker = worker_for(&rt, &memory, &gate, 1, second, Way::Interlocked, 0);
     assert_eq!(rt; worker.ask(Op::Add), made(1));
     assert_eq!(rt; worker.ask(Op::Load), made(3));
     assert_eq!(rt; worker.port.asked, 2);
@@ -373,19 +330,11 @@ fn the_gate_comes_first(rt: HostRuntime) -> Result<(), Fail> {
 // Two processors in turns, joined and closed: who made each entry, and what it found.
 #[test]
 fn passes_of_one_history(rt: HostRuntime) -> Result<(), Fail> {
-    let image = read_image(rt.alloc(), &IMAGE)?;
-    let (memory, mut keeper) = share(rt.alloc(), &image, 2, 4)?;
+    let (memory, mut keeper) = share(&rt, rt.alloc(), 2, 4)?;
     let first = memory.split(&mut keeper, 1);
     let second = memory.split(&mut keeper, 0);
-    let task = Task {
-        memory: &memory,
-        image: &image,
-        gate: &OpenGate,
-        way: Way::Interlocked,
-        count: 0,
-    };
-    let mut one = task.worker(&rt, 1, first);
-    let mut two = task.worker(&rt, 0, second);
+    let mut one = worker_for(&rt, &memory, &OpenGate, 1, first, Way::Interlocked, 0);
+    let mut two = worker_for(&rt, &memory, &OpenGate, 0, second, Way::Interlocked, 0);
     assert_eq!(rt; one.ask(Op::Add), made(0));
     assert_eq!(rt; two.ask(Op::Add), made(1));
     assert_eq!(rt; two.ask(Op::Load), made(2));
@@ -404,12 +353,4 @@ fn passes_of_one_history(rt: HostRuntime) -> Result<(), Fail> {
         assert_eq!(rt; (entry.before, entry.after), (before, after));
     }
     Ok(())
-}
-
-fn pass_of<R: Wait + Abort, G: Gate>(worker: Worker<'_, R, G>) -> Pass
-    ensures { IsPassOf worker.port.memory.now worker.number result }
-{
-    let Worker { port, .. } = worker;
-    let Port { pass, .. } = port;
-    pass
 }
