@@ -1,0 +1,25 @@
+-- A memory may be shared by threads, and a pass may go to another thread.
+use denote.Param.Send.{IsSend, IsSync, sendable}
+use Rattle.std.proofs.Crossing.{crosses, send, sync, frees}
+use Rattle.atomic_table.proofs.shared.Seat.TheSendSync as Seat
+use Rattle.atomic_table.proofs.owned.Table.TheSendSync as Table
+use Rattle.memory_core.proofs.entry.Entry.TheSendSync as Entry
+use Rattle.memory_core.proofs.reservation.Reservation.TheSendSync as Reservation
+use Rattle.vax_form.proofs.pages.PageRange.TheSendSync as PageRange
+use Rattle.memory_core.specs.contracts.state.MemState as State
+use Rattle.std.specs.contracts.option.Option as Option
+use Rattle.shared_memory.specs.contracts.pass.Pass as Pass
+use Rattle.shared_memory.specs.contracts.shared.SharedMemory as SharedMemory
+
+pub state_send : IsSend State.the_row
+state_send = search (Entry.the_send, Reservation.the_send, PageRange.the_send, sendable, crosses) depth 30
+
+pub slot_send : IsSend (Option.the_row State.the_row)
+slot_send = search (state_send, sendable) depth 20
+
+pub pass_send : IsSend Pass.the_row
+pass_send = search (Seat.the_send, slot_send, sendable) depth 20
+
+pub memory_sync : IsSync SharedMemory.the_row
+memory_sync = search (Table.the_field_sync, slot_send, send, sync, frees, sendable, crosses) depth 20
+

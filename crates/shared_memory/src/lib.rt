@@ -1,0 +1,17 @@
+//! A memory that threads share: each access is one entry of one history. The memory lies in a slot; a pass takes it out,
+//! makes one access and puts it back. A pass is what one processor knows of the history.
+#![tactic(auto)]
+
+mod pass;
+mod plays;
+mod port;
+mod shared;
+mod steps;
+#[cfg(test)]
+mod tests;
+mod view;
+
+pub use pass::Pass;
+pub use port::Port;
+pub use shared::SharedMemory;
+pub use view::{Ended, View};

@@ -1,0 +1,77 @@
+// The steps of an access on the table.
+ghost use Rattle.std.specs.Prelude.{◌≡◌, ◌∷◌, ◌++◌, [], Some, None};
+ghost use Rattle.memory_core.specs.declared.entry.Entry.{Entry};
+ghost use Rattle.memory_core.specs.Contents.{Contents};
+ghost use Rattle.shared_memory.specs.Steps.{Won, HasTurn, entered, looked, given_back};
+ghost use Rattle.shared_memory.specs.Rule.{behind, IsLegal};
+ghost use Rattle.shared_memory.specs.Views.{IsPass};
+
+use crate::plays::{Enter, GiveBack, Look, Order, Win};
+use crate::view::View;
+use atomic_table::Seat;
+use memory_core::MemState;
+use std::snapshot::Snapshot;
+use std::sync::Wait;
+
+pub type Shared = atomic_table::Shared<Option<MemState>, View, Snapshot<MemState>, Order>;
+
+pub type Place = Seat<Option<MemState>, View>;
+
+// Takes the turn, and the slot with it.
+pub fn win<R: Wait>(rt: &R, shared: &Shared, seat: &mut Place)
+    requires { (seat.old.table_id ≡ shared.now.table_id) × (shared.now.table_id.words ≡ 2) × (shared.now.table_id.slots ≡ 1) × IsPass shared.now.key.value seat.old.me.0.number seat.old.me.0 }
+    ensures { (seat.new.table_id ≡ seat.old.table_id) × Won seat.old.me seat.new.me }
+{
+    for _ in rt.forever() {
+        if shared.compare_exchange::<Win>(seat, 1, 0, 1) == 0 {
+            return;
+        }
+        shared.park(rt, 1, 1);
+    }
+    unreachable!()
+}
+
+// Takes the memory out of the slot that the seat has.
+pub fn take_out(shared: &Shared, seat: &mut Place) -> MemState
+    requires { (seat.old.table_id ≡ shared.now.table_id) × ((state : Contents) × (seat.old.me.1 ≡ (0, Some state) ∷ [])) }
+    ensures table { seat.new.table_id ≡ seat.old.table_id }
+    ensures out { (seat.old.me.1 ≡ (0, Some result) ∷ []) × (seat.new.me ≡ (seat.old.me.0, (0, None) ∷ [])) }
+{
+    shared.exchange(seat, 0, None).unwrap()
+}
+
+// Puts the memory into the slot, and gives the turn back.
+pub fn give_back(shared: &Shared, seat: &mut Place, whole: Option<MemState>)
+    requires table { (seat.old.table_id ≡ shared.now.table_id) × (shared.now.table_id.words ≡ 2) × (shared.now.table_id.slots ≡ 1) }
+    requires turn { HasTurn seat.old.me }
+    requires state { whole ≡ Some (behind shared.now.key.value seat.old.me.0.found) }
+    ensures { (seat.new.table_id ≡ seat.old.table_id) × (seat.new.me ≡ (given_back seat.old.me.0, [])) }
+{
+    drop(shared.exchange(seat, 0, whole));
+    shared.store::<GiveBack>(seat, 1, 0);
+    shared.wake_one(1);
+}
+
+// Enters the last entry of the memory, which has one more than was found.
+pub fn enter(shared: &Shared, seat: &mut Place, state: MemState)
+    requires table { (seat.old.table_id ≡ shared.now.table_id) × (shared.now.table_id.words ≡ 2) × (shared.now.table_id.slots ≡ 1) }
+    requires turn { HasTurn seat.old.me }
+    requires entry { (e : Entry) × (e.processor ≡ seat.old.me.0.number) × (state ≡ behind shared.now.key.value (seat.old.me.0.found ++ e ∷ [])) × IsLegal shared.now.key.value.set_up state.history }
+    ensures { (seat.new.table_id ≡ seat.old.table_id) × (seat.new.me ≡ (given_back (entered seat.old.me.0 state.history), [])) }
+{
+    let count = state.history().len() as u64;
+    let whole = Some(state);
+    shared.compare_exchange_with::<Enter>(seat, 0, count - 1, count, &whole);
+    give_back(shared, seat, whole);
+}
+
+// Sees that the history has its limit.
+pub fn look(shared: &Shared, seat: &mut Place, state: MemState)
+    requires table { (seat.old.table_id ≡ shared.now.table_id) × (shared.now.table_id.words ≡ 2) × (shared.now.table_id.slots ≡ 1) }
+    requires turn { HasTurn seat.old.me }
+    requires state { state ≡ behind shared.now.key.value seat.old.me.0.found }
+    ensures { (seat.new.table_id ≡ seat.old.table_id) × (seat.new.me ≡ (given_back (looked seat.old.me.0), [])) }
+{
+    shared.load::<Look>(seat, 0);
+    give_back(shared, seat, Some(state));
+}
