@@ -1,13 +1,20 @@
-# For the measuring scripts: `scratch "DEP DEP .."` makes the crate `measure` of the program on standard input, with these
-# libraries, in a temporary copy of the repository, and goes there. What is proved in out/ isn't proved again.
-scratch() {
+# For the measuring scripts. What is proved in out/ isn't proved again.
+
+# Makes a temporary copy of the repository, and goes there.
+copy() {
     local top
     top=$(cd "$(dirname "${BASH_SOURCE[0]}")/.." && pwd)
     room=$(mktemp -d)
     trap 'rm -rf "$room"' EXIT
-    tar -C "$top" --exclude=.git -cf - . | tar -C "$room" -xf -
+    tar -C "$top" --exclude=.git --exclude=incremental -cf - . | tar -C "$room" -xf -
     cd "$room"
     git init -q
+}
+
+# `scratch "DEP DEP .."` makes the crate `measure` of the program on standard input, with these libraries, in such a copy,
+# and goes there.
+scratch() {
+    copy
     echo "measure: $1" >> crates.txt
     mkdir -p crates/measure/src
     cat > crates/measure/src/main.rt
