@@ -1,10 +1,9 @@
 -- Operands in one part and in two.
-use Rattle.std.proofs.Common.{◌≡◌, ℕ, ◌+◌, ◌-◌, ◌%◌, ◌^◌, ◌<◌, ◌≤◌, refl, sym, ap, ◌∙◌, arith, Bool, true, false, List, [], ◌∷◌}
-use Rattle.std.specs.Prelude.{◌==◌, nat_le, if◌then◌else◌}
+use Rattle.std.proofs.Common.{◌≡◌, ℕ, ◌-◌, ◌<◌, ◌≤◌, refl, ap, arith, false, [], ◌∷◌}
+use Rattle.std.specs.Prelude.{◌==◌}
 use Rattle.std.proofs.lemmas.Bool.{le-leb, lt-leb, ne_eqb}
 use Rattle.vax_form.specs.Parts.{parts}
-use Rattle.micro_ops.specs.Course.{Course, read_parts, write_parts}
-use Rattle.micro_ops.specs.Meaning.{Left}
+use Rattle.micro_ops.specs.Course.{read_parts, write_parts}
 use Rattle.micro_ops.specs.Laws.{room_at, next_quad, ReadsInOne, ReadsInTwo, WritesInOne, WritesInTwo}
 
 is_some : (count : ℕ) → 0 < count → (count == 0) ≡ false

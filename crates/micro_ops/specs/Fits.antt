@@ -8,7 +8,6 @@ use Rattle.micro_ops.specs.declared.program.Exit.{Exit}
 use Rattle.micro_ops.specs.declared.program.Exit.TheVariants.{Computed, Choice, Service}
 use Rattle.micro_ops.specs.declared.program.Micro.{Micro}
 use Rattle.micro_ops.specs.declared.program.Micro.TheVariants.{Compute, Probe, Refuse, Read, Write, Locked, Commit, Codes, SetPsw, Leave}
-use Rattle.micro_ops.specs.declared.program.MicroOp.{MicroOp}
 use Rattle.micro_ops.specs.Uses.{reads, writes, commits, reads_register, reads_flag, is_unary, is_codes, is_set_psw, is_leave, is_change, is_guarded, is_access, has_place, leaves_longword}
 use Rattle.micro_ops.specs.LeftOut.{is_left_out, is_low}
 use Rattle.micro_ops.specs.WordCounts.{program_words}

@@ -2,7 +2,7 @@
 use Rattle.std.specs.Prelude.{◌≡◌, ℕ, ◌+◌, ◌-◌, ◌*◌, ◌/◌, ◌%◌, ◌^◌, ◌<◌, ◌≤◌}
 use Rattle.vax_form.specs.Parts.{parts}
 use Rattle.vax_form.specs.declared.state.RefKind.TheVariants.{Read, Write}
-use Rattle.micro_ops.specs.Course.{Course, Ask, AtLeaves, read_parts, write_parts}
+use Rattle.micro_ops.specs.Course.{Course, Ask, read_parts, write_parts}
 use Rattle.micro_ops.specs.Meaning.{Left}
 
 -- how many of the bytes stand in the aligned quadword of the first

@@ -1,4 +1,4 @@
-use Rattle.std.proofs.Common.{sym, ◌∙◌}
+use Rattle.std.proofs.Common.{sym}
 use Rattle.micro_ops.specs.Fits.{commits_last}
 use Rattle.micro_ops.proofs.Below.{below_not}
 use Rattle.micro_ops.proofs.check.each_commits_last.Goals as goal
