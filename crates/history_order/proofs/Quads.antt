@@ -1,5 +1,5 @@
 -- Quadwords of a memory of bytes, and what references make of them.
-use Rattle.std.proofs.Common.{◌≡◌, ◌≢◌, ℕ, zero, suc, ◌<◌, ◌≤◌, ◌+◌, ◌-◌, ◌*◌, ◌/◌, ◌%◌, ◌^◌, ◌==◌, Bool, true, false, if◌then◌else◌, refl, sym, ap, ◌∙◌, arith, lit<, ◌⊎◌, inl, inr, ⊎_elim, bit_and, bit_or}
+use Rattle.std.proofs.Common.{◌≡◌, ◌≢◌, ℕ, zero, suc, ◌<◌, ◌≤◌, ◌+◌, ◌-◌, ◌*◌, ◌/◌, ◌%◌, ◌^◌, ◌==◌, Bool, true, false, if◌then◌else◌, refl, sym, ap, ◌∙◌, arith, lit<, min, ◌⊎◌, inl, inr, ⊎_elim, bit_and, bit_or}
 use Rattle.std.proofs.lemmas.Bool.{cases_lt}
 use Rattle.std.proofs.lemmas.Bool.Decides.{nat_tests}
 use Rattle.std.proofs.lemmas.Nat.{or_lt, or_shr, or_mod, and_shr, and_mod, and_le_l, pow-add, pow_below, shl-shr, shr-shr, mod-pow-add, mod_below, from_le_bytes-to_le_bytes_8}
@@ -286,7 +286,9 @@ module _ (byte : ℕ → ℕ) (quad place : ℕ) (are : AreBytes byte) (small : 
 
   replies_alike : (kind : RefKind) (count next_input after : ℕ) → names_memory kind ≡ true → place < 8 → place + byte_count_of kind count ≤ 8
       → reply_by kind byte next_input (quad + place) count ≡ reply_found kind place count (quad_at byte quad) after
-  replies_alike Read count next_input after m l within = value_at-field byte quad place count are small within
+  replies_alike Read count next_input after m l within =
+      let whole : min count 8 ≡ count = omega arith in
+      ap (value_at byte (quad + place)) whole ∙ value_at-field byte quad place count are small within
   replies_alike (Write value) count next_input after m l within = refl
   replies_alike (Add value) count next_input after m l within = value_at-field byte quad place 2 are small within
   replies_alike (SetBit bit) count next_input after m l within =

@@ -1,6 +1,6 @@
 -- What references reply, and what they make of memory: a byte for each address. Addresses are taken modulo 2^32.
 -- VAX Architecture Reference Manual, "Data Types": the lowest byte of a number stands at the lowest address.
-use Rattle.std.specs.Prelude.{ℕ, zero, suc, ◌<◌, ◌≤◌, ◌+◌, ◌-◌, ◌*◌, ◌/◌, ◌%◌, ◌^◌, ◌==◌, if◌then◌else◌, bit_and, bit_or}
+use Rattle.std.specs.Prelude.{ℕ, zero, suc, ◌<◌, ◌≤◌, ◌+◌, ◌-◌, ◌*◌, ◌/◌, ◌%◌, ◌^◌, ◌==◌, min, if◌then◌else◌, bit_and, bit_or}
 use Rattle.vax_form.specs.declared.state.Reference.{Reference}
 use Rattle.vax_form.specs.declared.state.RefKind.{RefKind}
 use Rattle.vax_form.specs.declared.state.RefKind.TheVariants.{Read, Write, Add, SetBit, ClearBit, Put, Get}
@@ -19,11 +19,11 @@ abbrev pub with_value : (byte : ℕ → ℕ) → (address count value : ℕ) →
 with_value byte address zero value = byte
 with_value byte address (suc count) value = with_value (with_byte byte (address % 2 ^ 32) (value % 256)) (address + 1) count (value / 256)
 
--- what is replied, where memory is so and the input goes on with that answer. A read is zero-extended; an interlocked
--- reference replies what was there before.
+-- what is replied, where memory is so and the input goes on with that answer. A read is zero-extended, and no
+-- reply has more than eight bytes; an interlocked reference replies what was there before.
 -- VAX Architecture Reference Manual, "Add Aligned Word Interlocked", "Branch on Bit Interlocked"
 abbrev pub reply_by : RefKind → (byte : ℕ → ℕ) → (next_input address count : ℕ) → ℕ
-reply_by Read byte next_input address count = value_at byte address count
+reply_by Read byte next_input address count = value_at byte address (min count 8)
 reply_by (Write value) byte next_input address count = 0
 reply_by (Add value) byte next_input address count = value_at byte address 2
 reply_by (SetBit bit) byte next_input address count = byte (address % 2 ^ 32)
