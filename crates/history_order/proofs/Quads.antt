@@ -279,8 +279,12 @@ module _ (byte : ℕ → ℕ) (quad place : ℕ) (are : AreBytes byte) (small : 
       written 2 ((value_at byte (quad + place) 2 + value) % 2 ^ 16) within
       ∙ ap (λ mask. with_bytes mask ((value_at byte (quad + place) 2 + value) % 2 ^ 16 * 2 ^ (8 * place)) (quad_at byte quad)) (sym (word_mask place))
       ∙ ap (λ n. with_bytes (3 * 2 ^ place) (n * 2 ^ (8 * place)) (quad_at byte quad)) sum
-  changes_alike (SetBit bit) count m l within fits = bit_set bit l fits
-  changes_alike (ClearBit bit) count m l within fits = bit_cleared bit l fits
+  changes_alike (SetBit bit) count m l within fits =
+      let same : bit % 8 ≡ bit = omega arith in
+      ap (λ k. quad_at (with_byte byte ((quad + place) % 2 ^ 32) (bit_or (byte ((quad + place) % 2 ^ 32)) (2 ^ k))) quad) same ∙ bit_set bit l fits
+  changes_alike (ClearBit bit) count m l within fits =
+      let same : bit % 8 ≡ bit = omega arith in
+      ap (λ k. quad_at (with_byte byte ((quad + place) % 2 ^ 32) (bit_and (byte ((quad + place) % 2 ^ 32)) (255 - 2 ^ k))) quad) same ∙ bit_cleared bit l fits
   changes_alike (Put value) count m l within fits = absurd (cc m)
   changes_alike Get count m l within fits = absurd (cc m)
 

@@ -25,11 +25,11 @@ kept_by Read byte address count fits are = are
 kept_by (Write value) byte address count fits are = with_value_stays byte address count value are
 kept_by (Add value) byte address count fits are = with_value_stays byte address 2 ((value_at byte address 2 + value) % 2 ^ 16) are
 kept_by (SetBit bit) byte address count fits are =
-    with_byte_stays byte (address % 2 ^ 32) (bit_or (byte (address % 2 ^ 32)) (2 ^ bit)) (or_of_8 (byte (address % 2 ^ 32)) (2 ^ bit) (are (address % 2 ^ 32)) (pow_below bit 8 fits)) are
+    with_byte_stays byte (address % 2 ^ 32) (bit_or (byte (address % 2 ^ 32)) (2 ^ (bit % 8))) (or_of_8 (byte (address % 2 ^ 32)) (2 ^ (bit % 8)) (are (address % 2 ^ 32)) (pow_below (bit % 8) 8 (mod_below bit 8 (lit< tt)))) are
 kept_by (ClearBit bit) byte address count fits are =
     let small = are (address % 2 ^ 32) in
-    let less = and_le_l (byte (address % 2 ^ 32)) (255 - 2 ^ bit) in
-    with_byte_stays byte (address % 2 ^ 32) (bit_and (byte (address % 2 ^ 32)) (255 - 2 ^ bit)) (omega arith) are
+    let less = and_le_l (byte (address % 2 ^ 32)) (255 - 2 ^ (bit % 8)) in
+    with_byte_stays byte (address % 2 ^ 32) (bit_and (byte (address % 2 ^ 32)) (255 - 2 ^ (bit % 8))) (omega arith) are
 kept_by (Put value) byte address count fits are = are
 kept_by Get byte address count fits are = are
 
@@ -57,8 +57,8 @@ others_kept : (kind : RefKind) (byte : ℕ → ℕ) (address count at : ℕ) →
 others_kept Read byte address count at small within apart = refl
 others_kept (Write value) byte address count at small within apart = with_value_elsewhere byte address count value at within apart
 others_kept (Add value) byte address count at small within apart = with_value_elsewhere byte address 2 ((value_at byte address 2 + value) % 2 ^ 16) at within apart
-others_kept (SetBit bit) byte address count at small within apart = elsewhere byte (address % 2 ^ 32) (bit_or (byte (address % 2 ^ 32)) (2 ^ bit)) at (first_part address 0 at small apart)
-others_kept (ClearBit bit) byte address count at small within apart = elsewhere byte (address % 2 ^ 32) (bit_and (byte (address % 2 ^ 32)) (255 - 2 ^ bit)) at (first_part address 0 at small apart)
+others_kept (SetBit bit) byte address count at small within apart = elsewhere byte (address % 2 ^ 32) (bit_or (byte (address % 2 ^ 32)) (2 ^ (bit % 8))) at (first_part address 0 at small apart)
+others_kept (ClearBit bit) byte address count at small within apart = elsewhere byte (address % 2 ^ 32) (bit_and (byte (address % 2 ^ 32)) (255 - 2 ^ (bit % 8))) at (first_part address 0 at small apart)
 others_kept (Put value) byte address count at small within apart = refl
 others_kept Get byte address count at small within apart = refl
 

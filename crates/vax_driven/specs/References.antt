@@ -31,13 +31,13 @@ reply_by (ClearBit bit) byte next_input address count = byte (address % 2 ^ 32)
 reply_by (Put value) byte next_input address count = 0
 reply_by Get byte next_input address count = next_input
 
--- memory behind the reference. A word is added to modulo 2^16
+-- memory behind the reference. A word is added to modulo 2^16, and the bits of a byte are numbered from 0 to 7
 abbrev pub changed_by : RefKind → (byte : ℕ → ℕ) → (address count : ℕ) → ℕ → ℕ
 changed_by Read byte address count = byte
 changed_by (Write value) byte address count = with_value byte address count value
 changed_by (Add value) byte address count = with_value byte address 2 ((value_at byte address 2 + value) % 2 ^ 16)
-changed_by (SetBit bit) byte address count = with_byte byte (address % 2 ^ 32) (bit_or (byte (address % 2 ^ 32)) (2 ^ bit))
-changed_by (ClearBit bit) byte address count = with_byte byte (address % 2 ^ 32) (bit_and (byte (address % 2 ^ 32)) (255 - 2 ^ bit))
+changed_by (SetBit bit) byte address count = with_byte byte (address % 2 ^ 32) (bit_or (byte (address % 2 ^ 32)) (2 ^ (bit % 8)))
+changed_by (ClearBit bit) byte address count = with_byte byte (address % 2 ^ 32) (bit_and (byte (address % 2 ^ 32)) (255 - 2 ^ (bit % 8)))
 changed_by (Put value) byte address count = byte
 changed_by Get byte address count = byte
 
