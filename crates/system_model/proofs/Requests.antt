@@ -1,5 +1,5 @@
 -- A turn keeps its processor's thread, makes one step, and asks for that thread.
-use Rattle.std.proofs.Common.{◌≡◌, ℕ, suc, Bool, true, false, if◌then◌else◌, List, [], ◌∷◌, Option, Some, None, refl, sym, ap, ◌∙◌, subst}
+use Rattle.std.proofs.Common.{◌≡◌, ℕ, suc, ◌%◌, ◌^◌, ◌==◌, Bool, true, false, if◌then◌else◌, List, [], ◌∷◌, Option, Some, None, refl, sym, ap, ◌∙◌, subst}
 use Rattle.alpha_encode.specs.declared.instr.AlphaInstr.{AlphaInstr}
 use Rattle.alpha_meaning.specs.Act.{Does, Goes, Asks as AsksAccess, Calls, act}
 use Rattle.alpha_meaning.specs.State.{Alpha, Regs}
@@ -9,13 +9,16 @@ use Rattle.block_law.specs.Translations.{fetch_of}
 use Rattle.exception_records.specs.Points.{point_at, raised_at}
 use Rattle.exception_records.specs.declared.points.Point.{Point}
 use Rattle.exception_records.specs.declared.rules.Rules.{Rules}
+use Rattle.memory_core.specs.declared.entry.Change.TheVariants.{Nothing, Byte}
+use Rattle.memory_core.specs.declared.entry.Kind.TheVariants as kinds
+use Rattle.block_law.specs.Placements.{target}
 use Rattle.memory_core.specs.declared.entry.Request.{Request}
 use Rattle.vax_form.specs.Tree.{Tree, Ending, Finish, Exit, Trap, Answer, answer}
 use Rattle.vax_form.specs.Tree as trees
 use Rattle.vax_form.specs.declared.state.Exception.{Exception}
 use Rattle.vax_form.specs.declared.state.VaxState.{VaxState}
 use Rattle.system_model.specs.Settings.{Setting}
-use Rattle.system_model.specs.Steps.{Last, Comes, Fails, Place, Inside, Lands, Leaves, Next, Moves, Wants, Stuck, Moment, is_defined, accesses, raised, served, called, does, next_by, next}
+use Rattle.system_model.specs.Steps.{Last, Comes, Fails, Place, Inside, Lands, Leaves, Next, Moves, Wants, Stuck, Moment, state_at, behind, with_r0, is_defined, accesses, raised, served, called, does, next_by, next}
 use Rattle.system_model.specs.Processors.{Mode, New, Runs, Interprets, Ended, Processor, moment_of, stepped, tied, arrived, left, placed, Turn, Went, Asks, Over, Lost, alpha_turn, tie_turn, turn_in, mode_of, turn}
 
 -- the request of a step is its thread's
@@ -36,13 +39,25 @@ of_choice : (thread : ℕ) (b : Bool) (x y : Next) → IsOfThread thread x → I
 of_choice thread true x y h k = h
 of_choice thread false x y h k = k
 
+of_choices : (thread : ℕ) (one two three four : Bool) (exit : Place) (put get : Request) (stays : Place) (gets : ℕ → Bool → Place) (tells none : Place) → put.processor ≡ thread → get.processor ≡ thread
+    → IsOfThread thread (if one then Moves exit else if two then Wants put (λ before success. stays) else if three then Wants get gets else if four then Moves tells else Moves none)
+of_choices thread true two three four exit put get stays gets tells none p g = tt
+of_choices thread false true three four exit put get stays gets tells none p g = p
+of_choices thread false false true four exit put get stays gets tells none p g = g
+of_choices thread false false false true exit put get stays gets tells none p g = tt
+of_choices thread false false false false exit put get stays gets tells none p g = tt
+
 of_served : (setting : Setting) (m : Moment) (code : ℕ) (rules : Rules) (c : Alpha) → IsOfThread m.thread (served setting m code rules c)
-of_served setting m code rules c = of_choice m.thread _ _ _ tt (of_choice m.thread _ _ _ refl (of_choice m.thread _ _ _ refl (of_choice m.thread _ _ _ tt tt)))
+of_served setting m code rules c =
+    of_choices m.thread (code == 1) (code == 2) (code == 3) (code == 4) (Leaves (Comes (Exit (state_at m.boundary c.regs (target c.regs) rules m.held))))
+    (record { processor = m.thread; retired = m.retired; kind = kinds.Put; quad = 0; change = Byte (c.regs 0 % 256) })
+    (record { processor = m.thread; retired = m.retired; kind = kinds.Get; quad = 0; change = Nothing })
+    (behind setting m c c.regs) (λ before success. behind setting m c (with_r0 c.regs before)) (behind setting m c (with_r0 c.regs m.thread)) (behind setting m c (with_r0 c.regs 0)) refl refl
 
 of_called : (setting : Setting) (m : Moment) (call : Call) (point : Option Point) (c : Alpha) → IsOfThread m.thread (called setting m call point c)
 of_called setting m Probe (Some point) c = tt
 of_called setting m Probe None c = tt
-of_called setting m Serve (Some point) c = of_served setting m _ point.rules c
+of_called setting m Serve (Some point) c = of_served setting m (c.regs 21 % 2 ^ 16) point.rules c
 of_called setting m Serve None c = tt
 of_called setting m Raise (Some point) c = of_raised m.thread (raised_at point.raises)
 of_called setting m Raise None c = tt

@@ -97,8 +97,8 @@ beginnings_are_legal setting set_up budget pages = record {
   count = begun_length 0 set_up.image.threads;
   known = tt;
   each = λ thread start p s h.
-    let none : 0 + thread ≡ thread = omega arith in
-    record { was = begun thread start; reaches = Begins; now = inl (begun_at 0 thread set_up.image.threads start p s h ∙ ap (λ m. begun m start) none) };
+      let none : 0 + thread ≡ thread = omega arith in
+      record { was = begun thread start; reaches = Begins; now = inl (begun_at 0 thread set_up.image.threads start p s h ∙ ap (λ m. begun m start) none) };
 }
 
 module _ (setting : Setting) (set_up : SetUp) (budget : ℕ) (entries : List Entry) (processors : List Processor) (thread : ℕ) (p : Processor)
@@ -132,13 +132,13 @@ module _ (setting : Setting) (set_up : SetUp) (budget : ℕ) (entries : List Ent
     count = set_length processors thread q ∙ legal.count;
     known = all_same entries (length processors) (length (slice_set processors thread q)) (sym (set_length processors thread q)) legal.known;
     each = λ u start x s h. each_of entries q
-      (λ start s.
-      let r = legal.each thread start p s at in
-      let was = going_is setting budget set_up.limit entries r.was p g r.now in
-      let makes_one : IsStep p q = subst (Makes p) e (makes setting p) in
-      let from = subst (λ (x : Processor). Reaches setting (begun thread start) x.steps (own thread entries) x) (sym was) r.reaches in
-      record { was = q; reaches = subst (λ n. Reaches setting (begun thread start) n (own thread entries) q) (sym makes_one.steps) (Steps from e); now = inl refl })
-      (λ u start x apart r. r) u start x s h (thread == u) refl;
+        (λ start s.
+        let r = legal.each thread start p s at in
+        let was = going_is setting budget set_up.limit entries r.was p g r.now in
+        let makes_one : IsStep p q = subst (Makes p) e (makes setting p) in
+        let from = subst (λ (x : Processor). Reaches setting (begun thread start) x.steps (own thread entries) x) (sym was) r.reaches in
+        record { was = q; reaches = subst (λ n. Reaches setting (begun thread start) n (own thread entries) q) (sym makes_one.steps) (Steps from e); now = inl refl })
+        (λ u start x apart r. r) u start x s h (thread == u) refl;
   }
 
   pub ends_legal : IsGoing p.mode → (p.steps ≡ budget) ⊎ (IsAsking (turn setting p) × (length entries ≡ set_up.limit)) → IsLegal setting set_up budget entries (slice_set processors thread (spent p))
@@ -149,12 +149,12 @@ module _ (setting : Setting) (set_up : SetUp) (budget : ℕ) (entries : List Ent
     count = set_length processors thread (spent p) ∙ legal.count;
     known = all_same entries (length processors) (length (slice_set processors thread (spent p))) (sym (set_length processors thread (spent p))) legal.known;
     each = λ u start x s h. each_of entries (spent p)
-      (λ start s.
-      let r = legal.each thread start p s at in
-      let was = going_is setting budget set_up.limit entries r.was p g r.now in
-      let from = subst (λ (x : Processor). Reaches setting (begun thread start) x.steps (own thread entries) x) (sym was) r.reaches in
-      record { was = p; reaches = from; now = inr (record { is = refl; going = g; cause = cause }) })
-      (λ u start x apart r. r) u start x s h (thread == u) refl;
+        (λ start s.
+        let r = legal.each thread start p s at in
+        let was = going_is setting budget set_up.limit entries r.was p g r.now in
+        let from = subst (λ (x : Processor). Reaches setting (begun thread start) x.steps (own thread entries) x) (sym was) r.reaches in
+        record { was = p; reaches = from; now = inr (record { is = refl; going = g; cause = cause }) })
+        (λ u start x apart r. r) u start x s h (thread == u) refl;
   }
 
   pub accesses_legal : (request : Request) (on : ℕ → Bool → Processor) (before : ℕ) (success : Bool) → IsGoing p.mode → turn setting p ≡ Asks request on
@@ -170,19 +170,19 @@ module _ (setting : Setting) (set_up : SetUp) (budget : ℕ) (entries : List Ent
       all_same entries (length processors) (length (slice_set processors thread q)) (sym (set_length processors thread q)) legal.known,
     );
     each = λ u start x s h. each_of later q
-      (λ start s.
-      let r = legal.each thread start p s at in
-      let was = going_is setting budget set_up.limit entries r.was p g r.now in
-      let from = subst (λ (x : Processor). Reaches setting (begun thread start) x.steps (own thread entries) x) (sym was) r.reaches in
-      let its_thread = (subst (Makes p) e (makes setting p)).0 ∙ reached_thread setting (begun thread start) p.steps (own thread entries) p from in
-      let its_own : own thread later ≡ made ∷ own thread entries = own_if (request.processor == thread) made (own thread entries) true (itself request.processor thread its_thread) in
-      let makes_one : IsStep p q = (subst (Makes p) e (makes setting p)).1 before success in
-      record {
-        was = q;
-        reaches = subst (λ mine. Reaches setting (begun thread start) q.steps mine q) (sym its_own) (subst (λ n. Reaches setting (begun thread start) n (made ∷ own thread entries) q) (sym makes_one.steps) (Takes from e before success));
-        now = inl refl;
-      })
-      (λ u start x apart r. others u start x apart r) u start x s h (thread == u) refl;
+        (λ start s.
+        let r = legal.each thread start p s at in
+        let was = going_is setting budget set_up.limit entries r.was p g r.now in
+        let from = subst (λ (x : Processor). Reaches setting (begun thread start) x.steps (own thread entries) x) (sym was) r.reaches in
+        let its_thread = (subst (Makes p) e (makes setting p)).0 ∙ reached_thread setting (begun thread start) p.steps (own thread entries) p from in
+        let its_own : own thread later ≡ made ∷ own thread entries = own_if (request.processor == thread) made (own thread entries) true (itself request.processor thread its_thread) in
+        let makes_one : IsStep p q = (subst (Makes p) e (makes setting p)).1 before success in
+        record {
+          was = q;
+          reaches = subst (λ mine. Reaches setting (begun thread start) q.steps mine q) (sym its_own) (subst (λ n. Reaches setting (begun thread start) n (made ∷ own thread entries) q) (sym makes_one.steps) (Takes from e before success));
+          now = inl refl;
+        })
+        (λ u start x apart r. others u start x apart r) u start x s h (thread == u) refl;
   }
     where
       made : Entry
