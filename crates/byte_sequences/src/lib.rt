@@ -11,6 +11,3 @@ mod writing;
 pub use locked::locked_words;
 pub use reading::read_words;
 pub use writing::write_words;
-
-#[cfg(test)]
-mod tests;

@@ -1,5 +1,5 @@
 use Rattle.vt_words.specs.Quad.{one, two, four, eight}
-use Rattle.byte_sequences.proofs.tests.reads_and_writes.Goals as goal
+use Rattle.sequence_rows.proofs.rows.reads_and_writes.Goals as goal
 
 pub read_words-requires-clause-count : goal.read_words-requires-clause-count
 read_words-requires-clause-count g c = one
