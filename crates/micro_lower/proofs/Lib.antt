@@ -1,3 +1,5 @@
 pub mod Agrees
 pub mod Accesses
-pub mod Branches
+pub mod Spelled
+pub mod Plain
+pub mod Covered

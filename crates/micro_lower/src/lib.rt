@@ -2,6 +2,10 @@
 //! are made from in its temporaries.
 #![tactic(auto)]
 
+mod branches;
 mod sources;
+mod specifiers;
 
+pub use branches::lower_operation;
 pub use sources::sources_of;
+pub use specifiers::{Pointer, Steps, put_place};

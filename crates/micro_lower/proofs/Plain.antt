@@ -22,6 +22,7 @@ use Rattle.micro_ops.specs.declared.codes.CodeSources.{CodeSources}
 use Rattle.micro_ops.specs.declared.program.Micro.{Micro}
 use Rattle.micro_lower.specs.Lowering.{sources_of, HoldsCodes, service, Means, Holds, Lowers}
 use Rattle.micro_lower.specs.Programs.{no_operation_program, breakpoint_program, branch_program, branch_if_program, subroutine_program, return_program}
+use Rattle.micro_lower.proofs.Spelled.{with_operands}
 use Rattle.micro_lower.proofs.Agrees.{Agrees, agreed, held}
 use Rattle.micro_lower.proofs.Accesses.{reads_agree, writes_agree, register_below}
 use Rattle.std.proofs.Math.Nat.{mod-eq_of_lt}
@@ -48,10 +49,6 @@ lowers operation instr program does fit = record {
   holds = λ state is. held (HoldsCodes (sources_of operation) state) _ _ _ (does state no_pages 0 is);
   fits = fit;
 }
-
--- an instruction with these operands
-abbrev pub with_operands : (at opcode count after : ℕ) → List Operand → Instr
-with_operands at opcode count after operands = record { at = at; opcode = opcode; count = count; operands = padded operands; after = after }
 
 pub no_operation_does : (at opcode count after : ℕ) → operation_at opcode ≡ Some operations.NoOperation
     → Does (sources_of operations.NoOperation) (with_operands at opcode count after []) no_operation_program

@@ -1,0 +1,75 @@
+-- The part of a program that evaluates an operand specifier. Nothing is committed there: what earlier specifiers added to
+-- a register is a number, which each later use of the register adds again.
+-- VAX Architecture Reference Manual, "Operand Specifier Formats".
+use Rattle.std.specs.Prelude.{ℕ, ◌+◌, ◌-◌, ◌%◌, ◌^◌, ◌==◌, List, [], ◌∷◌, ◌++◌, Bool, true, false, Option, Some, None, slice_index, slice_set, if◌then◌else◌}
+use Rattle.vax_form.specs.Size.{bytes_of}
+use Rattle.vax_form.specs.declared.instr.Base.{Base}
+use Rattle.vax_form.specs.declared.instr.Base.TheVariants.{Deferred, Decrement, Increment, IncrementDeferred, Offset, Fixed}
+use Rattle.vax_form.specs.declared.instr.Operand.{Operand}
+use Rattle.vax_form.specs.declared.instr.Operand.TheVariants as operands
+use Rattle.vax_form.specs.declared.instr.Size.{Size}
+use Rattle.vax_form.specs.declared.instr.Size.TheVariants.{Byte, Long, Quad}
+use Rattle.vax_form.specs.State.{with_core}
+use Rattle.vax_form.specs.declared.state.VaxState.{VaxState}
+use Rattle.micro_ops.specs.declared.program.Arg.{Arg}
+use Rattle.micro_ops.specs.declared.program.Arg.TheVariants.{Temp, Register, Const}
+use Rattle.micro_ops.specs.declared.program.Micro.{Micro}
+use Rattle.micro_ops.specs.declared.program.Micro.TheVariants.{Compute, Probe, Read}
+use Rattle.micro_ops.specs.declared.program.MicroOp.TheVariants as ops
+use Rattle.micro_lower.specs.declared.specifiers.Pointer.{Pointer}
+
+-- the registers, each with what was added to it
+abbrev pub stepped_registers : (r steps : List ℕ) → List ℕ
+stepped_registers [] steps = []
+stepped_registers (value ∷ r) [] = value ∷ r
+stepped_registers (value ∷ r) (step ∷ steps) = (value + step) % 2 ^ 32 ∷ stepped_registers r steps
+
+-- the state behind the specifiers that added that
+abbrev pub stepped : (steps : List ℕ) → VaxState → VaxState
+stepped steps state = with_core state (stepped_registers state.r steps) state.pc state.psw
+
+-- what a specifier adds to a register
+abbrev pub with_step : (number addend : ℕ) → (steps : List ℕ) → List ℕ
+with_step number addend steps = slice_set steps number ((slice_index steps number + addend) % 2 ^ 32)
+
+-- what a base leaves, for an operand of that many bytes
+abbrev pub steps_behind : Base → (size : ℕ) → (steps : List ℕ) → List ℕ
+steps_behind (Decrement n) size steps = with_step n (2 ^ 32 - size) steps
+steps_behind (Increment n) size steps = with_step n size steps
+steps_behind (IncrementDeferred n) size steps = with_step n 4 steps
+steps_behind base size steps = steps
+
+-- where a base points
+abbrev pub pointer_of : Base → (size : ℕ) → (steps : List ℕ) → Pointer
+pointer_of (Deferred n) size steps = record { register = Some n; offset = slice_index steps n; deferred = false }
+pointer_of (Decrement n) size steps = record { register = Some n; offset = (slice_index steps n + (2 ^ 32 - size)) % 2 ^ 32; deferred = false }
+pointer_of (Increment n) size steps = record { register = Some n; offset = slice_index steps n; deferred = false }
+pointer_of (IncrementDeferred n) size steps = record { register = Some n; offset = slice_index steps n; deferred = true }
+pointer_of (Offset n offset deferred) size steps = record { register = Some n; offset = (slice_index steps n + offset) % 2 ^ 32; deferred = deferred }
+pointer_of (Fixed address deferred) size steps = record { register = None; offset = address; deferred = deferred }
+
+-- a register plus an offset, in a temporary
+abbrev pub sum_into : (to : ℕ) → Option ℕ → (offset : ℕ) → Micro
+sum_into to None offset = Compute to ops.Move Long (Const offset) (Const 0)
+sum_into to (Some n) offset = if offset == 0 then Compute to ops.Move Long (Register n) (Const 0) else Compute to ops.Add Long (Register n) (Const offset)
+
+-- the address of a base goes into the place; a deferred one is read by an address in the spare temporary
+abbrev pub address_program : Pointer → (place spare : ℕ) → List Micro
+address_program pointer place spare =
+    if pointer.deferred
+    then sum_into spare pointer.register pointer.offset ∷ Probe spare 4 false ∷ Read place spare 4 ∷ []
+    else sum_into place pointer.register pointer.offset ∷ []
+
+-- the index counts operands
+abbrev pub scaled : Size → List Micro → List Micro
+scaled Byte program = program
+scaled size program = Compute 4 ops.Mul Long (Temp 4) (Const (bytes_of size)) ∷ program
+
+abbrev pub index_program : Option ℕ → Size → (steps : List ℕ) → (place : ℕ) → List Micro
+index_program None size steps place = []
+index_program (Some x) size steps place = sum_into 4 (Some x) (slice_index steps x) ∷ scaled size (Compute place ops.Add Long (Temp place) (Temp 4) ∷ [])
+
+-- the address of an operand in memory
+abbrev pub place_program : Base → Option ℕ → Size → (steps : List ℕ) → (place spare : ℕ) → List Micro
+place_program base index size steps place spare =
+    address_program (pointer_of base (bytes_of size) steps) place spare ++ index_program index size (steps_behind base (bytes_of size) steps) place
