@@ -1,5 +1,7 @@
 pub mod Agrees
 pub mod Accesses
+pub mod Stepped
+pub mod Places
 pub mod Spelled
 pub mod Plain
 pub mod Covered
