@@ -1,7 +1,7 @@
 -- The part of a program that evaluates an operand specifier. Nothing is committed there: what earlier specifiers added to
 -- a register is a number, which each later use of the register adds again.
 -- VAX Architecture Reference Manual, "Operand Specifier Formats".
-use Rattle.std.specs.Prelude.{ℕ, ◌+◌, ◌-◌, ◌%◌, ◌^◌, ◌==◌, List, [], ◌∷◌, ◌++◌, Bool, true, false, Option, Some, None, slice_index, slice_set, if◌then◌else◌}
+use Rattle.std.specs.Prelude.{ℕ, ◌+◌, ◌-◌, ◌%◌, ◌^◌, ◌==◌, List, [], ◌∷◌, ◌++◌, Bool, true, false, Option, Some, None, slice_index, slice_set, if◌then◌else◌, min}
 use Rattle.vax_form.specs.Size.{bytes_of}
 use Rattle.vax_form.specs.declared.instr.Base.{Base}
 use Rattle.vax_form.specs.declared.instr.Base.TheVariants.{Deferred, Decrement, Increment, IncrementDeferred, Offset, Fixed}
@@ -73,3 +73,31 @@ index_program (Some x) size steps place = sum_into 4 (Some x) (slice_index steps
 abbrev pub place_program : Base → Option ℕ → Size → (steps : List ℕ) → (place spare : ℕ) → List Micro
 place_program base index size steps place spare =
     address_program (pointer_of base (bytes_of size) steps) place spare ++ index_program index size (steps_behind base (bytes_of size) steps) place
+
+-- what an operand leaves
+abbrev pub steps_behind_operand : Operand → Size → (steps : List ℕ) → List ℕ
+steps_behind_operand (operands.Place base index) size steps = steps_behind base (bytes_of size) steps
+steps_behind_operand operand size steps = steps
+
+-- a register is added as the upper half of a quadword
+abbrev pub upper_half_program : (number : ℕ) → (steps : List ℕ) → (to : ℕ) → List Micro
+upper_half_program n steps to =
+    sum_into 4 (Some n) (slice_index steps n)
+    ∷ Compute 4 ops.Mul Quad (Temp 4) (Const 0x1_0000_0000)
+    ∷ Compute to ops.Add Quad (Temp to) (Temp 4)
+    ∷ []
+
+-- the value of a register, at its size
+abbrev pub register_program : (number : ℕ) → Size → (steps : List ℕ) → (to : ℕ) → List Micro
+register_program n Long steps to = sum_into to (Some n) (slice_index steps n) ∷ []
+register_program n Quad steps to = sum_into to (Some n) (slice_index steps n) ∷ upper_half_program (min (n + 1) 255) steps to
+register_program n size steps to = sum_into to (Some n) (slice_index steps n) ∷ Compute to ops.ZeroExtend size (Temp to) (Const 0) ∷ []
+
+-- the value of an operand that is read goes into a temporary; its address goes into the place
+abbrev pub read_program : Operand → Size → (steps : List ℕ) → (to place : ℕ) → List Micro
+read_program (operands.Value value) size steps to place = Compute to ops.Move size (Const value) (Const 0) ∷ []
+read_program (operands.Register n) size steps to place = register_program n size steps to
+read_program (operands.Place base index) size steps to place =
+    place_program base index size steps place to ++ Probe place (bytes_of size) false ∷ Read to place (bytes_of size) ∷ []
+read_program operands.Unused size steps to place = []
+read_program (operands.Target address) size steps to place = []

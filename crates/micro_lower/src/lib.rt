@@ -8,4 +8,4 @@ mod specifiers;
 
 pub use branches::lower_operation;
 pub use sources::sources_of;
-pub use specifiers::{Pointer, Steps, put_place};
+pub use specifiers::{Pointer, Steps, put_place, put_read};

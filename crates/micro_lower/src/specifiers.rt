@@ -1,10 +1,10 @@
 ghost use Rattle.std.specs.Prelude.{◌≡◌, ◌≤◌, ◌++◌, [], IfOk, OnOk, ◌*◌, length, slice_index, All, ◌<◌};
 ghost use Rattle.vax_form.specs.Size.{bytes_of};
-ghost use Rattle.micro_lower.specs.Specifiers.{with_step, steps_behind, pointer_of, sum_into, address_program, scaled, index_program, place_program};
+ghost use Rattle.micro_lower.specs.Specifiers.{with_step, steps_behind, pointer_of, sum_into, address_program, scaled, index_program, place_program, steps_behind_operand, upper_half_program, register_program, read_program};
 
 use micro_ops::{Arg, Micro, MicroOp};
 use std::alloc::AllocError;
-use vax_form::{Base, Size};
+use vax_form::{Base, Operand, Size};
 
 /// Where a base points: at a register plus an offset, or at an address that the code fixes. Where it is deferred, the
 /// longword there is the address of the operand.
@@ -169,4 +169,93 @@ pub fn put_place(
     put_address(program, pointer_of(base, size.bytes(), steps), place, spare)?;
     pass(base, size.bytes(), steps);
     put_index(program, index, size, steps, place)
+}
+
+/// The value of a register, at its size.
+fn put_register(
+    program: &mut Vec<Micro>,
+    number: u8,
+    size: Size,
+    steps: &Steps,
+    to: u8,
+) -> Result<(), AllocError>
+    ensures { OnOk result (program.new.items ≡ program.old.items ++ register_program number size steps.now to) }
+{
+    program.push(sum_into(to, Some(number), step(steps, number)))?;
+    match size {
+        Size::Byte | Size::Word => program.push(Micro::Compute {
+            to,
+            op: MicroOp::ZeroExtend,
+            size,
+            a: Arg::Temp(to),
+            b: Arg::Const(0),
+        })?,
+        Size::Long => {}
+        Size::Quad => put_upper_half(program, number.saturating_add(1), steps, to)?,
+    }
+    Ok(())
+}
+
+/// Adds a register as the upper half of a quadword.
+fn put_upper_half(
+    program: &mut Vec<Micro>,
+    number: u8,
+    steps: &Steps,
+    to: u8,
+) -> Result<(), AllocError>
+    ensures { OnOk result (program.new.items ≡ program.old.items ++ upper_half_program number steps.now to) }
+{
+    program.push(sum_into(4, Some(number), step(steps, number)))?;
+    program.push(Micro::Compute {
+        to: 4,
+        op: MicroOp::Mul,
+        size: Size::Quad,
+        a: Arg::Temp(4),
+        b: Arg::Const(0x1_0000_0000),
+    })?;
+    program.push(Micro::Compute {
+        to,
+        op: MicroOp::Add,
+        size: Size::Quad,
+        a: Arg::Temp(to),
+        b: Arg::Temp(4),
+    })?;
+    Ok(())
+}
+
+/// The value of an operand that is read goes into a temporary. Its address goes into the place, and temporary 4 changes
+/// too.
+pub fn put_read(
+    program: &mut Vec<Micro>,
+    operand: Operand,
+    size: Size,
+    steps: &mut Steps,
+    to: u8,
+    place: u8,
+) -> Result<(), AllocError>
+    ensures program { OnOk result (program.new.items ≡ program.old.items ++ read_program operand size steps.old to place) }
+    ensures steps { OnOk result (steps.new ≡ steps_behind_operand operand size steps.old) }
+{
+    match operand {
+        Operand::Value(value) => program.push(Micro::Compute {
+            to,
+            op: MicroOp::Move,
+            size,
+            a: Arg::Const(value),
+            b: Arg::Const(0),
+        })?,
+        Operand::Register(number) => put_register(program, number, size, steps, to)?,
+        Operand::Place { base, index } => {
+            put_place(program, base, index, size, steps, place, to)?;
+            let count = size.bytes() as u8;
+            program.push(Micro::Probe {
+                place,
+                count,
+                write: false,
+            })?;
+            program.push(Micro::Read { to, place, count })?;
+        }
+        Operand::Unused | Operand::Target(_) => {}
+    }
+    Ok(())
 }
