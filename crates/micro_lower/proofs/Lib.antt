@@ -3,6 +3,8 @@ pub mod Accesses
 pub mod Stepped
 pub mod Places
 pub mod Reading
+pub mod Commits
+pub mod Writing
 pub mod Spelled
 pub mod Plain
 pub mod Covered

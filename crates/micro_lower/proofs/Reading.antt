@@ -41,7 +41,7 @@ abbrev pub GoesOnWith : (Left → Type 0) → (Left → Tree) → List Micro →
 GoesOnWith P end program found standing size to place rest = (value : ℕ) (temps : Temps) → value < 2 ^ (8 * bytes_of size) → temps to ≡ value → Kept to place standing.temps temps
     → Agrees P end (course_of program found (with_temps temps standing)) (rest (record { location = InMemory 0; value = value }))
 
-some_bytes : (size : Size) → 0 < bytes_of size
+pub some_bytes : (size : Size) → 0 < bytes_of size
 some_bytes Byte = lit< tt
 some_bytes Word = lit< tt
 some_bytes Long = lit< tt

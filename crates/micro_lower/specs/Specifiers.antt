@@ -14,7 +14,7 @@ use Rattle.vax_form.specs.declared.state.VaxState.{VaxState}
 use Rattle.micro_ops.specs.declared.program.Arg.{Arg}
 use Rattle.micro_ops.specs.declared.program.Arg.TheVariants.{Temp, Register, Const}
 use Rattle.micro_ops.specs.declared.program.Micro.{Micro}
-use Rattle.micro_ops.specs.declared.program.Micro.TheVariants.{Compute, Probe, Read}
+use Rattle.micro_ops.specs.declared.program.Micro.TheVariants.{Compute, Probe, Read, Write, Commit}
 use Rattle.micro_ops.specs.declared.program.MicroOp.TheVariants as ops
 use Rattle.micro_lower.specs.declared.specifiers.Pointer.{Pointer}
 
@@ -101,3 +101,24 @@ read_program (operands.Place base index) size steps to place =
     place_program base index size steps place to ++ Probe place (bytes_of size) false ∷ Read to place (bytes_of size) ∷ []
 read_program operands.Unused size steps to place = []
 read_program (operands.Target address) size steps to place = []
+
+-- what the specifiers added goes into the registers, from that one on
+abbrev pub commit_program : (number : ℕ) → (steps : List ℕ) → List Micro
+commit_program number [] = []
+commit_program number (step ∷ steps) =
+    if step == 0
+    then commit_program (number + 1) steps
+    else Compute 5 ops.Add Long (Register number) (Const step) ∷ Commit number 5 ∷ commit_program (number + 1) steps
+
+-- the address of an operand that is written, modified or used as an address
+abbrev pub locate_program : Operand → Size → (steps : List ℕ) → (place spare : ℕ) → List Micro
+locate_program (operands.Place base index) size steps place spare = place_program base index size steps place spare
+locate_program operand size steps place spare = []
+
+-- the operand at the place is checked with write intent and read
+abbrev pub modify_program : Size → (to place : ℕ) → List Micro
+modify_program size to place = Probe place (bytes_of size) true ∷ Read to place (bytes_of size) ∷ []
+
+-- the operand at the place is checked with write intent and written
+abbrev pub store_program : Size → (place from : ℕ) → List Micro
+store_program size place from = Probe place (bytes_of size) true ∷ Write place (bytes_of size) from ∷ []
