@@ -1,18 +1,11 @@
 -- A course does what a tree does, with a fact at each place where it leaves.
 use Rattle.std.proofs.Common.{◌≡◌, ℕ, Bool, List}
-use Rattle.vax_form.specs.State.{Answers}
+pub use Rattle.micro_lower.specs.Pieces.{Agrees}
 use Rattle.vax_form.specs.Tree.{Tree, Same}
 use Rattle.vax_form.specs.Tree as trees
 use Rattle.vax_form.specs.declared.state.Exception.{Exception}
 use Rattle.vax_form.specs.declared.state.Reference.{Reference}
 use Rattle.micro_ops.specs.Course.{Course, Check, Ask, Fault, Leaves, continued, AtLeaves}
-
-abbrev pub Agrees : {A : Type 0} → (A → Type 0) → (A → Tree) → Course A → Tree → Type 0
-Agrees P rest (Check address count write course) (trees.Check address' count' write' tree) = (address ≡ address') × (count ≡ count') × (write ≡ write') × Agrees P rest course tree
-Agrees P rest (Ask reference on) (trees.Ask reference' on') = (reference ≡ reference') × ((reply : ℕ) → Answers reference reply → Agrees P rest (on reply) (on' reply))
-Agrees P rest (Fault exception) (trees.Fault exception') = exception ≡ exception'
-Agrees P rest (Leaves x) tree = P x × Same (rest x) tree
-Agrees P rest _ _ = ⊥
 
 -- the tree of the course is the tree
 pub agreed : {A : Type 0} (P : A → Type 0) (rest : A → Tree) (course : Course A) (tree : Tree) → Agrees P rest course tree → Same (continued course rest) tree

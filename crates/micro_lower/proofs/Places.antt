@@ -23,16 +23,13 @@ use Rattle.micro_ops.specs.declared.program.MicroOp.TheVariants as ops
 use Rattle.micro_ops.specs.declared.program.Arg.TheVariants.{Temp}
 use Rattle.micro_lower.specs.Specifiers.{sum_into, address_program, scaled, index_program, place_program, pointer_of, steps_behind, stepped, with_step}
 use Rattle.micro_lower.specs.declared.specifiers.Pointer.{Pointer}
-use Rattle.micro_lower.proofs.Agrees.{Agrees}
+pub use Rattle.micro_lower.specs.Pieces.{Kept, with_temps, IsLong}
+use Rattle.micro_lower.specs.Pieces.{Agrees}
 use Rattle.micro_lower.proofs.Accesses.{reads_agree, register_below}
 use Rattle.micro_lower.proofs.Stepped.{register_stepped, with_register_stepped, twice}
 
 pub eqb_same : (n : ℕ) → eqb n n ≡ true
 eqb_same n = elim (eqb_tells n n) [ inl is ↦ is.0 | inr not ↦ absurd (not.1 refl) ]
-
--- a standing with other temporaries
-abbrev pub with_temps : Temps → Standing → Standing
-with_temps temps standing = record standing { temps = temps }
 
 -- the value of a register and an offset
 abbrev pub sum_of_pointer : Option ℕ → (offset : ℕ) → VaxState → ℕ
@@ -50,10 +47,6 @@ sum_course to (Some n) offset program found standing = elim (eqb_tells offset 0)
     inl is ↦ (let none : register n found.state % 2 ^ 32 ≡ (register n found.state + offset) % 2 ^ 32 = rw is.1 (ap (λ v. v % 2 ^ 32) (omega arith)) in
     rw is.0 (ap (λ v. course_of program found (with_value to v standing)) none))
     | inr not ↦ rw not.0 (ap (λ v. course_of program found (with_value to v standing)) (sum_twice (register n found.state) offset)) ]
-
--- the other temporaries are as they were
-abbrev pub Kept : (place spare : ℕ) → (before after : Temps) → Type 0
-Kept place spare before after = (temp : ℕ) → eqb temp place ≡ false → eqb temp spare ≡ false → eqb temp 4 ≡ false → after temp ≡ before temp
 
 kept_one : (place spare value : ℕ) (temps : Temps) → Kept place spare temps (with_temp place value temps)
 kept_one place spare value temps temp a b c = rw a refl
@@ -84,11 +77,6 @@ pointer_agrees P end pages program found standing place spare from offset true s
     rw (sum_course spare from offset (Probe spare 4 false ∷ Read place spare 4 ∷ program) found standing, eqb_same spare)
     (refl, refl, refl, reads_agree P end pages v 4 state (λ value. course_of program found (with_value place value (with_value spare v standing))) (λ x after. rest (x % 2 ^ 32) after) (lit< tt)
     (λ value below. rw (mod-eq_of_lt below) (goes value (with_temp place value (with_temp spare v standing.temps)) below (rw (eqb_same place) refl) (kept_two place spare value v standing.temps))))
-
--- an address that the code fixes is a longword
-abbrev pub IsLong : Base → Type 0
-IsLong (Fixed address deferred) = address < 2 ^ 32
-IsLong base = Unit {0}
 
 pub base_agrees : (P : Left → Type 0) (end : Left → Tree) (pages : Pages) (program : List Micro) (found : Found) (standing : Standing) (place spare : ℕ)
     (base : Base) (size : ℕ) (steps : List ℕ) (rest : ℕ → VaxState → Tree)

@@ -2,6 +2,7 @@
 use Rattle.std.proofs.Common.{◌≡◌, ℕ, ◌+◌, ◌-◌, ◌*◌, ◌/◌, ◌%◌, ◌^◌, ◌<◌, ◌≤◌, eqb, Bool, true, false, List, [], ◌∷◌, ◌++◌, length, get_or, Option, Some, None, refl, sym, ap, ◌∙◌, subst, append_assoc, arith, inl, inr, lit<}
 use Rattle.std.specs.Prelude.{min}
 use Rattle.std.proofs.Math.Nat.{mod-eq_of_lt}
+use Rattle.std.proofs.lemmas.Bool.Decides.{eqb_tells}
 use Rattle.std.proofs.lemmas.Nat.{mod_below, pow_pos}
 use Rattle.vax_form.specs.Size.{bytes_of}
 use Rattle.vax_form.specs.State.{register}
@@ -23,23 +24,11 @@ use Rattle.micro_ops.specs.Values.{value_from}
 use Rattle.micro_ops.specs.declared.program.Micro.{Micro}
 use Rattle.micro_ops.specs.declared.program.Micro.TheVariants.{Compute, Probe, Read}
 use Rattle.micro_lower.specs.Specifiers.{stepped, steps_behind_operand, read_program, place_program}
-use Rattle.micro_lower.proofs.Agrees.{Agrees}
+use Rattle.micro_lower.specs.Pieces.{Agrees, IsReadable, GoesOnWith, Evaluates, leaving}
+use Rattle.micro_lower.specs.Lowering.{HoldsCodes}
 use Rattle.micro_lower.proofs.Accesses.{reads_agree}
 use Rattle.micro_lower.proofs.Stepped.{register_stepped}
 use Rattle.micro_lower.proofs.Places.{Kept, with_temps, IsLong, eqb_same, sum_course, place_agrees}
-
--- an operand that can be read
-abbrev pub IsReadable : Operand → Type 0
-IsReadable (Place base index) = IsLong base
-IsReadable (Value value) = Unit {0}
-IsReadable (Register n) = Unit {0}
-IsReadable Unused = ⊥
-IsReadable (Target address) = ⊥
-
--- what goes on behind a value that was read
-abbrev pub GoesOnWith : (Left → Type 0) → (Left → Tree) → List Micro → Found → Standing → Size → (to place : ℕ) → (Evaluated → Tree) → Type 0
-GoesOnWith P end program found standing size to place rest = (value : ℕ) (temps : Temps) → value < 2 ^ (8 * bytes_of size) → temps to ≡ value → Kept to place standing.temps temps
-    → Agrees P end (course_of program found (with_temps temps standing)) (rest (record { location = InMemory 0; value = value }))
 
 pub some_bytes : (size : Size) → 0 < bytes_of size
 some_bytes Byte = lit< tt
@@ -86,3 +75,11 @@ read_agrees P end pages program found standing to place (Place base index) size 
     (λ value fits. rw (mod-eq_of_lt fits) (goes value (with_temp to value temps) fits (rw (eqb_same to) refl) (λ temp a b c. rw a (kept temp b a c)))))))
 read_agrees P end pages program found standing to place Unused size steps rest same readable apart other goes = absurd readable
 read_agrees P end pages program found standing to place (Target address) size steps rest same readable apart other goes = absurd readable
+
+below_4 : (n : ℕ) → n < 4 → eqb n 4 ≡ false
+below_4 n lt = elim (eqb_tells n 4) [ inl is ↦ absurd (omega (arith, lt, is.1)) | inr not ↦ not.0 ]
+
+pub evaluates : (operand : Operand) (size : Size) (steps : List ℕ) (to place : ℕ) → IsReadable operand → to < 4 → place < 4
+    → Evaluates operand size steps to place (read_program operand size steps to place)
+evaluates operand size steps to place readable to_low place_low sources start pages thread program found standing rest same goes =
+    read_agrees (HoldsCodes sources start) (leaving pages thread) pages program found standing to place operand size steps rest same readable (below_4 place place_low) (below_4 to to_low) goes

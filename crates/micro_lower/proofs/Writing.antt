@@ -14,7 +14,8 @@ use Rattle.vax_meaning.specs.declared.operands.Location.TheVariants.{InMemory, I
 use Rattle.micro_ops.specs.Meaning.{Left, Temps, Found, Standing, with_temp, with_value, course_of}
 use Rattle.micro_ops.specs.declared.program.Micro.{Micro}
 use Rattle.micro_lower.specs.Specifiers.{stepped, steps_behind_operand, locate_program, modify_program, store_program}
-use Rattle.micro_lower.proofs.Agrees.{Agrees}
+use Rattle.micro_lower.specs.Pieces.{Agrees, Stores, leaving}
+use Rattle.micro_lower.specs.Lowering.{HoldsCodes}
 use Rattle.micro_lower.proofs.Accesses.{reads_agree, writes_agree}
 use Rattle.micro_lower.proofs.Places.{Kept, with_temps, IsLong, eqb_same, place_agrees}
 use Rattle.micro_lower.proofs.Reading.{some_bytes}
@@ -69,3 +70,7 @@ pub store_agrees : (P : Left → Type 0) (end : Left → Tree) (pages : Pages) (
 unfolding store put
 store_agrees P end pages program found standing place from address value size state rest is holds goes =
     rw (is, holds) (refl, refl, refl, writes_agree P end pages address (bytes_of size) value state (course_of program found standing) _ (some_bytes size) goes)
+
+pub stores : (size : Size) (place from : ℕ) → Stores size place from (store_program size place from)
+stores size place from sources start pages thread program found standing state rest goes =
+    store_agrees (HoldsCodes sources start) (leaving pages thread) pages program found standing place from (standing.temps place) (standing.temps from) size state rest refl refl goes

@@ -8,4 +8,7 @@ mod specifiers;
 
 pub use branches::lower_operation;
 pub use sources::sources_of;
-pub use specifiers::{Pointer, Steps, put_place, put_read};
+pub use specifiers::{Pointer, Steps, put_place, put_read, put_store};
+
+#[cfg(test)]
+mod tests;

@@ -1,6 +1,7 @@
 ghost use Rattle.std.specs.Prelude.{◌≡◌, ◌≤◌, ◌++◌, [], IfOk, OnOk, ◌*◌, length, slice_index, All, ◌<◌};
 ghost use Rattle.vax_form.specs.Size.{bytes_of};
-ghost use Rattle.micro_lower.specs.Specifiers.{with_step, steps_behind, pointer_of, sum_into, address_program, scaled, index_program, place_program, steps_behind_operand, upper_half_program, register_program, read_program};
+ghost use Rattle.micro_lower.specs.Specifiers.{with_step, steps_behind, pointer_of, sum_into, address_program, scaled, index_program, place_program, steps_behind_operand, upper_half_program, register_program, read_program, store_program};
+ghost use Rattle.micro_lower.specs.Pieces.{IsReadable, Evaluates, Stores};
 
 use micro_ops::{Arg, Micro, MicroOp};
 use std::alloc::AllocError;
@@ -223,9 +224,8 @@ fn put_upper_half(
     Ok(())
 }
 
-/// The value of an operand that is read goes into a temporary. Its address goes into the place, and temporary 4 changes
-/// too.
-pub fn put_read(
+/// The program of an operand that is read.
+fn put_operand(
     program: &mut Vec<Micro>,
     operand: Operand,
     size: Size,
@@ -257,5 +257,46 @@ pub fn put_read(
         }
         Operand::Unused | Operand::Target(_) => {}
     }
+    Ok(())
+}
+
+/// The value of an operand that is read goes into a temporary. Its address goes into the place, and temporary 4 changes
+/// too.
+pub fn put_read(
+    program: &mut Vec<Micro>,
+    operand: Operand,
+    size: Size,
+    steps: &mut Steps,
+    to: u8,
+    place: u8,
+) -> Result<(), AllocError>
+    requires readable { IsReadable operand }
+    requires to { to < 4 }
+    requires place { place < 4 }
+    ensures evaluates { Evaluates operand size steps.old to place (read_program operand size steps.old to place) }
+    ensures program { OnOk result (program.new.items ≡ program.old.items ++ read_program operand size steps.old to place) }
+    ensures steps { OnOk result (steps.new ≡ steps_behind_operand operand size steps.old) }
+{
+    put_operand(program, operand, size, steps, to, place)
+}
+
+/// The operand at the place is checked with write intent and written.
+#[tactic(auto, using(crate::proofs::Writing::stores))]
+pub fn put_store(
+    program: &mut Vec<Micro>,
+    size: Size,
+    place: u8,
+    from: u8,
+) -> Result<(), AllocError>
+    ensures stores { Stores size place from (store_program size place from) }
+    ensures program { OnOk result (program.new.items ≡ program.old.items ++ store_program size place from) }
+{
+    let count = size.bytes() as u8;
+    program.push(Micro::Probe {
+        place,
+        count,
+        write: true,
+    })?;
+    program.push(Micro::Write { place, count, from })?;
     Ok(())
 }
