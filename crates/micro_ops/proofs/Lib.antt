@@ -1,2 +1,4 @@
+pub mod Below
 pub mod Lists
+pub mod Parts
 pub mod Tables

@@ -1,5 +1,5 @@
 -- Walks over a list, from its end.
-use Rattle.std.proofs.Common.{◌≡◌, ℕ, ◌+◌, ◌-◌, ◌<◌, sym, ap, ◌∙◌, arith, List, ◌∷◌, length, get_or, drop}
+use Rattle.std.proofs.Common.{◌≡◌, ℕ, ◌+◌, ◌-◌, ◌<◌, ap, ◌∙◌, arith, List, ◌∷◌, length, get_or, drop}
 use Rattle.std.proofs.lemmas.List.{drop_more}
 
 -- what is left from one place earlier on

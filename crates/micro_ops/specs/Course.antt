@@ -1,9 +1,8 @@
 -- What a program does: its checks and references in order, and how it leaves.
-use Rattle.std.specs.Prelude.{◌≡◌, ℕ, ◌+◌, ◌*◌, ◌/◌, ◌%◌, ◌^◌, List, [], ◌∷◌, Bool}
+use Rattle.std.specs.Prelude.{ℕ, ◌+◌, ◌*◌, ◌/◌, ◌%◌, ◌^◌, List, [], ◌∷◌, Bool}
 use Rattle.vax_form.specs.State.{Answers}
 use Rattle.vax_form.specs.Tree as trees
 use Rattle.vax_form.specs.Tree.{Tree, Ending}
-use Rattle.vax_form.specs.declared.state.VaxState.{VaxState}
 use Rattle.vax_form.specs.declared.state.Exception.{Exception}
 use Rattle.vax_form.specs.declared.state.Reference.{Reference}
 use Rattle.vax_form.specs.declared.state.RefKind.TheVariants.{Read, Write}

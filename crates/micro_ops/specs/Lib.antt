@@ -5,3 +5,5 @@ pub mod Uses
 pub mod LeftOut
 pub mod WordCounts
 pub mod Fits
+pub mod Leaving
+pub mod Laws

@@ -1,7 +1,7 @@
 -- What a micro program means.
 -- The condition codes and IV stand in the status word as in the VAX Architecture Reference Manual, "Processor Status
 -- Longword".
-use Rattle.std.specs.Prelude.{ℕ, ◌+◌, ◌*◌, ◌/◌, ◌%◌, ◌^◌, ◌==◌, ◌&&◌, List, [], ◌∷◌, Bool, true, false, not, Option, Some, None, if◌then◌else◌}
+use Rattle.std.specs.Prelude.{ℕ, ◌+◌, ◌*◌, ◌/◌, ◌%◌, ◌^◌, ◌==◌, ◌&&◌, List, [], ◌∷◌, Bool, false, not, Option, Some, None, if◌then◌else◌}
 use Rattle.vax_form.specs.Parts.{parts}
 use Rattle.vax_form.specs.State.{register, with_register, with_pc, with_psw}
 use Rattle.vax_form.specs.Tree.{Tree, Ending, Finish, Trap, Ends}

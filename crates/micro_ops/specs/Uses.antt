@@ -1,9 +1,9 @@
 -- Which temporaries, registers and flags a micro operation reads and writes.
-use Rattle.std.specs.Prelude.{ℕ, ◌==◌, ◌&&◌, ◌||◌, Bool, true, false, not, Option, Some, None, nat_lt, nat_le}
+use Rattle.std.specs.Prelude.{ℕ, ◌==◌, ◌&&◌, ◌||◌, Bool, true, false, not, Option, Some, None, nat_le}
 use Rattle.vax_form.specs.declared.instr.Size.{Size}
 use Rattle.vax_form.specs.declared.instr.Size.TheVariants.{Quad}
 use Rattle.micro_ops.specs.declared.program.Arg.{Arg}
-use Rattle.micro_ops.specs.declared.program.Arg.TheVariants.{Temp, Register, Flag, Const}
+use Rattle.micro_ops.specs.declared.program.Arg.TheVariants.{Temp, Register, Flag}
 use Rattle.micro_ops.specs.declared.program.Exit.{Exit}
 use Rattle.micro_ops.specs.declared.program.Exit.TheVariants.{Computed, Choice, Service, Breakpoint}
 use Rattle.micro_ops.specs.declared.program.Micro.{Micro}

@@ -2,15 +2,21 @@
 //! words it is counted as, and which programs fit a block.
 #![tactic(auto)]
 
+mod check;
 mod codes;
+mod laws;
 mod left_out;
 mod program;
+#[cfg(test)]
+mod tests;
 mod uses;
 mod values;
 mod words;
 
+pub use check::fits;
 pub use codes::{CodeSource, CodeSources};
+pub use laws::part_laws;
 pub use left_out::is_left_out;
 pub use program::{Arg, Exit, LockedOp, Micro, MicroOp};
 pub use values::compute;
-pub use words::words_of;
+pub use words::{program_words, words_of};

@@ -1,6 +1,8 @@
-ghost use Rattle.std.specs.Prelude.{◌≡◌, ◌≤◌};
-ghost use Rattle.micro_ops.specs.WordCounts.{by_size, operation_words, argument_words, second_words, by_count, words_of};
+ghost use Rattle.std.specs.Prelude.{◌≡◌, ◌≤◌, min};
+ghost use Rattle.micro_ops.specs.WordCounts.{by_size, operation_words, argument_words, second_words, by_count, words_of, words_with, program_words};
 
+use crate::codes::CodeSources;
+use crate::left_out::is_left_out;
 use crate::program::{Arg, Micro, MicroOp};
 use crate::uses::is_unary;
 use vax_form::Size;
@@ -83,4 +85,25 @@ pub fn words_of(operation: Micro) -> u32
         Micro::Commit { .. } | Micro::SetPsw { .. } => 1,
         Micro::Codes { .. } | Micro::Leave(_) => 0,
     }
+}
+
+fn words_with(codes: CodeSources, operation: Micro, behind: &[Micro]) -> u32
+    ensures { result ≡ words_with codes operation behind.now }
+{
+    if is_left_out(codes, operation, behind) {
+        0
+    } else {
+        words_of(operation)
+    }
+}
+
+/// How many words a program is counted as, up to `u32::MAX`. What is left out counts nothing.
+pub fn program_words(codes: CodeSources, program: &[Micro]) -> u32
+    ensures { result ≡ min (program_words codes program.now) u32.MAX }
+{
+    let mut words: u32 = 0;
+    for i in 0..program.len() {
+        words = words.saturating_add(words_with(codes, program[i], &program[i + 1..]));
+    }
+    words
 }

@@ -1,4 +1,4 @@
-use Rattle.std.proofs.Common.{rules, arith, ◌∙◌, sym, ap, length}
+use Rattle.std.proofs.Common.{◌∙◌, sym, ap}
 use Rattle.micro_ops.specs.LeftOut.{uses_from}
 use Rattle.micro_ops.proofs.Tables.{flag_at, at_index, filled}
 use Rattle.micro_ops.proofs.left_out.used_from.Goals as goal

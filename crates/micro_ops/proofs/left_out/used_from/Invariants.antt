@@ -1,4 +1,3 @@
-use Rattle.std.proofs.Common.{ℕ}
 use Rattle.micro_ops.specs.LeftOut.{uses_from}
 use Rattle.micro_ops.proofs.Tables.{Filled, flag_at}
 use Rattle.micro_ops.proofs.left_out.used_from.Given as goal
