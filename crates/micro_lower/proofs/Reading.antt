@@ -25,7 +25,7 @@ use Rattle.micro_ops.specs.declared.program.Micro.{Micro}
 use Rattle.micro_ops.specs.declared.program.Micro.TheVariants.{Compute, Probe, Read}
 use Rattle.micro_lower.specs.Specifiers.{stepped, steps_behind_operand, read_program, place_program}
 use Rattle.micro_lower.specs.Pieces.{Agrees, IsReadable, GoesOnWith, Evaluates, leaving}
-use Rattle.micro_lower.specs.Lowering.{HoldsCodes}
+use Rattle.micro_ops.specs.Leaving.{CodesComeFrom}
 use Rattle.micro_lower.proofs.Accesses.{reads_agree}
 use Rattle.micro_lower.proofs.Stepped.{register_stepped}
 use Rattle.micro_lower.proofs.Places.{Kept, with_temps, IsLong, eqb_same, sum_course, place_agrees}
@@ -82,4 +82,4 @@ below_4 n lt = elim (eqb_tells n 4) [ inl is ↦ absurd (omega (arith, lt, is.1)
 pub evaluates : (operand : Operand) (size : Size) (steps : List ℕ) (to place : ℕ) → IsReadable operand → to < 4 → place < 4
     → Evaluates operand size steps to place (read_program operand size steps to place)
 evaluates operand size steps to place readable to_low place_low sources start pages thread program found standing rest same goes =
-    read_agrees (HoldsCodes sources start) (leaving pages thread) pages program found standing to place operand size steps rest same readable (below_4 place place_low) (below_4 to to_low) goes
+    read_agrees (CodesComeFrom sources start) (leaving pages thread) pages program found standing to place operand size steps rest same readable (below_4 place place_low) (below_4 to to_low) goes

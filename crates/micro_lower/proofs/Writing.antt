@@ -15,7 +15,7 @@ use Rattle.micro_ops.specs.Meaning.{Left, Temps, Found, Standing, with_temp, wit
 use Rattle.micro_ops.specs.declared.program.Micro.{Micro}
 use Rattle.micro_lower.specs.Specifiers.{stepped, steps_behind_operand, locate_program, modify_program, store_program}
 use Rattle.micro_lower.specs.Pieces.{Agrees, Stores, leaving}
-use Rattle.micro_lower.specs.Lowering.{HoldsCodes}
+use Rattle.micro_ops.specs.Leaving.{CodesComeFrom}
 use Rattle.micro_lower.proofs.Accesses.{reads_agree, writes_agree}
 use Rattle.micro_lower.proofs.Places.{Kept, with_temps, IsLong, eqb_same, place_agrees}
 use Rattle.micro_lower.proofs.Reading.{some_bytes}
@@ -73,4 +73,4 @@ store_agrees P end pages program found standing place from address value size st
 
 pub stores : (size : Size) (place from : ℕ) → Stores size place from (store_program size place from)
 stores size place from sources start pages thread program found standing state rest goes =
-    store_agrees (HoldsCodes sources start) (leaving pages thread) pages program found standing place from (standing.temps place) (standing.temps from) size state rest refl refl goes
+    store_agrees (CodesComeFrom sources start) (leaving pages thread) pages program found standing place from (standing.temps place) (standing.temps from) size state rest refl refl goes

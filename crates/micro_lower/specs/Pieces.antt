@@ -20,7 +20,8 @@ use Rattle.micro_ops.specs.Course.{Course, Check, Ask, Fault, Leaves}
 use Rattle.micro_ops.specs.Meaning.{Left, Temps, Found, Standing, course_of, departed}
 use Rattle.micro_ops.specs.declared.codes.CodeSources.{CodeSources}
 use Rattle.micro_ops.specs.declared.program.Micro.{Micro}
-use Rattle.micro_lower.specs.Lowering.{HoldsCodes, service}
+use Rattle.micro_ops.specs.Leaving.{CodesComeFrom}
+use Rattle.micro_lower.specs.Lowering.{service}
 use Rattle.micro_lower.specs.Specifiers.{stepped, steps_behind_operand}
 
 -- the course has the checks, references and ends of the tree, and the fact holds wherever it leaves
@@ -66,14 +67,14 @@ abbrev pub Evaluates : Operand → Size → (steps : List ℕ) → (to place : �
 Evaluates operand size steps to place piece = (sources : CodeSources) (start : VaxState) (pages : Pages) (thread : ℕ) (program : List Micro) (found : Found) (standing : Standing)
     (rest : Evaluated → VaxState → Tree)
     → length steps ≡ length found.state.r
-    → GoesOnWith (HoldsCodes sources start) (leaving pages thread) program found standing size to place (λ evaluated. rest evaluated (stepped (steps_behind_operand operand size steps) found.state))
-    → Agrees (HoldsCodes sources start) (leaving pages thread) (course_of (piece ++ program) found standing)
+    → GoesOnWith (CodesComeFrom sources start) (leaving pages thread) program found standing size to place (λ evaluated. rest evaluated (stepped (steps_behind_operand operand size steps) found.state))
+    → Agrees (CodesComeFrom sources start) (leaving pages thread) (course_of (piece ++ program) found standing)
     (tree_of pages (evaluate accesses.Read size operand) (stepped steps found.state) rest)
 
 -- the piece checks and writes an operand in memory as the instruction does
 abbrev pub Stores : Size → (place from : ℕ) → List Micro → Type 0
 Stores size place from piece = (sources : CodeSources) (start : VaxState) (pages : Pages) (thread : ℕ) (program : List Micro) (found : Found) (standing : Standing)
     (state : VaxState) (rest : Unit {0} → VaxState → Tree)
-    → Agrees (HoldsCodes sources start) (leaving pages thread) (course_of program found standing) (rest tt state)
-    → Agrees (HoldsCodes sources start) (leaving pages thread) (course_of (piece ++ program) found standing)
+    → Agrees (CodesComeFrom sources start) (leaving pages thread) (course_of program found standing) (rest tt state)
+    → Agrees (CodesComeFrom sources start) (leaving pages thread) (course_of (piece ++ program) found standing)
     (tree_of pages (store (InMemory (standing.temps place)) size (standing.temps from)) state rest)

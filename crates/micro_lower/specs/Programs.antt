@@ -50,7 +50,7 @@ is_negated GreaterOrEqual = true
 is_negated GreaterUnsigned = true
 is_negated OverflowClear = true
 is_negated CarryClear = true
-is_negated condition = false
+is_negated _ = false
 
 -- the flags go into temporary 0
 abbrev pub flag_test : ℕ × Option ℕ → Micro
@@ -98,4 +98,4 @@ is_lowered (Branch width) = true
 is_lowered (BranchIf condition) = true
 is_lowered (BranchToSubroutine width) = true
 is_lowered ReturnFromSubroutine = true
-is_lowered operation = false
+is_lowered _ = false
