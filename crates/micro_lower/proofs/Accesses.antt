@@ -1,7 +1,7 @@
 -- Reads and writes in parts.
-use Rattle.std.proofs.Common.{◌≡◌, ℕ, ◌+◌, ◌-◌, ◌*◌, ◌/◌, ◌%◌, ◌^◌, ◌<◌, ◌≤◌, ◌==◌, eqb, leb, ltb, Bool, true, false, List, refl, sym, ap, ◌∙◌, arith, inl, inr, lit<}
-use Rattle.std.specs.Prelude.{min, All, length, get_or}
-use Rattle.std.proofs.Math.Nat.{min-eq_left, min-eq_right, mod-eq_of_lt}
+use Rattle.std.proofs.Common.{◌≡◌, ℕ, ◌+◌, ◌-◌, ◌*◌, ◌%◌, ◌^◌, ◌<◌, eqb, ltb, true, false, refl, sym, ap, ◌∙◌, arith, inl, inr, lit<}
+use Rattle.std.specs.Prelude.{min, length}
+use Rattle.std.proofs.Math.Nat.{min-eq_left, min-eq_right}
 use Rattle.std.proofs.lemmas.Bool.{le-ltb, lt-ltb, cases_lt}
 use Rattle.std.proofs.lemmas.Bool.Decides.{leb_tells, eqb_tells}
 use Rattle.std.proofs.lemmas.Nat.{pow-add, mul-add-lt, mod_below, pow_pos}
@@ -35,13 +35,19 @@ unfolding read
 reads_agree P end pages address count state on rest some given =
     let none : eqb count 0 ≡ false = zero_test count some in
     elim (leb_tells count (8 - address % 8)) [
-    inl within ↦ (let whole : min count (8 - address % 8) ≡ count = min-eq_left within.1 in
-    let rest_none : ltb count count ≡ false = le-ltb count count (omega arith) in
-    rw (none, within.0, whole, rest_none) (refl, λ reply answers. given (reply % 2 ^ (8 * count)) (mod_below reply (2 ^ (8 * count)) (pow_pos (8 * count)))))
-    | inr beyond ↦ (let front : min count (8 - address % 8) ≡ 8 - address % 8 = min-eq_right (omega (arith, beyond.1)) in
-    let rest_some : ltb (8 - address % 8) count ≡ true = lt-ltb (8 - address % 8) count beyond.1 in
-    rw (none, beyond.0, front, rest_some) (refl, λ reply answers. (refl, λ second answered. given (reply % 2 ^ (8 * (8 - address % 8)) + second % 2 ^ (8 * (count - (8 - address % 8))) * 2 ^ (8 * (8 - address % 8)))
-    (joined_below _ _ (8 - address % 8) count beyond.1 (mod_below reply _ (pow_pos (8 * (8 - address % 8)))) (mod_below second _ (pow_pos (8 * (count - (8 - address % 8)))))))))
+      | inl within ↦ (let whole : min count (8 - address % 8) ≡ count = min-eq_left within.1 in
+          let rest_none : ltb count count ≡ false = le-ltb count count (omega arith) in
+          rw (none, within.0, whole, rest_none) (refl, λ reply answers. given (reply % 2 ^ (8 * count)) (mod_below reply (2 ^ (8 * count)) (pow_pos (8 * count)))))
+      | inr beyond ↦ (let front : min count (8 - address % 8) ≡ 8 - address % 8 = min-eq_right (omega (arith, beyond.1)) in
+          let rest_some : ltb (8 - address % 8) count ≡ true = lt-ltb (8 - address % 8) count beyond.1 in
+          rw (none, beyond.0, front, rest_some) (
+            refl,
+            λ reply answers. (
+              refl,
+              λ second answered. given (reply % 2 ^ (8 * (8 - address % 8)) + second % 2 ^ (8 * (count - (8 - address % 8))) * 2 ^ (8 * (8 - address % 8)))
+                  (joined_below _ _ (8 - address % 8) count beyond.1 (mod_below reply _ (pow_pos (8 * (8 - address % 8)))) (mod_below second _ (pow_pos (8 * (count - (8 - address % 8)))))),
+            ),
+          ))
     ]
 
 -- writing the parts is writing the operand
@@ -52,16 +58,17 @@ unfolding write
 writes_agree P end pages address count value state on rest some given =
     let none : eqb count 0 ≡ false = zero_test count some in
     elim (leb_tells count (8 - address % 8)) [
-    inl within ↦ (let whole : min count (8 - address % 8) ≡ count = min-eq_left within.1 in
-    let rest_none : ltb count count ≡ false = le-ltb count count (omega arith) in
-    rw (none, within.0, whole, rest_none) (refl, λ reply answers. given))
-    | inr beyond ↦ (let front : min count (8 - address % 8) ≡ 8 - address % 8 = min-eq_right (omega (arith, beyond.1)) in
-    let rest_some : ltb (8 - address % 8) count ≡ true = lt-ltb (8 - address % 8) count beyond.1 in
-    rw (none, beyond.0, front, rest_some) (refl, λ reply answers. (refl, λ second answered. given)))
+      | inl within ↦ (let whole : min count (8 - address % 8) ≡ count = min-eq_left within.1 in
+          let rest_none : ltb count count ≡ false = le-ltb count count (omega arith) in
+          rw (none, within.0, whole, rest_none) (refl, λ reply answers. given))
+      | inr beyond ↦ (let front : min count (8 - address % 8) ≡ 8 - address % 8 = min-eq_right (omega (arith, beyond.1)) in
+          let rest_some : ltb (8 - address % 8) count ≡ true = lt-ltb (8 - address % 8) count beyond.1 in
+          rw (none, beyond.0, front, rest_some) (refl, λ reply answers. (refl, λ second answered. given)))
     ]
 
 -- a register has a longword
 pub register_below : (state : VaxState) → IsState state → (number : ℕ) → register number state < 2 ^ 32
 register_below state ok number = elim (cases_lt number (length state.r)) [
-    inl has ↦ All-get_or (λ value. value < 2 ^ 32) state.r number 0 has ok.longwords
-    | inr past ↦ rw (get_or-eq_default state.r 0 past) (lit< tt) ]
+  | inl has ↦ All-get_or (λ value. value < 2 ^ 32) state.r number 0 has ok.longwords
+  | inr past ↦ rw (get_or-eq_default state.r 0 past) (lit< tt)
+]

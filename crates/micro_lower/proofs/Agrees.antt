@@ -1,10 +1,7 @@
 -- A course does what a tree does, with a fact at each place where it leaves.
-use Rattle.std.proofs.Common.{◌≡◌, ℕ, Bool, List}
 pub use Rattle.micro_lower.specs.Pieces.{Agrees}
 use Rattle.vax_form.specs.Tree.{Tree, Same}
 use Rattle.vax_form.specs.Tree as trees
-use Rattle.vax_form.specs.declared.state.Exception.{Exception}
-use Rattle.vax_form.specs.declared.state.Reference.{Reference}
 use Rattle.micro_ops.specs.Course.{Course, Check, Ask, Fault, Leaves, continued, AtLeaves}
 
 -- the tree of the course is the tree

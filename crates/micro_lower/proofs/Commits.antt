@@ -1,11 +1,10 @@
 -- The program that commits what the specifiers added leaves it in the registers.
-use Rattle.std.proofs.Common.{◌≡◌, ℕ, zero, suc, ◌+◌, ◌-◌, ◌*◌, ◌/◌, ◌%◌, ◌^◌, ◌<◌, ◌≤◌, eqb, Bool, true, false, List, [], ◌∷◌, ◌++◌, length, get_or, set, refl, sym, ap, ◌∙◌, subst, append_assoc, arith, inl, inr, lit<, length-append}
+use Rattle.std.proofs.Common.{◌≡◌, ℕ, suc, ◌+◌, ◌%◌, ◌^◌, ◌<◌, eqb, false, List, [], ◌∷◌, ◌++◌, length, get_or, set, refl, sym, ap, ◌∙◌, subst, append_assoc, arith, inl, inr, length-append}
 use Rattle.std.proofs.Math.Nat.{mod-eq_of_lt}
 use Rattle.std.proofs.lemmas.Bool.Decides.{eqb_tells}
 use Rattle.std.proofs.Math.Seq.{set-append_seam}
 use Rattle.vax_form.specs.State.{register, with_core}
 use Rattle.vax_form.specs.Tree.{Tree}
-use Rattle.vax_form.specs.declared.state.VaxState.{VaxState}
 use Rattle.micro_ops.specs.Meaning.{Left, Temps, Found, Standing, course_of}
 use Rattle.micro_ops.specs.Values.{value_from}
 use Rattle.micro_ops.specs.declared.program.Micro.{Micro}
@@ -39,18 +38,19 @@ commits_agree P end program tree found done [] [] number standing is same r smal
 commits_agree P end program tree found done [] (step ∷ steps) number standing is same r small at goes = absurd (omega (arith, same))
 commits_agree P end program tree found done (value ∷ left) [] number standing is same r small at goes = absurd (omega (arith, same))
 commits_agree P end program tree found done (value ∷ left) (step ∷ steps) number standing is same r small at goes = elim (eqb_tells step 0) [
-    inl none ↦ (let kept : (value + step) % 2 ^ 32 ≡ value = rw none.1 (ap (λ v. v % 2 ^ 32) (omega arith) ∙ mod-eq_of_lt (small 0)) in
-    rw none.0 (commits_agree P end program tree found (done ++ value ∷ []) left steps (number + 1) standing
-    (omega (arith, is, length-append done (value ∷ []))) (omega (arith, same)) (r ∙ sym (append_assoc done (value ∷ []) left)) (λ i. small (suc i)) (later found.state.r number value left at)
-    (λ temps apart. subst (λ r. Agrees P end (course_of program found (with_r temps r standing)) tree)
-    (ap (λ v. done ++ v ∷ stepped_registers left steps) kept ∙ sym (append_assoc done (value ∷ []) (stepped_registers left steps))) (goes temps apart))))
-    | inr some ↦ (let w = (value + step) % 2 ^ 32 in
-    let x = (register number found.state % 2 ^ 32 + step % 2 ^ 32) % 2 ^ 32 in
-    let first : register number found.state ≡ value = ap (λ n. get_or found.state.r n 0) (omega arith) ∙ at 0 in
-    let w_is : x % 2 ^ 32 ≡ w = ap (λ v. (v % 2 ^ 32 + step % 2 ^ 32) % 2 ^ 32 % 2 ^ 32) first ∙ sum_wrapped value step in
-    let placed : set standing.state.r number (x % 2 ^ 32) ≡ (done ++ w ∷ []) ++ left =
-    ap (λ xs. set xs number (x % 2 ^ 32)) r ∙ ap (λ n. set (done ++ value ∷ left) n (x % 2 ^ 32)) is ∙ set-append_seam done value left (x % 2 ^ 32) ∙ ap (λ y. done ++ y ∷ left) w_is ∙ sym (append_assoc done (w ∷ []) left) in
-    rw some.0 (commits_agree P end program tree found (done ++ w ∷ []) left steps (number + 1) _
-    (omega (arith, is, length-append done (w ∷ []))) (omega (arith, same)) placed (λ i. small (suc i)) (later found.state.r number value left at)
-    (λ temps apart. subst (λ r. Agrees P end (course_of program found (with_r temps r standing)) tree)
-    (sym (append_assoc done (w ∷ []) (stepped_registers left steps))) (goes temps (λ temp a. apart temp a ∙ rw a refl))))) ]
+  | inl none ↦ (let kept : (value + step) % 2 ^ 32 ≡ value = rw none.1 (ap (λ v. v % 2 ^ 32) (omega arith) ∙ mod-eq_of_lt (small 0)) in
+      rw none.0 (commits_agree P end program tree found (done ++ value ∷ []) left steps (number + 1) standing
+      (omega (arith, is, length-append done (value ∷ []))) (omega (arith, same)) (r ∙ sym (append_assoc done (value ∷ []) left)) (λ i. small (suc i)) (later found.state.r number value left at)
+      (λ temps apart. subst (λ r. Agrees P end (course_of program found (with_r temps r standing)) tree)
+      (ap (λ v. done ++ v ∷ stepped_registers left steps) kept ∙ sym (append_assoc done (value ∷ []) (stepped_registers left steps))) (goes temps apart))))
+  | inr some ↦ (let w = (value + step) % 2 ^ 32 in
+      let x = (register number found.state % 2 ^ 32 + step % 2 ^ 32) % 2 ^ 32 in
+      let first : register number found.state ≡ value = ap (λ n. get_or found.state.r n 0) (omega arith) ∙ at 0 in
+      let w_is : x % 2 ^ 32 ≡ w = ap (λ v. (v % 2 ^ 32 + step % 2 ^ 32) % 2 ^ 32 % 2 ^ 32) first ∙ sum_wrapped value step in
+      let placed : set standing.state.r number (x % 2 ^ 32) ≡ (done ++ w ∷ []) ++ left =
+      ap (λ xs. set xs number (x % 2 ^ 32)) r ∙ ap (λ n. set (done ++ value ∷ left) n (x % 2 ^ 32)) is ∙ set-append_seam done value left (x % 2 ^ 32) ∙ ap (λ y. done ++ y ∷ left) w_is ∙ sym (append_assoc done (w ∷ []) left) in
+      rw some.0 (commits_agree P end program tree found (done ++ w ∷ []) left steps (number + 1) _
+      (omega (arith, is, length-append done (w ∷ []))) (omega (arith, same)) placed (λ i. small (suc i)) (later found.state.r number value left at)
+      (λ temps apart. subst (λ r. Agrees P end (course_of program found (with_r temps r standing)) tree)
+      (sym (append_assoc done (w ∷ []) (stepped_registers left steps))) (goes temps (λ temp a. apart temp a ∙ rw a refl)))))
+]

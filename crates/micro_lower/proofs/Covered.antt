@@ -1,16 +1,14 @@
 -- The programs are right for instructions that are spelled.
-use Rattle.std.proofs.Common.{◌≡◌, ℕ, ◌+◌, ◌<◌, ◌^◌, Bool, false, List, [], ◌∷◌, Some, refl, sym, ap, ◌∙◌, subst}
-use Rattle.vax_form.specs.Grammar.{IsSpelled, SpecifyAll}
+use Rattle.std.proofs.Common.{◌≡◌, ℕ, false, List, [], ◌∷◌, Some, refl, sym, ap, ◌∙◌, subst}
+use Rattle.vax_form.specs.Grammar.{IsSpelled}
 use Rattle.vax_form.specs.Operation.{operation_at}
 use Rattle.vax_form.specs.Row.{operands_of}
 use Rattle.vax_form.specs.Size.{size_of}
-use Rattle.vax_form.specs.declared.instr.Access.{Access}
 use Rattle.vax_form.specs.declared.instr.Access.TheVariants as accesses
 use Rattle.vax_form.specs.declared.instr.Size.{Size}
 use Rattle.vax_form.specs.declared.instr.Size.TheVariants.{Byte}
 use Rattle.vax_form.specs.declared.instr.Width.{Width}
 use Rattle.vax_form.specs.declared.instr.Instr.{Instr}
-use Rattle.vax_form.specs.declared.instr.Operand.{Operand}
 use Rattle.vax_form.specs.declared.instr.Operand.TheVariants.{Target}
 use Rattle.vax_form.specs.declared.operation.Condition.{Condition}
 use Rattle.vax_form.specs.declared.operation.Operation.{Operation}

@@ -1,11 +1,11 @@
 -- The program of an operand's address finds the address.
-use Rattle.std.proofs.Common.{◌≡◌, ℕ, ◌+◌, ◌-◌, ◌*◌, ◌/◌, ◌%◌, ◌^◌, ◌<◌, ◌≤◌, eqb, Bool, true, false, List, [], ◌∷◌, ◌++◌, length, get_or, Option, Some, None, refl, sym, ap, ◌∙◌, subst, append_assoc, arith, inl, inr, lit<}
+use Rattle.std.proofs.Common.{◌≡◌, ℕ, ◌+◌, ◌-◌, ◌*◌, ◌%◌, ◌^◌, ◌<◌, eqb, Bool, true, false, List, [], ◌∷◌, ◌++◌, length, get_or, Option, Some, None, refl, sym, ap, ◌∙◌, subst, append_assoc, arith, inl, inr, lit<}
 use Rattle.std.proofs.Math.Nat.{mod-eq_of_lt}
 use Rattle.std.proofs.lemmas.Bool.Decides.{eqb_tells}
 use Rattle.std.proofs.lemmas.Nat.{mod_below}
 use Rattle.std.proofs.lemmas.List.{length-set}
 use Rattle.vax_form.specs.Size.{bytes_of}
-use Rattle.vax_form.specs.State.{IsState, register}
+use Rattle.vax_form.specs.State.{register}
 use Rattle.vax_form.specs.declared.instr.Size.{Size}
 use Rattle.vax_form.specs.declared.instr.Size.TheVariants.{Byte, Word, Long, Quad}
 use Rattle.vax_form.specs.Tree.{Tree, tree_of}
@@ -14,7 +14,6 @@ use Rattle.vax_form.specs.declared.instr.Base.TheVariants.{Deferred, Decrement, 
 use Rattle.vax_form.specs.declared.pages.Pages.{Pages}
 use Rattle.vax_form.specs.declared.state.VaxState.{VaxState}
 use Rattle.vax_meaning.specs.Operands.{through, base_address, place_address}
-use Rattle.micro_ops.specs.Course.{Course}
 use Rattle.micro_ops.specs.Meaning.{Left, Temps, Found, Standing, with_temp, with_value, course_of}
 use Rattle.micro_ops.specs.Values.{value_from}
 use Rattle.micro_ops.specs.declared.program.Micro.{Micro}
@@ -22,10 +21,9 @@ use Rattle.micro_ops.specs.declared.program.Micro.TheVariants.{Compute, Probe, R
 use Rattle.micro_ops.specs.declared.program.MicroOp.TheVariants as ops
 use Rattle.micro_ops.specs.declared.program.Arg.TheVariants.{Temp}
 use Rattle.micro_lower.specs.Specifiers.{sum_into, address_program, scaled, index_program, place_program, pointer_of, steps_behind, stepped, with_step}
-use Rattle.micro_lower.specs.declared.specifiers.Pointer.{Pointer}
 pub use Rattle.micro_lower.specs.Pieces.{Kept, with_temps, IsLong}
 use Rattle.micro_lower.specs.Pieces.{Agrees}
-use Rattle.micro_lower.proofs.Accesses.{reads_agree, register_below}
+use Rattle.micro_lower.proofs.Accesses.{reads_agree}
 use Rattle.micro_lower.proofs.Stepped.{register_stepped, with_register_stepped, twice}
 
 pub eqb_same : (n : ℕ) → eqb n n ≡ true
@@ -44,9 +42,10 @@ pub sum_course : (to : ℕ) (from : Option ℕ) (offset : ℕ) (program : List M
 unfolding value_from
 sum_course to None offset program found standing = refl
 sum_course to (Some n) offset program found standing = elim (eqb_tells offset 0) [
-    inl is ↦ (let none : register n found.state % 2 ^ 32 ≡ (register n found.state + offset) % 2 ^ 32 = rw is.1 (ap (λ v. v % 2 ^ 32) (omega arith)) in
-    rw is.0 (ap (λ v. course_of program found (with_value to v standing)) none))
-    | inr not ↦ rw not.0 (ap (λ v. course_of program found (with_value to v standing)) (sum_twice (register n found.state) offset)) ]
+  | inl is ↦ (let none : register n found.state % 2 ^ 32 ≡ (register n found.state + offset) % 2 ^ 32 = rw is.1 (ap (λ v. v % 2 ^ 32) (omega arith)) in
+      rw is.0 (ap (λ v. course_of program found (with_value to v standing)) none))
+  | inr not ↦ rw not.0 (ap (λ v. course_of program found (with_value to v standing)) (sum_twice (register n found.state) offset))
+]
 
 kept_one : (place spare value : ℕ) (temps : Temps) → Kept place spare temps (with_temp place value temps)
 kept_one place spare value temps temp a b c = rw a refl
@@ -74,9 +73,13 @@ pointer_agrees P end pages program found standing place spare from offset false 
     (goes v (with_temp place v standing.temps) (pointer_below from offset found.state) (rw (eqb_same place) refl) (kept_one place spare v standing.temps))
 pointer_agrees P end pages program found standing place spare from offset true state rest goes =
     let v = sum_of_pointer from offset found.state in
-    rw (sum_course spare from offset (Probe spare 4 false ∷ Read place spare 4 ∷ program) found standing, eqb_same spare)
-    (refl, refl, refl, reads_agree P end pages v 4 state (λ value. course_of program found (with_value place value (with_value spare v standing))) (λ x after. rest (x % 2 ^ 32) after) (lit< tt)
-    (λ value below. rw (mod-eq_of_lt below) (goes value (with_temp place value (with_temp spare v standing.temps)) below (rw (eqb_same place) refl) (kept_two place spare value v standing.temps))))
+    rw (sum_course spare from offset (Probe spare 4 false ∷ Read place spare 4 ∷ program) found standing, eqb_same spare) (
+      refl,
+      refl,
+      refl,
+      reads_agree P end pages v 4 state (λ value. course_of program found (with_value place value (with_value spare v standing))) (λ x after. rest (x % 2 ^ 32) after) (lit< tt)
+          (λ value below. rw (mod-eq_of_lt below) (goes value (with_temp place value (with_temp spare v standing.temps)) below (rw (eqb_same place) refl) (kept_two place spare value v standing.temps))),
+    )
 
 pub base_agrees : (P : Left → Type 0) (end : Left → Tree) (pages : Pages) (program : List Micro) (found : Found) (standing : Standing) (place spare : ℕ)
     (base : Base) (size : ℕ) (steps : List ℕ) (rest : ℕ → VaxState → Tree)

@@ -1,12 +1,9 @@
 -- The programs of operations that evaluate no operand specifier.
-use Rattle.std.proofs.Common.{◌≡◌, ℕ, ◌+◌, ◌-◌, ◌*◌, ◌/◌, ◌%◌, ◌^◌, ◌<◌, ◌≤◌, ◌==◌, Bool, true, false, List, [], ◌∷◌, Option, Some, None, ◌⊎◌, refl, sym, ap, ◌∙◌, arith, inl, inr, lit<}
-use Rattle.vax_form.specs.Grammar.{padded}
+use Rattle.std.proofs.Common.{◌≡◌, ℕ, ◌+◌, ◌/◌, ◌%◌, ◌^◌, ◌<◌, true, List, [], ◌∷◌, Some, ◌⊎◌, refl, arith, inl, inr, lit<}
 use Rattle.vax_form.specs.Operation.{operation_at}
 use Rattle.vax_form.specs.Row.{operands_of}
 use Rattle.vax_form.specs.State.{IsState}
-use Rattle.vax_form.specs.Tree.{Tree, Same}
 use Rattle.vax_form.specs.declared.instr.Instr.{Instr}
-use Rattle.vax_form.specs.declared.instr.Operand.{Operand}
 use Rattle.vax_form.specs.declared.instr.Operand.TheVariants.{Target}
 use Rattle.vax_form.specs.declared.operation.Operation.{Operation}
 use Rattle.vax_form.specs.declared.operation.Operation.TheVariants as operations
@@ -20,7 +17,7 @@ use Rattle.micro_ops.specs.Meaning.{Left, departed, denote}
 use Rattle.micro_ops.specs.Values.{value_from}
 use Rattle.micro_ops.specs.declared.codes.CodeSources.{CodeSources}
 use Rattle.micro_ops.specs.declared.program.Micro.{Micro}
-use Rattle.micro_lower.specs.Lowering.{sources_of, service, Means, Holds, Lowers}
+use Rattle.micro_lower.specs.Lowering.{sources_of, service, Lowers}
 use Rattle.micro_ops.specs.Leaving.{CodesComeFrom}
 use Rattle.micro_lower.specs.Programs.{no_operation_program, breakpoint_program, branch_program, branch_if_program, subroutine_program, return_program}
 use Rattle.micro_lower.proofs.Spelled.{with_operands}
@@ -97,21 +94,29 @@ branch_if_does NotEqual at opcode count after target is state pages thread ok =
 branch_if_does Equal at opcode count after target is state pages thread ok =
     rw is (elim (bit_cases (state.psw / 4)) [ inl z ↦ rw z (record { signs = (refl, refl, refl); carry = refl }, refl) | inr z ↦ rw z (record { signs = (refl, refl, refl); carry = refl }, refl) ])
 branch_if_does Greater at opcode count after target is state pages thread ok =
-    rw is (elim (bit_cases (state.psw / 8)) [ inl n ↦ elim (bit_cases (state.psw / 4)) [ inl z ↦ rw (n, z) (record { signs = (refl, refl, refl); carry = refl }, refl) | inr z ↦ rw (n, z) (record { signs = (refl, refl, refl); carry = refl }, refl) ]
-    | inr n ↦ elim (bit_cases (state.psw / 4)) [ inl z ↦ rw (n, z) (record { signs = (refl, refl, refl); carry = refl }, refl) | inr z ↦ rw (n, z) (record { signs = (refl, refl, refl); carry = refl }, refl) ] ])
+    rw is (elim (bit_cases (state.psw / 8)) [
+      | inl n ↦ elim (bit_cases (state.psw / 4)) [ inl z ↦ rw (n, z) (record { signs = (refl, refl, refl); carry = refl }, refl) | inr z ↦ rw (n, z) (record { signs = (refl, refl, refl); carry = refl }, refl) ]
+      | inr n ↦ elim (bit_cases (state.psw / 4)) [ inl z ↦ rw (n, z) (record { signs = (refl, refl, refl); carry = refl }, refl) | inr z ↦ rw (n, z) (record { signs = (refl, refl, refl); carry = refl }, refl) ]
+    ])
 branch_if_does LessOrEqual at opcode count after target is state pages thread ok =
-    rw is (elim (bit_cases (state.psw / 8)) [ inl n ↦ elim (bit_cases (state.psw / 4)) [ inl z ↦ rw (n, z) (record { signs = (refl, refl, refl); carry = refl }, refl) | inr z ↦ rw (n, z) (record { signs = (refl, refl, refl); carry = refl }, refl) ]
-    | inr n ↦ elim (bit_cases (state.psw / 4)) [ inl z ↦ rw (n, z) (record { signs = (refl, refl, refl); carry = refl }, refl) | inr z ↦ rw (n, z) (record { signs = (refl, refl, refl); carry = refl }, refl) ] ])
+    rw is (elim (bit_cases (state.psw / 8)) [
+      | inl n ↦ elim (bit_cases (state.psw / 4)) [ inl z ↦ rw (n, z) (record { signs = (refl, refl, refl); carry = refl }, refl) | inr z ↦ rw (n, z) (record { signs = (refl, refl, refl); carry = refl }, refl) ]
+      | inr n ↦ elim (bit_cases (state.psw / 4)) [ inl z ↦ rw (n, z) (record { signs = (refl, refl, refl); carry = refl }, refl) | inr z ↦ rw (n, z) (record { signs = (refl, refl, refl); carry = refl }, refl) ]
+    ])
 branch_if_does GreaterOrEqual at opcode count after target is state pages thread ok =
     rw is (elim (bit_cases (state.psw / 8)) [ inl n ↦ rw n (record { signs = (refl, refl, refl); carry = refl }, refl) | inr n ↦ rw n (record { signs = (refl, refl, refl); carry = refl }, refl) ])
 branch_if_does Less at opcode count after target is state pages thread ok =
     rw is (elim (bit_cases (state.psw / 8)) [ inl n ↦ rw n (record { signs = (refl, refl, refl); carry = refl }, refl) | inr n ↦ rw n (record { signs = (refl, refl, refl); carry = refl }, refl) ])
 branch_if_does GreaterUnsigned at opcode count after target is state pages thread ok =
-    rw (is, whole state.psw) (elim (bit_cases state.psw) [ inl c ↦ elim (bit_cases (state.psw / 4)) [ inl z ↦ rw (c, z) (record { signs = (refl, refl, refl); carry = refl }, refl) | inr z ↦ rw (c, z) (record { signs = (refl, refl, refl); carry = refl }, refl) ]
-    | inr c ↦ elim (bit_cases (state.psw / 4)) [ inl z ↦ rw (c, z) (record { signs = (refl, refl, refl); carry = refl }, refl) | inr z ↦ rw (c, z) (record { signs = (refl, refl, refl); carry = refl }, refl) ] ])
+    rw (is, whole state.psw) (elim (bit_cases state.psw) [
+      | inl c ↦ elim (bit_cases (state.psw / 4)) [ inl z ↦ rw (c, z) (record { signs = (refl, refl, refl); carry = refl }, refl) | inr z ↦ rw (c, z) (record { signs = (refl, refl, refl); carry = refl }, refl) ]
+      | inr c ↦ elim (bit_cases (state.psw / 4)) [ inl z ↦ rw (c, z) (record { signs = (refl, refl, refl); carry = refl }, refl) | inr z ↦ rw (c, z) (record { signs = (refl, refl, refl); carry = refl }, refl) ]
+    ])
 branch_if_does LessOrEqualUnsigned at opcode count after target is state pages thread ok =
-    rw (is, whole state.psw) (elim (bit_cases state.psw) [ inl c ↦ elim (bit_cases (state.psw / 4)) [ inl z ↦ rw (c, z) (record { signs = (refl, refl, refl); carry = refl }, refl) | inr z ↦ rw (c, z) (record { signs = (refl, refl, refl); carry = refl }, refl) ]
-    | inr c ↦ elim (bit_cases (state.psw / 4)) [ inl z ↦ rw (c, z) (record { signs = (refl, refl, refl); carry = refl }, refl) | inr z ↦ rw (c, z) (record { signs = (refl, refl, refl); carry = refl }, refl) ] ])
+    rw (is, whole state.psw) (elim (bit_cases state.psw) [
+      | inl c ↦ elim (bit_cases (state.psw / 4)) [ inl z ↦ rw (c, z) (record { signs = (refl, refl, refl); carry = refl }, refl) | inr z ↦ rw (c, z) (record { signs = (refl, refl, refl); carry = refl }, refl) ]
+      | inr c ↦ elim (bit_cases (state.psw / 4)) [ inl z ↦ rw (c, z) (record { signs = (refl, refl, refl); carry = refl }, refl) | inr z ↦ rw (c, z) (record { signs = (refl, refl, refl); carry = refl }, refl) ]
+    ])
 branch_if_does OverflowClear at opcode count after target is state pages thread ok =
     rw is (elim (bit_cases (state.psw / 2)) [ inl v ↦ rw v (record { signs = (refl, refl, refl); carry = refl }, refl) | inr v ↦ rw v (record { signs = (refl, refl, refl); carry = refl }, refl) ])
 branch_if_does OverflowSet at opcode count after target is state pages thread ok =

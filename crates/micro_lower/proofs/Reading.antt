@@ -1,5 +1,5 @@
 -- The program of an operand that is read has its value.
-use Rattle.std.proofs.Common.{◌≡◌, ℕ, ◌+◌, ◌-◌, ◌*◌, ◌/◌, ◌%◌, ◌^◌, ◌<◌, ◌≤◌, eqb, Bool, true, false, List, [], ◌∷◌, ◌++◌, length, get_or, Option, Some, None, refl, sym, ap, ◌∙◌, subst, append_assoc, arith, inl, inr, lit<}
+use Rattle.std.proofs.Common.{◌≡◌, ℕ, ◌+◌, ◌*◌, ◌%◌, ◌^◌, ◌<◌, eqb, false, List, ◌∷◌, ◌++◌, length, get_or, Some, refl, append_assoc, arith, inl, inr, lit<}
 use Rattle.std.specs.Prelude.{min}
 use Rattle.std.proofs.Math.Nat.{mod-eq_of_lt}
 use Rattle.std.proofs.lemmas.Bool.Decides.{eqb_tells}
@@ -8,7 +8,6 @@ use Rattle.vax_form.specs.Size.{bytes_of}
 use Rattle.vax_form.specs.State.{register}
 use Rattle.vax_form.specs.Tree.{Tree, tree_of}
 use Rattle.vax_form.specs.declared.instr.Access.TheVariants as accesses
-use Rattle.vax_form.specs.declared.instr.Base.{Base}
 use Rattle.vax_form.specs.declared.instr.Operand.{Operand}
 use Rattle.vax_form.specs.declared.instr.Operand.TheVariants.{Unused, Value, Register, Place, Target}
 use Rattle.vax_form.specs.declared.instr.Size.{Size}
@@ -18,17 +17,16 @@ use Rattle.vax_form.specs.declared.state.VaxState.{VaxState}
 use Rattle.vax_meaning.specs.Evaluation.{evaluate, find, obtain, read_found}
 use Rattle.vax_meaning.specs.Operands.{locate}
 use Rattle.vax_meaning.specs.declared.evaluation.Evaluated.{Evaluated}
-use Rattle.vax_meaning.specs.declared.operands.Location.TheVariants.{InMemory}
-use Rattle.micro_ops.specs.Meaning.{Left, Temps, Found, Standing, with_temp, with_value, course_of}
+use Rattle.micro_ops.specs.Meaning.{Left, Found, Standing, with_temp, with_value, course_of}
 use Rattle.micro_ops.specs.Values.{value_from}
 use Rattle.micro_ops.specs.declared.program.Micro.{Micro}
-use Rattle.micro_ops.specs.declared.program.Micro.TheVariants.{Compute, Probe, Read}
-use Rattle.micro_lower.specs.Specifiers.{stepped, steps_behind_operand, read_program, place_program}
+use Rattle.micro_ops.specs.declared.program.Micro.TheVariants.{Probe, Read}
+use Rattle.micro_lower.specs.Specifiers.{stepped, steps_behind_operand, read_program}
 use Rattle.micro_lower.specs.Pieces.{Agrees, IsReadable, GoesOnWith, Evaluates, leaving}
 use Rattle.micro_ops.specs.Leaving.{CodesComeFrom}
 use Rattle.micro_lower.proofs.Accesses.{reads_agree}
 use Rattle.micro_lower.proofs.Stepped.{register_stepped}
-use Rattle.micro_lower.proofs.Places.{Kept, with_temps, IsLong, eqb_same, sum_course, place_agrees}
+use Rattle.micro_lower.proofs.Places.{with_temps, eqb_same, sum_course, place_agrees}
 
 pub some_bytes : (size : Size) → 0 < bytes_of size
 some_bytes Byte = lit< tt
@@ -71,8 +69,13 @@ read_agrees P end pages program found standing to place (Register n) Quad steps 
     (goes ((low + high * 4294967296) % 2 ^ 64) _ (mod_below _ (2 ^ 64) (lit< tt)) (rw (eqb_same to, other) (pair low high)) (λ temp a b c. rw (a, c) refl))
 read_agrees P end pages program found standing to place (Place base index) size steps rest same readable apart other goes =
     rw append_assoc (place_agrees P end pages (Probe place (bytes_of size) false ∷ Read to place (bytes_of size) ∷ program) found standing place to base index size steps _ same readable apart
-    (λ address temps below is kept. rw is (refl, refl, refl, reads_agree P end pages address (bytes_of size) _ (λ value. course_of program found (with_value to value (with_temps temps standing))) _ (some_bytes size)
-    (λ value fits. rw (mod-eq_of_lt fits) (goes value (with_temp to value temps) fits (rw (eqb_same to) refl) (λ temp a b c. rw a (kept temp b a c)))))))
+    (λ address temps below is kept. rw is (
+      refl,
+      refl,
+      refl,
+      reads_agree P end pages address (bytes_of size) _ (λ value. course_of program found (with_value to value (with_temps temps standing))) _ (some_bytes size)
+          (λ value fits. rw (mod-eq_of_lt fits) (goes value (with_temp to value temps) fits (rw (eqb_same to) refl) (λ temp a b c. rw a (kept temp b a c)))),
+    )))
 read_agrees P end pages program found standing to place Unused size steps rest same readable apart other goes = absurd readable
 read_agrees P end pages program found standing to place (Target address) size steps rest same readable apart other goes = absurd readable
 

@@ -1,15 +1,14 @@
 -- What an instruction is that some bytes spell.
-use Rattle.std.proofs.Common.{◌≡◌, ℕ, ◌+◌, ◌<◌, ◌^◌, ◌%◌, List, [], ◌∷◌, Some, None, refl, sym, ap, ◌∙◌, subst, lit<}
+use Rattle.std.proofs.Common.{◌≡◌, ℕ, ◌+◌, ◌<◌, ◌^◌, List, Some, None, sym, ap, ◌∙◌, subst, lit<}
 use Rattle.std.specs.Prelude.{option_map, Option}
 use Rattle.std.proofs.lemmas.Nat.{mod_below}
-use Rattle.vax_form.specs.Grammar.{IsSpelled, Spells, SpecifyAll, padded}
+use Rattle.vax_form.specs.Grammar.{IsSpelled, SpecifyAll, padded}
 use Rattle.vax_form.specs.Operation.{operation_at}
 use Rattle.vax_form.specs.Row.{operands_of}
 use Rattle.vax_form.specs.declared.instr.Access.{Access}
 use Rattle.vax_form.specs.declared.instr.Size.{Size}
 use Rattle.vax_form.specs.declared.instr.Instr.{Instr}
 use Rattle.vax_form.specs.declared.instr.Operand.{Operand}
-use Rattle.vax_form.specs.declared.instr.Operand.TheVariants.{Target}
 use Rattle.vax_form.specs.declared.operation.Operation.{Operation}
 
 -- an instruction with these operands

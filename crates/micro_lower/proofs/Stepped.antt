@@ -1,5 +1,5 @@
 -- What specifiers add to the registers.
-use Rattle.std.proofs.Common.{◌≡◌, ℕ, zero, suc, ◌+◌, ◌-◌, ◌*◌, ◌%◌, ◌^◌, ◌<◌, ◌≤◌, List, [], ◌∷◌, length, get_or, set, refl, sym, ap, ◌∙◌, arith, lit<}
+use Rattle.std.proofs.Common.{◌≡◌, ℕ, zero, suc, ◌+◌, ◌%◌, ◌^◌, List, [], ◌∷◌, length, get_or, set, refl, ap, ◌∙◌, arith}
 use Rattle.vax_form.specs.State.{register, with_register, with_core}
 use Rattle.vax_form.specs.declared.state.VaxState.{VaxState}
 use Rattle.micro_lower.specs.Specifiers.{stepped_registers, stepped, with_step}

@@ -1,5 +1,5 @@
 -- The programs of operands that are located, modified and stored.
-use Rattle.std.proofs.Common.{◌≡◌, ℕ, ◌+◌, ◌*◌, ◌%◌, ◌^◌, ◌<◌, eqb, true, false, List, [], ◌∷◌, ◌++◌, length, refl, sym, ap, ◌∙◌, lit<}
+use Rattle.std.proofs.Common.{◌≡◌, ℕ, ◌*◌, ◌^◌, ◌<◌, eqb, false, List, ◌++◌, length, refl}
 use Rattle.std.proofs.Math.Nat.{mod-eq_of_lt}
 use Rattle.vax_form.specs.Size.{bytes_of}
 use Rattle.vax_form.specs.Tree.{Tree, tree_of}
@@ -11,13 +11,13 @@ use Rattle.vax_form.specs.declared.state.VaxState.{VaxState}
 use Rattle.vax_meaning.specs.Operands.{locate, modify_at, put, store}
 use Rattle.vax_meaning.specs.declared.operands.Location.{Location}
 use Rattle.vax_meaning.specs.declared.operands.Location.TheVariants.{InMemory, InRegister}
-use Rattle.micro_ops.specs.Meaning.{Left, Temps, Found, Standing, with_temp, with_value, course_of}
+use Rattle.micro_ops.specs.Meaning.{Left, Temps, Found, Standing, with_value, course_of}
 use Rattle.micro_ops.specs.declared.program.Micro.{Micro}
 use Rattle.micro_lower.specs.Specifiers.{stepped, steps_behind_operand, locate_program, modify_program, store_program}
 use Rattle.micro_lower.specs.Pieces.{Agrees, Stores, leaving}
 use Rattle.micro_ops.specs.Leaving.{CodesComeFrom}
 use Rattle.micro_lower.proofs.Accesses.{reads_agree, writes_agree}
-use Rattle.micro_lower.proofs.Places.{Kept, with_temps, IsLong, eqb_same, place_agrees}
+use Rattle.micro_lower.proofs.Places.{Kept, with_temps, IsLong, place_agrees}
 use Rattle.micro_lower.proofs.Reading.{some_bytes}
 
 -- an operand that has a place
@@ -59,8 +59,13 @@ pub modify_agrees : (P : Left → Type 0) (end : Left → Tree) (pages : Pages) 
     → Agrees P end (course_of (modify_program size to place ++ program) found standing) (tree_of pages (modify_at (InMemory address) size) state rest)
 unfolding modify_at
 modify_agrees P end pages program found standing to place address size state rest is goes =
-    rw is (refl, refl, refl, reads_agree P end pages address (bytes_of size) state (λ value. course_of program found (with_value to value standing)) _ (some_bytes size)
-    (λ value fits. rw (mod-eq_of_lt fits) (goes value fits)))
+    rw is (
+      refl,
+      refl,
+      refl,
+      reads_agree P end pages address (bytes_of size) state (λ value. course_of program found (with_value to value standing)) _ (some_bytes size)
+          (λ value fits. rw (mod-eq_of_lt fits) (goes value fits)),
+    )
 
 pub store_agrees : (P : Left → Type 0) (end : Left → Tree) (pages : Pages) (program : List Micro) (found : Found) (standing : Standing) (place from address value : ℕ)
     (size : Size) (state : VaxState) (rest : Unit {0} → VaxState → Tree)

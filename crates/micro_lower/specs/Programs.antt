@@ -1,15 +1,12 @@
 -- The programs of operations that evaluate no operand specifier.
 use Rattle.std.specs.Prelude.{ℕ, List, [], ◌∷◌, Bool, true, false, Option, Some, None, if◌then◌else◌}
-use Rattle.vax_form.specs.declared.instr.Instr.{Instr}
 use Rattle.vax_form.specs.declared.instr.Size.TheVariants.{Byte, Long}
 use Rattle.vax_form.specs.declared.operation.Condition.{Condition}
 use Rattle.vax_form.specs.declared.operation.Operation.{Operation}
 use Rattle.vax_form.specs.declared.operation.Operation.TheVariants as operations
 use Rattle.vax_form.specs.declared.operation.Operation.TheVariants.{NoOperation, Branch, BranchIf, BranchToSubroutine, ReturnFromSubroutine}
 use Rattle.vax_form.specs.declared.operation.Condition.TheVariants.{NotEqual, Equal, Greater, LessOrEqual, GreaterOrEqual, Less, GreaterUnsigned, LessOrEqualUnsigned, OverflowClear, OverflowSet, CarryClear, CarrySet}
-use Rattle.micro_ops.specs.declared.program.Arg.{Arg}
 use Rattle.micro_ops.specs.declared.program.Arg.TheVariants.{Temp, Register, Flag, Const}
-use Rattle.micro_ops.specs.declared.program.Exit.{Exit}
 use Rattle.micro_ops.specs.declared.program.Exit.TheVariants.{Next, Fixed, Computed, Choice, Breakpoint}
 use Rattle.micro_ops.specs.declared.program.Micro.{Micro}
 use Rattle.micro_ops.specs.declared.program.Micro.TheVariants.{Compute, Probe, Read, Write, Commit, Leave}

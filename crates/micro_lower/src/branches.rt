@@ -7,8 +7,7 @@ ghost use Rattle.micro_lower.specs.Lowering.{Lowers};
 ghost use Rattle.micro_lower.specs.Programs.{no_operation_program, breakpoint_program, branch_program, flags_of, is_negated, flag_test, branch_if_program, subroutine_program, return_program, is_lowered};
 
 use micro_ops::{Arg, Exit, Micro, MicroOp};
-use std::alloc::AllocError;
-use std::alloc::Global;
+use std::alloc::{AllocError, Global};
 use vax_form::{Condition, Instr, Operand, Operation, Size};
 
 /// Where a branch goes.
@@ -118,9 +117,20 @@ fn subroutine_branch(alloc: Global, instr: &Instr) -> Result<Vec<Micro>, AllocEr
     Ok(vec![in alloc;
         binary(1, MicroOp::Add, Size::Long, stack, below),
         unary(2, MicroOp::Move, Size::Long, after),
-        Micro::Probe { place: 1, count: 4, write: true },
-        Micro::Write { place: 1, count: 4, from: 2 },
-        Micro::Commit { register: 14, from: 1 },
+        Micro::Probe {
+            place: 1,
+            count: 4,
+            write: true
+        },
+        Micro::Write {
+            place: 1,
+            count: 4,
+            from: 2
+        },
+        Micro::Commit {
+            register: 14,
+            from: 1
+        },
         Micro::Leave(Exit::Fixed(target(instr))),
     ]?)
 }
@@ -132,10 +142,21 @@ fn subroutine_return(alloc: Global) -> Result<Vec<Micro>, AllocError>
     let stack = Arg::Register(14);
     Ok(vec![in alloc;
         unary(1, MicroOp::Move, Size::Long, stack),
-        Micro::Probe { place: 1, count: 4, write: false },
-        Micro::Read { to: 0, place: 1, count: 4 },
+        Micro::Probe {
+            place: 1,
+            count: 4,
+            write: false
+        },
+        Micro::Read {
+            to: 0,
+            place: 1,
+            count: 4
+        },
         binary(5, MicroOp::Add, Size::Long, stack, Arg::Const(4)),
-        Micro::Commit { register: 14, from: 5 },
+        Micro::Commit {
+            register: 14,
+            from: 5
+        },
         Micro::Leave(Exit::Computed(0)),
     ]?)
 }

@@ -59,7 +59,11 @@ fn pointer_of(base: Base, bytes: u32, steps: &Steps) -> Pointer
             register,
             offset,
             deferred,
-        } => at(register, step(steps, register).wrapping_add(offset), deferred),
+        } => at(
+            register,
+            step(steps, register).wrapping_add(offset),
+            deferred,
+        ),
         Base::Fixed { address, deferred } => Pointer {
             register: None,
             offset: address,

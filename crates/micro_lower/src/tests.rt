@@ -45,9 +45,24 @@ fn operands(rt: HostRuntime) -> Result<(), Fail> {
     put_read(&mut program, stepping, Size::Long, &mut steps, 0, 1)?;
     assert_eq!(rt; words(&program), 32);
     assert_eq!(rt; steps[1], 4);
-    put_read(&mut program, Operand::Register(1), Size::Long, &mut steps, 1, 2)?;
+    put_read(
+        &mut program,
+        Operand::Register(1),
+        Size::Long,
+        &mut steps,
+        1,
+        2,
+    )?;
     assert_eq!(rt; words(&program), 36);
-    put_place(&mut program, Base::Deferred(3), None, Size::Long, &mut steps, 3, 2)?;
+    put_place(
+        &mut program,
+        Base::Deferred(3),
+        None,
+        Size::Long,
+        &mut steps,
+        3,
+        2,
+    )?;
     put_store(&mut program, Size::Long, 3, 0)?;
     assert_eq!(rt; words(&program), 63);
     Ok(())

@@ -1,5 +1,5 @@
 -- Each arm's program is right, and the other operations have none.
-use Rattle.std.proofs.Common.{rules, ◌≡◌, true, false}
+use Rattle.std.proofs.Common.{rules, ◌≡◌, false}
 use Rattle.micro_lower.specs.Programs.{is_lowered}
 use Rattle.micro_lower.proofs.Covered.{renamed, not_lowered, no_operation_lowers, breakpoint_lowers, return_lowers, branch_lowers, branch_if_lowers, subroutine_lowers}
 use Rattle.micro_lower.proofs.branches.lower_operation.Goals as goal

@@ -1,5 +1,5 @@
 -- The one byte 05 spells the instruction.
-use Rattle.std.proofs.Common.{rules, ◌∷◌, [], refl}
+use Rattle.std.proofs.Common.{◌∷◌, [], refl}
 use Rattle.vax_form.specs.Operation.{operation_at, control_opcodes, mixed_opcodes, move_opcodes, bit_opcodes}
 use Rattle.vax_form.specs.Row.{operands_of}
 use Rattle.micro_lower.proofs.tests.return_from_subroutine.Goals as goal
