@@ -1,0 +1,4 @@
+pub mod Lowering
+pub mod Programs
+pub mod Specifiers
+pub mod Pieces

@@ -1,0 +1,98 @@
+-- The programs of operations that evaluate no operand specifier.
+use Rattle.std.specs.Prelude.{ℕ, List, [], ◌∷◌, Bool, true, false, Option, Some, None, if◌then◌else◌}
+use Rattle.vax_form.specs.declared.instr.Size.TheVariants.{Byte, Long}
+use Rattle.vax_form.specs.declared.operation.Condition.{Condition}
+use Rattle.vax_form.specs.declared.operation.Operation.{Operation}
+use Rattle.vax_form.specs.declared.operation.Operation.TheVariants as operations
+use Rattle.vax_form.specs.declared.operation.Operation.TheVariants.{NoOperation, Branch, BranchIf, BranchToSubroutine, ReturnFromSubroutine}
+use Rattle.vax_form.specs.declared.operation.Condition.TheVariants.{NotEqual, Equal, Greater, LessOrEqual, GreaterOrEqual, Less, GreaterUnsigned, LessOrEqualUnsigned, OverflowClear, OverflowSet, CarryClear, CarrySet}
+use Rattle.micro_ops.specs.declared.program.Arg.TheVariants.{Temp, Register, Flag, Const}
+use Rattle.micro_ops.specs.declared.program.Exit.TheVariants.{Next, Fixed, Computed, Choice, Breakpoint}
+use Rattle.micro_ops.specs.declared.program.Micro.{Micro}
+use Rattle.micro_ops.specs.declared.program.Micro.TheVariants.{Compute, Probe, Read, Write, Commit, Leave}
+use Rattle.micro_ops.specs.declared.program.MicroOp.TheVariants as ops
+
+-- NOP
+abbrev pub no_operation_program : List Micro
+no_operation_program = Leave Next ∷ []
+
+-- BPT
+abbrev pub breakpoint_program : List Micro
+breakpoint_program = Leave Breakpoint ∷ []
+
+-- BR
+abbrev pub branch_program : (target : ℕ) → List Micro
+branch_program target = Leave (Fixed target) ∷ []
+
+-- the flags that a condition is made from, by their numbers: one, or either of two
+abbrev pub flags_of : Condition → ℕ × Option ℕ
+flags_of NotEqual = (1, None)
+flags_of Equal = (1, None)
+flags_of Greater = (0, Some 1)
+flags_of LessOrEqual = (0, Some 1)
+flags_of GreaterOrEqual = (0, None)
+flags_of Less = (0, None)
+flags_of GreaterUnsigned = (3, Some 1)
+flags_of LessOrEqualUnsigned = (3, Some 1)
+flags_of OverflowClear = (2, None)
+flags_of OverflowSet = (2, None)
+flags_of CarryClear = (3, None)
+flags_of CarrySet = (3, None)
+
+-- it holds where none of them is set
+abbrev pub is_negated : Condition → Bool
+is_negated NotEqual = true
+is_negated Greater = true
+is_negated GreaterOrEqual = true
+is_negated GreaterUnsigned = true
+is_negated OverflowClear = true
+is_negated CarryClear = true
+is_negated _ = false
+
+-- the flags go into temporary 0
+abbrev pub flag_test : ℕ × Option ℕ → Micro
+flag_test (first, None) = Compute 0 ops.Move Byte (Flag first) (Const 0)
+flag_test (first, Some second) = Compute 0 ops.Or Byte (Flag first) (Flag second)
+
+-- 1 for 0, and 0 for 1
+abbrev pub inversion : Micro
+inversion = Compute 0 ops.Xor Byte (Temp 0) (Const 1)
+
+-- BNEQ to BCS
+abbrev pub branch_if_program : Condition → (target after : ℕ) → List Micro
+branch_if_program condition target after =
+    if is_negated condition
+    then flag_test (flags_of condition) ∷ inversion ∷ Leave (Choice 0 target after) ∷ []
+    else flag_test (flags_of condition) ∷ Leave (Choice 0 target after) ∷ []
+
+-- BSB
+abbrev pub subroutine_program : (target after : ℕ) → List Micro
+subroutine_program target after =
+    Compute 1 ops.Add Long (Register 14) (Const 0xFFFFFFFC)
+    ∷ Compute 2 ops.Move Long (Const after) (Const 0)
+    ∷ Probe 1 4 true
+    ∷ Write 1 4 2
+    ∷ Commit 14 1
+    ∷ Leave (Fixed target)
+    ∷ []
+
+-- RSB
+abbrev pub return_program : List Micro
+return_program =
+    Compute 1 ops.Move Long (Register 14) (Const 0)
+    ∷ Probe 1 4 false
+    ∷ Read 0 1 4
+    ∷ Compute 5 ops.Add Long (Register 14) (Const 4)
+    ∷ Commit 14 5
+    ∷ Leave (Computed 0)
+    ∷ []
+
+-- the operations whose programs are made here
+unfoldable pub is_lowered : Operation → Bool
+is_lowered NoOperation = true
+is_lowered operations.Breakpoint = true
+is_lowered (Branch width) = true
+is_lowered (BranchIf condition) = true
+is_lowered (BranchToSubroutine width) = true
+is_lowered ReturnFromSubroutine = true
+is_lowered _ = false

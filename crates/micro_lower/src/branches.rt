@@ -1,0 +1,185 @@
+ghost use Rattle.std.specs.Prelude.{◌≡◌, ◌↔◌, true, IfOk, IfSome, IsSome};
+ghost use Rattle.vax_form.specs.Grammar.{IsSpelled};
+ghost use Rattle.vax_form.specs.Operation.{operation_at};
+ghost use Rattle.vax_meaning.specs.Branches.{target};
+ghost use Rattle.vax_meaning.specs.Evaluation.{operand};
+ghost use Rattle.micro_lower.specs.Lowering.{Lowers};
+ghost use Rattle.micro_lower.specs.Programs.{no_operation_program, breakpoint_program, branch_program, flags_of, is_negated, flag_test, branch_if_program, subroutine_program, return_program, is_lowered};
+
+use micro_ops::{Arg, Exit, Micro, MicroOp};
+use std::alloc::{AllocError, Global};
+use vax_form::{Condition, Instr, Operand, Operation, Size};
+
+/// Where a branch goes.
+fn target(instr: &Instr) -> u32
+    ensures { result ≡ target (operand instr.now 0) }
+{
+    match instr.operands[0] {
+        Operand::Target(address) => address,
+        _ => 0,
+    }
+}
+
+/// A computation of one argument.
+fn unary(to: u8, op: MicroOp, size: Size, a: Arg) -> Micro
+    ensures { result ≡ Micro.Compute to op size a (Arg.Const 0) }
+{
+    Micro::Compute {
+        to,
+        op,
+        size,
+        a,
+        b: Arg::Const(0),
+    }
+}
+
+/// A computation of two arguments.
+fn binary(to: u8, op: MicroOp, size: Size, a: Arg, b: Arg) -> Micro
+    ensures { result ≡ Micro.Compute to op size a b }
+{
+    Micro::Compute { to, op, size, a, b }
+}
+
+/// The flags that a condition is made from, by their numbers: one, or either of two.
+fn flags_of(condition: Condition) -> (u8, Option<u8>)
+    ensures { result ≡ flags_of condition }
+{
+    use Condition::{Equal, Greater, GreaterUnsigned, LessOrEqual, LessOrEqualUnsigned, NotEqual};
+    match condition {
+        NotEqual | Equal => (1, None),
+        Greater | LessOrEqual => (0, Some(1)),
+        Condition::GreaterOrEqual | Condition::Less => (0, None),
+        GreaterUnsigned | LessOrEqualUnsigned => (3, Some(1)),
+        Condition::OverflowClear | Condition::OverflowSet => (2, None),
+        Condition::CarryClear | Condition::CarrySet => (3, None),
+    }
+}
+
+/// Whether the condition holds where none of its flags is set.
+fn is_negated(condition: Condition) -> bool
+    ensures { result ≡ is_negated condition }
+{
+    matches!(
+        condition,
+        Condition::NotEqual
+            | Condition::Greater
+            | Condition::GreaterOrEqual
+            | Condition::GreaterUnsigned
+            | Condition::OverflowClear
+            | Condition::CarryClear
+    )
+}
+
+/// Puts the flags of a condition into temporary 0.
+fn flag_test(flags: (u8, Option<u8>)) -> Micro
+    ensures { result ≡ flag_test flags }
+{
+    match flags {
+        (first, None) => unary(0, MicroOp::Move, Size::Byte, Arg::Flag(first)),
+        (first, Some(second)) => binary(
+            0,
+            MicroOp::Or,
+            Size::Byte,
+            Arg::Flag(first),
+            Arg::Flag(second),
+        ),
+    }
+}
+
+/// BNEQ to BCS.
+fn conditional_branch(
+    alloc: Global,
+    condition: Condition,
+    instr: &Instr,
+) -> Result<Vec<Micro>, AllocError>
+    ensures { IfOk result (λ p. p.items ≡ branch_if_program condition (target (operand instr.now 0)) instr.now.after) }
+{
+    let test = flag_test(flags_of(condition));
+    let leave = Micro::Leave(Exit::Choice {
+        when: 0,
+        taken: target(instr),
+        other: instr.after,
+    });
+    if is_negated(condition) {
+        let inversion = binary(0, MicroOp::Xor, Size::Byte, Arg::Temp(0), Arg::Const(1));
+        Ok(vec![in alloc; test, inversion, leave]?)
+    } else {
+        Ok(vec![in alloc; test, leave]?)
+    }
+}
+
+/// BSB: the address behind the instruction is pushed.
+fn subroutine_branch(alloc: Global, instr: &Instr) -> Result<Vec<Micro>, AllocError>
+    ensures { IfOk result (λ p. p.items ≡ subroutine_program (target (operand instr.now 0)) instr.now.after) }
+{
+    let (stack, below) = (Arg::Register(14), Arg::Const(0xFFFF_FFFC));
+    let after = Arg::Const(u64::from(instr.after));
+    Ok(vec![in alloc;
+        binary(1, MicroOp::Add, Size::Long, stack, below),
+        unary(2, MicroOp::Move, Size::Long, after),
+        Micro::Probe {
+            place: 1,
+            count: 4,
+            write: true
+        },
+        Micro::Write {
+            place: 1,
+            count: 4,
+            from: 2
+        },
+        Micro::Commit {
+            register: 14,
+            from: 1
+        },
+        Micro::Leave(Exit::Fixed(target(instr))),
+    ]?)
+}
+
+/// RSB: the PC is popped.
+fn subroutine_return(alloc: Global) -> Result<Vec<Micro>, AllocError>
+    ensures { IfOk result (λ p. p.items ≡ return_program) }
+{
+    let stack = Arg::Register(14);
+    Ok(vec![in alloc;
+        unary(1, MicroOp::Move, Size::Long, stack),
+        Micro::Probe {
+            place: 1,
+            count: 4,
+            write: false
+        },
+        Micro::Read {
+            to: 0,
+            place: 1,
+            count: 4
+        },
+        binary(5, MicroOp::Add, Size::Long, stack, Arg::Const(4)),
+        Micro::Commit {
+            register: 14,
+            from: 5
+        },
+        Micro::Leave(Exit::Computed(0)),
+    ]?)
+}
+
+/// The program of an operation that evaluates no operand specifier; None for any other.
+#[tactic(auto, unfolding(crate::specs::Programs::is_lowered))]
+pub fn lower_operation(
+    alloc: Global,
+    operation: Operation,
+    instr: &Instr,
+) -> Result<Option<Vec<Micro>>, AllocError>
+    requires spelled { IsSpelled instr.now }
+    requires operation { operation_at instr.now.opcode ≡ Some operation }
+    ensures lowers { IfOk result (λ found. IfSome found (λ p. Lowers operation instr.now p.items)) }
+    ensures covered { IfOk result (λ found. IsSome found ↔ (is_lowered operation ≡ true)) }
+{
+    match operation {
+        Operation::NoOperation => Ok(Some(vec![in alloc; Micro::Leave(Exit::Next)]?)),
+        Operation::Breakpoint => Ok(Some(vec![in alloc; Micro::Leave(Exit::Breakpoint)]?)),
+        Operation::Branch(_) => Ok(Some(vec![in alloc; Micro::Leave(Exit::Fixed(target(instr)))]?)),
+        Operation::BranchIf(condition) => Ok(Some(conditional_branch(alloc, condition, instr)?)),
+        Operation::BranchToSubroutine(_) => Ok(Some(subroutine_branch(alloc, instr)?)),
+        Operation::ReturnFromSubroutine => Ok(Some(subroutine_return(alloc)?)),
+        _ => Ok(None),
+    }
+}
