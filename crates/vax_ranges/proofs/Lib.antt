@@ -1,3 +1,12 @@
 pub mod Keeping
 pub mod States
 pub mod Services
+pub mod Memory
+pub mod Operands
+pub mod Evaluations
+pub mod Codes
+pub mod Moves
+pub mod Arithmetic
+pub mod Branches
+pub mod Fields
+pub mod Bodies
