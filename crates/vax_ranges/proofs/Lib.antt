@@ -10,3 +10,8 @@ pub mod Arithmetic
 pub mod Branches
 pub mod Fields
 pub mod Bodies
+pub mod Decoded
+pub mod Registers
+pub mod Calls
+pub mod Strings
+pub mod TreesAt
