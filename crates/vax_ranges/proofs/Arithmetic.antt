@@ -1,17 +1,16 @@
 -- Arithmetic and logical instructions.
-use Rattle.std.proofs.Common.{◌≡◌, ℕ, ◌<◌, ◌≤◌, ◌-◌, ◌*◌, ◌+◌, ◌%◌, ◌^◌, ◌==◌, Bool, true, false, arith, lit<, List, if◌then◌else◌}
-use Rattle.std.specs.Prelude.{ℤ, pos, negsuc, unsigned_abs}
-use Rattle.std.specs.Int.{int_rem_euclid}
+use Rattle.std.proofs.Common.{◌≡◌, ℕ, ◌<◌, ◌≤◌, ◌+◌, ◌%◌, ◌^◌, ◌==◌, false, arith, List}
+use Rattle.std.specs.Prelude.{ℤ, pos, negsuc}
 use Rattle.std.proofs.lemmas.Bool.{eqb-false}
 use Rattle.vax_form.specs.Size.{bytes_of, size_of}
-use Rattle.vax_form.specs.Script.{◌>>=◌, ◌>>◌, get}
+use Rattle.vax_form.specs.Script.{get}
 use Rattle.vax_form.specs.declared.instr.Size.{Size}
 use Rattle.vax_form.specs.declared.instr.Size.TheVariants.{Byte, Word, Long, Quad}
 use Rattle.vax_form.specs.declared.instr.Width.{Width}
 use Rattle.vax_form.specs.declared.instr.Instr.{Instr}
 use Rattle.vax_form.specs.declared.operation.BinaryOperation.{BinaryOperation}
 use Rattle.vax_form.specs.declared.state.RefKind.TheVariants as references
-use Rattle.vt_words.specs.Values.{value_of, signed_value}
+use Rattle.vt_words.specs.Values.{value_of}
 use Rattle.vt_words.specs.Arithmetic.{sum_of, difference_of, negation_of, conversion_of, extended_product_of}
 use Rattle.vt_words.specs.Shifts.{rotation_of}
 use Rattle.vt_words.specs.declared.arithmetic.Coded.{Coded}

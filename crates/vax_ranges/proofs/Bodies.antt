@@ -1,7 +1,5 @@
 -- The instructions that are not long.
-use Rattle.std.proofs.Common.{◌≡◌, ℕ, ◌<◌, ◌%◌, ◌^◌, Bool, true, false, arith, lit<, List, Option, Some, None}
-use Rattle.vax_form.specs.Script.{◌>>=◌, ◌>>◌}
-use Rattle.vax_form.specs.State.{with_pc}
+use Rattle.std.proofs.Common.{ℕ, ◌<◌, ◌%◌, ◌^◌, true, false, arith, lit<, List, Option, Some, None}
 use Rattle.vax_form.specs.Operation.{operation_at}
 use Rattle.vax_form.specs.declared.instr.Size.TheVariants as sizes
 use Rattle.vax_form.specs.declared.instr.Instr.{Instr}
@@ -13,7 +11,7 @@ use Rattle.vax_meaning.specs.Evaluation.{value_of_place, evaluated_row, nothings
 use Rattle.vax_meaning.specs.Control.{put_byte, get_byte, serve, change_mode}
 use Rattle.vax_meaning.specs.Instructions.{body, operation_script, script_where, script_of}
 use Rattle.vax_ranges.proofs.Keeping.{Keeps, Any, keep_pure, keep_bind, keep_then, keep_either, keep_ask, keep_fail}
-use Rattle.vax_ranges.proofs.States.{IsLongword, low_longword}
+use Rattle.vax_ranges.proofs.States.{low_longword}
 use Rattle.vax_ranges.proofs.Operands.{keep_get_register, keep_set_register}
 use Rattle.vax_ranges.proofs.Evaluations.{FitsValues, nothings_fit, keep_operands_from}
 use Rattle.vax_ranges.proofs.Codes.{FitsInstr, keep_pc, keep_go_to}

@@ -1,7 +1,6 @@
 -- Branches, jumps and subroutines.
-use Rattle.std.proofs.Common.{◌≡◌, ℕ, ◌<◌, ◌≤◌, ◌-◌, ◌*◌, ◌+◌, ◌%◌, ◌^◌, ◌==◌, Bool, true, false, arith, lit<, List, if◌then◌else◌}
+use Rattle.std.proofs.Common.{ℕ, ◌*◌, ◌+◌, ◌%◌, ◌^◌, ◌==◌, Bool, true, false, arith, List}
 use Rattle.vax_form.specs.Size.{bytes_of, size_of}
-use Rattle.vax_form.specs.Script.{◌>>=◌, ◌>>◌}
 use Rattle.vax_form.specs.declared.instr.Size.TheVariants.{Long}
 use Rattle.vax_form.specs.declared.instr.Width.{Width}
 use Rattle.vax_form.specs.declared.instr.Width.TheVariants as widths
@@ -13,8 +12,8 @@ use Rattle.vt_words.specs.declared.arithmetic.Coded.{Coded}
 use Rattle.vax_meaning.specs.declared.evaluation.Evaluated.{Evaluated}
 use Rattle.vax_meaning.specs.Evaluation.{value_of_place, location_of_place}
 use Rattle.vax_meaning.specs.Branches.{pc_after, branch_if, branch, branch_on_low_bit, goes_up, goes_down, goes_by, step_index, add_one_branch, subtract_one_branch, add_compare_branch, branch_to_subroutine, jump_to_subroutine, jump, return_from_subroutine, signed_word, case_to, case_of}
-use Rattle.vax_ranges.proofs.Keeping.{Keeps, Any, keep_pure, keep_bind, keep_then, keep_choice, keep_either, keep_get}
-use Rattle.vax_ranges.proofs.States.{IsLongword, low_longword}
+use Rattle.vax_ranges.proofs.Keeping.{Keeps, Any, keep_bind, keep_then, keep_either, keep_get}
+use Rattle.vax_ranges.proofs.States.{low_longword}
 use Rattle.vax_ranges.proofs.Memory.{keep_fetch, keep_code_word}
 use Rattle.vax_ranges.proofs.Operands.{width_fits, keep_get_register, keep_set_register, keep_put}
 use Rattle.vax_ranges.proofs.Evaluations.{FitsValues}

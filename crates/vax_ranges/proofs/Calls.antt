@@ -1,11 +1,10 @@
 -- Procedure calls.
-use Rattle.std.proofs.Common.{◌≡◌, ℕ, ◌+◌, ◌-◌, ◌*◌, ◌/◌, ◌%◌, ◌<◌, ◌≤◌, ◌^◌, ◌==◌, Bool, true, false, arith, List}
+use Rattle.std.proofs.Common.{◌≡◌, ℕ, ◌+◌, ◌*◌, ◌/◌, ◌%◌, ◌<◌, ◌^◌, Bool, true, false, arith, List}
 use Rattle.std.proofs.lemmas.Bool.{eqb-true}
-use Rattle.vax_form.specs.Script.{◌>>=◌, ◌>>◌, change}
+use Rattle.vax_form.specs.Script.{change}
 use Rattle.vax_form.specs.State.{IsState, register}
 use Rattle.vax_form.specs.declared.instr.Size.TheVariants.{Long}
 use Rattle.vax_form.specs.declared.instr.Instr.{Instr}
-use Rattle.vax_form.specs.declared.state.VaxState.{VaxState}
 use Rattle.vax_meaning.specs.declared.evaluation.Evaluated.{Evaluated}
 use Rattle.vax_meaning.specs.Memory.{low_bytes}
 use Rattle.vax_meaning.specs.Evaluation.{value_of_place}
@@ -15,7 +14,7 @@ use Rattle.vax_ranges.proofs.Keeping.{Keeps, Any, keep_pure, keep_bind, keep_the
 use Rattle.vax_ranges.proofs.States.{IsLongword, low_longword, register_is, with_register_is, with_psw_is}
 use Rattle.vax_ranges.proofs.Memory.{keep_fetch, keep_code_word}
 use Rattle.vax_ranges.proofs.Operands.{keep_get_register, keep_set_register}
-use Rattle.vax_ranges.proofs.Codes.{FitsInstr, keep_go_to}
+use Rattle.vax_ranges.proofs.Codes.{keep_go_to}
 use Rattle.vax_ranges.proofs.Registers.{keep_check_push, keep_check_registers, keep_push_checked, keep_push_registers, keep_pop, keep_pop_register, keep_pop_registers}
 
 aligned_is : (address : ℕ) → IsLongword address → IsLongword (aligned address)

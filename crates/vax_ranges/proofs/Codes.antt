@@ -1,19 +1,16 @@
 -- Condition codes, and going on at an address.
-use Rattle.std.proofs.Common.{◌≡◌, ℕ, ◌<◌, ◌≤◌, ◌-◌, ◌+◌, ◌%◌, ◌^◌, ◌==◌, Bool, true, false, arith, lit<, List, if◌then◌else◌}
+use Rattle.std.proofs.Common.{ℕ, ◌==◌, Bool, true, false, lit<}
 use Rattle.std.specs.Prelude.{int_lt, nat_lt}
 use Rattle.vt_words.specs.Values.{signed_value}
 use Rattle.vax_form.specs.Size.{bytes_of, size_of}
-use Rattle.vax_form.specs.Script.{◌>>=◌, ◌>>◌, change}
-use Rattle.vax_form.specs.State.{IsState, with_pc}
+use Rattle.vax_form.specs.Script.{change}
+use Rattle.vax_form.specs.State.{with_pc}
 use Rattle.vax_form.specs.declared.instr.Size.{Size}
 use Rattle.vax_form.specs.declared.instr.Width.{Width}
 use Rattle.vax_form.specs.declared.instr.Operand.{Operand}
 use Rattle.vax_form.specs.declared.instr.Operand.TheVariants.{Unused, Value, Register, Place, Target}
 use Rattle.vax_form.specs.declared.instr.Instr.{Instr}
-use Rattle.vax_form.specs.declared.script.End.{End}
-use Rattle.vax_form.specs.declared.state.VaxState.{VaxState}
 use Rattle.vt_words.specs.declared.arithmetic.Coded.{Coded}
-use Rattle.vax_meaning.specs.declared.evaluation.Evaluated.{Evaluated}
 use Rattle.vax_meaning.specs.Evaluation.{operand}
 use Rattle.vax_meaning.specs.Codes.{with_codes, with_all, with_three, with_result, carry_of, sign_of, go_to, finish}
 use Rattle.vax_meaning.specs.Moves.{with_comparison}
@@ -21,7 +18,7 @@ use Rattle.vax_meaning.specs.Branches.{target, pc_after}
 use Rattle.vax_ranges.proofs.Keeping.{Keeps, Any, keep_pure, keep_then, keep_get, keep_change}
 use Rattle.vax_ranges.proofs.States.{IsLongword, with_codes_is, with_pc_is}
 use Rattle.vax_ranges.proofs.Operands.{FitsOperand}
-use Rattle.vax_ranges.proofs.Evaluations.{FitsOperands, FitsValues}
+use Rattle.vax_ranges.proofs.Evaluations.{FitsOperands}
 
 -- the address behind an instruction is a longword, and so is each that the code fixes
 pub record FitsInstr (instr : Instr) : Type 0 where

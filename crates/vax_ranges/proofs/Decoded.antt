@@ -1,12 +1,12 @@
 -- What is decoded from bytes has longwords for addresses.
-use Rattle.std.proofs.Common.{◌≡◌, ℕ, zero, suc, ◌+◌, ◌-◌, ◌*◌, ◌%◌, ◌<◌, ◌≤◌, ◌^◌, ◌⊎◌, inl, inr, Bool, true, false, arith, lit<, List, [], ◌∷◌, ◌++◌, length, take, get_or, replicate, Option, Some, None, refl, sym, subst, slice_index}
+use Rattle.std.proofs.Common.{◌≡◌, ℕ, zero, suc, ◌+◌, ◌-◌, ◌*◌, ◌<◌, ◌^◌, inl, inr, arith, lit<, List, [], ◌∷◌, ◌++◌, length, take, replicate, Option, Some, None, sym, subst, slice_index}
 use Rattle.std.specs.Prelude.{slice_index_or, option_map, find}
 use Rattle.std.proofs.lemmas.Bool.{cases_lt}
 use Rattle.std.proofs.lemmas.List.{get_or_past, get_or_append_left, get_or-append-add}
-use Rattle.vax_form.specs.Grammar.{Describes, Locates, Specifies, SpecifyAll, Spells, Found, instruction, wrapped, number, padded, absolute, base, byte_displacement, byte_relative, constant_address, decrement, deferred, immediate, increment, increment_deferred, indexed, literal, long_displacement, long_relative, place, register, word_displacement, word_relative}
-use Rattle.vax_form.specs.GrammarFound.{IsFetched, IsDecided, Stands, fetched, found, in_front_of}
+use Rattle.vax_form.specs.Grammar.{Describes, Locates, Specifies, SpecifyAll, Spells, instruction, wrapped, number, absolute, byte_displacement, byte_relative, constant_address, decrement, deferred, immediate, increment, increment_deferred, indexed, literal, long_displacement, long_relative, place, register, word_displacement, word_relative}
+use Rattle.vax_form.specs.GrammarFound.{Stands, fetched, found, in_front_of}
 use Rattle.vax_form.specs.GrammarLaws.{AreBytes}
-use Rattle.vax_form.specs.Pages.{code_byte_at, has_code}
+use Rattle.vax_form.specs.Pages.{has_code}
 use Rattle.vax_form.specs.declared.pages.PageRange.{PageRange}
 use Rattle.vax_form.specs.declared.pages.Pages.{Pages}
 use Rattle.vax_form.specs.declared.instr.Size.{Size}
@@ -17,8 +17,7 @@ use Rattle.vax_form.specs.declared.instr.Operand.{Operand}
 use Rattle.vax_form.specs.declared.instr.Operand.TheVariants.{Unused}
 use Rattle.vax_form.specs.declared.instr.Instr.{Instr}
 use Rattle.vax_form.proofs.GrammarStands.{Stands-found, take-fetched}
-use Rattle.vax_meaning.specs.Evaluation.{operand}
-use Rattle.vax_ranges.proofs.States.{IsLongword, low_longword}
+use Rattle.vax_ranges.proofs.States.{low_longword}
 use Rattle.vax_ranges.proofs.Operands.{FitsBase, FitsOperand}
 use Rattle.vax_ranges.proofs.Codes.{FitsInstr}
 

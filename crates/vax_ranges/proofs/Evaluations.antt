@@ -1,8 +1,7 @@
 -- Evaluated operands: each is in a register or at an address.
-use Rattle.std.proofs.Common.{ℕ, zero, suc, ◌-◌, ◌^◌, List, [], ◌∷◌, arith, lit<}
+use Rattle.std.proofs.Common.{ℕ, zero, suc, ◌-◌, List, [], ◌∷◌, lit<}
 use Rattle.std.specs.Prelude.{slice_set, slice_index_or}
 use Rattle.vax_form.specs.Size.{bytes_of}
-use Rattle.vax_form.specs.Script.{◌>>=◌}
 use Rattle.vax_form.specs.declared.row.Row.{Row}
 use Rattle.vax_form.specs.declared.instr.Access.{Access}
 use Rattle.vax_form.specs.declared.instr.Access.TheVariants.{Read, Write, Modify, Address, Field, Branch}
@@ -14,9 +13,8 @@ use Rattle.vax_form.specs.declared.instr.Instr.{Instr}
 use Rattle.vax_meaning.specs.declared.operands.Location.{Location}
 use Rattle.vax_meaning.specs.declared.operands.Location.TheVariants.{InMemory, InRegister}
 use Rattle.vax_meaning.specs.declared.evaluation.Evaluated.{Evaluated}
-use Rattle.vax_meaning.specs.Evaluation.{operand, nothing, nothings, find, read_found, field_registers, obtain, evaluate, operands_from, location_of_place}
+use Rattle.vax_meaning.specs.Evaluation.{operand, nothings, find, read_found, field_registers, obtain, evaluate, operands_from, location_of_place}
 use Rattle.vax_ranges.proofs.Keeping.{Keeps, Any, keep_pure, keep_bind, keep_get}
-use Rattle.vax_ranges.proofs.States.{IsLongword}
 use Rattle.vax_ranges.proofs.Memory.{keep_fetch}
 use Rattle.vax_ranges.proofs.Operands.{FitsOperand, FitsLocation, bytes_most, keep_locate, keep_modify_at}
 

@@ -1,8 +1,7 @@
 -- Bit fields.
-use Rattle.std.proofs.Common.{◌≡◌, ℕ, ◌<◌, ◌≤◌, ◌-◌, ◌*◌, ◌/◌, ◌+◌, ◌%◌, ◌^◌, ◌==◌, Bool, true, false, arith, lit<, List, refl, if◌then◌else◌}
+use Rattle.std.proofs.Common.{◌≡◌, ℕ, ◌<◌, ◌≤◌, ◌+◌, ◌%◌, ◌^◌, ◌==◌, Bool, true, false, arith, List, refl}
 use Rattle.std.specs.Prelude.{nat_lt, ◌||◌}
 use Rattle.std.proofs.lemmas.Bool.{ltb-false}
-use Rattle.vax_form.specs.Script.{◌>>=◌, ◌>>◌}
 use Rattle.vax_form.specs.declared.instr.Size.TheVariants.{Byte, Long, Quad}
 use Rattle.vax_form.specs.declared.instr.Instr.{Instr}
 use Rattle.vax_form.specs.declared.operation.BitBranch.{BitBranch}
@@ -15,7 +14,7 @@ use Rattle.vax_meaning.specs.declared.operands.Location.{Location}
 use Rattle.vax_meaning.specs.declared.operands.Location.TheVariants.{InRegister, InMemory}
 use Rattle.vax_meaning.specs.Evaluation.{value_of_place, location_of_place}
 use Rattle.vax_meaning.specs.Branches.{pc_after}
-use Rattle.vax_meaning.specs.Fields.{bits_of, with_bits, field_address, field_bytes, is_outside, field_value, extended, extract_field, put_bytes, put_field, insert_field, leave_bit, byte_found, bit_found, branch_on_bit}
+use Rattle.vax_meaning.specs.Fields.{with_bits, field_address, field_bytes, is_outside, field_value, extended, extract_field, put_bytes, put_field, insert_field, leave_bit, byte_found, bit_found, branch_on_bit}
 use Rattle.vax_meaning.proofs.Bits.{with_bits_below}
 use Rattle.vax_ranges.proofs.Keeping.{Keeps, Any, keep_pure, keep_bind, keep_then, keep_choice, keep_either, keep_check, keep_fail}
 use Rattle.vax_ranges.proofs.States.{IsLongword, low_longword}

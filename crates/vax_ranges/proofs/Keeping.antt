@@ -30,14 +30,14 @@ pub keep_bind : {A B : Type 0} {P : A → Type 0} {Q : B → Type 0} {m : Script
     → Keeps P m → ((x : A) → P x → Keeps Q (f x)) → Keeps Q (bind m f)
 keep_bind {f = f} first each = record {
   keeps = λ pages state rest is onward.
-      first.keeps pages state (λ x after. tree_of pages (f x) after rest) is (λ x after holds still. (each x holds).keeps pages after rest still onward)
+      first.keeps pages state (λ x after. tree_of pages (f x) after rest) is (λ x after holds still. (each x holds).keeps pages after rest still onward);
 }
 
 -- where the first one's value does not matter
 pub keep_then : {A B : Type 0} {P : A → Type 0} {Q : B → Type 0} {m : Script A} {n : Script B} → Keeps P m → Keeps Q n → Keeps Q (bind m (λ _. n))
 keep_then {n = n} first second = record {
   keeps = λ pages state rest is onward.
-      first.keeps pages state (λ _ after. tree_of pages n after rest) is (λ x after holds still. second.keeps pages after rest still onward)
+      first.keeps pages state (λ _ after. tree_of pages n after rest) is (λ x after holds still. second.keeps pages after rest still onward);
 }
 
 pub keep_choice : {A : Type 0} {Q : A → Type 0} {b : Bool} {m n : Script A} → (b ≡ true → Keeps Q m) → (b ≡ false → Keeps Q n) → Keeps Q (choose b m n)
@@ -60,7 +60,7 @@ code_kept (Some byte) address rest onward = onward byte
 
 pub keep_code : {address : ℕ} → Keeps Any (read_code address)
 keep_code {address = address} = record {
-  keeps = λ pages state rest is onward. code_kept (code_byte_at pages address) address (λ byte. rest byte state) (λ byte. onward byte state tt is)
+  keeps = λ pages state rest is onward. code_kept (code_byte_at pages address) address (λ byte. rest byte state) (λ byte. onward byte state tt is);
 }
 
 pub keep_fail : {A : Type 0} {Q : A → Type 0} {exception : Exception} → Keeps Q (fail exception)

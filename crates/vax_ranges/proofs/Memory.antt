@@ -1,12 +1,10 @@
 -- References to operands in memory.
-use Rattle.std.proofs.Common.{◌≡◌, ℕ, ◌+◌, ◌-◌, ◌*◌, ◌%◌, ◌<◌, ◌≤◌, ◌^◌, min, Bool, true, false, arith, lit<}
+use Rattle.std.proofs.Common.{◌≡◌, ℕ, ◌+◌, ◌-◌, ◌%◌, ◌≤◌, true, arith}
 use Rattle.std.specs.Prelude.{nat_lt}
 use Rattle.std.proofs.lemmas.Bool.{ltb-true}
-use Rattle.vax_form.specs.Script.{◌>>=◌, ◌>>◌}
-use Rattle.vax_form.specs.declared.state.Reference.{Reference}
 use Rattle.vax_form.specs.declared.state.RefKind.{RefKind}
 use Rattle.vax_driven.specs.References.{FitsQuadword}
-use Rattle.vax_meaning.specs.Memory.{front_count, next_part, check, read_part, read, write_part, write, fetch, lock, code_word}
+use Rattle.vax_meaning.specs.Memory.{front_count, next_part, read_part, read, write_part, write, fetch, lock, code_word}
 use Rattle.vax_ranges.proofs.Keeping.{Keeps, Any, keep_pure, keep_bind, keep_then, keep_choice, keep_ask, keep_check, keep_code}
 use Rattle.vax_ranges.proofs.States.{IsLongword, low_longword}
 

@@ -1,10 +1,8 @@
 -- Moves, tests and the processor status.
-use Rattle.std.proofs.Common.{◌≡◌, ℕ, ◌<◌, ◌≤◌, ◌-◌, ◌+◌, ◌%◌, ◌^◌, ◌==◌, Bool, true, false, arith, lit<, List, bit_and, bit_or, if◌then◌else◌}
+use Rattle.std.proofs.Common.{ℕ, ◌<◌, ◌-◌, ◌+◌, ◌%◌, ◌^◌, ◌==◌, Bool, true, false, arith, List, bit_and, bit_or, if◌then◌else◌}
 use Rattle.std.proofs.lemmas.Bool.{ltb-false}
 use Rattle.std.proofs.lemmas.Nat.{or_of_8, and_le_l}
-use Rattle.std.specs.Prelude.{nat_lt}
 use Rattle.vax_form.specs.Size.{bytes_of, size_of}
-use Rattle.vax_form.specs.Script.{◌>>=◌, ◌>>◌}
 use Rattle.vax_form.specs.declared.instr.Size.{Size}
 use Rattle.vax_form.specs.declared.instr.Size.TheVariants.{Word, Long}
 use Rattle.vax_form.specs.declared.instr.Width.{Width}
@@ -12,10 +10,10 @@ use Rattle.vax_form.specs.declared.instr.Instr.{Instr}
 use Rattle.vax_meaning.specs.declared.evaluation.Evaluated.{Evaluated}
 use Rattle.vax_meaning.specs.Evaluation.{value_of_place, location_of_place}
 use Rattle.vax_meaning.specs.Codes.{carry_of, sign_of}
-use Rattle.vax_meaning.specs.Moves.{give, move_value, clear, move_address, move_complemented, move_zero_extended, push, push_value, compare, test, bit_test, psl_of, move_psl, change_psw}
+use Rattle.vax_meaning.specs.Moves.{give, move_value, clear, move_address, move_complemented, move_zero_extended, push, push_value, compare, test, bit_test, move_psl, change_psw}
 use Rattle.vt_words.specs.Shifts.{complement_of}
-use Rattle.vax_ranges.proofs.Keeping.{Keeps, Any, keep_pure, keep_bind, keep_then, keep_choice, keep_get, keep_change, keep_check, keep_fail}
-use Rattle.vax_ranges.proofs.States.{IsLongword, low_longword, with_codes_is, with_psw_is}
+use Rattle.vax_ranges.proofs.Keeping.{Keeps, Any, keep_bind, keep_then, keep_choice, keep_get, keep_change, keep_check, keep_fail}
+use Rattle.vax_ranges.proofs.States.{low_longword, with_codes_is, with_psw_is}
 use Rattle.vax_ranges.proofs.Memory.{keep_write}
 use Rattle.vax_ranges.proofs.Operands.{FitsSize, low_fits, zero_fits, width_fits, keep_get_register, keep_set_register, keep_store}
 use Rattle.vax_ranges.proofs.Evaluations.{FitsValues}

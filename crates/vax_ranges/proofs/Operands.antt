@@ -1,8 +1,7 @@
 -- Operands: where they are is an address, and evaluating them leaves a state.
-use Rattle.std.proofs.Common.{◌≡◌, ℕ, ◌+◌, ◌-◌, ◌*◌, ◌/◌, ◌%◌, ◌<◌, ◌≤◌, ◌^◌, min, Bool, true, false, Option, Some, None, arith, lit<}
+use Rattle.std.proofs.Common.{ℕ, ◌+◌, ◌-◌, ◌*◌, ◌/◌, ◌%◌, ◌<◌, ◌≤◌, ◌^◌, min, Bool, true, false, Option, Some, None, arith, lit<}
 use Rattle.vax_form.specs.Size.{bytes_of, size_of}
 use Rattle.vax_form.specs.State.{IsState, register, with_register}
-use Rattle.vax_form.specs.Script.{◌>>=◌, ◌>>◌}
 use Rattle.vax_form.specs.declared.instr.Size.{Size}
 use Rattle.vax_form.specs.declared.instr.Size.TheVariants.{Byte, Word, Long, Quad}
 use Rattle.vax_form.specs.declared.instr.Width.{Width}

@@ -1,6 +1,5 @@
 -- Lists of registers on the stack.
-use Rattle.std.proofs.Common.{◌≡◌, ℕ, zero, suc, ◌+◌, ◌-◌, ◌%◌, ◌<◌, ◌≤◌, ◌^◌, Bool, true, false, arith, List}
-use Rattle.vax_form.specs.Script.{◌>>=◌, ◌>>◌}
+use Rattle.std.proofs.Common.{ℕ, zero, suc, ◌+◌, ◌-◌, ◌^◌, arith, List}
 use Rattle.vax_form.specs.State.{IsState, register}
 use Rattle.vax_form.specs.declared.instr.Size.TheVariants.{Word}
 use Rattle.vax_form.specs.declared.instr.Instr.{Instr}

@@ -1,8 +1,8 @@
 -- What changes of a state leave a state.
-use Rattle.std.proofs.Common.{◌≡◌, ℕ, ◌+◌, ◌*◌, ◌/◌, ◌%◌, ◌<◌, ◌≤◌, ◌^◌, Bool, true, false, length, get_or, refl, ◌∙◌, ap, arith, lit<, inl, inr}
+use Rattle.std.proofs.Common.{ℕ, ◌+◌, ◌*◌, ◌/◌, ◌%◌, ◌<◌, ◌≤◌, ◌^◌, Bool, true, false, length, ◌∙◌, arith, lit<, inl, inr}
 use Rattle.std.proofs.lemmas.Bool.{cases_lt}
 use Rattle.std.proofs.lemmas.List.{length-set, get_or_past}
-use Rattle.std.proofs.lemmas.List.Elements.{All-set, All-get_or}
+use Rattle.std.proofs.lemmas.List.Elements.{All-set}
 use Rattle.vax_form.specs.State.{IsState, register, with_register, with_pc, with_psw}
 use Rattle.vax_form.specs.declared.state.VaxState.{VaxState}
 use Rattle.vt_words.specs.Values.{bit}

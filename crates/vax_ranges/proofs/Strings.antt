@@ -1,7 +1,7 @@
 -- Character strings, byte by byte, and INDEX.
-use Rattle.std.proofs.Common.{◌≡◌, ℕ, zero, suc, ◌+◌, ◌-◌, ◌*◌, ◌%◌, ◌<◌, ◌≤◌, ◌^◌, ◌==◌, min, Bool, true, false, not, arith, lit<, List}
+use Rattle.std.proofs.Common.{ℕ, zero, suc, ◌+◌, ◌-◌, ◌%◌, ◌≤◌, ◌^◌, ◌==◌, min, Bool, true, false, not, arith, lit<, List}
 use Rattle.std.specs.Prelude.{nat_le}
-use Rattle.vax_form.specs.Script.{◌>>=◌, ◌>>◌, change}
+use Rattle.vax_form.specs.Script.{change}
 use Rattle.vax_form.specs.State.{IsState, with_register}
 use Rattle.vax_form.specs.declared.instr.Size.TheVariants.{Byte, Word, Long}
 use Rattle.vax_form.specs.declared.instr.Width.TheVariants as widths
