@@ -22,4 +22,3 @@ pass_send = search (Seat.the_send, slot_send, sendable) depth 20
 
 pub memory_sync : IsSync SharedMemory.the_row
 memory_sync = search (Table.the_field_sync, slot_send, send, sync, frees, sendable, crosses) depth 20
-

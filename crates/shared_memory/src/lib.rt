@@ -7,8 +7,6 @@ mod plays;
 mod port;
 mod shared;
 mod steps;
-#[cfg(test)]
-mod tests;
 mod view;
 
 pub use pass::Pass;
