@@ -1,6 +1,5 @@
 pub mod Own
 pub mod Interpreted
-pub mod Ranges
 pub mod Judged
 pub mod Headline
 pub mod Sound

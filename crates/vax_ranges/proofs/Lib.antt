@@ -1,0 +1,17 @@
+pub mod Keeping
+pub mod States
+pub mod Services
+pub mod Memory
+pub mod Operands
+pub mod Evaluations
+pub mod Codes
+pub mod Moves
+pub mod Arithmetic
+pub mod Branches
+pub mod Fields
+pub mod Bodies
+pub mod Decoded
+pub mod Registers
+pub mod Calls
+pub mod Strings
+pub mod TreesAt
