@@ -1,5 +1,5 @@
 -- The recursion from the last instruction of a run to the first finds the codes that are live.
-use Rattle.std.proofs.Common.{◌≡◌, ℕ, zero, suc, ◌<◌, ◌≤◌, refl, sym, ap, ◌∙◌, arith, Bool, true, false, not, ◌||◌, ◌&&◌, List, [], ◌∷◌, ◌++◌, length, reverse}
+use Rattle.std.proofs.Common.{◌≡◌, ℕ, zero, suc, ◌<◌, ◌≤◌, refl, sym, ap, ◌∙◌, arith, Bool, true, false, ◌||◌, List, [], ◌∷◌, ◌++◌, length, reverse}
 use Rattle.std.proofs.Math.Nat.{suc_inj}
 use Rattle.std.proofs.lemmas.Grind.{reverse_onto}
 use Rattle.std.specs.Prelude.{◌⊎◌, if◌then◌else◌}
@@ -7,7 +7,7 @@ use mathlib.Core.Logic.◌⊎◌.{inl, inr}
 use Rattle.vax_form.specs.declared.state.Flags.{Flags}
 use Rattle.cc_liveness.specs.declared.uses.CodeUse.{CodeUse}
 use Rattle.cc_liveness.specs.Codes.{Code, negative, zero_code, overflow, carry, holds, all}
-use Rattle.cc_liveness.specs.Liveness.{at, reads, writes, ends, IsLive, AreLive, passes, wanted_before, live_behind, wanted_by, live_codes, RecursionIsLiveness}
+use Rattle.cc_liveness.specs.Liveness.{at, reads, writes, ends, IsLive, passes, wanted_before, live_behind, wanted_by, live_codes, RecursionIsLiveness}
 
 -- Codes one by one
 

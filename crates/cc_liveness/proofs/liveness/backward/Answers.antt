@@ -1,9 +1,7 @@
-use Rattle.std.proofs.Common.{◌≡◌, ◌+◌, ◌-◌, ◌<◌, length, get_or, drop, ap, sym, ◌∙◌, le_refl, arith}
+use Rattle.std.proofs.Common.{◌≡◌, ◌+◌, ◌-◌, ◌<◌, length, get_or, drop, le_refl, arith}
 use Rattle.std.proofs.lemmas.List.{drop_all, drop_more}
-use Rattle.cc_liveness.specs.declared.uses.CodeUse.{CodeUse}
 use Rattle.cc_liveness.specs.Codes.{none}
 use Rattle.cc_liveness.specs.Uses.{goes_on}
-use Rattle.cc_liveness.specs.Liveness.{live_codes, wanted_by}
 use Rattle.cc_liveness.proofs.Lives.{found_more, wanted_more}
 use Rattle.cc_liveness.proofs.liveness.backward.Goals as goal
 
