@@ -1,0 +1,11 @@
+//! The condition codes that are live behind each instruction of a run, and what each operation does to the codes.
+#![tactic(auto)]
+
+mod liveness;
+mod uses;
+
+pub use liveness::{live, liveness_laws};
+pub use uses::{CodeUse, code_use};
+
+#[cfg(test)]
+mod tests;
