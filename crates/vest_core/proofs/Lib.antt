@@ -12,3 +12,4 @@ pub mod Blocks
 pub mod Boundaries
 pub mod Sums
 pub mod Headlines
+pub mod Meanings

@@ -3,4 +3,5 @@ pub mod Interpreted
 pub mod Judged
 pub mod Headline
 pub mod Sound
+pub mod Meant
 pub mod Law

@@ -1,9 +1,16 @@
 //! The law of legal histories, for the crates above. Its functions do nothing.
 ghost use Rattle.vest_core.specs.Law.{LegalHasHeadline};
+ghost use Rattle.vest_core.specs.Meant.{VaxMeaningIsSound};
 
 /// Whatever the interleaving, and whatever is translated and what interpreted: the threads driven by the history's order
 /// have its memory and output, each processor shows its thread's exact state at its last boundary, each end is the
 /// thread's, and no processor is stuck.
 pub fn legal_has_headline()
     ensures { LegalHasHeadline }
+{}
+
+/// The meaning of the VAX instructions is sound: `vax_ranges::laws::page_table_has_bytes` gives what it asks of the pages.
+#[tactic(auto, using(crate::proofs::Meanings::vax_meaning_is_sound))]
+pub fn vax_meaning_is_sound()
+    ensures { VaxMeaningIsSound }
 {}
