@@ -25,6 +25,21 @@ pub(crate) struct Place {
     pub(crate) taken: usize,
 }
 
+impl Place {
+    ghost use Rattle.vax_run.specs.declared.advance.Life.TheVariants.{Runs};
+
+    /// Where a thread stands before its first instruction.
+    pub(crate) fn at_start(start: VaxState) -> Place
+        ensures { result ≡ record { life = Runs; state = start; taken = 0 } }
+    {
+        Place {
+            life: Life::Runs,
+            state: start,
+            taken: 0,
+        }
+    }
+}
+
 /// The thread after `count` instructions, from where it stands after `retired`; None where it doesn't come so far.
 pub(crate) fn advance(
     pages: &Pages,

@@ -5,6 +5,9 @@ mod advance;
 mod answered;
 mod memory;
 mod run;
+mod thread;
+mod world;
 
 pub use run::{DrivenRun, driven};
 pub use vax_driven::ThreadRun;
+
