@@ -97,8 +97,8 @@ bytes_more image memory before bytes address place byte is same =
 pub rising_low : (lowest : ℕ) (ranges : List PageRange) (i : ℕ) (d : PageRange) → AreRising lowest ranges → i < length ranges
     → (get_or ranges i d).first + (get_or ranges i d).count ≤ 4194304
 rising_low lowest [] i d are below = absurd (omega arith)
-rising_low lowest (r ∷ ranges) zero d are below = are.2.0
-rising_low lowest (r ∷ ranges) (suc i) d are below = rising_low (r.first + r.count) ranges i d are.2.1 (omega arith)
+rising_low lowest (r ∷ ranges) zero d are below = are.2
+rising_low lowest (r ∷ ranges) (suc i) d are below = rising_low (r.first + r.count) ranges i d are.3 (omega arith)
 
 abbrev pub run_value : List Reference → List (ℕ × ℕ) → List ℕ → List ThreadRun → RunValue
 run_value references memory output threads = record { references = references; memory = memory; output = output; threads = threads }

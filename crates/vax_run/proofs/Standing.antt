@@ -1,5 +1,6 @@
 -- Threads that stand where their replies took them.
-use Rattle.std.proofs.Common.{◌≡◌, ℕ, zero, suc, ◌<◌, ◌≤◌, ◌+◌, ◌==◌, Bool, true, false, List, [], ◌∷◌, ◌++◌, length, drop, Option, Some, None, if◌then◌else◌, get_or, slice_set, option_map, slice_get, refl, sym, ap, ◌∙◌, subst, arith, eq-eqb}
+use Rattle.std.proofs.Common.{◌≡◌, ℕ, zero, suc, ◌<◌, ◌≤◌, ◌+◌, ◌==◌, Bool, true, false, List, [], ◌∷◌, ◌++◌, length, take, drop, Option, Some, None, if◌then◌else◌, get_or, slice_set, option_map, slice_get, refl, sym, ap, ◌∙◌, subst, arith, eq-eqb}
+use Rattle.std.proofs.Math.Seq.{take-suc}
 use Rattle.std.proofs.lemmas.Bool.Decides.{nat_tests}
 use Rattle.std.proofs.lemmas.List.{length-append}
 use Rattle.image_file.specs.declared.image.Start.{Start}
@@ -164,9 +165,9 @@ module _ (image : ImageValue) (made : List Made) where
   at_among n t a = let e : 0 + n ≡ n = omega arith in subst (λ k. IsAt image k t) e a.thread.at
 
 -- a thread before its first instruction
-pub fresh : (image : ImageValue) (n : ℕ) (start : Start) (t : Thread) → t.start ≡ start_state start → t.replies.items ≡ []
-    → t.place ≡ record { life = lives.Runs; state = start_state start; taken = 0 } → t.retired ≡ 0 → IsThread image n [] start t
-fresh image n start t same none here unretired =
+pub fresh : (image : ImageValue) (n : ℕ) (start : Start) (state : VaxState) (t : Thread) → t.start ≡ state → t.replies.items ≡ []
+    → t.place ≡ record { life = lives.Runs; state = state; taken = 0 } → t.retired ≡ 0 → state ≡ start_state start → IsThread image n [] start t
+fresh image n start state t same none here unretired begins =
     let T = tree_at image.pages n in
     let P = image.pages in
     let e : t.place.taken ≡ 0 = ap (λ (p : Place). p.taken) here in
@@ -174,10 +175,10 @@ fresh image n start t same none here unretired =
       at = record {
         taken = omega arith;
         reached = ap (λ s. after T P s t.retired t.replies.items) same
-          ∙ ap (λ k. after T P (start_state start) k t.replies.items) unretired
+          ∙ ap (λ k. after T P state k t.replies.items) unretired
           ∙ ap (λ p. reached_of t.replies.items (Some p)) (sym here);
       };
-      begins = same;
+      begins = same ∙ begins;
       replies = none;
     }
 
@@ -187,3 +188,15 @@ threads_more image k [] [] start t are is = (is k, tt)
 threads_more image k [] (u ∷ threads) start t are is = absurd are
 threads_more image k (s ∷ starts) [] start t are is = absurd are
 threads_more image k (s ∷ starts) (u ∷ threads) start t are is = (are.0, threads_more image (suc k) starts threads start t are.1 is)
+
+pub threads_next : (image : ImageValue) (starts : List Start) (threads : List Thread) (i : ℕ) (d : Start) (t : Thread) → i < length starts → AreThreads image 0 [] (take i starts) threads
+    → ((n : ℕ) → IsThread image n [] (get_or starts i d) t) → AreThreads image 0 [] (take (i + 1) starts) (threads ++ t ∷ [])
+threads_next image starts threads i d t below are is =
+    let e : i + 1 ≡ suc i = omega arith in
+    subst (λ l. AreThreads image 0 [] l (threads ++ t ∷ [])) (sym (ap (λ n. take n starts) e ∙ take-suc starts i d below))
+    (threads_more image 0 (take i starts) threads (get_or starts i d) t are is)
+
+pub same_item : (threads : List Thread) (i : ℕ) (d e : Thread) → i < length threads → get_or threads i d ≡ get_or threads i e
+same_item [] i d e below = absurd (omega arith)
+same_item (t ∷ threads) zero d e below = refl
+same_item (t ∷ threads) (suc i) d e below = same_item threads i d e (omega arith)

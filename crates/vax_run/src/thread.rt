@@ -13,6 +13,13 @@ use std::alloc::AllocError;
 use vax_driven::ThreadRun;
 use vax_form::{Exception, Pick, Reference, VaxState};
 
+/// A reference that a thread asks for, and where it then stands.
+#[derive(Clone, Copy)]
+pub(crate) struct Asked {
+    pub(crate) reference: Reference,
+    pub(crate) place: Place,
+}
+
 /// A thread that is driven: where it starts, its replies so far, and where it stands after so many instructions.
 #[derive(Drop)]
 pub(crate) struct Thread {
@@ -53,14 +60,14 @@ impl Thread {
     }
 
     /// The reference that the thread wants after so many instructions, and where it then stands.
-    pub(crate) fn wanted(&self, image: &Image, pick: Pick) -> Option<(Reference, Place)>
+    pub(crate) fn wanted(&self, image: &Image, pick: Pick) -> Option<Asked>
         requires { IsAt image.now pick.thread self.now }
-        ensures value { option_map (λ wanted. wanted.0) result ≡ wanted_at (threads_of image.now) pick.thread (after_of image.now pick.thread self.now pick.retired) }
-        ensures place { IfSome result (λ wanted. IsPlaceOf image.now pick.thread self.now pick.retired wanted.1) }
+        ensures value { option_map (λ asked. asked.reference) result ≡ wanted_at (threads_of image.now) pick.thread (after_of image.now pick.thread self.now pick.retired) }
+        ensures place { IfSome result (λ asked. IsPlaceOf image.now pick.thread self.now pick.retired asked.place) }
     {
         let place = self.place_after(image, pick.thread, pick.retired)?;
         let reference = self.wanted_at(image, pick.thread, &place)?;
-        Some((reference, place))
+        Some(Asked { reference, place })
     }
 
     /// Takes a reply, and stands where it was when it asked for it.

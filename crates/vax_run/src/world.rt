@@ -44,12 +44,12 @@ impl World {
         if at >= self.threads.len() {
             return Ok(false);
         }
-        let Some((reference, place)) = self.threads[at].wanted(image, pick) else {
+        let Some(asked) = self.threads[at].wanted(image, pick) else {
             return Ok(false);
         };
-        let reply = self.memory.make(image, input, reference)?;
-        self.references.push(reference)?;
-        self.threads[at].take(place, pick.retired, reply)?;
+        let reply = self.memory.make(image, input, asked.reference)?;
+        self.references.push(asked.reference)?;
+        self.threads[at].take(asked.place, pick.retired, reply)?;
         Ok(true)
     }
 
@@ -80,10 +80,10 @@ impl World {
     {
         let mut runs = Vec::new(alloc);
         for at in 0..counts.len() {
-            let Some(run) = self.threads[at].run(image, at as u8, counts[at]) else {
+            let Some(shown) = self.threads[at].run(image, at as u8, counts[at]) else {
                 return Ok(None);
             };
-            runs.push(run)?;
+            runs.push(shown)?;
         }
         Ok(Some(runs))
     }
@@ -123,14 +123,13 @@ fn threads_of(alloc: Global, image: &Image) -> Result<Vec<Thread>, AllocError>
 {
     let mut threads = Vec::new(alloc);
     for start in &image.threads {
-        threads
-            .push(Thread {
-                start: start.state(),
-                replies: Vec::new(alloc),
-                place: Place::at_start(start.state()),
-                retired: 0,
-            })
-            .map_err(AllocError::from)?;
+        let state = start.state();
+        threads.push(Thread {
+            start: state,
+            replies: Vec::new(alloc),
+            place: Place::at_start(state),
+            retired: 0,
+        })?;
     }
     Ok(threads)
 }
