@@ -70,24 +70,24 @@ module _ (image : ImageValue) (made : List Made) (m : Made) where
         at = record {
           taken = omega arith;
           reached = ap (λ s. after T P s new.retired new.replies.items) same
-            ∙ ap (λ n. after T P t.start n new.replies.items) retired
-            ∙ ap (λ l. after T P t.start count l) replies
-            ∙ reached_later T P t.start count t.replies.items m.reply place before stands.reached
-            ∙ ap (λ l. reached_of l (Some place)) (sym replies)
-            ∙ ap (λ p. reached_of new.replies.items (Some p)) (sym here);
+              ∙ ap (λ n. after T P t.start n new.replies.items) retired
+              ∙ ap (λ l. after T P t.start count l) replies
+              ∙ reached_later T P t.start count t.replies.items m.reply place before stands.reached
+              ∙ ap (λ l. reached_of l (Some place)) (sym replies)
+              ∙ ap (λ p. reached_of new.replies.items (Some p)) (sym here);
         };
         begins = same ∙ is.begins;
         replies = replies ∙ ap (λ (l : List ℕ). l ++ m.reply ∷ []) is.replies
-          ∙ sym (chosen (m.thread == m.thread) (replies_to m.thread made ++ m.reply ∷ []) (replies_to m.thread made) (eq-eqb m.thread m.thread refl));
+            ∙ sym (chosen (m.thread == m.thread) (replies_to m.thread made ++ m.reply ∷ []) (replies_to m.thread made) (eq-eqb m.thread m.thread refl));
       }
 
   -- any other thread
   stays : (k : ℕ) (start : Start) (t : Thread) → (m.thread == k) ≡ false → IsThread image k made start t → IsThread image k (m ∷ made) start t
   stays k start t apart is = record {
-      at = is.at;
-      begins = is.begins;
-      replies = is.replies ∙ sym (passed (m.thread == k) (replies_to k made ++ m.reply ∷ []) (replies_to k made) apart);
-    }
+    at = is.at;
+    begins = is.begins;
+    replies = is.replies ∙ sym (passed (m.thread == k) (replies_to k made ++ m.reply ∷ []) (replies_to k made) apart);
+  }
 
   others_stay : (k : ℕ) (starts : List Start) (threads : List Thread) → m.thread < k → AreThreads image k made starts threads → AreThreads image k (m ∷ made) starts threads
   others_stay k [] [] below are = tt
@@ -175,8 +175,8 @@ fresh image n start state t same none here unretired begins =
       at = record {
         taken = omega arith;
         reached = ap (λ s. after T P s t.retired t.replies.items) same
-          ∙ ap (λ k. after T P state k t.replies.items) unretired
-          ∙ ap (λ p. reached_of t.replies.items (Some p)) (sym here);
+            ∙ ap (λ k. after T P state k t.replies.items) unretired
+            ∙ ap (λ p. reached_of t.replies.items (Some p)) (sym here);
       };
       begins = same ∙ begins;
       replies = none;

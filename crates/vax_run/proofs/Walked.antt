@@ -102,8 +102,8 @@ module _ (image : ImageValue) (input : List ℕ) where
       let at : m.thread ≡ 0 + pick.thread = omega arith in
       let after_it : IsLeft image (m ∷ made) new = record {
         threads = subst (AreThreads image 0 (m ∷ made) image.threads) (sym threads)
-          (threads_on image made m 0 pick.thread image.threads old.threads.items t taken at below is left.threads
-          (λ from thread. taken_on image made m from t taken pick.retired place thread stands start (replies ∙ ap (λ r. t.replies.items ++ r ∷ []) same) here retired));
+            (threads_on image made m 0 pick.thread image.threads old.threads.items t taken at below is left.threads
+            (λ from thread. taken_on image made m from t taken pick.retired place thread stands start (replies ∙ ap (λ r. t.replies.items ++ r ∷ []) same) here retired));
         bytes = bytes ∙ ap (changed reference) left.bytes;
         gets = gets ∙ ap (gets_by reference.kind) left.gets;
         output = output ∙ ap (put_by reference.kind) left.output ∙ put_turns reference.kind (output_after made);

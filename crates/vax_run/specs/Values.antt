@@ -16,10 +16,10 @@ use Rattle.vax_long.specs.Instructions.{tree_at}
 -- the threads of an image
 abbrev pub threads_of : ImageValue → Threads
 threads_of image = record {
-    pages = image.pages;
-    start = λ thread. option_map start_state (slice_get image.threads thread);
-    tree = tree_at image.pages;
-  }
+  pages = image.pages;
+  start = λ thread. option_map start_state (slice_get image.threads thread);
+  tree = tree_at image.pages;
+}
 
 abbrev pub world_of : ImageValue → (input : List ℕ) → World
 world_of image input = record { threads = threads_of image; byte = byte_in image; input = input }
@@ -41,11 +41,11 @@ pub record RunValue : Type 0 where
 
 abbrev pub value_of : ImageValue → Driven → RunValue
 value_of image d = record {
-    references = reverse (map (λ (m : Made). m.reference) d.made);
-    memory = map (λ at. (at, bytes_after (byte_in image) d.made at)) (addresses_of image.pages.ranges);
-    output = reverse (output_after d.made);
-    threads = d.runs;
-  }
+  references = reverse (map (λ (m : Made). m.reference) d.made);
+  memory = map (λ at. (at, bytes_after (byte_in image) d.made at)) (addresses_of image.pages.ranges);
+  output = reverse (output_after d.made);
+  threads = d.runs;
+}
 
 -- an order is told oldest first
 abbrev pub driven_value : ImageValue → (input : List ℕ) → List Pick → (counts : List ℕ) → Option RunValue

@@ -38,9 +38,23 @@ impl Thread {
     {
         let replies = self.replies.as_slice();
         if self.retired <= count {
-            advance(&image.pages, thread, self.place, self.retired, replies, count)
+            advance(
+                &image.pages,
+                thread,
+                self.place,
+                self.retired,
+                replies,
+                count,
+            )
         } else {
-            advance(&image.pages, thread, Place::at_start(self.start), 0, replies, count)
+            advance(
+                &image.pages,
+                thread,
+                Place::at_start(self.start),
+                0,
+                replies,
+                count,
+            )
         }
     }
 

@@ -54,7 +54,12 @@ impl World {
     }
 
     /// Makes the references of an order, oldest first; false where a pick's thread wants none then.
-    pub(crate) fn walk(&mut self, image: &Image, input: &[u8], order: &[Pick]) -> Result<bool, AllocError>
+    pub(crate) fn walk(
+        &mut self,
+        image: &Image,
+        input: &[u8],
+        order: &[Pick],
+    ) -> Result<bool, AllocError>
         requires { IsLeft image.now [] self.old }
         ensures { IfOk result (λ goes. IsWalked image.now (walk (world_of image.now input.now) (reverse order.now)) goes self.new) }
     {

@@ -6,4 +6,4 @@ use Rattle.vax_run.proofs.advance.advance.Goals as goal
 pub returns-in_default-clause-reached : goal.returns-in_default-clause-reached
 returns-in_default-clause-reached c = λ start from.
     never (tree_at c.args.pages.now c.args.thread) c.args.pages.now c.args.replies.now start c.loop.counter c.args.count c.loop.here
-      (c.loop.invariant.reached start from) (sym c.in_default.ensures) (omega arith)
+    (c.loop.invariant.reached start from) (sym c.in_default.ensures) (omega arith)
