@@ -1,7 +1,7 @@
 -- Scripts that were run, as answers of their trees.
 use Rattle.std.proofs.Common.{◌≡◌, Bool, ℕ, zero, suc, ◌+◌, ◌-◌, ◌≤◌, List, [], ◌∷◌, length, drop, Option, Some, None, Result, Ok, Err, refl, sym, ap, ◌∙◌, subst, arith}
 use Rattle.vax_form.specs.Pages.{first_bad}
-use Rattle.vax_form.specs.Script.{Script, Moment, run}
+use Rattle.vax_form.specs.Script.{Script}
 use Rattle.vax_form.specs.Tree as trees
 use Rattle.vax_form.specs.Tree.{Tree, Check, Ask, Fault, Ends, Ending, unless_bad, answer, behind, ends_with, ending, instruction_tree, retires}
 use Rattle.vax_form.specs.declared.pages.Pages.{Pages}

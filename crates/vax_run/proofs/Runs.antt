@@ -1,8 +1,7 @@
 -- Threads after their counts, and all that is shown.
-use Rattle.std.proofs.Common.{◌≡◌, ℕ, zero, suc, ◌<◌, ◌≤◌, ◌+◌, Bool, true, false, List, [], ◌∷◌, ◌++◌, append_assoc, length, drop, reverse, map, Option, Some, None, get_or, option_map, refl, sym, ap, ◌∙◌, arith}
+use Rattle.std.proofs.Common.{◌≡◌, ℕ, zero, suc, ◌<◌, ◌≤◌, ◌+◌, true, false, List, [], ◌∷◌, ◌++◌, append_assoc, length, drop, reverse, map, Option, Some, None, get_or, option_map, refl, sym, ap, ◌∙◌, arith}
 use Rattle.std.proofs.Math.Seq.{drop-cons}
 use Rattle.std.proofs.lemmas.List.{append-nil, map-append}
-use Rattle.std.proofs.lemmas.Grind.{flat_map-append}
 use Rattle.image_file.specs.Memory.{byte_in}
 use Rattle.image_file.specs.Values.{ImageValue}
 use Rattle.vax_form.specs.PageTable.{AreRising}
@@ -19,7 +18,7 @@ use Rattle.vax_run.specs.World.{IsLeft, IsWalked, pair_at, bytes_of}
 use Rattle.vax_run.specs.declared.memory.Memory.{Memory}
 use Rattle.vax_run.specs.declared.thread.Thread.{Thread}
 use Rattle.vax_run.specs.declared.world.World.{World}
-use Rattle.vax_run.proofs.Standing.{IsAmong, thread_among, reached_is}
+use Rattle.vax_run.proofs.Standing.{thread_among, reached_is}
 use Rattle.vax_run.proofs.Walked.{no_walk}
 
 -- some runs before the others

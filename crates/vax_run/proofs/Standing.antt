@@ -8,12 +8,11 @@ use Rattle.image_file.specs.Start.{start_state}
 use Rattle.image_file.specs.Values.{ImageValue}
 use Rattle.vax_form.specs.Tree.{Tree, Retired}
 use Rattle.vax_form.specs.declared.pages.Pages.{Pages}
-use Rattle.vax_form.specs.declared.state.Reference.{Reference}
 use Rattle.vax_form.specs.declared.state.VaxState.{VaxState}
 use Rattle.vax_meaning.specs.After.{after, KeepsRetired}
 use Rattle.vax_meaning.proofs.Afters.{after_with_more}
 use Rattle.vax_driven.specs.Made.{Made, replies_to}
-use Rattle.vax_driven.specs.Threads.{after_start, reached, wanted_at, wanted, run_at, thread_run}
+use Rattle.vax_driven.specs.Threads.{after_start, reached, wanted_at, wanted}
 use Rattle.vax_long.specs.Instructions.{tree_at}
 use Rattle.vax_run.specs.Answered.{life_of, reached_of}
 use Rattle.vax_run.specs.Threads.{after_of, IsAt, IsPlaceOf, IsThread, AreThreads}

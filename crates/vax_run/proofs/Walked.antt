@@ -1,5 +1,5 @@
 -- The references made along an order.
-use Rattle.std.proofs.Common.{◌≡◌, ℕ, suc, ◌<◌, ◌≤◌, ◌+◌, Bool, true, false, List, [], ◌∷◌, ◌++◌, length, take, drop, reverse, map, Option, Some, None, get_or, slice_set, slice_get, option_map, refl, sym, ap, ◌∙◌, subst, arith}
+use Rattle.std.proofs.Common.{◌≡◌, ℕ, suc, ◌<◌, ◌≤◌, ◌+◌, Bool, true, false, List, [], ◌∷◌, ◌++◌, length, take, drop, reverse, map, Option, Some, None, get_or, slice_set, refl, sym, ap, ◌∙◌, subst, arith}
 use Rattle.std.proofs.Math.Seq.{take-suc, take-length}
 use Rattle.std.proofs.lemmas.List.{length-map, length-reverse, reverse-append, take-append-drop}
 use Rattle.image_file.specs.Memory.{byte_in}
@@ -19,7 +19,7 @@ use Rattle.vax_run.specs.World.{IsLeft, IsWalked}
 use Rattle.vax_run.specs.declared.advance.Place.{Place}
 use Rattle.vax_run.specs.declared.thread.Thread.{Thread}
 use Rattle.vax_run.specs.declared.world.World.{World}
-use Rattle.vax_run.proofs.Standing.{IsAmong, thread_among, none_beyond, reached_is, nothing_wanted, threads_on, taken_on}
+use Rattle.vax_run.proofs.Standing.{thread_among, none_beyond, reached_is, nothing_wanted, threads_on, taken_on}
 
 pub reverse_cons : {A : Type 0} (x : A) (xs : List A) → reverse (x ∷ xs) ≡ reverse xs ++ x ∷ []
 reverse_cons x xs = reverse-append (x ∷ []) xs

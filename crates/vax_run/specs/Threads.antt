@@ -1,11 +1,9 @@
 -- Threads as the code keeps them.
-use Rattle.std.specs.Prelude.{◌≡◌, ℕ, suc, ◌≤◌, List, [], ◌∷◌, length, Option, Some, None}
+use Rattle.std.specs.Prelude.{◌≡◌, ℕ, suc, ◌≤◌, List, [], ◌∷◌, length, Option, Some}
 use Rattle.image_file.specs.declared.image.Start.{Start}
 use Rattle.image_file.specs.Start.{start_state}
 use Rattle.image_file.specs.Values.{ImageValue}
 use Rattle.vax_form.specs.Tree.{Retired}
-use Rattle.vax_form.specs.declared.state.Pick.{Pick}
-use Rattle.vax_form.specs.declared.state.Reference.{Reference}
 use Rattle.vax_meaning.specs.After.{after}
 use Rattle.vax_driven.specs.Made.{Made, replies_to}
 use Rattle.vax_long.specs.Instructions.{tree_at}

@@ -1,5 +1,5 @@
 -- What is shown of threads that were driven.
-use Rattle.std.specs.Prelude.{ℕ, zero, suc, ◌+◌, ◌*◌, List, [], ◌∷◌, Option, Some, None, map, reverse, option_map, slice_get}
+use Rattle.std.specs.Prelude.{ℕ, zero, suc, ◌+◌, ◌*◌, List, [], ◌∷◌, Option, map, reverse, option_map, slice_get}
 use Rattle.std.specs.List.{flat_map}
 use Rattle.image_file.specs.Memory.{byte_in}
 use Rattle.image_file.specs.Start.{start_state}

@@ -10,4 +10,3 @@ mod world;
 
 pub use run::{DrivenRun, driven};
 pub use vax_driven::ThreadRun;
-

@@ -1,4 +1,4 @@
-use Rattle.std.proofs.Common.{◌∙◌, sym, arith}
+use Rattle.std.proofs.Common.{sym, arith}
 use Rattle.vax_long.specs.Instructions.{tree_at}
 use Rattle.vax_run.proofs.Answering.{never}
 use Rattle.vax_run.proofs.advance.advance.Goals as goal

@@ -1,5 +1,4 @@
-use Rattle.std.proofs.Common.{◌≡◌, ℕ, ap, sym, ◌∙◌, length, ◌-◌}
-use Rattle.vax_form.specs.Tree.{answer, instruction_tree}
+use Rattle.std.proofs.Common.{ap, ◌∙◌}
 use Rattle.vax_long.specs.Instructions.{any_script_of}
 use Rattle.vax_run.specs.Answered.{answer_of, answer_to}
 use Rattle.vax_run.proofs.Answering.{answer_is}

@@ -1,4 +1,3 @@
-use Rattle.std.proofs.Common.{◌≤◌}
 use Rattle.vax_run.proofs.Runs.{rising_low}
 use Rattle.vax_run.proofs.world.World.bytes.Goals as goal
 

@@ -1,4 +1,4 @@
-use Rattle.std.proofs.Common.{◌≡◌, ◌<◌, ◌+◌, length, drop, sym, ap, ◌∙◌, arith}
+use Rattle.std.proofs.Common.{◌<◌, ◌+◌, length, drop, sym, ap, ◌∙◌, arith}
 use Rattle.vax_driven.specs.Driven.{runs_from}
 use Rattle.vax_run.specs.Values.{threads_of}
 use Rattle.vax_run.proofs.Standing.{thread_among, at_among, as_many}
