@@ -1,0 +1,4 @@
+pub mod Places
+pub mod ExitWords
+pub mod Filling
+pub mod Built
