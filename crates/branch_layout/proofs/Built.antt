@@ -217,3 +217,9 @@ built_more blocks pairs count words points block instrs are at up filled =
         let same : block ≡ b = some_same (sym at ∙ rw same_place at here) in
         rw same_place (subst (λ (b : Placed). IsSet pairs (words ++ map word_of instrs) (points ++ shifted (length words) block.1.points) (words_of (take count blocks)) b.1) same
         (subst (λ n. IsSet pairs (words ++ map word_of instrs) (points ++ shifted (length words) block.1.points) n block.1) up.size (now_set pairs words points block.1 instrs up.under filled)))
+
+-- the same where the parts are known by equations
+pub built_next : (blocks : List Placed) (pairs : List Pair) (count first : ℕ) (words words' : List ℕ) (points points' more_points : List Entry) (block : Placed) (instrs more : List AlphaInstr) → AreBlocks blocks → slice_get blocks count ≡ Some block → AreBuilt blocks pairs count words points
+    → first ≡ length words → IsFilled pairs first block.1 instrs → more ≡ instrs → words' ≡ words ++ map word_of more → more_points ≡ block.1.points → points' ≡ points ++ shifted first more_points → AreBuilt blocks pairs (count + 1) words' points'
+built_next blocks pairs count first words words' points points' more_points block instrs more are at up is_first filled is_more is_words is_more_points is_points =
+    rw (is_words, is_points, is_more, is_more_points, is_first) (built_more blocks pairs count words points block instrs are at up (subst (λ n. IsFilled pairs n block.1 instrs) is_first filled))

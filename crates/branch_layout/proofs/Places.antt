@@ -5,10 +5,10 @@ use Rattle.std.specs.List.{AllAdjacentBelow}
 use Rattle.std.specs.Option.{option_map}
 use Rattle.std.proofs.lemmas.Bool.{eq-eqb, ne_eqb}
 use Rattle.std.proofs.lemmas.Bool.Decides.{nat_tests}
-use Rattle.std.proofs.lemmas.List.Sums.{sum_by-cons, sum_by_more}
+use Rattle.std.proofs.lemmas.List.Sums.{sum_by-cons, sum_by_more, sum_by_more_le, sum_by-le}
 use Rattle.std.proofs.lemmas.List.{take_more}
 use Rattle.address_map.specs.Pairs.{Pair, Rises, AllRise, word_at, address_at}
-use Rattle.std.proofs.lemmas.Option.{slice_get-get_or, slice_get_within}
+use Rattle.std.proofs.lemmas.Option.{slice_get-get_or, slice_get_within, get_or_from_slice_get}
 use Rattle.address_map.proofs.Lookups.{word_at-pair, address_at-pair}
 use Rattle.block_law.specs.Translations.{next_first}
 use Rattle.branch_layout.specs.Layouts.{Placed, AddressesRise, places, words_of}
@@ -132,3 +132,10 @@ alone f (c ∷ bs) (suc i) b word e low high =
     let more = words_cons c (take i bs) in
     let no : eqb f word ≡ false = ne_eqb f word (λ same. absurd (omega arith)) in
     rw no (alone (f + size c) bs i b word e (omega arith) (omega arith))
+
+-- how many words there are
+pub words_below : (bs : List Placed) (i : ℕ) (b : Placed) → slice_get bs i ≡ Some b → words_of (take i bs) + size b ≤ words_of bs
+words_below bs i b e = rw (get_or_from_slice_get bs i b b e) at (sum_by_more_le size bs i b (slice_get_within bs i b e))
+
+pub words_few : (bs : List Placed) → All (λ b. length b.1.words ≤ 256) bs → words_of bs ≤ length bs * 256
+words_few bs small = sum_by-le size 256 bs small
