@@ -141,8 +141,8 @@ module _ (pairs : List Pair) (first address : ℕ) (block : BlockValue) (of : Is
           quiet = λ word i is at. elim (put_either exit.0 words (code exit) word i at) [ inl h ↦ up.like.quiet word i is h | inr h ↦ exit_quiet (word_at pairs exit.1) (first + exit.0) exit.1 h.0 i h.1 ];
         };
         encodable =
-          All_by IsEncodable (put_chunk exit.0 words (code exit))
-          (λ k i at. elim (put_either exit.0 words (code exit) k i at) [ inl h ↦ All_at IsEncodable words k i up.encodable h | inr h ↦ exit_encodable (word_at pairs exit.1) (first + exit.0) exit.1 h.0 i h.1 ]);
+            All_by IsEncodable (put_chunk exit.0 words (code exit))
+            (λ k i at. elim (put_either exit.0 words (code exit) k i at) [ inl h ↦ All_at IsEncodable words k i up.encodable h | inr h ↦ exit_encodable (word_at pairs exit.1) (first + exit.0) exit.1 h.0 i h.1 ]);
         exits = λ place f lt at. by (nat_lt place n) place refl f lt at;
       }
     where
@@ -161,7 +161,7 @@ module _ (pairs : List Pair) (first address : ℕ) (block : BlockValue) (of : Is
           let earlier : place < n = ltb-true place n is in
           let n_within = slice_get_within block.exits n exit e in
           let below : f.0 + exit_words ≤ exit.0 =
-              rw (get_or_from_slice_get block.exits place f (0, 0) at, get_or_from_slice_get block.exits n exit (0, 0) e) at (exits_below block.exits place n of.exits_apart earlier n_within)
+          rw (get_or_from_slice_get block.exits place f (0, 0) at, get_or_from_slice_get block.exits n exit (0, 0) e) at (exits_below block.exits place n of.exits_apart earlier n_within)
           in
           let f_size = exit_length (word_at pairs f.1) (first + f.0) f.1 in
           has_same (slice_get words) (slice_get (put_chunk exit.0 words (code exit))) f.0 (code f)

@@ -5,7 +5,7 @@ use Rattle.std.proofs.lemmas.Option.{slice_get_within}
 use Rattle.vax_form.specs.declared.state.Flags.{Flags}
 use Rattle.vax_form.specs.declared.state.VaxState.{VaxState}
 use Rattle.alpha_meaning.specs.Pieces.{HasAt}
-use Rattle.address_map.specs.Pairs.{AllRise, word_at, address_at}
+use Rattle.address_map.specs.Pairs.{Pair, AllRise, word_at, address_at}
 use Rattle.exception_records.specs.Points.{Entry, point_at}
 use Rattle.exception_records.specs.declared.points.Point.{Point}
 use Rattle.exception_records.specs.declared.rules.Rules.{Rules}
@@ -23,8 +23,9 @@ pub all_few : (blocks : List Placed) → AreBlocks blocks → length blocks ≤ 
 all_few blocks are few = let count = words_few blocks (λ k d lt. (are k d lt).tidy.few) in omega arith
 
 -- there is room for the next block
-pub room_for : (blocks : List Placed) (count : ℕ) (words : List ℕ) (points : List Entry) (block : Placed) → AreBlocks blocks → length blocks ≤ 32768 → slice_get blocks count ≡ Some block → AreBuilt blocks (places 0 blocks) count words points → length words + size block ≤ most_words
-room_for blocks count words points block are few at up =
+pub room_for : (blocks : List Placed) (pairs : List Pair) (count first : ℕ) (words : List ℕ) (points : List Entry) (block : Placed) → AreBlocks blocks → length blocks ≤ 32768 → pairs ≡ places 0 blocks → slice_get blocks count ≡ Some block
+    → AreBuilt blocks pairs count words points → first ≡ length words → first + size block ≤ most_words
+room_for blocks pairs count first words points block are few are_places at up is_first =
     let room = words_below blocks count block at in
     let all = all_few blocks are few in
     let so_far = up.size in
@@ -168,5 +169,5 @@ module _ (blocks : List Placed) (are : AreBlocks blocks) (rising : AddressesRise
       leads = λ meaning thread state held rules meet exit_place exit exit_at. exit_leads meaning thread state held rules place block at exit_place exit exit_at (meet exit_place exit exit_at);
     };
     exits = λ place block first exit_place exit at is exit_at.
-      subst (λ (n : ℕ). HasAt (fetch_of words) (n + exit.0) (exit_code (word_at (places 0 blocks) exit.1) (n + exit.0) exit.1)) (some_same (sym (first_word place block at) ∙ is)) (exit_stands place block at exit_place exit exit_at);
+        subst (λ (n : ℕ). HasAt (fetch_of words) (n + exit.0) (exit_code (word_at (places 0 blocks) exit.1) (n + exit.0) exit.1)) (some_same (sym (first_word place block at) ∙ is)) (exit_stands place block at exit_place exit exit_at);
   }

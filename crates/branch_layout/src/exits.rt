@@ -14,6 +14,7 @@ pub(crate) const EXIT_WORDS: usize = 3;
 const TARGET: u8 = 26;
 /// Where a jump goes.
 const JUMP: u8 = 27;
+
 const ZERO: u8 = 31;
 
 /// The PALcode entry that goes on in the interpreter.
@@ -63,7 +64,7 @@ fn is_near(word: u32, target: u32) -> bool
 }
 
 /// The words that go from that word to the first word of a block.
-fn code_to(word: u32, target: u32) -> [AlphaInstr; EXIT_WORDS]
+pub(crate) fn code_to(word: u32, target: u32) -> [AlphaInstr; EXIT_WORDS]
     requires word { word ≤ most_words }
     requires target { target ≤ most_words }
     ensures { result ≡ code_to (is_near word target) word target }
@@ -78,7 +79,11 @@ fn code_to(word: u32, target: u32) -> [AlphaInstr; EXIT_WORDS]
         [branch, IDLE, IDLE]
     } else {
         let jump = AlphaInstr::Jump { ra: ZERO, rb: JUMP };
-        [load_high(JUMP, 4 * target), load_low(JUMP, 4 * target), jump]
+        [
+            load_high(JUMP, 4 * target),
+            load_low(JUMP, 4 * target),
+            jump,
+        ]
     }
 }
 

@@ -10,4 +10,5 @@ mod layout;
 
 pub use layout::lay_out;
 
-
+#[cfg(test)]
+mod tests;
