@@ -1,14 +1,13 @@
 -- The words and the points of the first blocks, and of one more.
-use Rattle.std.proofs.Common.{◌≡◌, ◌≢◌, ℕ, zero, suc, ◌+◌, ◌-◌, ◌<◌, ◌≤◌, ◌++◌, refl, sym, ◌∙◌, ap, subst, arith, add-zero, add-one, eqb, cond, nat_lt, ltb-true, ltb-false, List, [], ◌∷◌, length, length-append, map, take, get_or, All, Bool, true, false, Option, Some, None}
-use Rattle.std.specs.Prelude.{slice_get, slice_index, find}
-use Rattle.std.specs.List.{AllAdjacentBelow}
+use Rattle.std.proofs.Common.{◌≡◌, ℕ, zero, suc, ◌+◌, ◌-◌, ◌<◌, ◌≤◌, ◌++◌, refl, sym, ◌∙◌, ap, subst, arith, eqb, cond, nat_lt, ltb-true, ltb-false, List, [], ◌∷◌, length, length-append, map, take, get_or, All, Bool, true, false, Option, Some, None}
+use Rattle.std.specs.Prelude.{slice_get, find}
 use Rattle.std.specs.Option.{option_map, option_or}
 use Rattle.std.proofs.lemmas.Bool.Decides.{nat_tests}
 use Rattle.std.proofs.lemmas.List.{get_or_append_left, get_or-append-add, get_or-append_right, length-map}
 use Rattle.std.proofs.lemmas.List.Folds.{find-append}
 use Rattle.std.proofs.lemmas.List.Sums.{sum_by_more}
-use Rattle.std.proofs.lemmas.Option.{slice_get-get_or, slice_get_within, get_or_from_slice_get, slice_get-map}
-use Rattle.alpha_encode.specs.Words.{IsEncodable, word_of, instr_at}
+use Rattle.std.proofs.lemmas.Option.{slice_get_within, get_or_from_slice_get, slice_get-map}
+use Rattle.alpha_encode.specs.Words.{IsEncodable, word_of}
 use Rattle.alpha_encode.specs.declared.instr.AlphaInstr.{AlphaInstr}
 use Rattle.alpha_encode.proofs.Reread.{again}
 use Rattle.alpha_meaning.specs.Pieces.{HasAt}

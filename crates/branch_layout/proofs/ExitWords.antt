@@ -1,13 +1,13 @@
 -- The three words of an exit, by what each of them is.
-use Rattle.std.proofs.Common.{◌≡◌, ℕ, zero, suc, ◌+◌, ◌-◌, ◌*◌, ◌/◌, ◌%◌, ◌^◌, ◌<◌, ◌≤◌, refl, sym, subst, arith, List, [], ◌∷◌, length, Bool, true, false, Option, Some, None, lit<, lit≤}
-use Rattle.std.specs.Prelude.{slice_get, ℤ, pos, negsuc, ◌-ℤ◌, ◌<ℤ◌, ◌≤ℤ◌, nat_lt, nat_le, FitsSigned}
+use Rattle.std.proofs.Common.{◌≡◌, ℕ, zero, suc, ◌-◌, ◌^◌, ◌<◌, refl, subst, arith, [], ◌∷◌, length, Bool, true, false, Option, Some, None, lit<, lit≤}
+use Rattle.std.specs.Prelude.{slice_get, pos, negsuc, ◌<ℤ◌, ◌≤ℤ◌, FitsSigned}
 use Rattle.std.specs.Int.{cast_signed, w16}
 use Rattle.std.proofs.lemmas.Int.{ints}
 use Rattle.std.proofs.lemmas.Bool.Decides.{nat_tests}
 use Rattle.alpha_encode.specs.Words.{IsEncodable}
 use Rattle.alpha_encode.specs.declared.instr.AlphaInstr.{AlphaInstr}
 use Rattle.block_law.specs.Blocks.{is_quiet, exit_words}
-use Rattle.branch_layout.specs.Exits.{displacement, is_near, low_half, high_half, code_to, exit_code}
+use Rattle.branch_layout.specs.Exits.{displacement, is_near, code_to, exit_code}
 
 half_fits : (n : ℕ) → n < 2 ^ 16 → FitsSigned w16 (cast_signed w16 n)
 half_fits n lt = record { sfits = grind (arith, ints) }

@@ -1,7 +1,7 @@
 -- The words of a block with those of its exits filled in.
-use Rattle.std.proofs.Common.{◌≡◌, ℕ, zero, suc, ◌+◌, ◌-◌, ◌<◌, ◌≤◌, ◌++◌, take, drop, refl, sym, ◌∙◌, ap, subst, arith, add-zero, add-one, ltb-true, ltb-false, List, [], ◌∷◌, length, get_or, All, Bool, true, false, Option, Some, None, inl, inr}
+use Rattle.std.proofs.Common.{◌≡◌, ℕ, zero, suc, ◌+◌, ◌<◌, ◌≤◌, ◌++◌, take, drop, refl, sym, ◌∙◌, ap, subst, arith, add-zero, add-one, ltb-true, ltb-false, List, [], ◌∷◌, length, get_or, All, Bool, true, false, Some, inl, inr}
 use Rattle.std.specs.Prelude.{slice_get, nat_lt, nat_le, ◌&&◌, ◌||◌, ◌⊎◌}
-use Rattle.std.specs.List.{list_any, AllAdjacentBelow}
+use Rattle.std.specs.List.{AllAdjacentBelow}
 use Rattle.std.specs.Simd.Lanes.{put_chunk}
 use Rattle.std.proofs.lemmas.Bool.Decides.{nat_tests}
 use Rattle.std.proofs.lemmas.Option.{slice_get-get_or, slice_get_within, get_or_from_slice_get}
@@ -12,7 +12,7 @@ use Rattle.alpha_encode.specs.declared.instr.AlphaInstr.{AlphaInstr}
 use Rattle.alpha_meaning.specs.Pieces.{Fetch, HasAt}
 use Rattle.address_map.specs.Pairs.{Pair, word_at}
 use Rattle.exception_records.specs.Blocks.{BlockValue}
-use Rattle.block_law.specs.Blocks.{Exit, exit_words, has_word, is_exit_word, is_quiet, IsExitOf, IsBlockOf, IsLike}
+use Rattle.block_law.specs.Blocks.{Exit, exit_words, has_word, is_exit_word, IsExitOf, IsBlockOf, IsLike}
 use Rattle.branch_layout.specs.Exits.{exit_code}
 use Rattle.branch_layout.proofs.ExitWords.{exit_length, exit_quiet, exit_encodable}
 

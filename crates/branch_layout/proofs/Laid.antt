@@ -1,6 +1,6 @@
 -- Blocks that are built one behind the other are laid.
-use Rattle.std.proofs.Common.{◌≡◌, ℕ, ◌+◌, ◌-◌, ◌*◌, ◌^◌, ◌<◌, ◌≤◌, refl, sym, ◌∙◌, ap, subst, arith, add-zero, zero-add, List, length, take, take_all, le_refl, All, Bool, true, false, Option, Some, None}
-use Rattle.std.specs.Prelude.{slice_get, nat_lt, IfSome}
+use Rattle.std.proofs.Common.{◌≡◌, ℕ, ◌+◌, ◌^◌, ◌<◌, ◌≤◌, refl, sym, ◌∙◌, ap, subst, arith, add-zero, zero-add, List, length, take, take_all, le_refl, Bool, true, false, Option, Some, None}
+use Rattle.std.specs.Prelude.{slice_get, IfSome}
 use Rattle.std.proofs.lemmas.Option.{slice_get_within}
 use Rattle.vax_form.specs.declared.state.Flags.{Flags}
 use Rattle.vax_form.specs.declared.state.VaxState.{VaxState}
@@ -9,12 +9,12 @@ use Rattle.address_map.specs.Pairs.{Pair, AllRise, word_at, address_at}
 use Rattle.exception_records.specs.Points.{Entry, point_at}
 use Rattle.exception_records.specs.declared.points.Point.{Point}
 use Rattle.exception_records.specs.declared.rules.Rules.{Rules}
-use Rattle.block_law.specs.Blocks.{Exit, IsExitOf, IsBlockOf, Stands, RulesAt, RulesMeet, ExitsLead, IsLaid}
+use Rattle.block_law.specs.Blocks.{Exit, IsExitOf, IsBlockOf, Stands, RulesAt}
 use Rattle.block_law.specs.Follows.{LeadsTo}
 use Rattle.block_law.specs.Translations.{Meaning, Code, fetch_of, end_of, placed, most_words}
 use Rattle.branch_layout.specs.Exits.{is_near, code_to, exit_code}
 use Rattle.branch_layout.specs.Layouts.{Placed, AddressesRise, AreBlocks, IsLayout, places, words_of}
-use Rattle.branch_layout.proofs.Places.{size, places_rise, IsPlaced, mapped, starts, placed_of, behind, alone, words_below, words_few}
+use Rattle.branch_layout.proofs.Places.{size, places_rise, mapped, starts, placed_of, behind, alone, words_below, words_few}
 use Rattle.branch_layout.proofs.Filling.{has_by, has_each, All_at, some_same}
 use Rattle.branch_layout.proofs.Built.{IsSet, AreBuilt}
 use Rattle.branch_layout.proofs.Leads.{near_leads, far_leads, none_leads}

@@ -1,16 +1,14 @@
 -- The words of an exit lead to its address.
-use Rattle.std.proofs.Common.{◌≡◌, ℕ, suc, ◌+◌, ◌-◌, ◌*◌, ◌/◌, ◌%◌, ◌^◌, ◌<◌, ◌≤◌, refl, sym, ◌∙◌, ap, subst, arith, eqb, cond, nat_lt, ltb-true, ltb-false, Bool, true, false, Option, Some, None}
-use Rattle.std.specs.Prelude.{nat_le, ◌==◌, if◌then◌else◌}
-use Rattle.std.specs.Int.{cast_unsigned, cast_signed, w16, w32, w64}
+use Rattle.std.proofs.Common.{◌≡◌, ℕ, ◌+◌, ◌-◌, ◌*◌, ◌/◌, ◌%◌, ◌^◌, ◌<◌, ◌≤◌, refl, ap, arith, eqb, nat_lt, ltb-true, ltb-false, Bool, true, false, Some, None}
+use Rattle.std.specs.Prelude.{if◌then◌else◌}
+use Rattle.std.specs.Int.{cast_unsigned, cast_signed, w16, w64}
 use Rattle.std.proofs.lemmas.Int.{ints}
 use Rattle.std.proofs.lemmas.Bool.{ne_eqb}
 use Rattle.std.proofs.lemmas.Bool.Decides.{nat_tests}
-use Rattle.vt_words.specs.Quad.{sign_extended}
 use Rattle.vax_form.specs.Tree.{Ends, Finish}
-use Rattle.vax_form.specs.declared.state.VaxState.{VaxState}
 use Rattle.alpha_encode.specs.declared.instr.BranchOp.TheVariants.{Br}
 use Rattle.alpha_encode.specs.declared.instr.MemoryOp.TheVariants.{Lda, Ldah}
-use Rattle.alpha_encode.specs.declared.instr.AlphaInstr.TheVariants.{Branch, Jump, Pal}
+use Rattle.alpha_encode.specs.declared.instr.AlphaInstr.TheVariants.{Branch, Jump}
 use Rattle.alpha_meaning.specs.Act.{Goes, target_of}
 use Rattle.alpha_meaning.specs.Memory.{address_of}
 use Rattle.alpha_meaning.specs.Pieces.{HasAt}
@@ -20,8 +18,8 @@ use Rattle.exception_records.specs.declared.points.Point.{Point}
 use Rattle.exception_records.specs.declared.rules.Rules.{Rules}
 use Rattle.block_law.specs.Placements.{Placement, InForm, state_behind}
 use Rattle.block_law.specs.Follows.{LeadsTo}
-use Rattle.block_law.proofs.Rules.{IsAt, Always, goes, lands, switches}
-use Rattle.branch_layout.specs.Exits.{displacement, is_near, low_half, high_half, load_high, load_low, code_to, exit_code}
+use Rattle.block_law.proofs.Rules.{goes, lands, switches}
+use Rattle.branch_layout.specs.Exits.{displacement, low_half, high_half, load_high, load_low, code_to, exit_code}
 
 -- ---- numbers
 branch_target : (word target : ℕ) → word < 2 ^ 31 → target < 2 ^ 31 → target_of word (displacement word target) ≡ target

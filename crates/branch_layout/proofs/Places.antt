@@ -1,13 +1,12 @@
 -- Where blocks stand: the pairs of their map.
-use Rattle.std.proofs.Common.{◌≡◌, ◌≢◌, ℕ, zero, suc, ◌+◌, ◌-◌, ◌*◌, ◌<◌, ◌≤◌, ◌++◌, refl, sym, ◌∙◌, ap, subst, arith, add-zero, add-one, nat_lt, eqb, cond, List, [], ◌∷◌, length, take, get_or, All, zero-add, eqb-true, inl, inr, Bool, true, false, Option, Some, None}
-use Rattle.std.specs.Prelude.{find, slice_get, sum_by, ◌==◌}
-use Rattle.std.specs.List.{AllAdjacentBelow}
+use Rattle.std.proofs.Common.{◌≡◌, ℕ, zero, suc, ◌+◌, ◌*◌, ◌<◌, ◌≤◌, ◌++◌, refl, ◌∙◌, ap, arith, add-zero, nat_lt, eqb, cond, List, [], ◌∷◌, length, take, get_or, All, zero-add, eqb-true, Bool, true, false, Some, None}
+use Rattle.std.specs.Prelude.{find, slice_get}
 use Rattle.std.specs.Option.{option_map}
-use Rattle.std.proofs.lemmas.Bool.{eq-eqb, ne_eqb}
+use Rattle.std.proofs.lemmas.Bool.{ne_eqb}
 use Rattle.std.proofs.lemmas.Bool.Decides.{nat_tests}
 use Rattle.std.proofs.lemmas.List.Sums.{sum_by-cons, sum_by_more, sum_by_more_le, sum_by-le}
 use Rattle.std.proofs.lemmas.List.{take_more}
-use Rattle.address_map.specs.Pairs.{Pair, Rises, AllRise, word_at, address_at}
+use Rattle.address_map.specs.Pairs.{Pair, AllRise, word_at, address_at}
 use Rattle.std.proofs.lemmas.Option.{slice_get-get_or, slice_get_within, get_or_from_slice_get}
 use Rattle.address_map.proofs.Lookups.{word_at-pair, address_at-pair}
 use Rattle.block_law.specs.Translations.{next_first}

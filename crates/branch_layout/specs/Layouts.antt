@@ -1,5 +1,5 @@
 -- Blocks in their places, one behind the other.
-use Rattle.std.specs.Prelude.{◌≡◌, ℕ, ◌<◌, ◌≤◌, ◌+◌, All, List, [], ◌∷◌, length, map, slice_get, sum_by, Option, Some}
+use Rattle.std.specs.Prelude.{◌≡◌, ℕ, ◌<◌, ◌≤◌, ◌+◌, All, List, [], ◌∷◌, length, map, slice_get, sum_by, Some}
 use Rattle.std.specs.List.{AllAdjacentBelow}
 use Rattle.alpha_encode.specs.Words.{IsEncodable}
 use Rattle.alpha_encode.specs.declared.instr.AlphaInstr.{AlphaInstr}

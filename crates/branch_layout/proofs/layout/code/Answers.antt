@@ -1,15 +1,9 @@
-use Rattle.std.proofs.Common.{◌≡◌, ℕ, ◌+◌, ◌<◌, ◌≤◌, ◌^◌, length, take, get_or, arith, rules, refl, sym, ap, subst, ◌∙◌, List, Some}
-use Rattle.std.specs.Prelude.{slice_get, IfSome}
-use Rattle.std.proofs.lemmas.Option.{slice_get_read, slice_get_within}
-use Rattle.address_map.specs.Pairs.{Pair, word_at}
+use Rattle.std.proofs.Common.{◌≡◌, ◌<◌, ◌^◌, length, arith, rules, refl, ap, ◌∙◌}
+use Rattle.std.proofs.lemmas.Option.{slice_get_read}
 use Rattle.exception_records.specs.Blocks.{BlockValue}
-use Rattle.exception_records.specs.Points.{Entry}
 use Rattle.block_law.specs.Blocks.{IsBlockOf}
-use Rattle.block_law.specs.Translations.{most_words}
-use Rattle.branch_layout.specs.Layouts.{Placed, IsLayout, places, words_of}
-use Rattle.branch_layout.proofs.Places.{size, words_below}
 use Rattle.branch_layout.proofs.Filling.{All_at}
-use Rattle.branch_layout.proofs.Built.{AreBuilt, built_next, points_within}
+use Rattle.branch_layout.proofs.Built.{built_next, points_within}
 use Rattle.branch_layout.proofs.Laid.{room_for, targets_few, is_laid}
 use Rattle.branch_layout.proofs.layout.code.Goals as goal
 

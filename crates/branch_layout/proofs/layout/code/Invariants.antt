@@ -1,4 +1,3 @@
-use Rattle.std.proofs.Common.{◌≡◌}
 use Rattle.branch_layout.proofs.Built.{AreBuilt}
 use Rattle.branch_layout.proofs.layout.code.Given as goal
 

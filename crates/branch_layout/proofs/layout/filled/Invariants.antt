@@ -1,4 +1,3 @@
-use Rattle.std.proofs.Common.{◌≡◌}
 use Rattle.branch_layout.proofs.Filling.{IsFilledUpTo}
 use Rattle.branch_layout.proofs.layout.filled.Given as goal
 

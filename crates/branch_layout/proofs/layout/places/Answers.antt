@@ -1,7 +1,6 @@
 use Rattle.std.proofs.Common.{◌≡◌, ◌<◌, ◌≤◌, ◌+◌, ◌*◌, ◌++◌, List, [], ◌∷◌, length, take, get_or, arith, rules, sym, ap, ◌∙◌}
 use Rattle.std.proofs.lemmas.List.Sums.{sum_by_more}
 use Rattle.address_map.specs.Pairs.{Pair}
-use Rattle.exception_records.specs.Blocks.{BlockValue}
 use Rattle.branch_layout.specs.Layouts.{Placed, places, words_of}
 use Rattle.branch_layout.proofs.Places.{places_more, size}
 use Rattle.branch_layout.proofs.layout.places.Goals as goal
