@@ -56,16 +56,16 @@ and_true true b e = (refl, e)
 and_true false b e = cc
 
 -- each row has the code that its instruction finds
-abbrev pub has_codes : {A : Type 0} → (A → ℕ) → List (A × ℕ) → Bool
-has_codes code_of rows = list_all (λ row. eqb (code_of row.0) row.1) rows
+abbrev pub has_codes : {A : Type 0} → (A → ℕ) → List (ℕ × A) → Bool
+has_codes code_of rows = list_all (λ row. eqb (code_of row.1) row.0) rows
 
 -- so the instruction that a code finds has this code
-found_has : {A : Type 0} (code_of : A → ℕ) (rows : List (A × ℕ)) (code : ℕ) (op : A) → has_codes code_of rows ≡ true → row_at rows code ≡ Some op → code_of op ≡ code
+found_has : {A : Type 0} (code_of : A → ℕ) (rows : List (ℕ × A)) (code : ℕ) (op : A) → has_codes code_of rows ≡ true → row_at rows code ≡ Some op → code_of op ≡ code
 found_has code_of [] code op all e = cc
 found_has code_of (row ∷ rows) code op all e =
-    let parts = and_true (eqb (code_of row.0) row.1) (has_codes code_of rows) all in
-    elim (eqb row.1 code) as (λ b. eqb row.1 code ≡ b → option_map (λ row. row.0) (cond b (Some row) (find (λ row. eqb row.1 code) rows)) ≡ Some op → code_of op ≡ code) [
-      true ↦ λ here e. let one = eqb-true (code_of row.0) row.1 parts.0 in let two = eqb-true row.1 code here in cc
+    let parts = and_true (eqb (code_of row.1) row.0) (has_codes code_of rows) all in
+    elim (eqb row.0 code) as (λ b. eqb row.0 code ≡ b → cond b (Some row.1) (row_at rows code) ≡ Some op → code_of op ≡ code) [
+      true ↦ λ here e. let one = eqb-true (code_of row.1) row.0 parts.0 in let two = eqb-true row.0 code here in cc
     | false ↦ λ there e. found_has code_of rows code op parts.1 e
     ] refl e
 
@@ -81,18 +81,18 @@ operate_of_found opcode function op below e =
     (omega arith, omega arith)
 
 -- the codes are from `low` to below `high`
-abbrev pub is_within : {A : Type 0} → ℕ → ℕ → List (A × ℕ) → Bool
-is_within low high rows = list_all (λ row. nat_le low row.1 && nat_lt row.1 high) rows
+abbrev pub is_within : {A : Type 0} → ℕ → ℕ → List (ℕ × A) → Bool
+is_within low high rows = list_all (λ row. nat_le low row.0 && nat_lt row.0 high) rows
 
 -- and no other code finds a row
-outside : {A : Type 0} (low high code : ℕ) (rows : List (A × ℕ)) → is_within low high rows ≡ true → (code < low) ⊎ (high ≤ code) → row_at rows code ≡ None
+outside : {A : Type 0} (low high code : ℕ) (rows : List (ℕ × A)) → is_within low high rows ≡ true → (code < low) ⊎ (high ≤ code) → row_at rows code ≡ None
 outside low high code [] all h = refl
 outside low high code (row ∷ rows) all h =
-    let parts = and_true (nat_le low row.1 && nat_lt row.1 high) (is_within low high rows) all in
-    let bounds = and_true (nat_le low row.1) (nat_lt row.1 high) parts.0 in
-    let above = leb-true low row.1 bounds.0 in
-    let below = ltb-true row.1 high bounds.1 in
-    let other : eqb row.1 code ≡ false = ne_eqb row.1 code (λ e. ⊎_elim (λ (a : code < low). omega arith) (λ (a : high ≤ code). omega arith) h) in
+    let parts = and_true (nat_le low row.0 && nat_lt row.0 high) (is_within low high rows) all in
+    let bounds = and_true (nat_le low row.0) (nat_lt row.0 high) parts.0 in
+    let above = leb-true low row.0 bounds.0 in
+    let below = ltb-true row.0 high bounds.1 in
+    let other : eqb row.0 code ≡ false = ne_eqb row.0 code (λ e. ⊎_elim (λ (a : code < low). omega arith) (λ (a : high ≤ code). omega arith) h) in
     rw other (outside low high code rows parts.1 h)
 
 -- opcodes 10 to 13 alone have rows of the operate format

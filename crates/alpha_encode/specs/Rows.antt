@@ -14,12 +14,12 @@ use Rattle.alpha_encode.specs.contracts.instr.BranchOpPartialEq.TheImpl.{ghosts 
 use Rattle.alpha_encode.specs.contracts.instr.OperateOpPartialEq.TheImpl.{ghosts as operate_op}
 
 -- the instruction of the row with this code
-abbrev pub row_at : {A : Type 0} → List (A × ℕ) → ℕ → Option A
-row_at rows code = option_map (λ row. row.0) (find (λ row. row.1 == code) rows)
+abbrev pub row_at : {A : Type 0} → List (ℕ × A) → ℕ → Option A
+row_at rows code = lookup (λ k. k == code) rows
 
 -- the code of the row with this instruction
-abbrev pub code_of : {A : Type 0} → (A → A → Bool) → List (A × ℕ) → A → ℕ
-code_of same rows op = unwrap_or (lookup (same op) rows) 0
+abbrev pub code_of : {A : Type 0} → (A → A → Bool) → List (ℕ × A) → A → ℕ
+code_of same rows op = unwrap_or (option_map (λ row. row.0) (find (λ row. same row.1 op) rows)) 0
 
 -- memory format: the opcode
 abbrev pub memory_opcode : MemoryOp → ℕ

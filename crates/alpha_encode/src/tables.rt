@@ -35,7 +35,7 @@ macro_rules! operate_rows {
 /// All rows with their codes; or the row that has a code.
 macro_rules! with_rows {
     (all; $type:ident; $($op:ident)*) => {
-        [$(($type::$op, $type::$op as u32)),*]
+        [$(($type::$op as u32, $type::$op)),*]
     };
     (find $code:ident; $type:ident; $($op:ident)*) => {
         match $code {
@@ -45,9 +45,9 @@ macro_rules! with_rows {
     };
 }
 
-pub const MEMORY_ROWS: [(MemoryOp, u32); 11] = memory_rows!(all);
-pub const BRANCH_ROWS: [(BranchOp, u32); 10] = branch_rows!(all);
-pub const OPERATE_ROWS: [(OperateOp, u32); 48] = operate_rows!(all);
+pub const MEMORY_ROWS: [(u32, MemoryOp); 11] = memory_rows!(all);
+pub const BRANCH_ROWS: [(u32, BranchOp); 10] = branch_rows!(all);
+pub const OPERATE_ROWS: [(u32, OperateOp); 48] = operate_rows!(all);
 
 pub fn memory_op(opcode: u32) -> Option<MemoryOp>
     ensures { result ≡ memory_at opcode }
