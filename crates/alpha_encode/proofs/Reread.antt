@@ -1,5 +1,5 @@
 -- From an instruction to its word and back.
-use Rattle.std.proofs.Common.{◌≡◌, ℕ, ◌+◌, ◌-◌, ◌*◌, ◌/◌, ◌%◌, ◌^◌, ◌<◌, ◌≤◌, refl, arith, inl, inr, lit<, lit≤, Some, le-leb}
+use Rattle.std.proofs.Common.{◌≡◌, ℕ, ◌+◌, ◌-◌, ◌*◌, ◌/◌, ◌%◌, ◌^◌, ◌<◌, ◌≤◌, refl, arith, Some, le-leb}
 use Rattle.std.specs.Prelude.{ℤ, pos, negsuc, ◌<ℤ◌, ◌≤ℤ◌, FitsSigned}
 use Rattle.std.specs.Int.{cast_unsigned, cast_signed, w16, w32}
 use Rattle.std.proofs.lemmas.Int.{to_z-of_z, ints}
@@ -12,7 +12,7 @@ use Rattle.alpha_encode.specs.declared.instr.AlphaInstr.{AlphaInstr}
 use Rattle.alpha_encode.specs.declared.instr.AlphaInstr.TheVariants.{Memory, Branch, Operate, Jump, Pal}
 use Rattle.alpha_encode.specs.Rows.{memory_opcode, branch_opcode, operate_code}
 use Rattle.alpha_encode.specs.Words.{IsEncodable, IsSecond, word_of, instr_at, second_at, second_field, signed_21}
-use Rattle.alpha_encode.proofs.Rows.{memory_row, branch_row, operate_row, not_operate}
+use Rattle.alpha_encode.proofs.Rows.{memory_row, branch_row, operate_row}
 
 memory_again : (w : ℕ) (op : MemoryOp) (ra rb : ℕ) (d : ℤ) → w / 2 ^ 26 ≡ memory_opcode op → w / 2 ^ 21 % 32 ≡ ra → w / 2 ^ 16 % 32 ≡ rb → cast_signed w16 (w % 2 ^ 16) ≡ d → instr_at w ≡ Some (Memory op ra rb d)
 memory_again w op ra rb d e1 e2 e3 e4 = rw (e1, (memory_row op).found, e2, e3, e4) refl
@@ -45,15 +45,12 @@ signed_21_of (pos n) low high = grind (arith, ints)
 signed_21_of (negsuc n) low high = grind (arith, ints)
 
 jump_again : (w ra rb : ℕ) → w / 2 ^ 26 ≡ 0x1a → w % 2 ^ 16 ≡ 0 → w / 2 ^ 21 % 32 ≡ ra → w / 2 ^ 16 % 32 ≡ rb → instr_at w ≡ Some (Jump ra rb)
-jump_again w ra rb e1 e2 e3 e4 =
-    let other = not_operate 0x1a (w / 2 ^ 5 % 2 ^ 7) (omega arith) (inr (lit≤ tt)) in
-    rw (e1, other, e2, e3, e4) refl
+jump_again w ra rb e1 e2 e3 e4 = rw (e1, e2, e3, e4) refl
 
 pal_again : (n : ℕ) → 0x80 ≤ n → n ≤ 0x86 → instr_at n ≡ Some (Pal n)
 pal_again n low high =
     let opcode : n / 2 ^ 26 ≡ 0 = omega arith in
-    let other = not_operate 0 (n / 2 ^ 5 % 2 ^ 7) (omega arith) (inl (lit< tt)) in
-    rw (opcode, other, le-leb 0x80 n low, le-leb n 0x86 high) refl
+    rw (opcode, le-leb 0x80 n low, le-leb n 0x86 high) refl
 
 pub again : (i : AlphaInstr) → IsEncodable i → instr_at (word_of i) ≡ Some i
 again (Memory op ra rb d) h =

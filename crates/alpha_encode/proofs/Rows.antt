@@ -1,7 +1,8 @@
 -- What holds of each row.
-use Rattle.std.proofs.Common.{◌≡◌, ℕ, ◌+◌, ◌*◌, ◌^◌, ◌<◌, ◌≤◌, refl, sym, ap, ◌∙◌, List, [], ◌∷◌, Option, Some, None, Bool, true, false, cond, eqb, eqb-true, leb-true, lit<, inl, inr, ⊎_elim, arith}
+use Rattle.std.proofs.Common.{◌≡◌, ℕ, ◌+◌, ◌*◌, ◌/◌, ◌%◌, ◌^◌, ◌<◌, refl, sym, ap, ◌∙◌, List, [], ◌∷◌, Option, Some, None, Bool, true, false, cond, eqb, eqb-true, leb-true, lit<, inl, inr, ⊎_elim, arith}
 use Rattle.std.specs.Prelude.{◌⊎◌, ◌&&◌, nat_le, nat_lt}
-use Rattle.std.specs.List.{list_all, find}
+use Rattle.std.specs.List.{list_all}
+use Rattle.std.specs.Map.{lookup}
 use Rattle.std.specs.Option.{option_map}
 use Rattle.std.proofs.lemmas.Bool.{ne_eqb}
 use borrow.Author.Tests.{ltb-true}
@@ -59,44 +60,34 @@ and_true false b e = cc
 abbrev pub has_codes : {A : Type 0} → (A → ℕ) → List (ℕ × A) → Bool
 has_codes code_of rows = list_all (λ row. eqb (code_of row.1) row.0) rows
 
--- so the instruction that a code finds has this code
-found_has : {A : Type 0} (code_of : A → ℕ) (rows : List (ℕ × A)) (code : ℕ) (op : A) → has_codes code_of rows ≡ true → row_at rows code ≡ Some op → code_of op ≡ code
-found_has code_of [] code op all e = cc
-found_has code_of (row ∷ rows) code op all e =
+-- so the instruction that a test finds has a code that passes it
+found_has : {A : Type 0} (code_of : A → ℕ) (test : ℕ → Bool) (rows : List (ℕ × A)) (op : A) → has_codes code_of rows ≡ true → lookup test rows ≡ Some op → test (code_of op) ≡ true
+found_has code_of test [] op all e = cc
+found_has code_of test (row ∷ rows) op all e =
     let parts = and_true (eqb (code_of row.1) row.0) (has_codes code_of rows) all in
-    elim (eqb row.0 code) as (λ b. eqb row.0 code ≡ b → cond b (Some row.1) (row_at rows code) ≡ Some op → code_of op ≡ code) [
-      true ↦ λ here e. let one = eqb-true (code_of row.1) row.0 parts.0 in let two = eqb-true row.0 code here in cc
-    | false ↦ λ there e. found_has code_of rows code op parts.1 e
-    ] refl e
+    ⊎_elim
+    (λ (h : (test row.0 ≡ true) × (row.1 ≡ op)). let code = eqb-true (code_of row.1) row.0 parts.0 in cc)
+    (λ (h : (test row.0 ≡ false) × (lookup test rows ≡ Some op)). found_has code_of test rows op parts.1 h.1)
+    (chosen (test row.0) row.1 op (lookup test rows) e)
 
 pub memory_of_found : (opcode : ℕ) (op : MemoryOp) → memory_at opcode ≡ Some op → memory_opcode op ≡ opcode
-memory_of_found opcode op e = found_has memory_opcode MEMORY_ROWS opcode op refl e
+memory_of_found opcode op e = eqb-true (memory_opcode op) opcode (found_has memory_opcode (λ code. eqb code opcode) MEMORY_ROWS op refl e)
 
 pub branch_of_found : (opcode : ℕ) (op : BranchOp) → branch_at opcode ≡ Some op → branch_opcode op ≡ opcode
-branch_of_found opcode op e = found_has branch_opcode BRANCH_ROWS opcode op refl e
+branch_of_found opcode op e = eqb-true (branch_opcode op) opcode (found_has branch_opcode (λ code. eqb code opcode) BRANCH_ROWS op refl e)
 
-pub operate_of_found : (opcode function : ℕ) (op : OperateOp) → function < 2 ^ 7 → operate_at opcode function ≡ Some op → ((operate_code op).0 ≡ opcode) × ((operate_code op).1 ≡ function)
-operate_of_found opcode function op below e =
-    let code = found_has (λ op. code_of operate_op.eq OPERATE_ROWS op) OPERATE_ROWS (opcode * 2 ^ 8 + function) op refl e in
-    (omega arith, omega arith)
+pub operate_of_found : (opcode function : ℕ) (op : OperateOp) → operate_at opcode function ≡ Some op → ((operate_code op).0 ≡ opcode) × ((operate_code op).1 ≡ function)
+operate_of_found opcode function op e =
+    let both = and_true _ _ (found_has (code_of operate_op.eq OPERATE_ROWS) (λ code. eqb (code / 2 ^ 8) opcode && eqb (code % 2 ^ 8) function) OPERATE_ROWS op refl e) in
+    (eqb-true (operate_code op).0 opcode both.0, eqb-true (operate_code op).1 function both.1)
 
--- the codes are from `low` to below `high`
-abbrev pub is_within : {A : Type 0} → ℕ → ℕ → List (ℕ × A) → Bool
-is_within low high rows = list_all (λ row. nat_le low row.0 && nat_lt row.0 high) rows
+-- an opcode and a function are one code
+one_code : (code opcode function : ℕ) → function < 2 ^ 8 → eqb code (opcode * 2 ^ 8 + function) ≡ (eqb (code / 2 ^ 8) opcode && eqb (code % 2 ^ 8) function)
+one_code code opcode function below = grind arith
 
--- and no other code finds a row
-outside : {A : Type 0} (low high code : ℕ) (rows : List (ℕ × A)) → is_within low high rows ≡ true → (code < low) ⊎ (high ≤ code) → row_at rows code ≡ None
-outside low high code [] all h = refl
-outside low high code (row ∷ rows) all h =
-    let parts = and_true (nat_le low row.0 && nat_lt row.0 high) (is_within low high rows) all in
-    let bounds = and_true (nat_le low row.0) (nat_lt row.0 high) parts.0 in
-    let above = leb-true low row.0 bounds.0 in
-    let below = ltb-true row.0 high bounds.1 in
-    let other : eqb row.0 code ≡ false = ne_eqb row.0 code (λ e. ⊎_elim (λ (a : code < low). omega arith) (λ (a : high ≤ code). omega arith) h) in
-    rw other (outside low high code rows parts.1 h)
+by_code : {A : Type 0} (rows : List (ℕ × A)) (opcode function : ℕ) → function < 2 ^ 8 → row_at rows (opcode * 2 ^ 8 + function) ≡ lookup (λ code. eqb (code / 2 ^ 8) opcode && eqb (code % 2 ^ 8) function) rows
+by_code [] opcode function below = refl
+by_code (row ∷ rows) opcode function below = rw (one_code row.0 opcode function below, by_code rows opcode function below) refl
 
--- opcodes 10 to 13 alone have rows of the operate format
-pub not_operate : (opcode function : ℕ) → function < 2 ^ 7 → (opcode < 0x10) ⊎ (0x14 ≤ opcode) → operate_at opcode function ≡ None
-not_operate opcode function below h =
-    outside 0x1000 0x1400 (opcode * 2 ^ 8 + function) OPERATE_ROWS refl
-    (⊎_elim (λ (a : opcode < 0x10). inl (omega arith)) (λ (a : 0x14 ≤ opcode). inr (omega arith)) h)
+pub operate_by_code : (opcode function : ℕ) → function < 2 ^ 8 → row_at OPERATE_ROWS (opcode * 2 ^ 8 + function) ≡ operate_at opcode function
+operate_by_code = by_code OPERATE_ROWS

@@ -75,7 +75,7 @@ second_spells n h rb e =
 operate_spells : (w : ℕ) (i : AlphaInstr) → w < 2 ^ 32 → with_both (operate_at (w / 2 ^ 26) (w / 2 ^ 5 % 128)) (second_at (w / 2 ^ 12 % 512)) (λ op rb. Operate op (w / 2 ^ 21 % 32) rb (w % 32)) ≡ Some i → Spells w i
 operate_spells w i h e =
     let f = with_both_of (operate_at (w / 2 ^ 26) (w / 2 ^ 5 % 128)) (second_at (w / 2 ^ 12 % 512)) (λ op rb. Operate op (w / 2 ^ 21 % 32) rb (w % 32)) i e in
-    let key = operate_of_found (w / 2 ^ 26) (w / 2 ^ 5 % 128) f.0 (omega arith) f.2 in
+    let key = operate_of_found (w / 2 ^ 26) (w / 2 ^ 5 % 128) f.0 f.2 in
     let opcode = key.0 in let function = key.1 in
     let second = second_spells (w / 2 ^ 12 % 512) (omega arith) f.1 f.3 in
     let field = second.1 in

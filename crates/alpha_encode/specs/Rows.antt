@@ -1,6 +1,6 @@
 -- The opcodes and functions of the instructions: the tables of src/tables.rt, read both ways.
 -- Alpha Architecture Reference Manual, appendix "Instruction Summary": a row for each instruction.
-use Rattle.std.specs.Prelude.{ℕ, Bool, ◌==◌, ◌*◌, ◌+◌, ◌/◌, ◌%◌, ◌^◌, List, Option}
+use Rattle.std.specs.Prelude.{ℕ, Bool, ◌==◌, ◌&&◌, ◌/◌, ◌%◌, ◌^◌, List, Option}
 use Rattle.std.specs.List.{find}
 use Rattle.std.specs.Map.{lookup}
 use Rattle.std.specs.Option.{option_map, unwrap_or}
@@ -37,7 +37,7 @@ branch_at opcode = row_at BRANCH_ROWS opcode
 
 -- operate format: the opcode in bits 15:8 of the code, and the function in 7:0
 abbrev pub operate_code : OperateOp → ℕ × ℕ
-operate_code op = (code_of operate_op.eq OPERATE_ROWS op / 2 ^ 8, code_of operate_op.eq OPERATE_ROWS op % 2 ^ 8)
+operate_code op = let code = code_of operate_op.eq OPERATE_ROWS op in (code / 2 ^ 8, code % 2 ^ 8)
 
 abbrev pub operate_at : ℕ → ℕ → Option OperateOp
-operate_at opcode function = row_at OPERATE_ROWS (opcode * 2 ^ 8 + function)
+operate_at opcode function = lookup (λ code. code / 2 ^ 8 == opcode && code % 2 ^ 8 == function) OPERATE_ROWS

@@ -45,7 +45,7 @@ fn read(word: u32) -> Option<AlphaInstr>
         let disp = signed_21(word % (1 << 21));
         return Some(AlphaInstr::Branch { op, ra, disp });
     }
-    if let Some(op) = operate_op(opcode * (1 << 8) + word / (1 << 5) % (1 << 7)) {
+    if let Some(op) = operate_op(opcode, word / (1 << 5) % (1 << 7)) {
         if let Some(rb) = second(word / (1 << 12) % (1 << 9)) {
             let rc = (word % (1 << 5)) as u8;
             return Some(AlphaInstr::Operate { op, ra, rb, rc });

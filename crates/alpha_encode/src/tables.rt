@@ -1,6 +1,6 @@
 // The rows of each format. A row's code is the discriminant in its enum.
-ghost use Rattle.std.specs.Prelude.{◌≡◌};
-ghost use Rattle.alpha_encode.specs.Rows.{memory_at, branch_at, row_at};
+ghost use Rattle.std.specs.Prelude.{◌≡◌, ◌^◌, ◌<◌};
+ghost use Rattle.alpha_encode.specs.Rows.{memory_at, branch_at, row_at, operate_at};
 
 use crate::instr::{BranchOp, MemoryOp, OperateOp};
 
@@ -62,8 +62,16 @@ pub fn branch_op(opcode: u32) -> Option<BranchOp>
 }
 
 /// Of the opcode in bits 15:8 and the function in 7:0.
-pub fn operate_op(code: u32) -> Option<OperateOp>
+fn operate_row(code: u32) -> Option<OperateOp>
     ensures { result ≡ row_at OPERATE_ROWS code }
 {
     operate_rows!(find code)
+}
+
+pub fn operate_op(opcode: u32, function: u32) -> Option<OperateOp>
+    requires opcode { opcode < 2 ^ 6 }
+    requires function { function < 2 ^ 7 }
+    ensures { result ≡ operate_at opcode function }
+{
+    operate_row(opcode * (1 << 8) + function)
 }
