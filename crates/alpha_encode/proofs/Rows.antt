@@ -1,11 +1,8 @@
 -- What holds of each row.
-use Rattle.std.proofs.Common.{◌≡◌, ℕ, ◌+◌, ◌*◌, ◌/◌, ◌%◌, ◌^◌, ◌<◌, refl, sym, ap, ◌∙◌, List, [], ◌∷◌, Option, Some, None, Bool, true, false, cond, eqb, eqb-true, leb-true, lit<, inl, inr, ⊎_elim, arith}
-use Rattle.std.specs.Prelude.{◌⊎◌, ◌&&◌, nat_le, nat_lt}
+use Rattle.std.proofs.Common.{◌≡◌, ℕ, ◌+◌, ◌*◌, ◌/◌, ◌%◌, ◌^◌, ◌<◌, refl, List, [], ◌∷◌, Option, Some, None, Bool, true, false, cond, eqb, eqb-true, lit<, inl, inr, ⊎_elim, arith}
+use Rattle.std.specs.Prelude.{◌⊎◌, ◌&&◌}
 use Rattle.std.specs.List.{list_all}
 use Rattle.std.specs.Map.{lookup}
-use Rattle.std.specs.Option.{option_map}
-use Rattle.std.proofs.lemmas.Bool.{ne_eqb}
-use borrow.Author.Tests.{ltb-true}
 use Rattle.alpha_encode.specs.declared.instr.MemoryOp.{MemoryOp}
 use Rattle.alpha_encode.specs.declared.instr.MemoryOp.TheVariants.{Lda}
 use Rattle.alpha_encode.specs.declared.instr.BranchOp.{BranchOp}
@@ -13,8 +10,6 @@ use Rattle.alpha_encode.specs.declared.instr.BranchOp.TheVariants.{Br}
 use Rattle.alpha_encode.specs.declared.instr.OperateOp.{OperateOp}
 use Rattle.alpha_encode.specs.declared.instr.OperateOp.TheVariants.{Addl}
 use Rattle.alpha_encode.specs.declared.tables.TheConstants.{MEMORY_ROWS, BRANCH_ROWS, OPERATE_ROWS}
-use Rattle.alpha_encode.specs.contracts.instr.MemoryOpPartialEq.TheImpl.{ghosts as memory_op}
-use Rattle.alpha_encode.specs.contracts.instr.BranchOpPartialEq.TheImpl.{ghosts as branch_op}
 use Rattle.alpha_encode.specs.contracts.instr.OperateOpPartialEq.TheImpl.{ghosts as operate_op}
 use Rattle.alpha_encode.specs.Rows.{row_at, code_of, memory_opcode, branch_opcode, operate_code, memory_at, branch_at, operate_at}
 

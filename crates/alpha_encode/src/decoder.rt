@@ -1,6 +1,5 @@
 // From a word to its instruction.
 ghost use Rattle.std.specs.Prelude.{◌≡◌, ◌^◌, ◌<◌, ◌≢◌, IfSome, IfNone};
-ghost use Rattle.alpha_encode.specs.Rows.{memory_at, branch_at, operate_at};
 ghost use Rattle.alpha_encode.specs.Words.{second_at, instr_at, signed_21, IsEncodable, word_of, Spells};
 
 use crate::instr::{AlphaInstr, Second};

@@ -1,6 +1,6 @@
-// Alpha instructions. Names are the manual's mnemonics.
+// Alpha instructions, a row each: the manual's mnemonic with its code. tables.rt names each row again.
 
-/// Memory format: loads, stores and load address. `L` behind the size is load-locked, `C` store conditional.
+/// Memory format: loads, stores and load address, with the opcode. `L` behind the size is load-locked, `C` store conditional.
 #[derive(Clone, Copy, PartialEq, Eq, Debug)]
 pub enum MemoryOp {
     Lda = 0x08,
@@ -16,7 +16,7 @@ pub enum MemoryOp {
     StqC = 0x2f,
 }
 
-/// Branch format.
+/// Branch format, with the opcode.
 #[derive(Clone, Copy, PartialEq, Eq, Debug)]
 pub enum BranchOp {
     Br = 0x30,
@@ -31,7 +31,7 @@ pub enum BranchOp {
     Bgt = 0x3f,
 }
 
-/// Operate format: integer arithmetic, logical, shift and byte instructions.
+/// Operate format: integer arithmetic, logical, shift and byte instructions. The manual's 10.2D, opcode and function, is `0x102d`.
 #[derive(Clone, Copy, PartialEq, Eq, Debug)]
 pub enum OperateOp {
     Addl = 0x1000,

@@ -1,53 +1,57 @@
-// The rows of each format. A row's code is the discriminant in its enum.
+// The tables of the formats: each row by its name. Its code is its discriminant in instr.rt.
 ghost use Rattle.std.specs.Prelude.{◌≡◌, ◌^◌, ◌<◌};
-ghost use Rattle.alpha_encode.specs.Rows.{memory_at, branch_at, row_at, operate_at};
+ghost use Rattle.alpha_encode.specs.Rows.{memory_at, branch_at, operate_at, row_at};
 
 use crate::instr::{BranchOp, MemoryOp, OperateOp};
 
-/// The rows of the memory format, by name.
+// A row is written in its enum and named once here: the specification and `decode` both read this
+// list, since a discriminant has no way back to its variant. A row that is missing here is refused
+// by the contract of `encode`.
+
+/// The memory format, for `rows!`.
 macro_rules! memory_rows {
-    ($($then:tt)*) => {
-        with_rows!($($then)*; MemoryOp; Lda Ldah LdqU Ldl Ldq LdlL LdqL Stl Stq StlC StqC)
+    ($($want:tt)*) => {
+        rows!($($want)*; MemoryOp; Lda Ldah LdqU Ldl Ldq LdlL LdqL Stl Stq StlC StqC)
     };
 }
 
-/// The rows of the branch format, by name.
+/// The branch format, for `rows!`.
 macro_rules! branch_rows {
-    ($($then:tt)*) => {
-        with_rows!($($then)*; BranchOp; Br Bsr Blbc Beq Blt Ble Blbs Bne Bge Bgt)
+    ($($want:tt)*) => {
+        rows!($($want)*; BranchOp; Br Bsr Blbc Beq Blt Ble Blbs Bne Bge Bgt)
     };
 }
 
-/// The rows of the operate format, by name.
+/// The operate format, for `rows!`: a line or more for each opcode.
 macro_rules! operate_rows {
-    ($($then:tt)*) => {
-        with_rows!(
-            $($then)*; OperateOp;
+    ($($want:tt)*) => {
+        rows!($($want)*; OperateOp;
             Addl Subl Cmpult Addq S4addq Subq Cmpeq S8addq Cmpule Cmplt Cmple
             And Bic Bis Cmoveq Cmovne Ornot Xor Eqv
-            Mskbl Extbl Insbl Mskwl Extwl Inswl Mskll Extll Insll Zap Zapnot Mskql Srl Extql Sll Insql Sra
-            Mskwh Inswh Extwh Msklh Inslh Extlh Mskqh Insqh Extqh
-            Mull Mulq Umulh
-        )
+            Mskbl Extbl Insbl Mskwl Extwl Inswl Mskll Extll Insll Zap Zapnot Mskql Srl Extql Sll
+            Insql Sra Mskwh Inswh Extwh Msklh Inslh Extlh Mskqh Insqh Extqh
+            Mull Mulq Umulh)
     };
 }
 
-/// All rows with their codes; or the row that has a code.
-macro_rules! with_rows {
-    (all; $type:ident; $($op:ident)*) => {
-        [$(($type::$op as u32, $type::$op)),*]
+/// `table`: the codes with their rows. `find code`: the row that has the code.
+macro_rules! rows {
+    (table; $type:ident; $($row:ident)*) => {
+        [$(($type::$row as u32, $type::$row)),*]
     };
-    (find $code:ident; $type:ident; $($op:ident)*) => {
+    (find $code:ident; $type:ident; $($row:ident)*) => {
         match $code {
-            $(code if code == $type::$op as u32 => Some($type::$op),)*
+            $(code if code == $type::$row as u32 => Some($type::$row),)*
             _ => None,
         }
     };
 }
 
-pub const MEMORY_ROWS: [(u32, MemoryOp); 11] = memory_rows!(all);
-pub const BRANCH_ROWS: [(u32, BranchOp); 10] = branch_rows!(all);
-pub const OPERATE_ROWS: [(u32, OperateOp); 48] = operate_rows!(all);
+pub const MEMORY_ROWS: [(u32, MemoryOp); 11] = memory_rows!(table);
+
+pub const BRANCH_ROWS: [(u32, BranchOp); 10] = branch_rows!(table);
+
+pub const OPERATE_ROWS: [(u32, OperateOp); 48] = operate_rows!(table);
 
 pub fn memory_op(opcode: u32) -> Option<MemoryOp>
     ensures { result ≡ memory_at opcode }
