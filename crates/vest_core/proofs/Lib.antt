@@ -13,3 +13,4 @@ pub mod Boundaries
 pub mod Sums
 pub mod Headlines
 pub mod Meanings
+pub mod Closed

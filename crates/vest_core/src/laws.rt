@@ -1,4 +1,5 @@
 //! The law of legal histories, for the crates above. Its functions do nothing.
+ghost use Rattle.vest_core.specs.Closed.{ClosedNeverInterprets};
 ghost use Rattle.vest_core.specs.Law.{LegalHasHeadline};
 ghost use Rattle.vest_core.specs.Meant.{VaxMeaningIsSound};
 
@@ -13,4 +14,9 @@ pub fn legal_has_headline()
 #[tactic(auto, using(crate::proofs::Meanings::vax_meaning_is_sound))]
 pub fn vax_meaning_is_sound()
     ensures { VaxMeaningIsSound }
+{}
+
+/// In closed code, with no ranges, and from starts in it, no processor comes to an instruction that is interpreted.
+pub fn closed_never_interprets()
+    ensures { ClosedNeverInterprets }
 {}
