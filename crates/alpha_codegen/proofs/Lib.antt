@@ -1,1 +1,5 @@
 pub mod Lists
+pub mod Numbers
+pub mod Walk
+pub mod Known
+pub mod Trees

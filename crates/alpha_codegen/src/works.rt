@@ -159,6 +159,7 @@ fn work_in(operation: Operation, instr: &Instr) -> Option<Work>
 }
 
 /// What the block of an instruction does, where it has one.
+#[tactic(auto, unfolding(crate::specs::HasBlock::work_of))]
 pub(crate) fn work_of(instr: &Instr) -> Option<Work>
     ensures { result ≡ work_of instr.now }
 {
