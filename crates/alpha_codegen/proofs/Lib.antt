@@ -5,3 +5,7 @@ pub mod Known
 pub mod Trees
 pub mod Constants
 pub mod Moving
+pub mod Boundaries
+pub mod Standing
+pub mod Shapes
+pub mod Made
