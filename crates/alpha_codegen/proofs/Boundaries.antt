@@ -20,7 +20,8 @@ use Rattle.alpha_codegen.specs.declared.works.Destination.{Destination}
 use Rattle.alpha_codegen.specs.declared.works.Destination.TheVariants as destinations
 use Rattle.alpha_codegen.proofs.Numbers.{extended_low, extended_again}
 use Rattle.alpha_codegen.proofs.Walk.{put_sets}
-use Rattle.alpha_codegen.proofs.Moving.{FitsDestination, stored, coded, committed}
+use Rattle.alpha_codegen.specs.HasBlock.{FitsDestination}
+use Rattle.alpha_codegen.proofs.Moving.{stored, coded, committed}
 
 differs : (n k : ℕ) → n < k → (n == k) ≡ false
 differs n k lt = ne_eqb n k (λ (e : n ≡ k). absurd (omega arith))

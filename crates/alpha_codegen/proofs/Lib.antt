@@ -9,3 +9,5 @@ pub mod Boundaries
 pub mod Standing
 pub mod Shapes
 pub mod Made
+pub mod Compiled
+pub mod Forms

@@ -23,7 +23,7 @@ use Rattle.alpha_codegen.specs.declared.works.Destination.TheVariants as destina
 use Rattle.alpha_codegen.specs.declared.works.Work.{Work}
 use Rattle.alpha_codegen.specs.declared.works.Work.TheVariants.{Move, Serve}
 use Rattle.alpha_codegen.specs.Words.{plain, marked, point_of, halves, longword, place, source_lines, store_lines, code_lines, commit_lines, move_lines, service_lines, lines_of, words_of, quiet_words, points_from, block_of, high_half, low_half}
-use Rattle.alpha_codegen.proofs.Moving.{FitsSource, FitsDestination}
+use Rattle.alpha_codegen.specs.HasBlock.{FitsSource, FitsDestination}
 use Rattle.alpha_codegen.proofs.Shapes.{IsPoint, EachLine, each_append, block_stands, rules_ready}
 
 -- ---- tidy

@@ -30,21 +30,12 @@ use Rattle.alpha_codegen.specs.declared.works.Source.TheVariants as sources
 use Rattle.alpha_codegen.specs.declared.works.Source.TheVariants.{Constant}
 use Rattle.alpha_codegen.specs.declared.works.Destination.{Destination}
 use Rattle.alpha_codegen.specs.declared.works.Destination.TheVariants as destinations
+use Rattle.alpha_codegen.specs.HasBlock.{FitsSource, FitsDestination}
 use Rattle.alpha_codegen.specs.Words.{plain, marked, point_of, source_lines, store_lines, code_lines, commit_lines}
 use Rattle.alpha_codegen.proofs.Numbers.{of_low, extended_low, extended_sum, sign_bit, zero_test}
 use Rattle.alpha_codegen.proofs.Walk.{Within, Sets, put_sets, next, stands, onward, sets_one, quad_allowed, loads, saves}
 use Rattle.alpha_codegen.proofs.Constants.{is_free, set_free, shown_at, longword_set, place_set}
 use Rattle.alpha_codegen.proofs.Trees.{value_tree, store_tree}
-
--- the numbers fit what they stand for
-abbrev pub FitsSource : Source → Type 0
-FitsSource (Constant value) = value < 2 ^ 32
-FitsSource (sources.Register n) = n < 15
-FitsSource (sources.Longword address) = (address < 2 ^ 32) × (address % 4 ≡ 0)
-
-abbrev pub FitsDestination : Destination → Type 0
-FitsDestination (destinations.Register n) = n < 15
-FitsDestination (destinations.Longword address) = (address < 2 ^ 32) × (address % 4 ≡ 0)
 
 -- the state behind the store
 abbrev pub stored : Destination → (value : ℕ) → VaxState → VaxState

@@ -24,7 +24,7 @@ use Rattle.alpha_codegen.specs.declared.works.Work.{Work}
 use Rattle.alpha_codegen.specs.declared.works.Work.TheVariants.{Move, Serve}
 use Rattle.alpha_codegen.specs.Words.{words_of, quiet, quiet_words, with_point, points_from, block_of, lines_of, high_half, low_half}
 use Rattle.alpha_codegen.proofs.Known.{some_same}
-use Rattle.alpha_codegen.proofs.Moving.{FitsSource, FitsDestination}
+use Rattle.alpha_codegen.specs.HasBlock.{FitsSource, FitsDestination}
 use Rattle.alpha_codegen.proofs.Standing.{word_at_line, words_length, no_exit}
 
 -- ---- lines one by one

@@ -1,6 +1,6 @@
 -- Which instructions have a block, and what it does.
 -- VAX Architecture Reference Manual, "Operand Specifiers": literal, immediate, register and absolute mode.
-use Rattle.std.specs.Prelude.{ℕ, ◌%◌, ◌^◌, ◌==◌, ◌&&◌, ◌||◌, not, nat_lt, Bool, true, false, List, drop, Option, Some, None, if◌then◌else◌}
+use Rattle.std.specs.Prelude.{◌≡◌, ℕ, ◌<◌, ◌%◌, ◌^◌, ◌==◌, ◌&&◌, ◌||◌, not, nat_lt, Bool, true, false, List, drop, Option, Some, None, if◌then◌else◌}
 use Rattle.std.specs.List.{list_all}
 use Rattle.std.specs.Option.{is_some, is_none}
 use Rattle.vax_form.specs.Operation.{operation_at}
@@ -64,6 +64,16 @@ destination_of (Place base index) = longword_destination (longword_place base in
 destination_of Unused = None
 destination_of (Target address) = None
 
+-- the numbers fit what they stand for
+abbrev pub FitsSource : Source → Type 0
+FitsSource (Constant value) = value < 2 ^ 32
+FitsSource (sources.Register n) = n < 15
+FitsSource (sources.Longword address) = (address < 2 ^ 32) × (address % 4 ≡ 0)
+
+abbrev pub FitsDestination : Destination → Type 0
+FitsDestination (destinations.Register n) = n < 15
+FitsDestination (destinations.Longword address) = (address < 2 ^ 32) × (address % 4 ≡ 0)
+
 -- ---- instructions
 -- CHMK: the services 1, which ends the thread, and 2, which puts out a byte
 abbrev pub service_of : Operand → Option Work
@@ -77,6 +87,10 @@ abbrev pub moved : Option Source → Option Destination → Option Work
 moved None destination = None
 moved (Some source) None = None
 moved (Some source) (Some destination) = Some (Move source destination)
+
+abbrev pub FitsWork : Work → Type 0
+FitsWork (Move source destination) = FitsSource source × FitsDestination destination
+FitsWork (Serve code) = code < 256
 
 -- MOVL
 abbrev pub move_of : (source destination : Operand) → Option Work

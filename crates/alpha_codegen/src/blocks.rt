@@ -1,5 +1,5 @@
 // The block of an instruction.
-ghost use Rattle.std.specs.Prelude.{◌≡◌, All, IfOk, true};
+ghost use Rattle.std.specs.Prelude.{◌≡◌, ◌<◌, ◌^◌, All, IfOk, true};
 ghost use Rattle.exception_records.specs.Codes.{all_ready};
 ghost use Rattle.block_law.specs.Blocks.{IsBlockOf};
 ghost use Rattle.alpha_codegen.specs.HasBlock.{has_block, work_of};
@@ -46,11 +46,12 @@ fn lines_of(alloc: Global, at: u32, after: u32, work: Work) -> Result<Vec<Line>,
     }
 }
 
-fn block_in(alloc: Global, instr: &Instr, work: Work) -> Result<Block, AllocError>
-    ensures { IfOk result (λ block. block ≡ block_of (lines_of instr.now.at instr.now.after work) instr.now.after) }
+fn block_in(alloc: Global, at: u32, after: u32, work: Work) -> Result<Block, AllocError>
+    ensures block { IfOk result (λ block. block ≡ block_of (lines_of at after work) after) }
+    ensures fits { after < 2 ^ 32 }
 {
-    let lines = lines_of(alloc, instr.at, instr.after, work)?;
-    block_of(alloc, &lines, instr.after)
+    let lines = lines_of(alloc, at, after, work)?;
+    block_of(alloc, &lines, after)
 }
 
 /// The block of an instruction that has one.
@@ -66,7 +67,7 @@ pub fn block(alloc: Global, instr: &Instr) -> Result<Block, WantOfMemory>
     ensures means { IfOk result (Compiles instr.now) }
 {
     match work_of(instr) {
-        Some(work) => block_in(alloc, instr, work).map_err(|_| WantOfMemory),
+        Some(work) => block_in(alloc, instr.at, instr.after, work).map_err(|_| WantOfMemory),
         None => unreachable!(),
     }
 }

@@ -1,6 +1,6 @@
 // Which instructions have a block, and what it does.
-ghost use Rattle.std.specs.Prelude.{◌≡◌};
-ghost use Rattle.alpha_codegen.specs.HasBlock.{is_unused, has_operands, longword_place, source_of, destination_of, service_of, move_of, clear_of, work_in, work_of, has_block, ends_thread};
+ghost use Rattle.std.specs.Prelude.{◌≡◌, ◌<◌, ◌%◌, ◌^◌, IfSome};
+ghost use Rattle.alpha_codegen.specs.HasBlock.{is_unused, has_operands, longword_place, source_of, destination_of, service_of, FitsSource, FitsDestination, FitsWork, move_of, clear_of, work_in, work_of, has_block, ends_thread};
 
 use vax_form::{Base, Instr, Operand, Operation, Size, operation_of};
 
@@ -47,7 +47,8 @@ fn has_operands(instr: &Instr, count: usize) -> bool
 
 // The address of an absolute operand that is a multiple of 4.
 fn longword_place(base: Base, index: Option<u8>) -> Option<u32>
-    ensures { result ≡ longword_place base index }
+    ensures value { result ≡ longword_place base index }
+    ensures fits { IfSome result (λ address. (address < 2 ^ 32) × (address % 4 ≡ 0)) }
 {
     match base {
         Base::Fixed { address, deferred } => {
@@ -62,7 +63,8 @@ fn longword_place(base: Base, index: Option<u8>) -> Option<u32>
 }
 
 fn source_of(operand: Operand) -> Option<Source>
-    ensures { result ≡ source_of operand }
+    ensures value { result ≡ source_of operand }
+    ensures fits { IfSome result FitsSource }
 {
     match operand {
         Operand::Value(value) => Some(Source::Constant((value % (1 << 32)) as u32)),
@@ -79,7 +81,8 @@ fn source_of(operand: Operand) -> Option<Source>
 }
 
 fn destination_of(operand: Operand) -> Option<Destination>
-    ensures { result ≡ destination_of operand }
+    ensures value { result ≡ destination_of operand }
+    ensures fits { IfSome result FitsDestination }
 {
     match operand {
         Operand::Register(n) => {
@@ -96,7 +99,8 @@ fn destination_of(operand: Operand) -> Option<Destination>
 
 // EXIT and PUT.
 fn service_of(operand: Operand) -> Option<Work>
-    ensures { result ≡ service_of operand }
+    ensures value { result ≡ service_of operand }
+    ensures fits { IfSome result FitsWork }
 {
     match operand {
         Operand::Value(code) => {
@@ -111,7 +115,8 @@ fn service_of(operand: Operand) -> Option<Work>
 }
 
 fn move_of(source: Operand, destination: Operand) -> Option<Work>
-    ensures { result ≡ move_of source destination }
+    ensures value { result ≡ move_of source destination }
+    ensures fits { IfSome result FitsWork }
 {
     Some(Work::Move {
         source: source_of(source)?,
@@ -120,7 +125,8 @@ fn move_of(source: Operand, destination: Operand) -> Option<Work>
 }
 
 fn clear_of(destination: Operand) -> Option<Work>
-    ensures { result ≡ clear_of destination }
+    ensures value { result ≡ clear_of destination }
+    ensures fits { IfSome result FitsWork }
 {
     Some(Work::Move {
         source: Source::Constant(0),
@@ -129,7 +135,8 @@ fn clear_of(destination: Operand) -> Option<Work>
 }
 
 fn work_in(operation: Operation, instr: &Instr) -> Option<Work>
-    ensures { result ≡ work_in operation instr.now }
+    ensures value { result ≡ work_in operation instr.now }
+    ensures fits { IfSome result FitsWork }
 {
     let [first, second, _, _, _, _] = instr.operands;
     match operation {
@@ -161,7 +168,8 @@ fn work_in(operation: Operation, instr: &Instr) -> Option<Work>
 /// What the block of an instruction does, where it has one.
 #[tactic(auto, unfolding(crate::specs::HasBlock::work_of))]
 pub(crate) fn work_of(instr: &Instr) -> Option<Work>
-    ensures { result ≡ work_of instr.now }
+    ensures value { result ≡ work_of instr.now }
+    ensures fits { IfSome result FitsWork }
 {
     work_in(operation_of(instr.opcode)?, instr)
 }
