@@ -1,5 +1,5 @@
 -- The registers behind an instruction are in form, and show the state that it leaves.
-use Rattle.std.proofs.Common.{◌≡◌, ℕ, ◌+◌, ◌-◌, ◌*◌, ◌/◌, ◌%◌, ◌^◌, ◌<◌, ◌≤◌, refl, sym, ap, ◌∙◌, subst, arith, List, Bool, true, false, eq-eqb, ne_eqb, eqb-true, lit<, lit≤}
+use Rattle.std.proofs.Common.{◌≡◌, ℕ, ◌+◌, ◌*◌, ◌/◌, ◌%◌, ◌^◌, ◌<◌, ◌≤◌, refl, sym, ap, ◌∙◌, subst, arith, List, Bool, true, false, eq-eqb, ne_eqb, eqb-true, lit<, lit≤}
 use Rattle.std.specs.Prelude.{◌==◌, nat_le, slice_set}
 use Rattle.std.proofs.Math.Nat.{mod-eq_of_lt}
 use Rattle.vt_words.specs.Quad.{sign_extended}
@@ -15,7 +15,7 @@ use Rattle.exception_records.specs.Codes.{all_ready}
 use Rattle.exception_records.specs.Shown.{registers_shown, psw_shown, is_set, Shows}
 use Rattle.block_law.specs.Placements.{Placement, InForm, state_shown, state_behind}
 use Rattle.block_law.specs.Tidy.{is_kept}
-use Rattle.block_law.proofs.Kept.{registers_kept, psw_kept, form_kept, registers_put, psw_put}
+use Rattle.block_law.proofs.Kept.{registers_kept, psw_kept, registers_put, psw_put}
 use Rattle.alpha_codegen.specs.declared.works.Destination.{Destination}
 use Rattle.alpha_codegen.specs.declared.works.Destination.TheVariants as destinations
 use Rattle.alpha_codegen.proofs.Numbers.{extended_low, extended_again}
@@ -137,7 +137,7 @@ module _ (p : Placement) (address after : ℕ) (held : Flags) (state : VaxState)
   behind_result v (destinations.Register n) g lt fits same =
       let low : v % 2 ^ 32 ≡ sign_extended v 32 % 2 ^ 32 = mod-eq_of_lt lt ∙ sym (extended_low v lt) in
       let r : slice_set state.r n (v % 2 ^ 32) ≡ registers_shown (put (coded v g) n (sign_extended v 32)) =
-          ap (λ (xs : List ℕ). slice_set xs n (v % 2 ^ 32)) (sym (r_coded v g lt same)) ∙ (ap (slice_set (registers_shown (coded v g)) n) low ∙ sym (registers_put (coded v g) n (sign_extended v 32) fits)) in
+      ap (λ (xs : List ℕ). slice_set xs n (v % 2 ^ 32)) (sym (r_coded v g lt same)) ∙ (ap (slice_set (registers_shown (coded v g)) n) low ∙ sym (registers_put (coded v g) n (sign_extended v 32) fits)) in
       ap (λ (xs : List ℕ). with_core state xs after (with_result Long v state).psw) r
       ∙ ap (with_core state (registers_shown (put (coded v g) n (sign_extended v 32))) after) (psw_coded v g lt same held ∙ sym (psw_put (coded v g) n (sign_extended v 32) all_ready held fits))
   behind_result v (destinations.Longword a) g lt fits same =
@@ -155,5 +155,5 @@ pub behind_service : (p : Placement) (after value : ℕ) (g : Regs) → value < 
     → with_register 0 value (state_shown p g after all_ready p.held) ≡ state_behind p (put g 0 (sign_extended value 32)) after all_ready
 behind_service p after value g lt =
     let r : slice_set (registers_shown g) 0 value ≡ registers_shown (put g 0 (sign_extended value 32)) =
-        ap (slice_set (registers_shown g) 0) (sym (extended_low value lt)) ∙ sym (registers_put g 0 (sign_extended value 32) (lit< tt)) in
+    ap (slice_set (registers_shown g) 0) (sym (extended_low value lt)) ∙ sym (registers_put g 0 (sign_extended value 32) (lit< tt)) in
     ap (λ (xs : List ℕ). with_core p.begun xs after (psw_shown g all_ready p.held)) r

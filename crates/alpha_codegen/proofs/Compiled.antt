@@ -1,6 +1,6 @@
 -- The blocks that are made follow the trees of their instructions.
-use Rattle.std.proofs.Common.{◌≡◌, ℕ, ◌+◌, ◌-◌, ◌*◌, ◌/◌, ◌%◌, ◌^◌, ◌<◌, ◌≤◌, refl, sym, ap, ◌∙◌, subst, arith, inl, inr, List, [], ◌∷◌, ◌++◌, length, Option, Some, None, Bool, true, false, lit<, lit≤}
-use Rattle.std.specs.Prelude.{◌⊎◌, ◌==◌, pos}
+use Rattle.std.proofs.Common.{◌≡◌, ℕ, ◌+◌, ◌%◌, ◌^◌, ◌<◌, ◌≤◌, refl, sym, ap, ◌∙◌, subst, arith, inl, inr, [], ◌∷◌, ◌++◌, length, None, false, lit<, lit≤}
+use Rattle.std.specs.Prelude.{◌⊎◌, pos}
 use Rattle.std.specs.Int.{cast_unsigned, w64}
 use Rattle.std.proofs.Math.Nat.{mod-eq_of_lt}
 use Rattle.std.proofs.lemmas.List.{append_assoc}
@@ -10,10 +10,8 @@ use Rattle.vax_form.specs.GrammarFound.{found}
 use Rattle.vax_form.specs.State.{with_register, with_pc}
 use Rattle.vax_form.specs.Tree.{Tree, Ends, Finish, Same, instruction_tree}
 use Rattle.vax_form.specs.declared.instr.Instr.{Instr}
-use Rattle.vax_form.specs.declared.instr.Size.TheVariants.{Long}
 use Rattle.vax_form.specs.declared.state.Flags.{Flags}
 use Rattle.vax_form.specs.declared.state.VaxState.{VaxState}
-use Rattle.vax_meaning.specs.Codes.{with_result}
 use Rattle.vax_meaning.specs.Control.{serve}
 use Rattle.alpha_encode.specs.declared.instr.AlphaInstr.TheVariants.{Memory, Pal}
 use Rattle.alpha_encode.specs.declared.instr.MemoryOp.TheVariants.{Lda}
@@ -25,23 +23,21 @@ use Rattle.exception_records.specs.Codes.{all_ready}
 use Rattle.exception_records.specs.Shown.{Shows}
 use Rattle.block_law.specs.Placements.{Placement, InForm, state_shown, target}
 use Rattle.block_law.specs.Follows.{Follows}
-use Rattle.block_law.specs.Tidy.{is_kept}
 use Rattle.block_law.specs.Translations.{Meaning, Code, placed, block_steps}
-use Rattle.block_law.specs.Blocks.{Stands, ExitsLead}
 use Rattle.block_law.proofs.Blocks.{same_refl}
 use Rattle.block_law.proofs.Kept.{form_kept}
-use Rattle.block_law.proofs.Rules.{Always, roomy, serves}
+use Rattle.block_law.proofs.Rules.{Always, serves}
 use Rattle.alpha_codegen.specs.declared.lines.Line.{Line}
 use Rattle.alpha_codegen.specs.declared.works.Source.{Source}
 use Rattle.alpha_codegen.specs.declared.works.Destination.{Destination}
 use Rattle.alpha_codegen.specs.declared.works.Work.{Work}
 use Rattle.alpha_codegen.specs.declared.works.Work.TheVariants.{Move, Serve}
 use Rattle.alpha_codegen.specs.HasBlock.{FitsSource, FitsDestination, FitsWork}
-use Rattle.alpha_codegen.specs.Words.{plain, marked, point_of, halves, source_lines, store_lines, code_lines, commit_lines, move_lines, service_lines, lines_of, block_of}
+use Rattle.alpha_codegen.specs.Words.{marked, point_of, halves, source_lines, store_lines, code_lines, commit_lines, move_lines, service_lines, lines_of, block_of}
 use Rattle.alpha_codegen.specs.Promises.{MeansVax, Compiles}
 use Rattle.alpha_codegen.proofs.Numbers.{extended_again}
 use Rattle.alpha_codegen.proofs.Walk.{Within, next, stands, onward, sets_one}
-use Rattle.alpha_codegen.proofs.Known.{IsMove, IsClear, IsService, IsWork}
+use Rattle.alpha_codegen.proofs.Known.{IsService, IsWork}
 use Rattle.alpha_codegen.proofs.Trees.{finished, store_tree, move_tree, moves_tree, service_tree}
 use Rattle.alpha_codegen.proofs.Constants.{is_free, set_free, kept_same, halves_set}
 use Rattle.alpha_codegen.proofs.Moving.{stored, committed, source_read, store_made, codes_given, commit_made}
@@ -87,8 +83,8 @@ module _ (meaning : Meaning) (means : MeansVax meaning) (code : Code) (first thr
     moved_all : Within P to first (move_lines instr.at s d) → Always P 17 (at_place regs first) (move_tree s d instr.after state)
     moved_all w =
         let order : move_lines instr.at s d ≡ source_lines instr.at s ++ (store_lines instr.at d ++ (code_lines ++ commit_lines d)) =
-            append_assoc (source_lines instr.at s ++ store_lines instr.at d) code_lines (commit_lines d)
-            ∙ append_assoc (source_lines instr.at s) (store_lines instr.at d) (code_lines ++ commit_lines d) in
+        append_assoc (source_lines instr.at s ++ store_lines instr.at d) code_lines (commit_lines d)
+        ∙ append_assoc (source_lines instr.at s) (store_lines instr.at d) (code_lines ++ commit_lines d) in
         source_read P to (λ kind bytes. means.kinds state.pc kind bytes) 12 first instr.at s (store_lines instr.at d ++ (code_lines ++ commit_lines d)) regs state
         (λ value. store_tree d (value % 2 ^ 32) state (finished instr.after (value % 2 ^ 32))) fits form.zero (r_shown P instr.at instr.after held state regs shows)
         (subst (Within P to first) order w)
@@ -107,7 +103,7 @@ module _ (meaning : Meaning) (means : MeansVax meaning) (code : Code) (first thr
         let same = kept_same regs g only in
         let g_form = form_kept regs g same (only 31 refl) form in
         let ends : with_register 0 value (state_shown P g (target g) all_ready held) ≡ state_shown P (put g 0 (sign_extended value 32)) instr.after all_ready held =
-            ap (λ x. with_register 0 value (state_shown P g x all_ready held)) low ∙ behind_service P instr.after value g small in
+        ap (λ x. with_register 0 value (state_shown P g x all_ready held)) low ∙ behind_service P instr.after value g small in
         subst (λ (x : VaxState). Follows P n Plain spare (at_place (put g 0 (sign_extended value 32)) to) (Ends (Finish x))) (sym ends)
         (leads n spare (put g 0 (sign_extended value 32)) room (form_register g 0 (sign_extended value 32) (lit< tt) (extended_again value small) g_form))
 
@@ -119,11 +115,11 @@ module _ (meaning : Meaning) (means : MeansVax meaning) (code : Code) (first thr
         let ends = w.ends in
         let there : to ≡ q + 1 = omega arith in
         let shown : state_shown P g (target g) all_ready held ≡ with_pc instr.after state =
-            ap (λ x. state_shown P g x all_ready held) low ∙ sym (at_service P instr.at instr.after held state regs shows g same) in
+        ap (λ x. state_shown P g x all_ready held) low ∙ sym (at_service P instr.at instr.after held state regs shows g same) in
         let tree : P.serve (g 21 % 2 ^ 16) (state_shown P g (target g) all_ready held) ≡ Served =
-            means.serve thread (g 21 % 2 ^ 16) (state_shown P g (target g) all_ready held)
-            ∙ (ap (λ x. instruction_tree meaning.pages (serve x thread) (state_shown P g (target g) all_ready held)) number_is
-            ∙ ap (λ (x : VaxState). instruction_tree meaning.pages (serve number thread) x) shown) in
+        means.serve thread (g 21 % 2 ^ 16) (state_shown P g (target g) all_ready held)
+        ∙ (ap (λ x. instruction_tree meaning.pages (serve x thread) (state_shown P g (target g) all_ready held)) number_is
+        ∙ ap (λ (x : VaxState). instruction_tree meaning.pages (serve number thread) x) shown) in
         serves P 3 (at_place g q) Served (point_of instr.at false) (stands P to q call [] w) w.has.1 (onward P to q call [] w) (form_kept regs g same (only 31 refl) form)
         (subst (Same Served) (sym tree) (same_refl Served))
         (λ value small. subst (λ x. Always P 3 (at_place (put g 0 (sign_extended value 32)) x) (Ends (Finish (with_register 0 value (state_shown P g (target g) all_ready held))))) there
@@ -138,7 +134,7 @@ module _ (meaning : Meaning) (means : MeansVax meaning) (code : Code) (first thr
         (λ g1 s1.
         let zero : g1 31 ≡ 0 = s1.others 31 refl ∙ form.zero in
         let loaded : g1 21 % 2 ^ 16 ≡ number =
-            ap (λ x. x % 2 ^ 16) s1.set ∙ (ap (λ x. plus x (times (cast_unsigned w64 (pos number)) 1) % 2 ^ 16) form.zero ∙ code_loaded number service.known) in
+        ap (λ x. x % 2 ^ 16) s1.set ∙ (ap (λ x. plus x (times (cast_unsigned w64 (pos number)) 1) % 2 ^ 16) form.zero ∙ code_loaded number service.known) in
         halves_set P to 4 (first + 1) 26 instr.after None (call ∷ []) g1 Served refl lt zero (next P to first line rest w)
         (λ g2 only low w2. called (first + 1 + 1 + 1) g2 (only_then is_free regs g1 g2 (set_free 21 regs g1 refl s1.others) (set_free 26 g1 g2 refl only)) low
         (ap (λ x. x % 2 ^ 16) (only 21 refl) ∙ loaded) w2))

@@ -1,43 +1,30 @@
 -- Registers that are free in a block, and constants in them, with whatever comes behind.
-use Rattle.std.proofs.Common.{◌≡◌, ℕ, zero, suc, ◌+◌, ◌-◌, ◌*◌, ◌/◌, ◌%◌, ◌^◌, ◌<◌, ◌≤◌, refl, sym, ap, ◌∙◌, subst, arith, inl, inr, List, [], ◌∷◌, ◌++◌, length, Option, Some, None, Bool, true, false, cond, eqb, eqb-true, eq-eqb, ne_eqb}
-use Rattle.std.specs.Prelude.{◌⊎◌, ◌==◌, ◌&&◌, nat_lt, nat_le, pos, slice_set, slice_index, bit_or}
+use Rattle.std.proofs.Common.{◌≡◌, ℕ, ◌+◌, ◌%◌, ◌^◌, ◌<◌, refl, sym, ap, ◌∙◌, subst, arith, List, ◌∷◌, ◌++◌, Option, None, Bool, true, false, cond, eqb-true, eq-eqb, ne_eqb}
+use Rattle.std.specs.Prelude.{◌==◌, ◌&&◌, nat_lt, nat_le, slice_index}
 use Rattle.std.specs.Int.{cast_unsigned, w64}
 use Rattle.std.proofs.lemmas.Bool.Decides.{nat_tests}
-use Rattle.std.proofs.lemmas.Nat.{mod_below, pow_pos}
 use Rattle.std.proofs.lemmas.List.{get_or-set_same}
-use Rattle.std.proofs.Math.Nat.{mod-eq_of_lt}
 use Rattle.vt_words.specs.Quad.{sign_extended}
-use Rattle.vax_form.specs.Pages.{first_bad}
-use Rattle.vax_form.specs.State.{register, with_register}
-use Rattle.vax_form.specs.Tree.{Tree, Check, Ask}
-use Rattle.vax_form.specs.declared.state.VaxState.{VaxState}
-use Rattle.alpha_encode.specs.declared.instr.AlphaInstr.{AlphaInstr}
-use Rattle.alpha_encode.specs.declared.instr.AlphaInstr.TheVariants.{Memory, Operate, Pal}
-use Rattle.alpha_encode.specs.declared.instr.MemoryOp.TheVariants.{Lda, Ldah, Ldl, Stl}
-use Rattle.alpha_encode.specs.declared.instr.OperateOp.TheVariants.{Addl, Zapnot, Srl, Cmpeq, Bis}
+use Rattle.vax_form.specs.Tree.{Tree}
+use Rattle.alpha_encode.specs.declared.instr.AlphaInstr.TheVariants.{Memory, Operate}
+use Rattle.alpha_encode.specs.declared.instr.MemoryOp.TheVariants.{Lda, Ldah}
+use Rattle.alpha_encode.specs.declared.instr.OperateOp.TheVariants.{Addl, Zapnot}
 use Rattle.alpha_encode.specs.declared.instr.Second.TheVariants as seconds
 use Rattle.alpha_encode.specs.declared.instr.Second.TheVariants.{Literal}
-use Rattle.alpha_meaning.specs.declared.access.AlphaKind.{AlphaKind}
 use Rattle.alpha_meaning.specs.State.{Regs, put, at_place}
 use Rattle.alpha_meaning.specs.Pieces.{Only}
-use Rattle.alpha_meaning.specs.Result.{plus, times, one_if}
+use Rattle.alpha_meaning.specs.Result.{plus, times}
 use Rattle.alpha_meaning.proofs.Rules.{only_then}
 use Rattle.exception_records.specs.Shown.{registers_shown}
 use Rattle.exception_records.specs.declared.points.Point.{Point}
-use Rattle.block_law.specs.Placements.{Placement, InForm}
+use Rattle.block_law.specs.Placements.{Placement}
 use Rattle.block_law.specs.Tidy.{is_kept}
 use Rattle.block_law.proofs.Kept.{registers_kept, registers_put}
-use Rattle.block_law.proofs.Rules.{Always, goes, roomy, probes}
+use Rattle.block_law.proofs.Rules.{Always}
 use Rattle.alpha_codegen.specs.declared.lines.Line.{Line}
-use Rattle.alpha_codegen.specs.declared.works.Source.{Source}
-use Rattle.alpha_codegen.specs.declared.works.Source.TheVariants as sources
-use Rattle.alpha_codegen.specs.declared.works.Source.TheVariants.{Constant}
-use Rattle.alpha_codegen.specs.declared.works.Destination.{Destination}
-use Rattle.alpha_codegen.specs.declared.works.Destination.TheVariants as destinations
-use Rattle.alpha_codegen.specs.Words.{high_half, low_half, halves, longword, place, source_lines, store_lines, code_lines, commit_lines}
-use Rattle.alpha_codegen.proofs.Numbers.{halves_join, of_low, low_kept, extended_low, extended_again, extended_sum, sign_bit, zero_test}
-use Rattle.alpha_codegen.proofs.Walk.{Within, Sets, next, stands, onward, sets_one, quad_allowed, loads, saves}
-use Rattle.alpha_codegen.proofs.Trees.{value_tree, store_tree}
+use Rattle.alpha_codegen.specs.Words.{high_half, low_half, halves, longword, place}
+use Rattle.alpha_codegen.proofs.Numbers.{halves_join, of_low, low_kept}
+use Rattle.alpha_codegen.proofs.Walk.{Within, Sets, next, sets_one}
 
 -- ---- registers
 -- R21 to R27 are free in a block

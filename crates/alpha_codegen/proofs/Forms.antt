@@ -1,12 +1,9 @@
 -- From what a callee ensures where it succeeds, and what a block promises by what it does.
-use Rattle.std.proofs.Common.{◌≡◌, ℕ, ◌+◌, ◌-◌, ◌*◌, ◌%◌, ◌^◌, ◌<◌, ◌≤◌, refl, sym, subst, arith, Result, Ok, Err}
+use Rattle.std.proofs.Common.{◌≡◌, ℕ, ◌^◌, ◌<◌, arith, Result, Ok, Err}
 use Rattle.std.specs.Prelude.{All, IfOk}
-use Rattle.std.proofs.lemmas.List.Elements.{All-cons, All-nil}
-use Rattle.vax_form.specs.declared.instr.Instr.{Instr}
-use Rattle.exception_records.specs.Blocks.{BlockValue}
 use Rattle.exception_records.specs.Codes.{all_ready}
 use Rattle.exception_records.specs.Points.{Entry}
-use Rattle.block_law.specs.Blocks.{Exit, IsBlockOf}
+use Rattle.block_law.specs.Blocks.{IsBlockOf}
 use Rattle.alpha_codegen.specs.declared.works.Work.{Work}
 use Rattle.alpha_codegen.specs.declared.works.Work.TheVariants.{Move, Serve}
 use Rattle.alpha_codegen.specs.HasBlock.{FitsWork}

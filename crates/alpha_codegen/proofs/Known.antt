@@ -1,5 +1,5 @@
 -- What is known of an instruction by what its block does.
-use Rattle.std.proofs.Common.{◌≡◌, ℕ, zero, suc, ◌%◌, ◌^◌, ◌<◌, ◌≤◌, refl, sym, ap, ◌∙◌, subst, arith, inl, inr, List, [], ◌∷◌, Option, Some, None, Bool, true, false, lit<}
+use Rattle.std.proofs.Common.{◌≡◌, ℕ, zero, suc, ◌%◌, ◌^◌, ◌<◌, ◌≤◌, refl, ap, subst, arith, inl, inr, List, [], ◌∷◌, Option, Some, None, Bool, true, false}
 use Rattle.std.specs.Prelude.{◌⊎◌, ◌&&◌, ◌||◌, ◌==◌, nat_lt, drop, slice_index_or, if◌then◌else◌}
 use Rattle.std.specs.List.{list_all}
 use Rattle.std.proofs.lemmas.Bool.Decides.{nat_tests}
@@ -21,7 +21,7 @@ use Rattle.alpha_codegen.specs.declared.works.Destination.{Destination}
 use Rattle.alpha_codegen.specs.declared.works.Destination.TheVariants as destinations
 use Rattle.alpha_codegen.specs.declared.works.Work.{Work}
 use Rattle.alpha_codegen.specs.declared.works.Work.TheVariants.{Move, Serve}
-use Rattle.alpha_codegen.specs.HasBlock.{is_unused, has_operands, longword_source, longword_destination, source_of, destination_of, service_of, moved, move_of, clear_of, work_in, work_where, work_of}
+use Rattle.alpha_codegen.specs.HasBlock.{is_unused, has_operands, longword_source, longword_destination, source_of, destination_of, service_of, moved, move_of, clear_of, work_where, work_of}
 
 pub some_same : {A : Type 0} (x y : A) → Some x ≡ Some y → x ≡ y
 some_same {A = A} x y is = ap (λ (o : Option A). elim o [ None ↦ x | Some z ↦ z ]) is

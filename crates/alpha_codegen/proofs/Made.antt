@@ -1,16 +1,14 @@
 -- The blocks that are made, by themselves: their words are tidy and have encodings, and their points are the instruction's.
-use Rattle.std.proofs.Common.{◌≡◌, ℕ, ◌+◌, ◌-◌, ◌/◌, ◌%◌, ◌^◌, ◌<◌, ◌≤◌, refl, sym, ap, ◌∙◌, subst, arith, inl, inr, List, [], ◌∷◌, ◌++◌, length, Option, Some, None, Bool, true, false, lit<, lit≤}
-use Rattle.std.specs.Prelude.{◌⊎◌, ◌==◌, ◌&&◌, pos, FitsSigned}
-use Rattle.std.specs.Int.{cast_signed, w16, cast_unsigned, w64}
+use Rattle.std.proofs.Common.{◌≡◌, ℕ, ◌+◌, ◌/◌, ◌%◌, ◌^◌, ◌<◌, refl, arith, [], ◌∷◌, ◌++◌, Option, Some, None, Bool, true, false, lit<, lit≤}
+use Rattle.std.specs.Prelude.{pos, FitsSigned}
+use Rattle.std.specs.Int.{cast_signed, w16}
 use Rattle.std.proofs.lemmas.Int.{ints}
-use Rattle.std.proofs.Math.Nat.{mod-eq_of_lt}
 use Rattle.alpha_encode.specs.declared.instr.AlphaInstr.TheVariants.{Memory, Operate, Pal}
 use Rattle.alpha_encode.specs.declared.instr.MemoryOp.TheVariants.{Ldah, Ldl, Stl}
 use Rattle.alpha_encode.specs.declared.instr.OperateOp.TheVariants.{Addl, Zapnot}
 use Rattle.alpha_encode.specs.declared.instr.Second.TheVariants as seconds
 use Rattle.alpha_encode.specs.declared.instr.Second.TheVariants.{Literal}
 use Rattle.exception_records.specs.Points.{point_at}
-use Rattle.exception_records.specs.Codes.{all_ready}
 use Rattle.exception_records.specs.declared.points.Point.{Point}
 use Rattle.block_law.specs.Tidy.{IsTidy, is_kept, keeps_until_faults}
 use Rattle.block_law.specs.Blocks.{IsBlockOf}
@@ -20,11 +18,9 @@ use Rattle.alpha_codegen.specs.declared.works.Source.TheVariants as sources
 use Rattle.alpha_codegen.specs.declared.works.Source.TheVariants.{Constant}
 use Rattle.alpha_codegen.specs.declared.works.Destination.{Destination}
 use Rattle.alpha_codegen.specs.declared.works.Destination.TheVariants as destinations
-use Rattle.alpha_codegen.specs.declared.works.Work.{Work}
-use Rattle.alpha_codegen.specs.declared.works.Work.TheVariants.{Move, Serve}
-use Rattle.alpha_codegen.specs.Words.{plain, marked, point_of, halves, longword, place, source_lines, store_lines, code_lines, commit_lines, move_lines, service_lines, lines_of, words_of, quiet_words, points_from, block_of, high_half, low_half}
+use Rattle.alpha_codegen.specs.Words.{plain, marked, point_of, halves, longword, place, source_lines, store_lines, code_lines, commit_lines, move_lines, service_lines, words_of, quiet_words, points_from, block_of, high_half, low_half}
 use Rattle.alpha_codegen.specs.HasBlock.{FitsSource, FitsDestination}
-use Rattle.alpha_codegen.proofs.Shapes.{IsPoint, EachLine, each_append, block_stands, rules_ready}
+use Rattle.alpha_codegen.proofs.Shapes.{IsPoint, EachLine, each_append, block_stands}
 
 -- ---- tidy
 move_tidy : (at : ℕ) (s : Source) (d : Destination) → IsTidy (words_of (move_lines at s d) ++ quiet_words)

@@ -1,5 +1,5 @@
 -- A source is read into R23, and R23 is stored, gives the codes, and is committed.
-use Rattle.std.proofs.Common.{◌≡◌, ℕ, ◌+◌, ◌-◌, ◌*◌, ◌/◌, ◌%◌, ◌^◌, ◌<◌, ◌≤◌, refl, sym, ap, ◌∙◌, subst, arith, List, [], ◌∷◌, ◌++◌, length, Option, Some, None, Bool, true, false}
+use Rattle.std.proofs.Common.{◌≡◌, ℕ, ◌+◌, ◌%◌, ◌^◌, ◌<◌, refl, sym, ap, ◌∙◌, subst, arith, List, [], ◌∷◌, ◌++◌, Some, None, true, false}
 use Rattle.std.specs.Prelude.{◌==◌, nat_le, pos, slice_index, bit_or}
 use Rattle.std.proofs.Math.Nat.{mod-eq_of_lt}
 use Rattle.std.proofs.lemmas.Nat.{mod_below, pow_pos}
@@ -21,8 +21,7 @@ use Rattle.alpha_meaning.specs.Pieces.{Only}
 use Rattle.alpha_meaning.specs.Result.{plus, one_if}
 use Rattle.alpha_meaning.proofs.Rules.{only_then}
 use Rattle.exception_records.specs.Shown.{registers_shown}
-use Rattle.exception_records.specs.declared.points.Point.{Point}
-use Rattle.block_law.specs.Placements.{Placement, InForm}
+use Rattle.block_law.specs.Placements.{Placement}
 use Rattle.block_law.proofs.Rules.{Always, goes, roomy, probes}
 use Rattle.alpha_codegen.specs.declared.lines.Line.{Line}
 use Rattle.alpha_codegen.specs.declared.works.Source.{Source}
@@ -33,7 +32,7 @@ use Rattle.alpha_codegen.specs.declared.works.Destination.TheVariants as destina
 use Rattle.alpha_codegen.specs.HasBlock.{FitsSource, FitsDestination}
 use Rattle.alpha_codegen.specs.Words.{plain, marked, point_of, source_lines, store_lines, code_lines, commit_lines}
 use Rattle.alpha_codegen.proofs.Numbers.{of_low, extended_low, extended_sum, sign_bit, zero_test}
-use Rattle.alpha_codegen.proofs.Walk.{Within, Sets, put_sets, next, stands, onward, sets_one, quad_allowed, loads, saves}
+use Rattle.alpha_codegen.proofs.Walk.{Within, put_sets, next, stands, onward, sets_one, quad_allowed, loads, saves}
 use Rattle.alpha_codegen.proofs.Constants.{is_free, set_free, shown_at, longword_set, place_set}
 use Rattle.alpha_codegen.proofs.Trees.{value_tree, store_tree}
 

@@ -1,11 +1,11 @@
 -- Constants from two halves, and longwords with their signs.
-use Rattle.std.proofs.Common.{◌≡◌, ℕ, zero, suc, ◌+◌, ◌-◌, ◌*◌, ◌/◌, ◌%◌, ◌^◌, ◌<◌, ◌≤◌, refl, sym, ap, ◌∙◌, subst, arith, inl, inr, Bool, true, false, cond, eqb, lit<, lit≤}
-use Rattle.std.specs.Prelude.{◌⊎◌, nat_lt, nat_le, ◌==◌, if◌then◌else◌, pos}
+use Rattle.std.proofs.Common.{◌≡◌, ℕ, suc, ◌+◌, ◌-◌, ◌/◌, ◌%◌, ◌^◌, ◌<◌, ◌≤◌, refl, sym, ap, ◌∙◌, arith, inl, inr, Bool, true, false, lit≤}
+use Rattle.std.specs.Prelude.{◌⊎◌, nat_lt, nat_le, ◌==◌, if◌then◌else◌}
 use Rattle.std.specs.Int.{cast_signed, cast_unsigned, w16, w64}
 use Rattle.std.proofs.lemmas.Int.{to_z_pos}
 use Rattle.std.proofs.Math.Facts.{to_z-neg}
 use Rattle.std.proofs.lemmas.Bool.Decides.{nat_tests}
-use Rattle.vt_words.specs.Quad.{sign_extended, kept, field_of, right}
+use Rattle.vt_words.specs.Quad.{sign_extended, kept, right}
 use Rattle.vt_words.proofs.Fields.{kept_run, run_of}
 use Rattle.alpha_meaning.specs.Result.{plus, times, one_if}
 use Rattle.alpha_codegen.specs.Words.{high_half, low_half}

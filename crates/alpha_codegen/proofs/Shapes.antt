@@ -1,8 +1,6 @@
 -- The blocks of lines by themselves.
-use Rattle.std.proofs.Common.{◌≡◌, ℕ, zero, suc, ◌+◌, ◌-◌, ◌%◌, ◌^◌, ◌<◌, ◌≤◌, refl, sym, ap, ◌∙◌, subst, arith, inl, inr, List, [], ◌∷◌, ◌++◌, length, get_or, Option, Some, None, Bool, true, false, cond, eq-eqb, ne_eqb, eqb-true, lit<, lit≤, rules}
-use Rattle.std.specs.Prelude.{◌⊎◌, ◌==◌, ◌&&◌, ◌||◌, not, nat_lt, nat_le, slice_get, map, find, option_map, All, FitsSigned}
-use Rattle.std.specs.Int.{cast_signed, w16}
-use Rattle.std.proofs.lemmas.Int.{ints}
+use Rattle.std.proofs.Common.{◌≡◌, ℕ, zero, suc, ◌+◌, ◌^◌, ◌<◌, ◌≤◌, refl, sym, ap, ◌∙◌, subst, arith, List, [], ◌∷◌, ◌++◌, length, get_or, Option, Some, None, Bool, true, false, cond, eqb-true, lit<}
+use Rattle.std.specs.Prelude.{◌==◌, slice_get, find, option_map, All}
 use Rattle.std.proofs.lemmas.List.Elements.{All-cons, All-nil}
 use Rattle.std.proofs.lemmas.Bool.Decides.{nat_tests}
 use Rattle.std.proofs.lemmas.Option.{slice_get_within}
@@ -11,20 +9,12 @@ use Rattle.alpha_encode.specs.declared.instr.AlphaInstr.{AlphaInstr}
 use Rattle.exception_records.specs.Points.{Entry, WordsRise, point_at}
 use Rattle.exception_records.specs.Codes.{all_ready}
 use Rattle.exception_records.specs.declared.points.Point.{Point}
-use Rattle.block_law.specs.Tidy.{IsTidy, is_kept, keeps_until_faults}
+use Rattle.block_law.specs.Tidy.{IsTidy}
 use Rattle.block_law.specs.Translations.{done_at}
 use Rattle.block_law.specs.Blocks.{IsBlockOf, IsExitOf, IsPointOf, is_exit_word, is_quiet}
 use Rattle.alpha_codegen.specs.declared.lines.Line.{Line}
-use Rattle.alpha_codegen.specs.declared.works.Source.{Source}
-use Rattle.alpha_codegen.specs.declared.works.Source.TheVariants as sources
-use Rattle.alpha_codegen.specs.declared.works.Source.TheVariants.{Constant}
-use Rattle.alpha_codegen.specs.declared.works.Destination.{Destination}
-use Rattle.alpha_codegen.specs.declared.works.Destination.TheVariants as destinations
-use Rattle.alpha_codegen.specs.declared.works.Work.{Work}
-use Rattle.alpha_codegen.specs.declared.works.Work.TheVariants.{Move, Serve}
-use Rattle.alpha_codegen.specs.Words.{words_of, quiet, quiet_words, with_point, points_from, block_of, lines_of, high_half, low_half}
+use Rattle.alpha_codegen.specs.Words.{words_of, quiet, quiet_words, with_point, points_from, block_of}
 use Rattle.alpha_codegen.proofs.Known.{some_same}
-use Rattle.alpha_codegen.specs.HasBlock.{FitsSource, FitsDestination}
 use Rattle.alpha_codegen.proofs.Standing.{word_at_line, words_length, no_exit}
 
 -- ---- lines one by one

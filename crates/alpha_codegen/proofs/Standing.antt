@@ -1,17 +1,17 @@
 -- Where a block stands, its lines stand one by one.
-use Rattle.std.proofs.Common.{◌≡◌, ℕ, zero, suc, ◌+◌, ◌-◌, ◌<◌, ◌≤◌, refl, sym, ap, ◌∙◌, subst, arith, List, [], ◌∷◌, ◌++◌, length, Option, Some, None, Bool, true, false, cond, eq-eqb, ne_eqb, eqb-true}
-use Rattle.std.specs.Prelude.{◌==◌, ◌&&◌, ◌||◌, nat_lt, nat_le, slice_get, map, find, option_map}
+use Rattle.std.proofs.Common.{◌≡◌, ℕ, zero, suc, ◌+◌, ◌-◌, ◌<◌, refl, sym, ap, ◌∙◌, arith, List, [], ◌∷◌, ◌++◌, length, Option, Some, None, true, false, eq-eqb, ne_eqb}
+use Rattle.std.specs.Prelude.{◌==◌, nat_le, slice_get}
 use Rattle.std.proofs.lemmas.Bool.Decides.{nat_tests}
 use Rattle.std.proofs.lemmas.Option.{slice_get_within}
 use Rattle.vax_form.specs.declared.state.Flags.{Flags}
 use Rattle.vax_form.specs.declared.state.VaxState.{VaxState}
 use Rattle.alpha_encode.specs.declared.instr.AlphaInstr.{AlphaInstr}
 use Rattle.alpha_meaning.specs.Pieces.{Fetch, HasAt}
-use Rattle.exception_records.specs.Points.{Entry, point_at}
+use Rattle.exception_records.specs.Points.{point_at}
 use Rattle.exception_records.specs.declared.points.Point.{Point}
 use Rattle.block_law.specs.Placements.{Placement}
 use Rattle.block_law.specs.Translations.{Meaning, Code, placed}
-use Rattle.block_law.specs.Blocks.{Exit, is_exit_word, Stands}
+use Rattle.block_law.specs.Blocks.{is_exit_word, Stands}
 use Rattle.alpha_codegen.specs.declared.lines.Line.{Line}
 use Rattle.alpha_codegen.specs.Words.{words_of, quiet_words, with_point, points_from, block_of}
 use Rattle.alpha_codegen.proofs.Known.{some_same}
@@ -74,9 +74,9 @@ lines_stand p pc (line ∷ lines) h =
       ap p.fetch (sym here) ∙ first.0,
       ap p.points (sym here) ∙ first.1,
       lines_stand p (pc + 1) lines (λ k l e.
-      let there : pc + 1 + k ≡ pc + suc k = omega arith in
-      let x = h (suc k) l e in
-      (ap p.fetch there ∙ x.0, ap p.points there ∙ x.1)),
+          let there : pc + 1 + k ≡ pc + suc k = omega arith in
+          let x = h (suc k) l e in
+          (ap p.fetch there ∙ x.0, ap p.points there ∙ x.1)),
     )
 
 module _ (meaning : Meaning) (code : Code) (thread : ℕ) (state : VaxState) (held : Flags) (first after : ℕ) (lines : List Line) where

@@ -1,7 +1,7 @@
 -- The trees of the instructions that have blocks.
-use Rattle.std.proofs.Common.{◌≡◌, ℕ, ◌+◌, ◌-◌, ◌%◌, ◌^◌, ◌<◌, ◌≤◌, refl, sym, ap, ◌∙◌, subst, arith, inl, inr, List, [], ◌∷◌, Option, Some, None, Bool, true, false, lit<, lit≤}
-use Rattle.std.specs.Prelude.{◌⊎◌, min}
-use Rattle.std.proofs.Math.Nat.{mod-eq_of_lt, min-eq_left}
+use Rattle.std.proofs.Common.{◌≡◌, ℕ, ◌-◌, ◌%◌, ◌^◌, ◌≤◌, refl, ap, ◌∙◌, arith, inl, inr, Some, None, true, false, lit≤}
+use Rattle.std.specs.Prelude.{◌⊎◌}
+use Rattle.std.proofs.Math.Nat.{min-eq_left}
 use Rattle.vax_form.specs.Grammar.{Found, instruction}
 use Rattle.vax_form.specs.GrammarFound.{found}
 use Rattle.vax_form.specs.Operation.{operation_at}
@@ -18,7 +18,7 @@ use Rattle.vax_form.specs.declared.state.RefKind.TheVariants.{Read, Write}
 use Rattle.vax_form.specs.declared.state.VaxState.{VaxState}
 use Rattle.vax_meaning.specs.Codes.{with_result}
 use Rattle.vax_meaning.specs.Control.{serve, change_mode}
-use Rattle.vax_meaning.specs.Evaluation.{evaluated_row, operands_from, find, obtain, read_found, operand}
+use Rattle.vax_meaning.specs.Evaluation.{evaluated_row, operands_from, find, obtain, read_found}
 use Rattle.vax_meaning.specs.Instructions.{operation_script, body, script_where}
 use Rattle.vax_meaning.specs.Memory.{front_count, read, write}
 use Rattle.vax_meaning.specs.Moves.{give}

@@ -1,10 +1,10 @@
 -- Lines in their place, and one step over them.
-use Rattle.std.proofs.Common.{◌≡◌, ℕ, zero, suc, ◌+◌, ◌-◌, ◌*◌, ◌/◌, ◌%◌, ◌^◌, ◌<◌, ◌≤◌, refl, sym, ap, ◌∙◌, subst, arith, List, [], ◌∷◌, ◌++◌, length, Option, Some, None, Bool, true, false, cond, eqb, eqb-true, eq-eqb}
-use Rattle.std.specs.Prelude.{◌==◌, pos, if◌then◌else◌, nat_lt, nat_le, ◌&&◌, ◌||◌, not}
+use Rattle.std.proofs.Common.{◌≡◌, ℕ, zero, suc, ◌+◌, ◌-◌, ◌*◌, ◌/◌, ◌%◌, ◌^◌, ◌<◌, ◌≤◌, refl, sym, ap, ◌∙◌, subst, arith, List, [], ◌∷◌, length, Some, None, Bool, true, false, eq-eqb}
+use Rattle.std.specs.Prelude.{◌==◌, pos, ◌&&◌, ◌||◌, not}
 use Rattle.std.specs.List.{list_any}
 use Rattle.vax_form.specs.PageTable.{has_page}
 use Rattle.std.proofs.lemmas.Nat.{mod_below, pow_pos}
-use Rattle.vt_words.specs.Quad.{sign_extended, field_of, with_field_of}
+use Rattle.vt_words.specs.Quad.{sign_extended, field_of}
 use Rattle.vax_form.specs.Pages.{first_bad, is_allowed}
 use Rattle.vax_form.specs.Tree.{Tree, Ask}
 use Rattle.vax_form.specs.declared.pages.Pages.{Pages}
@@ -21,7 +21,7 @@ use Rattle.block_law.specs.References.{wants}
 use Rattle.block_law.specs.Placements.{Placement, terms_of}
 use Rattle.block_law.specs.Follows.{Called, call_of, Lands, Onward, Follows}
 use Rattle.block_law.proofs.Blocks.{no_steps, begin}
-use Rattle.block_law.proofs.Rules.{Always, IsAt, goes, roomy}
+use Rattle.block_law.proofs.Rules.{Always, IsAt, goes}
 use Rattle.alpha_codegen.specs.declared.lines.Line.{Line}
 
 -- ---- lines in their place
@@ -90,7 +90,7 @@ module _ (p : Placement) where
   -- one access, from what its instruction asks
   accesses : (n spare : ℕ) (c : Alpha) (t : Tree) (i : AlphaInstr) (does : Does) → IsAt p c.pc i → act i c ≡ does → 0 < spare
       → Acts does i (terms_of p) Plain (spare - 1) c (wants t) t (λ d. Lands (p.stops d.pc) (p.points d.pc) Plain t p d.regs (Forth Plain p.first c.pc d.pc × Follows p n Plain (spare - 1) d t))
-          (λ number. Called (call_of number) (p.points c.pc) Plain t p c (λ d u. Onward p (Follows p n) Plain (spare - 1) d u)) (Onward p (Follows p n))
+      (λ number. Called (call_of number) (p.points c.pc) Plain t p c (λ d u. Onward p (Follows p n) Plain (spare - 1) d u)) (Onward p (Follows p n))
       → Follows p (suc n) Plain spare c t
   accesses n spare c t i does at acts some h =
       begin p n Plain spare c t (

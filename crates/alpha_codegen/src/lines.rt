@@ -7,7 +7,7 @@ use exception_records::{Block, CodeRule, Point, Rules};
 use std::alloc::{AllocError, Global};
 
 /// A word of a block, and its point where it has one.
-#[derive(Clone, Copy, Debug, PartialEq, Eq)]
+#[derive(Clone, Copy)]
 pub(crate) struct Line {
     pub(crate) instr: AlphaInstr,
     pub(crate) point: Option<Point>,

@@ -16,13 +16,17 @@ const RESULT: u8 = 23;
 const TARGET: u8 = 26;
 /// A VAX address to be probed.
 const PLACE: u8 = 27;
+
 const ZERO: u8 = 31;
 /// N, Z and V.
 const NEGATIVE: u8 = 16;
+
 const IS_ZERO: u8 = 17;
+
 const OVERFLOW: u8 = 18;
 
 const PROBE: AlphaInstr = AlphaInstr::Pal(0x80);
+
 const SERVE: AlphaInstr = AlphaInstr::Pal(0x82);
 
 // Makes up for the sign of the low half.
@@ -85,11 +89,7 @@ fn push_place(
 }
 
 /// What is moved, into R23. The first word of the block is here.
-pub(crate) fn push_source(
-    lines: &mut Vec<Line>,
-    at: u32,
-    source: Source,
-) -> Result<(), AllocError>
+pub(crate) fn push_source(lines: &mut Vec<Line>, at: u32, source: Source) -> Result<(), AllocError>
     ensures { OnOk result (lines.new.items ≡ lines.old.items ++ source_lines at source) }
 {
     let first = point_of(at, false);
@@ -141,10 +141,7 @@ pub(crate) fn push_codes(lines: &mut Vec<Line>) -> Result<(), AllocError>
 }
 
 /// R23 to a register.
-pub(crate) fn push_commit(
-    lines: &mut Vec<Line>,
-    destination: Destination,
-) -> Result<(), AllocError>
+pub(crate) fn push_commit(lines: &mut Vec<Line>, destination: Destination) -> Result<(), AllocError>
     ensures { OnOk result (lines.new.items ≡ lines.old.items ++ commit_lines destination) }
 {
     match destination {

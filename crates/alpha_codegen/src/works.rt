@@ -5,7 +5,7 @@ ghost use Rattle.alpha_codegen.specs.HasBlock.{is_unused, has_operands, longword
 use vax_form::{Base, Instr, Operand, Operation, Size, operation_of};
 
 /// What is moved.
-#[derive(Clone, Copy, Debug, PartialEq, Eq)]
+#[derive(Clone, Copy)]
 pub(crate) enum Source {
     Constant(u32),
     Register(u8),
@@ -14,7 +14,7 @@ pub(crate) enum Source {
 }
 
 /// Where it goes.
-#[derive(Clone, Copy, Debug, PartialEq, Eq)]
+#[derive(Clone, Copy)]
 pub(crate) enum Destination {
     Register(u8),
     /// The longword at an address that is a multiple of 4.
@@ -22,7 +22,7 @@ pub(crate) enum Destination {
 }
 
 /// What a block does.
-#[derive(Clone, Copy, Debug, PartialEq, Eq)]
+#[derive(Clone, Copy)]
 pub(crate) enum Work {
     Move {
         source: Source,

@@ -1,10 +1,10 @@
-use Rattle.std.proofs.Common.{◌≡◌, ℕ, refl, sym, subst, List, Option, Some, None, Bool, true, false, inl, inr}
-use Rattle.std.specs.Prelude.{◌==◌, ◌⊎◌}
+use Rattle.std.proofs.Common.{◌≡◌, ℕ, refl, sym, subst, Option, Some, None, true, inl, inr}
+use Rattle.std.specs.Prelude.{◌⊎◌}
 use Rattle.std.specs.Option.{is_some}
 use Rattle.vax_form.specs.Grammar.{instruction}
 use Rattle.vax_form.specs.GrammarFound.{found}
 use Rattle.vax_form.specs.State.{with_pc}
-use Rattle.vax_form.specs.Tree.{Tree, instruction_tree}
+use Rattle.vax_form.specs.Tree.{instruction_tree}
 use Rattle.vax_form.specs.declared.instr.Instr.{Instr}
 use Rattle.vax_form.specs.declared.pages.Pages.{Pages}
 use Rattle.vax_form.specs.declared.state.VaxState.{VaxState}
@@ -18,7 +18,7 @@ use Rattle.alpha_codegen.specs.declared.works.Work.{Work}
 use Rattle.alpha_codegen.specs.declared.works.Work.TheVariants.{Move, Serve}
 use Rattle.alpha_codegen.specs.HasBlock.{is_exit, work_of}
 use Rattle.alpha_codegen.specs.Promises.{EachFinish}
-use Rattle.alpha_codegen.proofs.Known.{IsService, is_number, work_is}
+use Rattle.alpha_codegen.proofs.Known.{is_number, work_is}
 use Rattle.alpha_codegen.proofs.Trees.{move_tree, moves_tree, service_tree}
 use Rattle.alpha_codegen.proofs.laws.ends_at_after.Goals as goal
 

@@ -1,4 +1,4 @@
-use Rattle.std.proofs.Common.{◌≡◌, ◌++◌, ◌∷◌, [], append-nil, refl, sym, ◌∙◌, ap, arith, List, Vec, Global, ℕ, Option, Some, None}
+use Rattle.std.proofs.Common.{◌≡◌, ◌++◌, [], append-nil, refl, sym, ◌∙◌, ap, arith, List, Vec, Global, ℕ, Option, Some, None}
 use Rattle.std.specs.Prelude.{pos}
 use Rattle.exception_records.specs.declared.points.Point.{Point}
 use Rattle.exception_records.specs.Points.{Entry}
@@ -26,11 +26,11 @@ loop-word-preserved c =
       words = step_words lines k none inside c.loop-word.words.items c.push.new.self.items c.loop-word.invariant.words c.in_ok-push.ensures.items;
       points = step_points lines k none inside c.loop-word.points.items c.match-line.points.items c.loop-word.invariant.points
           (elim c.match-line.branch [
-        | in-Some+in_ok-push-2 w ↦
-            let add : Option Point → List Entry = λ o. c.loop-word.points.items ++ with_point o k [] in
-            ap items w.points-is ∙ (w.in_ok-push-2.ensures.items ∙ sym (ap add w.in-Some.is))
-        | in_default w ↦ ap items w.points-is ∙ by_none c.loop-word.points.items k _ w.in_default.not-Some
-      ]);
+            | in-Some+in_ok-push-2 w ↦
+                let add : Option Point → List Entry = λ o. c.loop-word.points.items ++ with_point o k [] in
+                ap items w.points-is ∙ (w.in_ok-push-2.ensures.items ∙ sym (ap add w.in-Some.is))
+            | in_default w ↦ ap items w.points-is ∙ by_none c.loop-word.points.items k _ w.in_default.not-Some
+          ]);
     }
   where
     by_none : (xs : List Entry) (k : ℕ) (o : Option Point) → ((x : Point) → o ≡ Some x → ⊥) → xs ≡ xs ++ with_point o k []
