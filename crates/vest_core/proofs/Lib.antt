@@ -13,3 +13,5 @@ pub mod Boundaries
 pub mod Sums
 pub mod Headlines
 pub mod Meanings
+pub mod Runs
+mod Refused
