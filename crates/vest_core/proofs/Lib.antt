@@ -15,3 +15,4 @@ pub mod Headlines
 pub mod Meanings
 pub mod Runs
 mod Refused
+pub mod Closed

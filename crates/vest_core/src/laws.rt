@@ -2,6 +2,7 @@
 ghost use Rattle.std.specs.Prelude.{◌≡◌};
 ghost use Rattle.image_file.specs.Whole.{IsWhole};
 ghost use Rattle.memory_core.specs.declared.entry.SetUp.{SetUp};
+ghost use Rattle.vest_core.specs.Closed.{ClosedNeverInterprets};
 ghost use Rattle.vest_core.specs.Law.{IsRun, LegalHasHeadline};
 ghost use Rattle.vest_core.specs.Meant.{VaxMeaningIsSound};
 
@@ -29,3 +30,8 @@ pub fn images_are_runs(image: &Image, input: &[u8])
 {
     image_has_bytes(image);
 }
+
+/// In closed code, with no ranges, and from starts in it, no processor comes to an instruction that is interpreted.
+pub fn closed_never_interprets()
+    ensures { ClosedNeverInterprets }
+{}
