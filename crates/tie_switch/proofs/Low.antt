@@ -1,10 +1,10 @@
 -- Addresses in pages are below 80000000.
-use Rattle.std.proofs.Common.{◌≡◌, ℕ, ◌+◌, ◌*◌, ◌/◌, ◌%◌, ◌<◌, ◌≤◌, ◌==◌, ◌&&◌, ◌||◌, Bool, true, false, List, [], ◌∷◌, refl, arith}
+use Rattle.std.proofs.Common.{◌≡◌, ℕ, ◌+◌, ◌*◌, ◌/◌, ◌<◌, ◌≤◌, ◌&&◌, ◌||◌, Bool, true, false, List, [], ◌∷◌, refl, arith}
 use Rattle.std.specs.Prelude.{nat_le, nat_lt}
 use Rattle.std.specs.List.{list_any}
 use Rattle.std.proofs.lemmas.Bool.Decides.{nat_tests}
-use Rattle.vax_form.specs.PageTable.{AreRising, has_page}
-use Rattle.vax_form.specs.Pages.{allows, is_allowed}
+use Rattle.vax_form.specs.PageTable.{AreRising}
+use Rattle.vax_form.specs.Pages.{allows}
 use Rattle.vax_form.specs.declared.pages.PageRange.{PageRange}
 
 step : (first count page : ℕ) (w rest : Bool) → first + count ≤ 4194304 → (rest ≡ true → page < 4194304) → (((nat_le first page && nat_lt page (first + count)) && w) || rest) ≡ true → page < 4194304

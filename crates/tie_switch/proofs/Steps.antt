@@ -1,5 +1,5 @@
 -- What the word at which a processor stands does, by what the processor's step answers.
-use Rattle.std.proofs.Common.{◌≡◌, ◌≢◌, ℕ, ◌+◌, ◌*◌, ◌/◌, ◌%◌, ◌^◌, ◌<◌, ◌≤◌, ◌==◌, ◌⊎◌, inl, inr, ℤ, Bool, true, false, if◌then◌else◌, List, length, Option, Some, None, refl, sym, ap, ◌∙◌, subst, arith, lit<}
+use Rattle.std.proofs.Common.{◌≡◌, ◌≢◌, ℕ, ◌+◌, ◌%◌, ◌^◌, ◌<◌, ◌≤◌, inl, inr, ℤ, Bool, true, false, if◌then◌else◌, List, length, Option, Some, None, refl, sym, ap, ◌∙◌, subst, arith, lit<}
 use Rattle.std.proofs.Math.Nat.{mod-eq_of_lt, mod-lt}
 use Rattle.std.proofs.lemmas.Bool.{ltb-true}
 use Rattle.std.specs.Prelude.{nat_lt, slice_index, IsSome, IfSome}
@@ -7,13 +7,12 @@ use Rattle.alpha_encode.specs.Words.{instr_at}
 use Rattle.alpha_encode.specs.declared.instr.AlphaInstr.{AlphaInstr}
 use Rattle.alpha_encode.specs.declared.instr.AlphaInstr.TheVariants.{Memory, Branch, Operate, Jump, Pal}
 use Rattle.alpha_encode.specs.declared.instr.MemoryOp.{MemoryOp}
-use Rattle.alpha_encode.specs.declared.instr.MemoryOp.TheVariants.{Lda, Ldah, LdqU, Ldl, Ldq, LdlL, LdqL, Stl, Stq, StlC, StqC}
+use Rattle.alpha_encode.specs.declared.instr.MemoryOp.TheVariants.{Ldl, LdlL, Stl, StlC}
 use Rattle.alpha_machine.specs.Step.{IsStep, state_of, wrapped, current}
 use Rattle.alpha_machine.specs.declared.cpu.AlphaStep.{AlphaStep}
-use Rattle.alpha_machine.specs.declared.cpu.AlphaStep.TheVariants.{Local, Want, Pal as Called}
 use Rattle.alpha_machine.specs.declared.cpu.Cpu.{Cpu}
 use Rattle.alpha_meaning.specs.Act.{Does, Goes, Asks, Calls, act, taken, target_of, finished, memory_act_by, memory_finish_by}
-use Rattle.alpha_meaning.specs.Memory.{kind_of, access_of, bytes_of, stores}
+use Rattle.alpha_meaning.specs.Memory.{kind_of, access_of, stores}
 use Rattle.alpha_meaning.specs.Pieces.{loaded}
 use Rattle.alpha_meaning.specs.State.{Alpha, at_place}
 use Rattle.alpha_meaning.specs.declared.access.AlphaAccess.{AlphaAccess}
@@ -21,8 +20,8 @@ use Rattle.alpha_meaning.specs.declared.access.AlphaKind.{AlphaKind}
 use Rattle.alpha_meaning.specs.declared.access.AlphaKind.TheVariants.{Load, LoadLocked, Store, StoreConditional}
 use Rattle.block_law.specs.Translations.{fetch_of, most_words}
 use Rattle.system_model.specs.Settings.{Setting}
-use Rattle.system_model.specs.Steps.{Next, Moves, Wants, Stuck, Moment, place_of, is_defined, request_for, accesses, does, next_by, next}
-use Rattle.tie_switch.specs.Accesses.{IsAccess, IsFetched, IsWanted, IsNextBy}
+use Rattle.system_model.specs.Steps.{Moves, Wants, Stuck, Moment, place_of, is_defined, request_for, accesses, does, next_by, next}
+use Rattle.tie_switch.specs.Accesses.{IsAccess, IsFetched, IsNextBy}
 use Rattle.tie_switch.specs.Seen.{finished_by}
 
 -- ---- the word

@@ -1,5 +1,5 @@
 -- A turn keeps a history and its processors legal.
-use Rattle.std.proofs.Common.{◌≡◌, ℕ, zero, suc, ◌+◌, ◌<◌, ◌≤◌, ◌==◌, ◌&&◌, ◌⊎◌, inl, inr, Bool, true, false, if◌then◌else◌, List, [], ◌∷◌, ◌++◌, length, Option, Some, None, refl, sym, ap, ◌∙◌, subst, arith}
+use Rattle.std.proofs.Common.{◌≡◌, ℕ, zero, suc, ◌<◌, ◌==◌, ◌&&◌, inl, inr, Bool, true, false, List, [], ◌∷◌, ◌++◌, length, Some, refl, sym, ap, ◌∙◌, subst, arith}
 use Rattle.std.specs.Prelude.{MatchBool, reverse, slice_get, slice_set}
 use Rattle.std.proofs.lemmas.Bool.Decides.{nat_tests}
 use Rattle.std.proofs.lemmas.List.{append-nil, reverse-append, length-reverse}
@@ -13,7 +13,7 @@ use Rattle.system_model.specs.Legal.{spent, IsGoing, IsAsking, IsLegal}
 use Rattle.system_model.specs.Processors.{Mode, New, Runs, Interprets, Ended, Processor, Turn, Went, Asks, Over, Lost, turn, turn_in, mode_of, entry_by}
 use Rattle.system_model.specs.Settings.{Setting}
 use Rattle.tie_switch.specs.Laws.{TurnsStayLegal}
-use Rattle.tie_switch.specs.Turns.{IsMade, IsRefused, IsStill, Makes, goes_on, is_out, IsTurn}
+use Rattle.tie_switch.specs.Turns.{IsMade, IsRefused, IsStill, Makes, goes_on, is_out}
 
 -- ---- a processor that goes on
 going_by : (m : Mode) → goes_on m ≡ true → IsGoing m
@@ -67,7 +67,6 @@ module _ (steps : StepsStayLegal) (accesses : AccessesStayLegal) (ends : EndsSta
     (legal : IsLegal setting set_up budget (reverse history) processors) (at : slice_get processors thread ≡ Some p) where
   abbrev Keeps : List Entry → Processor → Type 0
   Keeps new q = IsLegal setting set_up budget (reverse new) (slice_set processors thread q)
-
 
   made : (request : Request) (on : ℕ → Bool → Processor) (q : Processor) (new : List Entry) → turn setting p ≡ Asks request on → IsMade set_up (λ between. between ≡ []) request on q history new → Keeps new q
   made request on q new e m =

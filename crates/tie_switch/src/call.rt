@@ -104,10 +104,7 @@ impl Processor {
                 let request = self.request_of(Kind::Put, Change::Byte(byte));
                 Next::Wants(request, Wanted::Put)
             }
-            3 => Next::Wants(
-                self.request_of(Kind::Get, Change::Nothing),
-                Wanted::Get,
-            ),
+            3 => Next::Wants(self.request_of(Kind::Get, Change::Nothing), Wanted::Get),
             4 => {
                 let told = with_r0(cpu, u64::from(self.thread));
                 Next::Moves(self.place_next(setting, told))

@@ -1,5 +1,5 @@
 -- A byte that may be used is passed.
-use Rattle.std.proofs.Common.{◌≡◌, ℕ, suc, ◌+◌, ◌-◌, ◌%◌, ◌^◌, Bool, true, if◌then◌else◌, Option, Some, sym, ap, ◌∙◌, arith}
+use Rattle.std.proofs.Common.{◌≡◌, ℕ, suc, ◌+◌, ◌-◌, ◌%◌, ◌^◌, Bool, true, if◌then◌else◌, Some, sym, ap, ◌∙◌, arith}
 use Rattle.vax_form.specs.Pages.{is_allowed, first_bad}
 use Rattle.vax_form.specs.declared.pages.Pages.{Pages}
 use Rattle.tie_switch.proofs.first_bad.first_bad.Goals as goal

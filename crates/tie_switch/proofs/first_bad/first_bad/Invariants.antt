@@ -1,5 +1,5 @@
 -- what is left to be checked decides
-use Rattle.std.proofs.Common.{◌≡◌, ℕ, ◌-◌}
+use Rattle.std.proofs.Common.{◌≡◌, ◌-◌}
 use Rattle.vax_form.specs.Pages.{first_bad}
 use Rattle.tie_switch.proofs.first_bad.first_bad.Given as goal
 

@@ -1,7 +1,7 @@
 -- Addresses in pages are small.
 use Rattle.std.proofs.Common.{◌%◌, ◌==◌, subst, arith}
 use Rattle.alpha_meaning.specs.Memory.{stores}
-use Rattle.vax_form.specs.PageTable.{PageTable, IsPageTable}
+use Rattle.vax_form.specs.PageTable.{IsPageTable}
 use Rattle.tie_switch.proofs.Low.{quad_fits}
 use Rattle.tie_switch.proofs.processor.Processor.request_for.Goals as goal
 
