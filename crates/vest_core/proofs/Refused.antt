@@ -1,7 +1,8 @@
 -- A memory order in which a store of another processor clears no reservation is refused: what the law needs of the order
 -- is false of it.
-use Rattle.std.proofs.Common.{◌≡◌, ℕ, suc, ◌==◌, ◌&&◌, Bool, true, false, not, if◌then◌else◌, List, [], ◌∷◌, refl, arith}
+use Rattle.std.proofs.Common.{◌≡◌, ℕ, suc, ◌==◌, ◌&&◌, ◌<◌, Bool, true, false, not, if◌then◌else◌, List, [], ◌∷◌, refl, arith, lit<}
 use Rattle.std.specs.Int.{byte_at}
+use Rattle.std.proofs.lemmas.List.Elements.{All-nil}
 use Rattle.memory_core.specs.declared.entry.Change.{Change}
 use Rattle.memory_core.specs.declared.entry.Change.TheVariants.{Nothing, Bytes}
 use Rattle.memory_core.specs.declared.entry.Entry.{Entry}
@@ -13,7 +14,8 @@ use Rattle.memory_core.specs.Changes.{Allows, leaves}
 use Rattle.memory_core.specs.Kinds.{is_memory, is_conditional}
 use Rattle.memory_core.specs.Opening.{opening}
 use Rattle.memory_core.specs.Order.{own, left_by, block_of, reserved_by, tries, strikes, found, Meets}
-use Rattle.vest_core.specs.Own.{AllFair}
+use Rattle.vest_core.specs.Own.{HasBytes, AllFair}
+use Rattle.vest_core.proofs.Locks.{all_fair}
 
 -- ---- the order of accesses, but that another processor's store clears no reservation
 abbrev reserved_still : List Entry → (processor block : ℕ) → Bool
@@ -82,10 +84,20 @@ not_fair : AllFair (own 0 history) → ⊥
 not_fair h = let finds : conditional.before ≡ locks.before = h.1.locked refl refl refl in absurd (omega (arith, finds))
 
 -- what the law needs of an order
-refused : ((set_up : SetUp) (entries : List Entry) → MeetsStill set_up entries → (processor : ℕ) → AllFair (own processor entries)) → ⊥
-refused all_fair = not_fair (all_fair zeros history meets_still 0)
+abbrev IsFairOrder : (SetUp → List Entry → Type 0) → Type 0
+IsFairOrder Allowed = (set_up : SetUp) → HasBytes set_up → (entries : List Entry) → Allowed set_up entries → (processor : ℕ) → AllFair (own processor entries)
 
--- and the other processor's byte
+has_bytes : HasBytes zeros
+has_bytes = record { image = λ address. lit< tt; input = All-nil (λ byte. byte < 256) }
+
+refused : IsFairOrder MeetsStill → ⊥
+refused fair = not_fair (fair zeros has_bytes history meets_still 0)
+
+-- the order itself is fair
+is_fair : IsFairOrder Meets
+is_fair set_up bytes entries meets processor = all_fair set_up bytes entries meets processor
+
+-- and the other processor's byte is lost
 was_stored : byte_at 1 (left_by zeros past 0x1000) ≡ 1
 was_stored = refl
 

@@ -22,6 +22,11 @@ pub fn vax_meaning_is_sound()
     ensures { VaxMeaningIsSound }
 {}
 
+/// In closed code, with no ranges, and from starts in it, no processor comes to an instruction that is interpreted.
+pub fn closed_never_interprets()
+    ensures { ClosedNeverInterprets }
+{}
+
 /// Whatever is set up with a whole image and an input, of any limit and miss number, is in range: so the law of legal
 /// histories may be used of it.
 pub fn images_are_runs(image: &Image, input: &[u8])
@@ -30,8 +35,3 @@ pub fn images_are_runs(image: &Image, input: &[u8])
 {
     image_has_bytes(image);
 }
-
-/// In closed code, with no ranges, and from starts in it, no processor comes to an instruction that is interpreted.
-pub fn closed_never_interprets()
-    ensures { ClosedNeverInterprets }
-{}
