@@ -6,6 +6,7 @@ use Rattle.std.specs.declared.alloc.Global.{Global}
 use Rattle.image_file.specs.Start.{start_state}
 use Rattle.image_file.specs.Values.{ImageValue}
 use Rattle.image_file.specs.declared.image.Start.{Start}
+use Rattle.vax_form.specs.Grammar.{wrapped}
 use Rattle.vax_form.specs.declared.pages.Pages.{Pages}
 use Rattle.vax_form.specs.declared.instr.Instr.{Instr}
 use Rattle.vax_form.specs.declared.state.VaxState.{VaxState}
@@ -19,6 +20,7 @@ use Rattle.translate.specs.Compiled.{AreFound, GoOn, InOrder, addresses}
 use Rattle.vest_cli.specs.Walks.{IsBuiltAt, AreInLine, EndsInExit, IsWalk, IsWalkBy, IsWalkOf}
 use Rattle.vest_cli.specs.Built.{has_modes, walk_of}
 use Rattle.vest_cli.specs.Driving.{Builds}
+use Rattle.vest_cli.proofs.Walks.{both_true}
 
 -- what holds of each instruction that is built
 all_in_line : (P : Instr → Type 0) (pages : Pages) → ((pc : ℕ) (instr : Instr) → IsBuiltAt pages pc instr → P instr)
@@ -49,10 +51,6 @@ go_on pages from to (instr ∷ other ∷ instrs) line ends (suc k) d h goes =
     let there : rest.0 < length (addresses (other ∷ instrs)) = rest.1 in
     (suc rest.0, omega (arith, there), rest.2)
 
-first_true : (a b : Bool) → (a && b) ≡ true → a ≡ true
-first_true true b h = refl
-first_true false b h = absurd cc
-
 -- ---- a walk
 pub in_order : (pages : Pages) (start : ℕ) (instrs : List Instr) → IsWalk pages start instrs → InOrder instrs
 in_order pages start instrs walk = rise pages start walk.to instrs walk.in_line
@@ -61,7 +59,7 @@ pub are_found : (pages : Pages) (start : ℕ) (instrs : List Instr) → IsWalk p
 are_found pages start instrs walk = all_in_line _ pages (λ pc instr is. is.found) start walk.to instrs walk.in_line
 
 pub have_blocks : (pages : Pages) (start : ℕ) (instrs : List Instr) → IsWalk pages start instrs → All (λ instr. has_block instr ≡ true) instrs
-have_blocks pages start instrs walk = all_in_line (λ instr. has_block instr ≡ true) pages (λ pc instr is. first_true (has_block instr) _ is.built) start walk.to instrs walk.in_line
+have_blocks pages start instrs walk = all_in_line (λ instr. has_block instr ≡ true) pages (λ pc instr is. (both_true (has_block instr) (has_modes pages instr.opcode (wrapped (instr.at + 1))) is.built).0) start walk.to instrs walk.in_line
 
 pub goes : (pages : Pages) (start : ℕ) (instrs : List Instr) → IsWalk pages start instrs → GoOn instrs
 goes pages start instrs walk = go_on pages start walk.to instrs walk.in_line walk.ends

@@ -53,7 +53,7 @@ found_passes test (s ∷ ranges) r found =
       | false ↦ λ fails later. found_passes test ranges r later
     ]) refl found
 
-both_true : (a b : Bool) → (a && b) ≡ true → (a ≡ true) × (b ≡ true)
+pub both_true : (a b : Bool) → (a && b) ≡ true → (a ≡ true) × (b ≡ true)
 both_true true b both = (refl, both)
 both_true false b both = absurd cc
 
@@ -74,7 +74,7 @@ low_within (s ∷ ranges) lowest address r rising found =
 byte_low : (pages : Pages) (address byte : ℕ) → AreRising 0 pages.ranges → code_byte_at pages address ≡ Some byte → address < 2147483648
 byte_low pages address byte rising is =
     (elim (find (has_code address) pages.ranges) as (λ o. find (has_code address) pages.ranges ≡ o
-      → option_map (λ (r : PageRange). slice_index pages.code (r.place + (address - 512 * r.first))) o ≡ Some byte → address < 2147483648) [
+    → option_map (λ (r : PageRange). slice_index pages.code (r.place + (address - 512 * r.first))) o ≡ Some byte → address < 2147483648) [
       | None ↦ λ found none. absurd cc
       | Some r ↦ λ found some. low_within pages.ranges 0 address r rising found
     ]) refl is

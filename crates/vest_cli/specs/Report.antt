@@ -9,6 +9,7 @@ use Rattle.vax_form.specs.declared.state.VaxState.{VaxState}
 use Rattle.system_model.specs.Processors.{Mode, New, Runs, Interprets, Ended, Processor}
 use Rattle.system_model.specs.declared.translation.End.{End}
 use Rattle.system_model.specs.declared.translation.End.TheVariants.{Exit, Raised, Spent}
+use Rattle.vest_core.specs.Interpreted.{has_raised}
 use Rattle.vest_cli.specs.Digits.{two_digits, eight_digits}
 use Rattle.vest_cli.specs.declared.status.Status.{Status}
 use Rattle.vest_cli.specs.declared.status.Status.TheVariants as status
@@ -28,11 +29,12 @@ detail_of (AccessViolation address write) =
 detail_of (Arithmetic kind) = codes " type" ++ (32 ∷ decimal kind)
 detail_of _ = []
 
--- the PC, the processor status longword, and on a line of their own the registers
+-- R0 to R14
 abbrev pub registers_text : List ℕ → List ℕ
 registers_text [] = []
 registers_text (value ∷ values) = (32 ∷ eight_digits value) ++ registers_text values
 
+-- the PC, the processor status longword, and on a line of their own the registers
 abbrev pub state_text : VaxState → List ℕ
 state_text state =
     codes " pc " ++ eight_digits state.pc ++ codes " psl " ++ eight_digits (0x03C0_0000 + state.psw)
@@ -60,10 +62,6 @@ report_of [] = []
 report_of (p ∷ processors) = lines_of p ++ report_of processors
 
 -- ---- the status of a run
-abbrev pub has_raised : Mode → Bool
-has_raised (Ended (Raised exception)) = true
-has_raised _ = false
-
 abbrev pub is_spent : Mode → Bool
 is_spent (Ended Spent) = true
 is_spent _ = false

@@ -44,5 +44,5 @@ returns c =
     c.turn.new.memory c.turn.new.self c.turn.ensures.set_up ((c.turn.ensures.serves 0).0 c.requires.way.serves)
     (c.turn.ensures.budget ∙ c.requires.way.budget) (omega (arith, c.turn.ensures.few_steps, c.turn.ensures.budget, c.requires.way.budget))
     (subst (λ (b : ℕ). IsTurn (setting_of c.args.image.now c.args.translation.now) c.args.memory.now.set_up (λ (between : List Entry). between ≡ []) b
-      (processor_of c.args.processor.now) (processor_of c.turn.new.self) c.args.memory.now.history c.turn.new.memory.history) c.requires.way.budget c.turn.ensures.turned)
+    (processor_of c.args.processor.now) (processor_of c.turn.new.self) c.args.memory.now.history c.turn.new.memory.history) c.requires.way.budget c.turn.ensures.turned)
     c.turn.result c.turn.ensures.ended c.turn.ensures.steps
