@@ -1,5 +1,4 @@
 // Rows of two threads for every list of picks.
-ghost use Rattle.std.specs.Prelude.{◌≤◌};
 
 use crate::images::image_of;
 use crate::machine::{Machine, Quadword};

@@ -1,5 +1,5 @@
 // Rows of bytes that are stored by load-locked accesses.
-ghost use Rattle.std.specs.Prelude.{◌<◌, ◌≤◌};
+ghost use Rattle.std.specs.Prelude.{◌<◌};
 
 use crate::images::image_of;
 use crate::machine::{Machine, Quadword, with_byte};
@@ -10,7 +10,7 @@ use vax_form::Pick;
 
 const DATA: [u8; 8] = [0xA0, 0xA1, 0xA2, 0xA3, 0xA4, 0xA5, 0xA6, 0xA7];
 
-// One byte at 1000 and so many, by one load-locked access and one store conditional.
+// Stores the byte at that place behind 1000, by one load-locked access and one store conditional.
 fn store_byte(machine: &mut Machine, retired: u64, place: u8, byte: u8) -> io::Result<()> {
     let quadword = if place < 8 {
         Quadword::First
