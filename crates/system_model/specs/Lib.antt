@@ -3,5 +3,6 @@ pub mod Settings
 pub mod Steps
 pub mod Processors
 pub mod Legal
+pub mod Closed
 pub mod Laws
 pub mod Meant

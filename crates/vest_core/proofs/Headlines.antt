@@ -38,12 +38,12 @@ beyond [] n h = omega arith
 beyond (x ∷ xs) zero h = absurd (cc h)
 beyond (x ∷ xs) (suc n) h = omega (arith, beyond xs n h)
 
-within : {A : Type 0} (xs : List A) (n : ℕ) (x : A) → slice_get xs n ≡ Some x → n < length xs
+pub within : {A : Type 0} (xs : List A) (n : ℕ) (x : A) → slice_get xs n ≡ Some x → n < length xs
 within [] n x h = absurd (cc h)
 within (y ∷ ys) zero x h = omega arith
 within (y ∷ ys) (suc n) x h = omega (arith, within ys n x h)
 
-there_is : {A : Type 0} (xs : List A) (n : ℕ) → n < length xs → (x : A) × (slice_get xs n ≡ Some x)
+pub there_is : {A : Type 0} (xs : List A) (n : ℕ) → n < length xs → (x : A) × (slice_get xs n ≡ Some x)
 there_is [] n h = absurd (omega arith)
 there_is (x ∷ xs) zero h = (x, refl)
 there_is (x ∷ xs) (suc n) h = there_is xs n (omega arith)
@@ -53,7 +53,7 @@ padded : (n sp : ℕ) → sp < 2 ^ 32 → All (λ value. value < 2 ^ 32) (replic
 padded zero sp h = All-cons (λ value. value < 2 ^ 32) sp [] h (All-nil (λ value. value < 2 ^ 32))
 padded (suc n) sp h = All-cons (λ value. value < 2 ^ 32) 0 (replicate n 0 ++ sp ∷ []) (lit< tt) (padded n sp h)
 
-start_is : (s : Start) → s.pc < 2 ^ 32 → s.sp < 2 ^ 32 → IsState (start_state s)
+pub start_is : (s : Start) → s.pc < 2 ^ 32 → s.sp < 2 ^ 32 → IsState (start_state s)
 start_is s pc sp = record { registers = refl; longwords = padded 14 s.sp sp; pc = pc; psw = lit< tt }
 
 -- ---- ends

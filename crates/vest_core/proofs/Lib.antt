@@ -13,5 +13,6 @@ pub mod Boundaries
 pub mod Sums
 pub mod Headlines
 pub mod Meanings
+pub mod Closed
 pub mod Runs
 mod Refused

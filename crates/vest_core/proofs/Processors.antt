@@ -594,3 +594,18 @@ module _ (setting : Setting) (starts : ℕ → Option VaxState) (thread : ℕ) (
         entries = omega (arith, t.long, open_one (lock_of mine));
         goes_on = moves_in w (lock_of mine) (share_of mine) p (mode_of setting p p.mode) t.is (not_new p p.mode) settled;
       }
+
+  -- in Alpha code something is owed of what is still to be done
+  pub record Flying (lock : Option Lock) (p : Processor) (alpha : Alpha) : Type 0 where
+    pub is : p.thread ≡ thread
+    pub spare : ℕ
+    pub rest : Tree
+    pub range : IsInRange rest
+    pub owed : Owes p.boundary p.held lock spare alpha rest
+
+  pub flying : (n : ℕ) (mine : List Entry) (p : Processor) → Reaches setting (begun thread start) n mine p → AllFair mine → (alpha : Alpha) → mode_of setting p p.mode ≡ Runs alpha → Flying (lock_of mine) p alpha
+  flying n mine p reached_p fair alpha m =
+      let t = told n mine p reached_p fair in
+      let w = replies_by its_threads thread mine in
+      let s = subst (Here_stands w (lock_of mine) (share_of mine) p) m (settle setting starts thread keeps Owes Form fresh enter opens w (lock_of mine) (share_of mine) p p.mode t.is t.stands) in
+      record { is = t.is; spare = s.spare; rest = s.rest; range = s.flight.range; owed = s.owed }

@@ -5,3 +5,4 @@ pub mod Headline
 pub mod Sound
 pub mod Meant
 pub mod Law
+pub mod Closed

@@ -2,6 +2,7 @@
 ghost use Rattle.std.specs.Prelude.{◌≡◌};
 ghost use Rattle.image_file.specs.Whole.{IsWhole};
 ghost use Rattle.memory_core.specs.declared.entry.SetUp.{SetUp};
+ghost use Rattle.vest_core.specs.Closed.{ClosedNeverInterprets};
 ghost use Rattle.vest_core.specs.Law.{IsRun, LegalHasHeadline};
 ghost use Rattle.vest_core.specs.Meant.{VaxMeaningIsSound};
 
@@ -19,6 +20,11 @@ pub fn legal_has_headline()
 #[tactic(auto, using(crate::proofs::Meanings::vax_meaning_is_sound))]
 pub fn vax_meaning_is_sound()
     ensures { VaxMeaningIsSound }
+{}
+
+/// In closed code, with no ranges, and from starts in it, no processor comes to an instruction that is interpreted.
+pub fn closed_never_interprets()
+    ensures { ClosedNeverInterprets }
 {}
 
 /// Whatever is set up with a whole image and an input, of any limit and miss number, is in range: so the law of legal

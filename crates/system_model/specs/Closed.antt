@@ -1,0 +1,41 @@
+-- Code whose instructions go on in it, so that none is interpreted.
+use Rattle.std.specs.Prelude.{ℕ, ◌<◌, Bool, true, false, IsSome}
+use Rattle.address_map.specs.Pairs.{word_at}
+use Rattle.block_law.specs.Translations.{Meaning, Code}
+use Rattle.vax_form.specs.State.{IsState, Answers}
+use Rattle.vax_form.specs.Tree.{Tree, Check, Ask, Fault, Ends, Ending, Finish, Exit, Trap}
+use Rattle.vax_form.specs.declared.state.VaxState.{VaxState}
+use Rattle.system_model.specs.Processors.{Mode, New, Runs, Interprets, Ended, Processor, mode_of}
+use Rattle.system_model.specs.Settings.{Setting}
+
+abbrev pub IfFinish : Ending → (VaxState → Type 0) → Type 0
+IfFinish (Finish state) P = P state
+IfFinish (Exit state) P = Unit {0}
+IfFinish (Trap kind state) P = Unit {0}
+
+-- that holds of the state of each end at which the thread goes on, for all replies that the references can get
+abbrev pub AllFinish : Tree → (VaxState → Type 0) → Type 0
+AllFinish (Check address count write tree) P = AllFinish tree P
+AllFinish (Ask reference on) P = (reply : ℕ) → Answers reference reply → AllFinish (on reply) P
+AllFinish (Fault exception) P = Unit {0}
+AllFinish (Ends e) P = IfFinish e P
+
+-- the instruction at the state's PC has its block
+abbrev pub IsMapped : Code → VaxState → Type 0
+IsMapped code state = IsSome (word_at code.map state.pc)
+
+-- each mapped instruction goes on at one that is mapped, if at all
+abbrev pub IsClosed : Meaning → Code → Type 0
+IsClosed meaning code = (thread : ℕ) (state : VaxState) → thread < 256 → IsState state → IsMapped code state
+    → AllFinish (meaning.tree thread state) (IsMapped code)
+
+-- at an instruction that is interpreted
+abbrev pub is_interpreting : Mode → Bool
+is_interpreting New = false
+is_interpreting (Runs alpha) = false
+is_interpreting (Interprets state replies) = true
+is_interpreting (Ended end) = false
+
+-- the processor's next step is an interpreted one
+abbrev pub interprets_next : Setting → Processor → Bool
+interprets_next setting p = is_interpreting (mode_of setting p p.mode)

@@ -1,0 +1,5 @@
+pub mod Seen
+pub mod Processors
+pub mod Accesses
+pub mod Turns
+pub mod Laws

@@ -1,0 +1,24 @@
+//! A processor and its turn: one step of one thread, in translated code.
+//!
+//! `processor` keeps a thread between its turns, `next` gives what the word at which it stands does, `call` has the
+//! PALcode calls, `request` the accesses to memory, `registers` what Alpha registers show of a VAX state, and `turn` makes
+//! one step over any memory.
+#![tactic(auto)]
+
+mod arrive;
+mod call;
+mod first_bad;
+pub mod laws;
+mod next;
+mod place;
+mod processor;
+mod registers;
+mod request;
+mod setting;
+#[cfg(test)]
+mod tests;
+mod turn;
+
+pub use processor::Processor;
+pub use system_model::{End, Range};
+pub use turn::Turn;

@@ -1,0 +1,125 @@
+// A thread between its turns.
+ghost use Rattle.std.specs.Prelude.{◌≡◌, ◌<◌, suc};
+ghost use Rattle.image_file.specs.Start.{start_state};
+ghost use Rattle.system_model.specs.Closed.{is_interpreting};
+ghost use Rattle.system_model.specs.Processors.{begun};
+
+use alpha_machine::Cpu;
+use image_file::Start;
+use std::marker::Model;
+use system_model::End;
+use vax_form::{Flags, VaxState};
+
+#[derive(Clone, Copy, Debug)]
+pub(crate) enum Mode {
+    /// Before the first turn.
+    New,
+    /// In translated code.
+    Runs(Cpu),
+    /// At an interpreted instruction.
+    Interprets,
+    Ended(End),
+}
+
+/// A processor, which runs one thread.
+#[derive(Debug, Drop)]
+pub struct Processor {
+    pub(crate) thread: u8,
+    pub(crate) mode: Mode,
+    // The state at which the latest instruction began, or which an ended thread shows.
+    pub(crate) boundary: VaxState,
+    // The codes that stand in their registers whatever their rules.
+    pub(crate) held: Flags,
+    pub(crate) retired: u64,
+    pub(crate) steps: u64,
+    pub(crate) ties: u64,
+    pub(crate) budget: u64,
+}
+
+impl Model for Processor {
+    ghost use Rattle.tie_switch.specs.Processors.{Kept, kept_of, IsCounted};
+
+    ghost Value = { Kept };
+
+    ghost view = { kept_of };
+
+    ghost invariant = { IsCounted };
+}
+
+pub(crate) const ALL_HELD: Flags = Flags {
+    n: true,
+    z: true,
+    v: true,
+    c: true,
+};
+
+impl Processor {
+    ghost use Rattle.tie_switch.specs.Processors.{processor_of, end_of};
+
+    /// A processor before its first turn, which may make so many steps.
+    pub fn new(thread: u8, start: &Start, budget: u64) -> Processor
+        ensures is { processor_of result ≡ begun thread (start_state start.now) }
+        ensures budget { result.budget ≡ budget }
+    {
+        Processor {
+            thread,
+            mode: Mode::New,
+            boundary: start.state(),
+            held: ALL_HELD,
+            retired: 0,
+            steps: 0,
+            ties: 0,
+            budget,
+        }
+    }
+
+    pub fn thread(&self) -> u8
+        ensures { result ≡ self.now.thread }
+    {
+        self.thread
+    }
+
+    pub fn steps(&self) -> u64
+        ensures { result ≡ self.now.steps }
+    {
+        self.steps
+    }
+
+    /// How many of the steps were interpreted.
+    pub fn tie_steps(&self) -> u64
+        ensures { result ≡ self.now.ties }
+    {
+        self.ties
+    }
+
+    /// How many instructions it has retired.
+    pub fn retired(&self) -> u64
+        ensures { result ≡ self.now.retired }
+    {
+        self.retired
+    }
+
+    /// How it ended, if it has.
+    pub fn end(&self) -> Option<End>
+        ensures { result ≡ end_of (processor_of self.now).mode }
+    {
+        match self.mode {
+            Mode::Ended(end) => Some(end),
+            Mode::New | Mode::Runs(_) | Mode::Interprets => None,
+        }
+    }
+
+    /// The state at its last boundary, or that of its end.
+    pub fn shown(&self) -> VaxState
+        ensures { result ≡ self.now.boundary }
+    {
+        self.boundary
+    }
+
+    /// Whether it stands at an instruction that is interpreted.
+    pub fn is_interpreting(&self) -> bool
+        ensures { result ≡ is_interpreting (processor_of self.now).mode }
+    {
+        matches!(self.mode, Mode::Interprets)
+    }
+}

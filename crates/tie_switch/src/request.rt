@@ -1,0 +1,67 @@
+// The requests of Alpha code's accesses.
+ghost use Rattle.std.specs.Prelude.{◌≡◌, ◌+◌, ◌≤◌, ◌%◌, true};
+ghost use Rattle.system_model.specs.Processors.{moment_of};
+ghost use Rattle.system_model.specs.Steps.{kind_of, change_of, is_defined, request_for};
+ghost use Rattle.tie_switch.specs.Accesses.{IsAccess, CanAsk};
+ghost use Rattle.tie_switch.specs.Seen.{setting_of};
+ghost use Rattle.memory_core.specs.Changes.{IsInRange};
+
+use crate::processor::Processor;
+use crate::setting::Setting;
+use alpha_meaning::{AlphaAccess, AlphaKind, stores};
+use memory_core::{Change, Kind, Request};
+
+fn kind_of(kind: AlphaKind) -> Kind
+    ensures { result ≡ kind_of kind }
+{
+    match kind {
+        AlphaKind::Load => Kind::Load,
+        AlphaKind::LoadLocked => Kind::LoadLocked,
+        AlphaKind::Store => Kind::Store,
+        AlphaKind::StoreConditional => Kind::StoreConditional,
+    }
+}
+
+/// A store changes its bytes of the quadword.
+fn change_of(access: AlphaAccess) -> Change
+    requires access { IsAccess access }
+    requires aligned { access.address % access.bytes ≡ 0 }
+    ensures change { result ≡ change_of access }
+    ensures range { IsInRange result }
+{
+    if !stores(access.kind) {
+        return Change::Nothing;
+    }
+    let at = (access.address % 8) as u32;
+    let mask = match (access.bytes, at) {
+        (8, _) => 0xFF,
+        (_, 0) => 0x0F,
+        _ => 0xF0,
+    };
+    Change::Bytes {
+        mask,
+        value: access.value << (8 * at),
+    }
+}
+
+impl Processor {
+    ghost use Rattle.tie_switch.specs.Processors.{processor_of};
+
+    /// The request of an access.
+    pub(crate) fn request_for(&self, setting: Setting<'_>, access: AlphaAccess) -> Request
+        requires access { IsAccess access }
+        requires defined { is_defined (setting_of setting) access ≡ true }
+        ensures request { result ≡ request_for (moment_of (processor_of self.now)) access }
+        ensures can { CanAsk setting.entry.pages.now result }
+    {
+        let pages = setting.pages;
+        let _ = &pages.ranges;
+        Request {
+            processor: self.thread,
+            retired: self.retired,
+            kind: kind_of(access.kind),
+            quad: (access.address / 8 * 8) as u32,
+            change: change_of(access),
+        }
+    }
+}

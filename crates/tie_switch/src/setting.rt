@@ -1,0 +1,66 @@
+// What a processor runs by.
+ghost use Rattle.std.specs.Prelude.{◌≡◌};
+ghost use Rattle.system_model.specs.Meant.{codes_written};
+ghost use Rattle.system_model.specs.Settings.{goes_on};
+ghost use Rattle.exception_records.specs.Points.{point_at};
+ghost use Rattle.system_model.specs.Steps.{rules_of};
+ghost use Rattle.tie_switch.specs.Seen.{setting_of};
+
+use cc_liveness::code_use;
+use exception_records::{CodeRule, Rules};
+use system_model::{Range, Translation, word_for};
+use vax_decode::{Decoded, decode_at};
+use vax_form::{Flags, Pages, operation_of};
+
+/// The pages of an image, its translation, and the addresses that threads interpret.
+#[derive(Clone, Copy)]
+pub(crate) struct Setting<'a> {
+    pub pages: &'a Pages,
+    pub code: &'a Translation,
+    pub ranges: &'a [Range],
+}
+
+pub(crate) const READY: Rules = Rules {
+    n: CodeRule::Ready,
+    z: CodeRule::Ready,
+    v: CodeRule::Ready,
+    c: CodeRule::Ready,
+};
+
+const NO_CODES: Flags = Flags {
+    n: false,
+    z: false,
+    v: false,
+    c: false,
+};
+
+/// The condition codes that the instruction at an address writes.
+pub(crate) fn codes_written(pages: &Pages, address: u32) -> Flags
+    ensures { result ≡ codes_written pages.now address }
+{
+    match decode_at(pages, address) {
+        Decoded::Instr(instr) => match operation_of(instr.opcode) {
+            Some(operation) => code_use(operation).writes,
+            None => NO_CODES,
+        },
+        Decoded::Reserved | Decoded::BadMode | Decoded::Past(_) => NO_CODES,
+    }
+}
+
+/// The rules of a word's point; without one, all codes stand in their registers.
+pub(crate) fn rules_at(code: &Translation, word: u32) -> Rules
+    ensures { result ≡ rules_of (point_at code.now.points word) }
+{
+    match code.points.find(word) {
+        Some(point) => point.rules,
+        None => READY,
+    }
+}
+
+/// Whether a thread goes on in Alpha code at an address, and at which word.
+pub(crate) fn goes_on(setting: Setting<'_>, thread: u8, address: u32) -> Option<u32>
+    ensures { result ≡ goes_on (setting_of setting.entry) thread address }
+{
+    let code = setting.code;
+    word_for(&code.map, setting.ranges, thread, address)
+}
