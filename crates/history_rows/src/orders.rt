@@ -1,8 +1,10 @@
 // Rows of two threads for every list of picks.
+ghost use Rattle.image_file.specs.Whole.{IsWhole};
 
 use crate::images::image_of;
 use crate::machine::{Machine, Quadword};
-use crate::runs::{print_order, print_run, run_by};
+use crate::runs::{Bytes, print_by_order};
+use image_file::Image;
 use std::alloc::{AllocError, Global};
 use std::io;
 use vax_form::Pick;
@@ -17,12 +19,21 @@ fn picks(alloc: Global, threads: u32, length: u32) -> Result<Vec<Pick>, AllocErr
     Ok(order)
 }
 
-fn print_picks(rt: &impl Print, order: &[Pick]) -> io::Result<()> {
-    for pick in order {
-        let thread = pick.thread;
-        print!(rt; " {thread}")?;
-    }
-    Ok(())
+// Each thread comes to its exit with its second instruction.
+const COUNTS: [u64; 2] = [2, 2];
+
+fn print_list(
+    rt: &impl Print,
+    alloc: Global,
+    image: &Image,
+    threads: u32,
+    length: u32,
+    bytes: Bytes,
+) -> io::Result<()>
+    requires { IsWhole image.now }
+{
+    let order = picks(alloc, threads, length)?;
+    print_by_order(rt, alloc, image, &order, &COUNTS, bytes)
 }
 
 // INCB @#1000; EXIT
@@ -30,13 +41,14 @@ const INCREMENT: [u8; 8] = [0x96, 0x9F, 0x00, 0x10, 0x00, 0x00, 0xBC, 0x01];
 
 /// Two threads increment one byte: each reads and writes it. For every list of four picks, what is left in the byte.
 pub fn increments(rt: &impl Print, alloc: Global) -> io::Result<()> {
+    let byte = Bytes {
+        address: 0x1000,
+        count: 1,
+    };
     let image = image_of(alloc, &[0x200, 0x200], &INCREMENT, &[])?;
     for threads in 0..16 {
-        let order = picks(alloc, threads, 4)?;
-        print!(rt; "increments:")?;
-        print_picks(rt, &order)?;
-        let run = run_by(alloc, &image, &order, &[2, 2])?;
-        print_run(rt, &run, 0x1000, 1)?;
+        print!(rt; "increments: ")?;
+        print_list(rt, alloc, &image, threads, 4, byte)?;
     }
     Ok(())
 }
@@ -47,17 +59,20 @@ const LONGWORD: [u8; 18] = [
     0xD2, 0x00, 0x9F, 0x02, 0x10, 0x00, 0x00, 0xBC, 0x01,
 ];
 
+// The longword and its neighbours.
+const AROUND: Bytes = Bytes {
+    address: 0x1001,
+    count: 6,
+};
+
 /// One thread reads an unaligned longword within a quadword, and the other writes it. For every list of at most three
 /// picks, what is left, and the end of each thread.
 pub fn longword_in_one(rt: &impl Print, alloc: Global) -> io::Result<()> {
     let image = image_of(alloc, &[0x200, 0x209], &LONGWORD, &[])?;
     for length in 0..4 {
         for threads in 0..1 << length {
-            let order = picks(alloc, threads, length)?;
-            print!(rt; "longword:")?;
-            print_picks(rt, &order)?;
-            let run = run_by(alloc, &image, &order, &[2, 2])?;
-            print_run(rt, &run, 0x1001, 6)?;
+            print!(rt; "longword: ")?;
+            print_list(rt, alloc, &image, threads, length, AROUND)?;
         }
     }
     Ok(())
@@ -80,18 +95,22 @@ fn load_at(machine: &mut Machine, place: u8) -> u64 {
     loaded
 }
 
+fn print_accesses(rt: &impl Print, alloc: Global, image: &Image, place: u8) -> io::Result<()>
+    requires { IsWhole image.now }
+{
+    let mut machine = Machine::new(alloc, image, 0)?;
+    let loaded = load_at(&mut machine, place) >> 16 & 0xFFFF_FFFF;
+    let order = machine.order(alloc)?;
+    print!(rt; "longword by accesses: loaded {loaded:08X} ")?;
+    print_by_order(rt, alloc, image, &order, &COUNTS, AROUND)
+}
+
 /// The same by accesses, with the load before, between and behind those of the write: what is loaded, the order that is
 /// kept, and the threads driven by it.
 pub fn longword_by_accesses(rt: &impl Print, alloc: Global) -> io::Result<()> {
     let image = image_of(alloc, &[0x200, 0x209], &LONGWORD, &[])?;
     for place in 0..3 {
-        let mut machine = Machine::new(alloc, &image, 0)?;
-        let loaded = load_at(&mut machine, place) >> 16 & 0xFFFF_FFFF;
-        let order = machine.order(alloc)?;
-        print!(rt; "longword by accesses: loaded {loaded:08X} ")?;
-        print_order(rt, &order)?;
-        let run = run_by(alloc, &image, &order, &[2, 2])?;
-        print_run(rt, &run, 0x1001, 6)?;
+        print_accesses(rt, alloc, &image, place)?;
     }
     Ok(())
 }

@@ -7,8 +7,8 @@ use std::io::{self, ErrorKind};
 use vax_form::{Exception, Pick};
 use vax_run::{DrivenRun, ThreadRun, driven};
 
-/// Drives the threads of an image by an order, without input, and shows each after that many instructions.
-pub fn run_by(
+// Drives the threads of an image by an order, without input, and shows each after that many instructions.
+fn run_by(
     alloc: Global,
     image: &Image,
     order: &[Pick],
@@ -22,7 +22,7 @@ pub fn run_by(
     driven(alloc, image, &[], order, counts).map_err(|_| ErrorKind::OutOfMemory.into())
 }
 
-pub fn print_order(rt: &impl Print, order: &[Pick]) -> io::Result<()> {
+fn print_order(rt: &impl Print, order: &[Pick]) -> io::Result<()> {
     print!(rt; "order")?;
     for pick in order {
         let thread = pick.thread;
@@ -54,25 +54,60 @@ fn print_thread(rt: &impl Print, thread: &ThreadRun) -> io::Result<()> {
     }
 }
 
-/// Prints so many bytes from an address on, and the end of each thread.
-pub fn print_run(
-    rt: &impl Print,
-    run: &Option<DrivenRun>,
-    address: u32,
-    count: u32,
-) -> io::Result<()> {
-    let Some(run) = run else {
-        return println!(rt; " none");
-    };
+/// Some bytes that are printed of memory.
+#[derive(Clone, Copy)]
+pub struct Bytes {
+    pub address: u32,
+    pub count: u32,
+}
+
+fn print_bytes(rt: &impl Print, run: &DrivenRun, bytes: Bytes) -> io::Result<()> {
     print!(rt; " bytes")?;
-    for place in 0..count {
-        match byte_at(run, address.wrapping_add(place)) {
+    for place in 0..bytes.count {
+        match byte_at(run, bytes.address.wrapping_add(place)) {
             Some(byte) => print!(rt; " {byte:02X}")?,
             None => print!(rt; " none")?,
         }
     }
+    Ok(())
+}
+
+fn print_run(rt: &impl Print, run: &DrivenRun, bytes: Bytes) -> io::Result<()> {
+    print_bytes(rt, run, bytes)?;
     for thread in &run.threads {
         print_thread(rt, thread)?;
     }
     println!(rt; "")
+}
+
+/// Drives the threads of an image by an order, and prints what it leaves of these bytes and the end of each thread.
+pub fn print_driven(
+    rt: &impl Print,
+    alloc: Global,
+    image: &Image,
+    order: &[Pick],
+    counts: &[u64],
+    bytes: Bytes,
+) -> io::Result<()>
+    requires { IsWhole image.now }
+{
+    match run_by(alloc, image, order, counts)? {
+        Some(run) => print_run(rt, &run, bytes),
+        None => println!(rt; " none"),
+    }
+}
+
+/// Prints the order, too.
+pub fn print_by_order(
+    rt: &impl Print,
+    alloc: Global,
+    image: &Image,
+    order: &[Pick],
+    counts: &[u64],
+    bytes: Bytes,
+) -> io::Result<()>
+    requires { IsWhole image.now }
+{
+    print_order(rt, order)?;
+    print_driven(rt, alloc, image, order, counts, bytes)
 }

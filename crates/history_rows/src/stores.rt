@@ -1,14 +1,16 @@
 // Rows of bytes that are stored by load-locked accesses.
 ghost use Rattle.std.specs.Prelude.{◌<◌};
+ghost use Rattle.image_file.specs.Whole.{IsWhole};
 
 use crate::images::image_of;
 use crate::machine::{Machine, Quadword, with_byte};
-use crate::runs::{print_order, print_run, run_by};
+use crate::runs::{Bytes, print_by_order, print_driven};
+use image_file::Image;
 use std::alloc::Global;
 use std::io::{self, ErrorKind};
 use vax_form::Pick;
 
-const DATA: [u8; 8] = [0xA0, 0xA1, 0xA2, 0xA3, 0xA4, 0xA5, 0xA6, 0xA7];
+const STORED: [u8; 8] = [0xA0, 0xA1, 0xA2, 0xA3, 0xA4, 0xA5, 0xA6, 0xA7];
 
 // Stores the byte at that place behind 1000, by one load-locked access and one store conditional.
 fn store_byte(machine: &mut Machine, retired: u64, place: u8, byte: u8) -> io::Result<()> {
@@ -27,22 +29,38 @@ fn store_byte(machine: &mut Machine, retired: u64, place: u8, byte: u8) -> io::R
     }
 }
 
+// The order that is kept where one processor stores these bytes at their places, after two instructions.
+fn order_of_bytes(alloc: Global, image: &Image, bytes: &[(u8, u8)]) -> io::Result<Vec<Pick>>
+    requires { IsWhole image.now }
+{
+    let mut machine = Machine::new(alloc, image, 0)?;
+    for (place, byte) in bytes {
+        store_byte(&mut machine, 2, *place, *byte)?;
+    }
+    machine.order(alloc)
+}
+
+// The quadword at 1000.
+const QUADWORD: Bytes = Bytes {
+    address: 0x1000,
+    count: 8,
+};
+
+fn byte_at_place(rt: &impl Print, alloc: Global, k: u8) -> io::Result<()> {
+    // MOVZBL #EE,R0; MOVL #100k,R1; MOVB R0,(R1); EXIT
+    let code = [
+        0x9A, 0x8F, 0xEE, 0x50, 0xD0, 0x8F, k, 0x10, 0x00, 0x00, 0x51, 0x90, 0x50, 0x61, 0xBC, 0x01,
+    ];
+    let image = image_of(alloc, &[0x200], &code, &STORED)?;
+    let order = order_of_bytes(alloc, &image, &[(k, 0xEE)])?;
+    print!(rt; "byte at 100{k}: ")?;
+    print_by_order(rt, alloc, &image, &order, &[4], QUADWORD)
+}
+
 /// A byte is stored at each place of a quadword: one pick, and the other seven bytes stand.
 pub fn byte_in_a_quadword(rt: &impl Print, alloc: Global) -> io::Result<()> {
     for k in 0..8 {
-        // MOVZBL #EE,R0; MOVL #100k,R1; MOVB R0,(R1); EXIT
-        let code = [
-            0x9A, 0x8F, 0xEE, 0x50, 0xD0, 0x8F, k, 0x10, 0x00, 0x00, 0x51, 0x90, 0x50, 0x61, 0xBC,
-            0x01,
-        ];
-        let image = image_of(alloc, &[0x200], &code, &DATA)?;
-        let mut machine = Machine::new(alloc, &image, 0)?;
-        store_byte(&mut machine, 2, k, 0xEE)?;
-        let order = machine.order(alloc)?;
-        print!(rt; "byte at 100{k}: ")?;
-        print_order(rt, &order)?;
-        let run = run_by(alloc, &image, &order, &[4])?;
-        print_run(rt, &run, 0x1000, 8)?;
+        byte_at_place(rt, alloc, k)?;
     }
     Ok(())
 }
@@ -57,29 +75,30 @@ const fn word_code(address: [u8; 2]) -> [u8; 17] {
 
 /// A word is stored in two quadwords: two picks.
 pub fn word_across_quadwords(rt: &impl Print, alloc: Global) -> io::Result<()> {
+    let word = Bytes {
+        address: 0x1006,
+        count: 4,
+    };
     let image = image_of(alloc, &[0x200], &word_code([0x07, 0x10]), &[])?;
-    let mut machine = Machine::new(alloc, &image, 0)?;
-    store_byte(&mut machine, 2, 7, 0xDD)?;
-    store_byte(&mut machine, 2, 8, 0xEE)?;
-    let order = machine.order(alloc)?;
+    let order = order_of_bytes(alloc, &image, &[(7, 0xDD), (8, 0xEE)])?;
     print!(rt; "word at 1007: ")?;
-    print_order(rt, &order)?;
-    let run = run_by(alloc, &image, &order, &[4])?;
-    print_run(rt, &run, 0x1006, 4)
+    print_by_order(rt, alloc, &image, &order, &[4], word)
 }
 
 /// Its second byte would be in a page that the image lacks: no pick, and a pick wants nothing.
 pub fn word_across_pages(rt: &impl Print, alloc: Global) -> io::Result<()> {
-    let image = image_of(alloc, &[0x200], &word_code([0xFF, 0x11]), &[])?;
+    let byte = Bytes {
+        address: 0x11FF,
+        count: 1,
+    };
     let pick = Pick {
         thread: 0,
         retired: 2,
     };
+    let image = image_of(alloc, &[0x200], &word_code([0xFF, 0x11]), &[])?;
     for order in [&[], &[pick][..]] {
         print!(rt; "word at 11FF: ")?;
-        print_order(rt, order)?;
-        let run = run_by(alloc, &image, order, &[2])?;
-        print_run(rt, &run, 0x11FF, 1)?;
+        print_by_order(rt, alloc, &image, order, &[2], byte)?;
     }
     Ok(())
 }
@@ -140,36 +159,56 @@ fn counted(order: &[Pick], thread: u8) -> usize {
     order.iter().filter(|pick| pick.thread == thread).count()
 }
 
-/// Two threads store neighbouring bytes, in turns: each has its entries counted.
-pub fn neighbours(rt: &impl Print, alloc: Global) -> io::Result<()> {
-    let image = image_of(alloc, &[0x200, 0x200], &LOOP, &[0xFF; 8])?;
-    let mut machine = Machine::new(alloc, &image, 0)?;
+// The order that is kept where two processors store in turns.
+fn order_of_two(alloc: Global, image: &Image) -> io::Result<Vec<Pick>>
+    requires { IsWhole image.now }
+{
+    let mut machine = Machine::new(alloc, image, 0)?;
     let mut first = Storer::new(0);
     let mut second = Storer::new(1);
     for _ in 0..4 * STORES {
         first.turn(&mut machine);
         second.turn(&mut machine);
     }
-    let order = machine.order(alloc)?;
-    let of_first = counted(&order, 0);
-    let of_second = counted(&order, 1);
-    print!(rt; "stores of two threads: counted {of_first} {of_second}")?;
-    let run = run_by(alloc, &image, &order, &[INSTRUCTIONS, INSTRUCTIONS])?;
-    print_run(rt, &run, 0x1000, 8)
+    machine.order(alloc)
 }
 
-/// One thread, each second of whose store conditionals fails.
-pub fn stores_that_miss(rt: &impl Print, alloc: Global) -> io::Result<()> {
-    let image = image_of(alloc, &[0x200], &LOOP, &[0xFF; 8])?;
-    let mut machine = Machine::new(alloc, &image, 2)?;
+/// Two threads store neighbouring bytes, in turns: each has its entries counted.
+pub fn neighbours(rt: &impl Print, alloc: Global) -> io::Result<()> {
+    let image = image_of(alloc, &[0x200, 0x200], &LOOP, &[0xFF; 8])?;
+    let order = order_of_two(alloc, &image)?;
+    let first = counted(&order, 0);
+    let second = counted(&order, 1);
+    print!(rt; "stores of two threads: counted {first} {second}")?;
+    print_driven(
+        rt,
+        alloc,
+        &image,
+        &order,
+        &[INSTRUCTIONS, INSTRUCTIONS],
+        QUADWORD,
+    )
+}
+
+// One processor that stores, each second of whose store conditionals fails.
+fn machine_that_misses(alloc: Global, image: &Image) -> io::Result<Machine>
+    requires { IsWhole image.now }
+{
+    let mut machine = Machine::new(alloc, image, 2)?;
     let mut storer = Storer::new(0);
     for _ in 0..4 * STORES {
         storer.turn(&mut machine);
     }
+    Ok(machine)
+}
+
+/// One thread stores, and each second of its store conditionals fails.
+pub fn stores_that_miss(rt: &impl Print, alloc: Global) -> io::Result<()> {
+    let image = image_of(alloc, &[0x200], &LOOP, &[0xFF; 8])?;
+    let machine = machine_that_misses(alloc, &image)?;
     let order = machine.order(alloc)?;
     let counted = counted(&order, 0);
     let failed = machine.failed();
     print!(rt; "stores that miss: counted {counted} failed {failed}")?;
-    let run = run_by(alloc, &image, &order, &[INSTRUCTIONS])?;
-    print_run(rt, &run, 0x1000, 8)
+    print_driven(rt, alloc, &image, &order, &[INSTRUCTIONS], QUADWORD)
 }
