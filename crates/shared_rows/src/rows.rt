@@ -1,16 +1,15 @@
 // Each test ends by itself, with the same result whatever the schedule.
-use crate::threads::{Outcome, count_up, share};
+use crate::threads::{count_up, share};
 use crate::worker::{Op, Plan, QUAD, Way, Worker, pass_of, worker_for};
 use memory_core::Reply;
 use std::sync::atomic::{AtomicU64, Ordering};
 use std::sync::{Mutex, Wait};
-use std::test::Fail;
 use std::thread::yield_now;
 use vt_outside::{Gate, OpenGate};
 
 // The last row is a million accesses.
 #[test]
-fn sums_are_exact(rt: HostRuntime) -> Result<(), Fail> {
+fn sums_are_exact(rt: HostRuntime) {
     for (way, threads, count, sum) in [
         (Way::Interlocked, 4, 500, 2000u32),
         (Way::Interlocked, 16, 100, 1600),
@@ -19,35 +18,33 @@ fn sums_are_exact(rt: HostRuntime) -> Result<(), Fail> {
         (Way::Interlocked, 4, 250_000, 1_000_000),
     ] {
         let plan = Plan { way, count };
-        let end = count_up(&rt, rt.alloc(), &OpenGate, plan, threads, 1_000_000)?;
+        let end = count_up(&rt, rt.alloc(), &OpenGate, plan, threads, 1_000_000);
         let [low, high, _, _] = sum.to_le_bytes();
         assert_eq!(rt; (end.made, end.stopped), (sum, 0));
         assert_eq!(rt; end.memory.byte(QUAD), Some(low));
         assert_eq!(rt; end.memory.byte(QUAD + 1), Some(high));
     }
-    Ok(())
 }
 
 #[test]
-fn threads_meet_the_limit(rt: HostRuntime) -> Result<(), Fail> {
+fn threads_meet_the_limit(rt: HostRuntime) {
     let plan = Plan {
         way: Way::Interlocked,
         count: 400,
     };
-    let end = count_up(&rt, rt.alloc(), &OpenGate, plan, 8, 300)?;
+    let end = count_up(&rt, rt.alloc(), &OpenGate, plan, 8, 300);
     assert_eq!(rt; (end.made, end.stopped), (300, 8));
     assert_eq!(rt; end.memory.history().len(), 300);
-    Ok(())
 }
 
 // Each entry finds what the one before it left, and each processor has just its own.
 #[test]
-fn one_history(rt: HostRuntime) -> Result<(), Fail> {
+fn one_history(rt: HostRuntime) {
     let plan = Plan {
         way: Way::Interlocked,
         count: 50,
     };
-    let end = count_up(&rt, rt.alloc(), &OpenGate, plan, 4, 1000)?;
+    let end = count_up(&rt, rt.alloc(), &OpenGate, plan, 4, 1000);
     let history = end.memory.take_history();
     let mut counts = [0u8; 4];
     for (place, entry) in history.iter().enumerate() {
@@ -56,7 +53,6 @@ fn one_history(rt: HostRuntime) -> Result<(), Fail> {
         *own = own.wrapping_add(1);
     }
     assert_eq!(rt; counts, [50; 4]);
-    Ok(())
 }
 
 // Holds each processor's first access until the others have called, for so many turns at most. It adds up what it was
@@ -91,7 +87,7 @@ impl Gate for Meeting {
 
 // A body that calls the gate with the turn taken, or makes all accesses from one thread, reaches the end of a hold.
 #[test]
-fn four_threads_meet(rt: HostRuntime) -> Result<(), Fail> {
+fn four_threads_meet(rt: HostRuntime) {
     let gate = Meeting {
         count: 4,
         here: AtomicU64::new(0),
@@ -103,13 +99,12 @@ fn four_threads_meet(rt: HostRuntime) -> Result<(), Fail> {
         way: Way::Interlocked,
         count: 10,
     };
-    let end = count_up(&rt, rt.alloc(), &gate, plan, 4, 1000)?;
+    let end = count_up(&rt, rt.alloc(), &gate, plan, 4, 1000);
     assert_eq!(rt; (end.made, end.stopped), (40, 0));
     assert_eq!(rt; gate.missed.load(Ordering::SeqCst), 0);
     assert_eq!(rt; gate.here.load(Ordering::SeqCst), 4);
     assert_eq!(rt; gate.processors.load(Ordering::SeqCst), 60);
     assert_eq!(rt; gate.numbers.load(Ordering::SeqCst), 180);
-    Ok(())
 }
 
 // Before each access of another processor it makes one of its own.
@@ -134,8 +129,8 @@ fn made(before: u64) -> Reply {
 
 // What is made in the gate stands before the access, and needs no lock that the access holds.
 #[test]
-fn the_gate_comes_first(rt: HostRuntime) -> Result<(), Fail> {
-    let (memory, mut keeper) = share(&rt, rt.alloc(), 2, 10)?;
+fn the_gate_comes_first(rt: HostRuntime) {
+    let (memory, mut keeper) = share(&rt, rt.alloc(), 2, 10);
     let first = memory.split(&mut keeper, 0);
     let second = memory.split(&mut keeper, 1);
     let gate = AskFirst {
@@ -146,13 +141,12 @@ fn the_gate_comes_first(rt: HostRuntime) -> Result<(), Fail> {
     assert_eq!(rt; worker.ask(Op::Add), made(1));
     assert_eq!(rt; worker.ask(Op::Load), made(3));
     assert_eq!(rt; worker.port.asked, 2);
-    Ok(())
 }
 
 // Two processors in turns, joined and closed: who made each entry, and what it found.
 #[test]
-fn passes_of_one_history(rt: HostRuntime) -> Result<(), Fail> {
-    let (memory, mut keeper) = share(&rt, rt.alloc(), 2, 4)?;
+fn passes_of_one_history(rt: HostRuntime) {
+    let (memory, mut keeper) = share(&rt, rt.alloc(), 2, 4);
     let first = memory.split(&mut keeper, 1);
     let second = memory.split(&mut keeper, 0);
     let mut one = worker_for(&rt, &memory, &OpenGate, 1, first);
@@ -174,5 +168,4 @@ fn passes_of_one_history(rt: HostRuntime) -> Result<(), Fail> {
         assert_eq!(rt; entry.processor, processor);
         assert_eq!(rt; (entry.before, entry.after), (before, after));
     }
-    Ok(())
 }

@@ -1,5 +1,5 @@
 // Processors that count up one word, each in a thread of its own.
-ghost use Rattle.std.specs.Prelude.{◌≡◌, ◌≤◌, ◌+◌, [], All, IfOk, IfSome, length, vec_len};
+ghost use Rattle.std.specs.Prelude.{◌≡◌, ◌≤◌, ◌+◌, [], All, IfSome, length, vec_len};
 ghost use Rattle.shared_memory.specs.Passes.{processors_of, given_of, ended_of, IsPassOf, IsKeeperOf, IsNew};
 ghost use Rattle.shared_rows.specs.Words.{Opens};
 
@@ -7,10 +7,9 @@ use crate::worker::{Plan, QUAD, pass_of, worker_for};
 use image_file::read_image;
 use memory_core::MemState;
 use shared_memory::{Pass, SharedMemory};
-use std::alloc::{AllocError, Global};
+use std::alloc::Global;
 use std::process::Abort;
 use std::sync::Wait;
-use std::test::Fail;
 use std::thread;
 use std::thread::Threads;
 use vt_outside::Gate;
@@ -68,47 +67,47 @@ fn run_all<R: Threads + Wait + Sync, G: Gate + Sync>(
     );
 }
 
-// A memory of the image, and its keeper.
-pub fn share<R: Abort>(
-    rt: &R,
-    alloc: Global,
-    processors: u8,
-    limit: u32,
-) -> Result<(SharedMemory, Pass), Fail>
-    ensures keeper { IfOk result (λ r. IsKeeperOf r.0 r.1 × IsNew r.1 × (processors_of r.0 ≡ processors)) }
-    ensures opens { IfOk result (λ r. Opens r.0) }
+/// A memory of the image, and its keeper.
+pub fn share<R: Abort>(rt: &R, alloc: Global, processors: u8, limit: u32) -> (SharedMemory, Pass)
+    ensures keeper { IsKeeperOf result.0 result.1 × IsNew result.1 × (processors_of result.0 ≡ processors) }
+    ensures opens { Opens result.0 }
 {
-    let image = read_image(alloc, &IMAGE)?;
+    let image = read_image(alloc, &IMAGE).expect(rt, "the image");
     assert!(rt; image.pages.allowed(QUAD, true));
     assert!(rt; image.pages.allowed(QUAD, false));
-    let state = MemState::new(alloc, &image, Vec::new(alloc), processors, limit, 0)?;
-    Ok(SharedMemory::new(alloc, state)?)
+    let state = MemState::new(alloc, &image, Vec::new(alloc), processors, limit, 0).expect(
+        rt, "memory",
+    );
+    SharedMemory::new(alloc, state).expect(rt, "memory")
 }
 
 // A job for each number below `threads`.
-fn split_all(
+fn split_all<R: Abort>(
+    rt: &R,
     alloc: Global,
     memory: &SharedMemory,
     keeper: &mut Pass,
     plan: Plan,
     threads: u8,
-) -> Result<Vec<Job>, AllocError>
+) -> Vec<Job>
     requires keeper { IsKeeperOf memory.now keeper.old × IsNew keeper.old }
     requires threads { threads ≤ processors_of memory.now }
     ensures keeper { IsKeeperOf memory.now keeper.new × (ended_of keeper.new ≡ []) }
-    ensures jobs { IfOk result (λ v. All (λ j. IfSome j.pass (λ p. IsPassOf memory.now j.number p)) v.items × (length (given_of keeper.new) ≡ vec_len v)) }
+    ensures jobs { All (λ j. IfSome j.pass (λ p. IsPassOf memory.now j.number p)) result.items }
+    ensures given { length (given_of keeper.new) ≡ vec_len result }
 {
     let mut jobs = Vec::new(alloc);
     for number in 0..threads {
         let pass = memory.split(keeper, number);
-        jobs.push(Job {
+        let job = Job {
             number,
             plan,
             made: 0,
             pass: Some(pass),
-        })?;
+        };
+        jobs.push(job).expect(rt, "memory");
     }
-    Ok(jobs)
+    jobs
 }
 
 /// What the processors did, and the memory behind it.
@@ -150,15 +149,15 @@ pub fn count_up<R: Threads + Wait + Abort + Sync, G: Gate + Sync>(
     plan: Plan,
     threads: u8,
     limit: u32,
-) -> Result<Outcome, Fail> {
-    let (memory, mut keeper) = share(rt, alloc, threads, limit)?;
-    let mut jobs = split_all(alloc, &memory, &mut keeper, plan, threads)?;
+) -> Outcome {
+    let (memory, mut keeper) = share(rt, alloc, threads, limit);
+    let mut jobs = split_all(rt, alloc, &memory, &mut keeper, plan, threads);
     run_all(rt, &memory, gate, jobs.as_mut_slice());
     let (made, stopped) = join_all(rt, &memory, &mut keeper, jobs);
     let memory = memory.close(keeper);
-    Ok(Outcome {
+    Outcome {
         made,
         stopped,
         memory,
-    })
+    }
 }

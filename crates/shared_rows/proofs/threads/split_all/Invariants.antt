@@ -5,7 +5,7 @@ use Rattle.shared_memory.specs.Passes.{given_of, ended_of, IsPassOf, IsKeeperOf}
 use Rattle.shared_rows.proofs.threads.split_all.Given as goal
 
 abbrev pub invariant-loop-number : goal.invariant-loop-number
-invariant-loop-number l = record {
+invariant-loop-number g l = record {
   keeper : IsKeeperOf l.memory l.keeper;
   ended : ended_of l.keeper ≡ [];
   fresh : (q : ℕ) → l.number ≤ q → times q (given_of l.keeper) ≡ 0;
