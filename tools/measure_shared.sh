@@ -17,10 +17,10 @@ use vt_outside::OpenGate;
 use worker::{Plan, Way};
 
 fn main(rt: HostRuntime) -> io::Result<()> {
-    for threads in [4, 4, 4, 1] {
+    for (threads, count) in [(4, 250_000), (4, 250_000), (4, 250_000), (1, 1_000_000)] {
         let plan = Plan {
             way: Way::Interlocked,
-            count: 1_000_000 / u32::from(threads),
+            count,
         };
         let start = Instant::now(&rt)?;
         let end = count_up(&rt, rt.alloc(), &OpenGate, plan, threads, 1_000_000);
