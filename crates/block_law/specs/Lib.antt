@@ -4,3 +4,4 @@ pub mod Follows
 pub mod Laws
 pub mod Tidy
 pub mod Translations
+pub mod Blocks

@@ -4,3 +4,4 @@ pub mod Steps
 pub mod Processors
 pub mod Legal
 pub mod Laws
+pub mod Meant
