@@ -13,7 +13,6 @@ use crate::case::Case;
 use crate::difference::difference;
 use crate::ending::ending_of;
 use anyhow::{Context, Result};
-use std::alloc::Global;
 use std::fs;
 
 /// How many cases there were, and how many agree.
