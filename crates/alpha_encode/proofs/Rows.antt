@@ -1,14 +1,17 @@
 -- What holds of each row.
-use Rattle.std.proofs.Common.{◌≡◌, ℕ, ◌<◌, refl, List, [], ◌∷◌, Option, Some, None, Bool, true, false, cond, eqb, eqb-true, lit<, subst, inl, inr, ⊎_elim}
+use Rattle.std.proofs.Common.{◌≡◌, ℕ, ◌+◌, ◌*◌, ◌/◌, ◌%◌, ◌^◌, ◌<◌, refl, List, [], ◌∷◌, Option, Some, None, Bool, true, false, cond, eqb, eqb-true, lit<, inl, inr, ⊎_elim, arith}
 use Rattle.std.specs.Prelude.{◌⊎◌, ◌&&◌}
-use Rattle.std.specs.List.{find}
+use Rattle.std.specs.List.{list_all}
+use Rattle.std.specs.Map.{lookup}
 use Rattle.alpha_encode.specs.declared.instr.MemoryOp.{MemoryOp}
 use Rattle.alpha_encode.specs.declared.instr.MemoryOp.TheVariants.{Lda}
 use Rattle.alpha_encode.specs.declared.instr.BranchOp.{BranchOp}
 use Rattle.alpha_encode.specs.declared.instr.BranchOp.TheVariants.{Br}
 use Rattle.alpha_encode.specs.declared.instr.OperateOp.{OperateOp}
 use Rattle.alpha_encode.specs.declared.instr.OperateOp.TheVariants.{Addl}
-use Rattle.alpha_encode.specs.Rows.{memory_opcode, branch_opcode, operate_code, memory_ops, branch_ops, operate_ops, memory_at, branch_at, operate_at}
+use Rattle.alpha_encode.specs.declared.tables.TheConstants.{MEMORY_ROWS, BRANCH_ROWS, OPERATE_ROWS}
+use Rattle.alpha_encode.specs.contracts.instr.OperateOpPartialEq.TheImpl.{ghosts as operate_op}
+use Rattle.alpha_encode.specs.Rows.{row_at, code_of, memory_opcode, branch_opcode, operate_code, memory_at, branch_at, operate_at}
 
 -- each row is found by its own opcode, and by no other format
 pub record MemoryRow (op : MemoryOp) : Type 0 where
@@ -48,23 +51,38 @@ pub and_true : (a b : Bool) → (a && b) ≡ true → (a ≡ true) × (b ≡ tru
 and_true true b e = (refl, e)
 and_true false b e = cc
 
--- what a search finds passes its test
-pub passes_of_found : {A : Type 0} (test : A → Bool) (xs : List A) (a : A) → find test xs ≡ Some a → test a ≡ true
-passes_of_found test [] a e = cc
-passes_of_found test (x ∷ xs) a e =
-    ⊎_elim
-    (λ (h : (test x ≡ true) × (x ≡ a)). subst (λ y. test y ≡ true) h.1 h.0)
-    (λ (h : (test x ≡ false) × (find test xs ≡ Some a)). passes_of_found test xs a h.1)
-    (chosen (test x) x a (find test xs) e)
+-- each row has the code that its instruction finds
+abbrev pub has_codes : {A : Type 0} → (A → ℕ) → List (ℕ × A) → Bool
+has_codes code_of rows = list_all (λ row. eqb (code_of row.1) row.0) rows
 
--- the row that an opcode finds has this opcode
+-- so the instruction that a test finds has a code that passes it
+found_has : {A : Type 0} (code_of : A → ℕ) (test : ℕ → Bool) (rows : List (ℕ × A)) (op : A) → has_codes code_of rows ≡ true → lookup test rows ≡ Some op → test (code_of op) ≡ true
+found_has code_of test [] op all e = cc
+found_has code_of test (row ∷ rows) op all e =
+    let parts = and_true (eqb (code_of row.1) row.0) (has_codes code_of rows) all in
+    ⊎_elim
+    (λ (h : (test row.0 ≡ true) × (row.1 ≡ op)). let code = eqb-true (code_of row.1) row.0 parts.0 in cc)
+    (λ (h : (test row.0 ≡ false) × (lookup test rows ≡ Some op)). found_has code_of test rows op parts.1 h.1)
+    (chosen (test row.0) row.1 op (lookup test rows) e)
+
 pub memory_of_found : (opcode : ℕ) (op : MemoryOp) → memory_at opcode ≡ Some op → memory_opcode op ≡ opcode
-memory_of_found opcode op e = eqb-true (memory_opcode op) opcode (passes_of_found (λ op. eqb (memory_opcode op) opcode) memory_ops op e)
+memory_of_found opcode op e = eqb-true (memory_opcode op) opcode (found_has memory_opcode (λ code. eqb code opcode) MEMORY_ROWS op refl e)
 
 pub branch_of_found : (opcode : ℕ) (op : BranchOp) → branch_at opcode ≡ Some op → branch_opcode op ≡ opcode
-branch_of_found opcode op e = eqb-true (branch_opcode op) opcode (passes_of_found (λ op. eqb (branch_opcode op) opcode) branch_ops op e)
+branch_of_found opcode op e = eqb-true (branch_opcode op) opcode (found_has branch_opcode (λ code. eqb code opcode) BRANCH_ROWS op refl e)
 
 pub operate_of_found : (opcode function : ℕ) (op : OperateOp) → operate_at opcode function ≡ Some op → ((operate_code op).0 ≡ opcode) × ((operate_code op).1 ≡ function)
 operate_of_found opcode function op e =
-    let both = and_true _ _ (passes_of_found (λ op. eqb (operate_code op).0 opcode && eqb (operate_code op).1 function) operate_ops op e) in
+    let both = and_true _ _ (found_has (code_of operate_op.eq OPERATE_ROWS) (λ code. eqb (code / 2 ^ 8) opcode && eqb (code % 2 ^ 8) function) OPERATE_ROWS op refl e) in
     (eqb-true (operate_code op).0 opcode both.0, eqb-true (operate_code op).1 function both.1)
+
+-- an opcode and a function are one code
+one_code : (code opcode function : ℕ) → function < 2 ^ 8 → eqb code (opcode * 2 ^ 8 + function) ≡ (eqb (code / 2 ^ 8) opcode && eqb (code % 2 ^ 8) function)
+one_code code opcode function below = grind arith
+
+by_code : {A : Type 0} (rows : List (ℕ × A)) (opcode function : ℕ) → function < 2 ^ 8 → row_at rows (opcode * 2 ^ 8 + function) ≡ lookup (λ code. eqb (code / 2 ^ 8) opcode && eqb (code % 2 ^ 8) function) rows
+by_code [] opcode function below = refl
+by_code (row ∷ rows) opcode function below = rw (one_code row.0 opcode function below, by_code rows opcode function below) refl
+
+pub operate_by_code : (opcode function : ℕ) → function < 2 ^ 8 → row_at OPERATE_ROWS (opcode * 2 ^ 8 + function) ≡ operate_at opcode function
+operate_by_code = by_code OPERATE_ROWS

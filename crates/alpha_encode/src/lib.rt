@@ -5,6 +5,7 @@
 mod decoder;
 mod encoder;
 mod instr;
+mod tables;
 #[cfg(test)]
 mod tests;
 

@@ -1,7 +1,7 @@
 // Branch format, and JMP.
-ghost use Rattle.std.specs.Prelude.{◌≡◌, ◌<◌, ◌*◌, ◌+◌, slice_index};
+ghost use Rattle.std.specs.Prelude.{◌≡◌, ◌<◌, slice_index};
 ghost use Rattle.alpha_encode.specs.declared.instr.AlphaInstr.{AlphaInstr};
-ghost use Rattle.alpha_meaning.specs.Act.{act, branch_act};
+ghost use Rattle.alpha_meaning.specs.Act.{act, branch_act, link_of};
 ghost use Rattle.alpha_machine.specs.Step.{IsStep, state_of};
 
 use crate::cpu::{AlphaStep, Cpu};
@@ -11,9 +11,9 @@ use alpha_meaning::{is_taken, links};
 /// The address of the next word, in bytes.
 #[inline]
 fn next_address(cpu: &Cpu) -> u64
-    ensures { result ≡ 4 * (cpu.now.pc + 1) }
+    ensures { result ≡ link_of cpu.now.pc }
 {
-    4 * (u64::from(cpu.pc) + 1)
+    4 * u64::from(cpu.pc.wrapping_add(1))
 }
 
 pub(crate) fn branch_step(cpu: &mut Cpu, op: BranchOp, ra: u8, disp: i32) -> AlphaStep

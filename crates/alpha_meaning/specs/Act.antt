@@ -46,7 +46,11 @@ taken Bne a = not (a == 0)
 taken Bge a = nat_lt a (2 ^ 63)
 taken Bgt a = not (a == 0 || nat_le (2 ^ 63) a)
 
--- Unconditional Branch: the address of the next word, in bytes, goes into Ra
+-- the address of the next word, in bytes; there are 2^32 words
+abbrev pub link_of : (pc : ℕ) → ℕ
+link_of pc = 4 * ((pc + 1) % 2 ^ 32)
+
+-- Unconditional Branch: the address of the next word goes into Ra
 abbrev pub links : BranchOp → Bool
 links Br = true
 links Bsr = true
@@ -58,7 +62,7 @@ target_of pc disp = (pc + 1 + cast_unsigned w32 disp) % 2 ^ 32
 
 abbrev pub branch_act : BranchOp → (ra : ℕ) (disp : ℤ) → Alpha → Does
 branch_act op ra disp s = Goes (record {
-  regs = if links op then put s.regs ra (4 * (s.pc + 1)) else s.regs;
+  regs = if links op then put s.regs ra (link_of s.pc) else s.regs;
   pc = if taken op (s.regs ra) then target_of s.pc disp else s.pc + 1;
 })
 
@@ -72,7 +76,7 @@ abbrev pub act : AlphaInstr → Alpha → Does
 act (Memory op ra rb disp) s = memory_act op ra rb disp s
 act (Branch op ra disp) s = branch_act op ra disp s
 act (Operate op ra rb rc) s = Goes (writes rc (result_of op (s.regs ra) (second_value rb s.regs) (s.regs rc)) s)
-act (Jump ra rb) s = Goes (record { regs = put s.regs ra (4 * (s.pc + 1)); pc = s.regs rb / 4 % 2 ^ 32 })
+act (Jump ra rb) s = Goes (record { regs = put s.regs ra (link_of s.pc); pc = s.regs rb / 4 % 2 ^ 32 })
 act (Pal n) s = Calls n
 
 -- 4.2: a load fills Ra, a store conditional leaves 1 or 0 in it, a store leaves it

@@ -1,7 +1,9 @@
-mod Blocks
+mod Building
 mod Digits
+mod Driving
 mod Exactly
 mod Hexadecimal
+mod Lines
 mod Progress
-mod Runs
+mod Turns
 mod Walks

@@ -1,20 +1,17 @@
 -- What goes out behind a run.
-use Rattle.std.specs.Prelude.{◌≡◌, ◌⊎◌, ℕ, List, [], ◌∷◌, ◌++◌, codes}
+use Rattle.std.specs.Prelude.{◌≡◌, ◌⊎◌, ℕ, List}
 use Rattle.vt_outside.specs.Sink.{SinkMeaning}
 use Rattle.vt_outside.specs.Taking.{TookAll, TookSome}
-use Rattle.vest_cli.specs.Digits.{eight_digits}
+use Rattle.system_model.specs.Processors.{Processor}
+use Rattle.vest_cli.specs.Report.{report_of, status_of_ends}
 use Rattle.vest_cli.specs.declared.status.Status.{Status}
 use Rattle.vest_cli.specs.declared.status.Status.TheVariants as status
 
--- the line of a thread that ended by EXIT with that R0
-abbrev pub exit_line : ℕ → List ℕ
-exit_line register = codes "thread 0 exit " ++ eight_digits register ++ 10 ∷ []
-
--- the output goes out and then the line of the end, and the first fault of a sink ends it
-abbrev pub Delivers : Status → (output : List ℕ) → (register : ℕ) → (out out' report report' : SinkMeaning) → Type 0
-Delivers status.Ok output register out out' report report' =
-    TookAll out out' output × TookAll report report' (exit_line register)
-Delivers status.WriteFault output register out out' report report' =
+-- the output goes out and then the report of the ends, and the first fault of a sink ends it; else the ends decide on the
+-- status
+abbrev pub Delivers : Status → (output : List ℕ) → List Processor → (out out' report report' : SinkMeaning) → Type 0
+Delivers status.WriteFault output processors out out' report report' =
     (TookSome out out' output × (report' ≡ report))
-    ⊎ (TookAll out out' output × TookSome report report' (exit_line register))
-Delivers result output register out out' report report' = ⊥
+    ⊎ (TookAll out out' output × TookSome report report' (report_of processors))
+Delivers result output processors out out' report report' =
+    (result ≡ status_of_ends processors) × TookAll out out' output × TookAll report report' (report_of processors)

@@ -2,15 +2,31 @@
 use Rattle.std.specs.Prelude.{ℕ, List, [], Option, None}
 use Rattle.image_file.specs.Values.{ImageValue}
 use Rattle.memory_core.specs.declared.entry.Entry.{Entry}
+use Rattle.block_law.specs.Translations.{Code}
+use Rattle.system_model.specs.declared.translation.Range.{Range}
+use Rattle.tie_switch.specs.Processors.{Kept as ProcessorValue}
 
 -- the history is oldest first
 pub record KeptValue : Type 0 where
   pub image : Option ImageValue
   pub input : List ℕ
   pub history : List Entry
+  pub processors : List ProcessorValue
   pub budget : ℕ
   pub limit : ℕ
   pub miss : ℕ
+  pub translation : Option Code
+  pub ranges : List Range
 
 abbrev pub nothing_kept : KeptValue
-nothing_kept = record { image = None; input = []; history = []; budget = 0; limit = 0; miss = 0 }
+nothing_kept = record {
+  image = None;
+  input = [];
+  history = [];
+  processors = [];
+  budget = 0;
+  limit = 0;
+  miss = 0;
+  translation = None;
+  ranges = [];
+}

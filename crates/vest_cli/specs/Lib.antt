@@ -5,8 +5,10 @@ pub mod Digits
 pub mod Line
 pub mod Stopping
 pub mod Built
-pub mod FirstRun
+pub mod Walks
+pub mod Driving
 pub mod Stages
+pub mod Report
 pub mod Delivery
 pub mod Run
 pub mod Vest

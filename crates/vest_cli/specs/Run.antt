@@ -1,18 +1,26 @@
 -- The command `run`.
-use Rattle.std.specs.Prelude.{◌≡◌, ◌⊎◌, ℕ, List, Some, reverse}
+use Rattle.std.specs.Prelude.{◌≡◌, ◌⊎◌, ℕ, true, List, [], Some, map, reverse}
+use Rattle.std.specs.List.{AllByRecursion}
 use Rattle.vt_outside.specs.Desk.{DeskMeaning}
 use Rattle.vt_outside.specs.Source.{SourceMeaning}
 use Rattle.image_file.specs.Values.{ImageValue}
-use Rattle.memory_core.specs.Order.{Meets}
 use Rattle.memory_core.specs.Contents.{output_of}
 use Rattle.memory_core.specs.declared.entry.SetUp.{SetUp}
-use Rattle.vest_cli.specs.Built.{steps_of}
+use Rattle.block_law.specs.Translations.{Code}
+use Rattle.vax_form.specs.declared.instr.Instr.{Instr}
+use Rattle.system_model.specs.Legal.{IsLegal}
+use Rattle.system_model.specs.Meant.{image_setting}
+use Rattle.system_model.specs.Processors.{Processor}
+use Rattle.system_model.specs.Settings.{Setting}
+use Rattle.tie_switch.specs.Processors.{processor_of}
+use Rattle.tie_switch.specs.Turns.{has_ended}
+use Rattle.vest_core.specs.Law.{HasHeadline}
+use Rattle.vest_cli.specs.Built.{walk_of}
 use Rattle.vest_cli.specs.Delivery.{Delivers}
-use Rattle.vest_cli.specs.FirstRun.{entries_from, moved_by}
+use Rattle.vest_cli.specs.Driving.{IsTranslated, SpentHasCause}
 use Rattle.vest_cli.specs.Kept.{KeptValue}
 use Rattle.vest_cli.specs.Lent.{Lent, SameFiles}
 use Rattle.vest_cli.specs.Stages.{Accepts, ReadsAll, StopsAtLoad, StopsAtBuild, StopsAtInput}
-use Rattle.vest_cli.specs.declared.built.Step.{Step}
 use Rattle.vest_cli.specs.declared.run.TheConstants.{BUDGET, LIMIT, MISS}
 use Rattle.vest_cli.specs.declared.stop.Stop.{Stop}
 use Rattle.vest_cli.specs.declared.status.Status.{Status}
@@ -24,24 +32,38 @@ StopsRun stop name desk desk' input input' =
     StopsAtLoad stop name desk desk'
     ⊎ ((image : ImageValue) × Accepts desk.files name image
     × (StopsAtBuild stop image
-    ⊎ ((steps : List Step) × (steps_of image ≡ Some steps) × StopsAtInput stop input input')))
+    ⊎ ((walk : List Instr) × (walk_of image ≡ Some walk) × StopsAtInput stop input input')))
 
 -- the memory that the history is of
 abbrev pub set_up_of : ImageValue → KeptValue → SetUp
 set_up_of image kept = record { image = image; input = kept.input; limit = kept.limit; miss = kept.miss }
 
--- `run` made its run: of the file's image, on all the input, by the default numbers
+-- the processors of the model
+abbrev pub processors_of : KeptValue → List Processor
+processors_of kept = map processor_of kept.processors
+
+-- what they ran
+abbrev pub setting_of : ImageValue → Code → KeptValue → Setting
+setting_of image code kept = image_setting image.pages code kept.ranges
+
+-- `run` made its run: of the file's image, translated, on all the input, by the default numbers
 pub record Runs (result : Status) (name : List ℕ) (old new : Lent) (kept : KeptValue) : Type 0 where
   pub image : ImageValue
   pub kept_image : kept.image ≡ Some image
   pub accepted : Accepts old.desk.files name image
-  pub steps : List Step
-  pub built : steps_of image ≡ Some steps
+  pub code : Code
+  pub kept_code : kept.translation ≡ Some code
+  pub translated : IsTranslated image code
+  pub ranges : kept.ranges ≡ []
   pub input : ReadsAll old.input new.input kept.input
   pub budget : kept.budget ≡ BUDGET
   pub limit : kept.limit ≡ LIMIT
   pub miss : kept.miss ≡ MISS
-  pub history : kept.history ≡ entries_from steps 0 0
-  pub order : Meets (set_up_of image kept) (reverse kept.history)
-  pub delivered : Delivers result (output_of kept.history) (moved_by steps 0) old.out new.out old.report new.report
+  -- the history and the processors are a legal run of it, and all threads have ended
+  pub legal : IsLegal (setting_of image code kept) (set_up_of image kept) kept.budget (reverse kept.history) (processors_of kept)
+  pub ended : AllByRecursion (λ (p : Processor). has_ended p.mode ≡ true) (processors_of kept)
+  pub spent : AllByRecursion (SpentHasCause kept.budget kept.limit kept.history) (processors_of kept)
+  -- so they are what the VAX threads do
+  pub headline : HasHeadline (setting_of image code kept) (set_up_of image kept) (reverse kept.history) (processors_of kept)
+  pub delivered : Delivers result (output_of kept.history) (processors_of kept) old.out new.out old.report new.report
   pub desk : SameFiles old.desk new.desk

@@ -7,10 +7,7 @@ use Rattle.vt_outside.specs.Source.{SourceMeaning}
 use Rattle.image_file.specs.Values.{ImageValue}
 use Rattle.image_file.specs.Whole.{IsWhole}
 use Rattle.image_file.specs.Reading.{image_of}
-use Rattle.vest_cli.specs.Built.{steps_of}
-use Rattle.vest_cli.specs.FirstRun.{AreBlocks}
-use Rattle.vest_cli.specs.declared.built.Step.{Step}
-use Rattle.vest_cli.specs.declared.built.TheConstants.{MOST_STEPS}
+use Rattle.vest_cli.specs.Built.{walk_of}
 use Rattle.vest_cli.specs.declared.stages.TheConstants.{FILE_LIMIT, INPUT_LIMIT}
 use Rattle.vest_cli.specs.declared.stop.Refusal.TheVariants.{Image, NotBuilt}
 use Rattle.vest_cli.specs.declared.stop.Stop.{Stop}
@@ -41,16 +38,9 @@ StopsAtLoad Usage name old new = ⊥
 
 -- why an accepted image isn't run
 abbrev pub StopsAtBuild : Stop → ImageValue → Type 0
-StopsAtBuild (Refused (NotBuilt none)) image = steps_of image ≡ None
+StopsAtBuild (Refused (NotBuilt none)) image = walk_of image ≡ None
 StopsAtBuild WantOfMemory image = Unit {0}
 StopsAtBuild stop image = ⊥
-
--- the image's walk, and a block of words for each of its steps
-pub record Builds (image : ImageValue) (code : List (List ℕ)) : Type 0 where
-  pub steps : List Step
-  pub walk : steps_of image ≡ Some steps
-  pub few : length steps ≤ MOST_STEPS
-  pub blocks : AreBlocks steps code
 
 -- these bytes are all that the source had left, where it tells them, and nothing is left
 pub record ReadsAll (old new : SourceMeaning) (bytes : List ℕ) : Type 0 where

@@ -1,30 +1,27 @@
-// Which images can be run so far, and the steps of their one thread.
+// Which images can be run so far, and the instructions of their one thread.
 ghost use Rattle.std.specs.Prelude.{◌≡◌, IfOk, IfSome, option_map};
-ghost use Rattle.vest_cli.specs.Built.{has_short_literal, moves, serves, step_of, step_at, walk_from, steps_of, StepFits, AreSteps};
+ghost use Rattle.vax_form.specs.PageTable.{AreRising};
+ghost use Rattle.vest_cli.specs.Built.{is_literal, has_longword, is_plain, has_byte, behind, has_modes, is_built, built_at, walk_from, walk_of};
+ghost use Rattle.vest_cli.specs.Walks.{IsBuiltAt, IsWalk, IsWalkOf};
 
+use alpha_codegen::{ends_thread, has_block};
 use image_file::Image;
 use std::alloc::{AllocError, Global};
 use vax_decode::{Decoded, decode_at};
-use vax_form::{Instr, Operand, Pages};
+use vax_form::{Instr, Pages};
 
 /// The most instructions of a walk.
-pub const MOST_STEPS: usize = 32_768;
+pub const MOST_INSTRS: usize = 32_768;
 
-/// One instruction of a walk.
-#[derive(Clone, Copy)]
-pub enum Step {
-    /// MOVL of a short literal to a register.
-    Move { value: u8, register: u8 },
-    /// CHMK 2, which puts a byte, and the address behind it.
-    Put { after: u32 },
-    /// CHMK 1, which ends the thread, and the address behind it.
-    Exit { after: u32 },
-}
+/// The opcodes whose operands are not those of MOVL.
+pub const CHMK: u8 = 0xBC;
 
-/// The steps of an image's thread. None: the image can't be run yet.
-pub fn steps_of(alloc: Global, image: &Image) -> Result<Option<Vec<Step>>, AllocError>
-    ensures steps { IfOk result (λ steps. option_map (λ v. v.items) steps ≡ steps_of image.now) }
-    ensures fit { IfOk result (λ steps. IfSome steps (λ v. AreSteps v.items)) }
+pub const CLRL: u8 = 0xD4;
+
+/// The walk of an image's thread. None: the image can't be run yet.
+pub fn walk_of(alloc: Global, image: &Image) -> Result<Option<Vec<Instr>>, AllocError>
+    ensures walk { IfOk result (λ walk. option_map (λ v. v.items) walk ≡ walk_of image.now) }
+    ensures is { IfOk result (λ walk. IfSome walk (λ v. IsWalkOf image.now v.items)) }
 {
     match image.threads.as_slice() {
         [start] => walk(alloc, &image.pages, start.pc),
@@ -32,83 +29,99 @@ pub fn steps_of(alloc: Global, image: &Image) -> Result<Option<Vec<Step>>, Alloc
     }
 }
 
-// The steps from an address on, up to CHMK 1.
-fn walk(alloc: Global, pages: &Pages, start: u32) -> Result<Option<Vec<Step>>, AllocError>
-    ensures steps { IfOk result (λ steps. option_map (λ v. v.items) steps ≡ walk_from MOST_STEPS pages.now start) }
-    ensures fit { IfOk result (λ steps. IfSome steps (λ v. AreSteps v.items)) }
+// The instructions from an address on, up to CHMK 1.
+fn walk(alloc: Global, pages: &Pages, start: u32) -> Result<Option<Vec<Instr>>, AllocError>
+    ensures walk { IfOk result (λ walk. option_map (λ v. v.items) walk ≡ walk_from MOST_INSTRS pages.now start) }
+    ensures is { IfOk result (λ walk. IfSome walk (λ v. IsWalk pages.now start v.items)) }
 {
-    let mut steps = Vec::new(alloc);
+    let mut instrs = Vec::new(alloc);
     let mut pc = start;
-    for count in 0..MOST_STEPS {
-        let Some((step, after)) = step_at(pages, pc) else {
+    for count in 0..MOST_INSTRS {
+        let Some(instr) = built_at(pages, pc) else {
             return Ok(None);
         };
-        steps.push(step)?;
-        if let Step::Exit { .. } = step {
-            return Ok(Some(steps));
+        instrs.push(instr)?;
+        if ends_thread(&instr) {
+            return Ok(Some(instrs));
         }
-        pc = after;
+        pc = instr.after;
     }
     Ok(None)
 }
 
-// The step at an address, and the address behind it.
-fn step_at(pages: &Pages, pc: u32) -> Option<(Step, u32)>
-    ensures step { result ≡ step_at pages.now pc }
-    ensures fits { IfSome result (λ found. StepFits found.0) }
+// The instruction at an address, where it is built.
+fn built_at(pages: &Pages, pc: u32) -> Option<Instr>
+    ensures instr { result ≡ built_at pages.now pc }
+    ensures is { IfSome result (IsBuiltAt pages.now pc) }
 {
+    ranges_rise(pages);
     match decode_at(pages, pc) {
-        Decoded::Instr(instr) => Some((step_of(pages, &instr)?, instr.after)),
-        Decoded::Reserved | Decoded::BadMode | Decoded::Past(_) => None,
-    }
-}
-
-fn step_of(pages: &Pages, instr: &Instr) -> Option<Step>
-    ensures step { result ≡ step_of pages.now instr.now }
-    ensures fits { IfSome result StepFits }
-{
-    if !has_short_literal(pages, instr) {
-        return None;
-    }
-    match instr.opcode {
-        0xD0 => moves(instr.operands[0], instr.operands[1]),
-        0xBC => serves(instr.operands[0], instr.after),
+        Decoded::Instr(instr) if is_built(pages, &instr) => Some(instr),
         _ => None,
     }
 }
 
-// The first operand specifier is a short literal.
-fn has_short_literal(pages: &Pages, instr: &Instr) -> bool
-    ensures { result ≡ has_short_literal pages.now instr.now }
+// No page of an image is above 7FFFFFFF.
+fn ranges_rise(pages: &Pages)
+    ensures { AreRising 0 pages.now.ranges }
 {
-    match pages.code_byte(instr.at.wrapping_add(1)) {
-        Some(specifier) => specifier < 0x40,
-        None => false,
+    let _ = &pages.ranges;
+}
+
+fn is_built(pages: &Pages, instr: &Instr) -> bool
+    ensures { result ≡ is_built pages.now instr.now }
+{
+    has_block(instr) && has_modes(pages, instr.opcode, instr.at.wrapping_add(1))
+}
+
+// The operands from that address on are in modes that are built.
+fn has_modes(pages: &Pages, opcode: u8, first: u32) -> bool
+    ensures { result ≡ has_modes pages.now opcode first }
+{
+    match opcode {
+        CHMK => has_literal(pages, first),
+        CLRL => has_plain(pages, first),
+        _ => has_plain(pages, first) && has_plain(pages, behind(pages, first)),
     }
 }
 
-fn moves(from: Operand, to: Operand) -> Option<Step>
-    ensures step { result ≡ moves from to }
-    ensures fits { IfSome result StepFits }
+fn has_literal(pages: &Pages, address: u32) -> bool
+    ensures { result ≡ has_byte pages.now is_literal address }
 {
-    match (from, to) {
-        (Operand::Value(value), Operand::Register(register)) if value < 64 && register < 15 => {
-            Some(Step::Move {
-                value: value as u8,
-                register,
-            })
-        }
-        _ => None,
-    }
+    pages.code_byte(address).is_some_and(is_literal)
 }
 
-fn serves(code: Operand, after: u32) -> Option<Step>
-    ensures step { result ≡ serves code after }
-    ensures fits { IfSome result StepFits }
+fn has_plain(pages: &Pages, address: u32) -> bool
+    ensures { result ≡ has_byte pages.now is_plain address }
 {
-    match code {
-        Operand::Value(1) => Some(Step::Exit { after }),
-        Operand::Value(2) => Some(Step::Put { after }),
-        _ => None,
-    }
+    pages.code_byte(address).is_some_and(is_plain)
+}
+
+// The address behind a specifier of a longword in one of these modes.
+fn behind(pages: &Pages, address: u32) -> u32
+    ensures { result ≡ behind pages.now address }
+{
+    let long = pages.code_byte(address).is_some_and(has_longword);
+    address.wrapping_add(if long { 5 } else { 1 })
+}
+
+// Short literal.
+fn is_literal(specifier: u8) -> bool
+    ensures { result ≡ is_literal specifier }
+{
+    specifier < 0x40
+}
+
+// Immediate or absolute, with a longword behind.
+fn has_longword(specifier: u8) -> bool
+    ensures { result ≡ has_longword specifier }
+{
+    matches!(specifier, 0x8F | 0x9F)
+}
+
+// Short literal, register, immediate or absolute.
+fn is_plain(specifier: u8) -> bool
+    ensures { result ≡ is_plain specifier }
+{
+    is_literal(specifier) || specifier / 16 == 5 || has_longword(specifier)
 }

@@ -1,14 +1,17 @@
 //! The top call: it obeys one command line, over what it is lent of the outside.
 //!
-//! A call stops before its run (statuses 1, 2, 3, 6, 8 and 9) and says why in one line of the report, or it
-//! makes its run and delivers what came of it. `specs/Vest.antt` has the whole meaning.
+//! A call stops before its run (statuses 1, 2, 3, 6, 8 and 9) and says why in one line of the report, or it makes its run
+//! and delivers what came of it: the image is translated (`built`, `stages`), its thread runs turn by turn over one memory
+//! (`drive`), and output and report go out (`deliver`, `report`). `specs/Vest.antt` has the whole meaning, and
+//! `specs/Run.antt` what is known of a run.
 #![tactic(auto)]
 
 mod built;
 mod deliver;
-mod first_run;
+mod drive;
 mod kept;
 mod line;
+mod report;
 mod run;
 mod stages;
 mod status;

@@ -1,10 +1,10 @@
 // A line of text in an array, made without memory.
 ghost use Rattle.std.specs.Prelude.{◌≡◌, ◌+◌, ◌<◌, ◌≤◌, [], ◌∷◌, ◌++◌, length, decimal};
-ghost use Rattle.vest_cli.specs.Digits.{digit_at, eight_digits};
+ghost use Rattle.vest_cli.specs.Digits.{digit_at, digits_from, two_digits, eight_digits};
 
 use std::marker::Model;
 
-pub const LINE_ROOM: usize = 96;
+pub const LINE_ROOM: usize = 256;
 
 /// The most digits of a number.
 pub const DIGITS: usize = 20;
@@ -22,7 +22,7 @@ impl Model for Line {
 
     ghost view = { λ l. take l.len l.bytes };
 
-    ghost invariant = { λ l. l.len ≤ 96 };
+    ghost invariant = { λ l. l.len ≤ 256 };
 }
 
 impl Line {
@@ -58,14 +58,33 @@ impl Line {
         }
     }
 
+    /// Two hexadecimal digits with capital letters.
+    pub fn push_byte(&mut self, number: u8)
+        requires { length self.old + 2 ≤ LINE_ROOM }
+        ensures text { self.new ≡ self.old ++ two_digits number }
+        ensures room { length self.new ≡ length self.old + 2 }
+    {
+        self.push_hexadecimal(2, u32::from(number));
+    }
+
     /// Eight hexadecimal digits with capital letters.
     pub fn push_longword(&mut self, number: u32)
         requires { length self.old + 8 ≤ LINE_ROOM }
         ensures text { self.new ≡ self.old ++ eight_digits number }
         ensures room { length self.new ≡ length self.old + 8 }
     {
-        for place in 0..8 {
-            self.push(digit_at(7 - place, number));
+        self.push_hexadecimal(8, number);
+    }
+
+    // The lowest digits of a number.
+    fn push_hexadecimal(&mut self, digits: u32, number: u32)
+        requires few { digits ≤ 8 }
+        requires room { length self.old + digits ≤ LINE_ROOM }
+        ensures text { self.new ≡ self.old ++ digits_from digits number }
+        ensures room { length self.new ≡ length self.old + digits }
+    {
+        for written in 0..digits {
+            self.push(digit_at(digits - 1 - written, number));
         }
     }
 

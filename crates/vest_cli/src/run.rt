@@ -8,7 +8,7 @@ ghost use Rattle.vest_cli.specs.Stopping.{LeavesAll};
 ghost use Rattle.vest_cli.specs.Run.{Runs, StopsRun};
 
 use crate::deliver::deliver;
-use crate::first_run::run_blocks;
+use crate::drive::drive;
 use crate::kept::Kept;
 use crate::stages::{build, load, read_input};
 use crate::status::Status;
@@ -40,7 +40,7 @@ fn memory_of(alloc: Global, image: &Image, input: &[u8]) -> Result<MemState, Sto
     }
 }
 
-/// Runs the image of a file on all the input. Behind `memory_of` it takes no memory.
+/// Runs the image of a file on all the input. From `drive` on it takes no memory.
 pub fn run<D: Desk, I: Source, K: Sink, E: Sink, G: Gate>(
     alloc: Global,
     name: &str,
@@ -64,16 +64,20 @@ pub fn run<D: Desk, I: Source, K: Sink, E: Sink, G: Gate>(
         kept.new) }
 {
     let image = load(alloc, desk, name)?;
-    let code = build(alloc, &image)?;
+    let translation = build(alloc, &image)?;
     let taken = read_input(alloc, input)?;
     let mut memory = memory_of(alloc, &image, &taken)?;
-    let register = run_blocks(&mut memory, &code);
-    let status = deliver(memory.output(), register, out, report);
+    let mut processors = Vec::with_capacity(alloc, 1)?;
+    let processor = drive(&image, &taken, &translation, &mut memory);
+    let status = deliver(memory.output(), &processor, out, report);
+    processors.push_reserved(processor);
     kept.image = Some(image);
     kept.input = taken;
     kept.history = memory.take_history();
+    kept.processors = processors;
     kept.budget = BUDGET;
     kept.limit = LIMIT;
     kept.miss = MISS;
+    kept.translation = Some(translation);
     Ok(status)
 }

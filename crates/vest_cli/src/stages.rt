@@ -1,13 +1,15 @@
-// The stages before a run: the image of a file, its Alpha words, and the input.
+// The stages before a run: the image of a file, its translation, and the input.
 ghost use Rattle.std.specs.Prelude.{◌≡◌, Some, IfOk, IfErr};
+ghost use Rattle.vest_cli.specs.Driving.{Builds};
 ghost use Rattle.vest_cli.specs.Lent.{SameFiles};
-ghost use Rattle.vest_cli.specs.Stages.{Accepts, Builds, ReadsAll, StopsAtBuild, StopsAtInput, StopsAtLoad};
+ghost use Rattle.vest_cli.specs.Stages.{Accepts, ReadsAll, StopsAtBuild, StopsAtInput, StopsAtLoad};
 
-use crate::built::steps_of;
-use crate::first_run::{Block, translate};
+use crate::built::walk_of;
 use crate::stop::{NotBuilt, Refusal, Stop};
 use image_file::{Image, ImageRefusal, read_image};
 use std::alloc::Global;
+use system_model::Translation;
+use translate::translate_instrs;
 use vt_outside::{Desk, DeskRead, Got, Source};
 
 /// The most bytes of a file.
@@ -39,16 +41,18 @@ pub fn load<D: Desk>(alloc: Global, desk: &mut D, name: &str) -> Result<Image, S
     }
 }
 
-/// The Alpha words of the image's thread.
-pub fn build(alloc: Global, image: &Image) -> Result<Vec<Block>, Stop>
-    ensures ok { IfOk result (λ code. Builds image.now code.items) }
+/// The translation of an image that is built.
+pub fn build(alloc: Global, image: &Image) -> Result<Translation, Stop>
+    ensures ok { IfOk result (Builds image.now) }
     ensures err { IfErr result (λ stop. StopsAtBuild stop image.now) }
 {
-    let Some(steps) = steps_of(alloc, image)? else {
+    let Some(walk) = walk_of(alloc, image)? else {
         return Err(Stop::Refused(Refusal::NotBuilt(NotBuilt)));
     };
-    let code = translate(alloc, &steps)?;
-    Ok(code)
+    match translate_instrs(alloc, &image.pages, &walk) {
+        Ok(translation) => Ok(translation),
+        Err(_) => Err(Stop::WantOfMemory),
+    }
 }
 
 /// Reads the input to its end, by at most 65,537 calls.

@@ -11,8 +11,9 @@ use image_file::ImageRefusal;
 use std::alloc::AllocError;
 use vt_outside::{Sink, write_all};
 
-/// An image was accepted, and can't be run yet: it has several threads, or its walk from the thread's PC meets another
-/// instruction than MOVL from a short literal to a register and CHMK with the short literal 1 or 2.
+/// An image was accepted, and can't be run yet: it has several threads, or its walk from the thread's PC meets something
+/// else than MOVL and CLRL, of short literals, immediates, registers and absolute longwords at a multiple of 4, and CHMK
+/// with the short literal 1 or 2.
 #[derive(Clone, Copy, Debug, PartialEq, Eq)]
 pub struct NotBuilt;
 

@@ -14,3 +14,5 @@ pub mod Sums
 pub mod Headlines
 pub mod Meanings
 pub mod Closed
+pub mod Runs
+mod Refused

@@ -1,7 +1,13 @@
 //! The law of legal histories, for the crates above. Its functions do nothing.
+ghost use Rattle.std.specs.Prelude.{◌≡◌};
+ghost use Rattle.image_file.specs.Whole.{IsWhole};
+ghost use Rattle.memory_core.specs.declared.entry.SetUp.{SetUp};
 ghost use Rattle.vest_core.specs.Closed.{ClosedNeverInterprets};
-ghost use Rattle.vest_core.specs.Law.{LegalHasHeadline};
+ghost use Rattle.vest_core.specs.Law.{IsRun, LegalHasHeadline};
 ghost use Rattle.vest_core.specs.Meant.{VaxMeaningIsSound};
+
+use history_order::laws::image_has_bytes;
+use image_file::Image;
 
 /// Whatever the interleaving, and whatever is translated and what interpreted: the threads driven by the history's order
 /// have its memory and output, each processor shows its thread's exact state at its last boundary, each end is the
@@ -20,3 +26,12 @@ pub fn vax_meaning_is_sound()
 pub fn closed_never_interprets()
     ensures { ClosedNeverInterprets }
 {}
+
+/// Whatever is set up with a whole image and an input, of any limit and miss number, is in range: so the law of legal
+/// histories may be used of it.
+pub fn images_are_runs(image: &Image, input: &[u8])
+    requires { IsWhole image.now }
+    ensures { (set_up : SetUp) → set_up.image ≡ image.now → set_up.input ≡ input.now → IsRun set_up }
+{
+    image_has_bytes(image);
+}

@@ -1,3 +1,4 @@
+use memory_core::{Entry, Kind};
 use std::alloc::{AllocError, Global};
 use std::test::Fail;
 use vest_cli::{Kept, Status, vest};
@@ -12,10 +13,12 @@ static FIRST: [u8; 59] = [
     0xd0, 0x05, 0x50, 0xbc, 0x02, 0xbc, 0x01,
 ];
 
-// A file on the desk: that many bytes of the first image, some of them changed, or none.
+// A file on the desk: that many bytes of the first image, some of them changed; the first image with this code and these
+// stored bytes of its writable section, fewer than 256 each; or none.
 #[derive(Clone, Copy)]
 enum File<'a> {
     Changed(usize, &'a [(usize, u8)]),
+    Of { code: &'a [u8], data: &'a [u8] },
     Absent,
 }
 
@@ -36,7 +39,7 @@ struct Left {
     status: Status,
     out: MemorySink,
     report: MemorySink,
-    entries: usize,
+    history: Vec<Entry>,
 }
 
 fn words_of(alloc: Global, line: &str) -> Result<Vec<String>, AllocError> {
@@ -47,16 +50,40 @@ fn words_of(alloc: Global, line: &str) -> Result<Vec<String>, AllocError> {
     Ok(words)
 }
 
+fn change(bytes: &mut [u8], changes: &[(usize, u8)]) {
+    for (at, byte) in changes {
+        if let Some(place) = bytes.get_mut(*at) {
+            *place = *byte;
+        }
+    }
+}
+
+// The bytes of the file; None: there is none.
+fn bytes_of(alloc: Global, file: File) -> Result<Option<Vec<u8>>, AllocError> {
+    let mut bytes = FIRST.to_vec(alloc)?;
+    match file {
+        File::Absent => return Ok(None),
+        File::Changed(length, changes) => {
+            bytes.resize(length, 0)?;
+            change(&mut bytes, changes);
+        }
+        File::Of { code, data } => {
+            bytes.truncate(52);
+            change(&mut bytes, &[(28, low(code.len())), (44, low(data.len()))]);
+            bytes.extend_from_slice(code)?;
+            bytes.extend_from_slice(data)?;
+        }
+    }
+    Ok(Some(bytes))
+}
+
+fn low(number: usize) -> u8 {
+    (number % 256) as u8
+}
+
 fn desk_of(alloc: Global, file: File, fails: Vec<u64>) -> Result<MemoryDesk, AllocError> {
     let mut files = Vec::new(alloc);
-    if let File::Changed(length, changes) = file {
-        let mut bytes = FIRST.to_vec(alloc)?;
-        bytes.resize(length, 0)?;
-        for (at, byte) in changes {
-            if let Some(place) = bytes.get_mut(*at) {
-                *place = *byte;
-            }
-        }
+    if let Some(bytes) = bytes_of(alloc, file)? {
         files.push((String::from_str(alloc, "x")?, bytes))?;
     }
     Ok(MemoryDesk::new(files, fails))
@@ -97,12 +124,11 @@ fn call(alloc: Global, line: &str, file: File, outside: Outside) -> Result<Left,
         &OpenGate,
         &mut kept,
     );
-    let entries = kept.history.len();
     Ok(Left {
         status,
         out,
         report,
-        entries,
+        history: kept.history,
     })
 }
 
@@ -121,7 +147,61 @@ fn runs(rt: HostRuntime) -> Result<(), Fail> {
     for (file, out, entries, report) in rows {
         let left = call(rt.alloc(), "run x", file, Outside::Sound)?;
         assert!(rt; is_left(&left, Status::Ok, out, report), "{report}");
-        assert_eq!(rt; left.entries, entries);
+        assert_eq!(rt; left.history.len(), entries);
+    }
+    Ok(())
+}
+
+// An entry of thread 0 on the quadword at 1000.
+fn entry(retired: u64, kind: Kind, before: u64, after: u64) -> Entry {
+    Entry {
+        retired,
+        before,
+        after,
+        quad: 0x1000,
+        processor: 0,
+        kind,
+        success: true,
+    }
+}
+
+#[test]
+fn reads_and_writes_longwords(rt: HostRuntime) -> Result<(), Fail> {
+    let file = File::Of {
+        code: &[
+            0xd0, 0x9f, 0, 0x10, 0, 0, 0x50, 0xd0, 0x50, 0x9f, 4, 0x10, 0, 0, 0xbc, 1,
+        ],
+        data: &[0x11, 0x22, 0x33, 0x44],
+    };
+    let left = call(rt.alloc(), "run x", file, Outside::Sound)?;
+    assert!(rt; is_left(&left, Status::Ok, &[], "thread 0 exit 44332211\n"));
+    let history = [
+        entry(0, Kind::Load, 0x4433_2211, 0x4433_2211),
+        entry(1, Kind::Store, 0x4433_2211, 0x4433_2211_4433_2211),
+    ];
+    assert_eq!(rt; left.history.as_slice(), history.as_slice());
+    Ok(())
+}
+
+#[test]
+fn raises(rt: HostRuntime) -> Result<(), Fail> {
+    let rows: [(&[u8], &str); 2] = [
+        // CLRL of a longword in the code
+        (
+            &[0xd4, 0x9f, 0, 2, 0, 0, 0xbc, 1],
+            "thread 0 exception 20 address 00000200 intent 1 pc 00000200 psl 03C00000\nregisters 00000000 00000000 00000000 00000000 00000000 00000000 00000000 00000000 00000000 00000000 00000000 00000000 00000000 00000000 00001200\n",
+        ),
+        // MOVL from a page that the image lacks
+        (
+            &[0xd0, 0x9f, 0, 0x14, 0, 0, 0x50, 0xbc, 1],
+            "thread 0 exception 20 address 00001400 intent 0 pc 00000200 psl 03C00000\nregisters 00000000 00000000 00000000 00000000 00000000 00000000 00000000 00000000 00000000 00000000 00000000 00000000 00000000 00000000 00001200\n",
+        ),
+    ];
+    for (code, report) in rows {
+        let file = File::Of { code, data: &[] };
+        let left = call(rt.alloc(), "run x", file, Outside::Sound)?;
+        assert!(rt; is_left(&left, Status::Exception, &[], report), "{report}");
+        assert_eq!(rt; left.history.len(), 0);
     }
     Ok(())
 }
@@ -146,6 +226,8 @@ fn refuses(rt: HostRuntime) -> Result<(), Fail> {
         (File::Changed(59, &[(6, 0)]), "refused image 4\n"),
         (overlap, "refused image 8 0 1\n"),
         (File::Changed(36, &sizes), "refused image 9 1049088\n"),
+        // The thread starts at 400, where nothing stands.
+        (File::Changed(59, &[(13, 4)]), "refused image 0\n"),
     ];
     for (file, report) in rows {
         let left = call(rt.alloc(), "run x", file, Outside::Sound)?;

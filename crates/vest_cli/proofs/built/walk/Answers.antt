@@ -1,42 +1,51 @@
-use Rattle.std.proofs.Common.{◌≡◌, ◌++◌, ◌∷◌, [], ◌-◌, ◌+◌, suc, true, false, Some, refl, sym, ap, ◌∙◌, arith}
-use Rattle.vest_cli.specs.Built.{is_exit, step_at, walk_from}
-use Rattle.vest_cli.specs.declared.built.TheConstants.{MOST_STEPS}
-use Rattle.vest_cli.proofs.Walks.{behind, nothing_behind, not_exit, walk_ends, one_more_step, walk_fails, walk_goes_on}
+use Rattle.std.proofs.Common.{◌≡◌, ◌++◌, ◌∷◌, [], ◌-◌, ◌+◌, suc, true, false, Some, length, length-append, refl, sym, ap, ◌∙◌, subst, arith, List}
+use Rattle.vax_form.specs.declared.instr.Instr.{Instr}
+use Rattle.vest_cli.specs.Built.{built_at, walk_from}
+use Rattle.vest_cli.specs.Walks.{IsBuiltAt, AreInLine, EndsInExit}
+use Rattle.vest_cli.specs.declared.built.TheConstants.{MOST_INSTRS}
+use Rattle.vest_cli.proofs.Walks.{ahead, walk_ends, walk_fails, walk_goes_on, line_and, ends_and}
 use Rattle.vest_cli.proofs.built.walk.Goals as goal
 
-pub returns-in_default-clause-steps : goal.returns-in_default-clause-steps
-returns-in_default-clause-steps c =
-    let left : MOST_STEPS - c.loop-count.count ≡ suc (MOST_STEPS - (c.loop-count.count + 1)) = omega arith in
-    walk_fails _ _ _ _ c.loop-count.steps.items _ left c.loop-count.invariant.walked (sym c.step_at.ensures.step ∙ c.in_default.is)
+pub returns-in_default-clause-walk : goal.returns-in_default-clause-walk
+returns-in_default-clause-walk c =
+    let left : MOST_INSTRS - c.loop-count.count ≡ suc (MOST_INSTRS - (c.loop-count.count + 1)) = omega arith in
+    walk_fails _ _ _ _ c.loop-count.instrs.items _ left c.loop-count.invariant.walked (sym c.built_at.ensures.instr ∙ c.in_default.is)
 
-pub returns-in-Exit-clause-steps : goal.returns-in-Exit-clause-steps
-returns-in-Exit-clause-steps c =
-    let left : MOST_STEPS - c.loop-count.count ≡ suc (MOST_STEPS - (c.loop-count.count + 1)) = omega arith in
-    let found : step_at c.args.pages.now c.loop-count.pc ≡ Some (c.in-Some.step, c.in-Some.after) =
-    sym c.step_at.ensures.step ∙ c.in-Some.is in
+pub returns-then-ends_thread-clause-walk : goal.returns-then-ends_thread-clause-walk
+returns-then-ends_thread-clause-walk c =
+    let left : MOST_INSTRS - c.loop-count.count ≡ suc (MOST_INSTRS - (c.loop-count.count + 1)) = omega arith in
     ap (λ items. Some items) c.in_ok-push.ensures.items
-    ∙ walk_ends _ _ _ _ c.loop-count.steps.items _ left c.loop-count.invariant.walked c.in-Some.step c.in-Some.after found
-    (ap is_exit c.in-Exit.is)
+    ∙ walk_ends _ _ _ _ c.loop-count.instrs.items _ left c.loop-count.invariant.walked c.in-Some.instr
+    (sym c.built_at.ensures.instr ∙ c.in-Some.is) (sym c.ends_thread.ensures ∙ c.if-ends_thread.true)
+
+pub returns-then-ends_thread-clause-is : goal.returns-then-ends_thread-clause-is
+returns-then-ends_thread-clause-is c =
+    let items = c.in_ok-push.ensures.items in
+    let line = line_and c.args.pages.now c.args.start c.loop-count.pc c.loop-count.instrs.items c.in-Some.instr c.loop-count.invariant.in_line c.in-Some.ensures.is in
+    let ends = ends_and c.loop-count.instrs.items c.in-Some.instr (sym c.ends_thread.ensures ∙ c.if-ends_thread.true) in
+    record {
+      few = omega (arith, simp length-append at (ap length items));
+      to = c.in-Some.instr.after;
+      in_line = subst (λ (xs : List Instr). AreInLine c.args.pages.now c.args.start xs c.in-Some.instr.after) (sym items) line;
+      ends = subst (λ (xs : List Instr). EndsInExit xs) (sym items) ends;
+    }
 
 pub loop-count-preserved : goal.loop-count-preserved
 loop-count-preserved c =
-    let left : MOST_STEPS - c.loop-count.count ≡ suc (MOST_STEPS - (c.loop-count.count + 1)) = omega arith in
-    let found : step_at c.args.pages.now c.loop-count.pc ≡ Some (c.in-Some.step, c.in-Some.after) =
-    sym c.step_at.ensures.step ∙ c.in-Some.is in
-    let more = one_more_step c.loop-count.steps.items c.push.new.self.items c.in-Some.step c.loop-count.count
-    c.in_ok-push.ensures.items c.in-Some.ensures.fits c.loop-count.invariant.few c.loop-count.invariant.fit in
+    let left : MOST_INSTRS - c.loop-count.count ≡ suc (MOST_INSTRS - (c.loop-count.count + 1)) = omega arith in
+    let items = c.in_ok-push.ensures.items in
+    let line = line_and c.args.pages.now c.args.start c.loop-count.pc c.loop-count.instrs.items c.in-Some.instr c.loop-count.invariant.in_line c.in-Some.ensures.is in
     record {
-      walked = ap (λ items. behind items (walk_from (MOST_STEPS - (c.loop-count.count + 1)) c.args.pages.now c.in-Some.after))
-          c.in_ok-push.ensures.items
-          ∙ walk_goes_on _ _ _ _ c.loop-count.steps.items _ left c.loop-count.invariant.walked c.in-Some.step c.in-Some.after found
-          (not_exit c.in-Some.step c.in_default-step.not-Exit);
-      few = more.0;
-      fit = more.1;
+      walked = ap (λ xs. ahead xs (walk_from (MOST_INSTRS - (c.loop-count.count + 1)) c.args.pages.now c.in-Some.instr.after)) items
+          ∙ walk_goes_on _ _ _ _ c.loop-count.instrs.items _ left c.loop-count.invariant.walked c.in-Some.instr
+          (sym c.built_at.ensures.instr ∙ c.in-Some.is) (sym c.ends_thread.ensures ∙ c.if-ends_thread.false);
+      few = omega (arith, simp length-append at (ap length items));
+      in_line = subst (λ (xs : List Instr). AreInLine c.args.pages.now c.args.start xs c.in-Some.instr.after) (sym items) line;
     }
 
-pub returns-clause-steps : goal.returns-clause-steps
+pub returns-clause-walk : goal.returns-clause-walk
 unfolding walk_from
-returns-clause-steps c =
-    let done : MOST_STEPS - c.loop-count.count ≡ 0 = omega arith in
-    ap (λ k. behind c.loop-count.steps.items (walk_from k c.args.pages.now c.loop-count.pc)) (sym done)
+returns-clause-walk c =
+    let done : MOST_INSTRS - c.loop-count.count ≡ 0 = omega arith in
+    ap (λ k. ahead c.loop-count.instrs.items (walk_from k c.args.pages.now c.loop-count.pc)) (sym done)
     ∙ c.loop-count.invariant.walked

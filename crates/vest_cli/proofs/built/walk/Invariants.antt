@@ -1,13 +1,13 @@
 use Rattle.std.proofs.Common.{◌≡◌, ◌≤◌, ◌-◌, length}
-use Rattle.std.specs.List.{AllByRecursion}
-use Rattle.vest_cli.specs.Built.{StepFits, walk_from}
-use Rattle.vest_cli.proofs.Walks.{behind}
-use Rattle.vest_cli.specs.declared.built.TheConstants.{MOST_STEPS}
+use Rattle.vest_cli.specs.Built.{walk_from}
+use Rattle.vest_cli.specs.Walks.{AreInLine}
+use Rattle.vest_cli.specs.declared.built.TheConstants.{MOST_INSTRS}
+use Rattle.vest_cli.proofs.Walks.{ahead}
 use Rattle.vest_cli.proofs.built.walk.Given as goal
 
 abbrev pub invariant-loop-count : goal.invariant-loop-count
 invariant-loop-count l = record {
-  walked : behind l.steps.items (walk_from (MOST_STEPS - l.count) l.pages l.pc) ≡ walk_from MOST_STEPS l.pages l.start;
-  few : length l.steps.items ≤ l.count;
-  fit : AllByRecursion StepFits l.steps.items;
+  walked : ahead l.instrs.items (walk_from (MOST_INSTRS - l.count) l.pages l.pc) ≡ walk_from MOST_INSTRS l.pages l.start;
+  few : length l.instrs.items ≤ l.count;
+  in_line : AreInLine l.pages l.start l.instrs.items l.pc;
 }

@@ -1,0 +1,13 @@
+pub mod Lists
+pub mod Numbers
+pub mod Walk
+pub mod Known
+pub mod Trees
+pub mod Constants
+pub mod Moving
+pub mod Boundaries
+pub mod Standing
+pub mod Shapes
+pub mod Made
+pub mod Compiled
+pub mod Forms

@@ -1,0 +1,3 @@
+pub mod HasBlock
+pub mod Words
+pub mod Promises

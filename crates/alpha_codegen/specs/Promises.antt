@@ -1,0 +1,57 @@
+-- What a block promises, and what the trees of instructions that have one come to.
+use Rattle.std.specs.Prelude.{◌≡◌, ℕ, ◌<◌, true}
+use Rattle.vax_form.specs.Grammar.{instruction}
+use Rattle.vax_form.specs.GrammarFound.{found}
+use Rattle.vax_form.specs.State.{Answers, IsState}
+use Rattle.vax_form.specs.Tree.{Tree, Check, Ask, Fault, Ends, Finish, Exit, Trap, instruction_tree}
+use Rattle.vax_form.specs.declared.instr.Instr.{Instr}
+use Rattle.vax_form.specs.declared.pages.Pages.{Pages}
+use Rattle.vax_form.specs.declared.state.Flags.{Flags}
+use Rattle.vax_form.specs.declared.state.VaxState.{VaxState}
+use Rattle.vax_meaning.specs.Control.{serve}
+use Rattle.vax_long.specs.Instructions.{tree_at}
+use Rattle.alpha_meaning.specs.State.{Regs, at_place}
+use Rattle.alpha_meaning.specs.Pieces.{Plain}
+use Rattle.alpha_meaning.specs.declared.access.AlphaKind.{AlphaKind}
+use Rattle.exception_records.specs.Blocks.{BlockValue}
+use Rattle.exception_records.specs.Codes.{all_ready}
+use Rattle.exception_records.specs.Shown.{Shows}
+use Rattle.block_law.specs.Placements.{InForm}
+use Rattle.block_law.specs.Follows.{Follows}
+use Rattle.block_law.specs.Translations.{Meaning, Code, placed, block_steps}
+use Rattle.block_law.specs.Blocks.{Stands, ExitsLead}
+use Rattle.alpha_codegen.specs.HasBlock.{has_block, ends_thread}
+
+-- the VAX instructions of its pages, whose blocks may make all kinds of accesses
+pub record MeansVax (meaning : Meaning) : Type 0 where
+  pub tree : (thread : ℕ) (state : VaxState) → meaning.tree thread state ≡ tree_at meaning.pages thread state
+  pub serve : (thread code : ℕ) (state : VaxState) → meaning.serve thread code state ≡ instruction_tree meaning.pages (serve code thread) state
+  pub kinds : (address : ℕ) (kind : AlphaKind) (bytes : ℕ) → meaning.kinds address kind bytes ≡ true
+
+-- wherever the block stands, it follows the tree of the instruction, if its exits lead to their addresses
+abbrev pub Compiles : Instr → BlockValue → Type 0
+Compiles instr block = (meaning : Meaning) → MeansVax meaning
+    → (code : Code) (first thread n : ℕ) (state : VaxState) (held : Flags) (regs : Regs)
+    → found meaning.pages instr.at ≡ instruction instr → Stands code block first → thread < 256
+    → IsState state → state.pc ≡ instr.at → InForm regs → Shows regs instr.at all_ready held state
+    → ExitsLead (placed meaning code thread state held first) block.exits first all_ready
+    → Follows (placed meaning code thread state held first) n Plain block_steps (at_place regs first) (meaning.tree thread state)
+
+-- whatever replies the references get, the state in which the tree finishes is as stated
+abbrev pub EachFinish : (VaxState → Type 0) → Tree → Type 0
+EachFinish P (Check address count write tree) = EachFinish P tree
+EachFinish P (Ask reference on) = (reply : ℕ) → Answers reference reply → EachFinish P (on reply)
+EachFinish P (Fault exception) = Unit {0}
+EachFinish P (Ends (Finish state)) = P state
+EachFinish P (Ends (Exit state)) = Unit {0}
+EachFinish P (Ends (Trap kind state)) = Unit {0}
+
+-- an instruction that has a block finishes behind itself
+abbrev pub FinishesBehind : Type 0
+FinishesBehind = (pages : Pages) (thread : ℕ) (state : VaxState) (instr : Instr) → has_block instr ≡ true
+    → found pages state.pc ≡ instruction instr → EachFinish (λ s. s.pc ≡ instr.after) (tree_at pages thread state)
+
+-- one that ends its thread does not finish
+abbrev pub ExitNeverFinishes : Type 0
+ExitNeverFinishes = (pages : Pages) (thread : ℕ) (state : VaxState) (instr : Instr) → ends_thread instr ≡ true
+    → found pages state.pc ≡ instruction instr → EachFinish (λ s. ⊥) (tree_at pages thread state)

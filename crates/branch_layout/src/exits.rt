@@ -1,0 +1,104 @@
+// The words of an exit.
+ghost use Rattle.std.specs.Prelude.{◌≡◌, ◌<◌, ◌≤◌, ◌^◌, ℕ, Some, IfSome};
+ghost use Rattle.address_map.specs.Pairs.{word_at};
+ghost use Rattle.block_law.specs.Translations.{most_words};
+ghost use Rattle.branch_layout.specs.Exits.{code_to, exit_code, is_near, displacement, load_high, load_low, idle};
+
+use address_map::AddressMap;
+use alpha_encode::{AlphaInstr, BranchOp, MemoryOp, OperateOp, Second};
+
+/// How many words an exit has.
+pub(crate) const EXIT_WORDS: usize = 3;
+
+/// The VAX address at which the interpreter goes on.
+const TARGET: u8 = 26;
+/// Where a jump goes.
+const JUMP: u8 = 27;
+
+const ZERO: u8 = 31;
+
+/// The PALcode entry that goes on in the interpreter.
+const SWITCH: u8 = 0x86;
+
+/// How far a branch reaches, in words.
+const REACH: u32 = 1 << 20;
+
+const IDLE: AlphaInstr = AlphaInstr::Operate {
+    op: OperateOp::Bis,
+    ra: ZERO,
+    rb: Second::Register(ZERO),
+    rc: ZERO,
+};
+
+fn load_high(register: u8, value: u32) -> AlphaInstr
+    ensures { result ≡ load_high register value }
+{
+    let half = (value.wrapping_add(1 << 15) / (1 << 16)) as u16;
+    AlphaInstr::Memory {
+        op: MemoryOp::Ldah,
+        ra: register,
+        rb: ZERO,
+        disp: half.cast_signed(),
+    }
+}
+
+fn load_low(register: u8, value: u32) -> AlphaInstr
+    ensures { result ≡ load_low register value }
+{
+    let half = (value % (1 << 16)) as u16;
+    AlphaInstr::Memory {
+        op: MemoryOp::Lda,
+        ra: register,
+        rb: register,
+        disp: half.cast_signed(),
+    }
+}
+
+fn is_near(word: u32, target: u32) -> bool
+    requires word { word ≤ most_words }
+    requires target { target ≤ most_words }
+    ensures { result ≡ is_near word target }
+{
+    let next = word + 1;
+    next <= target + REACH && target < next + REACH
+}
+
+/// The words that go from that word to the first word of a block.
+pub(crate) fn code_to(word: u32, target: u32) -> [AlphaInstr; EXIT_WORDS]
+    requires word { word ≤ most_words }
+    requires target { target ≤ most_words }
+    ensures { result ≡ code_to (is_near word target) word target }
+{
+    if is_near(word, target) {
+        let disp = target as i32 - (word + 1) as i32;
+        let branch = AlphaInstr::Branch {
+            op: BranchOp::Br,
+            ra: ZERO,
+            disp,
+        };
+        [branch, IDLE, IDLE]
+    } else {
+        let jump = AlphaInstr::Jump { ra: ZERO, rb: JUMP };
+        [
+            load_high(JUMP, 4 * target),
+            load_low(JUMP, 4 * target),
+            jump,
+        ]
+    }
+}
+
+/// The words of the exit that begins at that word and leads to that address.
+pub(crate) fn exit_code(map: &AddressMap, word: u32, address: u32) -> [AlphaInstr; EXIT_WORDS]
+    requires word { word ≤ most_words }
+    requires targets { IfSome (word_at map.now address) (λ target. target ≤ most_words) }
+    ensures { result ≡ exit_code (word_at map.now address) word address }
+{
+    match map.look_up(address) {
+        Some(target) => code_to(word, target),
+        None => [
+            load_high(TARGET, address),
+            load_low(TARGET, address),
+            AlphaInstr::Pal(SWITCH),
+        ],
+    }
+}

@@ -1,0 +1,10 @@
+use Rattle.std.proofs.Common.{◌≡◌, ◌<◌, ◌+◌, ◌-◌, ◌^◌}
+use Rattle.vax_driven.specs.References.{value_at}
+use Rattle.vax_run.specs.Memory.{byte_of}
+use Rattle.vax_run.proofs.memory.Memory.value.Given as goal
+
+abbrev pub invariant-loop-read : goal.invariant-loop-read
+invariant-loop-read l = record {
+  value : l.value ≡ value_at (byte_of l.image l.self) (l.address + (l.count - l.read)) l.read;
+  small : l.value < 256 ^ l.read;
+}

@@ -1,0 +1,15 @@
+use Rattle.std.proofs.Common.{rules, ◌≡◌, ◌+◌, false, Some, get_or, subst}
+use Rattle.vax_driven.specs.Driven.{picked}
+use Rattle.vax_run.specs.Values.{world_of}
+use Rattle.vax_run.specs.World.{IsWalked}
+use Rattle.vax_run.proofs.Walked.{walked_more, stopped}
+use Rattle.vax_run.proofs.world.World.walk.Goals as goal
+
+pub returns-then-not-branch : goal.returns-then-not-branch
+returns-then-not-branch c =
+    let no : c.in_ok-make.field-0 ≡ false = search rules in
+    stopped c.args.image.now c.args.input.now c.args.order.now (c.loop-pick.pick-index + 1) c.make.new.self
+    (walked_more c.args.image.now c.args.input.now c.args.order.now c.loop-pick.pick-index (record { thread = 0; retired = 0 }) false c.loop-pick.self c.make.new.self
+    c.loop-pick-test.true c.loop-pick.invariant
+    (λ made left. subst (λ b. IsWalked c.args.image.now (picked (world_of c.args.image.now c.args.input.now) (Some made) (get_or c.args.order.now c.loop-pick.pick-index (record { thread = 0; retired = 0 }))) b c.make.new.self) no
+    (c.in_ok-make.ensures made left)))

@@ -1,0 +1,5 @@
+pub mod Answered
+pub mod Memory
+pub mod Threads
+pub mod Values
+pub mod World

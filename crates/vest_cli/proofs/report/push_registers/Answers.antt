@@ -1,0 +1,14 @@
+use Rattle.std.proofs.Common.{◌≡◌, ◌+◌, ◌*◌, ◌++◌, ◌∷◌, [], length, length-append, take, get_or, sym, ap, ◌∙◌, append_assoc, arith}
+use Rattle.std.proofs.lemmas.List.{take_more}
+use Rattle.vest_cli.specs.Digits.{eight_digits}
+use Rattle.vest_cli.specs.Report.{registers_text}
+use Rattle.vest_cli.proofs.Lines.{register_pushed}
+use Rattle.vest_cli.proofs.report.push_registers.Goals as goal
+
+pub loop-value-preserved : goal.loop-value-preserved
+loop-value-preserved c =
+    let one : length c.push.new.self ≡ length c.loop-value.line + 1 = simp length-append at (ap length c.push.ensures) in
+    record {
+      text = register_pushed c.args.registers.now c.loop-value.value-index c.args.line.now _ _ _ (omega (arith, c.told-registers, c.loop-value-test.true)) c.loop-value.invariant.text c.push.ensures c.push_longword.ensures.text;
+      count = omega (arith, one, c.push_longword.ensures.room, c.loop-value.invariant.count);
+    }
