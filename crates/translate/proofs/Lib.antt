@@ -1,0 +1,4 @@
+pub mod Zipped
+pub mod Tidied
+pub mod Meeting
+pub mod Closing
