@@ -22,7 +22,8 @@ pub struct Port<'a, R: Wait, G: Gate> {
 }
 
 impl<'a, R: Wait, G: Gate> Port<'a, R, G> {
-    ghost use Rattle.shared_memory.specs.Passes.{set_up_of, view_of};
+    ghost use Rattle.memory_core.specs.Order.{own};
+    ghost use Rattle.shared_memory.specs.Passes.{set_up_of, view_of, seen_of, own_of};
 
     /// Passes the gate, and then makes one access.
     pub fn access(&mut self, request: &Request) -> Reply
@@ -35,6 +36,7 @@ impl<'a, R: Wait, G: Gate> Port<'a, R, G> {
         ensures reply { MatchReply result
             (λ before success. IsMade (set_up_of self.old.memory.now) request.now before success (view_of self.old.pass) (view_of self.new.pass))
             (IsFull (set_up_of self.old.memory.now) request.now.processor (view_of self.old.pass) (view_of self.new.pass)) }
+        ensures own { own_of self.new.pass ≡ own request.now.processor (seen_of self.new.pass) }
     {
         self.gate.before(request.processor, self.asked);
         self.asked = self.asked.saturating_add(1);

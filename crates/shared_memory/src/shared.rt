@@ -44,6 +44,7 @@ impl SharedMemory {
         ensures pass { IsPassOf self.now processor result }
         ensures seen { seen_of result ≡ seen_of keeper.old }
         ensures own { own_of result ≡ [] }
+        ensures none { own processor (seen_of result) ≡ [] }
     {
         let number = u64::from(processor);
         let shared = &self.table.shared;
@@ -80,6 +81,7 @@ impl SharedMemory {
         requires other { IsPassOf self.now (number_of other) other }
         ensures keeper { IsKeeperOf self.now keeper.new }
         ensures joined { HasJoined (view_of other) (view_of keeper.old) (view_of keeper.new) }
+        ensures own { own_of other ≡ own (number_of other) (seen_of other) }
     {
         let Pass { seat } = other;
         self.table.shared.join_seat::<End>(&mut keeper.seat, seat);

@@ -1,3 +1,4 @@
 pub mod Low
 pub mod Steps
 pub mod Turns
+pub mod Defined

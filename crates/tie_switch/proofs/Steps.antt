@@ -38,7 +38,7 @@ pub fetched : (setting : Setting) (m : Moment) (c : Alpha) → next setting m c 
 unfolding next
 fetched setting m c h = fetched_by setting m c setting.code.words (nat_lt c.pc (length setting.code.words)) refl h
 
-in_code : (words : List ℕ) (pc : ℕ) → pc < length words → (b : Bool) → nat_lt pc (length words) ≡ b → (if b then instr_at (slice_index words pc) else None) ≡ instr_at (slice_index words pc)
+pub in_code : (words : List ℕ) (pc : ℕ) → pc < length words → (b : Bool) → nat_lt pc (length words) ≡ b → (if b then instr_at (slice_index words pc) else None) ≡ instr_at (slice_index words pc)
 in_code words pc h true e = refl
 in_code words pc h false e = grind (arith, ltb-true)
 

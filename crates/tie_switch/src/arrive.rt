@@ -32,6 +32,7 @@ impl Processor {
     pub(crate) fn spend(&mut self)
         ensures is { processor_of self.new ≡ spent (processor_of self.old) }
         ensures budget { self.new.budget ≡ self.old.budget }
+        ensures thread { self.new.thread ≡ self.old.thread }
     {
         self.mode = Mode::Ended(End::Spent);
     }
@@ -41,6 +42,7 @@ impl Processor {
         requires { self.old.retired < self.old.steps }
         ensures is { processor_of self.new ≡ arrived (setting_of setting.entry) (processor_of self.old) state held (regs_of r) }
         ensures budget { self.new.budget ≡ self.old.budget }
+        ensures thread { self.new.thread ≡ self.old.thread }
         ensures steps { self.new.steps ≡ self.old.steps }
     {
         self.mode = mode_at(setting, self.thread, &state, r);
@@ -54,6 +56,7 @@ impl Processor {
         requires { self.old.retired < self.old.steps }
         ensures is { processor_of self.new ≡ record (processor_of self.old) { mode = Ended end; boundary = state; retired = suc (processor_of self.old).retired } }
         ensures budget { self.new.budget ≡ self.old.budget }
+        ensures thread { self.new.thread ≡ self.old.thread }
         ensures steps { self.new.steps ≡ self.old.steps }
     {
         self.mode = Mode::Ended(end);
@@ -66,6 +69,7 @@ impl Processor {
         requires { self.old.retired < self.old.steps }
         ensures is { processor_of self.new ≡ left (setting_of setting.entry) (processor_of self.old) (seen.last_of last) }
         ensures budget { self.new.budget ≡ self.old.budget }
+        ensures thread { self.new.thread ≡ self.old.thread }
         ensures steps { self.new.steps ≡ self.old.steps }
     {
         match last {
@@ -83,6 +87,7 @@ impl Processor {
         requires { self.old.steps < self.old.budget }
         ensures is { processor_of self.new ≡ placed (setting_of setting.entry) (stepped (processor_of self.old)) (seen.place_of place) }
         ensures budget { self.new.budget ≡ self.old.budget }
+        ensures thread { self.new.thread ≡ self.old.thread }
         ensures steps { self.new.steps ≡ self.old.steps + 1 }
     {
         self.steps += 1;

@@ -37,7 +37,7 @@ pub(crate) enum PalCall {
     Other,
 }
 
-fn call_of(number: u8) -> PalCall
+pub(crate) fn call_of(number: u8) -> PalCall
     ensures { seen.call_of result ≡ call_of number }
 {
     match number {

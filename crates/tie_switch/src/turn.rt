@@ -31,8 +31,8 @@ pub enum Turn {
 impl Processor {
     ghost use Rattle.tie_switch.specs.Processors.{processor_of};
 
-    // Where it stands in Alpha code; None where it has ended.
-    fn cpu(&self, setting: Setting<'_>) -> Option<Cpu>
+    /// Where it stands in Alpha code; None where it has ended.
+    pub(crate) fn cpu(&self, setting: Setting<'_>) -> Option<Cpu>
         requires { interprets_next (setting_of setting) (processor_of self.now) ≡ false }
         ensures { MatchOption result (has_ended (processor_of self.now).mode ≡ true)
             (λ cpu. (has_ended (processor_of self.now).mode ≡ false) × (mode_of (setting_of setting.entry) (processor_of self.now) (processor_of self.now).mode ≡ Runs (state_of cpu))) }
@@ -63,6 +63,7 @@ impl Processor {
         ensures place { (memory.new ≡ memory.old) ⊎ M.same memory.old memory.new }
         ensures serves { (thread : ℕ) → M.serves memory.old thread ↔ M.serves memory.new thread }
         ensures budget { self.new.budget ≡ self.old.budget }
+        ensures thread { self.new.thread ≡ self.old.thread }
         ensures steps { has_ended (processor_of self.new).mode ≡ false → self.new.steps ≡ self.old.steps + 1 }
         ensures turned { Makes (alpha_turn (setting_of setting.entry) (processor_of self.old) (next (setting_of setting.entry) (moment_of (processor_of self.old)) (state_of cpu)))
             (M.set_up memory.old) (M.between memory.old) (processor_of self.old) (processor_of self.new) (M.seen memory.old) (M.seen memory.new) }
@@ -97,6 +98,7 @@ impl Processor {
         ensures place { (memory.new ≡ memory.old) ⊎ M.same memory.old memory.new }
         ensures serves { (thread : ℕ) → M.serves memory.old thread ↔ M.serves memory.new thread }
         ensures budget { self.new.budget ≡ self.old.budget }
+        ensures thread { self.new.thread ≡ self.old.thread }
         ensures steps { result ≡ Turn.Went → self.new.steps ≡ self.old.steps + 1 }
         ensures few_steps { self.new.steps ≤ self.new.budget }
         ensures turned { IsTurn (image_setting image.now.pages translation.now ranges.now) (M.set_up memory.old) (M.between memory.old) self.old.budget

@@ -1,0 +1,53 @@
+// Images of the rows.
+ghost use Rattle.std.specs.Prelude.{◌≤◌, IfOk, length};
+ghost use Rattle.image_file.specs.Whole.{IsWhole};
+
+use image_file::{Image, ImageRefusal, read_image};
+use std::alloc::{AllocError, Global};
+use std::io::{self, ErrorKind};
+
+fn push_longwords(file: &mut Vec<u8>, longwords: &[u32]) -> Result<(), AllocError> {
+    for longword in longwords {
+        file.extend_from_slice(&longword.to_le_bytes())?;
+    }
+    Ok(())
+}
+
+fn file_of(alloc: Global, starts: &[u32], code: &[u8], stored: &[u8]) -> Result<Vec<u8>, AllocError>
+    requires starts { length starts.now ≤ 16 }
+    requires code { length code.now ≤ 512 }
+    requires stored { length stored.now ≤ 512 }
+{
+    let mut file = Vec::new(alloc);
+    file.extend_from_slice(b"VXIM")?;
+    for half in [1, starts.len() as u16, 2, 0] {
+        file.extend_from_slice(&half.to_le_bytes())?;
+    }
+    for start in starts {
+        push_longwords(&mut file, &[*start, 0x1200])?;
+    }
+    push_longwords(&mut file, &[0x200, 0x200, code.len() as u32, 0])?;
+    push_longwords(&mut file, &[0x1000, 0x200, stored.len() as u32, 1])?;
+    file.extend_from_slice(code)?;
+    file.extend_from_slice(stored)?;
+    Ok(file)
+}
+
+fn error_of(refusal: ImageRefusal) -> io::Error {
+    match refusal {
+        ImageRefusal::WantOfMemory => ErrorKind::OutOfMemory.into(),
+        _ => ErrorKind::InvalidData.into(),
+    }
+}
+
+/// The image of threads that start there with SP 1200, a read-only section at 200 with the code, and a writable one at
+/// 1000 that stores those bytes. Both have 512 bytes.
+pub fn image_of(alloc: Global, starts: &[u32], code: &[u8], stored: &[u8]) -> io::Result<Image>
+    requires starts { length starts.now ≤ 16 }
+    requires code { length code.now ≤ 512 }
+    requires stored { length stored.now ≤ 512 }
+    ensures { IfOk result IsWhole }
+{
+    let file = file_of(alloc, starts, code, stored)?;
+    read_image(alloc, &file).map_err(error_of)
+}

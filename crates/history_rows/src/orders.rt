@@ -1,0 +1,116 @@
+// Rows of two threads for every list of picks.
+ghost use Rattle.image_file.specs.Whole.{IsWhole};
+
+use crate::images::image_of;
+use crate::machine::{Machine, Quadword};
+use crate::runs::{Bytes, print_by_order};
+use image_file::Image;
+use std::alloc::{AllocError, Global};
+use std::io;
+use vax_form::Pick;
+
+// A list of picks that all retired nothing: thread 0 where a bit is 0, thread 1 where it is 1, from the lowest on.
+fn picks(alloc: Global, threads: u32, length: u32) -> Result<Vec<Pick>, AllocError> {
+    let mut order = Vec::new(alloc);
+    for place in 0..length.min(32) {
+        let thread = u8::from(threads >> place & 1 == 1);
+        order.push(Pick { thread, retired: 0 })?;
+    }
+    Ok(order)
+}
+
+// Each thread comes to its exit with its second instruction.
+const COUNTS: [u64; 2] = [2, 2];
+
+fn print_list(
+    rt: &impl Print,
+    alloc: Global,
+    image: &Image,
+    threads: u32,
+    length: u32,
+    bytes: Bytes,
+) -> io::Result<()>
+    requires { IsWhole image.now }
+{
+    let order = picks(alloc, threads, length)?;
+    print_by_order(rt, alloc, image, &order, &COUNTS, bytes)
+}
+
+// INCB @#1000; EXIT
+const INCREMENT: [u8; 8] = [0x96, 0x9F, 0x00, 0x10, 0x00, 0x00, 0xBC, 0x01];
+
+/// Two threads increment one byte: each reads and writes it. For every list of four picks, what is left in the byte.
+pub fn increments(rt: &impl Print, alloc: Global) -> io::Result<()> {
+    let byte = Bytes {
+        address: 0x1000,
+        count: 1,
+    };
+    let image = image_of(alloc, &[0x200, 0x200], &INCREMENT, &[])?;
+    for threads in 0..16 {
+        print!(rt; "increments: ")?;
+        print_list(rt, alloc, &image, threads, 4, byte)?;
+    }
+    Ok(())
+}
+
+// MOVL @#1002,R0; EXIT; and at 209 MCOML #0,@#1002; EXIT
+const LONGWORD: [u8; 18] = [
+    0xD0, 0x9F, 0x02, 0x10, 0x00, 0x00, 0x50, 0xBC, 0x01, //
+    0xD2, 0x00, 0x9F, 0x02, 0x10, 0x00, 0x00, 0xBC, 0x01,
+];
+
+// The longword and its neighbours.
+const AROUND: Bytes = Bytes {
+    address: 0x1001,
+    count: 6,
+};
+
+/// One thread reads an unaligned longword within a quadword, and the other writes it. For every list of at most three
+/// picks, what is left, and the end of each thread.
+pub fn longword_in_one(rt: &impl Print, alloc: Global) -> io::Result<()> {
+    let image = image_of(alloc, &[0x200, 0x209], &LONGWORD, &[])?;
+    for length in 0..4 {
+        for threads in 0..1 << length {
+            print!(rt; "longword: ")?;
+            print_list(rt, alloc, &image, threads, length, AROUND)?;
+        }
+    }
+    Ok(())
+}
+
+// Makes the load of processor 0 and, of processor 1, the load-locked access and the store conditional of bytes 2 to 5, with
+// the load at that place of the three; what it finds.
+fn load_at(machine: &mut Machine, place: u8) -> u64 {
+    let mut loaded = 0;
+    let mut locked = None;
+    for access in 0..3 {
+        if access == place {
+            loaded = machine.load(0, 0, Quadword::First).unwrap_or(0);
+        } else if let Some(found) = locked {
+            machine.store(1, 0, Quadword::First, found | 0x0000_FFFF_FFFF_0000);
+        } else {
+            locked = machine.lock(1, 0, Quadword::First);
+        }
+    }
+    loaded
+}
+
+fn print_accesses(rt: &impl Print, alloc: Global, image: &Image, place: u8) -> io::Result<()>
+    requires { IsWhole image.now }
+{
+    let mut machine = Machine::new(alloc, image, 0)?;
+    let loaded = load_at(&mut machine, place) >> 16 & 0xFFFF_FFFF;
+    let order = machine.order(alloc)?;
+    print!(rt; "longword by accesses: loaded {loaded:08X} ")?;
+    print_by_order(rt, alloc, image, &order, &COUNTS, AROUND)
+}
+
+/// The same by accesses, with the load before, between and behind those of the write: what is loaded, the order that is
+/// kept, and the threads driven by it.
+pub fn longword_by_accesses(rt: &impl Print, alloc: Global) -> io::Result<()> {
+    let image = image_of(alloc, &[0x200, 0x209], &LONGWORD, &[])?;
+    for place in 0..3 {
+        print_accesses(rt, alloc, &image, place)?;
+    }
+    Ok(())
+}

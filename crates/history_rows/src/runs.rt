@@ -1,0 +1,113 @@
+// Threads driven by an order, and what is printed of them.
+ghost use Rattle.image_file.specs.Whole.{IsWhole};
+
+use image_file::Image;
+use std::alloc::Global;
+use std::io::{self, ErrorKind};
+use vax_form::{Exception, Pick};
+use vax_run::{DrivenRun, ThreadRun, driven};
+
+// Drives the threads of an image by an order, without input, and shows each after that many instructions.
+fn run_by(
+    alloc: Global,
+    image: &Image,
+    order: &[Pick],
+    counts: &[u64],
+) -> io::Result<Option<DrivenRun>>
+    requires { IsWhole image.now }
+{
+    if counts.len() != image.threads.len() {
+        return Err(ErrorKind::InvalidInput.into());
+    }
+    driven(alloc, image, &[], order, counts).map_err(|_| ErrorKind::OutOfMemory.into())
+}
+
+fn print_order(rt: &impl Print, order: &[Pick]) -> io::Result<()> {
+    print!(rt; "order")?;
+    for pick in order {
+        let thread = pick.thread;
+        let retired = pick.retired;
+        print!(rt; " {thread}:{retired}")?;
+    }
+    Ok(())
+}
+
+fn byte_at(run: &DrivenRun, address: u32) -> Option<u8> {
+    for (place, byte) in &run.memory {
+        if *place == address {
+            return Some(*byte);
+        }
+    }
+    None
+}
+
+fn print_thread(rt: &impl Print, thread: &ThreadRun) -> io::Result<()> {
+    let r0 = thread.state.r[0];
+    match thread.raised {
+        Some(Exception::AccessViolation { address, write }) => {
+            let r1 = thread.state.r[1];
+            print!(rt; " access violation {address:08X} write {write} R0 {r0:08X} R1 {r1:08X}")
+        }
+        Some(_) => print!(rt; " exception"),
+        None if thread.exited => print!(rt; " exit {r0:08X}"),
+        None => print!(rt; " goes on"),
+    }
+}
+
+/// Some bytes that are printed of memory.
+#[derive(Clone, Copy)]
+pub struct Bytes {
+    pub address: u32,
+    pub count: u32,
+}
+
+fn print_bytes(rt: &impl Print, run: &DrivenRun, bytes: Bytes) -> io::Result<()> {
+    print!(rt; " bytes")?;
+    for place in 0..bytes.count {
+        match byte_at(run, bytes.address.wrapping_add(place)) {
+            Some(byte) => print!(rt; " {byte:02X}")?,
+            None => print!(rt; " none")?,
+        }
+    }
+    Ok(())
+}
+
+fn print_run(rt: &impl Print, run: &DrivenRun, bytes: Bytes) -> io::Result<()> {
+    print_bytes(rt, run, bytes)?;
+    for thread in &run.threads {
+        print_thread(rt, thread)?;
+    }
+    println!(rt; "")
+}
+
+/// Drives the threads of an image by an order, and prints what it leaves of these bytes and the end of each thread.
+pub fn print_driven(
+    rt: &impl Print,
+    alloc: Global,
+    image: &Image,
+    order: &[Pick],
+    counts: &[u64],
+    bytes: Bytes,
+) -> io::Result<()>
+    requires { IsWhole image.now }
+{
+    match run_by(alloc, image, order, counts)? {
+        Some(run) => print_run(rt, &run, bytes),
+        None => println!(rt; " none"),
+    }
+}
+
+/// Prints the order, too.
+pub fn print_by_order(
+    rt: &impl Print,
+    alloc: Global,
+    image: &Image,
+    order: &[Pick],
+    counts: &[u64],
+    bytes: Bytes,
+) -> io::Result<()>
+    requires { IsWhole image.now }
+{
+    print_order(rt, order)?;
+    print_driven(rt, alloc, image, order, counts, bytes)
+}

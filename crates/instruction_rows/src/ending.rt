@@ -1,0 +1,121 @@
+// One instruction, from its bytes to its end.
+use crate::case::Case;
+use crate::memory::Memory;
+use anyhow::{Result, bail};
+use std::alloc::{AllocError, Global};
+use vax_decode::{Decoded, decode_at};
+use vax_form::{
+    Exception, Instr, LongOperation, Operation, Outcome, PageRange, Pages, VaxState, is_long,
+    operation_of,
+};
+use vax_long::next_long;
+use vax_meaning::next;
+
+/// What an instruction leaves.
+#[derive(Drop)]
+pub struct Ending {
+    pub raised: Option<Exception>,
+    pub state: VaxState,
+    pub memory: Memory,
+}
+
+/// How many pages from address 0 on have the code.
+const CODE_PAGES: u32 = 10;
+
+const CODE_BYTES: usize = 5120;
+
+/// The pages below 80000000 (hexadecimal).
+const ALL_PAGES: u32 = 4_194_304;
+
+/// More references than any instruction of the cases makes.
+const REFERENCES: u32 = 1000;
+
+/// Pages that have the code from address 0 on, and may be written behind it.
+fn code_pages(alloc: Global, memory: &Memory) -> Result<Pages, AllocError> {
+    let code: [u8; CODE_BYTES] = memory.low_bytes();
+    let ranges = vec![in alloc;
+        PageRange {
+            first: 0,
+            count: CODE_PAGES,
+            writable: false,
+            place: 0
+        },
+        PageRange {
+            first: CODE_PAGES,
+            count: ALL_PAGES - CODE_PAGES,
+            writable: true,
+            place: 0
+        },
+    ]?;
+    Ok(Pages {
+        ranges,
+        code: code.to_vec(alloc)?,
+    })
+}
+
+/// Pages that may all be written.
+fn writable_pages(alloc: Global) -> Result<Pages, AllocError> {
+    let ranges = vec![in alloc;
+        PageRange {
+            first: 0,
+            count: ALL_PAGES,
+            writable: true,
+            place: 0
+        },
+    ]?;
+    Ok(Pages {
+        ranges,
+        code: Vec::new(alloc),
+    })
+}
+
+/// Whether an instruction reads more of the code: a table, or an entry mask.
+fn reads_code(opcode: u8) -> bool {
+    matches!(
+        operation_of(opcode),
+        Some(
+            Operation::Case(_)
+                | Operation::Long(LongOperation::CallGeneral | LongOperation::CallStack)
+        )
+    )
+}
+
+fn outcome(state: &VaxState, instr: &Instr, pages: &Pages, replies: &[u64]) -> Outcome {
+    if is_long(instr.opcode) {
+        next_long(state, instr, pages, 0, replies)
+    } else {
+        next(state, instr, pages, 0, replies)
+    }
+}
+
+/// Decodes the instruction at the PC of a case, and runs it to its end.
+pub fn ending_of(alloc: Global, case: &Case) -> Result<Ending> {
+    let mut memory = case.memory.copy()?;
+    let code = code_pages(alloc, &memory)?;
+    let Decoded::Instr(instr) = decode_at(&code, case.before.pc) else {
+        bail!("no instruction at {:X}", case.before.pc);
+    };
+    let pages = if reads_code(instr.opcode) {
+        code
+    } else {
+        writable_pages(alloc)?
+    };
+    let mut replies = Vec::new(alloc);
+    for _ in 0..REFERENCES {
+        let (raised, state) = match outcome(&case.before, &instr, &pages, &replies) {
+            Outcome::Wants(reference) => {
+                replies.push(memory.make(reference)?)?;
+                continue;
+            }
+            Outcome::Done(state) => (None, state),
+            Outcome::Exits(_) => bail!("the thread exits"),
+            Outcome::Raises(exception, state) => (Some(exception), state),
+        };
+        return Ok(Ending {
+            raised,
+            state,
+            memory,
+        });
+    }
+    bail!("more than {REFERENCES} references");
+}
