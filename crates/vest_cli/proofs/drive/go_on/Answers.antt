@@ -43,6 +43,7 @@ returns c =
     c.args.memory.now c.args.processor.now c.requires.way
     c.turn.new.memory c.turn.new.self c.turn.ensures.set_up ((c.turn.ensures.serves 0).0 c.requires.way.serves)
     (c.turn.ensures.budget ∙ c.requires.way.budget) (omega (arith, c.turn.ensures.few_steps, c.turn.ensures.budget, c.requires.way.budget))
+    c.turn.ensures.thread
     (subst (λ (b : ℕ). IsTurn (setting_of c.args.image.now c.args.translation.now) c.args.memory.now.set_up (λ (between : List Entry). between ≡ []) b
     (processor_of c.args.processor.now) (processor_of c.turn.new.self) c.args.memory.now.history c.turn.new.memory.history) c.requires.way.budget c.turn.ensures.turned)
     c.turn.result c.turn.ensures.ended c.turn.ensures.steps
