@@ -1,5 +1,5 @@
 -- A processor that goes on has a step, in code.
-use Rattle.std.proofs.Common.{◌≡◌, ◌≢◌, ◌<◌, ◌≤◌, ◌+◌, ℕ, zero, suc, Bool, true, false, ◌↔◌, List, [], ◌∷◌, Option, Some, None, length, get_or, map, reverse, refl, sym, ap, ◌∙◌, subst, arith}
+use Rattle.std.proofs.Common.{◌≡◌, ◌≢◌, ◌<◌, ◌≤◌, ◌+◌, ℕ, Bool, true, false, ◌↔◌, List, [], ◌∷◌, Option, Some, None, get_or, reverse, refl, sym, ap, ◌∙◌, subst, arith}
 use Rattle.std.specs.Prelude.{slice_get}
 use Rattle.image_file.specs.Start.{start_state}
 use Rattle.image_file.specs.Values.{ImageValue}
@@ -34,10 +34,10 @@ use Rattle.tie_switch.specs.declared.turn.Turn.TheVariants.{Went, Ended}
 use Rattle.vest_core.specs.Closed.{ClosedNeverInterprets}
 use Rattle.vest_core.specs.Meant.{VaxMeaningIsSound}
 use Rattle.vest_core.specs.Sound.{IsSound}
-use Rattle.vest_cli.specs.Driving.{Builds, IsUnderWay, HasRun, HasTurned, setting_of}
+use Rattle.vest_cli.specs.Driving.{Builds, IsUnderWay, HasTurned, setting_of}
 use Rattle.vest_cli.specs.declared.run.TheConstants.{BUDGET}
 use Rattle.vest_cli.proofs.Turns.{has_cause}
-use Rattle.vest_cli.specs.Built.{walk_by, walk_from}
+use Rattle.vest_cli.specs.Built.{walk_by}
 
 first_of_runs : (o : Option ThreadRun) (made : List Made) (d : Driven) → ended made (run_before o (Some [])) ≡ Some d
     → (run : ThreadRun) × (slice_get d.runs 0 ≡ Some run)

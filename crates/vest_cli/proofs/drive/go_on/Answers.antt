@@ -1,14 +1,10 @@
-use Rattle.std.proofs.Common.{◌≡◌, ◌<◌, ◌++◌, ℕ, List, [], refl, sym, ap, ◌∙◌, subst, arith}
+use Rattle.std.proofs.Common.{◌≡◌, ℕ, List, [], ap, ◌∙◌, subst, arith}
 use Rattle.image_file.specs.Values.{ImageValue}
-use Rattle.memory_core.specs.Contents.{Contents}
 use Rattle.memory_core.specs.declared.entry.Entry.{Entry}
 use Rattle.vax_form.specs.GrammarLaws.{AreBytes}
-use Rattle.vest_cli.specs.declared.run.TheConstants.{BUDGET}
-use Rattle.tie_switch.specs.Turns.{IsTurn, has_ended}
+use Rattle.tie_switch.specs.Turns.{IsTurn}
 use Rattle.tie_switch.specs.Processors.{processor_of}
-use Rattle.tie_switch.specs.declared.turn.Turn.{Turn}
-use Rattle.tie_switch.specs.declared.turn.Turn.TheVariants.{Went, Ended}
-use Rattle.vest_cli.specs.Driving.{HasTurned, setting_of}
+use Rattle.vest_cli.specs.Driving.{setting_of}
 use Rattle.vest_cli.proofs.Driving.{translated, has_step, turned_by}
 use Rattle.vest_cli.proofs.drive.go_on.Goals as goal
 
