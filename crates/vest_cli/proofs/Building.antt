@@ -1,6 +1,6 @@
 -- What a walk gives of its translation.
-use Rattle.std.proofs.Common.{◌≡◌, ◌<◌, ◌≤◌, ◌+◌, ◌==◌, ◌&&◌, ℕ, zero, suc, Bool, true, false, List, [], ◌∷◌, Option, Some, None, length, map, refl, sym, ap, ◌∙◌, subst, arith}
-use Rattle.std.specs.Prelude.{All, Contains, IsSome, IfSome, Vec, slice_get, slice_index_or, find, option_map, if◌then◌else◌}
+use Rattle.std.proofs.Common.{◌≡◌, ◌<◌, ◌+◌, ◌==◌, ℕ, zero, suc, true, List, [], ◌∷◌, Option, Some, length, map, refl, sym, ap, ◌∙◌, subst, arith}
+use Rattle.std.specs.Prelude.{All, IsSome, IfSome, Vec, slice_get, slice_index_or, find, option_map, if◌then◌else◌}
 use Rattle.std.proofs.lemmas.Bool.Decides.{nat_tests}
 use Rattle.std.specs.declared.alloc.Global.{Global}
 use Rattle.image_file.specs.Start.{start_state}
@@ -11,7 +11,7 @@ use Rattle.vax_form.specs.declared.pages.Pages.{Pages}
 use Rattle.vax_form.specs.declared.instr.Instr.{Instr}
 use Rattle.vax_form.specs.declared.state.VaxState.{VaxState}
 use Rattle.address_map.specs.Pairs.{Pair, word_at}
-use Rattle.alpha_codegen.specs.HasBlock.{has_block, ends_thread}
+use Rattle.alpha_codegen.specs.HasBlock.{has_block}
 use Rattle.block_law.specs.Translations.{Code, Meets}
 use Rattle.system_model.specs.Closed.{IsMapped, IsClosed}
 use Rattle.system_model.specs.Legal.{starts}

@@ -1,5 +1,5 @@
 -- A processor that goes on has a step, in code.
-use Rattle.std.proofs.Common.{◌≡◌, ◌≢◌, ◌<◌, ◌≤◌, ◌+◌, ℕ, zero, suc, Bool, true, false, ◌↔◌, List, [], ◌∷◌, Option, Some, None, length, get_or, map, reverse, refl, sym, ap, ◌∙◌, subst, arith}
+use Rattle.std.proofs.Common.{◌≡◌, ◌≢◌, ◌<◌, ◌≤◌, ◌+◌, ℕ, Bool, true, false, ◌↔◌, List, [], ◌∷◌, Option, Some, None, get_or, reverse, refl, sym, ap, ◌∙◌, subst, arith}
 use Rattle.std.specs.Prelude.{slice_get}
 use Rattle.image_file.specs.Start.{start_state}
 use Rattle.image_file.specs.Values.{ImageValue}
@@ -34,10 +34,10 @@ use Rattle.tie_switch.specs.declared.turn.Turn.TheVariants.{Went, Ended}
 use Rattle.vest_core.specs.Closed.{ClosedNeverInterprets}
 use Rattle.vest_core.specs.Meant.{VaxMeaningIsSound}
 use Rattle.vest_core.specs.Sound.{IsSound}
-use Rattle.vest_cli.specs.Driving.{Builds, IsUnderWay, HasRun, HasTurned, setting_of}
+use Rattle.vest_cli.specs.Driving.{Builds, IsUnderWay, HasTurned, setting_of}
 use Rattle.vest_cli.specs.declared.run.TheConstants.{BUDGET}
-use Rattle.vest_cli.proofs.Turns.{IsLeft, turn_leaves}
-use Rattle.vest_cli.specs.Built.{walk_by, walk_from}
+use Rattle.vest_cli.proofs.Turns.{has_cause}
+use Rattle.vest_cli.specs.Built.{walk_by}
 
 first_of_runs : (o : Option ThreadRun) (made : List Made) (d : Driven) → ended made (run_before o (Some [])) ≡ Some d
     → (run : ThreadRun) × (slice_get d.runs 0 ≡ Some run)
@@ -84,20 +84,17 @@ module _ (sound_law : VaxMeaningIsSound) (headline_law : LegalHasHeadline) (clos
     has_step = goes_on (setting_of image code) of (reverse memory.history) (processor_of p) (headline (reverse memory.history) (processor_of p) way.legal)
 
     module _ (new : Contents) (q : ProcessorValue) (same : new.set_up ≡ of) (serves : 0 < new.processors) (budget : q.budget ≡ BUDGET)
-        (within : q.steps ≤ BUDGET)
+        (within : q.steps ≤ BUDGET) (thread : q.thread ≡ p.thread)
         (turned : IsTurn (setting_of image code) of (λ between. between ≡ []) BUDGET (processor_of p) (processor_of q) memory.history new.history) where
-      left : IsLeft BUDGET of.limit new.history (processor_of p) (processor_of q)
-      left = turn_leaves (setting_of image code) of BUDGET memory.history new.history (processor_of p) (processor_of q) way.going turned
-
       legal : IsLegal (setting_of image code) of BUDGET (reverse new.history) (processor_of q ∷ [])
       legal = legal_law (setting_of image code) of BUDGET memory.history new.history (processor_of p ∷ []) 0 (processor_of p) (processor_of q) way.legal refl turned
 
       goes_further : has_ended (processor_of q).mode ≡ false → q.steps ≡ p.steps + 1 → HasTurned Went image code of new p q
       goes_further going steps =
-          (record { same = same; serves = serves; first = left.thread ∙ way.first; budget = budget; within = within; going = going; legal = legal }, steps)
+          (record { same = same; serves = serves; first = thread ∙ way.first; budget = budget; within = within; going = going; legal = legal }, steps)
 
       has_run : has_ended (processor_of q).mode ≡ true → HasTurned Ended image code of new p q
-      has_run ended = record { same = same; legal = legal; ended = ended; spent = left.spent; headline = headline (reverse new.history) (processor_of q) legal }
+      has_run ended = record { same = same; legal = legal; ended = ended; spent = has_cause (setting_of image code) of BUDGET memory.history new.history (processor_of p) (processor_of q) way.going turned; headline = headline (reverse new.history) (processor_of q) legal }
 
       pub turned_by : (result : Turn) → ((result ≡ Ended) ↔ (has_ended (processor_of q).mode ≡ true)) → (result ≡ Went → q.steps ≡ p.steps + 1)
           → HasTurned result image code of new p q

@@ -11,7 +11,7 @@ use Rattle.image_file.specs.Values.{ImageValue}
 use Rattle.memory_core.specs.Contents.{output_of}
 use Rattle.system_model.specs.Processors.{Processor}
 use Rattle.vest_cli.specs.Built.{walk_of}
-use Rattle.vest_cli.specs.Decided.{Decision, stops, runs, with_image, with_file, with_walk, with_input, decided, IsOrFault, EndsARun, IsDecided}
+use Rattle.vest_cli.specs.Decided.{Decision, stops, runs, with_image, with_file, with_walk, with_input, decided, IsOrFault, EndsARun}
 use Rattle.vest_cli.specs.Delivery.{Delivers}
 use Rattle.vest_cli.specs.Kept.{KeptValue}
 use Rattle.vest_cli.specs.Lent.{Lent}
@@ -20,7 +20,7 @@ use Rattle.vest_cli.specs.Report.{is_spent, status_of_ends}
 use Rattle.vest_cli.specs.Run.{Runs, StopsRun, processors_of}
 use Rattle.vest_cli.specs.Stages.{IsFile, Accepts, ReadsAll, StopsAtLoad, StopsAtBuild, StopsAtInput}
 use Rattle.vest_cli.specs.Stopping.{status_of}
-use Rattle.vest_cli.specs.Vest.{Stops, Does, Ends, stopped, done}
+use Rattle.vest_cli.specs.Vest.{Ends, stopped, done}
 use Rattle.vest_cli.specs.Words.{CommandValue, run}
 use Rattle.vest_cli.specs.declared.stages.TheConstants.{FILE_LIMIT, INPUT_LIMIT}
 use Rattle.vest_cli.specs.declared.stop.Refusal.TheVariants.{Image, NotBuilt}

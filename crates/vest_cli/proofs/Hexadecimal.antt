@@ -1,6 +1,6 @@
 -- Hexadecimal digits.
-use Rattle.std.proofs.Common.{◌≡◌, ◌<◌, ◌≤◌, ◌+◌, ◌-◌, ◌*◌, ◌^◌, ℕ, zero, suc, List, [], ◌∷◌, ◌++◌, lit<, refl, sym, ap, ◌∙◌, append_assoc, arith}
-use Rattle.vest_cli.specs.Digits.{digit_at, digits_from, eight_digits}
+use Rattle.std.proofs.Common.{◌≡◌, ◌<◌, ◌^◌, ℕ, zero, suc, List, [], ◌∷◌, ◌++◌, lit<, sym, ap, ◌∙◌, append_assoc, arith}
+use Rattle.vest_cli.specs.Digits.{digit_at, digits_from}
 
 -- powers of 16 that fit a longword
 pub power_fits : (k : ℕ) → k < 8 → 16 ^ k < 2 ^ 32

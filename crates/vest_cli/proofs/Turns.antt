@@ -1,8 +1,7 @@
--- What a turn leaves of a processor.
-use Rattle.std.proofs.Common.{◌≡◌, ◌≢◌, ◌<◌, ◌≤◌, ◌+◌, ◌++◌, ◌==◌, ◌&&◌, ◌⊎◌, ℕ, suc, Bool, true, false, List, [], ◌∷◌, Option, Some, None, length, reverse, refl, sym, ap, ◌∙◌, subst, arith, inl, inr, append-nil, length-append}
-use Rattle.std.specs.Prelude.{MatchBool, slice_get, slice_set}
+-- Why a processor is spent.
+use Rattle.std.proofs.Common.{◌≡◌, ◌==◌, ◌&&◌, ◌⊎◌, ℕ, Bool, true, false, List, [], Option, Some, None, length, refl, sym, subst, arith, inl, inr}
+use Rattle.std.specs.Prelude.{MatchBool}
 use Rattle.std.proofs.lemmas.Bool.Decides.{nat_tests}
-use Rattle.std.proofs.lemmas.List.{length-reverse, reverse-append}
 use Rattle.alpha_meaning.specs.State.{Regs}
 use Rattle.memory_core.specs.declared.entry.Entry.{Entry}
 use Rattle.memory_core.specs.declared.entry.SetUp.{SetUp}
@@ -13,8 +12,6 @@ use Rattle.system_model.specs.Legal.{spent, IsGoing}
 use Rattle.system_model.specs.Processors.{Mode, New, Runs, Interprets, Ended, Processor, Turn, Went, Asks, Over, Lost, alpha_turn, left, mode_by, mode_of, moment_of, placed, stepped, tie_turn, tied, turn, turn_in}
 use Rattle.system_model.specs.Settings.{Setting, goes_on}
 use Rattle.system_model.specs.Steps.{Last, Comes, Fails, Place, Inside, Lands, Leaves, Next, Moves, Wants, Stuck, next}
-use Rattle.system_model.proofs.Requests.{IsStep, makes}
-use Rattle.system_model.proofs.Requests as steps
 use Rattle.tie_switch.specs.Turns.{IsStill, Makes, IsTurn, has_ended, is_out}
 use Rattle.tie_switch.specs.Turns as turns
 use Rattle.vest_cli.specs.Driving.{SpentHasCause}
@@ -84,39 +81,34 @@ steps_out : (p : Processor) (budget : ℕ) (b : Bool) → (b && (p.steps == budg
 steps_out p budget true h = grind (arith, nat_tests)
 steps_out p budget false h = absurd cc
 
--- what is left behind a turn
-pub record IsLeft (budget limit : ℕ) (new : List Entry) (p q : Processor) : Type 0 where
-  pub thread : q.thread ≡ p.thread
-  pub spent : SpentHasCause budget limit new q
-
 module _ (setting : Setting) (of : SetUp) (budget : ℕ) (old new : List Entry) (p q : Processor) (goes : IsGoing p.mode) where
-  abbrev Left : Processor → Type 0
-  Left r = IsLeft budget of.limit new p r
+  abbrev HasCause : Processor → Type 0
+  HasCause r = SpentHasCause budget of.limit new r
 
   abbrev alone : List Entry → Type 0
   alone entries = entries ≡ []
 
   -- it stops where it is
-  stops : (p.steps ≡ budget) ⊎ (length new ≡ of.limit) → q ≡ spent p → Left q
-  stops cause is = subst Left (sym is) (record { thread = refl; spent = λ h. cause })
+  stops : (p.steps ≡ budget) ⊎ (length new ≡ of.limit) → q ≡ spent p → HasCause q
+  stops cause is = subst HasCause (sym is) (λ h. cause)
 
   -- it makes a step
-  goes_to : (r : Processor) → IsStep p r → is_spent r.mode ≡ false → q ≡ r → Left q
-  goes_to r step none is = subst Left (sym is) (record { thread = step.thread; spent = λ h. absurd cc })
+  goes_to : (r : Processor) → is_spent r.mode ≡ false → q ≡ r → HasCause q
+  goes_to r none is = subst HasCause (sym is) (λ h. absurd cc)
 
-  by_turn : (t : Turn) → turn setting p ≡ t → Makes t of alone p q old new → Left q
-  by_turn (Went r) e m = goes_to r (subst (steps.Makes p) e (makes setting p)) (subst (GoesOn setting p) e (turn_goes setting p goes)) m.processor
+  by_turn : (t : Turn) → turn setting p ≡ t → Makes t of alone p q old new → HasCause q
+  by_turn (Went r) e m = goes_to r (subst (GoesOn setting p) e (turn_goes setting p goes)) m.processor
   by_turn (Asks request on) e (inl m) =
-      goes_to (on m.before m.success) ((subst (steps.Makes p) e (makes setting p)).1 m.before m.success)
-      (subst (GoesOn setting p) e (turn_goes setting p goes) m.before m.success) m.goes
+      goes_to (on m.before m.success) (subst (GoesOn setting p) e (turn_goes setting p goes) m.before m.success) m.goes
   by_turn (Asks request on) e (inr r) = stops (inr r.over.full) r.goes
   by_turn Over e m = absurd (subst (GoesOn setting p) e (turn_goes setting p goes))
   by_turn Lost e m = absurd m
 
-  by_budget : (b : Bool) → is_out budget p ≡ b → MatchBool b (IsStill (spent p) q old new) (Makes (turn setting p) of alone p q old new) → Left q
+  by_budget : (b : Bool) → is_out budget p ≡ b → MatchBool b (IsStill (spent p) q old new) (Makes (turn setting p) of alone p q old new) → HasCause q
   by_budget true e m = stops (inl (steps_out p budget (turns.goes_on p.mode) e)) m.processor
   by_budget false e m = by_turn (turn setting p) refl m
 
-pub turn_leaves : (setting : Setting) (of : SetUp) (budget : ℕ) (old new : List Entry) (p q : Processor) → has_ended p.mode ≡ false
-    → IsTurn setting of (λ entries. entries ≡ []) budget p q old new → IsLeft budget of.limit new p q
-turn_leaves setting of budget old new p q goes t = by_budget setting of budget old new p q (going p.mode goes) (is_out budget p) refl t
+-- behind a turn, a spent processor has its cause
+pub has_cause : (setting : Setting) (of : SetUp) (budget : ℕ) (old new : List Entry) (p q : Processor) → has_ended p.mode ≡ false
+    → IsTurn setting of (λ entries. entries ≡ []) budget p q old new → SpentHasCause budget of.limit new q
+has_cause setting of budget old new p q goes t = by_budget setting of budget old new p q (going p.mode goes) (is_out budget p) refl t

@@ -3,7 +3,7 @@ use Rattle.std.proofs.Common.{◌≡◌, ◌++◌, ◌+◌, ◌-◌, ◌*◌, �
 use Rattle.std.proofs.lemmas.Bool.{ltb-true}
 use Rattle.std.specs.Prelude.{find, slice_index}
 use Rattle.std.specs.List.{slice_get}
-use Rattle.vax_form.specs.Grammar.{Spells, instruction, wrapped}
+use Rattle.vax_form.specs.Grammar.{instruction, wrapped}
 use Rattle.vax_form.specs.GrammarFound.{Stands, found, IsFetched}
 use Rattle.vax_form.specs.PageTable.{has_page, AreRising}
 use Rattle.vax_form.specs.Pages.{has_code, code_byte_at}

@@ -38,11 +38,12 @@ pub record IsTranslated (image : ImageValue) (code : Code) : Type 0 where
   pub meets : Meets (image_meaning image.pages) code
   pub mapped : map (λ (pair : Pair). pair.0) code.map ≡ map (λ (instr : Instr). instr.at) walk
 
+-- what a run needs of its translation
 pub record Builds (image : ImageValue) (code : Code) : Type 0 where
   pub translated : IsTranslated image code
   pub stays : StaysInCode image code
 
--- the processor goes on
+-- the processor goes on, and is legal up to here
 pub record IsUnderWay (image : ImageValue) (code : Code) (of : SetUp) (memory : Contents) (p : ProcessorValue) : Type 0 where
   pub same : memory.set_up ≡ of
   pub serves : 0 < memory.processors
@@ -56,7 +57,7 @@ pub record IsUnderWay (image : ImageValue) (code : Code) (of : SetUp) (memory : 
 abbrev pub SpentHasCause : (budget limit : ℕ) → List Entry → Processor → Type 0
 SpentHasCause budget limit history p = is_spent p.mode ≡ true → (p.steps ≡ budget) ⊎ (length history ≡ limit)
 
--- the processor ended
+-- the processor ended, so it has the headline
 pub record HasRun (image : ImageValue) (code : Code) (of : SetUp) (memory : Contents) (p : ProcessorValue) : Type 0 where
   pub same : memory.set_up ≡ of
   pub legal : IsLegal (setting_of image code) of BUDGET (reverse memory.history) (processor_of p ∷ [])

@@ -3,7 +3,6 @@ use Rattle.std.specs.Prelude.{ℕ, List, [], ◌∷◌, ◌++◌, codes, decimal
 use Rattle.image_file.specs.Refusal.{number_of as image_number}
 use Rattle.image_file.specs.declared.refusal.ImageRefusal.{ImageRefusal}
 use Rattle.image_file.specs.declared.refusal.ImageRefusal.TheVariants.{Truncated, BadMagic, BadVersion, NoThread, TooManyThreads, TooManySections, BadSection, Overlap, TooLarge, BadEntry, Trailing, TooManyEntries, WantOfMemory as NoMemory}
-use Rattle.vest_cli.specs.declared.stop.Refusal.{Refusal}
 use Rattle.vest_cli.specs.declared.stop.Refusal.TheVariants.{Image, NotBuilt}
 use Rattle.vest_cli.specs.declared.stop.Stop.{Stop}
 use Rattle.vest_cli.specs.declared.stop.Stop.TheVariants.{Usage, Absent, Refused, ReadFault, TooLong, WantOfMemory}

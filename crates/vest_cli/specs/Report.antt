@@ -6,7 +6,7 @@ use Rattle.std.specs.List.{list_any}
 use Rattle.vax_form.specs.declared.state.Exception.{Exception}
 use Rattle.vax_form.specs.declared.state.Exception.TheVariants.{ReservedInstruction, ReservedOperand, ReservedMode, AccessViolation, Breakpoint, Arithmetic}
 use Rattle.vax_form.specs.declared.state.VaxState.{VaxState}
-use Rattle.system_model.specs.Processors.{Mode, New, Runs, Interprets, Ended, Processor}
+use Rattle.system_model.specs.Processors.{Mode, Ended, Processor}
 use Rattle.system_model.specs.declared.translation.End.{End}
 use Rattle.system_model.specs.declared.translation.End.TheVariants.{Exit, Raised, Spent}
 use Rattle.vest_core.specs.Interpreted.{has_raised}

@@ -1,5 +1,5 @@
 -- What holds of a walk.
-use Rattle.std.specs.Prelude.{◌≡◌, ◌<◌, ◌≤◌, ℕ, true, List, [], ◌∷◌, length, Option, Some, None}
+use Rattle.std.specs.Prelude.{◌≡◌, ◌<◌, ◌≤◌, ℕ, true, List, [], ◌∷◌, length}
 use Rattle.vax_form.specs.Grammar.{instruction}
 use Rattle.vax_form.specs.GrammarFound.{found}
 use Rattle.vax_form.specs.declared.pages.Pages.{Pages}

@@ -1,7 +1,5 @@
-use Rattle.std.proofs.Common.{◌≡◌, sym, ap, ◌∙◌, arith, subst}
-use Rattle.vax_form.specs.Grammar.{instruction}
-use Rattle.vax_form.specs.GrammarFound.{Stands, found}
-use Rattle.vax_decode.specs.Decoded.{found_of}
+use Rattle.std.proofs.Common.{sym, ap, ◌∙◌, arith}
+use Rattle.vax_form.specs.GrammarFound.{found}
 use Rattle.vest_cli.proofs.Walks.{instr_rises}
 use Rattle.vest_cli.proofs.built.built_at.Goals as goal
 

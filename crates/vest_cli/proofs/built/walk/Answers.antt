@@ -1,7 +1,7 @@
-use Rattle.std.proofs.Common.{◌≡◌, ◌++◌, ◌∷◌, [], ◌-◌, ◌+◌, suc, true, false, Some, length, length-append, refl, sym, ap, ◌∙◌, subst, arith, List}
+use Rattle.std.proofs.Common.{◌≡◌, ◌-◌, ◌+◌, suc, Some, length, length-append, sym, ap, ◌∙◌, subst, arith, List}
 use Rattle.vax_form.specs.declared.instr.Instr.{Instr}
-use Rattle.vest_cli.specs.Built.{built_at, walk_from}
-use Rattle.vest_cli.specs.Walks.{IsBuiltAt, AreInLine, EndsInExit}
+use Rattle.vest_cli.specs.Built.{walk_from}
+use Rattle.vest_cli.specs.Walks.{AreInLine, EndsInExit}
 use Rattle.vest_cli.specs.declared.built.TheConstants.{MOST_INSTRS}
 use Rattle.vest_cli.proofs.Walks.{ahead, walk_ends, walk_fails, walk_goes_on, line_and, ends_and}
 use Rattle.vest_cli.proofs.built.walk.Goals as goal

@@ -1,6 +1,5 @@
-use Rattle.std.proofs.Common.{◌≡◌, ◌≤◌, [], refl, ap, ◌∙◌, arith, Some, get_or}
+use Rattle.std.proofs.Common.{◌≡◌, refl, ap, ◌∙◌, arith, get_or}
 use Rattle.image_file.specs.Values.{ImageValue}
-use Rattle.image_file.specs.declared.image.Start.{Start}
 use Rattle.memory_core.specs.Contents.{Contents}
 use Rattle.system_model.specs.Processors.{Processor}
 use Rattle.vest_cli.proofs.Driving.{begins, one_thread}

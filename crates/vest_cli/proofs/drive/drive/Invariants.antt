@@ -1,4 +1,4 @@
-use Rattle.std.proofs.Common.{◌≡◌, ◌≤◌}
+use Rattle.std.proofs.Common.{◌≡◌}
 use Rattle.vest_cli.specs.Driving.{IsUnderWay}
 use Rattle.vest_cli.proofs.drive.drive.Given as goal
 

@@ -1,14 +1,10 @@
-use Rattle.std.proofs.Common.{◌≡◌, ◌<◌, ◌++◌, ℕ, List, [], refl, sym, ap, ◌∙◌, subst, arith}
+use Rattle.std.proofs.Common.{◌≡◌, ℕ, List, [], ap, ◌∙◌, subst, arith}
 use Rattle.image_file.specs.Values.{ImageValue}
-use Rattle.memory_core.specs.Contents.{Contents}
 use Rattle.memory_core.specs.declared.entry.Entry.{Entry}
 use Rattle.vax_form.specs.GrammarLaws.{AreBytes}
-use Rattle.vest_cli.specs.declared.run.TheConstants.{BUDGET}
-use Rattle.tie_switch.specs.Turns.{IsTurn, has_ended}
+use Rattle.tie_switch.specs.Turns.{IsTurn}
 use Rattle.tie_switch.specs.Processors.{processor_of}
-use Rattle.tie_switch.specs.declared.turn.Turn.{Turn}
-use Rattle.tie_switch.specs.declared.turn.Turn.TheVariants.{Went, Ended}
-use Rattle.vest_cli.specs.Driving.{HasTurned, setting_of}
+use Rattle.vest_cli.specs.Driving.{setting_of}
 use Rattle.vest_cli.proofs.Driving.{translated, has_step, turned_by}
 use Rattle.vest_cli.proofs.drive.go_on.Goals as goal
 
@@ -43,6 +39,7 @@ returns c =
     c.args.memory.now c.args.processor.now c.requires.way
     c.turn.new.memory c.turn.new.self c.turn.ensures.set_up ((c.turn.ensures.serves 0).0 c.requires.way.serves)
     (c.turn.ensures.budget ∙ c.requires.way.budget) (omega (arith, c.turn.ensures.few_steps, c.turn.ensures.budget, c.requires.way.budget))
+    c.turn.ensures.thread
     (subst (λ (b : ℕ). IsTurn (setting_of c.args.image.now c.args.translation.now) c.args.memory.now.set_up (λ (between : List Entry). between ≡ []) b
     (processor_of c.args.processor.now) (processor_of c.turn.new.self) c.args.memory.now.history c.turn.new.memory.history) c.requires.way.budget c.turn.ensures.turned)
     c.turn.result c.turn.ensures.ended c.turn.ensures.steps

@@ -1,7 +1,4 @@
-use Rattle.std.proofs.Common.{◌≡◌, ◌+◌, ◌*◌, ◌++◌, ◌∷◌, [], length, length-append, take, get_or, sym, ap, ◌∙◌, append_assoc, arith}
-use Rattle.std.proofs.lemmas.List.{take_more}
-use Rattle.vest_cli.specs.Digits.{eight_digits}
-use Rattle.vest_cli.specs.Report.{registers_text}
+use Rattle.std.proofs.Common.{◌≡◌, ◌+◌, length, length-append, ap, arith}
 use Rattle.vest_cli.proofs.Lines.{register_pushed}
 use Rattle.vest_cli.proofs.report.push_registers.Goals as goal
 

@@ -1,15 +1,13 @@
-use Rattle.std.proofs.Common.{◌≡◌, List, length, map, sym, ap, ◌∙◌, subst, arith}
+use Rattle.std.proofs.Common.{sym, ap, ◌∙◌, subst}
 use Rattle.std.specs.Prelude.{Vec, Some, option_map}
 use Rattle.std.specs.declared.alloc.Global.{Global}
 use Rattle.image_file.specs.Values.{ImageValue}
 use Rattle.vax_form.specs.declared.instr.Instr.{Instr}
-use Rattle.address_map.specs.Pairs.{Pair}
 use Rattle.block_law.specs.Translations.{Meets}
 use Rattle.system_model.specs.Meant.{image_meaning}
 use Rattle.system_model.specs.Closed.{IsClosed}
-use Rattle.translate.specs.Compiled.{AreFound, GoOn, addresses}
-use Rattle.vest_cli.specs.Walks.{IsWalkOf}
-use Rattle.vest_cli.proofs.Building.{in_order, are_found, have_blocks, goes, all_start, walk_is, walk_told, is_built_by}
+use Rattle.translate.specs.Compiled.{AreFound, GoOn}
+use Rattle.vest_cli.proofs.Building.{in_order, are_found, have_blocks, walk_is, walk_told, is_built_by}
 use Rattle.vest_cli.proofs.stages.build.Goals as goal
 
 pub translate_instrs-requires-clause-few : goal.translate_instrs-requires-clause-few

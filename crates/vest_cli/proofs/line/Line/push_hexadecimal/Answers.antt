@@ -1,4 +1,4 @@
-use Rattle.std.proofs.Common.{◌≡◌, ◌+◌, ◌-◌, ◌++◌, ◌∷◌, [], suc, length, length-append, append-nil, refl, sym, ap, ◌∙◌, arith}
+use Rattle.std.proofs.Common.{◌≡◌, ◌+◌, ◌-◌, ◌++◌, ◌∷◌, [], suc, length, length-append, append-nil, sym, ap, ◌∙◌, arith}
 use Rattle.vest_cli.specs.Digits.{digit_at, digits_from}
 use Rattle.vest_cli.proofs.Hexadecimal.{next_digit}
 use Rattle.vest_cli.proofs.line.Line.push_hexadecimal.Goals as goal
