@@ -1,11 +1,14 @@
 //! Turns over hand-made words: a longword that is stored, a byte that is put, and the service that ends the thread.
 ghost use Rattle.std.specs.Prelude.{◌≡◌, ◌≢◌, ◌≤◌, ◌<◌, true, false, length};
 ghost use Rattle.alpha_machine.specs.Step.{state_of};
+ghost use Rattle.block_law.specs.Follows as follows;
 ghost use Rattle.block_law.specs.Translations.{most_words};
+ghost use Rattle.exception_records.specs.Points.{point_at};
 ghost use Rattle.system_model.specs.Closed.{interprets_next};
 ghost use Rattle.system_model.specs.Processors.{Lost};
 ghost use Rattle.system_model.specs.Processors as model;
-ghost use Rattle.system_model.specs.Steps.{Moment, Stuck, is_defined, next};
+ghost use Rattle.system_model.specs.Steps.{Moment, Stuck, called, is_defined, next};
+ghost use Rattle.tie_switch.specs.Accesses.{IsFetched};
 ghost use Rattle.tie_switch.specs.Processors.{processor_of};
 ghost use Rattle.tie_switch.specs.Seen.{setting_of};
 
@@ -42,7 +45,7 @@ const AT_200: u32 = 0x237f_0200;
 
 // By hand from the manual's formats; the blocks of 200, 207 and 20A begin at words 0, 5 and 10.
 const CODE: [u32; 13] = [
-    AT_1000,     //
+    AT_1000, //
     0x0000_0080, // PAL 80
     0x22bf_0041, // LDA R21,41(R31)
     0xb2bb_0000, // STL R21,0(R27)
@@ -69,24 +72,48 @@ fn is_allowed(setting: Setting<'_>, access: AlphaAccess) -> bool
             .allowed((access.address / 8 * 8) as u32, stores(access.kind))
 }
 
+// A probe or a service, with a point.
+#[tactic(auto, using(crate::proofs::Defined::serves))]
+fn is_defined_call(setting: Setting<'_>, number: u8, cpu: Cpu) -> bool
+    ensures { (moment : Moment) → result ≡ true
+        → called (setting_of setting.entry) moment (follows.call_of number) (point_at setting.entry.code.now.points cpu.pc) (state_of cpu) ≢ Stuck }
+{
+    let code = setting.code;
+    let point = code.points.find(cpu.pc).copied();
+    match (call_of(number), point) {
+        (PalCall::Probe | PalCall::Serve, Some(_)) => true,
+        _ => false,
+    }
+}
+
+// Whether the word decodes.
+fn is_fetched(words: &[u32], pc: u32) -> bool
+    ensures { result ≡ true → IsFetched words.now pc }
+{
+    let word = pc as usize;
+    word < words.len() && decode(words[word]).is_some()
+}
+
+// Whether a word that decodes has a step.
+fn is_defined_step(setting: Setting<'_>, cpu: Cpu) -> bool
+    requires { IsFetched setting.code.now.words cpu.pc }
+    ensures { (moment : Moment) → result ≡ true → next (setting_of setting.entry) moment (state_of cpu) ≢ Stuck }
+{
+    let code = setting.code;
+    let mut copy = cpu;
+    match step(&mut copy, &code.words) {
+        AlphaStep::Local => true,
+        AlphaStep::Want(access) => is_allowed(setting, access),
+        AlphaStep::Pal(number) => is_defined_call(setting, number, cpu),
+    }
+}
+
 // Whether the word has a step.
 fn has_step(setting: Setting<'_>, cpu: Cpu) -> bool
     ensures { (moment : Moment) → result ≡ true → next (setting_of setting.entry) moment (state_of cpu) ≢ Stuck }
 {
     let code = setting.code;
-    let word = cpu.pc as usize;
-    if word >= code.words.len() || decode(code.words[word]).is_none() {
-        return false;
-    }
-    let mut copy = cpu;
-    match step(&mut copy, &code.words) {
-        AlphaStep::Local => true,
-        AlphaStep::Want(access) => is_allowed(setting, access),
-        AlphaStep::Pal(number) => {
-            matches!(call_of(number), PalCall::Probe | PalCall::Serve)
-                && code.points.find(cpu.pc).is_some()
-        }
-    }
+    is_fetched(&code.words, cpu.pc) && is_defined_step(setting, cpu)
 }
 
 // Whether the next step is one of Alpha code.
@@ -111,13 +138,7 @@ fn expect_step(rt: &impl Abort, setting: Setting<'_>, p: &Processor)
 }
 
 // Turns until the processor has ended.
-fn run(
-    rt: &impl Abort,
-    image: &Image,
-    code: &Translation,
-    memory: &mut MemState,
-    p: &mut Processor,
-)
+fn run(rt: &impl Abort, image: &Image, code: &Translation, memory: &mut MemState, p: &mut Processor)
     requires few { length code.now.words ≤ most_words }
     requires image { memory.old.set_up.image ≡ image.now }
     requires thread { p.old.thread < memory.old.processors }
@@ -170,14 +191,21 @@ fn turns(rt: HostRuntime) -> Result<(), Fail> {
         assert_eq!(rt; words.len(), 13);
         words[0] = first;
         let map = build(rt.alloc(), &[(0x200, 0), (0x207, 5), (0x20a, 10)])?;
-        let list = vec![in rt.alloc(); (1, point(0x200, 4)), (8, point(0x207, 0)), (12, point(0x20a, 0))]?;
+        let list = vec![in rt.alloc();
+            (1, point(0x200, 4)),
+            (8, point(0x207, 0)),
+            (12, point(0x20a, 0)),
+        ]?;
         let points = exception_records::build(list)?;
         let code = Translation { words, map, points };
         let input = Vec::new(rt.alloc());
         let mut memory = MemState::new(rt.alloc(), &image, input, 1, limit, 0)?;
         let mut p = Processor::new(0, start, budget);
         run(&rt, &image, &code, &mut memory, &mut p);
-        assert_eq!(rt; (p.steps(), p.retired(), p.tie_steps()), (steps, retired, 0));
+        assert_eq!(rt;
+            (p.steps(), p.retired(), p.tie_steps()),
+            (steps, retired, 0)
+        );
         assert_eq!(rt; (p.end(), p.shown().pc), (Some(end), pc));
         assert_eq!(rt; memory.history().len(), entries);
         if retired == 3 {
