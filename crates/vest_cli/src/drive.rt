@@ -2,6 +2,8 @@
 ghost use Rattle.std.specs.Prelude.{◌≡◌};
 ghost use Rattle.image_file.specs.Whole.{IsWhole};
 ghost use Rattle.memory_core.specs.Contents.{fresh};
+ghost use Rattle.vax_form.specs.GrammarLaws.{AreBytes};
+ghost use Rattle.vest_core.specs.Law.{IsRun};
 ghost use Rattle.vest_cli.specs.Driving.{Builds, IsUnderWay, HasRun, HasTurned};
 
 use crate::run::{BUDGET, LIMIT, MISS};
@@ -32,9 +34,11 @@ pub fn drive(
     ensures { HasRun image.now translation.now memory.old.set_up memory.new result }
 {
     let mut processor = Processor::new(0, &image.threads[0], BUDGET);
+    page_table_has_bytes(&image.pages);
+    images_are_runs(image, input);
     beginnings_are_legal();
     for turn in 0..TURNS {
-        if let Turn::Ended = go_on(image, input, translation, memory, &mut processor) {
+        if let Turn::Ended = go_on(image, translation, memory, &mut processor) {
             return processor;
         }
     }
@@ -44,20 +48,17 @@ pub fn drive(
 // One turn.
 fn go_on(
     image: &Image,
-    input: &[u8],
     translation: &Translation,
     memory: &mut MemState,
     processor: &mut Processor,
 ) -> Turn
-    requires whole { IsWhole image.now }
     requires image { memory.old.set_up.image ≡ image.now }
-    requires input { memory.old.set_up.input ≡ input.now }
+    requires bytes { AreBytes image.now.pages.code }
+    requires run { IsRun memory.old.set_up }
     requires builds { Builds image.now translation.now }
     requires way { IsUnderWay image.now translation.now memory.old.set_up memory.old processor.old }
     ensures { HasTurned result image.now translation.now memory.old.set_up memory.new processor.old processor.new }
 {
-    page_table_has_bytes(&image.pages);
-    images_are_runs(image, input);
     vax_meaning_is_sound();
     legal_has_headline();
     closed_never_interprets();

@@ -1,7 +1,5 @@
 use Rattle.std.proofs.Common.{◌≡◌, ℕ, List, [], ap, ◌∙◌, subst, arith}
-use Rattle.image_file.specs.Values.{ImageValue}
 use Rattle.memory_core.specs.declared.entry.Entry.{Entry}
-use Rattle.vax_form.specs.GrammarLaws.{AreBytes}
 use Rattle.tie_switch.specs.Turns.{IsTurn}
 use Rattle.tie_switch.specs.Processors.{processor_of}
 use Rattle.vest_cli.specs.Driving.{setting_of}
@@ -20,22 +18,22 @@ turn-requires-clause-serves c = omega (arith, c.requires.way.first, c.requires.w
 pub turn-requires-clause-translated : goal.turn-requires-clause-translated
 turn-requires-clause-translated c =
     translated c.vax_meaning_is_sound.ensures c.legal_has_headline.ensures c.closed_never_interprets.ensures c.turns_stay_legal.ensures
-    c.args.image.now c.args.translation.now c.args.memory.now.set_up (subst (λ (i : ImageValue). AreBytes i.pages.code) c.image.view_is c.page_table_has_bytes.ensures)
-    (c.images_are_runs.ensures c.args.memory.now.set_up c.requires.image c.requires.input) c.requires.image c.requires.builds
+    c.args.image.now c.args.translation.now c.args.memory.now.set_up c.requires.bytes
+    c.requires.run c.requires.image c.requires.builds
     c.args.memory.now c.args.processor.now c.requires.way
 
 pub turn-requires-clause-goes_on : goal.turn-requires-clause-goes_on
 turn-requires-clause-goes_on c =
     has_step c.vax_meaning_is_sound.ensures c.legal_has_headline.ensures c.closed_never_interprets.ensures c.turns_stay_legal.ensures
-    c.args.image.now c.args.translation.now c.args.memory.now.set_up (subst (λ (i : ImageValue). AreBytes i.pages.code) c.image.view_is c.page_table_has_bytes.ensures)
-    (c.images_are_runs.ensures c.args.memory.now.set_up c.requires.image c.requires.input) c.requires.image c.requires.builds
+    c.args.image.now c.args.translation.now c.args.memory.now.set_up c.requires.bytes
+    c.requires.run c.requires.image c.requires.builds
     c.args.memory.now c.args.processor.now c.requires.way
 
 pub returns : goal.returns
 returns c =
     turned_by c.vax_meaning_is_sound.ensures c.legal_has_headline.ensures c.closed_never_interprets.ensures c.turns_stay_legal.ensures
-    c.args.image.now c.args.translation.now c.args.memory.now.set_up (subst (λ (i : ImageValue). AreBytes i.pages.code) c.image.view_is c.page_table_has_bytes.ensures)
-    (c.images_are_runs.ensures c.args.memory.now.set_up c.requires.image c.requires.input) c.requires.image c.requires.builds
+    c.args.image.now c.args.translation.now c.args.memory.now.set_up c.requires.bytes
+    c.requires.run c.requires.image c.requires.builds
     c.args.memory.now c.args.processor.now c.requires.way
     c.turn.new.memory c.turn.new.self c.turn.ensures.set_up ((c.turn.ensures.serves 0).0 c.requires.way.serves)
     (c.turn.ensures.budget ∙ c.requires.way.budget) (omega (arith, c.turn.ensures.few_steps, c.turn.ensures.budget, c.requires.way.budget))
