@@ -34,9 +34,10 @@ use Rattle.tie_switch.specs.declared.turn.Turn.TheVariants.{Went, Ended}
 use Rattle.vest_core.specs.Closed.{ClosedNeverInterprets}
 use Rattle.vest_core.specs.Meant.{VaxMeaningIsSound}
 use Rattle.vest_core.specs.Sound.{IsSound}
-use Rattle.vest_cli.specs.Driving.{Builds, IsUnderWay, HasTurned, setting_of}
+use Rattle.vest_cli.specs.Driving.{AreDriven, Builds, IsUnderWay, HasTurned, setting_of}
 use Rattle.vest_cli.specs.declared.run.TheConstants.{BUDGET}
 use Rattle.vest_cli.proofs.Turns.{has_cause}
+use Rattle.vest_cli.proofs.Outputs.{put_out}
 use Rattle.vest_cli.specs.Built.{walk_by}
 
 first_of_runs : (o : Option ThreadRun) (made : List Made) (d : Driven) → ended made (run_before o (Some [])) ≡ Some d
@@ -74,6 +75,12 @@ module _ (sound_law : VaxMeaningIsSound) (headline_law : LegalHasHeadline) (clos
       → HasHeadline (setting_of image code) of entries (p ∷ [])
   headline entries p legal = headline_law (setting_of image code) of BUDGET entries (p ∷ []) sound builds.translated.meets run legal
 
+  driven : (history : List Entry) (p : Processor) → IsLegal (setting_of image code) of BUDGET (reverse history) (p ∷ [])
+      → AreDriven (setting_of image code) of history (p ∷ [])
+  driven history p legal =
+      let h = headline (reverse history) p legal in
+      record { headline = h; output = put_out history h.history.made h.history.output }
+
   module _ (memory : Contents) (p : ProcessorValue) (way : IsUnderWay image code of memory p) where
     pub translated : interprets_next (setting_of image code) (processor_of p) ≡ false
     translated = closed_law (setting_of image code) of BUDGET (reverse memory.history) (processor_of p ∷ []) sound builds.translated.meets
@@ -94,7 +101,7 @@ module _ (sound_law : VaxMeaningIsSound) (headline_law : LegalHasHeadline) (clos
           (record { same = same; serves = serves; first = thread ∙ way.first; budget = budget; within = within; going = going; legal = legal }, steps)
 
       has_run : has_ended (processor_of q).mode ≡ true → HasTurned Ended image code of new p q
-      has_run ended = record { same = same; legal = legal; ended = ended; spent = has_cause (setting_of image code) of BUDGET memory.history new.history (processor_of p) (processor_of q) way.going turned; headline = headline (reverse new.history) (processor_of q) legal }
+      has_run ended = record { same = same; legal = legal; ended = ended; spent = has_cause (setting_of image code) of BUDGET memory.history new.history (processor_of p) (processor_of q) way.going turned; driven = driven new.history (processor_of q) legal }
 
       pub turned_by : (result : Turn) → ((result ≡ Ended) ↔ (has_ended (processor_of q).mode ≡ true)) → (result ≡ Went → q.steps ≡ p.steps + 1)
           → HasTurned result image code of new p q

@@ -6,4 +6,5 @@ mod Hexadecimal
 mod Lines
 mod Progress
 mod Turns
+mod Outputs
 mod Walks

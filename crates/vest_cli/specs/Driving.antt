@@ -1,7 +1,7 @@
 -- The one thread of an image, turn by turn.
 use Rattle.std.specs.Prelude.{◌≡◌, ◌⊎◌, ◌<◌, ◌≤◌, ◌+◌, ℕ, true, false, Some, List, [], ◌∷◌, length, map, reverse}
 use Rattle.image_file.specs.Values.{ImageValue}
-use Rattle.memory_core.specs.Contents.{Contents}
+use Rattle.memory_core.specs.Contents.{Contents, output_of}
 use Rattle.memory_core.specs.declared.entry.Entry.{Entry}
 use Rattle.memory_core.specs.declared.entry.SetUp.{SetUp}
 use Rattle.address_map.specs.Pairs.{Pair}
@@ -17,6 +17,7 @@ use Rattle.tie_switch.specs.Processors.{Kept as ProcessorValue, processor_of}
 use Rattle.tie_switch.specs.Turns.{has_ended}
 use Rattle.tie_switch.specs.declared.turn.Turn.{Turn}
 use Rattle.tie_switch.specs.declared.turn.Turn.TheVariants.{Went, Ended}
+use Rattle.vax_driven.specs.Made.{output_after}
 use Rattle.vest_core.specs.Law.{HasHeadline}
 use Rattle.vest_cli.specs.Built.{walk_of}
 use Rattle.vest_cli.specs.Report.{is_spent}
@@ -57,13 +58,19 @@ pub record IsUnderWay (image : ImageValue) (code : Code) (of : SetUp) (memory : 
 abbrev pub SpentHasCause : (budget limit : ℕ) → List Entry → Processor → Type 0
 SpentHasCause budget limit history p = is_spent p.mode ≡ true → (p.steps ≡ budget) ⊎ (length history ≡ limit)
 
+-- a history, oldest first, and processors are what the VAX threads do that are driven by its order; and the output is what
+-- these put out, which they tell newest first
+pub record AreDriven (setting : Setting) (of : SetUp) (history : List Entry) (processors : List Processor) : Type 0 where
+  pub headline : HasHeadline setting of (reverse history) processors
+  pub output : output_of history ≡ reverse (output_after headline.history.made)
+
 -- the processor ended, so it has the headline
 pub record HasRun (image : ImageValue) (code : Code) (of : SetUp) (memory : Contents) (p : ProcessorValue) : Type 0 where
   pub same : memory.set_up ≡ of
   pub legal : IsLegal (setting_of image code) of BUDGET (reverse memory.history) (processor_of p ∷ [])
   pub ended : has_ended (processor_of p).mode ≡ true
   pub spent : SpentHasCause BUDGET of.limit memory.history (processor_of p)
-  pub headline : HasHeadline (setting_of image code) of (reverse memory.history) (processor_of p ∷ [])
+  pub driven : AreDriven (setting_of image code) of memory.history (processor_of p ∷ [])
 
 -- one turn: it goes on with one more step, or has ended
 abbrev pub HasTurned : Turn → ImageValue → Code → SetUp → Contents → (p q : ProcessorValue) → Type 0

@@ -14,10 +14,9 @@ use Rattle.system_model.specs.Processors.{Processor}
 use Rattle.system_model.specs.Settings.{Setting}
 use Rattle.tie_switch.specs.Processors.{processor_of}
 use Rattle.tie_switch.specs.Turns.{has_ended}
-use Rattle.vest_core.specs.Law.{HasHeadline}
 use Rattle.vest_cli.specs.Built.{walk_of}
 use Rattle.vest_cli.specs.Delivery.{Delivers}
-use Rattle.vest_cli.specs.Driving.{IsTranslated, SpentHasCause}
+use Rattle.vest_cli.specs.Driving.{AreDriven, IsTranslated, SpentHasCause}
 use Rattle.vest_cli.specs.Kept.{KeptValue}
 use Rattle.vest_cli.specs.Lent.{Lent, SameFiles}
 use Rattle.vest_cli.specs.Stages.{Accepts, ReadsAll, StopsAtLoad, StopsAtBuild, StopsAtInput}
@@ -64,6 +63,6 @@ pub record Runs (result : Status) (name : List ℕ) (old new : Lent) (kept : Kep
   pub ended : AllByRecursion (λ (p : Processor). has_ended p.mode ≡ true) (processors_of kept)
   pub spent : AllByRecursion (SpentHasCause kept.budget kept.limit kept.history) (processors_of kept)
   -- so they are what the VAX threads do
-  pub headline : HasHeadline (setting_of image code kept) (set_up_of image kept) (reverse kept.history) (processors_of kept)
+  pub driven : AreDriven (setting_of image code kept) (set_up_of image kept) kept.history (processors_of kept)
   pub delivered : Delivers result (output_of kept.history) (processors_of kept) old.out new.out old.report new.report
   pub desk : SameFiles old.desk new.desk
