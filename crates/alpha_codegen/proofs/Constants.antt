@@ -22,7 +22,8 @@ use Rattle.block_law.specs.Tidy.{is_kept}
 use Rattle.block_law.proofs.Kept.{registers_kept, registers_put}
 use Rattle.block_law.proofs.Rules.{Always}
 use Rattle.alpha_codegen.specs.declared.lines.Line.{Line}
-use Rattle.alpha_codegen.specs.Words.{high_half, low_half, halves, longword, place}
+use Rattle.alpha_encode.specs.Halves.{high_half, low_half}
+use Rattle.alpha_codegen.specs.Words.{halves, longword, place}
 use Rattle.alpha_codegen.proofs.Numbers.{halves_join, of_low, low_kept}
 use Rattle.alpha_codegen.proofs.Walk.{Within, Sets, next, sets_one}
 

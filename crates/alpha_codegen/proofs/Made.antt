@@ -18,7 +18,8 @@ use Rattle.alpha_codegen.specs.declared.works.Source.TheVariants as sources
 use Rattle.alpha_codegen.specs.declared.works.Source.TheVariants.{Constant}
 use Rattle.alpha_codegen.specs.declared.works.Destination.{Destination}
 use Rattle.alpha_codegen.specs.declared.works.Destination.TheVariants as destinations
-use Rattle.alpha_codegen.specs.Words.{plain, marked, point_of, halves, longword, place, source_lines, store_lines, code_lines, commit_lines, move_lines, service_lines, words_of, quiet_words, points_from, block_of, high_half, low_half}
+use Rattle.alpha_encode.specs.Halves.{high_half, low_half}
+use Rattle.alpha_codegen.specs.Words.{plain, marked, point_of, halves, longword, place, source_lines, store_lines, code_lines, commit_lines, move_lines, service_lines, words_of, quiet_words, points_from, block_of}
 use Rattle.alpha_codegen.specs.HasBlock.{FitsSource, FitsDestination}
 use Rattle.alpha_codegen.proofs.Shapes.{IsPoint, EachLine, each_append, block_stands}
 

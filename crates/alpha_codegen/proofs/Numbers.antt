@@ -8,7 +8,7 @@ use Rattle.std.proofs.lemmas.Bool.Decides.{nat_tests}
 use Rattle.vt_words.specs.Quad.{sign_extended, kept, right}
 use Rattle.vt_words.proofs.Fields.{kept_run, run_of}
 use Rattle.alpha_meaning.specs.Result.{plus, times, one_if}
-use Rattle.alpha_codegen.specs.Words.{high_half, low_half}
+use Rattle.alpha_encode.specs.Halves.{high_half, low_half}
 
 -- ---- halves
 half_low : (l : ℕ) → l < 2 ^ 15 → cast_unsigned w64 (cast_signed w16 l) ≡ l

@@ -2,8 +2,9 @@
 use Rattle.std.specs.Prelude.{◌≡◌, ℕ, ◌<◌, true}
 use Rattle.vax_form.specs.Grammar.{instruction}
 use Rattle.vax_form.specs.GrammarFound.{found}
-use Rattle.vax_form.specs.State.{Answers, IsState}
-use Rattle.vax_form.specs.Tree.{Tree, Check, Ask, Fault, Ends, Finish, Exit, Trap, instruction_tree}
+use Rattle.vax_form.specs.Finishes.{AllFinish}
+use Rattle.vax_form.specs.State.{IsState}
+use Rattle.vax_form.specs.Tree.{instruction_tree}
 use Rattle.vax_form.specs.declared.instr.Instr.{Instr}
 use Rattle.vax_form.specs.declared.pages.Pages.{Pages}
 use Rattle.vax_form.specs.declared.state.Flags.{Flags}
@@ -37,21 +38,12 @@ Compiles instr block = (meaning : Meaning) → MeansVax meaning
     → ExitsLead (placed meaning code thread state held first) block.exits first all_ready
     → Follows (placed meaning code thread state held first) n Plain block_steps (at_place regs first) (meaning.tree thread state)
 
--- whatever replies the references get, the state in which the tree finishes is as stated
-abbrev pub EachFinish : (VaxState → Type 0) → Tree → Type 0
-EachFinish P (Check address count write tree) = EachFinish P tree
-EachFinish P (Ask reference on) = (reply : ℕ) → Answers reference reply → EachFinish P (on reply)
-EachFinish P (Fault exception) = Unit {0}
-EachFinish P (Ends (Finish state)) = P state
-EachFinish P (Ends (Exit state)) = Unit {0}
-EachFinish P (Ends (Trap kind state)) = Unit {0}
-
 -- an instruction that has a block finishes behind itself
 abbrev pub FinishesBehind : Type 0
 FinishesBehind = (pages : Pages) (thread : ℕ) (state : VaxState) (instr : Instr) → has_block instr ≡ true
-    → found pages state.pc ≡ instruction instr → EachFinish (λ s. s.pc ≡ instr.after) (tree_at pages thread state)
+    → found pages state.pc ≡ instruction instr → AllFinish (tree_at pages thread state) (λ s. s.pc ≡ instr.after)
 
 -- one that ends its thread does not finish
 abbrev pub ExitNeverFinishes : Type 0
 ExitNeverFinishes = (pages : Pages) (thread : ℕ) (state : VaxState) (instr : Instr) → ends_thread instr ≡ true
-    → found pages state.pc ≡ instruction instr → EachFinish (λ s. ⊥) (tree_at pages thread state)
+    → found pages state.pc ≡ instruction instr → AllFinish (tree_at pages thread state) (λ s. ⊥)

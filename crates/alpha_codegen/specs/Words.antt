@@ -1,10 +1,10 @@
 -- The words of each piece of a block, with the points of those that have one. R23 holds the result, R27 an address to be
 -- probed, R26 the address behind the instruction and R21 the code of a service.
-use Rattle.std.specs.Prelude.{ℕ, ℤ, pos, ◌+◌, ◌/◌, ◌%◌, ◌^◌, Bool, true, false, List, [], ◌∷◌, ◌++◌, length, map, Option, Some, None}
-use Rattle.std.specs.Int.{cast_signed, w16}
+use Rattle.std.specs.Prelude.{ℕ, pos, ◌+◌, Bool, true, false, List, [], ◌∷◌, ◌++◌, length, map, Option, Some, None}
+use Rattle.alpha_encode.specs.Halves.{load_high, load_low}
 use Rattle.alpha_encode.specs.declared.instr.AlphaInstr.{AlphaInstr}
 use Rattle.alpha_encode.specs.declared.instr.AlphaInstr.TheVariants.{Memory, Operate, Pal}
-use Rattle.alpha_encode.specs.declared.instr.MemoryOp.TheVariants.{Lda, Ldah, Ldl, Stl}
+use Rattle.alpha_encode.specs.declared.instr.MemoryOp.TheVariants.{Lda, Ldl, Stl}
 use Rattle.alpha_encode.specs.declared.instr.OperateOp.TheVariants.{Addl, Zapnot, Srl, Cmpeq, Bis}
 use Rattle.alpha_encode.specs.declared.instr.Second.TheVariants.{Register, Literal}
 use Rattle.exception_records.specs.Blocks.{BlockValue}
@@ -32,19 +32,10 @@ abbrev pub marked : AlphaInstr → Point → Line
 marked instr point = record { instr = instr; point = Some point }
 
 -- ---- constants
--- the halves of a longword; the high one makes up for the sign of the low one
-abbrev pub high_half : ℕ → ℤ
-high_half value = cast_signed w16 ((value + 2 ^ 15) / 2 ^ 16 % 2 ^ 16)
-
-abbrev pub low_half : ℕ → ℤ
-low_half value = cast_signed w16 (value % 2 ^ 16)
-
 -- a constant whose low longword is the value
 abbrev pub halves : Option Point → (register value : ℕ) → List Line
 halves mark register value =
-    record { instr = Memory Ldah register 31 (high_half value); point = mark }
-    ∷ plain (Memory Lda register register (low_half value))
-    ∷ []
+    record { instr = load_high register value; point = mark } ∷ plain (load_low register value) ∷ []
 
 -- a longword, sign-extended
 abbrev pub longword : Option Point → (register value : ℕ) → List Line

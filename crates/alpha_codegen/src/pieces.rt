@@ -1,10 +1,10 @@
 // The pieces of a block: each appends a few words.
 ghost use Rattle.std.specs.Prelude.{◌≡◌, ◌++◌, ◌<◌, Some, None, IfOk, OnOk};
-ghost use Rattle.alpha_codegen.specs.Words.{high_half, low_half, halves, longword, place, source_lines, store_lines, code_lines, commit_lines, service_lines};
+ghost use Rattle.alpha_codegen.specs.Words.{halves, longword, place, source_lines, store_lines, code_lines, commit_lines, service_lines};
 
 use crate::lines::{Line, marked, memory, operate, operate_by, plain, point_of};
 use crate::works::{Destination, Source};
-use alpha_encode::{AlphaInstr, MemoryOp, OperateOp};
+use alpha_encode::{AlphaInstr, MemoryOp, OperateOp, load_high, load_low};
 use exception_records::Point;
 use std::alloc::AllocError;
 
@@ -29,19 +29,6 @@ const PROBE: AlphaInstr = AlphaInstr::Pal(0x80);
 
 const SERVE: AlphaInstr = AlphaInstr::Pal(0x82);
 
-// Makes up for the sign of the low half.
-fn high_half(value: u32) -> i16
-    ensures { result ≡ high_half value }
-{
-    (((u64::from(value) + 0x8000) / 0x1_0000 % 0x1_0000) as u16).cast_signed()
-}
-
-fn low_half(value: u32) -> i16
-    ensures { result ≡ low_half value }
-{
-    ((value % 0x1_0000) as u16).cast_signed()
-}
-
 // A constant whose low longword is the value.
 fn push_halves(
     lines: &mut Vec<Line>,
@@ -53,10 +40,10 @@ fn push_halves(
 {
     lines.extend_from_slice(&[
         Line {
-            instr: memory(MemoryOp::Ldah, register, ZERO, high_half(value)),
+            instr: load_high(register, value),
             point: mark,
         },
-        plain(memory(MemoryOp::Lda, register, register, low_half(value))),
+        plain(load_low(register, value)),
     ])
 }
 

@@ -4,6 +4,7 @@
 
 mod decoder;
 mod encoder;
+mod halves;
 mod instr;
 mod tables;
 #[cfg(test)]
@@ -11,4 +12,5 @@ mod tests;
 
 pub use crate::decoder::decode;
 pub use crate::encoder::encode;
+pub use crate::halves::{load_high, load_low};
 pub use crate::instr::{AlphaInstr, BranchOp, MemoryOp, OperateOp, Second};

@@ -3,5 +3,7 @@ pub mod Placements
 pub mod Follows
 pub mod Laws
 pub mod Tidy
+pub mod Services
 pub mod Translations
+pub mod Sound
 pub mod Blocks

@@ -19,7 +19,8 @@ use Rattle.exception_records.specs.declared.rules.Rules.{Rules}
 use Rattle.block_law.specs.Placements.{Placement, InForm, state_behind}
 use Rattle.block_law.specs.Follows.{LeadsTo}
 use Rattle.block_law.proofs.Rules.{goes, lands, switches}
-use Rattle.branch_layout.specs.Exits.{displacement, low_half, high_half, load_high, load_low, code_to, exit_code}
+use Rattle.alpha_encode.specs.Halves.{low_half, high_half, load_high, load_low}
+use Rattle.branch_layout.specs.Exits.{displacement, code_to, exit_code}
 
 -- ---- numbers
 branch_target : (word target : ℕ) → word < 2 ^ 31 → target < 2 ^ 31 → target_of word (displacement word target) ≡ target

@@ -1,12 +1,11 @@
 -- The words by which a block is left.
--- Alpha Architecture Reference Manual, 4.2 "Load Address", 4.3 "Control Instructions". The entry of the PALcode and the
+-- Alpha Architecture Reference Manual, 4.3 "Control Instructions". The entry of the PALcode and the
 -- registers are this system's own: R26 holds a VAX address, and R27 is free.
-use Rattle.std.specs.Prelude.{ℕ, ◌+◌, ◌*◌, ◌/◌, ◌%◌, ◌^◌, ◌&&◌, nat_lt, nat_le, Bool, true, false, ℤ, pos, ◌-ℤ◌, List, [], ◌∷◌, Option, Some, None}
-use Rattle.std.specs.Int.{cast_signed, w16}
+use Rattle.std.specs.Prelude.{ℕ, ◌+◌, ◌*◌, ◌^◌, ◌&&◌, nat_lt, nat_le, Bool, true, false, ℤ, pos, ◌-ℤ◌, List, [], ◌∷◌, Option, Some, None}
+use Rattle.alpha_encode.specs.Halves.{load_high, load_low}
 use Rattle.alpha_encode.specs.declared.instr.AlphaInstr.{AlphaInstr}
-use Rattle.alpha_encode.specs.declared.instr.AlphaInstr.TheVariants.{Memory, Branch, Operate, Jump, Pal}
+use Rattle.alpha_encode.specs.declared.instr.AlphaInstr.TheVariants.{Branch, Operate, Jump, Pal}
 use Rattle.alpha_encode.specs.declared.instr.BranchOp.TheVariants.{Br}
-use Rattle.alpha_encode.specs.declared.instr.MemoryOp.TheVariants.{Lda, Ldah}
 use Rattle.alpha_encode.specs.declared.instr.OperateOp.TheVariants.{Bis}
 use Rattle.alpha_encode.specs.declared.instr.Second.TheVariants.{Register}
 
@@ -17,19 +16,6 @@ displacement word target = pos target -ℤ pos (word + 1)
 -- it has 21 bits
 abbrev pub is_near : (word target : ℕ) → Bool
 is_near word target = nat_le (word + 1) (target + 2 ^ 20) && nat_lt target (word + 1 + 2 ^ 20)
-
--- the low half of a longword as a signed number, and the high half with the borrow of the low one added
-abbrev pub low_half : (value : ℕ) → ℤ
-low_half value = cast_signed w16 (value % 2 ^ 16)
-
-abbrev pub high_half : (value : ℕ) → ℤ
-high_half value = cast_signed w16 ((value + 2 ^ 15) / 2 ^ 16 % 2 ^ 16)
-
-abbrev pub load_high : (register value : ℕ) → AlphaInstr
-load_high register value = Memory Ldah register 31 (high_half value)
-
-abbrev pub load_low : (register value : ℕ) → AlphaInstr
-load_low register value = Memory Lda register register (low_half value)
 
 -- a word that is never reached
 abbrev pub idle : AlphaInstr

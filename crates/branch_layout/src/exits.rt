@@ -2,10 +2,10 @@
 ghost use Rattle.std.specs.Prelude.{◌≡◌, ◌<◌, ◌≤◌, ◌^◌, ℕ, Some, IfSome};
 ghost use Rattle.address_map.specs.Pairs.{word_at};
 ghost use Rattle.block_law.specs.Translations.{most_words};
-ghost use Rattle.branch_layout.specs.Exits.{code_to, exit_code, is_near, displacement, load_high, load_low, idle};
+ghost use Rattle.branch_layout.specs.Exits.{code_to, exit_code, is_near, displacement, idle};
 
 use address_map::AddressMap;
-use alpha_encode::{AlphaInstr, BranchOp, MemoryOp, OperateOp, Second};
+use alpha_encode::{AlphaInstr, BranchOp, OperateOp, Second, load_high, load_low};
 
 /// How many words an exit has.
 pub(crate) const EXIT_WORDS: usize = 3;
@@ -29,30 +29,6 @@ const IDLE: AlphaInstr = AlphaInstr::Operate {
     rb: Second::Register(ZERO),
     rc: ZERO,
 };
-
-fn load_high(register: u8, value: u32) -> AlphaInstr
-    ensures { result ≡ load_high register value }
-{
-    let half = (value.wrapping_add(1 << 15) / (1 << 16)) as u16;
-    AlphaInstr::Memory {
-        op: MemoryOp::Ldah,
-        ra: register,
-        rb: ZERO,
-        disp: half.cast_signed(),
-    }
-}
-
-fn load_low(register: u8, value: u32) -> AlphaInstr
-    ensures { result ≡ load_low register value }
-{
-    let half = (value % (1 << 16)) as u16;
-    AlphaInstr::Memory {
-        op: MemoryOp::Lda,
-        ra: register,
-        rb: register,
-        disp: half.cast_signed(),
-    }
-}
 
 fn is_near(word: u32, target: u32) -> bool
     requires word { word ≤ most_words }

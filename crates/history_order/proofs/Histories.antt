@@ -17,8 +17,8 @@ use Rattle.memory_core.specs.Opening.{opening}
 use Rattle.memory_core.specs.Order.{own, stands_on, left_by, gets, found, Fits, Meets}
 use Rattle.memory_core.proofs.Choices.{if_true, if_false, second_true, same_number}
 use Rattle.memory_core.proofs.LookingBack.{found_left, reader_leaves}
-use Rattle.vax_driven.specs.References.{reply_by, changed_by, changed, AreBytes}
-use Rattle.vax_driven.specs.Made.{Made, bytes_after, output_by, output_after, gets_by, gets_after, input_at, replies_to, made_by}
+use Rattle.vax_form.specs.References.{reply_by, changed_by, changed, AreBytes}
+use Rattle.vax_form.specs.Made.{Made, bytes_after, output_by, output_after, gets_by, gets_after, input_at, replies_to, make}
 use Rattle.vax_driven.specs.Threads.{Threads, wanted}
 use Rattle.vax_driven.specs.Driven.{made_if, picked, walk}
 use Rattle.vax_driven.proofs.Changing.{bytes_stay}
@@ -122,7 +122,7 @@ module _ (threads : Threads) (set_up : SetUp) where
     gets : gets_after made ≡ gets past
 
   abbrev made_at : (made : List Made) (e : Entry) → Reference → Made
-  made_at made e reference = made_by byte set_up.input made e.processor reference
+  made_at made e reference = make byte set_up.input made e.processor reference
 
   -- ---- an access
 

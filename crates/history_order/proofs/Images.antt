@@ -3,7 +3,7 @@ use Rattle.std.proofs.Common.{◌≡◌, ℕ, zero, suc, ◌<◌, ◌≤◌, ◌
 use Rattle.std.specs.Prelude.{find, option_map, unwrap_or, slice_get}
 use Rattle.image_file.specs.Memory.{has_address, byte_at, byte_in}
 use Rattle.image_file.specs.Values.{SectionValue, ImageValue}
-use Rattle.vax_driven.specs.References.{AreBytes}
+use Rattle.vax_form.specs.References.{AreBytes}
 
 abbrev StoreBytes : List SectionValue → Type 0
 StoreBytes sections = (k : ℕ) (s : SectionValue) → slice_get sections k ≡ Some s → AreBytes (slice_index s.stored)

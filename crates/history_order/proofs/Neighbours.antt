@@ -14,7 +14,7 @@ use Rattle.memory_core.proofs.Neighbours.{others_stay}
 use Rattle.vax_form.specs.declared.state.Reference.{Reference}
 use Rattle.vax_form.specs.declared.state.RefKind.{RefKind}
 use Rattle.vax_form.specs.declared.state.RefKind.TheVariants.{Read, Write, Add, SetBit, ClearBit, Put, Get}
-use Rattle.vax_driven.specs.References.{byte_count_of, FitsKind}
+use Rattle.vax_form.specs.References.{byte_count_of, FitsKind}
 use Rattle.history_order.specs.Quadwords.{place_of, names_memory, change_by, IsAccess, IsOfKind}
 use Rattle.history_order.specs.Matches.{KeepsOthers}
 use Rattle.history_order.specs.Laws.{NeighboursStay}

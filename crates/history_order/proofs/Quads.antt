@@ -12,7 +12,7 @@ use Rattle.memory_core.proofs.Neighbours.{below_8, byte_at-quad_of, byte_at-with
 use Rattle.vt_words.specs.Quad.{field_of}
 use Rattle.vax_form.specs.declared.state.RefKind.{RefKind}
 use Rattle.vax_form.specs.declared.state.RefKind.TheVariants.{Read, Write, Add, SetBit, ClearBit, Put, Get}
-use Rattle.vax_driven.specs.References.{value_at, with_byte, with_value, reply_by, changed_by, changed, AreBytes, byte_count_of, byte_count, FitsKind}
+use Rattle.vax_form.specs.References.{value_at, with_byte, with_value, reply_by, changed_by, changed, AreBytes, byte_count_of, byte_count, FitsKind}
 use Rattle.vax_driven.proofs.Changing.{elsewhere, with_value_elsewhere, others_stay as named_alone}
 use Rattle.history_order.specs.Quadwords.{quad_at, quad_address, names_memory, change_by, reply_found}
 use Rattle.history_order.specs.Laws.{QuadwordChanges, OtherQuadwordsStay, QuadwordReplies}

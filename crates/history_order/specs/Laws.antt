@@ -3,7 +3,7 @@ use Rattle.std.specs.Prelude.{◌≡◌, ◌≢◌, ℕ, ◌%◌, true, List, re
 use Rattle.vax_form.specs.declared.state.Reference.{Reference}
 use Rattle.memory_core.specs.declared.entry.Entry.{Entry}
 use Rattle.memory_core.specs.Changes as quadwords
-use Rattle.vax_driven.specs.References.{reply_of, changed, AreBytes, FitsQuadword}
+use Rattle.vax_form.specs.References.{reply_of, changed, AreBytes, FitsQuadword}
 use Rattle.history_order.specs.Counted.{order}
 use Rattle.history_order.specs.Quadwords.{quad_at, place_of, quad_address, names_memory, change_of, reply_found, IsOf}
 use Rattle.history_order.specs.Matches.{KeepsOthers}

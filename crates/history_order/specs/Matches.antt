@@ -7,8 +7,8 @@ use Rattle.vax_form.specs.declared.state.RefKind.TheVariants.{Read, Write, Add, 
 use Rattle.memory_core.specs.declared.entry.Kind.TheVariants as kinds
 use Rattle.memory_core.specs.declared.entry.Entry.{Entry}
 use Rattle.memory_core.specs.Kinds.{is_memory}
-use Rattle.vax_driven.specs.References.{changed, byte_count}
-use Rattle.vax_driven.specs.Made.{Made, bytes_after}
+use Rattle.vax_form.specs.References.{changed, byte_count}
+use Rattle.vax_form.specs.Made.{Made, bytes_after}
 use Rattle.history_order.specs.Counted.{is_counted}
 use Rattle.history_order.specs.Quadwords.{quad_at, place_of, quad_address}
 

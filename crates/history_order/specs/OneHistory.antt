@@ -6,8 +6,8 @@ use Rattle.memory_core.specs.declared.entry.Entry.{Entry}
 use Rattle.memory_core.specs.declared.entry.SetUp.{SetUp}
 use Rattle.memory_core.specs.Contents.{output_of}
 use Rattle.memory_core.specs.Order.{own, left_by, gets, Meets}
-use Rattle.vax_driven.specs.References.{AreBytes}
-use Rattle.vax_driven.specs.Made.{Made, bytes_after, output_after, gets_after, replies_to}
+use Rattle.vax_form.specs.References.{AreBytes}
+use Rattle.vax_form.specs.Made.{Made, bytes_after, output_after, gets_after, replies_to}
 use Rattle.vax_driven.specs.Threads.{Threads}
 use Rattle.vax_driven.specs.Driven.{World, walk}
 use Rattle.history_order.specs.Counted.{order}

@@ -12,7 +12,7 @@ use Rattle.memory_core.specs.declared.entry.Entry.{Entry}
 use Rattle.memory_core.specs.Bytes.{quad_of, word_at}
 use Rattle.memory_core.specs.Changes.{changed}
 use Rattle.memory_core.specs.Kinds.{is_memory}
-use Rattle.vax_driven.specs.References.{FitsQuadword}
+use Rattle.vax_form.specs.References.{FitsQuadword}
 
 -- the quadword at an address of a memory of bytes
 abbrev pub quad_at : (byte : ℕ → ℕ) → (address : ℕ) → ℕ

@@ -1,7 +1,7 @@
 //! What a history is for the threads, for the proofs of the crates above. Their functions do nothing.
 ghost use Rattle.std.specs.Prelude.{slice_index};
 ghost use Rattle.image_file.specs.Memory.{byte_in};
-ghost use Rattle.vax_driven.specs.References.{AreBytes};
+ghost use Rattle.vax_form.specs.References.{AreBytes};
 ghost use Rattle.history_order.specs.Laws.{QuadwordChanges, OtherQuadwordsStay, QuadwordReplies, NeighboursStay, OrderTurns};
 ghost use Rattle.history_order.specs.OneHistory.{OneHistory};
 

@@ -2,23 +2,11 @@
 use Rattle.std.specs.Prelude.{ℕ, ◌<◌, Bool, true, false, IsSome}
 use Rattle.address_map.specs.Pairs.{word_at}
 use Rattle.block_law.specs.Translations.{Meaning, Code}
-use Rattle.vax_form.specs.State.{IsState, Answers}
-use Rattle.vax_form.specs.Tree.{Tree, Check, Ask, Fault, Ends, Ending, Finish, Exit, Trap}
+use Rattle.vax_form.specs.Finishes.{AllFinish}
+use Rattle.vax_form.specs.State.{IsState}
 use Rattle.vax_form.specs.declared.state.VaxState.{VaxState}
 use Rattle.system_model.specs.Processors.{Mode, New, Runs, Interprets, Ended, Processor, mode_of}
 use Rattle.system_model.specs.Settings.{Setting}
-
-abbrev pub IfFinish : Ending → (VaxState → Type 0) → Type 0
-IfFinish (Finish state) P = P state
-IfFinish (Exit state) P = Unit {0}
-IfFinish (Trap kind state) P = Unit {0}
-
--- that holds of the state of each end at which the thread goes on, for all replies that the references can get
-abbrev pub AllFinish : Tree → (VaxState → Type 0) → Type 0
-AllFinish (Check address count write tree) P = AllFinish tree P
-AllFinish (Ask reference on) P = (reply : ℕ) → Answers reference reply → AllFinish (on reply) P
-AllFinish (Fault exception) P = Unit {0}
-AllFinish (Ends e) P = IfFinish e P
 
 -- the instruction at the state's PC has its block
 abbrev pub IsMapped : Code → VaxState → Type 0

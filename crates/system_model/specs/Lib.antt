@@ -5,4 +5,3 @@ pub mod Processors
 pub mod Legal
 pub mod Closed
 pub mod Laws
-pub mod Meant

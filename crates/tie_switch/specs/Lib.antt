@@ -1,3 +1,4 @@
+pub mod Settings
 pub mod Seen
 pub mod Processors
 pub mod Accesses

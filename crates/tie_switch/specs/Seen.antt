@@ -11,7 +11,7 @@ use Rattle.block_law.specs.Translations.{fetch_of}
 use Rattle.vax_form.specs.Tree.{Finish, Exit, Trap}
 use Rattle.vax_form.specs.declared.state.VaxState.{VaxState}
 use Rattle.system_model.specs.Settings as settings
-use Rattle.system_model.specs.Meant.{image_setting}
+use Rattle.tie_switch.specs.Settings.{image_setting}
 use Rattle.system_model.specs.Steps as steps
 use Rattle.system_model.specs.Processors as processors
 use Rattle.tie_switch.specs.declared.setting.Setting.{Setting}

@@ -1,6 +1,6 @@
 // What a processor runs by.
 ghost use Rattle.std.specs.Prelude.{◌≡◌};
-ghost use Rattle.system_model.specs.Meant.{codes_written};
+ghost use Rattle.image_meaning.specs.Meant.{codes_written};
 ghost use Rattle.system_model.specs.Settings.{goes_on};
 ghost use Rattle.exception_records.specs.Points.{point_at};
 ghost use Rattle.system_model.specs.Steps.{rules_of};

@@ -4,7 +4,7 @@ ghost use Rattle.alpha_machine.specs.Step.{state_of};
 ghost use Rattle.block_law.specs.Translations.{most_words};
 ghost use Rattle.memory_core.specs.Seen.{IsNext, IsOver};
 ghost use Rattle.system_model.specs.Closed.{interprets_next};
-ghost use Rattle.system_model.specs.Meant.{image_setting};
+ghost use Rattle.tie_switch.specs.Settings.{image_setting};
 ghost use Rattle.system_model.specs.Processors.{Runs, Lost, mode_of, alpha_turn, moment_of};
 ghost use Rattle.system_model.specs.Processors as model;
 ghost use Rattle.system_model.specs.Steps.{Stuck, next};

@@ -13,10 +13,11 @@ use Rattle.vax_form.specs.declared.state.VaxState.{VaxState}
 use Rattle.vax_long.specs.Instructions.{tree_at}
 use Rattle.address_map.specs.Pairs.{word_at}
 use Rattle.block_law.specs.Translations.{Code}
-use Rattle.system_model.specs.Closed.{AllFinish, IsClosed, IsMapped}
-use Rattle.system_model.specs.Meant.{image_meaning}
+use Rattle.vax_form.specs.Finishes.{AllFinish}
+use Rattle.system_model.specs.Closed.{IsClosed, IsMapped}
+use Rattle.image_meaning.specs.Meant.{image_meaning}
 use Rattle.alpha_codegen.specs.HasBlock.{has_block, ends_thread}
-use Rattle.alpha_codegen.specs.Promises.{EachFinish, FinishesBehind, ExitNeverFinishes}
+use Rattle.alpha_codegen.specs.Promises.{FinishesBehind, ExitNeverFinishes}
 use Rattle.branch_layout.specs.Layouts.{Placed, IsLayout}
 use Rattle.branch_layout.proofs.Filling.{All_at}
 use Rattle.translate.specs.Compiled.{AreFound, AreCompiled, GoOn, addresses}
@@ -24,7 +25,7 @@ use Rattle.translate.proofs.Meeting.{is_of}
 use Rattle.translate.proofs.Zipped.{block_of}
 
 -- what holds where a tree finishes
-finishes : (P Q : VaxState → Type 0) (tree : Tree) → ((state : VaxState) → P state → Q state) → EachFinish P tree → AllFinish tree Q
+finishes : (P Q : VaxState → Type 0) (tree : Tree) → ((state : VaxState) → P state → Q state) → AllFinish tree P → AllFinish tree Q
 finishes P Q (Check address count write tree) f h = finishes P Q tree f h
 finishes P Q (Ask reference on) f h = λ reply ok. finishes P Q (on reply) f (h reply ok)
 finishes P Q (Fault exception) f h = tt

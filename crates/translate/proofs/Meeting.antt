@@ -15,7 +15,7 @@ use Rattle.exception_records.specs.declared.points.Point.{Point}
 use Rattle.exception_records.specs.declared.rules.Rules.{Rules}
 use Rattle.block_law.specs.Blocks.{Exit, RulesAt, RulesMeet, IsLaid}
 use Rattle.block_law.specs.Translations.{Code, IsBlock, Meets, fetch_of, end_of, done_at}
-use Rattle.system_model.specs.Meant.{image_meaning}
+use Rattle.image_meaning.specs.Meant.{image_meaning}
 use Rattle.alpha_codegen.specs.Promises.{MeansVax}
 use Rattle.branch_layout.specs.Exits.{idle}
 use Rattle.branch_layout.specs.Layouts.{Placed, IsLayout}

@@ -6,7 +6,7 @@
 ghost use Rattle.std.specs.Prelude.{◌≡◌, ◌≤◌, All, IfOk, length, map, true};
 ghost use Rattle.block_law.specs.Translations.{Meets};
 ghost use Rattle.system_model.specs.Closed.{IsClosed};
-ghost use Rattle.system_model.specs.Meant.{image_meaning};
+ghost use Rattle.image_meaning.specs.Meant.{image_meaning};
 ghost use Rattle.alpha_codegen.specs.HasBlock.{has_block};
 ghost use Rattle.translate.specs.Compiled.{AreCompiled, AreFound, GoOn, InOrder, addresses};
 

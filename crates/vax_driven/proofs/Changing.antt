@@ -4,7 +4,7 @@ use Rattle.std.proofs.lemmas.Bool.Decides.{nat_tests}
 use Rattle.std.proofs.lemmas.Nat.{or_of_8, and_le_l, mod_below, pow_below}
 use Rattle.vax_form.specs.declared.state.RefKind.{RefKind}
 use Rattle.vax_form.specs.declared.state.RefKind.TheVariants.{Read, Write, Add, SetBit, ClearBit, Put, Get}
-use Rattle.vax_driven.specs.References.{value_at, with_byte, with_value, changed_by, AreBytes, byte_count_of, byte_count, FitsKind}
+use Rattle.vax_form.specs.References.{value_at, with_byte, with_value, changed_by, AreBytes, byte_count_of, byte_count, FitsKind}
 use Rattle.vax_driven.specs.Laws.{BytesStay, OthersStay}
 
 chosen_byte : (b : Bool) (x y : ℕ) → x < 256 → y < 256 → (if b then x else y) < 256

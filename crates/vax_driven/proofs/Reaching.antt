@@ -5,8 +5,8 @@ use Rattle.vax_form.specs.Tree.{Tree, Answer, Wants, Fails, Comes, answer, Life,
 use Rattle.vax_form.specs.declared.pages.Pages.{Pages}
 use Rattle.vax_form.specs.declared.state.VaxState.{VaxState}
 use Rattle.vax_form.specs.declared.state.Reference.{Reference}
-use Rattle.vax_meaning.specs.After.{if_runs, one_more, after, KeepsRetired}
-use Rattle.vax_meaning.proofs.Afters.{after_with_more}
+use Rattle.vax_form.specs.After.{if_runs, one_more, after, KeepsRetired}
+use Rattle.vax_form.proofs.Afters.{after_with_more}
 use Rattle.vax_driven.specs.Threads.{Threads, after_start, reached, wanted_of, wanted_in, wanted_at, wanted}
 use Rattle.vax_driven.specs.Laws.{ReachedStays, WantedOnce}
 

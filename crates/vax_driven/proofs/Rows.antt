@@ -7,8 +7,8 @@ use Rattle.vax_form.specs.declared.state.Reference.{Reference}
 use Rattle.vax_form.specs.declared.state.Exception.TheVariants.{Breakpoint}
 use Rattle.vax_form.specs.declared.state.RefKind.{RefKind}
 use Rattle.vax_form.specs.declared.state.RefKind.TheVariants.{Read, Write, Add, SetBit, ClearBit, Put, Get}
-use Rattle.vax_driven.specs.References.{reply_of, changed, value_at}
-use Rattle.vax_driven.specs.Made.{Made, output_after, gets_after, replies_to}
+use Rattle.vax_form.specs.References.{reply_of, changed, value_at}
+use Rattle.vax_form.specs.Made.{Made, output_after, gets_after, replies_to}
 use Rattle.vax_driven.specs.Threads.{thread_run}
 use Rattle.vax_driven.specs.Driven.{World, walk, driven}
 

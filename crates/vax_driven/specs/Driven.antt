@@ -2,7 +2,7 @@
 use Rattle.std.specs.Prelude.{ℕ, ◌+◌, List, [], ◌∷◌, Option, Some, None}
 use Rattle.vax_form.specs.declared.state.Pick.{Pick}
 use Rattle.vax_form.specs.declared.state.Reference.{Reference}
-use Rattle.vax_driven.specs.Made.{Made, replies_to, made_by}
+use Rattle.vax_form.specs.Made.{Made, replies_to, make}
 use Rattle.vax_driven.specs.Threads.{Threads, wanted, thread_run}
 use Rattle.vax_driven.specs.declared.thread.ThreadRun.{ThreadRun}
 
@@ -14,7 +14,7 @@ pub record World : Type 0 where
 
 abbrev pub made_if : World → (past : List Made) → (thread : ℕ) → Option Reference → Option (List Made)
 made_if world past thread None = None
-made_if world past thread (Some reference) = Some (made_by world.byte world.input past thread reference ∷ past)
+made_if world past thread (Some reference) = Some (make world.byte world.input past thread reference ∷ past)
 
 abbrev pub picked : World → Option (List Made) → Pick → Option (List Made)
 picked world None pick = None

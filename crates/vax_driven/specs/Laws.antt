@@ -3,8 +3,8 @@ use Rattle.std.specs.Prelude.{◌≡◌, ℕ, ◌+◌, ◌<◌, ◌≤◌, ◌�
 use Rattle.vax_form.specs.Tree.{Retired}
 use Rattle.vax_form.specs.declared.state.Reference.{Reference}
 use Rattle.vax_form.specs.declared.state.Pick.{Pick}
-use Rattle.vax_driven.specs.References.{changed, byte_count, AreBytes, FitsQuadword}
-use Rattle.vax_driven.specs.Made.{Made, made_by}
+use Rattle.vax_form.specs.References.{changed, byte_count, AreBytes, FitsQuadword}
+use Rattle.vax_form.specs.Made.{Made, make}
 use Rattle.vax_driven.specs.Threads.{Threads, reached, wanted}
 use Rattle.vax_driven.specs.Driven.{World, walk}
 
@@ -24,7 +24,7 @@ WantedOnce = (threads : Threads) (thread count other : ℕ) (replies : List ℕ)
 abbrev pub WalkGoesOn : Type 0
 WalkGoesOn = (world : World) (pick : Pick) (order : List Pick) (made : List Made) → walk world (pick ∷ order) ≡ Some made
     → (past : List Made) × (reference : Reference) × (walk world order ≡ Some past)
-    × (made ≡ made_by world.byte world.input past pick.thread reference ∷ past)
+    × (made ≡ make world.byte world.input past pick.thread reference ∷ past)
 
 -- memory stays one of bytes
 abbrev pub BytesStay : Type 0

@@ -6,7 +6,7 @@ use Rattle.vax_form.specs.declared.state.VaxState.{VaxState}
 use Rattle.vax_form.specs.declared.state.Reference.{Reference}
 use Rattle.vax_form.specs.declared.state.Exception.{Exception}
 use Rattle.vax_form.specs.declared.state.Exception.TheVariants.{Arithmetic}
-use Rattle.vax_meaning.specs.After.{after}
+use Rattle.vax_form.specs.After.{after}
 use Rattle.vax_driven.specs.declared.thread.ThreadRun.{ThreadRun}
 
 -- the pages of the image, where each of its threads starts, and what the instruction at a thread's state does

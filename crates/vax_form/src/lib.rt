@@ -19,5 +19,5 @@ pub use operation::{
 };
 pub use pages::{PageRange, Pages};
 pub use row::{Class, Row, class_of, is_long, row_of};
-pub use script::{End, Stop, tree_laws};
+pub use script::{End, Stop, laws_of_after, tree_laws};
 pub use state::{Exception, Flags, Outcome, Pick, RefKind, Reference, VaxState, WantOfMemory};

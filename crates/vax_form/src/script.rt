@@ -1,3 +1,4 @@
+ghost use Rattle.vax_form.specs.After.{AfterWithMore};
 ghost use Rattle.vax_form.specs.TreeLaws.{FeedingTwice, SeenOfTheRest, MoreReplies, ShowsTheOutcome, SameAnswers};
 
 use crate::state::{Exception, Reference};
@@ -30,4 +31,10 @@ pub fn tree_laws()
     ensures more { MoreReplies }
     ensures shown { ShowsTheOutcome }
     ensures same { SameAnswers }
+{}
+
+/// Further replies change nothing of what a thread reached before them.
+#[tactic(auto, using(crate::proofs::Afters::after_with_more))]
+pub fn laws_of_after()
+    ensures { AfterWithMore }
 {}

@@ -1,4 +1,3 @@
 pub mod Joined
 pub mod Bits
 pub mod Feeding
-pub mod Afters

@@ -10,4 +10,6 @@ pub mod Fields
 pub mod Control
 pub mod Instructions
 pub mod Fed
-pub mod After
+pub use Rattle.vax_form.specs.After
+pub use Rattle.vax_form.specs.References
+pub use Rattle.vax_form.specs.Made

@@ -32,7 +32,7 @@ pub use moves::{pushed, set_compared};
 pub use operands::{
     Location, located, put_back, register_of, set_register_of, stored, taken, value_in_register,
 };
-pub use steps::{body_fed, find_fed, laws_of_after, obtain_fed};
+pub use steps::{body_fed, find_fed, obtain_fed};
 
 #[cfg(test)]
 mod tests;

@@ -1,6 +1,5 @@
 ghost use Rattle.vax_meaning.specs.Play.{Uses};
 ghost use Rattle.vax_meaning.specs.Fed.{Fed};
-ghost use Rattle.vax_meaning.specs.After.{AfterWithMore};
 ghost use Rattle.vax_meaning.specs.Evaluation.{find, obtain};
 ghost use Rattle.vax_meaning.specs.Instructions.{body};
 
@@ -50,9 +49,3 @@ pub fn body_fed(
 {
     body_run(cursor, operation, instr, thread, values)
 }
-
-/// Further replies change nothing of what a thread reached before them.
-#[tactic(auto, using(crate::proofs::Afters::after_with_more))]
-pub fn laws_of_after()
-    ensures { AfterWithMore }
-{}

@@ -9,8 +9,8 @@ use Rattle.vax_form.specs.declared.state.Reference.{Reference}
 use Rattle.vax_form.specs.declared.state.RefKind.{RefKind}
 use Rattle.vax_form.specs.declared.state.RefKind.TheVariants.{Read, Write, Add, SetBit, ClearBit, Put, Get}
 use Rattle.vax_driven.specs.Driven.{made_if, picked, walk}
-use Rattle.vax_driven.specs.Made.{Made, bytes_after, output_by, output_after, gets_by, gets_after, input_at, replies_to, made_by}
-use Rattle.vax_driven.specs.References.{reply_of, changed}
+use Rattle.vax_form.specs.Made.{Made, bytes_after, output_by, output_after, gets_by, gets_after, input_at, replies_to, make}
+use Rattle.vax_form.specs.References.{reply_of, changed}
 use Rattle.vax_driven.specs.Threads.{wanted_at, wanted}
 use Rattle.vax_run.specs.Memory.{byte_of, put_by}
 use Rattle.vax_run.specs.Threads.{after_of, IsPlaceOf, AreThreads}
@@ -96,7 +96,7 @@ module _ (image : ImageValue) (input : List ℕ) where
       let among = thread_among image made 0 pick.thread image.threads old.threads.items t left.threads below is in
       let asked : wanted (threads_of image) pick.thread pick.retired (replies_to pick.thread made) ≡ Some reference =
       ap (wanted_at (threads_of image) pick.thread) (reached_is image made pick.thread pick.retired t among) ∙ wants in
-      let m = made_by (byte_in image) input made pick.thread reference in
+      let m = make (byte_in image) input made pick.thread reference in
       let same : reply ≡ m.reply = replied ∙ ap (λ (b : ℕ → ℕ). reply_of reference b (input_at input old.memory.gets)) left.bytes
       ∙ ap (λ g. reply_of reference (bytes_after (byte_in image) made) (input_at input g)) left.gets in
       let at : m.thread ≡ 0 + pick.thread = omega arith in

@@ -15,7 +15,7 @@ use Rattle.alpha_codegen.specs.HasBlock.{has_block}
 use Rattle.block_law.specs.Translations.{Code, Meets}
 use Rattle.system_model.specs.Closed.{IsMapped, IsClosed}
 use Rattle.system_model.specs.Legal.{starts}
-use Rattle.system_model.specs.Meant.{image_meaning}
+use Rattle.image_meaning.specs.Meant.{image_meaning}
 use Rattle.translate.specs.Compiled.{AreFound, GoOn, InOrder, addresses}
 use Rattle.vest_cli.specs.Walks.{IsBuiltAt, AreInLine, EndsInExit, IsWalk, IsWalkBy, IsWalkOf}
 use Rattle.vest_cli.specs.Built.{has_modes, walk_of}

@@ -7,7 +7,7 @@ use Rattle.image_file.specs.declared.image.Start.{Start}
 use Rattle.memory_core.specs.declared.entry.Entry.{Entry}
 use Rattle.memory_core.specs.declared.entry.SetUp.{SetUp}
 use Rattle.vax_driven.specs.Driven.{Driven, World, driven_on, ended, run_before, walk}
-use Rattle.vax_driven.specs.Made.{Made, replies_to}
+use Rattle.vax_form.specs.Made.{Made, replies_to}
 use Rattle.vax_driven.specs.Threads.{thread_run}
 use Rattle.vax_driven.specs.declared.thread.ThreadRun.{ThreadRun}
 use Rattle.history_order.specs.Counted.{order}
@@ -25,15 +25,15 @@ use Rattle.vax_form.specs.declared.state.VaxState.{VaxState}
 use Rattle.block_law.specs.Translations.{Code}
 use Rattle.memory_core.specs.Contents.{Contents}
 use Rattle.system_model.specs.Closed.{IsMapped, interprets_next}
-use Rattle.system_model.specs.Meant.{all_kinds, codes_written, image_meaning, no_bonus}
+use Rattle.image_meaning.specs.Meant.{all_kinds, codes_written, image_meaning, no_bonus}
 use Rattle.tie_switch.specs.Laws.{TurnsStayLegal}
 use Rattle.tie_switch.specs.Processors.{Kept as ProcessorValue, processor_of}
 use Rattle.tie_switch.specs.Turns.{IsTurn, has_ended}
 use Rattle.tie_switch.specs.declared.turn.Turn.{Turn}
 use Rattle.tie_switch.specs.declared.turn.Turn.TheVariants.{Went, Ended}
 use Rattle.vest_core.specs.Closed.{ClosedNeverInterprets}
-use Rattle.vest_core.specs.Meant.{VaxMeaningIsSound}
-use Rattle.vest_core.specs.Sound.{IsSound}
+use Rattle.image_meaning.specs.Laws.{VaxMeaningIsSound}
+use Rattle.block_law.specs.Sound.{IsSound}
 use Rattle.vest_cli.specs.Driving.{AreDriven, Builds, IsUnderWay, HasTurned, setting_of}
 use Rattle.vest_cli.specs.declared.run.TheConstants.{BUDGET}
 use Rattle.vest_cli.proofs.Turns.{has_cause}

@@ -6,7 +6,7 @@ use Rattle.memory_core.specs.Contents.{output_of}
 use Rattle.memory_core.specs.Kinds.{is_put}
 use Rattle.memory_core.specs.declared.entry.Entry.{Entry}
 use Rattle.memory_core.proofs.Keeping.{output_of-push}
-use Rattle.vax_driven.specs.Made.{Made, output_after}
+use Rattle.vax_form.specs.Made.{Made, output_after}
 
 -- what one more entry puts before the others
 put_first : (b : Bool) (e : Entry) (puts : List Entry) → reverse (map (λ (x : Entry). x.after) puts) ++ (if b then e.after ∷ [] else [])

@@ -10,14 +10,15 @@ use Rattle.vax_form.specs.declared.instr.Instr.{Instr}
 use Rattle.vax_form.specs.declared.state.VaxState.{VaxState}
 use Rattle.system_model.specs.Closed.{IsClosed, IsMapped}
 use Rattle.system_model.specs.Legal.{starts, IsLegal}
-use Rattle.system_model.specs.Meant.{image_meaning, image_setting}
+use Rattle.image_meaning.specs.Meant.{image_meaning}
+use Rattle.tie_switch.specs.Settings.{image_setting}
 use Rattle.system_model.specs.Processors.{Processor}
 use Rattle.system_model.specs.Settings.{Setting}
 use Rattle.tie_switch.specs.Processors.{Kept as ProcessorValue, processor_of}
 use Rattle.tie_switch.specs.Turns.{has_ended}
 use Rattle.tie_switch.specs.declared.turn.Turn.{Turn}
 use Rattle.tie_switch.specs.declared.turn.Turn.TheVariants.{Went, Ended}
-use Rattle.vax_driven.specs.Made.{output_after}
+use Rattle.vax_form.specs.Made.{output_after}
 use Rattle.vest_core.specs.Law.{HasHeadline}
 use Rattle.vest_cli.specs.Built.{walk_of}
 use Rattle.vest_cli.specs.Report.{is_spent}

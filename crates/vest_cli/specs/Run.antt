@@ -9,7 +9,7 @@ use Rattle.memory_core.specs.declared.entry.SetUp.{SetUp}
 use Rattle.block_law.specs.Translations.{Code}
 use Rattle.vax_form.specs.declared.instr.Instr.{Instr}
 use Rattle.system_model.specs.Legal.{IsLegal}
-use Rattle.system_model.specs.Meant.{image_setting}
+use Rattle.tie_switch.specs.Settings.{image_setting}
 use Rattle.system_model.specs.Processors.{Processor}
 use Rattle.system_model.specs.Settings.{Setting}
 use Rattle.tie_switch.specs.Processors.{processor_of}

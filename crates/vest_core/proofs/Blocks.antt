@@ -38,7 +38,7 @@ use Rattle.vax_form.specs.declared.state.Reference.{Reference}
 use Rattle.vax_form.specs.declared.state.RefKind.{RefKind}
 use Rattle.vax_form.specs.declared.state.RefKind.TheVariants.{Read, Write, Add, SetBit, ClearBit, Put, Get}
 use Rattle.vax_form.specs.declared.state.VaxState.{VaxState}
-use Rattle.vax_driven.specs.References.{FitsQuadword}
+use Rattle.vax_form.specs.References.{FitsQuadword}
 use Rattle.block_law.specs.Follows.{Call, Probe, LookUp, Serve, Raise, Arithmetic, Switch, Other, call_of, probe_count, probe_address, Called, Landed, Clause}
 use Rattle.block_law.specs.Follows as block
 use Rattle.block_law.specs.Laws.{Ever}
@@ -52,7 +52,7 @@ use Rattle.system_model.specs.Processors.{entry_by}
 use Rattle.vest_core.specs.Judged.{MadeBy}
 use Rattle.vest_core.specs.Own.{Lock}
 use Rattle.history_order.specs.Quadwords.{quad_address, reply_from, IsOf, IsOfKind, IsAccess}
-use Rattle.vest_core.specs.Sound.{IsSound}
+use Rattle.block_law.specs.Sound.{IsSound}
 use Rattle.vest_core.proofs.Fields.{field_stored, left_changed, reply_same}
 use Rattle.vest_core.proofs.Sames.{same_ends, same_ask}
 use Rattle.vest_core.proofs.Maps.{there_and_back}

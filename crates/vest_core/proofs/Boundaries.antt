@@ -21,7 +21,7 @@ use Rattle.block_law.specs.Translations.{Meets}
 use Rattle.system_model.specs.Settings.{Setting, goes_on}
 use Rattle.system_model.specs.Ranges.{covers}
 use Rattle.system_model.specs.Processors.{all_held, registers_of}
-use Rattle.vest_core.specs.Sound.{IsSound}
+use Rattle.block_law.specs.Sound.{IsSound}
 use Rattle.vest_core.proofs.Blocks.{IsForm, Owes}
 
 low_of : (x : ℕ) → sign_extended x 32 % 2 ^ 32 ≡ x % 2 ^ 32

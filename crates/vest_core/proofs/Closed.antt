@@ -18,10 +18,11 @@ use Rattle.vax_form.specs.Tree as trees
 use Rattle.vax_form.specs.declared.pages.Pages.{Pages}
 use Rattle.vax_form.specs.declared.state.Flags.{Flags}
 use Rattle.vax_form.specs.declared.state.VaxState.{VaxState}
-use Rattle.vax_ranges.specs.Ranges.{IsInRange}
+use Rattle.vax_form.specs.Ranges.{IsInRange}
 use Rattle.history_order.specs.Counted.{is_counted}
 use Rattle.history_order.specs.Quadwords.{reply_from}
-use Rattle.system_model.specs.Closed.{IfFinish, AllFinish, IsMapped, IsClosed, is_interpreting, interprets_next}
+use Rattle.vax_form.specs.Finishes.{IfFinish, AllFinish}
+use Rattle.system_model.specs.Closed.{IsMapped, IsClosed, is_interpreting, interprets_next}
 use Rattle.system_model.specs.Legal.{starts}
 use Rattle.system_model.specs.Processors.{Mode, New, Runs, Interprets, Ended, Processor, all_held, registers_of, mode_by, begun, stepped, left, placed, Turn, Went, Asks, Over, Lost, alpha_turn, turn_in, mode_of, turn, entry_by, Reaches, Begins, Steps, Takes}
 use Rattle.system_model.specs.Ranges.{covers}
@@ -30,7 +31,7 @@ use Rattle.system_model.specs.Steps.{Last, Comes, Fails, Place, Inside, Lands, L
 use Rattle.vest_core.specs.Closed.{ClosedNeverInterprets}
 use Rattle.vest_core.specs.Judged.{MadeBy}
 use Rattle.vest_core.specs.Own.{Lock, lock_of, lock_by, IsFair, AllFair}
-use Rattle.vest_core.specs.Sound.{IsSound}
+use Rattle.block_law.specs.Sound.{IsSound}
 use Rattle.vest_core.proofs.Blocks.{Owes, IsForm, opens}
 use Rattle.vest_core.proofs.Boundaries.{fresh, enter}
 use Rattle.vest_core.proofs.Headlines.{within, there_is, start_is}

@@ -16,7 +16,7 @@ use Rattle.memory_core.specs.declared.entry.Change.TheVariants as changes
 use Rattle.memory_core.proofs.Neighbours.{below_8, byte_at-with_bytes, others_stay}
 use Rattle.vax_form.specs.declared.state.RefKind.{RefKind}
 use Rattle.vax_form.specs.declared.state.RefKind.TheVariants.{Read, Write, Add, SetBit, ClearBit, Put, Get}
-use Rattle.vax_driven.specs.References.{FitsKind, byte_count_of}
+use Rattle.vax_form.specs.References.{FitsKind, byte_count_of}
 use Rattle.block_law.specs.References as block
 use Rattle.history_order.specs.Quadwords.{change_by, reply_found}
 use Rattle.vest_core.proofs.Quads.{with_bytes-lt, changed-lt}

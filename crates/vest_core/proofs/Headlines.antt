@@ -12,7 +12,7 @@ use Rattle.vax_form.specs.Tree.{Retired}
 use Rattle.vax_form.specs.declared.state.VaxState.{VaxState}
 use Rattle.vax_form.proofs.GrammarFinds.{option_map-some}
 use Rattle.vax_driven.specs.declared.ThreadRun.{ThreadRun}
-use Rattle.vax_driven.specs.Made.{replies_to}
+use Rattle.vax_form.specs.Made.{replies_to}
 use Rattle.vax_driven.specs.Threads.{Threads, reached}
 use Rattle.vax_driven.specs.Driven.{run_before, runs_from, ended, driven_on}
 use Rattle.history_order.specs.Explained.{replies_by, Explained}
@@ -25,7 +25,7 @@ use Rattle.system_model.specs.Legal.{starts, spent, IsGoing, IsReached, IsLegal}
 use Rattle.vest_core.specs.Headline.{Claims, IsShown, HasTies, HasFewEntries, Facts}
 use Rattle.vest_core.specs.Interpreted.{threads_of, ties_of, ties_in, end_in, has_raised}
 use Rattle.vest_core.specs.Law.{IsRun, HasHeadline, LegalHasHeadline}
-use Rattle.vest_core.specs.Sound.{IsSound}
+use Rattle.block_law.specs.Sound.{IsSound}
 use Rattle.vest_core.proofs.Blocks.{Owes, IsForm, opens}
 use Rattle.vest_core.proofs.Boundaries.{fresh, enter}
 use Rattle.vest_core.proofs.Locks.{all_fair}

@@ -12,7 +12,6 @@ pub mod Blocks
 pub mod Boundaries
 pub mod Sums
 pub mod Headlines
-pub mod Meanings
 pub mod Closed
 pub mod Runs
 mod Refused

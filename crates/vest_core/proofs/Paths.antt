@@ -7,7 +7,7 @@ use Rattle.vax_form.specs.Tree.{Tree, Check, Ask, Fault, Ends, Ending, Wants, Fa
 use Rattle.vax_form.specs.declared.pages.Pages.{Pages}
 use Rattle.vax_form.specs.declared.state.Reference.{Reference}
 use Rattle.vest_core.specs.Interpreted.{made_in, unless}
-use Rattle.vax_ranges.specs.Ranges.{IsInRange, ending_state}
+use Rattle.vax_form.specs.Ranges.{IsInRange, ending_state}
 
 -- from one place in a tree to another, by checks that hold and just these replies
 pub data Path (pages : Pages) : Tree → List ℕ → Tree → Type 0 where

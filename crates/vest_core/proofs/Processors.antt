@@ -27,7 +27,7 @@ use Rattle.vest_core.specs.Interpreted.{threads_of, is_some, is_translated, IsMa
 use Rattle.vest_core.specs.Judged.{Paired, AllPaired, MadeBy, share_by, share_of, fails, counted_in, failed_in}
 use Rattle.vest_core.specs.Own.{Lock, lock_by, lock_of, IsFair, AllFair}
 use Rattle.history_order.specs.Quadwords.{reply_from}
-use Rattle.vax_ranges.specs.Ranges.{IsInRange, StaysInRange}
+use Rattle.vax_form.specs.Ranges.{IsInRange, StaysInRange}
 use Rattle.vest_core.proofs.Paths.{Path, Here, Takes, joined, joined_here, answered, to_ask, silent_ends, comes_state, made_none, made_one}
 use Rattle.vest_core.proofs.Reached.{running, here, reached_more, reached_suc, wanted_is, ties_more, ties_quiet, end_quiet, ties_loud, end_loud}
 use Rattle.vest_core.proofs.Replying.{reply_fits, tie_counts, tie_is, tie_reply, tie_free, tie_paired, tie_kind, tie_share}

@@ -3,8 +3,8 @@ use Rattle.std.proofs.Common.{◌≡◌, ℕ, zero, suc, Bool, true, false, if�
 use Rattle.vax_form.specs.Tree.{Finish, Exit, Trap, Answer, Wants, Fails, Comes, answer, Life, Runs, Exited, Trapped, Retired, retires}
 use Rattle.vax_form.specs.declared.state.VaxState.{VaxState}
 use Rattle.vax_form.specs.declared.state.Reference.{Reference}
-use Rattle.vax_meaning.specs.After.{if_runs, one_more, after, KeepsRetired}
-use Rattle.vax_meaning.proofs.Afters.{after_with_more}
+use Rattle.vax_form.specs.After.{if_runs, one_more, after, KeepsRetired}
+use Rattle.vax_form.proofs.Afters.{after_with_more}
 use Rattle.system_model.specs.Settings.{Setting}
 use Rattle.vax_driven.specs.Threads.{after_start, reached, wanted_of, wanted_at, wanted}
 use Rattle.vest_core.specs.Interpreted.{threads_of, is_translated, made_in, ties_in, end_in, ties_of}

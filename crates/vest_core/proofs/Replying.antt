@@ -6,7 +6,7 @@ use Rattle.memory_core.specs.declared.entry.Kind.TheVariants as kinds
 use Rattle.memory_core.specs.declared.entry.Request.{Request}
 use Rattle.memory_core.specs.Changes.{changed}
 use Rattle.memory_core.proofs.Neighbours.{byte_at-lt}
-use Rattle.vax_driven.specs.References.{FitsQuadword}
+use Rattle.vax_form.specs.References.{FitsQuadword}
 use Rattle.vax_form.specs.State.{Answers, AnswersKind}
 use Rattle.vax_form.specs.declared.state.Reference.{Reference}
 use Rattle.vax_form.specs.declared.state.RefKind.{RefKind}

@@ -7,7 +7,7 @@ use Rattle.image_file.specs.Memory.{byte_in}
 use Rattle.image_file.specs.Whole.{StartFits, IsWhole}
 use Rattle.image_file.specs.declared.image.Start.{Start}
 use Rattle.memory_core.specs.declared.entry.SetUp.{SetUp}
-use Rattle.vax_driven.specs.References.{AreBytes}
+use Rattle.vax_form.specs.References.{AreBytes}
 use Rattle.vest_core.specs.Law.{IsRun}
 
 start_fits : (starts : List Start) (thread : ℕ) (start : Start) → AllByRecursion StartFits starts → slice_get starts thread ≡ Some start → StartFits start

@@ -9,7 +9,7 @@ use Rattle.system_model.specs.Legal.{starts, IsLegal}
 use Rattle.system_model.specs.Processors.{Processor}
 use Rattle.system_model.specs.Settings.{Setting}
 use Rattle.vest_core.specs.Law.{IsRun}
-use Rattle.vest_core.specs.Sound.{IsSound}
+use Rattle.block_law.specs.Sound.{IsSound}
 
 -- where each thread starts at a mapped instruction, and nothing is interpreted for its range
 abbrev pub ClosedNeverInterprets : Type 0

@@ -4,7 +4,7 @@ use Rattle.memory_core.specs.declared.entry.Entry.{Entry}
 use Rattle.memory_core.specs.declared.entry.Kind.{Kind}
 use Rattle.memory_core.specs.declared.entry.Kind.TheVariants.{LoadLocked, StoreConditional}
 use Rattle.vax_form.specs.Tree.{Tree, Ask}
-use Rattle.vax_driven.specs.References.{FitsQuadword}
+use Rattle.vax_form.specs.References.{FitsQuadword}
 use Rattle.vest_core.specs.Own.{Lock, lock_of}
 use Rattle.history_order.specs.Counted.{is_counted}
 use Rattle.history_order.specs.Quadwords.{reply_from, IsOf}

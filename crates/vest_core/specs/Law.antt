@@ -5,7 +5,7 @@ use Rattle.memory_core.specs.declared.entry.Entry.{Entry}
 use Rattle.memory_core.specs.declared.entry.SetUp.{SetUp}
 use Rattle.memory_core.specs.Order.{own}
 use Rattle.vax_driven.specs.declared.ThreadRun.{ThreadRun}
-use Rattle.vax_driven.specs.Made.{replies_to}
+use Rattle.vax_form.specs.Made.{replies_to}
 use Rattle.vax_driven.specs.Driven.{driven}
 use Rattle.history_order.specs.Counted.{order}
 use Rattle.history_order.specs.OneHistory.{world_of, IsDriven}
@@ -17,7 +17,7 @@ use Rattle.vest_core.specs.Headline.{Claims, HasTies, HasFewSteps}
 use Rattle.vest_core.specs.Interpreted.{threads_of, AllMadeIn}
 use Rattle.vest_core.specs.Judged.{AllPaired, counted_in, failed_in}
 use Rattle.vest_core.specs.Own.{HasBytes}
-use Rattle.vest_core.specs.Sound.{IsSound}
+use Rattle.block_law.specs.Sound.{IsSound}
 
 -- the numbers of an image and of an input are in range
 pub record IsRun (set_up : SetUp) : Type 0 where

@@ -2,7 +2,5 @@ pub mod Own
 pub mod Interpreted
 pub mod Judged
 pub mod Headline
-pub mod Sound
-pub mod Meant
 pub mod Law
 pub mod Closed

@@ -4,7 +4,6 @@ ghost use Rattle.image_file.specs.Whole.{IsWhole};
 ghost use Rattle.memory_core.specs.declared.entry.SetUp.{SetUp};
 ghost use Rattle.vest_core.specs.Closed.{ClosedNeverInterprets};
 ghost use Rattle.vest_core.specs.Law.{IsRun, LegalHasHeadline};
-ghost use Rattle.vest_core.specs.Meant.{VaxMeaningIsSound};
 
 use history_order::laws::image_has_bytes;
 use image_file::Image;
@@ -14,12 +13,6 @@ use image_file::Image;
 /// thread's, and no processor is stuck.
 pub fn legal_has_headline()
     ensures { LegalHasHeadline }
-{}
-
-/// The meaning of the VAX instructions is sound: `vax_ranges::laws::page_table_has_bytes` gives what it asks of the pages.
-#[tactic(auto, using(crate::proofs::Meanings::vax_meaning_is_sound))]
-pub fn vax_meaning_is_sound()
-    ensures { VaxMeaningIsSound }
 {}
 
 /// In closed code, with no ranges, and from starts in it, no processor comes to an instruction that is interpreted.

@@ -1,7 +1,7 @@
 use Rattle.std.proofs.Common.{◌≡◌, ℕ, ◌<◌, Some, slice_index}
 use Rattle.std.specs.Prelude.{slice_get}
 use Rattle.image_file.specs.Values.{SectionValue}
-use Rattle.vax_driven.specs.References.{AreBytes}
+use Rattle.vax_form.specs.References.{AreBytes}
 use Rattle.history_order.proofs.laws.image_has_bytes.Given as goal
 
 abbrev pub invariant-loop-section : goal.invariant-loop-section

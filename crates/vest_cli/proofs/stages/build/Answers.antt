@@ -4,7 +4,7 @@ use Rattle.std.specs.declared.alloc.Global.{Global}
 use Rattle.image_file.specs.Values.{ImageValue}
 use Rattle.vax_form.specs.declared.instr.Instr.{Instr}
 use Rattle.block_law.specs.Translations.{Meets}
-use Rattle.system_model.specs.Meant.{image_meaning}
+use Rattle.image_meaning.specs.Meant.{image_meaning}
 use Rattle.system_model.specs.Closed.{IsClosed}
 use Rattle.translate.specs.Compiled.{AreFound, GoOn}
 use Rattle.vest_cli.proofs.Building.{in_order, are_found, have_blocks, walk_is, walk_told, is_built_by}

@@ -2,7 +2,7 @@ use Rattle.std.proofs.Common.{◌<◌, sym, subst, arith, slice_index}
 use Rattle.image_file.specs.Values.{ImageValue}
 use Rattle.image_file.specs.Memory.{byte_in}
 use Rattle.image_file.specs.Whole.{IsWhole}
-use Rattle.vax_driven.specs.References.{AreBytes}
+use Rattle.vax_form.specs.References.{AreBytes}
 use Rattle.vest_core.proofs.Runs.{whole_is_run}
 use Rattle.vest_core.proofs.laws.images_are_runs.Goals as goal
 

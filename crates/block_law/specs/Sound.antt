@@ -1,0 +1,13 @@
+-- Meanings of instructions that go with processors.
+use Rattle.std.specs.Prelude.{◌≡◌, ◌<◌, ℕ, ◌≤◌}
+use Rattle.vax_form.specs.declared.state.VaxState.{VaxState}
+use Rattle.vax_form.specs.Ranges.{StaysInRange}
+use Rattle.block_law.specs.Services.{service}
+use Rattle.block_law.specs.Translations.{Meaning}
+
+-- instructions keep to states and to references within quadwords, services are the four, and an access allows at
+-- most 256 steps more
+pub record IsSound (meaning : Meaning) : Type 0 where
+  pub ranged : (thread : ℕ) → thread < 256 → StaysInRange (meaning.tree thread)
+  pub serves : (thread code : ℕ) (state : VaxState) → meaning.serve thread code state ≡ service thread code state
+  pub few : (address : ℕ) → meaning.bonus address ≤ 256

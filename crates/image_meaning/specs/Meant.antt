@@ -1,0 +1,50 @@
+-- What the VAX instructions of a page table mean, for processors that run them.
+use Rattle.std.specs.Prelude.{ℕ, Bool, true, Option, Some, None}
+use Rattle.vax_form.specs.Grammar.{Found, instruction, reserved_instruction, reserved_mode, past}
+use Rattle.vax_form.specs.GrammarFound.{found}
+use Rattle.vax_form.specs.Operation.{operation_at}
+use Rattle.vax_form.specs.Tree.{instruction_tree}
+use Rattle.vax_form.specs.declared.operation.Operation.{Operation}
+use Rattle.vax_form.specs.declared.pages.Pages.{Pages}
+use Rattle.vax_form.specs.declared.state.Flags.{Flags}
+use Rattle.vax_meaning.specs.Control.{serve}
+use Rattle.vax_long.specs.Instructions.{tree_at}
+use Rattle.cc_liveness.specs.Codes.{none}
+use Rattle.cc_liveness.specs.Uses.{code_use_of}
+use Rattle.alpha_meaning.specs.declared.access.AlphaKind.{AlphaKind}
+use Rattle.block_law.specs.Translations.{Meaning}
+
+-- what stands at a state's PC, and what CHMK does there, with what a translation says of each address
+abbrev pub vax_meaning : Pages → (written : ℕ → Flags) → (kinds : ℕ → AlphaKind → (bytes : ℕ) → Bool) → (bonus : ℕ → ℕ) → Meaning
+vax_meaning pages written kinds bonus = record {
+  pages = pages;
+  tree = tree_at pages;
+  serve = λ thread code state. instruction_tree pages (serve code thread) state;
+  written = written;
+  kinds = kinds;
+  bonus = bonus;
+}
+
+abbrev pub codes_of : Option Operation → Flags
+codes_of None = none
+codes_of (Some operation) = (code_use_of operation).writes
+
+abbrev pub codes_found : Found → Flags
+codes_found (instruction instr) = codes_of (operation_at instr.opcode)
+codes_found reserved_instruction = none
+codes_found reserved_mode = none
+codes_found (past address) = none
+
+-- the condition codes that the instruction at an address writes
+abbrev pub codes_written : Pages → (address : ℕ) → Flags
+codes_written pages address = codes_found (found pages address)
+
+abbrev pub all_kinds : (address : ℕ) → AlphaKind → (bytes : ℕ) → Bool
+all_kinds address kind bytes = true
+
+abbrev pub no_bonus : (address : ℕ) → ℕ
+no_bonus address = 0
+
+-- what the instructions of an image with these pages mean
+abbrev pub image_meaning : Pages → Meaning
+image_meaning pages = vax_meaning pages (codes_written pages) all_kinds no_bonus

@@ -1,0 +1,35 @@
+//! Laws of what instructions do, for the proofs of the crates above. Their functions do nothing.
+ghost use Rattle.vax_form.specs.GrammarLaws.{AreBytes};
+ghost use Rattle.image_meaning.specs.Laws.{TreeAtStaysInRange, ServicesAre, VaxMeaningIsSound};
+
+use vax_form::Pages;
+
+/// From every state in range of a thread below 256, what stands at the PC makes references within one aligned quadword
+/// alone, and for all replies that they can get each end is a state in range.
+#[tactic(auto, using(crate::proofs::TreesAt::tree_at_stays_in_range))]
+pub fn tree_at_stays_in_range()
+    ensures { TreeAtStaysInRange }
+{}
+
+/// What CHMK does by its code is the service.
+#[tactic(auto, using(crate::proofs::Services::services_are))]
+pub fn services_are()
+    ensures { ServicesAre }
+{}
+
+/// The meaning of the VAX instructions is sound. `page_table_has_bytes` gives what it asks of the pages.
+#[tactic(auto, using(crate::proofs::Meanings::vax_meaning_is_sound))]
+pub fn vax_meaning_is_sound()
+    ensures { VaxMeaningIsSound }
+{}
+
+/// The code of a page table has bytes alone.
+pub fn page_table_has_bytes(pages: &Pages)
+    ensures { AreBytes pages.now.code }
+{
+    code_has_bytes(pages.code.as_slice());
+}
+
+fn code_has_bytes(code: &[u8])
+    ensures { AreBytes code.now }
+{}

@@ -1,8 +1,0 @@
--- The tree of a service's script is the service.
-use Rattle.std.proofs.Common.{refl}
-use Rattle.vax_meaning.specs.Control.{serve, put_byte, get_byte}
-use Rattle.vax_ranges.specs.Services.{ServicesAre}
-
-pub services_are : ServicesAre
-unfolding serve put_byte get_byte
-services_are pages thread code state = refl
