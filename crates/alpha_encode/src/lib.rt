@@ -12,3 +12,4 @@ mod tests;
 pub use crate::decoder::decode;
 pub use crate::encoder::encode;
 pub use crate::instr::{AlphaInstr, BranchOp, MemoryOp, OperateOp, Second};
+pub use crate::tables::{BRANCH_ROWS, MEMORY_ROWS, OPERATE_ROWS};
