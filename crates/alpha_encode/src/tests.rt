@@ -150,8 +150,8 @@ c3ffffff Br R31,-1 words
 30220000 Ldwu R1,0(R2)
 34220000 Stw R1,0(R2)
 38220000 Stb R1,0(R2)
-73e20001 Sextb R2,R1
-73e20021 Sextw R2,R1
+73e20001 Sextb R31,R2,R1
+73e20021 Sextw R31,R2,R1
 ";
 
 /// What the original Alpha lacks: these have no row.
