@@ -23,21 +23,21 @@ code_of same rows op = unwrap_or (option_map (λ row. row.0) (find (λ row. same
 
 -- memory format: the opcode
 abbrev pub memory_opcode : MemoryOp → ℕ
-memory_opcode op = code_of memory_op.eq MEMORY_ROWS op
+memory_opcode op = code_of memory_op.eq MEMORY_ROWS.now op
 
 abbrev pub memory_at : ℕ → Option MemoryOp
-memory_at opcode = row_at MEMORY_ROWS opcode
+memory_at opcode = row_at MEMORY_ROWS.now opcode
 
 -- branch format: the opcode
 abbrev pub branch_opcode : BranchOp → ℕ
-branch_opcode op = code_of branch_op.eq BRANCH_ROWS op
+branch_opcode op = code_of branch_op.eq BRANCH_ROWS.now op
 
 abbrev pub branch_at : ℕ → Option BranchOp
-branch_at opcode = row_at BRANCH_ROWS opcode
+branch_at opcode = row_at BRANCH_ROWS.now opcode
 
 -- operate format: the opcode in bits 15:8 of the code, and the function in 7:0
 abbrev pub operate_code : OperateOp → ℕ × ℕ
-operate_code op = let code = code_of operate_op.eq OPERATE_ROWS op in (code / 2 ^ 8, code % 2 ^ 8)
+operate_code op = let code = code_of operate_op.eq OPERATE_ROWS.now op in (code / 2 ^ 8, code % 2 ^ 8)
 
 abbrev pub operate_at : ℕ → ℕ → Option OperateOp
-operate_at opcode function = lookup (λ code. code / 2 ^ 8 == opcode && code % 2 ^ 8 == function) OPERATE_ROWS
+operate_at opcode function = lookup (λ code. code / 2 ^ 8 == opcode && code % 2 ^ 8 == function) OPERATE_ROWS.now

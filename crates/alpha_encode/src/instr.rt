@@ -1,4 +1,6 @@
-// Alpha instructions, a row each: the manual's mnemonic with its code. tables.rt names each row again.
+// Alpha instructions, a row each: the manual's mnemonic with its code, and the mnemonic again in the
+// list below the enum. Definitions and decoder read that list, since a discriminant has no way back to
+// its variant. The contract of `encode` refuses a row that is missing there.
 
 /// Memory format: loads, stores and load address, with the opcode. `L` behind the size is load-locked, `C` store conditional.
 #[derive(Clone, Copy, PartialEq, Eq, Debug)]
@@ -16,6 +18,12 @@ pub enum MemoryOp {
     StqC = 0x2f,
 }
 
+macro_rules! memory_rows {
+    ($($want:tt)*) => {
+        rows!($($want)*; MemoryOp; Lda Ldah LdqU Ldl Ldq LdlL LdqL Stl Stq StlC StqC)
+    };
+}
+
 /// Branch format, with the opcode.
 #[derive(Clone, Copy, PartialEq, Eq, Debug)]
 pub enum BranchOp {
@@ -29,6 +37,12 @@ pub enum BranchOp {
     Bne = 0x3d,
     Bge = 0x3e,
     Bgt = 0x3f,
+}
+
+macro_rules! branch_rows {
+    ($($want:tt)*) => {
+        rows!($($want)*; BranchOp; Br Bsr Blbc Beq Blt Ble Blbs Bne Bge Bgt)
+    };
 }
 
 /// Operate format: integer arithmetic, logical, shift and byte instructions. The manual's 10.2D, opcode and function, is `0x102d`.
@@ -84,6 +98,17 @@ pub enum OperateOp {
     Umulh = 0x1330,
 }
 
+macro_rules! operate_rows {
+    ($($want:tt)*) => {
+        rows!($($want)*; OperateOp;
+            Addl Subl Cmpult Addq S4addq Subq Cmpeq S8addq Cmpule Cmplt Cmple
+            And Bic Bis Cmoveq Cmovne Ornot Xor Eqv
+            Mskbl Extbl Insbl Mskwl Extwl Inswl Mskll Extll Insll Zap Zapnot Mskql Srl Extql Sll
+            Insql Sra Mskwh Inswh Extwh Msklh Inslh Extlh Mskqh Insqh Extqh
+            Mull Mulq Umulh)
+    };
+}
+
 /// The second operand of an operate instruction: register Rb, or an unsigned 8-bit literal.
 #[derive(Clone, Copy, PartialEq, Eq, Debug)]
 pub enum Second {
@@ -121,3 +146,7 @@ pub enum AlphaInstr {
     },
     Pal(u8),
 }
+
+pub(crate) use branch_rows;
+pub(crate) use memory_rows;
+pub(crate) use operate_rows;

@@ -14,3 +14,4 @@ pub use crate::decoder::decode;
 pub use crate::encoder::encode;
 pub use crate::halves::{load_high, load_low};
 pub use crate::instr::{AlphaInstr, BranchOp, MemoryOp, OperateOp, Second};
+pub use crate::tables::{BRANCH_ROWS, MEMORY_ROWS, OPERATE_ROWS};

@@ -1,228 +1,194 @@
-// Words of the GNU assembler for Alpha, and words that no row spells.
+// Words of the GNU assembler for Alpha.
 use super::*;
+use std::alloc::Global;
 use std::process::Abort;
+use std::string::String;
 
-/// `op R1,-8(R2)`
-const MEMORY: [(MemoryOp, u32); 11] = [
-    (MemoryOp::Lda, 0x2022_fff8),
-    (MemoryOp::Ldah, 0x2422_fff8),
-    (MemoryOp::LdqU, 0x2c22_fff8),
-    (MemoryOp::Ldl, 0xa022_fff8),
-    (MemoryOp::Ldq, 0xa422_fff8),
-    (MemoryOp::LdlL, 0xa822_fff8),
-    (MemoryOp::LdqL, 0xac22_fff8),
-    (MemoryOp::Stl, 0xb022_fff8),
-    (MemoryOp::Stq, 0xb422_fff8),
-    (MemoryOp::StlC, 0xb822_fff8),
-    (MemoryOp::StqC, 0xbc22_fff8),
-];
+/// Each with its instruction. R stands before a register, # before a literal in hexadecimal.
+const WORDS: &str = "\
+2022fff8 Lda R1,-8(R2)
+2422fff8 Ldah R1,-8(R2)
+2c22fff8 LdqU R1,-8(R2)
+a022fff8 Ldl R1,-8(R2)
+a422fff8 Ldq R1,-8(R2)
+a822fff8 LdlL R1,-8(R2)
+ac22fff8 LdqL R1,-8(R2)
+b022fff8 Stl R1,-8(R2)
+b422fff8 Stq R1,-8(R2)
+b822fff8 StlC R1,-8(R2)
+bc22fff8 StqC R1,-8(R2)
+2822fff8 Ldbu R1,-8(R2)
+3022fff8 Ldwu R1,-8(R2)
+3422fff8 Stw R1,-8(R2)
+3822fff8 Stb R1,-8(R2)
+c0200003 Br R1,+3 words
+d0200003 Bsr R1,+3 words
+e0200003 Blbc R1,+3 words
+e4200003 Beq R1,+3 words
+e8200003 Blt R1,+3 words
+ec200003 Ble R1,+3 words
+f0200003 Blbs R1,+3 words
+f4200003 Bne R1,+3 words
+f8200003 Bge R1,+3 words
+fc200003 Bgt R1,+3 words
+40220003 Addl R1,R2,R3
+4034b003 Addl R1,#A5,R3
+40220123 Subl R1,R2,R3
+4034b123 Subl R1,#A5,R3
+402203a3 Cmpult R1,R2,R3
+4034b3a3 Cmpult R1,#A5,R3
+40220403 Addq R1,R2,R3
+4034b403 Addq R1,#A5,R3
+40220443 S4addq R1,R2,R3
+4034b443 S4addq R1,#A5,R3
+40220523 Subq R1,R2,R3
+4034b523 Subq R1,#A5,R3
+402205a3 Cmpeq R1,R2,R3
+4034b5a3 Cmpeq R1,#A5,R3
+40220643 S8addq R1,R2,R3
+4034b643 S8addq R1,#A5,R3
+402207a3 Cmpule R1,R2,R3
+4034b7a3 Cmpule R1,#A5,R3
+402209a3 Cmplt R1,R2,R3
+4034b9a3 Cmplt R1,#A5,R3
+40220da3 Cmple R1,R2,R3
+4034bda3 Cmple R1,#A5,R3
+44220003 And R1,R2,R3
+4434b003 And R1,#A5,R3
+44220103 Bic R1,R2,R3
+4434b103 Bic R1,#A5,R3
+44220403 Bis R1,R2,R3
+4434b403 Bis R1,#A5,R3
+44220483 Cmoveq R1,R2,R3
+4434b483 Cmoveq R1,#A5,R3
+442204c3 Cmovne R1,R2,R3
+4434b4c3 Cmovne R1,#A5,R3
+44220503 Ornot R1,R2,R3
+4434b503 Ornot R1,#A5,R3
+44220803 Xor R1,R2,R3
+4434b803 Xor R1,#A5,R3
+44220903 Eqv R1,R2,R3
+4434b903 Eqv R1,#A5,R3
+48220043 Mskbl R1,R2,R3
+4834b043 Mskbl R1,#A5,R3
+482200c3 Extbl R1,R2,R3
+4834b0c3 Extbl R1,#A5,R3
+48220163 Insbl R1,R2,R3
+4834b163 Insbl R1,#A5,R3
+48220243 Mskwl R1,R2,R3
+4834b243 Mskwl R1,#A5,R3
+482202c3 Extwl R1,R2,R3
+4834b2c3 Extwl R1,#A5,R3
+48220363 Inswl R1,R2,R3
+4834b363 Inswl R1,#A5,R3
+48220443 Mskll R1,R2,R3
+4834b443 Mskll R1,#A5,R3
+482204c3 Extll R1,R2,R3
+4834b4c3 Extll R1,#A5,R3
+48220563 Insll R1,R2,R3
+4834b563 Insll R1,#A5,R3
+48220603 Zap R1,R2,R3
+4834b603 Zap R1,#A5,R3
+48220623 Zapnot R1,R2,R3
+4834b623 Zapnot R1,#A5,R3
+48220643 Mskql R1,R2,R3
+4834b643 Mskql R1,#A5,R3
+48220683 Srl R1,R2,R3
+4834b683 Srl R1,#A5,R3
+482206c3 Extql R1,R2,R3
+4834b6c3 Extql R1,#A5,R3
+48220723 Sll R1,R2,R3
+4834b723 Sll R1,#A5,R3
+48220763 Insql R1,R2,R3
+4834b763 Insql R1,#A5,R3
+48220783 Sra R1,R2,R3
+4834b783 Sra R1,#A5,R3
+48220a43 Mskwh R1,R2,R3
+4834ba43 Mskwh R1,#A5,R3
+48220ae3 Inswh R1,R2,R3
+4834bae3 Inswh R1,#A5,R3
+48220b43 Extwh R1,R2,R3
+4834bb43 Extwh R1,#A5,R3
+48220c43 Msklh R1,R2,R3
+4834bc43 Msklh R1,#A5,R3
+48220ce3 Inslh R1,R2,R3
+4834bce3 Inslh R1,#A5,R3
+48220d43 Extlh R1,R2,R3
+4834bd43 Extlh R1,#A5,R3
+48220e43 Mskqh R1,R2,R3
+4834be43 Mskqh R1,#A5,R3
+48220ee3 Insqh R1,R2,R3
+4834bee3 Insqh R1,#A5,R3
+48220f43 Extqh R1,R2,R3
+4834bf43 Extqh R1,#A5,R3
+4c220003 Mull R1,R2,R3
+4c34b003 Mull R1,#A5,R3
+4c220403 Mulq R1,R2,R3
+4c34b403 Mulq R1,#A5,R3
+4c220603 Umulh R1,R2,R3
+4c34b603 Umulh R1,#A5,R3
+73e20003 Sextb R31,R2,R3
+73e20023 Sextw R31,R2,R3
+68220000 Jmp R1,(R2)
+00000080 Pal 80
+00000081 Pal 81
+00000082 Pal 82
+00000083 Pal 83
+00000084 Pal 84
+00000085 Pal 85
+00000086 Pal 86
+201f0005 Lda R0,5(R31)
+2ffe0000 LdqU R31,0(R30)
+47ff041f Bis R31,R31,R31
+ac220000 LdqL R1,0(R2)
+bc220000 StqC R1,0(R2)
+482200c3 Extbl R1,R2,R3
+40211001 Addl R1,#8,R1
+c3ffffff Br R31,-1 words
+00000082 Pal 82
+28220000 Ldbu R1,0(R2)
+30220000 Ldwu R1,0(R2)
+34220000 Stw R1,0(R2)
+38220000 Stb R1,0(R2)
+73e20001 Sextb R31,R2,R1
+73e20021 Sextw R31,R2,R1
+";
 
-/// `op R1` to the third word behind the next
-const BRANCH: [(BranchOp, u32); 10] = [
-    (BranchOp::Br, 0xc020_0003),
-    (BranchOp::Bsr, 0xd020_0003),
-    (BranchOp::Blbc, 0xe020_0003),
-    (BranchOp::Beq, 0xe420_0003),
-    (BranchOp::Blt, 0xe820_0003),
-    (BranchOp::Ble, 0xec20_0003),
-    (BranchOp::Blbs, 0xf020_0003),
-    (BranchOp::Bne, 0xf420_0003),
-    (BranchOp::Bge, 0xf820_0003),
-    (BranchOp::Bgt, 0xfc20_0003),
-];
+/// What the original Alpha lacks: these have no row.
+const NO_ROW: [&str; 6] = ["Ldbu", "Ldwu", "Stb", "Stw", "Sextb", "Sextw"];
 
-/// `op R1,R2,R3` and `op R1,#A5,R3`
-const OPERATE: [(OperateOp, u32, u32); 48] = [
-    (OperateOp::Addl, 0x4022_0003, 0x4034_b003),
-    (OperateOp::Subl, 0x4022_0123, 0x4034_b123),
-    (OperateOp::Cmpult, 0x4022_03a3, 0x4034_b3a3),
-    (OperateOp::Addq, 0x4022_0403, 0x4034_b403),
-    (OperateOp::S4addq, 0x4022_0443, 0x4034_b443),
-    (OperateOp::Subq, 0x4022_0523, 0x4034_b523),
-    (OperateOp::Cmpeq, 0x4022_05a3, 0x4034_b5a3),
-    (OperateOp::S8addq, 0x4022_0643, 0x4034_b643),
-    (OperateOp::Cmpule, 0x4022_07a3, 0x4034_b7a3),
-    (OperateOp::Cmplt, 0x4022_09a3, 0x4034_b9a3),
-    (OperateOp::Cmple, 0x4022_0da3, 0x4034_bda3),
-    (OperateOp::And, 0x4422_0003, 0x4434_b003),
-    (OperateOp::Bic, 0x4422_0103, 0x4434_b103),
-    (OperateOp::Bis, 0x4422_0403, 0x4434_b403),
-    (OperateOp::Cmoveq, 0x4422_0483, 0x4434_b483),
-    (OperateOp::Cmovne, 0x4422_04c3, 0x4434_b4c3),
-    (OperateOp::Ornot, 0x4422_0503, 0x4434_b503),
-    (OperateOp::Xor, 0x4422_0803, 0x4434_b803),
-    (OperateOp::Eqv, 0x4422_0903, 0x4434_b903),
-    (OperateOp::Mskbl, 0x4822_0043, 0x4834_b043),
-    (OperateOp::Extbl, 0x4822_00c3, 0x4834_b0c3),
-    (OperateOp::Insbl, 0x4822_0163, 0x4834_b163),
-    (OperateOp::Mskwl, 0x4822_0243, 0x4834_b243),
-    (OperateOp::Extwl, 0x4822_02c3, 0x4834_b2c3),
-    (OperateOp::Inswl, 0x4822_0363, 0x4834_b363),
-    (OperateOp::Mskll, 0x4822_0443, 0x4834_b443),
-    (OperateOp::Extll, 0x4822_04c3, 0x4834_b4c3),
-    (OperateOp::Insll, 0x4822_0563, 0x4834_b563),
-    (OperateOp::Zap, 0x4822_0603, 0x4834_b603),
-    (OperateOp::Zapnot, 0x4822_0623, 0x4834_b623),
-    (OperateOp::Mskql, 0x4822_0643, 0x4834_b643),
-    (OperateOp::Srl, 0x4822_0683, 0x4834_b683),
-    (OperateOp::Extql, 0x4822_06c3, 0x4834_b6c3),
-    (OperateOp::Sll, 0x4822_0723, 0x4834_b723),
-    (OperateOp::Insql, 0x4822_0763, 0x4834_b763),
-    (OperateOp::Sra, 0x4822_0783, 0x4834_b783),
-    (OperateOp::Mskwh, 0x4822_0a43, 0x4834_ba43),
-    (OperateOp::Inswh, 0x4822_0ae3, 0x4834_bae3),
-    (OperateOp::Extwh, 0x4822_0b43, 0x4834_bb43),
-    (OperateOp::Msklh, 0x4822_0c43, 0x4834_bc43),
-    (OperateOp::Inslh, 0x4822_0ce3, 0x4834_bce3),
-    (OperateOp::Extlh, 0x4822_0d43, 0x4834_bd43),
-    (OperateOp::Mskqh, 0x4822_0e43, 0x4834_be43),
-    (OperateOp::Insqh, 0x4822_0ee3, 0x4834_bee3),
-    (OperateOp::Extqh, 0x4822_0f43, 0x4834_bf43),
-    (OperateOp::Mull, 0x4c22_0003, 0x4c34_b003),
-    (OperateOp::Mulq, 0x4c22_0403, 0x4c34_b403),
-    (OperateOp::Umulh, 0x4c22_0603, 0x4c34_b603),
-];
-
-const OTHERS: [(AlphaInstr, u32); 17] = [
-    (AlphaInstr::Jump { ra: 1, rb: 2 }, 0x6822_0000),
-    (AlphaInstr::Pal(0x80), 0x0000_0080),
-    (AlphaInstr::Pal(0x81), 0x0000_0081),
-    (AlphaInstr::Pal(0x82), 0x0000_0082),
-    (AlphaInstr::Pal(0x83), 0x0000_0083),
-    (AlphaInstr::Pal(0x84), 0x0000_0084),
-    (AlphaInstr::Pal(0x85), 0x0000_0085),
-    (AlphaInstr::Pal(0x86), 0x0000_0086),
-    (
-        AlphaInstr::Memory {
-            op: MemoryOp::Lda,
-            ra: 0,
-            rb: 31,
-            disp: 5,
+fn text_of(rt: &impl Abort, alloc: Global, instr: AlphaInstr) -> String {
+    let text = match instr {
+        AlphaInstr::Memory { op, ra, rb, disp } => {
+            format!(in alloc; "{op:?} R{ra},{disp}(R{rb})")
+        }
+        AlphaInstr::Branch { op, ra, disp } => format!(in alloc; "{op:?} R{ra},{disp:+} words"),
+        AlphaInstr::Operate { op, ra, rb, rc } => match rb {
+            Second::Register(rb) => format!(in alloc; "{op:?} R{ra},R{rb},R{rc}"),
+            Second::Literal(value) => format!(in alloc; "{op:?} R{ra},#{value:X},R{rc}"),
         },
-        0x201f_0005,
-    ),
-    (
-        AlphaInstr::Memory {
-            op: MemoryOp::LdqU,
-            ra: 31,
-            rb: 30,
-            disp: 0,
-        },
-        0x2ffe_0000,
-    ),
-    (
-        AlphaInstr::Operate {
-            op: OperateOp::Bis,
-            ra: 31,
-            rb: Second::Register(31),
-            rc: 31,
-        },
-        0x47ff_041f,
-    ),
-    (
-        AlphaInstr::Memory {
-            op: MemoryOp::LdqL,
-            ra: 1,
-            rb: 2,
-            disp: 0,
-        },
-        0xac22_0000,
-    ),
-    (
-        AlphaInstr::Memory {
-            op: MemoryOp::StqC,
-            ra: 1,
-            rb: 2,
-            disp: 0,
-        },
-        0xbc22_0000,
-    ),
-    (
-        AlphaInstr::Operate {
-            op: OperateOp::Extbl,
-            ra: 1,
-            rb: Second::Register(2),
-            rc: 3,
-        },
-        0x4822_00c3,
-    ),
-    (
-        AlphaInstr::Operate {
-            op: OperateOp::Addl,
-            ra: 1,
-            rb: Second::Literal(8),
-            rc: 1,
-        },
-        0x4021_1001,
-    ),
-    (
-        AlphaInstr::Branch {
-            op: BranchOp::Br,
-            ra: 31,
-            disp: -1,
-        },
-        0xc3ff_ffff,
-    ),
-    (
-        AlphaInstr::Branch {
-            op: BranchOp::Bgt,
-            ra: 31,
-            disp: -1,
-        },
-        0xffff_ffff,
-    ),
-];
-
-/// LDBU, LDWU, STW, STB, SEXTB and SEXTW, which have no row yet; PAL 87
-const NO_ROW: [u32; 13] = [
-    0x2822_fff8,
-    0x3022_fff8,
-    0x3422_fff8,
-    0x3822_fff8,
-    0x73e2_0003,
-    0x73e2_0023,
-    0x2822_0000,
-    0x3022_0000,
-    0x3422_0000,
-    0x3822_0000,
-    0x73e2_0001,
-    0x73e2_0021,
-    0x0000_0087,
-];
-
-fn both_ways(rt: &impl Abort, instr: AlphaInstr, word: u32) {
-    let found = decode(word);
-    assert_eq!(rt; found, Some(instr), "{word:08x}");
-    if let Some(found) = found {
-        assert_eq!(rt; encode(found), word, "{word:08x}");
-    }
+        AlphaInstr::Jump { ra, rb } => format!(in alloc; "Jmp R{ra},(R{rb})"),
+        AlphaInstr::Pal(number) => format!(in alloc; "Pal {number:X}"),
+    };
+    text.expect(rt, "memory")
 }
 
 #[test]
 fn words(rt: HostRuntime) {
-    for (op, word) in MEMORY {
-        let instr = AlphaInstr::Memory {
-            op,
-            ra: 1,
-            rb: 2,
-            disp: -8,
-        };
-        both_ways(&rt, instr, word);
+    for line in WORDS.lines() {
+        let (digits, text) = line.split_once(" ").expect(&rt, line);
+        let word = u32::from_str_radix(digits, 16).expect(&rt, line);
+        match decode(word) {
+            Some(instr) => {
+                let found = text_of(&rt, rt.alloc(), instr);
+                assert_eq!(rt; found.as_str(), text, "{line}");
+                assert_eq!(rt; encode(instr), word, "{line}");
+            }
+            None => {
+                let (name, _) = text.split_once(" ").expect(&rt, line);
+                assert!(rt; NO_ROW.contains(&name), "{line}");
+            }
+        }
     }
-    for (op, word) in BRANCH {
-        both_ways(&rt, AlphaInstr::Branch { op, ra: 1, disp: 3 }, word);
-    }
-    for (op, with_register, with_literal) in OPERATE {
-        let (ra, rc) = (1, 3);
-        let rb = Second::Register(2);
-        both_ways(&rt, AlphaInstr::Operate { op, ra, rb, rc }, with_register);
-        let rb = Second::Literal(0xa5);
-        both_ways(&rt, AlphaInstr::Operate { op, ra, rb, rc }, with_literal);
-    }
-    for (instr, word) in OTHERS {
-        both_ways(&rt, instr, word);
-    }
-    for word in NO_ROW {
-        assert_eq!(rt; decode(word), None, "{word:08x}");
-    }
+    assert_eq!(rt; decode(0x87), None);
 }

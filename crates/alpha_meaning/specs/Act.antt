@@ -3,7 +3,7 @@ use Rattle.std.specs.Prelude.{ℕ, ℤ, Bool, true, false, ◌+◌, ◌*◌, ◌
 use Rattle.std.specs.Int.{cast_unsigned, w32}
 use Rattle.alpha_encode.specs.declared.instr.MemoryOp.{MemoryOp}
 use Rattle.alpha_encode.specs.declared.instr.BranchOp.{BranchOp}
-use Rattle.alpha_encode.specs.declared.instr.BranchOp.TheVariants.{Br, Bsr, Blbc, Beq, Blt, Ble, Blbs, Bne, Bge, Bgt}
+use Rattle.alpha_encode.specs.declared.instr.BranchOp.TheVariants as row
 use Rattle.alpha_encode.specs.declared.instr.Second.{Second}
 use Rattle.alpha_encode.specs.declared.instr.Second.TheVariants.{Register, Literal}
 use Rattle.alpha_encode.specs.declared.instr.AlphaInstr.{AlphaInstr}
@@ -35,16 +35,16 @@ memory_act op ra rb disp s = memory_act_by (kind_of op) op ra rb disp s
 
 -- 4.3 "Control Instructions", Conditional Branch and Unconditional Branch: whether it is taken for this value of Ra
 abbrev pub taken : BranchOp → ℕ → Bool
-taken Br a = true
-taken Bsr a = true
-taken Blbc a = a % 2 == 0
-taken Beq a = a == 0
-taken Blt a = nat_le (2 ^ 63) a
-taken Ble a = a == 0 || nat_le (2 ^ 63) a
-taken Blbs a = a % 2 == 1
-taken Bne a = not (a == 0)
-taken Bge a = nat_lt a (2 ^ 63)
-taken Bgt a = not (a == 0 || nat_le (2 ^ 63) a)
+taken row.Br a = true
+taken row.Bsr a = true
+taken row.Blbc a = a % 2 == 0
+taken row.Beq a = a == 0
+taken row.Blt a = nat_le (2 ^ 63) a
+taken row.Ble a = a == 0 || nat_le (2 ^ 63) a
+taken row.Blbs a = a % 2 == 1
+taken row.Bne a = not (a == 0)
+taken row.Bge a = nat_lt a (2 ^ 63)
+taken row.Bgt a = not (a == 0 || nat_le (2 ^ 63) a)
 
 -- the address of the next word, in bytes; there are 2^32 words
 abbrev pub link_of : (pc : ℕ) → ℕ
@@ -52,8 +52,8 @@ link_of pc = 4 * ((pc + 1) % 2 ^ 32)
 
 -- Unconditional Branch: the address of the next word goes into Ra
 abbrev pub links : BranchOp → Bool
-links Br = true
-links Bsr = true
+links row.Br = true
+links row.Bsr = true
 links op = false
 
 -- the displacement counts words from the next one, modulo 2^32 words

@@ -4,7 +4,7 @@ use Rattle.std.specs.Prelude.{ℕ, ℤ, Bool, true, false, ◌*◌, ◌/◌, ◌
 use Rattle.std.specs.Int.{cast_unsigned, w64}
 use Rattle.vt_words.specs.Quad.{sign_extended}
 use Rattle.alpha_encode.specs.declared.instr.MemoryOp.{MemoryOp}
-use Rattle.alpha_encode.specs.declared.instr.MemoryOp.TheVariants.{Lda, Ldah, LdqU, Ldl, Ldq, LdlL, LdqL, Stl, Stq, StlC, StqC}
+use Rattle.alpha_encode.specs.declared.instr.MemoryOp.TheVariants as row
 use Rattle.alpha_meaning.specs.declared.access.AlphaKind.{AlphaKind}
 use Rattle.alpha_meaning.specs.declared.access.AlphaKind.TheVariants.{Load, LoadLocked, Store, StoreConditional}
 use Rattle.alpha_meaning.specs.declared.access.AlphaAccess.{AlphaAccess}
@@ -14,40 +14,40 @@ use Rattle.alpha_meaning.specs.Result.{plus, times}
 
 -- the kind of access; LDA and LDAH make none, and leave the address in Ra
 abbrev pub kind_of : MemoryOp → Option AlphaKind
-kind_of Lda = None  -- Load Address
-kind_of Ldah = None
-kind_of LdqU = Some Load  -- Load Quadword Unaligned
-kind_of Ldl = Some Load  -- Load Memory Data into Integer Register
-kind_of Ldq = Some Load
-kind_of LdlL = Some LoadLocked  -- Load Memory Data into Integer Register Locked
-kind_of LdqL = Some LoadLocked
-kind_of Stl = Some Store  -- Store Integer Register Data into Memory
-kind_of Stq = Some Store
-kind_of StlC = Some StoreConditional  -- Store Integer Register Data into Memory Conditional
-kind_of StqC = Some StoreConditional
+kind_of row.Lda = None  -- Load Address
+kind_of row.Ldah = None
+kind_of row.LdqU = Some Load  -- Load Quadword Unaligned
+kind_of row.Ldl = Some Load  -- Load Memory Data into Integer Register
+kind_of row.Ldq = Some Load
+kind_of row.LdlL = Some LoadLocked  -- Load Memory Data into Integer Register Locked
+kind_of row.LdqL = Some LoadLocked
+kind_of row.Stl = Some Store  -- Store Integer Register Data into Memory
+kind_of row.Stq = Some Store
+kind_of row.StlC = Some StoreConditional  -- Store Integer Register Data into Memory Conditional
+kind_of row.StqC = Some StoreConditional
 
 -- the number of bytes of the access, and what its address is a multiple of: accesses are naturally aligned
 abbrev pub bytes_of : MemoryOp → ℕ
-bytes_of Ldl = 4
-bytes_of LdlL = 4
-bytes_of Stl = 4
-bytes_of StlC = 4
+bytes_of row.Ldl = 4
+bytes_of row.LdlL = 4
+bytes_of row.Stl = 4
+bytes_of row.StlC = 4
 bytes_of op = 8
 
 -- how loaded bytes fill the register: SEXT for a longword
 abbrev pub extension_of : MemoryOp → Extension
-extension_of Ldl = Sign
-extension_of LdlL = Sign
+extension_of row.Ldl = Sign
+extension_of row.LdlL = Sign
 extension_of op = Zero
 
 -- LDQ_U drops the low three bits of the address
 abbrev pub drops_low_bits : MemoryOp → Bool
-drops_low_bits LdqU = true
+drops_low_bits row.LdqU = true
 drops_low_bits op = false
 
 -- what the displacement is multiplied by, for Load Address High
 abbrev pub scale_of : MemoryOp → ℕ
-scale_of Ldah = 65536
+scale_of row.Ldah = 65536
 scale_of op = 1
 
 -- Rbv + SEXT(disp), in bytes

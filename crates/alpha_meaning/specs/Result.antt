@@ -5,7 +5,7 @@ use Rattle.std.specs.Prelude.{ℕ, ℤ, pos, Bool, ◌+◌, ◌-◌, ◌*◌, �
 use Rattle.std.specs.Int.{cast_signed, cast_unsigned, int_div_euclid, w64}
 use Rattle.vt_words.specs.Quad.{left, right, kept, cleared, ext_low, ext_high, ins_low, ins_high, msk_low, msk_high, sign_extended}
 use Rattle.alpha_encode.specs.declared.instr.OperateOp.{OperateOp}
-use Rattle.alpha_encode.specs.declared.instr.OperateOp.TheVariants.{Addl, Subl, Cmpult, Addq, S4addq, Subq, Cmpeq, S8addq, Cmpule, Cmplt, Cmple, And, Bic, Bis, Cmoveq, Cmovne, Ornot, Xor, Eqv, Mskbl, Extbl, Insbl, Mskwl, Extwl, Inswl, Mskll, Extll, Insll, Zap, Zapnot, Mskql, Srl, Extql, Sll, Insql, Sra, Mskwh, Inswh, Extwh, Msklh, Inslh, Extlh, Mskqh, Insqh, Extqh, Mull, Mulq, Umulh}
+use Rattle.alpha_encode.specs.declared.instr.OperateOp.TheVariants as row
 
 -- sums, differences and products modulo 2^64
 abbrev pub plus : (a b : ℕ) → ℕ
@@ -40,61 +40,61 @@ arithmetic_right a count = cast_unsigned w64 (int_div_euclid (signed a) (pos (2 
 -- for Rav, Rbv (or the literal), and Rcv as it was before
 abbrev pub result_of : OperateOp → (a b held : ℕ) → ℕ
 -- 4.4 Longword Add, Quadword Add, Scaled Quadword Add
-result_of Addl a b held = long (plus a b)
-result_of Addq a b held = plus a b
-result_of S4addq a b held = plus (left a 2) b
-result_of S8addq a b held = plus (left a 3) b
+result_of row.Addl a b held = long (plus a b)
+result_of row.Addq a b held = plus a b
+result_of row.S4addq a b held = plus (left a 2) b
+result_of row.S8addq a b held = plus (left a 3) b
 -- 4.4 Integer Signed Compare, Integer Unsigned Compare
-result_of Cmpeq a b held = one_if (a == b)
-result_of Cmplt a b held = one_if (int_lt (signed a) (signed b))
-result_of Cmple a b held = one_if (int_le (signed a) (signed b))
-result_of Cmpult a b held = one_if (nat_lt a b)
-result_of Cmpule a b held = one_if (nat_le a b)
+result_of row.Cmpeq a b held = one_if (a == b)
+result_of row.Cmplt a b held = one_if (int_lt (signed a) (signed b))
+result_of row.Cmple a b held = one_if (int_le (signed a) (signed b))
+result_of row.Cmpult a b held = one_if (nat_lt a b)
+result_of row.Cmpule a b held = one_if (nat_le a b)
 -- 4.4 Longword Multiply, Quadword Multiply, Unsigned Quadword Multiply High
-result_of Mull a b held = long (times a b)
-result_of Mulq a b held = times a b
-result_of Umulh a b held = a * b / 2 ^ 64
+result_of row.Mull a b held = long (times a b)
+result_of row.Mulq a b held = times a b
+result_of row.Umulh a b held = a * b / 2 ^ 64
 -- 4.4 Longword Subtract, Quadword Subtract
-result_of Subl a b held = long (minus a b)
-result_of Subq a b held = minus a b
+result_of row.Subl a b held = long (minus a b)
+result_of row.Subq a b held = minus a b
 -- 4.5 Logical Functions
-result_of And a b held = bit_and a b
-result_of Bis a b held = bit_or a b
-result_of Xor a b held = bit_xor a b
-result_of Bic a b held = bit_and a (inverse b)
-result_of Ornot a b held = bit_or a (inverse b)
-result_of Eqv a b held = inverse (bit_xor a b)
+result_of row.And a b held = bit_and a b
+result_of row.Bis a b held = bit_or a b
+result_of row.Xor a b held = bit_xor a b
+result_of row.Bic a b held = bit_and a (inverse b)
+result_of row.Ornot a b held = bit_or a (inverse b)
+result_of row.Eqv a b held = inverse (bit_xor a b)
 -- 4.5 Conditional Move Integer
-result_of Cmoveq a b held = if a == 0 then b else held
-result_of Cmovne a b held = if a == 0 then held else b
+result_of row.Cmoveq a b held = if a == 0 then b else held
+result_of row.Cmovne a b held = if a == 0 then held else b
 -- 4.5 Shift Logical, Shift Arithmetic: the count is Rbv<5:0>
-result_of Sll a b held = left a (b % 64)
-result_of Srl a b held = right a (b % 64)
-result_of Sra a b held = arithmetic_right a (b % 64)
+result_of row.Sll a b held = left a (b % 64)
+result_of row.Srl a b held = right a (b % 64)
+result_of row.Sra a b held = arithmetic_right a (b % 64)
 -- 4.6 Extract Byte
-result_of Extbl a b held = ext_low 0x01 a b
-result_of Extwl a b held = ext_low 0x03 a b
-result_of Extll a b held = ext_low 0x0f a b
-result_of Extql a b held = ext_low 0xff a b
-result_of Extwh a b held = ext_high 0x03 a b
-result_of Extlh a b held = ext_high 0x0f a b
-result_of Extqh a b held = ext_high 0xff a b
+result_of row.Extbl a b held = ext_low 0x01 a b
+result_of row.Extwl a b held = ext_low 0x03 a b
+result_of row.Extll a b held = ext_low 0x0f a b
+result_of row.Extql a b held = ext_low 0xff a b
+result_of row.Extwh a b held = ext_high 0x03 a b
+result_of row.Extlh a b held = ext_high 0x0f a b
+result_of row.Extqh a b held = ext_high 0xff a b
 -- 4.6 Byte Insert
-result_of Insbl a b held = ins_low 0x01 a b
-result_of Inswl a b held = ins_low 0x03 a b
-result_of Insll a b held = ins_low 0x0f a b
-result_of Insql a b held = ins_low 0xff a b
-result_of Inswh a b held = ins_high 0x03 a b
-result_of Inslh a b held = ins_high 0x0f a b
-result_of Insqh a b held = ins_high 0xff a b
+result_of row.Insbl a b held = ins_low 0x01 a b
+result_of row.Inswl a b held = ins_low 0x03 a b
+result_of row.Insll a b held = ins_low 0x0f a b
+result_of row.Insql a b held = ins_low 0xff a b
+result_of row.Inswh a b held = ins_high 0x03 a b
+result_of row.Inslh a b held = ins_high 0x0f a b
+result_of row.Insqh a b held = ins_high 0xff a b
 -- 4.6 Byte Mask
-result_of Mskbl a b held = msk_low 0x01 a b
-result_of Mskwl a b held = msk_low 0x03 a b
-result_of Mskll a b held = msk_low 0x0f a b
-result_of Mskql a b held = msk_low 0xff a b
-result_of Mskwh a b held = msk_high 0x03 a b
-result_of Msklh a b held = msk_high 0x0f a b
-result_of Mskqh a b held = msk_high 0xff a b
+result_of row.Mskbl a b held = msk_low 0x01 a b
+result_of row.Mskwl a b held = msk_low 0x03 a b
+result_of row.Mskll a b held = msk_low 0x0f a b
+result_of row.Mskql a b held = msk_low 0xff a b
+result_of row.Mskwh a b held = msk_high 0x03 a b
+result_of row.Msklh a b held = msk_high 0x0f a b
+result_of row.Mskqh a b held = msk_high 0xff a b
 -- 4.6 Zero Bytes
-result_of Zap a b held = cleared (b % 2 ^ 8) a
-result_of Zapnot a b held = kept (b % 2 ^ 8) a
+result_of row.Zap a b held = cleared (b % 2 ^ 8) a
+result_of row.Zapnot a b held = kept (b % 2 ^ 8) a
