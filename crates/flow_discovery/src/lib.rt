@@ -101,6 +101,3 @@ pub fn reach(alloc: Global, image: &Image, hints: &[u32]) -> Result<Vec<Instr>, 
     let instrs = members::instructions(alloc, &image.pages, found.as_slice())?;
     Ok(instrs)
 }
-
-#[cfg(test)]
-mod tests;

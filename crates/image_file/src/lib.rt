@@ -18,6 +18,3 @@ pub use limits::{ADDRESS_END, MOST_BYTES, MOST_ENTRIES, MOST_SECTIONS, MOST_THRE
 pub use reading::read_image;
 pub use refusal::ImageRefusal;
 pub use writing::write_image;
-
-#[cfg(test)]
-mod tests;

@@ -154,6 +154,3 @@ fn number_behind(bytes: &[u8], at: usize, size: Option<Size>) -> Option<(u64, us
     let value = number_in(&bytes[at..], size)?;
     Some((value, size.bytes() as usize))
 }
-
-#[cfg(test)]
-mod tests;

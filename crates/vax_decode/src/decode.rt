@@ -51,6 +51,3 @@ fn decode(bytes: &[u8], pc: u32) -> Decoded
         Err(SpecFault::ReservedMode) => Decoded::BadMode,
     }
 }
-
-#[cfg(test)]
-mod tests;

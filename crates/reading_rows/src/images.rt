@@ -1,0 +1,112 @@
+// Questions about the files of images.
+ghost use Rattle.image_file.specs.Whole.{IsWhole};
+
+use crate::bytes::{bytes_of, number};
+use anyhow::{Context, Result, anyhow, bail};
+use image_file::{Image, ImageRefusal, Section, read_image, write_image};
+use std::alloc::{AllocError, Global};
+
+fn refusal_text(alloc: Global, refusal: ImageRefusal) -> Result<String, AllocError> {
+    match refusal.number() {
+        Some(number) => format!(in alloc; "refusal {number}, {refusal:?}"),
+        None => format!(in alloc; "no number, {refusal:?}"),
+    }
+}
+
+fn threads_text(alloc: Global, image: &Image) -> Result<String, AllocError> {
+    let mut text = format!(in alloc; "{:X}", image.threads.len())?;
+    for start in &image.threads {
+        write!(text, " {:X}/{:X}", start.pc, start.sp)?;
+    }
+    Ok(text)
+}
+
+fn entries_text(alloc: Global, image: &Image) -> Result<String, AllocError> {
+    let mut text = format!(in alloc; "{:X}", image.entries.len())?;
+    for entry in &image.entries {
+        write!(text, " {entry:X}")?;
+    }
+    Ok(text)
+}
+
+fn section_text(alloc: Global, section: &Section) -> Result<String, AllocError> {
+    let usage = if section.writable {
+        "writable"
+    } else {
+        "read-only"
+    };
+    let stored = hex::encode_upper(alloc, section.stored.as_slice())?;
+    format!(in alloc;
+        " {:X}+{:X} {usage} {{{stored}}}",
+        section.start, section.size
+    )
+}
+
+fn sections_text(alloc: Global, image: &Image) -> Result<String, AllocError> {
+    let mut text = format!(in alloc; "{:X}", image.sections.len())?;
+    for section in &image.sections {
+        text.push_str(section_text(alloc, section)?.as_str())?;
+    }
+    Ok(text)
+}
+
+/// The registers that are not 0 of the first thread's state, its PC and its PSW.
+fn state_text(alloc: Global, image: &Image) -> Result<String> {
+    let state = image.threads.first().context("a thread")?.state();
+    let mut text = String::new(alloc);
+    for (number, value) in state.r.iter().enumerate() {
+        if *value != 0 {
+            write!(text, "R{number}={value:X} ")?;
+        }
+    }
+    write!(text, "PC={:X} PSW={:X}", state.pc, state.psw)?;
+    Ok(text)
+}
+
+fn byte_text(alloc: Global, byte: Option<u8>) -> Result<String, AllocError> {
+    match byte {
+        Some(byte) => format!(in alloc; "{byte:02X}"),
+        None => format!(in alloc; "none"),
+    }
+}
+
+fn yes_or_no(alloc: Global, yes: bool) -> Result<String, AllocError> {
+    String::from_str(alloc, if yes { "yes" } else { "no" })
+}
+
+/// Answers a question about an image, whose file these bytes are.
+fn image_answer(alloc: Global, image: &Image, bytes: &[u8], question: &str) -> Result<String>
+    requires { IsWhole image.now }
+{
+    let (question, argument) = question.split_once(' ').unwrap_or((question, ""));
+    Ok(match question {
+        "read" => String::from_str(alloc, "an image")?,
+        "threads" => threads_text(alloc, image)?,
+        "entries" => entries_text(alloc, image)?,
+        "sections" => sections_text(alloc, image)?,
+        "state" => state_text(alloc, image)?,
+        "byte" => byte_text(alloc, image.byte(number(argument)?))?,
+        "code" => byte_text(alloc, image.pages.code_byte(number(argument)?))?,
+        "readable" => yes_or_no(alloc, image.pages.allowed(number(argument)?, false))?,
+        "writable" => yes_or_no(alloc, image.pages.allowed(number(argument)?, true))?,
+        "code-bytes" => format!(in alloc; "{:X}", image.pages.code.len())?,
+        "written" => {
+            let written = write_image(alloc, image).map_err(|want| anyhow!("{want:?}"))?;
+            yes_or_no(alloc, written.as_slice() == bytes)?
+        }
+        _ => bail!("no question: {question}"),
+    })
+}
+
+/// Answers BYTES QUESTION, and for bytes that are no image the refusal.
+pub fn answer(alloc: Global, sample: &[u8], question: &str) -> Result<String> {
+    if question == "want of memory" {
+        return Ok(refusal_text(alloc, ImageRefusal::WantOfMemory)?);
+    }
+    let (pieces, question) = question.split_once(' ').context("a question")?;
+    let bytes = bytes_of(alloc, sample, pieces)?;
+    match read_image(alloc, &bytes) {
+        Ok(image) => image_answer(alloc, &image, &bytes, question),
+        Err(refusal) => Ok(refusal_text(alloc, refusal)?),
+    }
+}

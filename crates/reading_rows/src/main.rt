@@ -1,0 +1,115 @@
+//! Asks the crates that read VAX images and their instructions what the files of data/ ask, and says for each family of
+//! questions how many answers are those that stand there.
+//!
+//! A line of a file is a question and behind a colon its answer. `images`, `flows`, `instructions` and `operands` answer
+//! in text, which is compared; `bytes` reads the bytes of a question, and `spelling` prints an operand.
+#![tactic(auto)]
+
+mod bytes;
+mod flows;
+mod images;
+mod instructions;
+mod operands;
+mod spelling;
+mod tally;
+
+use crate::tally::Tally;
+use anyhow::{Context, Result};
+use std::alloc::Global;
+use std::fs;
+use std::rt::Files;
+
+/// What a file asks about.
+#[derive(Clone, Copy)]
+enum Topic {
+    Images,
+    Flows,
+    Instructions,
+    Operands,
+}
+
+impl Topic {
+    const ALL: [Topic; 4] = [
+        Topic::Images,
+        Topic::Flows,
+        Topic::Instructions,
+        Topic::Operands,
+    ];
+
+    fn file(self) -> &'static str {
+        match self {
+            Topic::Images => "images.txt",
+            Topic::Flows => "flows.txt",
+            Topic::Instructions => "instructions.txt",
+            Topic::Operands => "operands.txt",
+        }
+    }
+
+    fn answer(self, alloc: Global, sample: &[u8], question: &str) -> Result<String> {
+        match self {
+            Topic::Images => images::answer(alloc, sample, question),
+            Topic::Flows => flows::answer(alloc, sample, question),
+            Topic::Instructions => instructions::answer(alloc, sample, question),
+            Topic::Operands => operands::answer(alloc, sample, question),
+        }
+    }
+}
+
+/// Answers the question of a line, and prints an answer that is another than the line's.
+fn agrees(
+    rt: &(impl Print + AllocGlobal),
+    topic: Topic,
+    sample: &[u8],
+    line: &str,
+) -> Result<bool> {
+    let (question, wanted) = line.split_once(": ").context("an answer")?;
+    let found = topic
+        .answer(rt.alloc(), sample, question)
+        .context(format_args!("{question}"))?;
+    let agrees = found.as_str() == wanted;
+    if !agrees {
+        println!(rt; "{question}: it is {found}, not {wanted}")?;
+    }
+    Ok(agrees)
+}
+
+/// Answers the questions of a family. A line `sample` gives the bytes that those below it name.
+fn tally_of(rt: &(impl Print + AllocGlobal), topic: Topic, lines: &str) -> Result<Tally> {
+    let mut tally = Tally::NONE;
+    let mut sample = Vec::new(rt.alloc());
+    for line in lines.lines() {
+        if line.is_empty() || line.starts_with('#') {
+            continue;
+        }
+        match line.strip_prefix("sample ") {
+            Some(bytes) => sample = hex::decode(rt.alloc(), bytes)?,
+            None => tally.count(agrees(rt, topic, &sample, line)?),
+        }
+    }
+    Ok(tally)
+}
+
+/// Answers the questions of a file, whose families follow a head of comments.
+fn run(rt: &(impl Print + AllocGlobal), topic: Topic, text: &str) -> Result<Tally> {
+    let mut all = Tally::NONE;
+    for section in text.split("\nfamily ").skip(1) {
+        let (family, lines) = section.split_once('\n').context("a family's name")?;
+        let tally = tally_of(rt, topic, lines)?;
+        tally.print(rt, family)?;
+        all.add(tally);
+    }
+    Ok(all)
+}
+
+fn run_all(rt: &(impl Print + AllocGlobal + Files)) -> Result<()> {
+    let mut all = Tally::NONE;
+    for topic in Topic::ALL {
+        let text = fs::read_to_string(rt, topic.file()).context(topic.file())?;
+        all.add(run(rt, topic, text.as_str())?);
+    }
+    all.print(rt, "all")
+}
+
+fn main(rt: HostRuntime) -> Result<()> {
+    run_all(&rt)
+}
