@@ -7,8 +7,6 @@ mod codes;
 mod laws;
 mod left_out;
 mod program;
-#[cfg(test)]
-mod tests;
 mod uses;
 mod values;
 mod words;

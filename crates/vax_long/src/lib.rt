@@ -28,6 +28,3 @@ pub use registers::{
 };
 pub use searching::{characters_compared, characters_scanned, stops_at};
 pub use standing::laws_of_tree_at;
-
-#[cfg(test)]
-mod tests;

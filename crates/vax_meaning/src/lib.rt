@@ -33,6 +33,3 @@ pub use operands::{
     Location, located, put_back, register_of, set_register_of, stored, taken, value_in_register,
 };
 pub use steps::{body_fed, find_fed, obtain_fed};
-
-#[cfg(test)]
-mod tests;

@@ -1,11 +1,11 @@
 ghost use Rattle.std.specs.Prelude.{◌≡◌};
 
-use super::*;
 use std::alloc::{AllocError, Global};
 use std::test::Fail;
 use vax_form::{
     Base, Exception, Instr, Operand, Outcome, PageRange, Pages, RefKind, Reference, VaxState,
 };
+use vax_long::next_long;
 
 /// Rows by hand: a call on an unaligned stack and the return from it, strings that overlap, strings without a byte, and
 /// bytes that may not be used. A row has the instruction's name, its opcode, its address, the address behind it, the PC

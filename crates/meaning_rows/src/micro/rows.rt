@@ -1,4 +1,4 @@
-use crate::codes::CodeSource::{self, Add, Compare, Computed, Kept, Psw, Result, Sub, Zero};
+use micro_ops::CodeSource::{self, Add, Compare, Computed, Kept, Psw, Result, Sub, Zero};
 use vax_form::Size::{Long, Quad, Word};
 
 // The operation, its size, both arguments, what the temporary held, and what it holds then, by whole-number arithmetic.

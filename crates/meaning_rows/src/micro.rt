@@ -1,4 +1,7 @@
-use super::*;
+use micro_ops::{
+    Arg, CodeSource, CodeSources, Exit, LockedOp, Micro, MicroOp, compute, fits, is_left_out,
+    program_words, words_of,
+};
 use rows::{FITTING, MISFITS, VALUES};
 use std::alloc::Global;
 use std::process::Abort;

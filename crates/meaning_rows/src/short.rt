@@ -1,11 +1,11 @@
 ghost use Rattle.std.specs.Prelude.{◌≡◌};
 
-use super::*;
 use std::alloc::{AllocError, Global};
 use std::test::Fail;
 use vax_form::{
     Base, Exception, Instr, Operand, Outcome, PageRange, Pages, RefKind, Reference, VaxState,
 };
+use vax_meaning::next;
 
 /// Programs from the address 200 on, worked by hand. A row may begin with the stack pointer (s), which is else 1200, and
 /// with bytes in memory (b). For each instruction it has the opcode and the address behind it (i) and its operands (v
