@@ -7,13 +7,12 @@ use Rattle.vt_words.specs.Quad.{sign_extended}
 use Rattle.address_map.specs.Pairs.{AllRise, word_at, address_at}
 use Rattle.alpha_encode.specs.declared.instr.AlphaInstr.{AlphaInstr}
 use Rattle.alpha_encode.specs.declared.instr.AlphaInstr.TheVariants.{Memory, Branch, Operate, Jump, Pal}
-use Rattle.alpha_encode.specs.declared.instr.MemoryOp.{MemoryOp}
-use Rattle.alpha_encode.specs.declared.instr.MemoryOp.TheVariants.{Lda, Ldah, LdqU, Ldl, Ldq, LdlL, LdqL, Stl, Stq, StlC, StqC}
 use Rattle.alpha_meaning.specs.declared.access.AlphaAccess.{AlphaAccess}
 use Rattle.alpha_meaning.specs.declared.access.AlphaKind.{AlphaKind}
 use Rattle.alpha_meaning.specs.declared.access.AlphaKind.TheVariants as alpha
 use Rattle.alpha_meaning.specs.Act.{Does, Goes, Asks, Calls, act, memory_act_by, finished}
-use Rattle.alpha_meaning.specs.Memory.{stores, bytes_of, address_of, access_of, kind_of as row_kind}
+use Rattle.alpha_meaning.specs.Memory.{stores, address_of, access_of, kind_of as row_kind}
+use Rattle.alpha_meaning.proofs.Rows.{access_within}
 use Rattle.alpha_meaning.specs.Pieces.{quad_of, loaded, changed, Phase, Plain, Held, Failed, Made, Accesses, Acts, Steps, Forth, phase_after}
 use Rattle.alpha_meaning.specs.State.{Alpha, Regs, put, at_place}
 use Rattle.exception_records.specs.Codes.{all_ready}
@@ -70,30 +69,6 @@ zero_test n h = grind (arith, nat_tests)
 both_true : (a b : Bool) → a ≡ true → b ≡ true → (a && b) ≡ true
 both_true true b h k = k
 both_true false b h k = absurd (cc h)
-
--- an aligned access of four or eight bytes stands in one quadword
-fits_quad : (address bytes : ℕ) → (bytes ≡ 4) ⊎ (bytes ≡ 8) → address % bytes ≡ 0 → address % 8 + bytes ≤ 8
-fits_quad address bytes (inl h) a = four (ap (λ n. address % n) (sym h) ∙ a)
-  where
-    four : address % 4 ≡ 0 → address % 8 + bytes ≤ 8
-    four a = omega (arith, h)
-fits_quad address bytes (inr h) a = eight (ap (λ n. address % n) (sym h) ∙ a)
-  where
-    eight : address % 8 ≡ 0 → address % 8 + bytes ≤ 8
-    eight a = omega (arith, h)
-
-row_bytes : (op : MemoryOp) → (bytes_of op ≡ 4) ⊎ (bytes_of op ≡ 8)
-row_bytes Ldl = inl refl
-row_bytes LdlL = inl refl
-row_bytes Stl = inl refl
-row_bytes StlC = inl refl
-row_bytes Lda = inr refl
-row_bytes Ldah = inr refl
-row_bytes LdqU = inr refl
-row_bytes Ldq = inr refl
-row_bytes LdqL = inr refl
-row_bytes Stq = inr refl
-row_bytes StqC = inr refl
 
 -- the lock that a phase is
 abbrev pub phase_lock : Phase → Option Lock
@@ -418,18 +393,18 @@ module _ (setting : Setting) (thread : ℕ) (sound : IsSound setting.meaning) (r
     called_owed lt call point phase t c spare h = absurd h
 
     -- ---- one step
-    bytes_of_asks : (i : AlphaInstr) (c : Alpha) (a : AlphaAccess) → act i c ≡ Asks a → (a.bytes ≡ 4) ⊎ (a.bytes ≡ 8)
-    bytes_of_asks (Memory op ra rb disp) c a h = by (row_kind op) h
+    asks_within : (i : AlphaInstr) (c : Alpha) (a : AlphaAccess) → act i c ≡ Asks a → a.address % a.bytes ≡ 0 → a.address % 8 + a.bytes ≤ 8
+    asks_within (Memory op ra rb disp) c a h = by (row_kind op) h
       where
-        by : (k : Option AlphaKind) → memory_act_by k op ra rb disp c ≡ Asks a → (a.bytes ≡ 4) ⊎ (a.bytes ≡ 8)
+        by : (k : Option AlphaKind) → memory_act_by k op ra rb disp c ≡ Asks a → a.address % a.bytes ≡ 0 → a.address % 8 + a.bytes ≤ 8
         by None h = absurd (cc h)
         by (Some kind) h =
             let same : access_of op kind (address_of op (c.regs rb) disp) (c.regs ra) ≡ a = cc h in
-            subst (λ (x : AlphaAccess). (x.bytes ≡ 4) ⊎ (x.bytes ≡ 8)) same (row_bytes op)
-    bytes_of_asks (Branch op ra disp) c a h = absurd (cc h)
-    bytes_of_asks (Operate op ra rb rc) c a h = absurd (cc h)
-    bytes_of_asks (Jump ra rb) c a h = absurd (cc h)
-    bytes_of_asks (Pal n) c a h = absurd (cc h)
+            subst (λ (x : AlphaAccess). x.address % x.bytes ≡ 0 → x.address % 8 + x.bytes ≤ 8) same (access_within op (address_of op (c.regs rb) disp))
+    asks_within (Branch op ra disp) c a h = absurd (cc h)
+    asks_within (Operate op ra rb rc) c a h = absurd (cc h)
+    asks_within (Jump ra rb) c a h = absurd (cc h)
+    asks_within (Pal n) c a h = absurd (cc h)
 
     acts_owed : thread < 256 → (i : AlphaInstr) (phase : Phase) (t : Tree) (c : Alpha) (spare : ℕ) (what : Does) → act i c ≡ what
         → Acts what i (terms_of p) phase spare c (wants t) t
@@ -440,7 +415,7 @@ module _ (setting : Setting) (thread : ℕ) (sound : IsSound setting.meaning) (r
     acts_owed lt i phase t c spare (Goes d) is h = (t, Here, goes_to c.pc d phase t spare (address_at setting.code.map d.pc) refl h)
     acts_owed lt i phase t c spare (Calls number) is h = called_owed lt (call_of number) (point_at setting.code.points c.pc) phase t c spare h
     acts_owed lt i phase t c spare (Asks a) is h =
-        let within = fits_quad a.address a.bytes (bytes_of_asks i c a is) h.0 in
+        let within = asks_within i c a is h.0 in
         let defined : is_defined setting a ≡ true = both_true (a.address % a.bytes == 0) (is_allowed setting.meaning.pages (quad_of a) (stores a.kind)) (zero_test (a.address % a.bytes) h.0) h.1 in
         subst (λ x. OwedNext setting.meaning.pages (Owes b held) (IsForm setting) retired (phase_lock phase) spare t (accesses x setting m i a c)) (sym defined)
         (access_owed a.kind phase a.address a.bytes a.value i c spare t within h.3)
