@@ -101,6 +101,3 @@ impl Pages {
         None
     }
 }
-
-#[cfg(test)]
-mod tests;

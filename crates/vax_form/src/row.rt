@@ -242,6 +242,3 @@ pub fn is_long(opcode: u8) -> bool
         None => false,
     }
 }
-
-#[cfg(test)]
-mod tests;

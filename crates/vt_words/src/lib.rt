@@ -16,6 +16,3 @@ pub use bytes::{
 };
 pub use conversion::{convert, extended_product, is_negative};
 pub use values::{limit, signed, wrapped};
-
-#[cfg(test)]
-mod tests;

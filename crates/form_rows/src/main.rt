@@ -1,0 +1,28 @@
+//! Compares what the opcodes, the arithmetic and the page table of this translator answer with answers from outside: the
+//! manual's table of instructions in data/opcodes.txt, a simulator's answers in data/arithmetic.txt, and others in the code.
+//! It prints each difference, and for each part how many cases agree.
+//!
+//! `opcodes` and `arithmetic` check the files, with the instructions' names in `names`. `calls` and `pages` check the rest.
+#![tactic(auto)]
+
+mod arithmetic;
+mod calls;
+mod names;
+mod opcodes;
+mod pages;
+mod tally;
+
+use anyhow::{Context, Result};
+use std::fs;
+
+fn main(rt: HostRuntime) -> Result<()> {
+    let table = fs::read_to_string(&rt, "opcodes.txt").context("opcodes.txt")?;
+    opcodes::check(&rt, table.as_str())?;
+    let cases = fs::read_to_string(&rt, "arithmetic.txt").context("arithmetic.txt")?;
+    arithmetic::check(&rt, cases.as_str())?;
+    calls::check_conversions(&rt)?;
+    calls::check_logic(&rt)?;
+    calls::check_quadwords(&rt)?;
+    calls::check_forms(&rt)?;
+    pages::check(&rt)
+}
