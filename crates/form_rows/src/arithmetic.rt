@@ -1,6 +1,6 @@
 // Whole-number arithmetic, by a simulator's answers.
-use crate::tally::Tally;
 use anyhow::{Result, bail, ensure};
+use row_tally::Tally;
 use std::alloc::Global;
 use vt_words::{Coded, add, divide, limit, mul, negate, sub};
 

@@ -1,7 +1,7 @@
 // Calls with one case or two each.
 use crate::arithmetic::coded;
-use crate::tally::Tally;
 use anyhow::Result;
+use row_tally::Tally;
 use vax_form::{Mode, Size, VaxState, Width};
 use vt_words::{
     and, and_not, cleared, complement, convert, extended_product, extract_high, extract_low, field,

@@ -10,7 +10,6 @@ mod calls;
 mod names;
 mod opcodes;
 mod pages;
-mod tally;
 
 use anyhow::{Context, Result};
 use std::fs;

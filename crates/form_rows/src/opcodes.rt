@@ -1,7 +1,7 @@
 // The opcodes, by the table of instructions.
 use crate::names::name_of;
-use crate::tally::Tally;
 use anyhow::{Context, Result, bail, ensure};
+use row_tally::Tally;
 use std::alloc::{AllocError, Global};
 use vax_form::{Access, Class, Row, Size, class_of, is_long, operation_of, row_of};
 

@@ -1,6 +1,6 @@
 // The page table of an image.
-use crate::tally::Tally;
 use anyhow::Result;
+use row_tally::Tally;
 use std::alloc::{AllocError, Global};
 use vax_form::{PageRange, Pages};
 

@@ -13,33 +13,8 @@ use crate::case::Case;
 use crate::difference::difference;
 use crate::ending::ending_of;
 use anyhow::{Context, Result};
+use row_tally::Tally;
 use std::fs;
-
-/// How many cases there were, and how many agree.
-#[derive(Clone, Copy)]
-struct Tally {
-    cases: u32,
-    agree: u32,
-}
-
-impl Tally {
-    const NONE: Tally = Tally { cases: 0, agree: 0 };
-
-    fn count(&mut self, agrees: bool) {
-        self.cases = self.cases.saturating_add(1);
-        self.agree = self.agree.saturating_add(u32::from(agrees));
-    }
-
-    fn add(&mut self, other: Tally) {
-        self.cases = self.cases.saturating_add(other.cases);
-        self.agree = self.agree.saturating_add(other.agree);
-    }
-
-    fn print(self, rt: &impl Print, family: &str) -> Result<()> {
-        println!(rt; "{family}: {} of {} agree", self.agree, self.cases)?;
-        Ok(())
-    }
-}
 
 /// Runs the case of a line, and prints how it differs.
 fn agrees(rt: &(impl Print + AllocGlobal), line: &str) -> Result<bool> {

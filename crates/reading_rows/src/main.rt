@@ -11,10 +11,9 @@ mod images;
 mod instructions;
 mod operands;
 mod spelling;
-mod tally;
 
-use crate::tally::Tally;
 use anyhow::{Context, Result};
+use row_tally::Tally;
 use std::alloc::Global;
 use std::fs;
 use std::rt::Files;

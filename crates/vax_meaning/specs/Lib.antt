@@ -10,6 +10,9 @@ pub mod Fields
 pub mod Control
 pub mod Instructions
 pub mod Fed
+pub use Rattle.vax_form.specs.State
+pub use Rattle.vax_form.specs.Script
+pub use Rattle.vax_form.specs.Tree
 pub use Rattle.vax_form.specs.After
 pub use Rattle.vax_form.specs.References
 pub use Rattle.vax_form.specs.Made

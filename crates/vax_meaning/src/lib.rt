@@ -33,3 +33,4 @@ pub use operands::{
     Location, located, put_back, register_of, set_register_of, stored, taken, value_in_register,
 };
 pub use steps::{body_fed, find_fed, obtain_fed};
+pub use vax_form::{Outcome, Pick, RefKind, Reference, VaxState};

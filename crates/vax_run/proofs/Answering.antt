@@ -11,7 +11,7 @@ use Rattle.vax_form.specs.declared.script.Stop.{Stop}
 use Rattle.vax_form.specs.declared.script.Stop.TheVariants as stops
 use Rattle.vax_form.specs.declared.state.VaxState.{VaxState}
 use Rattle.vax_form.proofs.Feeding.{answering_is_running}
-use Rattle.vax_form.specs.After.{if_runs, one_more, after}
+use Rattle.vax_meaning.specs.After.{if_runs, one_more, after}
 use Rattle.vax_meaning.specs.Play.{Plays, view}
 use Rattle.vax_meaning.specs.declared.cursor.Cursor.{Cursor}
 use Rattle.vax_run.specs.Answered.{answer_of, answer_to, IsWithin, life_of, life_behind_of, reached_of, if_running, running_at}

@@ -7,7 +7,7 @@ use Rattle.std.proofs.Math.Nat.{pow-le-pow_right}
 use Rattle.std.proofs.Math.Path.{fun_ext}
 use Rattle.std.proofs.lemmas.Bool.Decides.{nat_tests}
 use Rattle.std.proofs.lemmas.Grind.{pow_more}
-use Rattle.vax_form.specs.References.{value_at, with_byte, with_value}
+use Rattle.vax_meaning.specs.References.{value_at, with_byte, with_value}
 
 stored : (b : Bool) (value : ℕ) (old : Option ℕ) (first : ℕ) → unwrap_or (cond b (Some value) old) first ≡ (if b then value else unwrap_or old first)
 stored true value old first = refl

@@ -9,7 +9,7 @@ use Rattle.vax_form.specs.declared.pages.PageRange.{PageRange}
 use Rattle.vax_form.specs.declared.state.Pick.{Pick}
 use Rattle.vax_form.specs.declared.state.Reference.{Reference}
 use Rattle.vax_driven.specs.Driven.{run_before, runs_from, ended, driven_on, walk}
-use Rattle.vax_form.specs.Made.{Made, bytes_after, output_after, replies_to}
+use Rattle.vax_meaning.specs.Made.{Made, bytes_after, output_after, replies_to}
 use Rattle.vax_driven.specs.Threads.{run_at, thread_run}
 use Rattle.vax_driven.specs.declared.thread.ThreadRun.{ThreadRun}
 use Rattle.vax_run.specs.Threads.{after_of}

@@ -9,9 +9,9 @@ use Rattle.image_file.specs.Values.{ImageValue}
 use Rattle.vax_form.specs.Tree.{Tree, Retired}
 use Rattle.vax_form.specs.declared.pages.Pages.{Pages}
 use Rattle.vax_form.specs.declared.state.VaxState.{VaxState}
-use Rattle.vax_form.specs.After.{after, KeepsRetired}
+use Rattle.vax_meaning.specs.After.{after, KeepsRetired}
 use Rattle.vax_form.proofs.Afters.{after_with_more}
-use Rattle.vax_form.specs.Made.{Made, replies_to}
+use Rattle.vax_meaning.specs.Made.{Made, replies_to}
 use Rattle.vax_driven.specs.Threads.{after_start, reached, wanted_at, wanted}
 use Rattle.vax_long.specs.Instructions.{tree_at}
 use Rattle.vax_run.specs.Answered.{life_of, reached_of}

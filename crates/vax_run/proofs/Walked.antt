@@ -9,8 +9,8 @@ use Rattle.vax_form.specs.declared.state.Reference.{Reference}
 use Rattle.vax_form.specs.declared.state.RefKind.{RefKind}
 use Rattle.vax_form.specs.declared.state.RefKind.TheVariants.{Read, Write, Add, SetBit, ClearBit, Put, Get}
 use Rattle.vax_driven.specs.Driven.{made_if, picked, walk}
-use Rattle.vax_form.specs.Made.{Made, bytes_after, output_by, output_after, gets_by, gets_after, input_at, replies_to, make}
-use Rattle.vax_form.specs.References.{reply_of, changed}
+use Rattle.vax_meaning.specs.Made.{Made, bytes_after, output_by, output_after, gets_by, gets_after, input_at, replies_to, make}
+use Rattle.vax_meaning.specs.References.{reply_of, changed}
 use Rattle.vax_driven.specs.Threads.{wanted_at, wanted}
 use Rattle.vax_run.specs.Memory.{byte_of, put_by}
 use Rattle.vax_run.specs.Threads.{after_of, IsPlaceOf, AreThreads}

@@ -4,8 +4,8 @@ use Rattle.image_file.specs.declared.image.Start.{Start}
 use Rattle.image_file.specs.Start.{start_state}
 use Rattle.image_file.specs.Values.{ImageValue}
 use Rattle.vax_form.specs.Tree.{Retired}
-use Rattle.vax_form.specs.After.{after}
-use Rattle.vax_form.specs.Made.{Made, replies_to}
+use Rattle.vax_meaning.specs.After.{after}
+use Rattle.vax_meaning.specs.Made.{Made, replies_to}
 use Rattle.vax_long.specs.Instructions.{tree_at}
 use Rattle.vax_run.specs.Answered.{reached_of}
 use Rattle.vax_run.specs.declared.advance.Place.{Place}

@@ -9,7 +9,7 @@ use Rattle.vax_form.specs.declared.state.Pick.{Pick}
 use Rattle.vax_form.specs.declared.state.Reference.{Reference}
 use Rattle.vax_driven.specs.declared.thread.ThreadRun.{ThreadRun}
 use Rattle.vax_driven.specs.Driven.{World, Driven, driven}
-use Rattle.vax_form.specs.Made.{Made, bytes_after, output_after}
+use Rattle.vax_meaning.specs.Made.{Made, bytes_after, output_after}
 use Rattle.vax_driven.specs.Threads.{Threads}
 use Rattle.vax_long.specs.Instructions.{tree_at}
 

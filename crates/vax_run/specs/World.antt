@@ -2,7 +2,7 @@
 use Rattle.std.specs.Prelude.{◌≡◌, ℕ, Bool, true, false, List, Option, Some, None, map, reverse}
 use Rattle.image_file.specs.Memory.{byte_in}
 use Rattle.image_file.specs.Values.{ImageValue}
-use Rattle.vax_form.specs.Made.{Made, bytes_after, output_after, gets_after}
+use Rattle.vax_meaning.specs.Made.{Made, bytes_after, output_after, gets_after}
 use Rattle.vax_form.specs.declared.pages.PageRange.{PageRange}
 use Rattle.vax_run.specs.Memory.{byte_of}
 use Rattle.vax_run.specs.Values.{addresses_of}

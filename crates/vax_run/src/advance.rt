@@ -1,7 +1,7 @@
 ghost use Rattle.std.specs.Prelude.{◌≡◌, ◌≤◌, length, drop, Some};
 ghost use Rattle.vax_form.specs.Tree.{answer, retires};
 ghost use Rattle.vax_form.specs.declared.state.VaxState.{VaxState};
-ghost use Rattle.vax_form.specs.After.{after};
+ghost use Rattle.vax_meaning.specs.After.{after};
 ghost use Rattle.vax_long.specs.Instructions.{tree_at};
 ghost use Rattle.vax_run.specs.Answered.{life_behind_of, reached_of, running_at, IsPlace};
 

@@ -1,7 +1,7 @@
 ghost use Rattle.std.specs.Prelude.{◌≡◌, ◌≤◌, ◌<◌, ◌^◌, ◌+◌, ◌-◌, ◌%◌, bit_and, bit_or, ℕ, [], IfOk, OnOk};
 ghost use Rattle.image_file.specs.Values.{ImageValue};
-ghost use Rattle.vax_form.specs.Made.{input_at, gets_by};
-ghost use Rattle.vax_form.specs.References.{value_at, with_byte, with_value, reply_of, changed};
+ghost use Rattle.vax_meaning.specs.Made.{input_at, gets_by};
+ghost use Rattle.vax_meaning.specs.References.{value_at, with_byte, with_value, reply_of, changed};
 
 use image_file::Image;
 use std::alloc::{AllocError, Global};

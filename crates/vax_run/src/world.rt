@@ -1,6 +1,6 @@
 ghost use Rattle.std.specs.Prelude.{◌≡◌, ◌≤◌, ◌+◌, ◌*◌, ◌++◌, [], List, length, option_map, reverse, map, IfOk, OnOk};
 ghost use Rattle.vax_driven.specs.Driven.{picked, runs_from, walk};
-ghost use Rattle.vax_form.specs.Made.{Made};
+ghost use Rattle.vax_meaning.specs.Made.{Made};
 ghost use Rattle.vax_run.specs.Values.{addresses_from, threads_of, world_of};
 ghost use Rattle.vax_run.specs.Threads.{AreThreads};
 

@@ -1,6 +1,6 @@
 use Rattle.std.proofs.Common.{◌≡◌, length, Some}
 use Rattle.vax_form.specs.declared.state.VaxState.{VaxState}
-use Rattle.vax_form.specs.After.{after}
+use Rattle.vax_meaning.specs.After.{after}
 use Rattle.vax_long.specs.Instructions.{tree_at}
 use Rattle.vax_run.specs.Answered.{reached_of, IsPlace}
 use Rattle.vax_run.proofs.advance.advance.Given as goal

@@ -1,5 +1,5 @@
 use Rattle.std.proofs.Common.{◌+◌, ◌%◌, ◌^◌, ap, ◌∙◌}
-use Rattle.vax_form.specs.References.{with_value}
+use Rattle.vax_meaning.specs.References.{with_value}
 use Rattle.vax_run.specs.Memory.{byte_of}
 use Rattle.vax_run.proofs.memory.Memory.add_word.Goals as goal
 

@@ -1,6 +1,6 @@
 use Rattle.std.proofs.Common.{◌≡◌, ◌*◌, ◌%◌, ◌^◌, bit_or, sym, ap, ◌∙◌, arith}
 use Rattle.std.proofs.lemmas.Nat.{one_shl}
-use Rattle.vax_form.specs.References.{with_byte}
+use Rattle.vax_meaning.specs.References.{with_byte}
 use Rattle.vax_run.specs.Memory.{byte_of}
 use Rattle.vax_run.proofs.memory.Memory.set_bit.Goals as goal
 

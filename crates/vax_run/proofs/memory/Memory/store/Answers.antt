@@ -1,5 +1,5 @@
 use Rattle.std.proofs.Common.{◌<◌, ◌+◌, ◌%◌, ◌^◌, ap, ◌∙◌, arith}
-use Rattle.vax_form.specs.References.{with_byte}
+use Rattle.vax_meaning.specs.References.{with_byte}
 use Rattle.vax_run.specs.Memory.{byte_of}
 use Rattle.vax_run.proofs.Bytes.{store_more}
 use Rattle.vax_run.proofs.memory.Memory.store.Goals as goal

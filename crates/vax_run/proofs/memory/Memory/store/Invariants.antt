@@ -1,6 +1,6 @@
 use Rattle.std.proofs.Common.{◌≡◌, ◌+◌, ◌-◌}
 use Rattle.image_file.specs.Values.{ImageValue}
-use Rattle.vax_form.specs.References.{with_value}
+use Rattle.vax_meaning.specs.References.{with_value}
 use Rattle.vax_run.specs.Memory.{byte_of}
 use Rattle.vax_run.proofs.memory.Memory.store.Given as goal
 

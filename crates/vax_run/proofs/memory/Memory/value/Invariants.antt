@@ -1,5 +1,5 @@
 use Rattle.std.proofs.Common.{◌≡◌, ◌<◌, ◌+◌, ◌-◌, ◌^◌}
-use Rattle.vax_form.specs.References.{value_at}
+use Rattle.vax_meaning.specs.References.{value_at}
 use Rattle.vax_run.specs.Memory.{byte_of}
 use Rattle.vax_run.proofs.memory.Memory.value.Given as goal
 

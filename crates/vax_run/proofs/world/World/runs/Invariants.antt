@@ -1,6 +1,6 @@
 use Rattle.std.proofs.Common.{◌≡◌, List, drop}
 use Rattle.vax_driven.specs.Driven.{runs_from}
-use Rattle.vax_form.specs.Made.{Made}
+use Rattle.vax_meaning.specs.Made.{Made}
 use Rattle.vax_run.specs.Values.{threads_of}
 use Rattle.vax_run.specs.World.{IsLeft}
 use Rattle.vax_run.proofs.Runs.{with_runs}

@@ -1,0 +1,61 @@
+//! How many rows of a table there are and how many agree, for the programs that go through tables.
+#![tactic(auto)]
+
+ghost use Rattle.std.specs.Prelude.{◌≡◌, ◌+◌, min, if◌then◌else◌};
+
+use anyhow::Result;
+use std::fmt::Debug;
+
+/// How many rows there were, and how many agree; neither counts on beyond the greatest number.
+#[derive(Clone, Copy, Debug, PartialEq, Eq)]
+pub struct Tally {
+    pub rows: u32,
+    pub agree: u32,
+}
+
+impl Tally {
+    pub const NONE: Tally = Tally { rows: 0, agree: 0 };
+
+    /// Counts a row.
+    pub fn count(&mut self, agrees: bool)
+        ensures rows { self.new.rows ≡ min (self.old.rows + 1) u32.MAX }
+        ensures agree { self.new.agree ≡ (if agrees then min (self.old.agree + 1) u32.MAX else self.old.agree) }
+    {
+        self.rows = self.rows.saturating_add(1);
+        if agrees {
+            self.agree = self.agree.saturating_add(1);
+        }
+    }
+
+    /// Adds the rows of another table.
+    pub fn add(&mut self, other: Tally)
+        ensures rows { self.new.rows ≡ min (self.old.rows + other.rows) u32.MAX }
+        ensures agree { self.new.agree ≡ min (self.old.agree + other.agree) u32.MAX }
+    {
+        self.rows = self.rows.saturating_add(other.rows);
+        self.agree = self.agree.saturating_add(other.agree);
+    }
+
+    /// Counts a row, and prints what was found where it is not what is wanted.
+    pub fn check<T: PartialEq + Debug>(
+        &mut self,
+        rt: &impl Print,
+        row: &str,
+        found: &T,
+        wanted: &T,
+    ) -> Result<()>
+        ensures { self.new.rows ≡ min (self.old.rows + 1) u32.MAX }
+    {
+        let agrees = found == wanted;
+        self.count(agrees);
+        if !agrees {
+            println!(rt; "{row}: {found:?}, not {wanted:?}")?;
+        }
+        Ok(())
+    }
+
+    pub fn print(self, rt: &impl Print, table: &str) -> Result<()> {
+        println!(rt; "{table}: {} of {} agree", self.agree, self.rows)?;
+        Ok(())
+    }
+}
