@@ -87,7 +87,6 @@ fn image_answer(alloc: Global, image: &Image, bytes: &[u8], question: &str) -> R
         "state" => state_text(alloc, image)?,
         "byte" => byte_text(alloc, image.byte(number(argument)?))?,
         "code" => byte_text(alloc, image.pages.code_byte(number(argument)?))?,
-        "readable" => yes_or_no(alloc, image.pages.allowed(number(argument)?, false))?,
         "writable" => yes_or_no(alloc, image.pages.allowed(number(argument)?, true))?,
         "code-bytes" => format!(in alloc; "{:X}", image.pages.code.len())?,
         "written" => {

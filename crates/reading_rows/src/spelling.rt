@@ -2,7 +2,7 @@
 use std::fmt;
 use vax_form::{Base, Operand};
 
-/// An operand as an assembler writes it, with hexadecimal numbers: `#5`, `R3`, `@-8(R1)[R2]` and so on.
+/// An operand as an assembler writes it, with hexadecimal numbers: `#5`, `R3`, `@8(R1)[R2]` and so on.
 #[derive(Clone, Copy)]
 pub struct Spelling(pub Operand);
 
