@@ -44,7 +44,8 @@ impl Tally {
         found: &T,
         wanted: &T,
     ) -> Result<()>
-        ensures { self.new.rows ≡ min (self.old.rows + 1) u32.MAX }
+        ensures rows { self.new.rows ≡ min (self.old.rows + 1) u32.MAX }
+        ensures agree { self.new.agree ≡ (if T.eq found.now wanted.now then min (self.old.agree + 1) u32.MAX else self.old.agree) }
     {
         let agrees = found == wanted;
         self.count(agrees);
