@@ -10,7 +10,7 @@ use Rattle.vax_form.specs.declared.instr.Instr.{Instr}
 use Rattle.vax_meaning.specs.declared.evaluation.Evaluated.{Evaluated}
 use Rattle.vax_meaning.specs.Evaluation.{value_of_place, location_of_place}
 use Rattle.vax_meaning.specs.Codes.{carry_of, sign_of}
-use Rattle.vax_meaning.specs.Moves.{give, move_value, clear, move_address, move_complemented, move_zero_extended, push, push_value, compare, test, bit_test, move_psl, change_psw}
+use Rattle.vax_meaning.specs.Moves.{give, move_value, clear, move_address, move_complemented, move_zero_extended, push, push_value, compare, test_value, bit_test, move_psl, change_psw}
 use Rattle.vt_words.specs.Shifts.{complement_of}
 use Rattle.image_meaning.proofs.Keeping.{Keeps, Any, keep_bind, keep_then, keep_choice, keep_get, keep_change, keep_check, keep_fail}
 use Rattle.image_meaning.proofs.States.{low_longword, with_codes_is, with_psw_is}
@@ -60,8 +60,8 @@ unfolding compare
 keep_compare instr width values fits =
     keep_then (keep_comparison width (value_of_place values 0 (size_of width)) (value_of_place values 1 (size_of width))) (keep_go_to instr.after fits.after)
 
-pub keep_test : (instr : Instr) (width : Width) (values : List Evaluated) → FitsInstr instr → Keeps Any (test instr width values)
-unfolding test
+pub keep_test : (instr : Instr) (width : Width) (values : List Evaluated) → FitsInstr instr → Keeps Any (test_value instr width values)
+unfolding test_value
 keep_test instr width values fits =
     let value = value_of_place values 0 (size_of width) in
     keep_then (keep_codes (sign_of (size_of width) value) (value == 0) false false) (keep_go_to instr.after fits.after)

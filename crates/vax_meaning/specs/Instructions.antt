@@ -16,7 +16,7 @@ use Rattle.vax_form.specs.declared.state.VaxState.{VaxState}
 use Rattle.vax_meaning.specs.declared.evaluation.Evaluated.{Evaluated}
 use Rattle.vax_meaning.specs.Evaluation.{evaluated_row, operands_from, nothings}
 use Rattle.vax_meaning.specs.Codes.{go_to}
-use Rattle.vax_meaning.specs.Moves.{move_value, clear, move_address, push_value, move_zero_extended, move_complemented, move_psl, change_psw, compare, test, bit_test}
+use Rattle.vax_meaning.specs.Moves.{move_value, clear, move_address, push_value, move_zero_extended, move_complemented, move_psl, change_psw, compare, test_value, bit_test}
 use Rattle.vax_meaning.specs.Arithmetic.{move_negated, convert, two_operands, three_operands, increment, decrement, add_with_carry, subtract_with_carry, add_aligned_word, extended_multiply, arithmetic_shift, rotate}
 use Rattle.vax_meaning.specs.Fields.{extract_field, insert_field, branch_on_bit}
 use Rattle.vax_meaning.specs.Branches.{branch, branch_if, branch_on_low_bit, add_one_branch, subtract_one_branch, add_compare_branch, branch_to_subroutine, jump, jump_to_subroutine, return_from_subroutine, case_of}
@@ -41,7 +41,7 @@ body MovePsl instr thread values = move_psl instr values
 body BitSetPsw instr thread values = change_psw instr true values
 body BitClearPsw instr thread values = change_psw instr false values
 body (Compare width) instr thread values = compare instr width values
-body (Test width) instr thread values = test instr width values
+body (Test width) instr thread values = test_value instr width values
 body (BitTest width) instr thread values = bit_test instr width values
 body (TwoOperands operation width) instr thread values = two_operands instr operation width values
 body (ThreeOperands operation width) instr thread values = three_operands instr operation width values

@@ -81,8 +81,8 @@ compare instr width values = do
   go_to instr.after
 
 -- TST: V and C are 0
-unfoldable pub test : Instr → Width → List Evaluated → Script End
-test instr width values = do
+unfoldable pub test_value : Instr → Width → List Evaluated → Script End
+test_value instr width values = do
   let value = value_of_place values 0 (size_of width)
   change (with_codes (sign_of (size_of width) value) (value == 0) false false)
   go_to instr.after

@@ -2,7 +2,7 @@ ghost use Rattle.std.specs.Prelude.{◌≡◌, ◌<◌, ◌*◌, ◌^◌};
 ghost use Rattle.vax_form.specs.Size.{bytes_of, size_of};
 ghost use Rattle.vax_form.specs.Script.{changed};
 ghost use Rattle.vax_meaning.specs.Play.{Plays, Uses, view};
-ghost use Rattle.vax_meaning.specs.Moves.{give, move_value, clear, move_address, move_complemented, move_zero_extended, push, push_value, with_comparison, compare, test, bit_test, psl_of, move_psl, change_psw};
+ghost use Rattle.vax_meaning.specs.Moves.{give, move_value, clear, move_address, move_complemented, move_zero_extended, push, push_value, with_comparison, compare, test_value, bit_test, psl_of, move_psl, change_psw};
 
 use crate::codes::{carry, gone_to, set_by_result, set_codes, sign};
 use crate::cursor::Cursor;
@@ -161,14 +161,14 @@ pub fn compared(
 }
 
 /// TST.
-#[tactic(auto, unfolding(crate::specs::Moves::test))]
+#[tactic(auto, unfolding(crate::specs::Moves::test_value))]
 pub fn tested(
     cursor: &mut Cursor,
     instr: &Instr,
     width: Width,
     values: &[Evaluated; 6],
 ) -> Result<End, Stop>
-    ensures plays { Plays (test instr.now width values.now) cursor.old result cursor.new }
+    ensures plays { Plays (test_value instr.now width values.now) cursor.old result cursor.new }
     ensures few { Uses 0 cursor.old result cursor.new }
 {
     let value = value_at(values, 0, width.size());
