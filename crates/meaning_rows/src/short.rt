@@ -4,6 +4,7 @@ use std::alloc::{AllocError, Global};
 use std::test::Fail;
 use vax_form::{
     Base, Exception, Instr, Operand, Outcome, PageRange, Pages, RefKind, Reference, VaxState,
+    is_long,
 };
 use vax_meaning::next;
 
@@ -243,6 +244,20 @@ fn made(memory: &mut Section, reference: Reference) -> Result<u64, Fail> {
     Ok(u64::from_le_bytes(bytes))
 }
 
+/// What an instruction comes to with these replies.
+fn outcome_of(
+    state: &VaxState,
+    instr: &Instr,
+    pages: &Pages,
+    thread: u8,
+    replies: &[u64],
+) -> Result<Outcome, Fail> {
+    if is_long(instr.opcode) {
+        return Err("a long instruction".into());
+    }
+    Ok(next(state, instr, pages, thread, replies))
+}
+
 #[test]
 fn programs_by_hand(rt: HostRuntime) -> Result<(), Fail> {
     let pages = pages(rt.alloc())?;
@@ -256,12 +271,12 @@ fn programs_by_hand(rt: HostRuntime) -> Result<(), Fail> {
                 return Err("an instruction behind the end".into());
             };
             let mut replies = Vec::new(rt.alloc());
-            outcome = next(&state, instr, &pages, 0, &replies);
+            outcome = outcome_of(&state, instr, &pages, 0, &replies)?;
             for _ in 0..28 {
                 if let Outcome::Wants(reference) = outcome {
                     references = references.saturating_add(1);
                     replies.push(made(&mut memory, reference)?)?;
-                    outcome = next(&state, instr, &pages, 0, &replies);
+                    outcome = outcome_of(&state, instr, &pages, 0, &replies)?;
                 }
             }
         }
@@ -299,7 +314,7 @@ fn services(rt: HostRuntime) -> Result<(), Fail> {
             None => Outcome::Done(row.behind),
         };
         assert_eq!(rt;
-            next(&row.before, &instr, &pages, 7, replies),
+            outcome_of(&row.before, &instr, &pages, 7, replies)?,
             wanted,
             "{code}"
         );

@@ -1,4 +1,5 @@
-ghost use Rattle.std.specs.Prelude.{◌≡◌};
+ghost use Rattle.std.specs.Prelude.{◌≡◌, false};
+ghost use Rattle.vax_form.specs.Row.{is_long_at};
 ghost use Rattle.vax_form.specs.Script.{Moment, run};
 ghost use Rattle.vax_form.specs.Tree.{run_outcome};
 ghost use Rattle.vax_meaning.specs.Play.{Within};
@@ -30,9 +31,10 @@ fn played(state: &VaxState, instr: &Instr, pages: &Pages, thread: u8, replies: &
     }
 }
 
-/// What an instruction that is not long comes to with the replies to its references so far. Replies that are not
-/// wanted are ignored.
+/// What an instruction that is not long (`vax_form::is_long`) comes to with the replies to its references so far. Replies
+/// that are not wanted are ignored.
 pub fn next(state: &VaxState, instr: &Instr, pages: &Pages, thread: u8, replies: &[u64]) -> Outcome
+    requires short { is_long_at instr.now.opcode ≡ false }
     ensures value { result ≡ next_of state.now instr.now pages.now thread replies.now }
     ensures few { Within 28 replies.now result }
 {
