@@ -145,6 +145,7 @@ bc220000 StqC R1,0(R2)
 482200c3 Extbl R1,R2,R3
 40211001 Addl R1,#8,R1
 c3ffffff Br R31,-1 words
+ffffffff Bgt R31,-1 words
 00000082 Pal 82
 28220000 Ldbu R1,0(R2)
 30220000 Ldwu R1,0(R2)

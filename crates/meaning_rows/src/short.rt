@@ -14,10 +14,15 @@ use vax_meaning::next;
 /// instruction ends (done, exit, trap, or bad where it writes what it may not) with the PC and the PSW that are shown,
 /// the type of the trap or the bad address (a), the registers (R) and the bytes (B) that changed, and the number of
 /// references (n). All numbers are hexadecimal.
-static ROWS: [&str; 15] = [
+static ROWS: [&str; 23] = [
     // A byte, and none beside it.
     "b:1000:A0A1A2A3A4A5A6A7 i:9A:204 v:EE r:0 i:D0:20B v:1000 r:1 i:90:20E r:0 d:1 i:BC:210 v:1 exit:210:8 R:0:EE R:1:1000 B:1000:EE n:1",
+    "b:1000:A0A1A2A3A4A5A6A7 i:9A:204 v:EE r:0 i:D0:20B v:1001 r:1 i:90:20E r:0 d:1 i:BC:210 v:1 exit:210:8 R:0:EE R:1:1001 B:1001:EE n:1",
+    "b:1000:A0A1A2A3A4A5A6A7 i:9A:204 v:EE r:0 i:D0:20B v:1002 r:1 i:90:20E r:0 d:1 i:BC:210 v:1 exit:210:8 R:0:EE R:1:1002 B:1002:EE n:1",
     "b:1000:A0A1A2A3A4A5A6A7 i:9A:204 v:EE r:0 i:D0:20B v:1003 r:1 i:90:20E r:0 d:1 i:BC:210 v:1 exit:210:8 R:0:EE R:1:1003 B:1003:EE n:1",
+    "b:1000:A0A1A2A3A4A5A6A7 i:9A:204 v:EE r:0 i:D0:20B v:1004 r:1 i:90:20E r:0 d:1 i:BC:210 v:1 exit:210:8 R:0:EE R:1:1004 B:1004:EE n:1",
+    "b:1000:A0A1A2A3A4A5A6A7 i:9A:204 v:EE r:0 i:D0:20B v:1005 r:1 i:90:20E r:0 d:1 i:BC:210 v:1 exit:210:8 R:0:EE R:1:1005 B:1005:EE n:1",
+    "b:1000:A0A1A2A3A4A5A6A7 i:9A:204 v:EE r:0 i:D0:20B v:1006 r:1 i:90:20E r:0 d:1 i:BC:210 v:1 exit:210:8 R:0:EE R:1:1006 B:1006:EE n:1",
     "b:1000:A0A1A2A3A4A5A6A7 i:9A:204 v:EE r:0 i:D0:20B v:1007 r:1 i:90:20E r:0 d:1 i:BC:210 v:1 exit:210:8 R:0:EE R:1:1007 B:1007:EE n:1",
     // A word in two quadwords, and one whose second byte may not be written.
     "i:3C:205 v:EEDD r:0 i:D0:20C v:1007 r:1 i:B0:20F r:0 d:1 i:BC:211 v:1 exit:211:8 R:0:EEDD R:1:1007 B:1007:DDEE n:2",
@@ -32,8 +37,11 @@ static ROWS: [&str; 15] = [
     // The first and the last word of a table, and selectors above and below it.
     "i:D0:203 v:1 r:0 i:CF:207 r:0 v:1 v:2 i:D0:215 v:A r:0 i:BC:217 v:1 exit:217:1 R:0:A n:0",
     "i:D0:203 v:3 r:0 i:CF:207 r:0 v:1 v:2 done:21C:4 R:0:3 n:0",
+    "i:D0:203 v:3 r:0 i:CF:207 r:0 v:1 v:2 i:D0:21F v:C r:0 i:BC:221 v:1 exit:221:0 R:0:C n:0",
     "i:D0:203 v:4 r:0 i:CF:207 r:0 v:1 v:2 done:20D:0 R:0:4 n:0",
+    "i:D0:203 v:4 r:0 i:CF:207 r:0 v:1 v:2 i:D0:210 v:9 r:0 i:BC:212 v:1 exit:212:0 R:0:9 n:0",
     "i:D0:203 v:0 r:0 i:CF:207 r:0 v:1 v:2 done:20D:8 n:0",
+    "i:D0:203 v:0 r:0 i:CF:207 r:0 v:1 v:2 i:D0:210 v:9 r:0 i:BC:212 v:1 exit:212:0 R:0:9 n:0",
     // A byte of the code, and a word whose second byte stands behind all pages.
     "i:90:207 v:0 f:200 bad:200:0 a:200 n:0",
     "i:B0:207 r:0 f:7FFFFFFF bad:200:0 a:80000000 n:0",
