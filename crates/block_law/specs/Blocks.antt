@@ -26,6 +26,7 @@ Exit = ℕ × ℕ
 abbrev pub exit_words : ℕ
 exit_words = 3
 
+-- the word is one of the three of the exit
 abbrev pub has_word : (word : ℕ) → Exit → Bool
 has_word word exit = nat_le exit.0 word && nat_lt word (exit.0 + exit_words)
 
@@ -87,6 +88,7 @@ abbrev pub RulesAt : Code → Option ℕ → Rules → Type 0
 RulesAt code (Some word) rules = (point : Point) → point_at code.points word ≡ Some point → point.rules ≡ rules
 RulesAt code None rules = rules ≡ all_ready
 
+-- the rules at each exit's address are those
 abbrev pub RulesMeet : Code → List Exit → Rules → Type 0
 RulesMeet code exits rules = (place : ℕ) (exit : Exit) → slice_get exits place ≡ Some exit → RulesAt code (word_at code.map exit.1) rules
 

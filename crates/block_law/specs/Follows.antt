@@ -23,6 +23,7 @@ pub data Call : Type 0 where
   Switch : Call
   Other : Call
 
+-- 80 checks an operand, 81 and 86 go on at an address, 82 serves, 83 raises a fault, 84 ends with a trap
 abbrev pub call_of : (number : ℕ) → Call
 call_of number =
     if number == 0x80 then Probe
@@ -37,6 +38,7 @@ call_of number =
 abbrev pub probe_count : Point → Regs → ℕ
 probe_count point regs = point.count
 
+-- where a probe begins: the low longword of R27
 abbrev pub probe_address : Regs → ℕ
 probe_address regs = regs 27 % 2 ^ 32
 

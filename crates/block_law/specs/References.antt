@@ -38,6 +38,7 @@ is_of_memory (ClearBit n) = true
 is_of_memory (Put byte) = false
 is_of_memory Get = false
 
+-- the access to the reference's quadword, and how the tree goes on for what it finds there
 abbrev pub wanted_by : Bool → Reference → (ℕ → Tree) → Wants Tree
 wanted_by true r on =
     Wanted (r.address / 8 * 8) (left_by r.kind (r.address % 8) r.count)

@@ -28,6 +28,7 @@ register_written (Operate op ra rb rc) = rc
 register_written (Jump ra rb) = ra
 register_written (Pal number) = if number == 0x82 then 0 else 31
 
+-- the instruction makes an access, of some kind
 abbrev pub is_access : Option AlphaKind → Bool
 is_access None = false
 is_access (Some kind) = true

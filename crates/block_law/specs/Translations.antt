@@ -40,6 +40,7 @@ pub record Code : Type 0 where
 abbrev pub fetch_of : List ℕ → Fetch
 fetch_of words pc = if nat_lt pc (length words) then instr_at (slice_index words pc) else None
 
+-- the first word of the next block, or the end where there is none
 abbrev pub next_first : Option Pair → (length : ℕ) → ℕ
 next_first None length = length
 next_first (Some pair) length = pair.1

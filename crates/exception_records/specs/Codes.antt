@@ -12,6 +12,7 @@ use Rattle.exception_records.specs.declared.rules.CodeRule.{CodeRule}
 use Rattle.exception_records.specs.declared.rules.CodeRule.TheVariants.{Ready, Zero, Result, Add, Sub, Compare}
 use Rattle.exception_records.specs.declared.rules.Rules.{Rules}
 
+-- the four condition codes
 abbrev pub flags : (n z v c : Bool) → Flags
 flags n z v c = record { n = n; z = z; v = v; c = c }
 
@@ -19,6 +20,7 @@ flags n z v c = record { n = n; z = z; v = v; c = c }
 abbrev pub low : Size → (value : ℕ) → ℕ
 low size value = value % 2 ^ (8 * bytes_of size)
 
+-- the condition codes of a result
 abbrev pub codes_of : Coded → Flags
 codes_of coded = flags coded.n coded.z coded.v coded.c
 
@@ -57,5 +59,6 @@ is_ready (Add size) = false
 is_ready (Sub size) = false
 is_ready (Compare size) = false
 
+-- each code is in its register
 abbrev pub all_ready : Rules
 all_ready = record { n = Ready; z = Ready; v = Ready; c = Ready }

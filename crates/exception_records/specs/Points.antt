@@ -41,5 +41,6 @@ pub record IsFirstFall (points : List Entry) (place : ℕ) (p q : Entry) : Type 
 abbrev pub HasFlaw : List Entry → PointRefusal → Type 0
 HasFlaw points (OutOfOrder place) = (p : Entry) × (q : Entry) × IsFirstFall points place p q
 
+-- the number of a refusal
 abbrev pub number_of : PointRefusal → ℕ
 number_of (OutOfOrder place) = 1

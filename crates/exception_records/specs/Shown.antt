@@ -40,9 +40,11 @@ codes_shown regs rules held = record {
 abbrev pub psw_with : (upper : ℕ) → Flags → ℕ
 psw_with upper codes = upper / 16 % 16 * 16 + (bit codes.n * 8 + bit codes.z * 4 + bit codes.v * 2 + bit codes.c)
 
+-- the processor status word: bits 7:4 by R20, and the codes
 abbrev pub psw_shown : Regs → Rules → (held : Flags) → ℕ
 psw_shown regs rules held = psw_with (regs 20) (codes_shown regs rules held)
 
+-- the state: R0 to R14 by their low longwords, the PC, and the processor status word
 abbrev pub shown : Regs → (vax_pc : ℕ) → Rules → (held : Flags) → VaxState
 shown regs vax_pc rules held = record { r = registers_shown regs; pc = vax_pc; psw = psw_shown regs rules held }
 

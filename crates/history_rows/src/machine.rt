@@ -5,11 +5,11 @@ ghost use Rattle.memory_core.specs.Kinds.{writes};
 ghost use Rattle.memory_core.specs.Changes.{is_change_of};
 ghost use Rattle.image_file.specs.Whole.{IsWhole};
 
-use history_order::order_of;
 use image_file::Image;
-use memory_core::{Change, Kind, MemState, Reply, Request};
+use memory_core::{Change, Entry, Kind, MemState, Reply, Request};
 use std::alloc::Global;
 use std::io::{self, ErrorKind};
+use system_model::order_of;
 use vax_form::Pick;
 
 /// The most entries of a history.
@@ -105,6 +105,11 @@ impl Machine {
             self.memory.access(&request),
             Reply::Made { success: true, .. }
         )
+    }
+
+    /// The accesses so far.
+    pub fn history(&self) -> &[Entry] {
+        self.memory.history()
     }
 
     /// The order of references that the history keeps.

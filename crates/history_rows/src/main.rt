@@ -2,9 +2,11 @@
 //! what it finds of each row, and `stdout` has the rows' answers, written by hand.
 //!
 //! Numbers in code and addresses are hexadecimal. A pick is printed as its thread and, behind a colon, how many
-//! instructions that thread has retired.
+//! instructions that thread has retired. A small history is checked entry by entry against the threads driven by its
+//! order: it matches where each counted entry is the access of its reference.
 #![tactic(auto)]
 
+mod histories;
 mod images;
 mod machine;
 mod orders;
@@ -23,5 +25,7 @@ fn main(rt: HostRuntime) -> io::Result<()> {
     orders::increments(&rt, alloc)?;
     orders::longword_in_one(&rt, alloc)?;
     orders::longword_by_accesses(&rt, alloc)?;
+    orders::increments_by_accesses(&rt, alloc)?;
+    orders::other_accesses(&rt, alloc)?;
     Ok(())
 }

@@ -1,8 +1,10 @@
 // Rows of two threads for every list of picks.
+ghost use Rattle.std.specs.Prelude.{◌<◌};
 ghost use Rattle.image_file.specs.Whole.{IsWhole};
 
+use crate::histories::print_history;
 use crate::images::image_of;
-use crate::machine::{Machine, Quadword};
+use crate::machine::{Machine, Quadword, with_byte};
 use crate::runs::{Bytes, print_by_order};
 use image_file::Image;
 use std::alloc::{AllocError, Global};
@@ -36,19 +38,21 @@ fn print_list(
     print_by_order(rt, alloc, image, &order, &COUNTS, bytes)
 }
 
+// The byte at 1000.
+const BYTE: Bytes = Bytes {
+    address: 0x1000,
+    count: 1,
+};
+
 // INCB @#1000; EXIT
 const INCREMENT: [u8; 8] = [0x96, 0x9F, 0x00, 0x10, 0x00, 0x00, 0xBC, 0x01];
 
 /// Two threads increment one byte: each reads and writes it. For every list of four picks, what is left in the byte.
 pub fn increments(rt: &impl Print, alloc: Global) -> io::Result<()> {
-    let byte = Bytes {
-        address: 0x1000,
-        count: 1,
-    };
     let image = image_of(alloc, &[0x200, 0x200], &INCREMENT, &[])?;
     for threads in 0..16 {
         print!(rt; "increments: ")?;
-        print_list(rt, alloc, &image, threads, 4, byte)?;
+        print_list(rt, alloc, &image, threads, 4, BYTE)?;
     }
     Ok(())
 }
@@ -100,9 +104,8 @@ fn print_accesses(rt: &impl Print, alloc: Global, image: &Image, place: u8) -> i
 {
     let mut machine = Machine::new(alloc, image, 0)?;
     let loaded = load_at(&mut machine, place) >> 16 & 0xFFFF_FFFF;
-    let order = machine.order(alloc)?;
     print!(rt; "longword by accesses: loaded {loaded:08X} ")?;
-    print_by_order(rt, alloc, image, &order, &COUNTS, AROUND)
+    print_history(rt, alloc, image, machine.history(), &COUNTS, AROUND)
 }
 
 /// The same by accesses, with the load before, between and behind those of the write: what is loaded, the order that is
@@ -113,4 +116,101 @@ pub fn longword_by_accesses(rt: &impl Print, alloc: Global) -> io::Result<()> {
         print_accesses(rt, alloc, &image, place)?;
     }
     Ok(())
+}
+
+// What a processor that increments the byte loaded, and whether it has stored the next.
+#[derive(Clone, Copy)]
+struct Incrementer {
+    processor: u8,
+    loaded: Option<u64>,
+    stored: bool,
+    ghost known: { processor < 2 },
+}
+
+impl Incrementer {
+    fn new(processor: u8) -> Incrementer
+        requires { processor < 2 }
+    {
+        Incrementer {
+            processor,
+            loaded: None,
+            stored: false,
+        }
+    }
+
+    // Its next reference: it loads the quadword, and then it stores the byte, so much more, by a load-locked access and a
+    // store conditional. False where it has done both.
+    fn turn(&mut self, machine: &mut Machine, more: u8) -> bool {
+        let Some(loaded) = self.loaded else {
+            self.loaded = machine.load(self.processor, 0, Quadword::First);
+            return true;
+        };
+        if self.stored {
+            return false;
+        }
+        self.stored = true;
+        let byte = loaded.to_le_bytes()[0].wrapping_add(more);
+        let found = machine
+            .lock(self.processor, 0, Quadword::First)
+            .unwrap_or(0);
+        machine.store(
+            self.processor,
+            0,
+            Quadword::First,
+            with_byte(found, 0, byte),
+        )
+    }
+}
+
+// Two processors that increment the byte by so much, in the order of the bits of `threads`; false where one would make
+// more than its two references.
+fn increment_in(machine: &mut Machine, threads: u32, more: u8) -> bool {
+    let mut first = Incrementer::new(0);
+    let mut second = Incrementer::new(1);
+    for place in 0u32..4 {
+        let goes_on = if threads >> place & 1 == 1 {
+            second.turn(machine, more)
+        } else {
+            first.turn(machine, more)
+        };
+        if !goes_on {
+            return false;
+        }
+    }
+    true
+}
+
+/// The increments by accesses, for every list of four picks by which each processor makes its two references: the
+/// history matches the threads driven by its order.
+pub fn increments_by_accesses(rt: &impl Print, alloc: Global) -> io::Result<()> {
+    let image = image_of(alloc, &[0x200, 0x200], &INCREMENT, &[])?;
+    for threads in 0..16 {
+        let mut machine = Machine::new(alloc, &image, 0)?;
+        if increment_in(&mut machine, threads, 1) {
+            print!(rt; "increments by accesses: ")?;
+            print_history(rt, alloc, &image, machine.history(), &COUNTS, BYTE)?;
+        }
+    }
+    Ok(())
+}
+
+// Each processor adds 1 to the byte by one load-locked access and one store conditional, and loads nothing before.
+fn increment_at_once(machine: &mut Machine) {
+    for processor in 0..2 {
+        let found = machine.lock(processor, 0, Quadword::First).unwrap_or(0);
+        machine.store(processor, 0, Quadword::First, found.wrapping_add(1));
+    }
+}
+
+/// Histories of other accesses than the threads make: they add 2 to the byte, or increment it in one access each.
+pub fn other_accesses(rt: &impl Print, alloc: Global) -> io::Result<()> {
+    let image = image_of(alloc, &[0x200, 0x200], &INCREMENT, &[])?;
+    let mut machine = Machine::new(alloc, &image, 0)?;
+    increment_in(&mut machine, 0b1100, 2);
+    print!(rt; "increments by two: ")?;
+    print_history(rt, alloc, &image, machine.history(), &COUNTS, BYTE)?;
+    let mut machine = Machine::new(alloc, &image, 0)?;
+    increment_at_once(&mut machine);
+    print!(rt; "increments in one access: ")?;
+    print_history(rt, alloc, &image, machine.history(), &COUNTS, BYTE)
 }

@@ -7,8 +7,8 @@ use std::io::{self, ErrorKind};
 use vax_form::{Exception, Pick};
 use vax_run::{DrivenRun, ThreadRun, driven};
 
-// Drives the threads of an image by an order, without input, and shows each after that many instructions.
-fn run_by(
+/// Drives the threads of an image by an order, without input, and shows each after that many instructions.
+pub fn run_by(
     alloc: Global,
     image: &Image,
     order: &[Pick],
@@ -32,7 +32,8 @@ fn print_order(rt: &impl Print, order: &[Pick]) -> io::Result<()> {
     Ok(())
 }
 
-fn byte_at(run: &DrivenRun, address: u32) -> Option<u8> {
+/// The byte at an address, where the image has it.
+pub fn byte_at(run: &DrivenRun, address: u32) -> Option<u8> {
     for (place, byte) in &run.memory {
         if *place == address {
             return Some(*byte);

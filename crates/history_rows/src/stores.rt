@@ -2,6 +2,7 @@
 ghost use Rattle.std.specs.Prelude.{◌<◌};
 ghost use Rattle.image_file.specs.Whole.{IsWhole};
 
+use crate::histories::print_history;
 use crate::images::image_of;
 use crate::machine::{Machine, Quadword, with_byte};
 use crate::runs::{Bytes, print_by_order, print_driven};
@@ -29,15 +30,15 @@ fn store_byte(machine: &mut Machine, retired: u64, place: u8, byte: u8) -> io::R
     }
 }
 
-// The order that is kept where one processor stores these bytes at their places, after two instructions.
-fn order_of_bytes(alloc: Global, image: &Image, bytes: &[(u8, u8)]) -> io::Result<Vec<Pick>>
+// One processor has stored these bytes at their places, after two instructions.
+fn machine_of_bytes(alloc: Global, image: &Image, bytes: &[(u8, u8)]) -> io::Result<Machine>
     requires { IsWhole image.now }
 {
     let mut machine = Machine::new(alloc, image, 0)?;
     for (place, byte) in bytes {
         store_byte(&mut machine, 2, *place, *byte)?;
     }
-    machine.order(alloc)
+    Ok(machine)
 }
 
 // The quadword at 1000.
@@ -52,9 +53,9 @@ fn byte_at_place(rt: &impl Print, alloc: Global, k: u8) -> io::Result<()> {
         0x9A, 0x8F, 0xEE, 0x50, 0xD0, 0x8F, k, 0x10, 0x00, 0x00, 0x51, 0x90, 0x50, 0x61, 0xBC, 0x01,
     ];
     let image = image_of(alloc, &[0x200], &code, &STORED)?;
-    let order = order_of_bytes(alloc, &image, &[(k, 0xEE)])?;
+    let machine = machine_of_bytes(alloc, &image, &[(k, 0xEE)])?;
     print!(rt; "byte at 100{k}: ")?;
-    print_by_order(rt, alloc, &image, &order, &[4], QUADWORD)
+    print_history(rt, alloc, &image, machine.history(), &[4], QUADWORD)
 }
 
 /// A byte is stored at each place of a quadword: one pick, and the other seven bytes stand.
@@ -80,9 +81,9 @@ pub fn word_across_quadwords(rt: &impl Print, alloc: Global) -> io::Result<()> {
         count: 4,
     };
     let image = image_of(alloc, &[0x200], &word_code([0x07, 0x10]), &[])?;
-    let order = order_of_bytes(alloc, &image, &[(7, 0xDD), (8, 0xEE)])?;
+    let machine = machine_of_bytes(alloc, &image, &[(7, 0xDD), (8, 0xEE)])?;
     print!(rt; "word at 1007: ")?;
-    print_by_order(rt, alloc, &image, &order, &[4], word)
+    print_history(rt, alloc, &image, machine.history(), &[4], word)
 }
 
 /// Its second byte would be in a page that the image lacks: no pick, and a pick wants nothing.

@@ -1,2 +1,6 @@
 pub mod Requests
 pub mod Turns
+pub mod Quads
+pub mod Neighbours
+pub mod Orders
+pub mod Rows

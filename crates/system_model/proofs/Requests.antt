@@ -1,8 +1,8 @@
 -- A turn keeps its processor's thread, makes one step, and asks for that thread.
-use Rattle.std.proofs.Common.{◌≡◌, ℕ, suc, ◌%◌, ◌^◌, ◌==◌, Bool, true, false, if◌then◌else◌, List, [], ◌∷◌, Option, Some, None, refl, sym, ap, ◌∙◌, subst}
+use Rattle.std.proofs.Common.{◌≡◌, ℕ, suc, ◌%◌, ◌^◌, ◌==◌, Bool, true, false, if◌then◌else◌, List, Option, Some, None, refl}
 use Rattle.alpha_encode.specs.declared.instr.AlphaInstr.{AlphaInstr}
 use Rattle.alpha_meaning.specs.Act.{Does, Goes, Asks as AsksAccess, Calls, act}
-use Rattle.alpha_meaning.specs.State.{Alpha, Regs}
+use Rattle.alpha_meaning.specs.State.{Alpha}
 use Rattle.alpha_meaning.specs.declared.access.AlphaAccess.{AlphaAccess}
 use Rattle.block_law.specs.Follows.{Call, Probe, LookUp, Serve, Raise, Arithmetic, Switch, Other, call_of}
 use Rattle.block_law.specs.Translations.{fetch_of}
@@ -19,7 +19,7 @@ use Rattle.vax_form.specs.declared.state.Exception.{Exception}
 use Rattle.vax_form.specs.declared.state.VaxState.{VaxState}
 use Rattle.system_model.specs.Settings.{Setting}
 use Rattle.system_model.specs.Steps.{Last, Comes, Fails, Place, Inside, Lands, Leaves, Next, Moves, Wants, Stuck, Moment, state_at, behind, with_r0, is_defined, accesses, raised, served, called, does, next_by, next}
-use Rattle.system_model.specs.Processors.{Mode, New, Runs, Interprets, Ended, Processor, moment_of, stepped, tied, arrived, left, placed, Turn, Went, Asks, Over, Lost, alpha_turn, tie_turn, turn_in, mode_of, turn}
+use Rattle.system_model.specs.Processors.{Mode, New, Runs, Interprets, Ended, Processor, moment_of, stepped, tied, left, placed, Turn, Went, Asks, Over, Lost, alpha_turn, tie_turn, turn_in, mode_of, turn}
 
 -- the request of a step is its thread's
 abbrev IsOfThread : ℕ → Next → Type 0

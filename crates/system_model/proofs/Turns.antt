@@ -1,5 +1,5 @@
 -- What keeps a history legal.
-use Rattle.std.proofs.Common.{◌≡◌, ◌≢◌, ℕ, zero, suc, ◌+◌, ◌<◌, ◌≤◌, ◌==◌, Bool, true, false, if◌then◌else◌, List, [], ◌∷◌, length, Option, Some, None, refl, sym, ap, ◌∙◌, subst, arith, ◌⊎◌, inl, inr, ⊎_elim}
+use Rattle.std.proofs.Common.{◌≡◌, ◌≢◌, ℕ, zero, suc, ◌+◌, ◌<◌, ◌==◌, Bool, true, false, if◌then◌else◌, List, [], ◌∷◌, length, Some, refl, sym, ap, ◌∙◌, subst, arith, ◌⊎◌, inl, inr, ⊎_elim}
 use Rattle.std.specs.Prelude.{option_map, slice_get, slice_set}
 use Rattle.std.specs.List.{AllByRecursion}
 use Rattle.std.proofs.lemmas.Bool.Decides.{nat_tests}
@@ -10,9 +10,8 @@ use Rattle.memory_core.specs.declared.entry.Request.{Request}
 use Rattle.memory_core.specs.declared.entry.SetUp.{SetUp}
 use Rattle.memory_core.specs.Order.{own, Meets}
 use Rattle.vax_form.specs.declared.state.VaxState.{VaxState}
-use Rattle.system_model.specs.declared.translation.End.TheVariants.{Spent}
 use Rattle.system_model.specs.Settings.{Setting}
-use Rattle.system_model.specs.Processors.{Mode, New, Runs, Interprets, Ended, Processor, Turn, Went, Asks, begun, turn, entry_by, Reaches, Begins, Steps, Takes}
+use Rattle.system_model.specs.Processors.{Processor, Went, Asks, begun, turn, entry_by, Reaches, Begins, Steps, Takes}
 use Rattle.system_model.specs.Legal.{starts, spent, IsGoing, IsAsking, IsSpent, IsReached, IsLegal}
 use Rattle.system_model.specs.Laws.{begun_from, BeginningsAreLegal, StepsStayLegal, AccessesStayLegal, EndsStayLegal}
 use Rattle.system_model.proofs.Requests.{IsStep, Makes, makes}

@@ -1,15 +1,23 @@
--- What keeps a history legal. Lists of entries are newest first.
-use Rattle.std.specs.Prelude.{◌≡◌, ◌<◌, ◌+◌, ◌⊎◌, ℕ, Bool, List, [], ◌∷◌, Some, length, slice_get, slice_set}
+-- What keeps a history legal, and references beside their quadwords. Lists of entries are newest first.
+use Rattle.std.specs.Prelude.{◌≡◌, ◌≢◌, ◌<◌, ◌+◌, ◌%◌, ◌⊎◌, ℕ, Bool, true, List, [], ◌∷◌, Some, length, reverse, slice_get, slice_set}
 use Rattle.image_file.specs.Start.{start_state}
 use Rattle.image_file.specs.declared.image.Start.{Start}
 use Rattle.memory_core.specs.declared.entry.Entry.{Entry}
 use Rattle.memory_core.specs.declared.entry.Request.{Request}
 use Rattle.memory_core.specs.declared.entry.SetUp.{SetUp}
+use Rattle.memory_core.specs.Changes as quadwords
 use Rattle.memory_core.specs.Order.{Meets}
+use Rattle.vax_form.specs.declared.state.Reference.{Reference}
+use Rattle.vax_form.specs.References.{reply_of, changed, AreBytes, FitsQuadword}
+use Rattle.block_law.specs.References.{is_of_memory}
+use Rattle.system_model.specs.Counted.{order}
+use Rattle.system_model.specs.Matches.{KeepsOthers}
+use Rattle.system_model.specs.Quadwords.{quad_at, quad_address, change_of, reply_found, IsOf}
 use Rattle.system_model.specs.Settings.{Setting}
 use Rattle.system_model.specs.Processors.{Processor, Went, Asks, begun, turn, entry_by}
 use Rattle.system_model.specs.Legal.{spent, IsGoing, IsAsking, IsLegal}
 
+-- ---- legal histories
 -- processors before their first turn, from that thread on
 abbrev pub begun_from : (thread : ℕ) → List Start → List Processor
 begun_from thread [] = []
@@ -40,3 +48,27 @@ EndsStayLegal = (setting : Setting) (set_up : SetUp) (budget : ℕ) (entries : L
     → IsLegal setting set_up budget entries processors → slice_get processors thread ≡ Some p → IsGoing p.mode
     → (p.steps ≡ budget) ⊎ (IsAsking (turn setting p) × (length entries ≡ set_up.limit))
     → IsLegal setting set_up budget entries (slice_set processors thread (spent p))
+
+-- ---- references and their quadwords
+-- a reference's bytes and its quadword are changed alike
+abbrev pub QuadwordChanges : Type 0
+QuadwordChanges = (reference : Reference) (byte : ℕ → ℕ) → FitsQuadword reference → AreBytes byte → is_of_memory reference.kind ≡ true
+    → quad_at (changed reference byte) (quad_address reference) ≡ quadwords.changed (change_of reference) (quad_at byte (quad_address reference))
+
+-- and no other quadword changes
+abbrev pub OtherQuadwordsStay : Type 0
+OtherQuadwordsStay = (reference : Reference) (byte : ℕ → ℕ) (quad : ℕ) → FitsQuadword reference → quad % 8 ≡ 0 → quad ≢ quad_address reference
+    → quad_at (changed reference byte) quad ≡ quad_at byte quad
+
+-- the reply is that of the quadword
+abbrev pub QuadwordReplies : Type 0
+QuadwordReplies = (reference : Reference) (byte : ℕ → ℕ) (next_input : ℕ) → FitsQuadword reference → AreBytes byte → is_of_memory reference.kind ≡ true
+    → reply_of reference byte next_input ≡ reply_found reference (quad_at byte (quad_address reference))
+
+-- an access for a reference changes the reference's bytes alone
+abbrev pub NeighboursStay : Type 0
+NeighboursStay = (reference : Reference) (e : Entry) → IsOf reference e → KeepsOthers e reference
+
+-- the order of a history told the other way round
+abbrev pub OrderTurns : Type 0
+OrderTurns = (history : List Entry) → order (reverse history) ≡ reverse (order history)

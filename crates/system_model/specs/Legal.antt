@@ -19,12 +19,14 @@ starts image thread = option_map start_state (slice_get image.threads thread)
 abbrev pub spent : Processor → Processor
 spent p = record p { mode = Ended Spent }
 
+-- it has no end
 abbrev pub IsGoing : Mode → Type 0
 IsGoing New = Unit {0}
 IsGoing (Runs alpha) = Unit {0}
 IsGoing (Interprets state replies) = Unit {0}
 IsGoing (Ended end) = ⊥
 
+-- its next step asks for an access
 abbrev pub IsAsking : Turn → Type 0
 IsAsking (Asks request on) = Unit {0}
 IsAsking (Went p) = ⊥

@@ -1,7 +1,11 @@
 pub mod Ranges
 pub mod Settings
+pub mod Quadwords
 pub mod Steps
 pub mod Processors
 pub mod Legal
 pub mod Closed
+pub mod Counted
+pub mod Matches
+pub mod Interpreted
 pub mod Laws

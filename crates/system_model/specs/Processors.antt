@@ -1,17 +1,12 @@
 -- Processors: each runs one thread, by Alpha steps in translated code and by interpreted steps elsewhere.
-use Rattle.std.specs.Prelude.{◌≡◌, ℕ, zero, suc, ◌+◌, ◌-◌, ◌*◌, ◌/◌, ◌%◌, ◌^◌, ◌==◌, Bool, true, List, [], ◌∷◌, ◌++◌, Option, Some, None, nat_lt, slice_index, if◌then◌else◌}
-use Rattle.std.specs.Int.{byte_at}
+use Rattle.std.specs.Prelude.{◌≡◌, ℕ, zero, suc, ◌*◌, ◌/◌, ◌%◌, ◌==◌, Bool, true, List, [], ◌∷◌, ◌++◌, Option, Some, None, nat_lt, slice_index, if◌then◌else◌}
 use Rattle.alpha_meaning.specs.State.{Alpha, Regs, at_place}
-use Rattle.memory_core.specs.declared.entry.Change.{Change}
-use Rattle.memory_core.specs.declared.entry.Change.TheVariants as changes
 use Rattle.memory_core.specs.declared.entry.Entry.{Entry}
 use Rattle.memory_core.specs.declared.entry.Kind.{Kind}
 use Rattle.memory_core.specs.declared.entry.Kind.TheVariants as kinds
 use Rattle.memory_core.specs.declared.entry.Request.{Request}
-use Rattle.memory_core.specs.Bytes.{word_at}
 use Rattle.memory_core.specs.Changes.{leaves}
 use Rattle.memory_core.specs.Kinds.{is_memory}
-use Rattle.vt_words.specs.Quad.{field_of}
 use Rattle.vax_form.specs.State.{register}
 use Rattle.vax_form.specs.Tree.{Tree, Ending, Finish, Exit, Trap, Answer, answer}
 use Rattle.vax_form.specs.Tree as trees
@@ -24,9 +19,11 @@ use Rattle.vax_form.specs.declared.state.VaxState.{VaxState}
 use Rattle.vt_words.specs.Quad.{sign_extended}
 use Rattle.system_model.specs.declared.translation.End.{End}
 use Rattle.system_model.specs.declared.translation.End.TheVariants as ends
+use Rattle.system_model.specs.Quadwords.{quad_address, change_of, reply_found}
 use Rattle.system_model.specs.Settings.{Setting, goes_on}
 use Rattle.system_model.specs.Steps.{Last, Comes, Fails, Place, Inside, Lands, Leaves, Next, Moves, Wants, Stuck, Moment, next}
 
+-- what a processor is at
 pub data Mode : Type 0 where
   -- before its first turn
   New : Mode
@@ -47,6 +44,7 @@ pub record Processor : Type 0 where
   pub steps : ℕ
   pub ties : ℕ
 
+-- each code is held in its register
 abbrev pub all_held : Flags
 all_held = record { n = true; z = true; v = true; c = true }
 
@@ -67,12 +65,15 @@ abbrev pub mode_by : Option ℕ → VaxState → Regs → Mode
 mode_by None state regs = Interprets state []
 mode_by (Some word) state regs = Runs (at_place regs word)
 
+-- the mode at a boundary of the thread: in Alpha code where the thread goes on there, else interpreting
 abbrev pub mode_at : Setting → (thread : ℕ) → VaxState → Regs → Mode
 mode_at setting thread state regs = mode_by (goes_on setting thread state.pc) state regs
 
+-- the processor of a thread that starts so: it has retired nothing
 abbrev pub begun : (thread : ℕ) → VaxState → Processor
 begun thread start = record { thread = thread; mode = New; boundary = start; held = all_held; retired = 0; steps = 0; ties = 0 }
 
+-- what its steps of Alpha code know of it
 abbrev pub moment_of : Processor → Moment
 moment_of p = record { thread = p.thread; retired = p.retired; boundary = p.boundary; held = p.held }
 
@@ -96,6 +97,7 @@ left setting p (Comes (Exit state)) = record p { mode = Ended (ends.Exit (regist
 left setting p (Comes (Trap kind state)) = record p { mode = Ended (ends.Raised (Arithmetic kind)); boundary = state; retired = suc p.retired }
 left setting p (Fails exception) = record p { mode = Ended (ends.Raised exception) }
 
+-- it goes on inside a block, lands on a mapped word, or leaves Alpha code
 abbrev pub placed : Setting → Processor → Place → Processor
 placed setting p (Inside alpha) = record p { mode = Runs alpha }
 placed setting p (Lands state held regs) = arrived setting p state held regs
@@ -110,16 +112,14 @@ pub data Turn : Type 0 where
   -- it has no step
   Lost : Turn
 
+-- a turn in Alpha code is one step of it
 abbrev pub alpha_turn : Setting → Processor → Next → Turn
 alpha_turn setting p (Moves place) = Went (placed setting (stepped p) place)
 alpha_turn setting p (Wants request on) = Asks request (λ before success. placed setting (stepped p) (on before success))
 alpha_turn setting p Stuck = Lost
 
 -- ---- references as accesses
--- the address of the quadword that an address stands in
-abbrev pub quad_address : (address : ℕ) → ℕ
-quad_address address = address - address % 8
-
+-- the kind of access that an interpreted reference makes
 abbrev pub kind_by : RefKind → Kind
 kind_by Read = kinds.TieRead
 kind_by (Write value) = kinds.TieWrite
@@ -129,44 +129,25 @@ kind_by (ClearBit n) = kinds.TieLocked
 kind_by (Put byte) = kinds.Put
 kind_by Get = kinds.Get
 
-abbrev pub change_by : RefKind → (at count : ℕ) → Change
-change_by Read at count = changes.Nothing
-change_by (Write value) at count = changes.Bytes (2 ^ (at + count) - 2 ^ at) (value * 2 ^ (8 * at))
-change_by (Add value) at count = changes.AddWord at value
-change_by (SetBit n) at count = changes.SetBit (8 * at + n)
-change_by (ClearBit n) at count = changes.ClearBit (8 * at + n)
-change_by (Put byte) at count = changes.Byte byte
-change_by Get at count = changes.Nothing
-
+-- an interpreted reference is one access to its quadword
 abbrev pub request_of : (thread retired : ℕ) → Reference → Request
 request_of thread retired reference = record {
   processor = thread;
   retired = retired;
   kind = kind_by reference.kind;
-  quad = quad_address reference.address;
-  change = change_by reference.kind (reference.address % 8) reference.count;
+  quad = quad_address reference;
+  change = change_of reference;
 }
 
--- the reply to a reference whose access found that
-abbrev pub reply_by : RefKind → (at count before : ℕ) → ℕ
-reply_by Read at count before = field_of before at count
-reply_by (Write value) at count before = 0
-reply_by (Add value) at count before = word_at at before
-reply_by (SetBit n) at count before = byte_at at before
-reply_by (ClearBit n) at count before = byte_at at before
-reply_by (Put byte) at count before = 0
-reply_by Get at count before = before
-
-abbrev pub reply_of : Reference → (before : ℕ) → ℕ
-reply_of reference before = reply_by reference.kind (reference.address % 8) reference.count before
-
 -- ---- turns
+-- an interpreted turn: the reference that the instruction wants, or its fault, or its end
 abbrev pub tie_turn : Setting → Processor → VaxState → (replies : List ℕ) → Answer → Turn
 tie_turn setting p state replies (trees.Wants reference) =
-    Asks (request_of p.thread p.retired reference) (λ before success. record (tied p) { mode = Interprets state (replies ++ reply_of reference before ∷ []) })
+    Asks (request_of p.thread p.retired reference) (λ before success. record (tied p) { mode = Interprets state (replies ++ reply_found reference before ∷ []) })
 tie_turn setting p state replies (trees.Fails exception) = Went (left setting (tied p) (Fails exception))
 tie_turn setting p state replies (trees.Comes e rest) = Went (left setting (tied p) (Comes e))
 
+-- a turn in each mode. The instruction's tree is answered with its replies so far
 abbrev pub turn_in : Setting → Processor → Mode → Turn
 turn_in setting p New = Lost
 turn_in setting p (Runs alpha) = alpha_turn setting p (next setting (moment_of p) alpha)
@@ -178,6 +159,7 @@ abbrev pub mode_of : Setting → Processor → Mode → Mode
 mode_of setting p New = mode_at setting p.thread p.boundary (registers_of p.boundary)
 mode_of setting p mode = mode
 
+-- what the processor does in its next turn
 abbrev pub turn : Setting → Processor → Turn
 turn setting p = turn_in setting p (mode_of setting p p.mode)
 

@@ -1,6 +1,6 @@
 -- One step of Alpha code.
 -- Alpha Architecture Reference Manual, "Instruction Descriptions"; the PALcode calls are this system's own.
-use Rattle.std.specs.Prelude.{ℕ, ◌+◌, ◌-◌, ◌*◌, ◌%◌, ◌^◌, ◌==◌, ◌&&◌, Bool, true, false, Option, Some, None, if◌then◌else◌}
+use Rattle.std.specs.Prelude.{ℕ, ◌+◌, ◌%◌, ◌^◌, ◌==◌, ◌&&◌, Bool, true, false, Option, Some, None, if◌then◌else◌}
 use Rattle.vt_words.specs.Quad.{sign_extended}
 use Rattle.address_map.specs.Pairs.{address_at}
 use Rattle.alpha_encode.specs.declared.instr.AlphaInstr.{AlphaInstr}
@@ -20,7 +20,7 @@ use Rattle.exception_records.specs.Shown.{registers_shown, psw_shown, still_held
 use Rattle.exception_records.specs.declared.points.Point.{Point}
 use Rattle.exception_records.specs.declared.rules.Rules.{Rules}
 use Rattle.memory_core.specs.declared.entry.Change.{Change}
-use Rattle.memory_core.specs.declared.entry.Change.TheVariants.{Nothing, Bytes, Byte}
+use Rattle.memory_core.specs.declared.entry.Change.TheVariants.{Nothing, Byte}
 use Rattle.memory_core.specs.declared.entry.Kind.{Kind}
 use Rattle.memory_core.specs.declared.entry.Kind.TheVariants as kinds
 use Rattle.memory_core.specs.declared.entry.Request.{Request}
@@ -31,6 +31,7 @@ use Rattle.vax_form.specs.declared.state.Exception.{Exception}
 use Rattle.vax_form.specs.declared.state.Exception.TheVariants.{AccessViolation}
 use Rattle.vax_form.specs.declared.state.Flags.{Flags}
 use Rattle.vax_form.specs.declared.state.VaxState.{VaxState}
+use Rattle.system_model.specs.Quadwords.{stored}
 use Rattle.system_model.specs.Settings.{Setting}
 
 -- how an instruction ended: its end came, or it failed with a fault
@@ -71,6 +72,7 @@ pub record Moment : Type 0 where
 abbrev pub held_behind : Setting → Moment → Flags
 held_behind setting moment = still_held moment.held (setting.meaning.written moment.boundary.pc)
 
+-- a step that arrives at the first word of an address lands there, else it goes on inside
 abbrev pub place_by : Setting → Moment → Option ℕ → Alpha → Place
 place_by setting moment None c = Inside c
 place_by setting moment (Some address) c =
@@ -81,6 +83,7 @@ abbrev pub place_of : Setting → Moment → Alpha → Place
 place_of setting moment c = place_by setting moment (address_at setting.code.map c.pc) c
 
 -- ---- accesses
+-- the kind of entry of an access
 abbrev pub kind_of : AlphaKind → Kind
 kind_of alpha.Load = kinds.Load
 kind_of alpha.LoadLocked = kinds.LoadLocked
@@ -89,11 +92,9 @@ kind_of alpha.StoreConditional = kinds.StoreConditional
 
 -- a store changes its bytes of the quadword
 abbrev pub change_of : AlphaAccess → Change
-change_of a =
-    if stores a.kind
-    then Bytes (2 ^ (a.address % 8 + a.bytes) - 2 ^ (a.address % 8)) (a.value * 2 ^ (8 * (a.address % 8)))
-    else Nothing
+change_of a = if stores a.kind then stored (a.address % 8) a.bytes a.value else Nothing
 
+-- what an access asks of memory
 abbrev pub request_for : Moment → AlphaAccess → Request
 request_for moment a = record {
   processor = moment.thread;
@@ -107,6 +108,7 @@ request_for moment a = record {
 abbrev pub is_defined : Setting → AlphaAccess → Bool
 is_defined setting a = (a.address % a.bytes == 0) && is_allowed setting.meaning.pages (quad_of a) (stores a.kind)
 
+-- an access that is defined is wanted, and finished by what memory answers
 abbrev pub accesses : Bool → Setting → Moment → AlphaInstr → AlphaAccess → Alpha → Next
 accesses true setting moment i a c =
     Wants (request_for moment a) (λ before success. place_of setting moment (finished i (loaded a before) success c))
@@ -117,13 +119,16 @@ accesses false setting moment i a c = Stuck
 abbrev pub behind : Setting → Moment → Alpha → Regs → Place
 behind setting moment c regs = place_of setting moment (at_place regs (c.pc + 1))
 
+-- R0 as a sign-extended longword
 abbrev pub with_r0 : Regs → (longword : ℕ) → Regs
 with_r0 regs longword = put regs 0 (sign_extended longword 32)
 
+-- a probe goes on where all its bytes are allowed, else it fails with an access violation at the first that is not
 abbrev pub probed : Setting → Moment → Alpha → (write : Bool) → Option ℕ → Place
 probed setting moment c write None = behind setting moment c c.regs
 probed setting moment c write (Some bad) = Leaves (Fails (AccessViolation bad write))
 
+-- the fault that a point names
 abbrev pub raised : Option Exception → Next
 raised None = Stuck
 raised (Some exception) = Moves (Leaves (Fails exception))
@@ -142,6 +147,8 @@ served setting moment code rules c =
     else if code == 4 then Moves (behind setting moment c (with_r0 c.regs moment.thread))
     else Moves (behind setting moment c (with_r0 c.regs 0))
 
+-- each call of the PALcode. 80, 82, 83 and 84 need a point. Looking up and switching arrive at the address in R26, with
+-- all codes from their registers; a trap shows the codes by the rules behind its instruction
 abbrev pub called : Setting → Moment → Call → Option Point → Alpha → Next
 called setting moment Probe (Some point) c =
     Moves (probed setting moment c point.write (first_bad setting.meaning.pages point.write (probe_address c.regs) (probe_count point c.regs)))
@@ -154,11 +161,13 @@ called setting moment Switch point c = Moves (Leaves (Comes (Finish (state_at mo
 called setting moment call point c = Stuck
 
 -- ---- steps
+-- what an instruction does: it moves, makes an access, or calls the PALcode
 abbrev pub does : Setting → Moment → AlphaInstr → Does → Alpha → Next
 does setting moment i (Goes d) c = Moves (place_of setting moment d)
 does setting moment i (Asks a) c = accesses (is_defined setting a) setting moment i a c
 does setting moment i (Calls number) c = called setting moment (call_of number) (point_at setting.code.points c.pc) c
 
+-- without an instruction there is no step
 abbrev pub next_by : Setting → Moment → Option AlphaInstr → Alpha → Next
 next_by setting moment None c = Stuck
 next_by setting moment (Some i) c = does setting moment i (act i c) c

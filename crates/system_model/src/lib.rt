@@ -1,14 +1,18 @@
-//! Processors that run a translation and interpret the rest, and which histories of theirs are legal.
+//! Processors that run a translation and interpret the rest, which histories of theirs are legal, and the order of
+//! references that a history keeps.
 //!
 //! `specs/` has the definitions: what a processor does in its turn, what it reaches with its own entries of a history, and
-//! when a history and its processors are legal.
+//! when a history and its processors are legal; references as accesses to quadwords, and when a history matches the
+//! references that were made; the interpreted steps of a driven thread.
 #![tactic(auto)]
 
 mod boundary;
 pub mod laws;
+mod order;
 mod translation;
 
 pub use boundary::shown;
+pub use order::order_of;
 pub use translation::{End, Range, Translation, word_for};
 
 #[cfg(test)]

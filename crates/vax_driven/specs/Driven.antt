@@ -12,10 +12,12 @@ pub record World : Type 0 where
   pub byte : ℕ → ℕ
   pub input : List ℕ
 
+-- the reference that is wanted joins those made; none where none is wanted
 abbrev pub made_if : World → (past : List Made) → (thread : ℕ) → Option Reference → Option (List Made)
 made_if world past thread None = None
 made_if world past thread (Some reference) = Some (make world.byte world.input past thread reference ∷ past)
 
+-- one more pick: its thread's reference after so many instructions, with the replies that it has
 abbrev pub picked : World → Option (List Made) → Pick → Option (List Made)
 picked world None pick = None
 picked world (Some past) pick =
@@ -26,6 +28,7 @@ abbrev pub walk : World → List Pick → Option (List Made)
 walk world [] = Some []
 walk world (pick ∷ order) = picked world (walk world order) pick
 
+-- a thread before the others; none where one of them is none
 abbrev pub run_before : Option ThreadRun → Option (List ThreadRun) → Option (List ThreadRun)
 run_before None runs = None
 run_before (Some run) None = None
@@ -37,14 +40,17 @@ runs_from threads made thread [] = Some []
 runs_from threads made thread (count ∷ counts) =
     run_before (thread_run threads thread count (replies_to thread made)) (runs_from threads made (thread + 1) counts)
 
+-- the references made, newest first, and the threads
 pub record Driven : Type 0 where
   pub made : List Made
   pub runs : List ThreadRun
 
+-- the references made with the threads, where each of these came to its count
 abbrev pub ended : List Made → Option (List ThreadRun) → Option Driven
 ended made None = None
 ended made (Some runs) = Some (record { made = made; runs = runs })
 
+-- the threads after their counts, behind the references that were made
 abbrev pub driven_on : World → (counts : List ℕ) → Option (List Made) → Option Driven
 driven_on world counts None = None
 driven_on world counts (Some made) = ended made (runs_from world.threads made 0 counts)

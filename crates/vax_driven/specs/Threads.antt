@@ -15,6 +15,7 @@ pub record Threads : Type 0 where
   pub start : (thread : ℕ) → Option VaxState
   pub tree : (thread : ℕ) → VaxState → Tree
 
+-- a thread that starts so, after so many instructions; none where no such thread starts
 abbrev pub after_start : (VaxState → Tree) → Pages → Option VaxState → (count : ℕ) → (replies : List ℕ) → Option Retired
 after_start tree pages None count replies = None
 after_start tree pages (Some start) count replies = after tree pages start count replies
@@ -23,6 +24,7 @@ after_start tree pages (Some start) count replies = after tree pages start count
 abbrev pub reached : Threads → (thread count : ℕ) → (replies : List ℕ) → Option Retired
 reached threads thread count replies = after_start (threads.tree thread) threads.pages (threads.start thread) count replies
 
+-- the reference for which an instruction has no reply left
 abbrev pub wanted_of : Answer → Option Reference
 wanted_of (Wants reference) = Some reference
 wanted_of (Fails exception) = None
@@ -34,6 +36,7 @@ wanted_in threads thread Runs state left = wanted_of (answer threads.pages (thre
 wanted_in threads thread Exited state left = None
 wanted_in threads thread (Trapped kind) state left = None
 
+-- the reference that a thread wants where it was reached
 abbrev pub wanted_at : Threads → (thread : ℕ) → Option Retired → Option Reference
 wanted_at threads thread None = None
 wanted_at threads thread (Some here) = wanted_in threads thread here.life here.state here.left
@@ -42,6 +45,7 @@ wanted_at threads thread (Some here) = wanted_in threads thread here.life here.s
 abbrev pub wanted : Threads → (thread count : ℕ) → (replies : List ℕ) → Option Reference
 wanted threads thread count replies = wanted_at threads thread (reached threads thread count replies)
 
+-- the fault of an instruction, where one of its checks fails
 abbrev pub fault_of : Answer → Option Exception
 fault_of (Wants reference) = None
 fault_of (Fails exception) = Some exception
@@ -54,6 +58,7 @@ run_in threads thread Runs state left =
 run_in threads thread Exited state left = record { state = state; exited = true; raised = None }
 run_in threads thread (Trapped kind) state left = record { state = state; exited = false; raised = Some (Arithmetic kind) }
 
+-- a thread as it stands where it was reached
 abbrev pub run_at : Threads → (thread : ℕ) → Option Retired → Option ThreadRun
 run_at threads thread None = None
 run_at threads thread (Some here) = Some (run_in threads thread here.life here.state here.left)

@@ -31,6 +31,7 @@ answer_of (Ok end) state taken = Comes end state taken
 answer_of (Err (stops.Wants reference)) state taken = Wants reference
 answer_of (Err (stops.Fails exception)) state taken = Fails exception
 
+-- how a thread goes on, as the trees say it
 abbrev pub life_of : Life → trees.Life
 life_of Runs = trees.Runs
 life_of Exited = trees.Exited
@@ -58,6 +59,7 @@ if_running Runs place = Some place
 if_running Exited place = None
 if_running (Trapped kind) place = None
 
+-- the place where a thread goes on, where it was reached
 abbrev pub running_at : Option Place → Option Place
 running_at None = None
 running_at (Some place) = if_running place.life place

@@ -21,9 +21,11 @@ threads_of image = record {
   tree = tree_at image.pages;
 }
 
+-- the threads, bytes and input of an image
 abbrev pub world_of : ImageValue → (input : List ℕ) → World
 world_of image input = record { threads = threads_of image; byte = byte_in image; input = input }
 
+-- so many addresses from one on
 abbrev pub addresses_from : (address count : ℕ) → List ℕ
 addresses_from address zero = []
 addresses_from address (suc count) = address ∷ addresses_from (address + 1) count
@@ -39,6 +41,7 @@ pub record RunValue : Type 0 where
   pub output : List ℕ
   pub threads : List ThreadRun
 
+-- references in order, bytes of the pages, output in order, and threads
 abbrev pub value_of : ImageValue → Driven → RunValue
 value_of image d = record {
   references = reverse (map (λ (m : Made). m.reference) d.made);

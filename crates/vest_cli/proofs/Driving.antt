@@ -10,13 +10,13 @@ use Rattle.vax_driven.specs.Driven.{Driven, World, driven_on, ended, run_before,
 use Rattle.vax_form.specs.Made.{Made, replies_to}
 use Rattle.vax_driven.specs.Threads.{thread_run}
 use Rattle.vax_driven.specs.declared.thread.ThreadRun.{ThreadRun}
-use Rattle.history_order.specs.Counted.{order}
-use Rattle.history_order.specs.OneHistory.{world_of}
+use Rattle.system_model.specs.Counted.{order}
+use Rattle.vest_core.specs.OneHistory.{world_of}
 use Rattle.system_model.specs.Laws.{BeginningsAreLegal, begun_from}
 use Rattle.system_model.specs.Legal.{starts, IsLegal}
 use Rattle.system_model.specs.Processors.{Processor, Lost, begun, turn}
 use Rattle.system_model.specs.Settings.{Setting}
-use Rattle.vest_core.specs.Interpreted.{threads_of}
+use Rattle.system_model.specs.Interpreted.{threads_of}
 use Rattle.vest_core.specs.Law.{HasHeadline, IsRun, LegalHasHeadline}
 use Rattle.vax_form.specs.declared.instr.Instr.{Instr}
 use Rattle.vax_form.specs.declared.pages.Pages.{Pages}

@@ -15,7 +15,7 @@ use Rattle.vest_cli.specs.Decided.{Decision, stops, runs, with_image, with_file,
 use Rattle.vest_cli.specs.Delivery.{Delivers}
 use Rattle.vest_cli.specs.Kept.{KeptValue}
 use Rattle.vest_cli.specs.Lent.{Lent}
-use Rattle.vest_core.specs.Interpreted.{has_raised}
+use Rattle.system_model.specs.Interpreted.{has_raised}
 use Rattle.vest_cli.specs.Report.{is_spent, status_of_ends}
 use Rattle.vest_cli.specs.Run.{Runs, StopsRun, processors_of}
 use Rattle.vest_cli.specs.Stages.{IsFile, Accepts, ReadsAll, StopsAtLoad, StopsAtBuild, StopsAtInput}

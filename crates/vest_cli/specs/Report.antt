@@ -9,7 +9,7 @@ use Rattle.vax_form.specs.declared.state.VaxState.{VaxState}
 use Rattle.system_model.specs.Processors.{Mode, Ended, Processor}
 use Rattle.system_model.specs.declared.translation.End.{End}
 use Rattle.system_model.specs.declared.translation.End.TheVariants.{Exit, Raised, Spent}
-use Rattle.vest_core.specs.Interpreted.{has_raised}
+use Rattle.system_model.specs.Interpreted.{has_raised}
 use Rattle.vest_cli.specs.Digits.{two_digits, eight_digits}
 use Rattle.vest_cli.specs.declared.status.Status.{Status}
 use Rattle.vest_cli.specs.declared.status.Status.TheVariants as status

@@ -48,11 +48,11 @@ use Rattle.block_law.proofs.Blocks.{open_follows}
 use Rattle.system_model.specs.Settings.{Setting}
 use Rattle.system_model.specs.Steps.{Comes, Place, Lands, Leaves, Moves, Wants, Moment, state_at, rules_of, held_behind, place_by, place_of, request_for, is_defined, accesses, behind, with_r0, probed, raised, called, does, next_by, next}
 use Rattle.system_model.specs.Processors.{entry_by}
-use Rattle.vest_core.specs.Judged.{MadeBy}
-use Rattle.vest_core.specs.Own.{Lock}
-use Rattle.history_order.specs.Quadwords.{quad_address, reply_from, IsOf, IsOfKind, IsAccess}
+use Rattle.vest_core.specs.Entries.{Lock}
+use Rattle.vest_core.proofs.Judged.{MadeBy}
+use Rattle.system_model.specs.Quadwords.{quad_address, reply_from, IsOf, IsOfKind, IsAccess}
 use Rattle.block_law.specs.Sound.{IsSound}
-use Rattle.vest_core.proofs.Fields.{field_stored, left_changed, reply_same}
+use Rattle.vest_core.proofs.Fields.{field_stored, left_changed}
 use Rattle.vest_core.proofs.Sames.{same_ends, same_ask}
 use Rattle.vest_core.proofs.Maps.{there_and_back}
 use Rattle.vest_core.proofs.Owed.{OwedPlace, OwedBehind, OwedAccess, OwedNext}
@@ -171,8 +171,7 @@ module _ (setting : Setting) (thread : ℕ) (sound : IsSound setting.meaning) (r
                 quad = if_true (is_memory request.kind) request.quad 0 memory ∙ at ∙ sym h.0 ∙ sym same;
                 after = after ∙ made.0 ∙ left_changed r.kind before (r.address % 8) r.count small fits.within fits.bit k;
               }),
-              subst (λ v. Owed_at None spare (next_tree v) (place_of setting m (on before))) (reply_same r.kind before (r.address % 8) r.count e.after fits.within k)
-                  (inside (on before) Plain None spare (next_tree (reply_by r.kind (r.address % 8) r.count before)) refl made.1),
+              inside (on before) Plain None spare (next_tree (reply_by r.kind (r.address % 8) r.count before)) refl made.1,
             )
 
     abbrev an_access : AlphaKind → (address bytes value : ℕ) → AlphaAccess

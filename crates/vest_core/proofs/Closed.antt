@@ -6,10 +6,8 @@ use Rattle.address_map.specs.Pairs.{word_at}
 use Rattle.alpha_meaning.specs.State.{Alpha, Regs, at_place}
 use Rattle.block_law.specs.Translations.{Meets}
 use Rattle.image_file.specs.Start.{start_state}
-use Rattle.memory_core.specs.Changes.{leaves}
 use Rattle.memory_core.specs.Order.{own}
 use Rattle.memory_core.specs.declared.entry.Entry.{Entry}
-use Rattle.memory_core.specs.declared.entry.Kind.{Kind}
 use Rattle.memory_core.specs.declared.entry.Request.{Request}
 use Rattle.vax_form.specs.Pages.{first_bad}
 use Rattle.vax_form.specs.State.{IsState}
@@ -19,8 +17,8 @@ use Rattle.vax_form.specs.declared.pages.Pages.{Pages}
 use Rattle.vax_form.specs.declared.state.Flags.{Flags}
 use Rattle.vax_form.specs.declared.state.VaxState.{VaxState}
 use Rattle.vax_form.specs.Ranges.{IsInRange}
-use Rattle.history_order.specs.Counted.{is_counted}
-use Rattle.history_order.specs.Quadwords.{reply_from}
+use Rattle.system_model.specs.Counted.{is_counted}
+use Rattle.system_model.specs.Quadwords.{reply_from}
 use Rattle.vax_form.specs.Finishes.{IfFinish, AllFinish}
 use Rattle.system_model.specs.Closed.{IsMapped, IsClosed, is_interpreting, interprets_next}
 use Rattle.system_model.specs.Legal.{starts}
@@ -29,8 +27,9 @@ use Rattle.system_model.specs.Ranges.{covers}
 use Rattle.system_model.specs.Settings.{Setting, goes_on}
 use Rattle.system_model.specs.Steps.{Last, Comes, Fails, Place, Inside, Lands, Leaves, Next, Moves, Wants, Stuck, next}
 use Rattle.vest_core.specs.Closed.{ClosedNeverInterprets}
-use Rattle.vest_core.specs.Judged.{MadeBy}
-use Rattle.vest_core.specs.Own.{Lock, lock_of, lock_by, IsFair, AllFair}
+use Rattle.vest_core.specs.Entries.{Lock, lock_of, lock_by}
+use Rattle.vest_core.proofs.Fair.{IsFair, AllFair}
+use Rattle.vest_core.proofs.Judged.{MadeBy}
 use Rattle.block_law.specs.Sound.{IsSound}
 use Rattle.vest_core.proofs.Blocks.{Owes, IsForm, opens}
 use Rattle.vest_core.proofs.Boundaries.{fresh, enter}
@@ -80,7 +79,7 @@ module _ (P : VaxState → Type 0) (pages : Pages) where
     both_made lock old spare (Ask r on) request before success to h fair m = λ fits.
         let e = entry_by request before success in
         let made = m fits in
-        (made.0, both_place lock spare (on (reply_from r e)) to (h (reply_from r e) (reply_fits r e old made.0 fair (λ k. ap (λ (x : Kind). leaves x success request.change before) k))) made.1)
+        (made.0, both_place lock spare (on (reply_from r e)) to (h (reply_from r e) (reply_fits r e old made.0 fair)) made.1)
 
     both_behind : (b : Bool) (old : Option Lock) (spare : ℕ) (t : Tree) (request : Request) (before : ℕ) (success : Bool) (to : Place) → AllFinish t P
         → IsFair request.kind old (entry_by request before success).quad before success
@@ -148,7 +147,7 @@ module _ (setting : Setting) (none : setting.ranges ≡ []) where
     made_mapped p lock old spare (Ask r on) request before success to h range fair m =
         let e = entry_by request before success in
         let made = m range.0 in
-        goes_to_mapped p lock spare (on (reply_from r e)) to (h (reply_from r e) (reply_fits r e old made.0 fair (λ k. ap (λ (x : Kind). leaves x success request.change before) k))) made.1
+        goes_to_mapped p lock spare (on (reply_from r e)) to (h (reply_from r e) (reply_fits r e old made.0 fair)) made.1
 
     behind_mapped : (p : Processor) (b : Bool) (lock old : Option Lock) (spare less : ℕ) (t : Tree) (request : Request) (before : ℕ) (success : Bool) (to : Place) → AllFinish t (IsMapped setting.code) → IsInRange t
         → IsFair request.kind old (entry_by request before success).quad before success
@@ -223,8 +222,7 @@ closed_never_interprets setting set_up budget entries processors sound meets clo
     let s = there_is set_up.image.threads thread (omega (arith, lt, legal.count)) in
     let h : starts set_up.image thread ≡ Some (start_state s.0) = ap (option_map start_state) s.1 in
     let range = run.starts thread s.0 s.1 in
-    let few : thread < 256 = omega (arith, lt, legal.count, run.threads) in
     let r = legal.each thread (start_state s.0) p h at in
-    let was = stays setting sound meets closed none (starts set_up.image) thread few (start_state s.0) h (start_is s.0 range.0 range.1) (mapped thread (start_state s.0) h)
+    let was = stays setting sound meets closed none (starts set_up.image) thread range.0 (start_state s.0) h (start_is s.0 range.1 range.2) (mapped thread (start_state s.0) h)
     r.was.steps (own thread entries) r.was r.reaches (all_fair set_up run.bytes entries legal.order thread) in
     ⊎_elim (λ e. subst (λ (x : Processor). interprets_next setting x ≡ false) (sym e) was) (λ e. subst (λ (x : Processor). interprets_next setting x ≡ false) (sym e.is) refl) r.now

@@ -18,11 +18,9 @@ use Rattle.vax_form.specs.declared.state.RefKind.{RefKind}
 use Rattle.vax_form.specs.declared.state.RefKind.TheVariants.{Read, Write, Add, SetBit, ClearBit, Put, Get}
 use Rattle.vax_form.specs.References.{FitsKind, byte_count_of}
 use Rattle.block_law.specs.References as block
-use Rattle.history_order.specs.Quadwords.{change_by, reply_found}
-use Rattle.vest_core.proofs.Quads.{with_bytes-lt, changed-lt}
-
-byte_is : (at n : ℕ) → at < 8 → byte_at at n ≡ byte_of at n
-byte_is at n l = below_8 (λ at. byte_at at n ≡ n / 2 ^ (8 * at) % 2 ^ 8) (omega arith) refl refl refl refl refl refl refl at l
+use Rattle.system_model.specs.Quadwords.{change_by}
+use Rattle.system_model.proofs.Quads.{byte_is, with_bytes-lt}
+use Rattle.vest_core.proofs.Quads.{changed-lt}
 
 choose_byte : (b x y : ℕ) → b < 2 → (if b == 1 then x else y) ≡ bit_or (b * x) ((1 - b) * y)
 choose_byte b x y h = ⊎_elim (λ (e : b ≡ 0). zero_case b e) (λ (e : b ≡ 1). one_case b e) (bit_cases b h)
@@ -185,13 +183,3 @@ left_changed (SetBit n) q at count small within fits m = set_stored q at n small
 left_changed (ClearBit n) q at count small within fits m = clear_stored q at n small (omega arith) fits
 left_changed (Put byte) q at count small within fits m = absurd (cc m)
 left_changed Get q at count small within fits m = absurd (cc m)
-
--- and its reply is the same
-pub reply_same : (what : RefKind) (q at count after : ℕ) → at + byte_count_of what count ≤ 8 → block.is_of_memory what ≡ true → block.reply_by what at count q ≡ reply_found what at count q after
-reply_same Read q at count after within m = refl
-reply_same (Write value) q at count after within m = refl
-reply_same (Add value) q at count after within m = refl
-reply_same (SetBit n) q at count after within m = sym (byte_is at q (omega arith))
-reply_same (ClearBit n) q at count after within m = sym (byte_is at q (omega arith))
-reply_same (Put byte) q at count after within m = absurd (cc m)
-reply_same Get q at count after within m = absurd (cc m)

@@ -15,15 +15,16 @@ use Rattle.vax_driven.specs.declared.ThreadRun.{ThreadRun}
 use Rattle.vax_form.specs.Made.{replies_to}
 use Rattle.vax_driven.specs.Threads.{Threads, reached}
 use Rattle.vax_driven.specs.Driven.{run_before, runs_from, ended, driven_on}
-use Rattle.history_order.specs.Explained.{replies_by, Explained}
-use Rattle.history_order.specs.OneHistory.{world_of, IsDriven}
-use Rattle.history_order.proofs.Histories.{one_history}
+use Rattle.vest_core.specs.Explained.{replies_by, Explained}
+use Rattle.vest_core.specs.OneHistory.{world_of, IsDriven}
+use Rattle.vest_core.proofs.Histories.{one_history}
 use Rattle.block_law.specs.Translations.{Meets}
 use Rattle.system_model.specs.Settings.{Setting}
 use Rattle.system_model.specs.Processors.{Mode, New, Runs, Interprets, Ended, Processor, Lost, begun, turn, Reaches}
 use Rattle.system_model.specs.Legal.{starts, spent, IsGoing, IsReached, IsLegal}
-use Rattle.vest_core.specs.Headline.{Claims, IsShown, HasTies, HasFewEntries, Facts}
-use Rattle.vest_core.specs.Interpreted.{threads_of, ties_of, ties_in, end_in, has_raised}
+use Rattle.vest_core.specs.Headline.{Claims, HasTies}
+use Rattle.vest_core.proofs.Facts.{IsShown, HasFewEntries, Facts}
+use Rattle.system_model.specs.Interpreted.{threads_of, ties_of, ties_in, end_in, has_raised}
 use Rattle.vest_core.specs.Law.{IsRun, HasHeadline, LegalHasHeadline}
 use Rattle.block_law.specs.Sound.{IsSound}
 use Rattle.vest_core.proofs.Blocks.{Owes, IsForm, opens}
@@ -102,7 +103,7 @@ module _ (setting : Setting) (set_up : SetUp) (budget : ℕ) (entries : List Ent
       let found = option_map-some start_state (slice_get set_up.image.threads thread) start h in
       let range = run.starts thread found.0 found.1 in
       let lt = within set_up.image.threads thread found.0 found.1 in
-      (subst IsState found.2 (start_is found.0 range.0 range.1), omega (arith, lt, run.threads), omega (arith, lt, legal.count))
+      (subst IsState found.2 (start_is found.0 range.1 range.2), range.0, omega (arith, lt, legal.count))
 
   was_facts : (thread : ℕ) (start : VaxState) (was : Processor) → begin thread ≡ Some start → Reaches setting (begun thread start) was.steps (own thread entries) was → Facts setting begin thread (own thread entries) was
   was_facts thread start was h reached_was =

@@ -1,3 +1,7 @@
+pub mod Fair
+pub mod Judged
+pub mod Facts
+pub mod Histories
 pub mod Paths
 pub mod Quads
 pub mod Locks
@@ -13,5 +17,6 @@ pub mod Boundaries
 pub mod Sums
 pub mod Headlines
 pub mod Closed
+pub mod Images
 pub mod Runs
 mod Refused

@@ -8,7 +8,9 @@ use Rattle.memory_core.specs.Kinds.{is_conditional}
 use Rattle.memory_core.specs.Order.{own, gets, input_at, found, Meets}
 use Rattle.memory_core.proofs.Choices.{same_number, if_false}
 use Rattle.memory_core.proofs.LookingBack.{pairs_agree}
-use Rattle.vest_core.specs.Own.{HasBytes, Lock, lock_by, lock_of, FindsLocked, IsFair, AllFair}
+use Rattle.vest_core.specs.Entries.{Lock, lock_by, lock_of}
+use Rattle.vest_core.specs.Law.{HasBytes}
+use Rattle.vest_core.proofs.Fair.{FindsLocked, IsFair, AllFair}
 use Rattle.vest_core.proofs.Quads.{left-lt}
 
 input-within : (input : List ℕ) (n : ℕ) → All (λ byte. byte < 256) input → (input_at input n < 256) ⊎ (input_at input n ≡ 0xFFFFFFFF)

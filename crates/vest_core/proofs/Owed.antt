@@ -14,10 +14,11 @@ use Rattle.vax_form.specs.declared.state.Flags.{Flags}
 use Rattle.vax_form.specs.declared.state.VaxState.{VaxState}
 use Rattle.system_model.specs.Processors.{entry_by}
 use Rattle.system_model.specs.Steps.{Last, Comes, Fails, Place, Inside, Lands, Leaves, Next, Moves, Wants, Stuck}
-use Rattle.history_order.specs.Counted.{is_counted}
-use Rattle.vest_core.specs.Interpreted.{IsAlpha}
-use Rattle.vest_core.specs.Judged.{Paired, MadeBy}
-use Rattle.vest_core.specs.Own.{Lock, lock_by, IsFair}
+use Rattle.system_model.specs.Counted.{is_counted}
+use Rattle.vest_core.specs.Kinds.{IsAlpha}
+use Rattle.vest_core.specs.Entries.{Paired, Lock, lock_by}
+use Rattle.vest_core.proofs.Fair.{IsFair}
+use Rattle.vest_core.proofs.Judged.{MadeBy}
 use Rattle.vest_core.proofs.Paths.{Path}
 
 -- steps more behind a store that failed

@@ -6,7 +6,7 @@ use Rattle.vax_form.specs.State.{IsState}
 use Rattle.vax_form.specs.Tree.{Tree, Check, Ask, Fault, Ends, Ending, Wants, Fails, Comes, answer, unless_bad}
 use Rattle.vax_form.specs.declared.pages.Pages.{Pages}
 use Rattle.vax_form.specs.declared.state.Reference.{Reference}
-use Rattle.vest_core.specs.Interpreted.{made_in, unless}
+use Rattle.system_model.specs.Interpreted.{made_in, unless}
 use Rattle.vax_form.specs.Ranges.{IsInRange, ending_state}
 
 -- from one place in a tree to another, by checks that hold and just these replies

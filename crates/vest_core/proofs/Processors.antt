@@ -6,7 +6,6 @@ use Rattle.memory_core.specs.declared.entry.Entry.{Entry}
 use Rattle.memory_core.specs.declared.entry.Kind.{Kind}
 use Rattle.memory_core.specs.declared.entry.Kind.TheVariants.{LoadLocked, StoreConditional}
 use Rattle.memory_core.specs.declared.entry.Request.{Request}
-use Rattle.memory_core.specs.Changes.{leaves}
 use Rattle.vax_form.specs.State.{IsState, register}
 use Rattle.vax_form.specs.Tree.{Tree, Check, Ask, Fault, Ends, Ending, Finish, Exit, Trap, Answer, answer, Life, Exited, Trapped, Retired, retires}
 use Rattle.vax_form.specs.Tree as trees
@@ -19,18 +18,21 @@ use Rattle.system_model.specs.declared.translation.End.{End}
 use Rattle.system_model.specs.declared.translation.End.TheVariants as ends
 use Rattle.system_model.specs.Settings.{Setting, goes_on}
 use Rattle.system_model.specs.Steps.{Last, Comes, Fails, Place, Inside, Lands, Leaves, Next, Moves, Wants, Stuck, Moment, next}
-use Rattle.system_model.specs.Processors.{Mode, New, Runs, Interprets, Ended, Processor, all_held, registers_of, mode_by, begun, stepped, tied, arrived, left, placed, Turn, Went, Asks, Over, Lost, alpha_turn, kind_by, request_of, reply_of, tie_turn, turn_in, mode_of, turn, entry_by, Reaches, Begins, Steps, Takes}
-use Rattle.history_order.specs.Counted.{counts, is_counted}
-use Rattle.history_order.specs.Explained.{with_reply, replies_by, IsWanted, Explained}
-use Rattle.vest_core.specs.Headline.{Claims, IsShown, Facts}
-use Rattle.vest_core.specs.Interpreted.{threads_of, is_some, is_translated, IsMadeIn, translated_at, AllMadeIn, made_in, ties_in, end_in, ties_of, ties_open}
-use Rattle.vest_core.specs.Judged.{Paired, AllPaired, MadeBy, share_by, share_of, fails, counted_in, failed_in}
-use Rattle.vest_core.specs.Own.{Lock, lock_by, lock_of, IsFair, AllFair}
-use Rattle.history_order.specs.Quadwords.{reply_from}
+use Rattle.system_model.specs.Processors.{Mode, New, Runs, Interprets, Ended, Processor, all_held, registers_of, mode_by, begun, stepped, tied, arrived, left, placed, Turn, Went, Asks, Over, Lost, alpha_turn, kind_by, request_of, tie_turn, turn_in, mode_of, turn, entry_by, Reaches, Begins, Steps, Takes}
+use Rattle.system_model.specs.Counted.{counts, is_counted}
+use Rattle.vest_core.specs.Explained.{with_reply, replies_by, IsWanted, Explained}
+use Rattle.vest_core.specs.Entries.{Paired, AllPaired, fails, counted_in, failed_in, Lock, lock_by, lock_of}
+use Rattle.vest_core.specs.Headline.{Claims}
+use Rattle.vest_core.proofs.Facts.{IsShown, Facts}
+use Rattle.vest_core.proofs.Fair.{IsFair, AllFair}
+use Rattle.vest_core.proofs.Judged.{MadeBy, share_by, share_of}
+use Rattle.system_model.specs.Interpreted.{threads_of, is_some, is_translated, made_in, ties_in, end_in, ties_of, ties_open}
+use Rattle.vest_core.specs.Kinds.{IsMadeIn, translated_at, AllMadeIn}
+use Rattle.system_model.specs.Quadwords.{reply_from}
 use Rattle.vax_form.specs.Ranges.{IsInRange, StaysInRange}
 use Rattle.vest_core.proofs.Paths.{Path, Here, Takes, joined, joined_here, answered, to_ask, silent_ends, comes_state, made_none, made_one}
 use Rattle.vest_core.proofs.Reached.{running, here, reached_more, reached_suc, wanted_is, ties_more, ties_quiet, end_quiet, ties_loud, end_loud}
-use Rattle.vest_core.proofs.Replying.{reply_fits, tie_counts, tie_is, tie_reply, tie_free, tie_paired, tie_kind, tie_share}
+use Rattle.vest_core.proofs.Replying.{reply_fits, tie_counts, tie_is, tie_free, tie_paired, tie_kind, tie_share}
 use Rattle.vest_core.proofs.Owed.{more_by, answer_by, OwedPlace, OwedAccess, OwedNext}
 
 abbrev pub moment_at : (thread retired : ℕ) → VaxState → Flags → Moment
@@ -305,7 +307,7 @@ module _ (setting : Setting) (starts : ℕ → Option VaxState) (thread : ℕ) w
           let f : Flight said p.retired p.boundary s.pending (Ask a next_tree) = subst (Flight said p.retired p.boundary s.pending) (sym same) s.flight in
           let want : wanted threads thread made.retired said ≡ Some a = ap (λ n. wanted threads thread n said) owed.same ∙ fly_wants said p.retired p.boundary s.pending a next_tree f in
           let m' = m f.range.0 in
-          let fits = reply_fits a made lock m'.0 fair (λ k. ap (λ (x : Kind). leaves x success r.change before) k) in
+          let fits = reply_fits a made lock m'.0 fair in
           let on_flight = fly_on said p.retired p.boundary s.pending a next_tree v (f.range.1 v fits) f in
           let room : suc p.steps + (s.spare - 1 + more) ≤ 256 * p.retired + 256 + share_of (made ∷ mine) = omega (arith, some, s.room, few, granted r.kind success (share_of mine) c) in
           record {
@@ -349,12 +351,10 @@ module _ (setting : Setting) (starts : ℕ → Option VaxState) (thread : ℕ) w
         let want = fly_wants told p.retired p.boundary pending q asked.0 f in
         let of = tie_is q p.thread p.retired before success f.range.0 in
         let v = reply_from q e in
-        let u = reply_of q before in
-        let same_reply : u ≡ v = tie_reply q p.thread p.retired before success in
-        let fits = reply_fits q e lock of fair (λ k. ap (λ (x : Kind). leaves x success r.change before) k) in
+        let fits = reply_fits q e lock of fair in
         let on_flight = fly_on told p.retired p.boundary pending q asked.0 v (f.range.1 v fits) f in
         let c : is_counted e ≡ true = tie_counts q success in
-        let p' : Processor = record (tied p) { mode = Interprets state (pending ++ u ∷ []) } in
+        let p' : Processor = record (tied p) { mode = Interprets state (pending ++ v ∷ []) } in
         let made_more = made_one setting.meaning.pages (tree p.boundary) pending q asked.0 v (Ask q asked.0) refl f.path in
         let plays : Plays (told ++ v ∷ []) None (share_of (e ∷ mine)) p' state (pending ++ v ∷ []) = record {
           rest = asked.0 v;
@@ -369,9 +369,8 @@ module _ (setting : Setting) (starts : ℕ → Option VaxState) (thread : ℕ) w
           counted = λ _. record { reference = q; wants = want; of = of };
           paired = tie_paired q lock e.quad s.free;
           made = made_at told p.retired p.boundary pending false (kind_by q.kind) s.flight.at s.interpreted (tie_kind q);
-          stands = subst (λ x. Stands x (lock_by e.kind e.quad e.before) (share_of (e ∷ mine)) p' (Interprets state (pending ++ u ∷ []))) (sym (counted_replies mine e q c want))
-              (subst (λ l. Stands (told ++ v ∷ []) l (share_of (e ∷ mine)) p' (Interprets state (pending ++ u ∷ []))) (sym (tie_free q e.quad before))
-              (subst (λ y. Stands (told ++ v ∷ []) None (share_of (e ∷ mine)) p' (Interprets state (pending ++ y ∷ []))) (sym same_reply) plays));
+          stands = subst (λ x. Stands x (lock_by e.kind e.quad e.before) (share_of (e ∷ mine)) p' (Interprets state (pending ++ v ∷ []))) (sym (counted_replies mine e q c want))
+              (subst (λ l. Stands (told ++ v ∷ []) l (share_of (e ∷ mine)) p' (Interprets state (pending ++ v ∷ []))) (sym (tie_free q e.quad before)) plays);
         }
 
     takes_in : (mine : List Entry) (lock : Option Lock) (p : Processor) (m : Mode) (before : ℕ) (success : Bool) → p.thread ≡ thread → Stands (replies_by threads thread mine) lock (share_of mine) p m

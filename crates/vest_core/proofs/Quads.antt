@@ -1,7 +1,6 @@
 -- Quadwords are below 2^64.
 use Rattle.std.proofs.Common.{◌≡◌, ℕ, ◌<◌, ◌+◌, ◌-◌, ◌*◌, ◌%◌, ◌^◌, ◌==◌, Bool, true, false, if◌then◌else◌, List, [], ◌∷◌, refl, sym, subst, arith}
 use Rattle.std.proofs.lemmas.Nat.{and_le_l, pow_below, or_lt}
-use Rattle.std.specs.Int.{bit_at, byte_at}
 use Rattle.image_file.specs.Memory.{byte_in}
 use Rattle.image_file.specs.Values.{ImageValue}
 use Rattle.memory_core.specs.declared.entry.Kind.{Kind}
@@ -10,36 +9,18 @@ use Rattle.memory_core.specs.declared.entry.Change.{Change}
 use Rattle.memory_core.specs.declared.entry.Change.TheVariants.{Nothing, Bytes, AddWord, SetBit, ClearBit, Byte}
 use Rattle.memory_core.specs.declared.entry.Entry.{Entry}
 use Rattle.memory_core.specs.declared.entry.SetUp.{SetUp}
-use Rattle.memory_core.specs.Bytes.{quad_of, with_bytes, word_at}
+use Rattle.memory_core.specs.Bytes.{word_at}
 use Rattle.memory_core.specs.Changes.{IsInRange, changed, leaves}
 use Rattle.memory_core.specs.Kinds.{is_memory}
 use Rattle.memory_core.specs.Opening.{opening}
 use Rattle.memory_core.specs.Order.{stands_on, left_by, Fits, Meets}
 use Rattle.memory_core.proofs.LookingBack.{found_left}
 use Rattle.memory_core.proofs.Choices.{first_true}
-use Rattle.memory_core.proofs.Neighbours.{byte_at-lt}
-
-quad_of-lt : (f : ℕ → ℕ) → ((k : ℕ) → f k < 256) → quad_of f < 2 ^ 64
-quad_of-lt f h =
-    let a0 : f 0 < 256 = h 0 in
-    let a1 : f 1 < 256 = h 1 in
-    let a2 : f 2 < 256 = h 2 in
-    let a3 : f 3 < 256 = h 3 in
-    let a4 : f 4 < 256 = h 4 in
-    let a5 : f 5 < 256 = h 5 in
-    let a6 : f 6 < 256 = h 6 in
-    let a7 : f 7 < 256 = h 7 in
-    omega arith
+use Rattle.system_model.proofs.Quads.{quad_at-lt, with_bytes-lt}
 
 choice_lt : (b : Bool) (x y n : ℕ) → x < n → y < n → (if b then x else y) < n
 choice_lt true x y n h g = h
 choice_lt false x y n h g = g
-
-pub with_bytes-lt : (mask value before : ℕ) → with_bytes mask value before < 2 ^ 64
-unfolding with_bytes
-with_bytes-lt mask value before =
-    quad_of-lt (λ k. if bit_at mask k == 1 then byte_at k value else byte_at k before)
-    (λ k. choice_lt (bit_at mask k == 1) (byte_at k value) (byte_at k before) 256 (byte_at-lt k value) (byte_at-lt k before))
 
 pub changed-lt : (change : Change) (before : ℕ) → IsInRange change → before < 2 ^ 64 → changed change before < 2 ^ 64
 changed-lt Nothing before r h = h
@@ -62,7 +43,7 @@ leaves-lt Get success change before r h = h
 
 opening-lt : (image : ImageValue) (quad : ℕ) → ((address : ℕ) → byte_in image address < 256) → opening image quad < 2 ^ 64
 unfolding opening
-opening-lt image quad h = quad_of-lt (λ at. byte_in image (quad + at)) (λ k. h (quad + k))
+opening-lt image quad h = quad_at-lt (byte_in image) quad h
 
 module _ (set_up : SetUp) (bytes : (address : ℕ) → byte_in set_up.image address < 256) where
   left-lt_step : (past : List Entry) (e : Entry) (quad : ℕ) → Fits set_up past e → ((q : ℕ) → left_by set_up past q < 2 ^ 64) → (b : Bool) → stands_on e quad ≡ b → (if b then e.after else left_by set_up past quad) < 2 ^ 64

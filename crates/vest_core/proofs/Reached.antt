@@ -7,7 +7,7 @@ use Rattle.vax_form.specs.After.{if_runs, one_more, after, KeepsRetired}
 use Rattle.vax_form.proofs.Afters.{after_with_more}
 use Rattle.system_model.specs.Settings.{Setting}
 use Rattle.vax_driven.specs.Threads.{after_start, reached, wanted_of, wanted_at, wanted}
-use Rattle.vest_core.specs.Interpreted.{threads_of, is_translated, made_in, ties_in, end_in, ties_of}
+use Rattle.system_model.specs.Interpreted.{threads_of, is_translated, made_in, ties_in, end_in, ties_of}
 use Rattle.vest_core.proofs.Paths.{made_more}
 
 -- the thread goes on at a state, with these replies left

@@ -14,7 +14,8 @@ use Rattle.memory_core.specs.Changes.{Allows, leaves}
 use Rattle.memory_core.specs.Kinds.{is_memory, is_conditional}
 use Rattle.memory_core.specs.Opening.{opening}
 use Rattle.memory_core.specs.Order.{own, left_by, block_of, reserved_by, tries, strikes, found, Meets}
-use Rattle.vest_core.specs.Own.{HasBytes, AllFair}
+use Rattle.vest_core.specs.Law.{HasBytes}
+use Rattle.vest_core.proofs.Fair.{AllFair}
 use Rattle.vest_core.proofs.Locks.{all_fair}
 
 -- ---- the order of accesses, but that another processor's store clears no reservation

@@ -1,37 +1,35 @@
 -- The replies to references are in range, and those to interpreted references are their accesses'.
-use Rattle.std.proofs.Common.{◌≡◌, ℕ, ◌+◌, ◌*◌, ◌/◌, ◌%◌, ◌^◌, ◌<◌, ◌⊎◌, Bool, true, false, Option, None, refl, sym, ap, subst}
-use Rattle.std.proofs.lemmas.Nat.{mod_below, pow_pos}
+use Rattle.std.proofs.Common.{◌≡◌, ℕ, ◌+◌, Bool, true, false, Option, None, refl, sym, ap, subst}
 use Rattle.memory_core.specs.declared.entry.Entry.{Entry}
-use Rattle.memory_core.specs.declared.entry.Kind.TheVariants as kinds
 use Rattle.memory_core.specs.declared.entry.Request.{Request}
 use Rattle.memory_core.specs.Changes.{changed}
-use Rattle.memory_core.proofs.Neighbours.{byte_at-lt}
 use Rattle.vax_form.specs.References.{FitsQuadword}
 use Rattle.vax_form.specs.State.{Answers, AnswersKind}
 use Rattle.vax_form.specs.declared.state.Reference.{Reference}
 use Rattle.vax_form.specs.declared.state.RefKind.{RefKind}
 use Rattle.vax_form.specs.declared.state.RefKind.TheVariants.{Read, Write, Add, SetBit, ClearBit, Put, Get}
-use Rattle.system_model.specs.Processors.{request_of, reply_by, reply_of, entry_by, kind_by, change_by, quad_address}
-use Rattle.history_order.specs.Counted.{counts}
-use Rattle.vest_core.specs.Interpreted.{IsMadeIn}
-use Rattle.vest_core.specs.Judged.{Paired, share_by}
-use Rattle.vest_core.specs.Own.{Lock, lock_by, IsFair}
-use Rattle.history_order.specs.Quadwords.{place_of, reply_found, reply_from, IsOfKind, IsOf, IsAccess, change_of}
-use Rattle.history_order.specs.Quadwords as quadwords
+use Rattle.block_law.specs.References.{reply_by}
+use Rattle.block_law.proofs.Blocks.{reply_answers}
+use Rattle.system_model.specs.Processors.{request_of, entry_by, kind_by}
+use Rattle.system_model.specs.Counted.{counts}
+use Rattle.vest_core.specs.Kinds.{IsMadeIn}
+use Rattle.vest_core.specs.Entries.{Paired, Lock, lock_by}
+use Rattle.vest_core.proofs.Fair.{IsFair}
+use Rattle.vest_core.proofs.Judged.{share_by}
+use Rattle.system_model.specs.Quadwords.{place_of, quad_address, change_by, change_of, reply_from, IsOfKind, IsOf}
 
-fits_kind : (what : RefKind) (r : Reference) (e : Entry) (lock : Option Lock) → IsOfKind what r e → IsFair e.kind lock e.quad e.before e.success → (e.kind ≡ kinds.Get → e.after ≡ e.before)
-    → AnswersKind what r.count (reply_found what (place_of r) r.count e.before e.after)
-fits_kind Read r e lock i f k = mod_below (e.before / 2 ^ (8 * place_of r)) (2 ^ (8 * r.count)) (pow_pos (8 * r.count))
-fits_kind (Write value) r e lock i f k = refl
-fits_kind (Add value) r e lock i f k = mod_below (e.before / 2 ^ (8 * place_of r)) (2 ^ 16) (pow_pos 16)
-fits_kind (SetBit n) r e lock i f k = byte_at-lt (place_of r) e.before
-fits_kind (ClearBit n) r e lock i f k = byte_at-lt (place_of r) e.before
-fits_kind (Put byte) r e lock i f k = refl
-fits_kind Get r e lock i f k = subst (λ n. (n < 256) ⊎ (n ≡ 0xFFFFFFFF)) (sym (k i)) (f.input i)
+fits_kind : (what : RefKind) (r : Reference) (e : Entry) (lock : Option Lock) → IsOfKind what r e → IsFair e.kind lock e.quad e.before e.success → AnswersKind what r.count (reply_by what (place_of r) r.count e.before)
+fits_kind Read r e lock i f = reply_answers Read (place_of r) r.count e.before refl
+fits_kind (Write value) r e lock i f = reply_answers (Write value) (place_of r) r.count e.before refl
+fits_kind (Add value) r e lock i f = reply_answers (Add value) (place_of r) r.count e.before refl
+fits_kind (SetBit n) r e lock i f = reply_answers (SetBit n) (place_of r) r.count e.before refl
+fits_kind (ClearBit n) r e lock i f = reply_answers (ClearBit n) (place_of r) r.count e.before refl
+fits_kind (Put byte) r e lock i f = refl
+fits_kind Get r e lock i f = f.input i
 
 -- what is replied by an entry of a reference can be given to it
-pub reply_fits : (r : Reference) (e : Entry) (lock : Option Lock) → IsOf r e → IsFair e.kind lock e.quad e.before e.success → (e.kind ≡ kinds.Get → e.after ≡ e.before) → Answers r (reply_from r e)
-reply_fits r e lock i f k = fits_kind r.kind r e lock i f k
+pub reply_fits : (r : Reference) (e : Entry) (lock : Option Lock) → IsOf r e → IsFair e.kind lock e.quad e.before e.success → Answers r (reply_from r e)
+reply_fits r e lock i f = fits_kind r.kind r e lock i f
 
 -- ---- interpreted references
 tie_counts_by : (what : RefKind) (success : Bool) → counts (kind_by what) success ≡ true
@@ -47,33 +45,24 @@ pub tie_counts : (q : Reference) (success : Bool) → counts (kind_by q.kind) su
 tie_counts q success = tie_counts_by q.kind success
 
 abbrev asked_by : RefKind → Reference → (thread retired : ℕ) → Request
-asked_by what r thread retired = record { processor = thread; retired = retired; kind = kind_by what; quad = quad_address r.address; change = change_by what (r.address % 8) r.count }
+asked_by what r thread retired = record { processor = thread; retired = retired; kind = kind_by what; quad = quad_address r; change = change_by what (place_of r) r.count }
+
+-- an access that its reference asks for
+accessed : (what : RefKind) (r : Reference) → r.kind ≡ what → (before : ℕ) → changed (change_by what (place_of r) r.count) before ≡ changed (change_of r) before
+accessed what r k before = ap (λ (w : RefKind). changed (change_by w (place_of r) r.count) before) (sym k)
 
 tie_is_by : (what : RefKind) (r : Reference) → r.kind ≡ what → (thread retired before : ℕ) (success : Bool) → FitsQuadword r → IsOfKind what r (entry_by (asked_by what r thread retired) before success)
-tie_is_by Read r k thread retired before success fits = record { memory = refl; fits = fits; quad = refl; after = ap (λ (w : RefKind). changed (quadwords.change_by w (place_of r) r.count) before) (sym k) }
-tie_is_by (Write value) r k thread retired before success fits = record { memory = refl; fits = fits; quad = refl; after = ap (λ (w : RefKind). changed (quadwords.change_by w (place_of r) r.count) before) (sym k) }
-tie_is_by (Add value) r k thread retired before success fits = record { memory = refl; fits = fits; quad = refl; after = ap (λ (w : RefKind). changed (quadwords.change_by w (place_of r) r.count) before) (sym k) }
-tie_is_by (SetBit n) r k thread retired before success fits = record { memory = refl; fits = fits; quad = refl; after = ap (λ (w : RefKind). changed (quadwords.change_by w (place_of r) r.count) before) (sym k) }
-tie_is_by (ClearBit n) r k thread retired before success fits = record { memory = refl; fits = fits; quad = refl; after = ap (λ (w : RefKind). changed (quadwords.change_by w (place_of r) r.count) before) (sym k) }
+tie_is_by Read r k thread retired before success fits = record { memory = refl; fits = fits; quad = refl; after = accessed Read r k before }
+tie_is_by (Write value) r k thread retired before success fits = record { memory = refl; fits = fits; quad = refl; after = accessed (Write value) r k before }
+tie_is_by (Add value) r k thread retired before success fits = record { memory = refl; fits = fits; quad = refl; after = accessed (Add value) r k before }
+tie_is_by (SetBit n) r k thread retired before success fits = record { memory = refl; fits = fits; quad = refl; after = accessed (SetBit n) r k before }
+tie_is_by (ClearBit n) r k thread retired before success fits = record { memory = refl; fits = fits; quad = refl; after = accessed (ClearBit n) r k before }
 tie_is_by (Put byte) r k thread retired before success fits = (refl, refl)
 tie_is_by Get r k thread retired before success fits = refl
 
 -- the entry of an interpreted reference is of it
 pub tie_is : (r : Reference) (thread retired before : ℕ) (success : Bool) → FitsQuadword r → IsOf r (entry_by (request_of thread retired r) before success)
 tie_is r thread retired before success fits = tie_is_by r.kind r refl thread retired before success fits
-
-tie_reply_by : (what : RefKind) (r : Reference) (thread retired before : ℕ) (success : Bool)
-    → reply_by what (r.address % 8) r.count before ≡ reply_found what (place_of r) r.count before (entry_by (asked_by what r thread retired) before success).after
-tie_reply_by Read r thread retired before success = refl
-tie_reply_by (Write value) r thread retired before success = refl
-tie_reply_by (Add value) r thread retired before success = refl
-tie_reply_by (SetBit n) r thread retired before success = refl
-tie_reply_by (ClearBit n) r thread retired before success = refl
-tie_reply_by (Put byte) r thread retired before success = refl
-tie_reply_by Get r thread retired before success = refl
-
-pub tie_reply : (r : Reference) (thread retired before : ℕ) (success : Bool) → reply_of r before ≡ reply_from r (entry_by (request_of thread retired r) before success)
-tie_reply r thread retired before success = tie_reply_by r.kind r thread retired before success
 
 -- it is no lock, has none before it, and allows 256 steps more
 tie_free_by : (what : RefKind) (quad before : ℕ) → lock_by (kind_by what) quad before ≡ None

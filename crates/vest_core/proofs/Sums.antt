@@ -4,8 +4,8 @@ use Rattle.std.specs.List.{AllByRecursion}
 use Rattle.std.proofs.lemmas.Bool.Decides.{nat_tests}
 use Rattle.memory_core.specs.declared.entry.Entry.{Entry}
 use Rattle.memory_core.specs.Order.{own}
-use Rattle.history_order.specs.Counted.{is_counted}
-use Rattle.vest_core.specs.Judged.{fails, counted_in, failed_in}
+use Rattle.system_model.specs.Counted.{is_counted}
+use Rattle.vest_core.specs.Entries.{fails, counted_in, failed_in}
 
 -- the sum over the first processors
 abbrev pub sum_below : ℕ → (ℕ → ℕ) → ℕ

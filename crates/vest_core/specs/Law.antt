@@ -1,5 +1,6 @@
 -- A legal history has the headline. Lists of entries are newest first.
-use Rattle.std.specs.Prelude.{◌≡◌, ◌≢◌, ◌<◌, ◌≤◌, ◌+◌, ◌*◌, ◌^◌, ℕ, List, Some, length, map, slice_get}
+use Rattle.std.specs.Prelude.{◌≡◌, ◌≢◌, ◌<◌, ◌≤◌, ◌+◌, ◌*◌, ◌^◌, ℕ, All, List, Some, length, map, slice_get}
+use Rattle.image_file.specs.Memory.{byte_in}
 use Rattle.image_file.specs.declared.image.Start.{Start}
 use Rattle.memory_core.specs.declared.entry.Entry.{Entry}
 use Rattle.memory_core.specs.declared.entry.SetUp.{SetUp}
@@ -7,23 +8,27 @@ use Rattle.memory_core.specs.Order.{own}
 use Rattle.vax_driven.specs.declared.ThreadRun.{ThreadRun}
 use Rattle.vax_form.specs.Made.{replies_to}
 use Rattle.vax_driven.specs.Driven.{driven}
-use Rattle.history_order.specs.Counted.{order}
-use Rattle.history_order.specs.OneHistory.{world_of, IsDriven}
+use Rattle.system_model.specs.Counted.{order}
+use Rattle.vest_core.specs.OneHistory.{world_of, IsDriven}
 use Rattle.block_law.specs.Translations.{Meets}
 use Rattle.system_model.specs.Settings.{Setting}
 use Rattle.system_model.specs.Processors.{Processor, Lost, turn}
 use Rattle.system_model.specs.Legal.{starts, IsLegal}
 use Rattle.vest_core.specs.Headline.{Claims, HasTies, HasFewSteps}
-use Rattle.vest_core.specs.Interpreted.{threads_of, AllMadeIn}
-use Rattle.vest_core.specs.Judged.{AllPaired, counted_in, failed_in}
-use Rattle.vest_core.specs.Own.{HasBytes}
+use Rattle.system_model.specs.Interpreted.{threads_of}
+use Rattle.vest_core.specs.Kinds.{AllMadeIn}
+use Rattle.vest_core.specs.Entries.{AllPaired, counted_in, failed_in}
 use Rattle.block_law.specs.Sound.{IsSound}
 
--- the numbers of an image and of an input are in range
+-- the bytes of the image and of the input are bytes
+pub record HasBytes (set_up : SetUp) : Type 0 where
+  pub image : (address : ℕ) → byte_in set_up.image address < 256
+  pub input : All (λ byte. byte < 256) set_up.input
+
+-- the numbers of an image and of an input are in range: bytes, and of each thread its number, PC and SP
 pub record IsRun (set_up : SetUp) : Type 0 where
   pub bytes : HasBytes set_up
-  pub threads : length set_up.image.threads ≤ 256
-  pub starts : (thread : ℕ) (start : Start) → slice_get set_up.image.threads thread ≡ Some start → (start.pc < 2 ^ 32) × (start.sp < 2 ^ 32)
+  pub starts : (thread : ℕ) (start : Start) → slice_get set_up.image.threads thread ≡ Some start → (thread < 2 ^ 8) × (start.pc < 2 ^ 32) × (start.sp < 2 ^ 32)
 
 -- what holds of one thread and its processor, of a history whose references these are
 pub record IsKept (setting : Setting) (set_up : SetUp) (entries : List Entry) (thread : ℕ) (replies : List ℕ) (run : ThreadRun) (p : Processor) : Type 0 where
@@ -40,6 +45,7 @@ pub record IsKept (setting : Setting) (set_up : SetUp) (entries : List Entry) (t
   pub steps : HasFewSteps p (own thread entries)
   pub paired : AllPaired (own thread entries)
 
+-- what a history and its processors are for the VAX threads
 pub record HasHeadline (setting : Setting) (set_up : SetUp) (entries : List Entry) (processors : List Processor) : Type 0 where
   -- the threads driven by the order of the entries make their references, and have their memory and output
   pub history : IsDriven (threads_of setting (starts set_up.image)) set_up entries

@@ -1,6 +1,7 @@
-pub mod Own
-pub mod Interpreted
-pub mod Judged
+pub mod Explained
+pub mod OneHistory
+pub mod Kinds
+pub mod Entries
 pub mod Headline
 pub mod Law
 pub mod Closed

@@ -3,8 +3,8 @@ use Rattle.std.proofs.Common.{◌≡◌, Bool, true, false, if◌then◌else◌,
 use Rattle.std.specs.Prelude.{map, filter}
 use Rattle.std.proofs.lemmas.List.{reverse-append, append-nil}
 use Rattle.memory_core.specs.declared.entry.Entry.{Entry}
-use Rattle.history_order.specs.Counted.{is_counted, pick_of, order}
-use Rattle.history_order.specs.Laws.{OrderTurns}
+use Rattle.system_model.specs.Counted.{is_counted, pick_of, order}
+use Rattle.system_model.specs.Laws.{OrderTurns}
 
 reverse_cons : {A : Type 0} (x : A) (xs : List A) → reverse (x ∷ xs) ≡ reverse xs ++ x ∷ []
 reverse_cons x xs = reverse-append (x ∷ []) xs

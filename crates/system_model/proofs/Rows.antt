@@ -9,8 +9,8 @@ use Rattle.memory_core.specs.declared.entry.Kind.{Kind}
 use Rattle.memory_core.specs.declared.entry.Kind.TheVariants as kinds
 use Rattle.memory_core.specs.Bytes.{with_bytes}
 use Rattle.memory_core.specs.Changes.{changed}
-use Rattle.history_order.specs.Counted.{order}
-use Rattle.history_order.specs.Quadwords.{quad_address, change_of, reply_found}
+use Rattle.system_model.specs.Counted.{order}
+use Rattle.system_model.specs.Quadwords.{quad_address, change_of, reply_found}
 
 abbrev entry : (processor retired : ℕ) → Kind → (success : Bool) → Entry
 entry processor retired kind success =
@@ -64,14 +64,14 @@ set = refl
 clear : changed (change_of (at (ClearBit 7) 0x1001 1)) 0xA7A6A5A4A3A2A1A0 ≡ 0xA7A6A5A4A3A221A0
 clear = refl
 
-read : reply_found Read 2 2 0xA7A6A5A4A3A2A1A0 0 ≡ 0xA3A2
+read : reply_found (at Read 0x1002 2) 0xA7A6A5A4A3A2A1A0 ≡ 0xA3A2
 read = refl
 
-word : reply_found (Add 1) 4 2 0xA7A6A5A4A3A2A1A0 0 ≡ 0xA5A4
+word : reply_found (at (Add 1) 0x1004 2) 0xA7A6A5A4A3A2A1A0 ≡ 0xA5A4
 word = refl
 
-bit : reply_found (SetBit 6) 1 1 0xA7A6A5A4A3A2A1A0 0 ≡ 0xA1
+bit : reply_found (at (SetBit 6) 0x1001 1) 0xA7A6A5A4A3A2A1A0 ≡ 0xA1
 bit = refl
 
-got : reply_found Get 0 0 0x41 0x41 ≡ 0x41
+got : reply_found (at Get 0 0) 0x41 ≡ 0x41
 got = refl

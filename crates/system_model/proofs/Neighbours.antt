@@ -15,17 +15,18 @@ use Rattle.vax_form.specs.declared.state.Reference.{Reference}
 use Rattle.vax_form.specs.declared.state.RefKind.{RefKind}
 use Rattle.vax_form.specs.declared.state.RefKind.TheVariants.{Read, Write, Add, SetBit, ClearBit, Put, Get}
 use Rattle.vax_form.specs.References.{byte_count_of, FitsKind}
-use Rattle.history_order.specs.Quadwords.{place_of, names_memory, change_by, IsAccess, IsOfKind}
-use Rattle.history_order.specs.Matches.{KeepsOthers}
-use Rattle.history_order.specs.Laws.{NeighboursStay}
-use Rattle.history_order.proofs.Quads.{word_mask, masked_outside}
+use Rattle.block_law.specs.References.{is_of_memory}
+use Rattle.system_model.specs.Quadwords.{place_of, change_by, IsAccess, IsOfKind}
+use Rattle.system_model.specs.Matches.{KeepsOthers}
+use Rattle.system_model.specs.Laws.{NeighboursStay}
+use Rattle.system_model.proofs.Quads.{word_mask, masked_outside}
 
 another : (place bit at : ℕ) → bit < 8 → (at < place) ⊎ (place + 1 ≤ at) → (at == (8 * place + bit) / 8) ≡ false
 another place bit at small apart =
     let e : (8 * place + bit) / 8 ≡ place = omega arith in
     ⊎_elim (λ (l : at < place). rw e (grind (arith, nat_tests))) (λ (l : place + 1 ≤ at). rw e (grind (arith, nat_tests))) apart
 
-change_keeps : (kind : RefKind) (place count before at : ℕ) → names_memory kind ≡ true → place < 8 → FitsKind kind → at < 8 → (at < place) ⊎ (place + byte_count_of kind count ≤ at)
+change_keeps : (kind : RefKind) (place count before at : ℕ) → is_of_memory kind ≡ true → place < 8 → FitsKind kind → at < 8 → (at < place) ⊎ (place + byte_count_of kind count ≤ at)
     → byte_at at (quadwords.changed (change_by kind place count) before) ≡ byte_at at before
 change_keeps Read place count before at n l fits small apart = refl
 change_keeps (Write value) place count before at n l fits small apart = masked_outside place count value before at small apart
@@ -41,10 +42,10 @@ change_keeps (ClearBit bit) place count before at n l fits small apart =
 change_keeps (Put value) place count before at n l fits small apart = absurd (cc n)
 change_keeps Get place count before at n l fits small apart = refl
 
-access_keeps : (reference : Reference) (e : Entry) (kind : RefKind) → reference.kind ≡ kind → names_memory kind ≡ true → IsAccess reference e → KeepsOthers e reference
+access_keeps : (reference : Reference) (e : Entry) (kind : RefKind) → reference.kind ≡ kind → is_of_memory kind ≡ true → IsAccess reference e → KeepsOthers e reference
 access_keeps reference e kind same n is memory at small apart =
     ap (byte_at at) is.after
-    ∙ change_keeps reference.kind (place_of reference) reference.count e.before at (ap names_memory same ∙ n) (mod_below reference.address 8 (lit< tt)) is.fits.bit small apart
+    ∙ change_keeps reference.kind (place_of reference) reference.count e.before at (ap is_of_memory same ∙ n) (mod_below reference.address 8 (lit< tt)) is.fits.bit small apart
 
 no_access : (kind other : Kind) → kind ≡ other → is_memory other ≡ false → is_memory kind ≡ true → ⊥
 no_access kind other same none memory = let e : false ≡ true = sym none ∙ ap is_memory (sym same) ∙ memory in cc e

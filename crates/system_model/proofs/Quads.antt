@@ -14,8 +14,9 @@ use Rattle.vax_form.specs.declared.state.RefKind.{RefKind}
 use Rattle.vax_form.specs.declared.state.RefKind.TheVariants.{Read, Write, Add, SetBit, ClearBit, Put, Get}
 use Rattle.vax_form.specs.References.{value_at, with_byte, with_value, reply_by, changed_by, changed, AreBytes, byte_count_of, byte_count, FitsKind}
 use Rattle.vax_driven.proofs.Changing.{elsewhere, with_value_elsewhere, others_stay as named_alone}
-use Rattle.history_order.specs.Quadwords.{quad_at, quad_address, names_memory, change_by, reply_found}
-use Rattle.history_order.specs.Laws.{QuadwordChanges, OtherQuadwordsStay, QuadwordReplies}
+use Rattle.block_law.specs.References as block
+use Rattle.system_model.specs.Quadwords.{quad_at, quad_address, change_by}
+use Rattle.system_model.specs.Laws.{QuadwordChanges, OtherQuadwordsStay, QuadwordReplies}
 
 -- ---- quadwords and their bytes
 
@@ -139,7 +140,7 @@ pub word_mask : (place : ℕ) → 3 * 2 ^ place ≡ 2 ^ (place + 2) - 2 ^ place
 word_mask place = let p = pow-add 2 place 2 in omega arith
 
 -- a masked quadword is a quadword of bytes
-with_bytes-lt : (mask value before : ℕ) → with_bytes mask value before < 2 ^ 64
+pub with_bytes-lt : (mask value before : ℕ) → with_bytes mask value before < 2 ^ 64
 unfolding with_bytes
 with_bytes-lt mask value before = quad_of-lt (λ at. if bit_at mask at == 1 then byte_at at value else byte_at at before) (λ at l. small (bit_at mask at == 1) (byte_at at value) (byte_at at before) (byte_lt at value) (byte_lt at before))
   where
@@ -269,7 +270,7 @@ module _ (byte : ℕ → ℕ) (quad place : ℕ) (are : AreBytes byte) (small : 
       (clear_place bit l b)
       (λ k under other. others_stay (changes.ClearBit n) x k few under (apart_byte bit k b other))
 
-  changes_alike : (kind : RefKind) (count : ℕ) → names_memory kind ≡ true → place < 8 → place + byte_count_of kind count ≤ 8 → FitsKind kind
+  changes_alike : (kind : RefKind) (count : ℕ) → block.is_of_memory kind ≡ true → place < 8 → place + byte_count_of kind count ≤ 8 → FitsKind kind
       → quad_at (changed_by kind byte (quad + place) count) quad ≡ quadwords.changed (change_by kind place count) (quad_at byte quad)
   changes_alike Read count m l within fits = refl
   changes_alike (Write value) count m l within fits = written count value within
@@ -288,19 +289,23 @@ module _ (byte : ℕ → ℕ) (quad place : ℕ) (are : AreBytes byte) (small : 
   changes_alike (Put value) count m l within fits = absurd (cc m)
   changes_alike Get count m l within fits = absurd (cc m)
 
-  replies_alike : (kind : RefKind) (count next_input after : ℕ) → names_memory kind ≡ true → place < 8 → place + byte_count_of kind count ≤ 8
-      → reply_by kind byte next_input (quad + place) count ≡ reply_found kind place count (quad_at byte quad) after
-  replies_alike Read count next_input after m l within =
+  -- the byte that an interlocked reference found
+  byte_found : place < 8 → byte ((quad + place) % 2 ^ 32) ≡ field_of (quad_at byte quad) place 1
+  byte_found l =
+      let there : (quad + place) % 2 ^ 32 ≡ quad + place = omega arith in
+      ap byte there ∙ sym (byte_at-quad_at byte quad place are l) ∙ byte_is place (quad_at byte quad) l
+
+  replies_alike : (kind : RefKind) (count next_input : ℕ) → block.is_of_memory kind ≡ true → place < 8 → place + byte_count_of kind count ≤ 8
+      → reply_by kind byte next_input (quad + place) count ≡ block.reply_by kind place count (quad_at byte quad)
+  replies_alike Read count next_input m l within =
       let whole : min count 8 ≡ count = omega arith in
       ap (value_at byte (quad + place)) whole ∙ value_at-field byte quad place count are small within
-  replies_alike (Write value) count next_input after m l within = refl
-  replies_alike (Add value) count next_input after m l within = value_at-field byte quad place 2 are small within
-  replies_alike (SetBit bit) count next_input after m l within =
-      let there : (quad + place) % 2 ^ 32 ≡ quad + place = omega arith in ap byte there ∙ sym (byte_at-quad_at byte quad place are l)
-  replies_alike (ClearBit bit) count next_input after m l within =
-      let there : (quad + place) % 2 ^ 32 ≡ quad + place = omega arith in ap byte there ∙ sym (byte_at-quad_at byte quad place are l)
-  replies_alike (Put value) count next_input after m l within = absurd (cc m)
-  replies_alike Get count next_input after m l within = absurd (cc m)
+  replies_alike (Write value) count next_input m l within = refl
+  replies_alike (Add value) count next_input m l within = value_at-field byte quad place 2 are small within
+  replies_alike (SetBit bit) count next_input m l within = byte_found l
+  replies_alike (ClearBit bit) count next_input m l within = byte_found l
+  replies_alike (Put value) count next_input m l within = absurd (cc m)
+  replies_alike Get count next_input m l within = absurd (cc m)
 
 -- ---- the laws
 
@@ -317,10 +322,10 @@ quadword_changes reference byte fits are names =
     ∙ changes_alike byte (a - a % 8) (a % 8) are (ends a fits.longword) reference.kind reference.count names (mod_below a 8 (lit< tt)) fits.within fits.bit
 
 pub quadword_replies : QuadwordReplies
-quadword_replies reference byte next_input after fits are names =
+quadword_replies reference byte next_input fits are names =
     let a = reference.address in
     ap (λ n. reply_by reference.kind byte next_input n reference.count) (split a)
-    ∙ replies_alike byte (a - a % 8) (a % 8) are (ends a fits.longword) reference.kind reference.count next_input after names (mod_below a 8 (lit< tt)) fits.within
+    ∙ replies_alike byte (a - a % 8) (a % 8) are (ends a fits.longword) reference.kind reference.count next_input names (mod_below a 8 (lit< tt)) fits.within
 
 outside : (address count quad k : ℕ) → address % 8 + count ≤ 8 → quad % 8 ≡ 0 → quad ≢ address - address % 8 → k < 8 → (quad + k < address) ⊎ (address + count ≤ quad + k)
 outside address count quad k within aligned other l =

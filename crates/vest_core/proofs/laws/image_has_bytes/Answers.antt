@@ -1,7 +1,7 @@
 use Rattle.std.proofs.Common.{◌≡◌, ◌∙◌, ap, arith}
 use Rattle.image_file.specs.Values.{ImageValue}
-use Rattle.history_order.proofs.Images.{image_bytes}
-use Rattle.history_order.proofs.laws.image_has_bytes.Goals as goal
+use Rattle.vest_core.proofs.Images.{image_bytes}
+use Rattle.vest_core.proofs.laws.image_has_bytes.Goals as goal
 
 pub returns : goal.returns
 returns c =

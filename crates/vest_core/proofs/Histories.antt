@@ -22,13 +22,15 @@ use Rattle.vax_form.specs.Made.{Made, bytes_after, output_by, output_after, gets
 use Rattle.vax_driven.specs.Threads.{Threads, wanted}
 use Rattle.vax_driven.specs.Driven.{made_if, picked, walk}
 use Rattle.vax_driven.proofs.Changing.{bytes_stay}
-use Rattle.history_order.specs.Counted.{counts, is_counted, pick_of, order}
-use Rattle.history_order.specs.Quadwords.{quad_at, place_of, quad_address, names_memory, change_of, reply_found, reply_from, IsAccess, IsOfKind}
-use Rattle.history_order.specs.Explained.{with_reply, replies_by, IsWanted, Explained}
-use Rattle.history_order.specs.Matches.{InStep, IsSameAccess, IsSameKind, IsSame, KeepsOthers}
-use Rattle.history_order.specs.OneHistory.{image_bytes, world_of, IsDriven, OneHistory}
-use Rattle.history_order.proofs.Quads.{byte_at-quad_at, quadword_changes, quadword_replies, other_quadwords_stay}
-use Rattle.history_order.proofs.Neighbours.{neighbours_stay}
+use Rattle.system_model.specs.Counted.{counts, is_counted, pick_of, order}
+use Rattle.block_law.specs.References as block
+use Rattle.block_law.specs.References.{is_of_memory}
+use Rattle.system_model.specs.Quadwords.{quad_at, place_of, quad_address, change_of, reply_found, reply_from, IsAccess, IsOfKind}
+use Rattle.vest_core.specs.Explained.{with_reply, replies_by, IsWanted, Explained}
+use Rattle.system_model.specs.Matches.{InStep, IsSameAccess, IsSameKind, IsSame, KeepsOthers}
+use Rattle.vest_core.specs.OneHistory.{image_bytes, world_of, IsDriven, OneHistory}
+use Rattle.system_model.proofs.Quads.{byte_at-quad_at, quadword_changes, quadword_replies, other_quadwords_stay}
+use Rattle.system_model.proofs.Neighbours.{neighbours_stay}
 
 -- ---- choices
 
@@ -126,10 +128,10 @@ module _ (threads : Threads) (set_up : SetUp) where
 
   -- ---- an access
 
-  names : (reference : Reference) (kind : RefKind) → reference.kind ≡ kind → names_memory kind ≡ true → names_memory reference.kind ≡ true
-  names reference kind same n = ap names_memory same ∙ n
+  names : (reference : Reference) (kind : RefKind) → reference.kind ≡ kind → is_of_memory kind ≡ true → is_of_memory reference.kind ≡ true
+  names reference kind same n = ap is_of_memory same ∙ n
 
-  access_output : (kind : RefKind) (output : List ℕ) → names_memory kind ≡ true → output_by kind output ≡ output
+  access_output : (kind : RefKind) (output : List ℕ) → is_of_memory kind ≡ true → output_by kind output ≡ output
   access_output (Put value) output n = absurd (cc n)
   access_output Read output n = refl
   access_output (Write value) output n = refl
@@ -138,7 +140,7 @@ module _ (threads : Threads) (set_up : SetUp) where
   access_output (ClearBit bit) output n = refl
   access_output Get output n = refl
 
-  access_gets : (kind : RefKind) (gets : ℕ) → names_memory kind ≡ true → gets_by kind gets ≡ gets
+  access_gets : (kind : RefKind) (gets : ℕ) → is_of_memory kind ≡ true → gets_by kind gets ≡ gets
   access_gets Get gets n = absurd (cc n)
   access_gets (Put value) gets n = refl
   access_gets Read gets n = refl
@@ -158,10 +160,10 @@ module _ (threads : Threads) (set_up : SetUp) where
     was : IsAccess reference e → quad_at here (quad_address reference) ≡ e.before
     was is = stands.quads (quad_address reference) (aligned reference.address) ∙ ap (left_by set_up past) (sym is.quad) ∙ sym (found_left set_up past e fits is.memory)
 
-    becomes : IsAccess reference e → names_memory reference.kind ≡ true → quad_at (changed reference here) (quad_address reference) ≡ e.after
+    becomes : IsAccess reference e → is_of_memory reference.kind ≡ true → quad_at (changed reference here) (quad_address reference) ≡ e.after
     becomes is n = quadword_changes reference here is.fits stands.bytes n ∙ ap (quadwords.changed (change_of reference)) (was is) ∙ sym is.after
 
-    access_step : IsAccess reference e → names_memory reference.kind ≡ true → StandsAs (made_at made e reference ∷ made) (e ∷ past)
+    access_step : IsAccess reference e → is_of_memory reference.kind ≡ true → StandsAs (made_at made e reference ∷ made) (e ∷ past)
     access_step is n = record {
       bytes = bytes_stay reference here is.fits stands.bytes;
       quads = λ quad al.
@@ -176,12 +178,11 @@ module _ (threads : Threads) (set_up : SetUp) where
       gets = access_gets reference.kind (gets_after made) n ∙ stands.gets ∙ sym (memory_gets past e (no_get e.kind is.memory));
     }
 
-    access_reply : IsAccess reference e → names_memory reference.kind ≡ true → (made_at made e reference).reply ≡ reply_from reference e
+    access_reply : IsAccess reference e → is_of_memory reference.kind ≡ true → (made_at made e reference).reply ≡ reply_from reference e
     access_reply is n =
-        quadword_replies reference here (input_at set_up.input (gets_after made)) e.after is.fits stands.bytes n
-        ∙ ap (λ q. reply_found reference.kind (place_of reference) reference.count q e.after) (was is)
+        quadword_replies reference here (input_at set_up.input (gets_after made)) is.fits stands.bytes n ∙ ap (reply_found reference) (was is)
 
-    access_same : IsAccess reference e → names_memory reference.kind ≡ true → IsSameAccess here reference e
+    access_same : IsAccess reference e → is_of_memory reference.kind ≡ true → IsSameAccess here reference e
     access_same is n = record {
       memory = is.memory;
       quad = is.quad;
@@ -235,11 +236,11 @@ module _ (threads : Threads) (set_up : SetUp) where
     reply_as (ClearBit bit) same is = access_reply is (names reference (ClearBit bit) same refl)
     reply_as (Put value) same is =
         ap (λ k. reply_by k here (input_at set_up.input (gets_after made)) reference.address reference.count) same
-        ∙ sym (ap (λ k. reply_found k (place_of reference) reference.count e.before e.after) same)
+        ∙ sym (ap (λ k. block.reply_by k (place_of reference) reference.count e.before) same)
     reply_as Get same is =
         ap (λ k. reply_by k here (input_at set_up.input (gets_after made)) reference.address reference.count) same
-        ∙ ap (input_at set_up.input) stands.gets ∙ sym (found_input is) ∙ sym (left_input is)
-        ∙ sym (ap (λ k. reply_found k (place_of reference) reference.count e.before e.after) same)
+        ∙ ap (input_at set_up.input) stands.gets ∙ sym (found_input is)
+        ∙ sym (ap (λ k. block.reply_by k (place_of reference) reference.count e.before) same)
 
     same_as : (kind : RefKind) → reference.kind ≡ kind → IsOfKind kind reference e → IsSameKind kind here (made_at made e reference) e
     same_as Read same is = access_same is (names reference Read same refl)
@@ -249,7 +250,7 @@ module _ (threads : Threads) (set_up : SetUp) where
     same_as (ClearBit bit) same is = access_same is (names reference (ClearBit bit) same refl)
     same_as (Put value) same is = is
     same_as Get same is =
-        (is, sym (reply_as Get same is ∙ ap (λ k. reply_found k (place_of reference) reference.count e.before e.after) same))
+        (is, left_input is ∙ sym (reply_as Get same is ∙ ap (λ k. block.reply_by k (place_of reference) reference.count e.before) same))
 
   -- ---- one more entry
 

@@ -9,8 +9,8 @@ use Rattle.memory_core.specs.declared.entry.Entry.{Entry}
 use Rattle.memory_core.specs.Kinds.{is_memory}
 use Rattle.vax_form.specs.References.{changed, byte_count}
 use Rattle.vax_form.specs.Made.{Made, bytes_after}
-use Rattle.history_order.specs.Counted.{is_counted}
-use Rattle.history_order.specs.Quadwords.{quad_at, place_of, quad_address}
+use Rattle.system_model.specs.Counted.{is_counted}
+use Rattle.system_model.specs.Quadwords.{quad_at, place_of, quad_address}
 
 -- the counted entries and the references stand in step, and that holds of each entry, its reference and the references
 -- before it
@@ -29,6 +29,7 @@ pub record IsSameAccess (byte : ℕ → ℕ) (reference : Reference) (e : Entry)
   pub before : e.before ≡ quad_at byte e.quad
   pub after : e.after ≡ quad_at (changed reference byte) e.quad
 
+-- by the kind of the reference: an access, a PUT of its byte, or a GET of its reply
 abbrev pub IsSameKind : RefKind → (byte : ℕ → ℕ) → Made → Entry → Type 0
 IsSameKind Read byte m e = IsSameAccess byte m.reference e
 IsSameKind (Write value) byte m e = IsSameAccess byte m.reference e

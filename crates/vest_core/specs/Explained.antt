@@ -3,9 +3,10 @@ use Rattle.std.specs.Prelude.{◌≡◌, ℕ, true, List, [], ◌∷◌, ◌++�
 use Rattle.vax_form.specs.declared.state.Reference.{Reference}
 use Rattle.memory_core.specs.declared.entry.Entry.{Entry}
 use Rattle.vax_driven.specs.Threads.{Threads, wanted}
-use Rattle.history_order.specs.Counted.{is_counted}
-use Rattle.history_order.specs.Quadwords.{reply_from, IsOf}
+use Rattle.system_model.specs.Counted.{is_counted}
+use Rattle.system_model.specs.Quadwords.{reply_from, IsOf}
 
+-- the replies with the entry's, where its thread wants a reference
 abbrev pub with_reply : List ℕ → Entry → Option Reference → List ℕ
 with_reply replies e None = replies
 with_reply replies e (Some reference) = replies ++ reply_from reference e ∷ []

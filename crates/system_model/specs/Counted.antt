@@ -17,9 +17,11 @@ counts TieLocked success = true
 counts Put success = true
 counts Get success = true
 
+-- the entry stands for a reference
 abbrev pub is_counted : Entry → Bool
 is_counted e = counts e.kind e.success
 
+-- its thread, after the instructions that it had retired
 abbrev pub pick_of : Entry → Pick
 pick_of e = record { thread = e.processor; retired = e.retired }
 

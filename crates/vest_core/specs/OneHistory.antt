@@ -10,15 +10,16 @@ use Rattle.vax_form.specs.References.{AreBytes}
 use Rattle.vax_form.specs.Made.{Made, bytes_after, output_after, gets_after, replies_to}
 use Rattle.vax_driven.specs.Threads.{Threads}
 use Rattle.vax_driven.specs.Driven.{World, walk}
-use Rattle.history_order.specs.Counted.{order}
-use Rattle.history_order.specs.Quadwords.{quad_at}
-use Rattle.history_order.specs.Explained.{replies_by, Explained}
-use Rattle.history_order.specs.Matches.{Matches, KeepNeighbours}
+use Rattle.system_model.specs.Counted.{order}
+use Rattle.system_model.specs.Quadwords.{quad_at}
+use Rattle.vest_core.specs.Explained.{replies_by, Explained}
+use Rattle.system_model.specs.Matches.{Matches, KeepNeighbours}
 
 -- the bytes that a set-up's image has
 abbrev pub image_bytes : SetUp → ℕ → ℕ
 image_bytes set_up = byte_in set_up.image
 
+-- the threads, with the bytes and the input of a set-up
 abbrev pub world_of : Threads → SetUp → World
 world_of threads set_up = record { threads = threads; byte = image_bytes set_up; input = set_up.input }
 

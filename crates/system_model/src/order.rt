@@ -1,5 +1,5 @@
 ghost use Rattle.std.specs.Prelude.{◌≡◌, IfOk};
-ghost use Rattle.history_order.specs.Counted.{is_counted, pick_of, order};
+ghost use Rattle.system_model.specs.Counted.{is_counted, pick_of, order};
 
 use memory_core::{Entry, Kind};
 use std::alloc::{AllocError, Global};

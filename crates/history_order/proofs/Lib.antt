@@ -1,6 +1,0 @@
-pub mod Quads
-pub mod Neighbours
-pub mod Histories
-pub mod Images
-pub mod Orders
-pub mod Rows
