@@ -4,3 +4,4 @@ pub mod Quads
 pub mod Neighbours
 pub mod Orders
 pub mod Rows
+pub mod Interpreted

@@ -10,9 +10,9 @@ use Rattle.alpha_encode.specs.declared.instr.AlphaInstr.TheVariants.{Memory, Bra
 use Rattle.alpha_meaning.specs.declared.access.AlphaAccess.{AlphaAccess}
 use Rattle.alpha_meaning.specs.declared.access.AlphaKind.{AlphaKind}
 use Rattle.alpha_meaning.specs.declared.access.AlphaKind.TheVariants as alpha
-use Rattle.alpha_meaning.specs.Act.{Does, Goes, Asks, Calls, act, memory_act_by, finished}
-use Rattle.alpha_meaning.specs.Memory.{stores, address_of, access_of, kind_of as row_kind}
-use Rattle.alpha_meaning.proofs.Rows.{access_within}
+use Rattle.alpha_meaning.specs.Act.{Does, Goes, Asks, Calls, act, finished}
+use Rattle.alpha_meaning.specs.Memory.{stores}
+use Rattle.alpha_meaning.proofs.Rows.{asks_within}
 use Rattle.alpha_meaning.specs.Pieces.{quad_of, loaded, changed, Phase, Plain, Held, Failed, Made, Accesses, Acts, Steps, Forth, phase_after}
 use Rattle.alpha_meaning.specs.State.{Alpha, Regs, put, at_place}
 use Rattle.exception_records.specs.Codes.{all_ready}
@@ -392,19 +392,6 @@ module _ (setting : Setting) (thread : ℕ) (sound : IsSound setting.meaning) (r
     called_owed lt call point phase t c spare h = absurd h
 
     -- ---- one step
-    asks_within : (i : AlphaInstr) (c : Alpha) (a : AlphaAccess) → act i c ≡ Asks a → a.address % a.bytes ≡ 0 → a.address % 8 + a.bytes ≤ 8
-    asks_within (Memory op ra rb disp) c a h = by (row_kind op) h
-      where
-        by : (k : Option AlphaKind) → memory_act_by k op ra rb disp c ≡ Asks a → a.address % a.bytes ≡ 0 → a.address % 8 + a.bytes ≤ 8
-        by None h = absurd (cc h)
-        by (Some kind) h =
-            let same : access_of op kind (address_of op (c.regs rb) disp) (c.regs ra) ≡ a = cc h in
-            subst (λ (x : AlphaAccess). x.address % x.bytes ≡ 0 → x.address % 8 + x.bytes ≤ 8) same (access_within op (address_of op (c.regs rb) disp))
-    asks_within (Branch op ra disp) c a h = absurd (cc h)
-    asks_within (Operate op ra rb rc) c a h = absurd (cc h)
-    asks_within (Jump ra rb) c a h = absurd (cc h)
-    asks_within (Pal n) c a h = absurd (cc h)
-
     acts_owed : thread < 256 → (i : AlphaInstr) (phase : Phase) (t : Tree) (c : Alpha) (spare : ℕ) (what : Does) → act i c ≡ what
         → Acts what i (terms_of p) phase spare c (wants t) t
         (λ d. block.Lands (p.stops d.pc) (p.points d.pc) phase t p d.regs (Forth phase p.first c.pc d.pc × Ever p (phase_after phase c.pc d.pc) spare d t))
