@@ -1,6 +1,6 @@
 #!/usr/bin/env python3
-"""Runs `rt ci` in a fresh clone of HEAD and prints its time, and the processor seconds of each crate: of its library or
-program, of its tests, and of its must-fail edits. The processes are sampled; each ends within a third of a second of its
+"""Runs `rt ci --anew` in a fresh clone of HEAD and prints its time, and the processor seconds of each crate: of its library
+or program, of its tests, and of its must-fail edits. The processes are sampled; each ends within a third of a second of its
 last sample. What rt ci printed goes to the file that is named first, if any."""
 import collections
 import os
@@ -51,7 +51,7 @@ def sample(clone, seen):
 
 def gate(clone, log):
     seen, begun = {}, time.time()
-    run = subprocess.Popen(["rt", "ci"], cwd=clone, stdin=subprocess.DEVNULL, stdout=log, stderr=subprocess.STDOUT)
+    run = subprocess.Popen(["rt", "ci", "--anew"], cwd=clone, stdin=subprocess.DEVNULL, stdout=log, stderr=subprocess.STDOUT)
     while run.poll() is None:
         sample(clone, seen)
         time.sleep(PAUSE)
