@@ -22,6 +22,7 @@ use Rattle.block_law.specs.Translations.{Meets}
 use Rattle.system_model.specs.Settings.{Setting}
 use Rattle.system_model.specs.Processors.{Mode, New, Runs, Interprets, Ended, Processor, Lost, begun, turn, Reaches}
 use Rattle.system_model.specs.Legal.{starts, spent, IsGoing, IsReached, IsLegal}
+use Rattle.vest_core.specs.Entries.{AllPaired}
 use Rattle.vest_core.specs.Headline.{Claims, HasTies}
 use Rattle.vest_core.proofs.Facts.{IsShown, HasFewEntries, Facts}
 use Rattle.system_model.specs.Interpreted.{threads_of, ties_of, ties_in, end_in, has_raised}
@@ -29,6 +30,7 @@ use Rattle.vest_core.specs.Law.{IsRun, HasHeadline, LegalHasHeadline}
 use Rattle.block_law.specs.Sound.{IsSound}
 use Rattle.vest_core.proofs.Blocks.{Owes, IsForm, opens}
 use Rattle.vest_core.proofs.Boundaries.{fresh, enter}
+use Rattle.vest_core.proofs.Failures.{fail_for_cause}
 use Rattle.vest_core.proofs.Locks.{all_fair}
 use Rattle.vest_core.proofs.Processors.{facts}
 use Rattle.vest_core.proofs.Sums.{all_entries, own_none}
@@ -132,6 +134,10 @@ module _ (setting : Setting) (set_up : SetUp) (budget : ℕ) (entries : List Ent
   few_by thread None at = subst HasFewEntries (sym (own_none (length processors) entries thread legal.known (beyond processors thread at))) (omega arith)
   few_by thread (Some p) at = (each_facts thread p at).entries
 
+  paired_by : (thread : ℕ) (o : Option Processor) → slice_get processors thread ≡ o → AllPaired (own thread entries)
+  paired_by thread None at = subst AllPaired (sym (own_none (length processors) entries thread legal.known (beyond processors thread at))) tt
+  paired_by thread (Some p) at = (each_facts thread p at).paired
+
   whole : IsDriven threads set_up entries
   whole = one_history threads set_up entries run.bytes.image legal.order (λ thread. explained_by thread (slice_get processors thread) refl)
 
@@ -189,6 +195,7 @@ module _ (setting : Setting) (set_up : SetUp) (budget : ℕ) (entries : List Ent
           paired = f.paired;
         };
     few_entries = all_entries (length processors) entries legal.known (λ t. few_by t (slice_get processors t) refl);
+    failures = fail_for_cause set_up entries legal.order (λ t. paired_by t (slice_get processors t) refl);
   }
 
 pub legal_has_headline : LegalHasHeadline

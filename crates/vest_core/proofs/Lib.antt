@@ -5,6 +5,7 @@ pub mod Histories
 pub mod Paths
 pub mod Quads
 pub mod Locks
+pub mod Failures
 pub mod Reached
 pub mod Replying
 pub mod Fields

@@ -23,7 +23,7 @@ fair_if true e mine a f = (a, f refl)
 fair_if false e mine a f = a
 
 -- the entry of a lock
-locked_entry : (kind : Kind) (quad before : ℕ) (lock : Lock) → lock_by kind quad before ≡ Some lock → (kind ≡ LoadLocked) × (quad ≡ lock.quad) × (before ≡ lock.found)
+pub locked_entry : (kind : Kind) (quad before : ℕ) (lock : Lock) → lock_by kind quad before ≡ Some lock → (kind ≡ LoadLocked) × (quad ≡ lock.quad) × (before ≡ lock.found)
 locked_entry LoadLocked quad before lock h =
     let same : record { quad = quad; found = before } ≡ lock = cc h in
     (refl, ap (λ (x : Lock). x.quad) same, ap (λ (x : Lock). x.found) same)

@@ -14,6 +14,7 @@ use Rattle.block_law.specs.Translations.{Meets}
 use Rattle.system_model.specs.Settings.{Setting}
 use Rattle.system_model.specs.Processors.{Processor, Lost, turn}
 use Rattle.system_model.specs.Legal.{starts, IsLegal}
+use Rattle.vest_core.specs.Failures.{FailForCause}
 use Rattle.vest_core.specs.Headline.{Claims, HasTies, HasFewSteps}
 use Rattle.system_model.specs.Interpreted.{threads_of}
 use Rattle.vest_core.specs.Kinds.{AllMadeIn}
@@ -56,6 +57,8 @@ pub record HasHeadline (setting : Setting) (set_up : SetUp) (entries : List Entr
       → IsKept setting set_up entries thread (replies_to thread history.made) run p
   -- each entry that counts goes with at most one more, and each failed store too
   pub few_entries : length entries ≤ 2 * (counted_in entries + failed_in entries) + length processors
+  -- and a store fails only where another processor wrote its block in between, or the miss rule struck
+  pub failures : FailForCause set_up entries
 
 -- for instructions of any meaning that is sound, and any translation that meets it
 abbrev pub LegalHasHeadline : Type 0
