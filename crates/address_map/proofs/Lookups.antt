@@ -1,4 +1,4 @@
--- What is found by a number in a list of pairs in which that number rises.
+-- What is found by a number in a list in which that number rises.
 use Rattle.std.proofs.Common.{◌≡◌, ◌≢◌, ◌<◌, ◌≤◌, ℕ, Bool, true, false, zero, suc, refl, sym, ap, arith, List, [], ◌∷◌, length, get_or, eqb, nat_lt, ltb-true, ltb-false, Option, Some, None, Ok, Err}
 use Rattle.std.specs.Prelude.{find}
 use Rattle.std.specs.List.{AllAdjacentBelow}
@@ -12,13 +12,14 @@ use Rattle.std.proofs.lemmas.Cmp.{ranked}
 use Rattle.std.specs.Option.{option_map}
 use Rattle.address_map.specs.Pairs.{AllRise, Pair, address_at, word_at}
 
-module _ (key : Pair → ℕ) where
+-- of a list of anything that has such a number
+module _ {A : Type 0} (key : A → ℕ) where
   -- the number rises from each pair to the next
-  abbrev pub KeysRise : List Pair → Type 0
+  abbrev pub KeysRise : List A → Type 0
   KeysRise ps = AllAdjacentBelow (λ p q. key p < key q) ps (length ps)
 
   -- a pair further on has a higher number
-  pub below_later : (ps : List Pair) (i j : ℕ) (d : Pair) → KeysRise ps → i < j → j < length ps → key (get_or ps i d) < key (get_or ps j d)
+  pub below_later : (ps : List A) (i j : ℕ) (d : A) → KeysRise ps → i < j → j < length ps → key (get_or ps i d) < key (get_or ps j d)
   below_later ps i zero d rise lt within = absurd (omega arith)
   below_later ps i (suc j) d rise lt within = go (nat_lt i j) refl (λ h. below_later ps i j d rise h (omega arith))
     where
@@ -32,11 +33,11 @@ module _ (key : Pair → ℕ) where
           let same : i ≡ j = omega arith in
           rw same step
 
-  tail_rises : (p : Pair) (ps : List Pair) → KeysRise (p ∷ ps) → KeysRise ps
+  tail_rises : (p : A) (ps : List A) → KeysRise (p ∷ ps) → KeysRise ps
   tail_rises p ps rise = λ k d h. rw add-one (rw add-one at (rise (suc k) d (omega arith)))
 
   -- the pair that has the number is found
-  pub find_at : (ps : List Pair) (i x : ℕ) (d : Pair) → KeysRise ps → i < length ps → key (get_or ps i d) ≡ x → find (λ p. eqb (key p) x) ps ≡ Some (get_or ps i d)
+  pub find_at : (ps : List A) (i x : ℕ) (d : A) → KeysRise ps → i < length ps → key (get_or ps i d) ≡ x → find (λ p. eqb (key p) x) ps ≡ Some (get_or ps i d)
   find_at [] i x d rise within e = absurd (omega arith)
   find_at (p ∷ ps) zero x d rise within e = let here : eqb (key p) x ≡ true = eq-eqb (key p) x e in rw here refl
   find_at (p ∷ ps) (suc i) x d rise within e =
@@ -45,13 +46,13 @@ module _ (key : Pair → ℕ) where
       rw other (find_at ps i x d (tail_rises p ps rise) (omega arith) e)
 
   -- a number that no pair has isn't found
-  pub find_none : (ps : List Pair) (x : ℕ) → ((k : ℕ) (d : Pair) → k < length ps → key (get_or ps k d) ≢ x) → find (λ p. eqb (key p) x) ps ≡ None
+  pub find_none : (ps : List A) (x : ℕ) → ((k : ℕ) (d : A) → k < length ps → key (get_or ps k d) ≢ x) → find (λ p. eqb (key p) x) ps ≡ None
   find_none [] x other = refl
   find_none (p ∷ ps) x other =
       let here : eqb (key p) x ≡ false = ne_eqb (key p) x (other 0 p (omega arith)) in
       rw here (find_none ps x (λ k d h. other (suc k) d (omega arith)))
 
-  not_falling : (ps : List Pair) (x : ℕ) → KeysRise ps → IsNonDecreasingBy (λ p. ordering_index (nat_cmp (key p) x)) ps
+  not_falling : (ps : List A) (x : ℕ) → KeysRise ps → IsNonDecreasingBy (λ p. ordering_index (nat_cmp (key p) x)) ps
   not_falling ps x rise i j d le within = go (nat_lt i j) refl
     where
       order : (a b : ℕ) → a ≤ b → ordering_index (nat_cmp a x) ≤ ordering_index (nat_cmp b x)
@@ -65,8 +66,8 @@ module _ (key : Pair → ℕ) where
           rw same (omega arith)
 
   -- where it stands between the pairs below and those above, no pair has the number
-  apart : (ps : List Pair) (x i : ℕ) → IsPartitionPoint (λ p. nat_cmp (key p) x ≡ Less) (λ p. nat_cmp (key p) x ≡ Greater) ps i
-      → (k : ℕ) (d : Pair) → k < length ps → key (get_or ps k d) ≢ x
+  apart : (ps : List A) (x i : ℕ) → IsPartitionPoint (λ p. nat_cmp (key p) x ≡ Less) (λ p. nat_cmp (key p) x ≡ Greater) ps i
+      → (k : ℕ) (d : A) → k < length ps → key (get_or ps k d) ≢ x
   apart ps x i point k d h same = go (nat_lt k i) refl
     where
       go : (b : Bool) → nat_lt k i ≡ b → ⊥
@@ -78,23 +79,23 @@ module _ (key : Pair → ℕ) where
           omega arith
 
   -- what a binary search answers, in terms of the list
-  pub searched_at : (ps : List Pair) (x i : ℕ) → KeysRise ps → i < length ps → IsBinarySearchResult (λ p. nat_cmp (key p) x) ps (Ok i) → (d : Pair) → find (λ p. eqb (key p) x) ps ≡ Some (get_or ps i d)
+  pub searched_at : (ps : List A) (x i : ℕ) → KeysRise ps → i < length ps → IsBinarySearchResult (λ p. nat_cmp (key p) x) ps (Ok i) → (d : A) → find (λ p. eqb (key p) x) ps ≡ Some (get_or ps i d)
   searched_at ps x i rise within found d = find_at ps i x d rise within (ranked _ x _ (sym (found d)))
 
-  pub searched_none : (ps : List Pair) (x i : ℕ) → KeysRise ps → IsBinarySearchResult (λ p. nat_cmp (key p) x) ps (Err i) → find (λ p. eqb (key p) x) ps ≡ None
+  pub searched_none : (ps : List A) (x i : ℕ) → KeysRise ps → IsBinarySearchResult (λ p. nat_cmp (key p) x) ps (Err i) → find (λ p. eqb (key p) x) ps ≡ None
   searched_none ps x i rise parts = find_none ps x (apart ps x i (parts (not_falling ps x rise)))
 
-pub addresses_rise : (ps : List Pair) → AllRise ps → KeysRise (λ p. p.0) ps
+pub addresses_rise : (ps : List Pair) → AllRise ps → KeysRise (λ (p : Pair). p.0) ps
 addresses_rise ps rise = λ k d h. (rise k d h).0
 
-pub words_rise : (ps : List Pair) → AllRise ps → KeysRise (λ p. p.1) ps
+pub words_rise : (ps : List Pair) → AllRise ps → KeysRise (λ (p : Pair). p.1) ps
 words_rise ps rise = λ k d h. (rise k d h).1
 
 -- each pair of a rising list is looked up as it stands there
 pub word_at-pair : (ps : List Pair) (i : ℕ) (d : Pair) → AllRise ps → i < length ps → word_at ps (get_or ps i d).0 ≡ Some (get_or ps i d).1
 word_at-pair ps i d rise within =
-    ap (λ (o : Option Pair). option_map (λ (p : Pair). p.1) o) (find_at (λ p. p.0) ps i (get_or ps i d).0 d (addresses_rise ps rise) within refl)
+    ap (λ (o : Option Pair). option_map (λ (p : Pair). p.1) o) (find_at (λ (p : Pair). p.0) ps i (get_or ps i d).0 d (addresses_rise ps rise) within refl)
 
 pub address_at-pair : (ps : List Pair) (i : ℕ) (d : Pair) → AllRise ps → i < length ps → address_at ps (get_or ps i d).1 ≡ Some (get_or ps i d).0
 address_at-pair ps i d rise within =
-    ap (λ (o : Option Pair). option_map (λ (p : Pair). p.0) o) (find_at (λ p. p.1) ps i (get_or ps i d).1 d (words_rise ps rise) within refl)
+    ap (λ (o : Option Pair). option_map (λ (p : Pair). p.0) o) (find_at (λ (p : Pair). p.1) ps i (get_or ps i d).1 d (words_rise ps rise) within refl)

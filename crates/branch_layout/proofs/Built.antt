@@ -14,7 +14,7 @@ use Rattle.alpha_meaning.specs.Pieces.{HasAt}
 use Rattle.address_map.specs.Pairs.{Pair}
 use Rattle.exception_records.specs.Blocks.{BlockValue}
 use Rattle.exception_records.specs.Points.{Entry, WordsRise, point_at}
-use Rattle.exception_records.proofs.Lookups.{find_at, find_none}
+use Rattle.address_map.proofs.Lookups.{find_at, find_none}
 use Rattle.block_law.specs.Blocks.{IsBlockOf}
 use Rattle.block_law.specs.Translations.{fetch_of}
 use Rattle.branch_layout.specs.Layouts.{Placed, AreBlocks, words_of, shifted, IsFilled}
@@ -46,10 +46,10 @@ abbrev is_at : ℕ → Entry → Bool
 is_at word entry = eqb entry.0 word
 
 none_from : (bound word : ℕ) (points : List Entry) → All (λ entry. entry.0 < bound) points → bound ≤ word → find (is_at word) points ≡ None
-none_from bound word points under le = find_none points word (λ k d lt same. let low = under k d lt in absurd (omega arith))
+none_from bound word points under le = find_none (λ (p : Entry). p.0) points word (λ k d lt same. let low = under k d lt in absurd (omega arith))
 
 none_before : (first word : ℕ) (points : List Entry) → word < first → find (is_at word) (shifted first points) ≡ None
-none_before first word points lt = find_none (shifted first points) word (λ k d within same. let high = shifted_from first points k d within in absurd (omega arith))
+none_before first word points lt = find_none (λ (p : Entry). p.0) (shifted first points) word (λ k d within same. let high = shifted_from first points k d within in absurd (omega arith))
   where
     shifted_from : (first : ℕ) (points : List Entry) (k : ℕ) (d : Entry) → k < length (shifted first points) → first ≤ (get_or (shifted first points) k d).0
     shifted_from first [] k d lt = absurd (omega arith)
@@ -92,7 +92,7 @@ shifted_length first points = length-map points (λ (entry : Entry). (first + en
 pub points_within : (address : ℕ) (block : BlockValue) → IsBlockOf address block → All (λ entry. entry.0 < length block.words) block.points
 points_within address block of k d lt =
     let entry = get_or block.points k d in
-    let found = find_at block.points k entry.0 d of.points_rise lt refl in
+    let found = find_at (λ (p : Entry). p.0) block.points k entry.0 d of.points_rise lt refl in
     (of.points entry.0 entry.1 (ap (option_map (λ (p : Entry). p.1)) found)).within
 
 -- points go on rising

@@ -1,7 +1,7 @@
 -- Sums and differences without a carry.
 use Rattle.std.proofs.Common.{◌≡◌, ℕ, ◌+◌, ◌-◌, ◌%◌, Bool, false, refl, ap, add-zero}
 use Rattle.std.proofs.Math.IntN.{+ℤ_idr}
-use Rattle.std.specs.Prelude.{ℤ, ◌+ℤ◌, ◌-ℤ◌, nat_le, nat_lt, not}
+use Rattle.std.specs.Prelude.{◌+ℤ◌, ◌-ℤ◌, nat_le, nat_lt, not}
 use Rattle.vt_words.specs.Values.{modulus, signed_value, fits}
 use Rattle.vt_words.specs.Arithmetic.{coded_value, sum_of, difference_of}
 use Rattle.vax_form.specs.Size.{bytes_of}

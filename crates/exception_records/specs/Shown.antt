@@ -9,7 +9,7 @@ use Rattle.vax_form.specs.declared.state.Flags.{Flags}
 use Rattle.vax_form.specs.declared.state.VaxState.{VaxState}
 use Rattle.exception_records.specs.declared.rules.CodeRule.{CodeRule}
 use Rattle.exception_records.specs.declared.rules.Rules.{Rules}
-use Rattle.exception_records.specs.Codes.{codes_by, is_ready, all_ready}
+use Rattle.exception_records.specs.Codes.{codes_by, is_ready}
 
 -- what each Alpha register holds
 abbrev pub Regs : Type 0

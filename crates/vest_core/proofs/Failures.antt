@@ -1,6 +1,5 @@
 -- A store conditional behind its own load-locked access fails for a cause.
-use Rattle.std.proofs.Common.{◌≡◌, ℕ, suc, ◌==◌, ◌&&◌, ◌||◌, ◌⊎◌, inl, inr, Bool, true, false, not, if◌then◌else◌, List, [], ◌∷◌, Option, Some, None, refl, sym, ap, ◌∙◌, subst, arith}
-use Rattle.std.proofs.lemmas.Bool.Decides.{nat_tests}
+use Rattle.std.proofs.Common.{◌≡◌, ℕ, suc, ◌==◌, ◌&&◌, ◌||◌, ◌⊎◌, inl, inr, Bool, true, false, not, if◌then◌else◌, List, [], ◌∷◌, Option, Some, None, refl, sym, ap, ◌∙◌, subst, eq-eqb}
 use Rattle.memory_core.specs.declared.entry.Entry.{Entry}
 use Rattle.memory_core.specs.declared.entry.Kind.{Kind}
 use Rattle.memory_core.specs.declared.entry.Kind.TheVariants.{StoreConditional}
@@ -10,9 +9,6 @@ use Rattle.memory_core.specs.Order.{own, block_of, reserved_by, reserved, strike
 use Rattle.vest_core.specs.Entries.{Lock, lock_of, Paired, AllPaired, fails}
 use Rattle.vest_core.specs.Failures.{is_written_since, FailForCause}
 use Rattle.vest_core.proofs.Locks.{locked_entry}
-
-itself : (n : ℕ) → (n == n) ≡ true
-itself n = grind (arith, nat_tests)
 
 -- a lock reserves its block until another processor writes there
 reserves : (past : List Entry) (p quad : ℕ) (lock : Lock) → lock_of (own p past) ≡ Some lock → quad ≡ lock.quad → is_written_since past p (block_of quad) ≡ false → reserved past p (block_of quad) ≡ true
@@ -32,7 +28,7 @@ reserves (e ∷ past) p quad lock l at free = by (reserves past p quad lock) (e.
     by later true l free =
         let is = locked_entry e.kind e.quad e.before lock l in
         let same : quad ≡ e.quad = at ∙ sym is.1 in
-        ap (λ k. reserved_by k (block_of e.quad == block_of quad) (reserved past p (block_of quad))) is.0 ∙ ap (λ q. block_of e.quad == block_of q) same ∙ itself (block_of e.quad)
+        ap (λ k. reserved_by k (block_of e.quad == block_of quad) (reserved past p (block_of quad))) is.0 ∙ ap (λ q. block_of e.quad == block_of q) same ∙ eq-eqb (block_of e.quad) (block_of e.quad) refl
     by later false l free = onward wrote (is_written_since past p (block_of quad)) (reserved past p (block_of quad)) free (later l at)
 
 failed_is : (kind : Kind) (success : Bool) → fails kind success ≡ true → (kind ≡ StoreConditional) × (success ≡ false)
@@ -61,7 +57,7 @@ module _ (set_up : SetUp) where
           absurd (cc both)
 
   paired_at : (past : List Entry) (e : Entry) → AllPaired (own e.processor (e ∷ past)) → Paired e.kind (lock_of (own e.processor past)) e.quad
-  paired_at past e pairs = (subst (λ (b : Bool). AllPaired (if b then e ∷ own e.processor past else own e.processor past)) (itself e.processor) pairs).1
+  paired_at past e pairs = (subst (λ (b : Bool). AllPaired (if b then e ∷ own e.processor past else own e.processor past)) (eq-eqb e.processor e.processor refl) pairs).1
 
   paired_before : (past : List Entry) (e : Entry) (p : ℕ) (b : Bool) → AllPaired (if b then e ∷ own p past else own p past) → AllPaired (own p past)
   paired_before past e p true pairs = pairs.0

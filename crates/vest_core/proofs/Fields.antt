@@ -1,6 +1,5 @@
 -- Fields of quadwords, as changes of memory.
 use Rattle.std.proofs.Common.{◌≡◌, ℕ, zero, suc, ◌<◌, ◌≤◌, ◌+◌, ◌-◌, ◌*◌, ◌/◌, ◌%◌, ◌^◌, ◌==◌, Bool, true, false, if◌then◌else◌, refl, sym, ap, ◌∙◌, subst, arith, lit<, ⊎_elim, bit_and, bit_or}
-use Rattle.std.proofs.lemmas.Bool.Decides.{nat_tests}
 use Rattle.std.proofs.lemmas.Nat.{or_lt, and_le_l, and_le_r, pow-add, pow_below, pow_pos, shl-shr, mod_below}
 use Rattle.std.proofs.lemmas.Nat.Bits.{bit_at-lt}
 use Rattle.std.specs.Int.{bit_at, byte_at}
@@ -13,6 +12,7 @@ use Rattle.memory_core.specs.Bytes.{with_bytes, word_at}
 use Rattle.memory_core.specs.Changes.{changed}
 use Rattle.memory_core.specs.declared.entry.Change.{Change}
 use Rattle.memory_core.specs.declared.entry.Change.TheVariants as changes
+use Rattle.memory_core.proofs.Choices.{same_number}
 use Rattle.memory_core.proofs.Neighbours.{below_8, byte_at-with_bytes, others_stay}
 use Rattle.vax_form.specs.declared.state.RefKind.{RefKind}
 use Rattle.vax_form.specs.declared.state.RefKind.TheVariants.{Read, Write, Add, SetBit, ClearBit, Put, Get}
@@ -94,12 +94,6 @@ pub field_stored : (q at count v : ℕ) → q < 2 ^ 64 → at + count ≤ 8 → 
 field_stored q at count v small within = ap (λ m. with_bytes m (v * 2 ^ (8 * at)) q) (mask_is at count) ∙ run_field q at count v small within
 
 -- ---- one bit of one byte
-same_test : (a b : ℕ) → (a == b) ≡ true → a ≡ b
-same_test a b h = grind (arith, nat_tests)
-
-test_itself : (a : ℕ) → (a == a) ≡ true
-test_itself a = grind (arith, nat_tests)
-
 -- the byte of a bit
 bit_byte : (at n : ℕ) → n < 8 → byte_of at (2 ^ (8 * at + n)) ≡ 2 ^ n
 bit_byte at n l =
@@ -152,7 +146,7 @@ by_byte change q at v small l lv lc here apart =
 
     at_place : (k : ℕ) → k < 8 → (b : Bool) → (k == at) ≡ b → (if (if b then 1 else 0) == 1 then byte_at k (v * 2 ^ (8 * at)) else byte_at k q) ≡ byte_of k (changed change q)
     at_place k l' true e =
-        let same = same_test k at e in
+        let same = same_number k at e in
         byte_is k (v * 2 ^ (8 * at)) l' ∙ ap (λ n. byte_of n (v * 2 ^ (8 * at))) same ∙ mod_of v at lv ∙ sym here ∙ ap (λ n. byte_of n (changed change q)) (sym same)
     at_place k l' false e = sym (apart k l' e) ∙ byte_is k (changed change q) l'
 

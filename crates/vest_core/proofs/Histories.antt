@@ -1,5 +1,5 @@
 -- One history is the threads driven by its order.
-use Rattle.std.proofs.Common.{◌≡◌, ◌≢◌, ℕ, suc, ◌+◌, ◌-◌, ◌%◌, ◌==◌, ◌&&◌, Bool, true, false, if◌then◌else◌, List, [], ◌∷◌, ◌++◌, Some, refl, sym, ap, ◌∙◌, subst, arith, lit<}
+use Rattle.std.proofs.Common.{◌≡◌, ◌≢◌, ℕ, suc, ◌+◌, ◌-◌, ◌%◌, ◌==◌, ◌&&◌, Bool, true, false, if◌then◌else◌, List, [], ◌∷◌, ◌++◌, Some, refl, sym, ap, ◌∙◌, subst, arith, lit<, eq-eqb}
 use Rattle.std.specs.Int.{byte_at}
 use Rattle.std.proofs.lemmas.Bool.Decides.{nat_tests}
 use Rattle.std.proofs.lemmas.Nat.{mod_below}
@@ -41,9 +41,6 @@ if_same false x y z p q = q refl
 if_within : {A B : Type 0} (f : A → B) (b : Bool) (x y : A) (z : B) → (b ≡ true → f x ≡ z) → (b ≡ false → f y ≡ z) → f (if b then x else y) ≡ z
 if_within f true x y z p q = p refl
 if_within f false x y z p q = q refl
-
-itself : (p : ℕ) → (p == p) ≡ true
-itself p = grind (arith, nat_tests)
 
 other_place : (m : Bool) (a q : ℕ) → (m && (a == q)) ≡ false → m ≡ true → q ≢ a
 other_place true a q h t = λ same. grind (arith, nat_tests)
@@ -348,7 +345,7 @@ module _ (threads : Threads) (set_up : SetUp) where
 
   explained_at : (past : List Entry) (e : Entry) → ((t : ℕ) → Explained threads t (own t (e ∷ past))) → Explained threads e.processor (e ∷ own e.processor past)
   explained_at past e x =
-      subst (λ (b : Bool). Explained threads e.processor (if b then e ∷ own e.processor past else own e.processor past)) (itself e.processor) (x e.processor)
+      subst (λ (b : Bool). Explained threads e.processor (if b then e ∷ own e.processor past else own e.processor past)) (eq-eqb e.processor e.processor refl) (x e.processor)
 
   drop_newest : (t : ℕ) (e : Entry) (mine : List Entry) (b : Bool) → Explained threads t (if b then e ∷ mine else mine) → Explained threads t mine
   drop_newest t e mine true x = x.0
