@@ -180,18 +180,36 @@ fn increment_in(machine: &mut Machine, threads: u32, more: u8) -> bool {
     true
 }
 
+// The increments by accesses in that order, where each processor makes its two references.
+fn print_increments(rt: &impl Print, alloc: Global, image: &Image, threads: u32) -> io::Result<()>
+    requires { IsWhole image.now }
+{
+    let mut machine = Machine::new(alloc, image, 0)?;
+    if !increment_in(&mut machine, threads, 1) {
+        return Ok(());
+    }
+    print!(rt; "increments by accesses: ")?;
+    print_history(rt, alloc, image, machine.history(), &COUNTS, BYTE)
+}
+
 /// The increments by accesses, for every list of four picks by which each processor makes its two references: the
 /// history matches the threads driven by its order.
 pub fn increments_by_accesses(rt: &impl Print, alloc: Global) -> io::Result<()> {
     let image = image_of(alloc, &[0x200, 0x200], &INCREMENT, &[])?;
     for threads in 0..16 {
-        let mut machine = Machine::new(alloc, &image, 0)?;
-        if increment_in(&mut machine, threads, 1) {
-            print!(rt; "increments by accesses: ")?;
-            print_history(rt, alloc, &image, machine.history(), &COUNTS, BYTE)?;
-        }
+        print_increments(rt, alloc, &image, threads)?;
     }
     Ok(())
+}
+
+// Each processor adds 2 to the byte.
+fn print_by_two(rt: &impl Print, alloc: Global, image: &Image) -> io::Result<()>
+    requires { IsWhole image.now }
+{
+    let mut machine = Machine::new(alloc, image, 0)?;
+    increment_in(&mut machine, 0b1100, 2);
+    print!(rt; "increments by two: ")?;
+    print_history(rt, alloc, image, machine.history(), &COUNTS, BYTE)
 }
 
 // Each processor adds 1 to the byte by one load-locked access and one store conditional, and loads nothing before.
@@ -202,15 +220,18 @@ fn increment_at_once(machine: &mut Machine) {
     }
 }
 
+fn print_at_once(rt: &impl Print, alloc: Global, image: &Image) -> io::Result<()>
+    requires { IsWhole image.now }
+{
+    let mut machine = Machine::new(alloc, image, 0)?;
+    increment_at_once(&mut machine);
+    print!(rt; "increments in one access: ")?;
+    print_history(rt, alloc, image, machine.history(), &COUNTS, BYTE)
+}
+
 /// Histories of other accesses than the threads make: they add 2 to the byte, or increment it in one access each.
 pub fn other_accesses(rt: &impl Print, alloc: Global) -> io::Result<()> {
     let image = image_of(alloc, &[0x200, 0x200], &INCREMENT, &[])?;
-    let mut machine = Machine::new(alloc, &image, 0)?;
-    increment_in(&mut machine, 0b1100, 2);
-    print!(rt; "increments by two: ")?;
-    print_history(rt, alloc, &image, machine.history(), &COUNTS, BYTE)?;
-    let mut machine = Machine::new(alloc, &image, 0)?;
-    increment_at_once(&mut machine);
-    print!(rt; "increments in one access: ")?;
-    print_history(rt, alloc, &image, machine.history(), &COUNTS, BYTE)
+    print_by_two(rt, alloc, &image)?;
+    print_at_once(rt, alloc, &image)
 }

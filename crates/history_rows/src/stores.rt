@@ -47,15 +47,28 @@ const QUADWORD: Bytes = Bytes {
     count: 8,
 };
 
+// Prints the history of one processor that stores these bytes at their places, and what the thread leaves.
+fn print_stores(
+    rt: &impl Print,
+    alloc: Global,
+    image: &Image,
+    stores: &[(u8, u8)],
+    bytes: Bytes,
+) -> io::Result<()>
+    requires { IsWhole image.now }
+{
+    let machine = machine_of_bytes(alloc, image, stores)?;
+    print_history(rt, alloc, image, machine.history(), &[4], bytes)
+}
+
 fn byte_at_place(rt: &impl Print, alloc: Global, k: u8) -> io::Result<()> {
     // MOVZBL #EE,R0; MOVL #100k,R1; MOVB R0,(R1); EXIT
     let code = [
         0x9A, 0x8F, 0xEE, 0x50, 0xD0, 0x8F, k, 0x10, 0x00, 0x00, 0x51, 0x90, 0x50, 0x61, 0xBC, 0x01,
     ];
     let image = image_of(alloc, &[0x200], &code, &STORED)?;
-    let machine = machine_of_bytes(alloc, &image, &[(k, 0xEE)])?;
     print!(rt; "byte at 100{k}: ")?;
-    print_history(rt, alloc, &image, machine.history(), &[4], QUADWORD)
+    print_stores(rt, alloc, &image, &[(k, 0xEE)], QUADWORD)
 }
 
 /// A byte is stored at each place of a quadword: one pick, and the other seven bytes stand.
@@ -81,9 +94,8 @@ pub fn word_across_quadwords(rt: &impl Print, alloc: Global) -> io::Result<()> {
         count: 4,
     };
     let image = image_of(alloc, &[0x200], &word_code([0x07, 0x10]), &[])?;
-    let machine = machine_of_bytes(alloc, &image, &[(7, 0xDD), (8, 0xEE)])?;
     print!(rt; "word at 1007: ")?;
-    print_history(rt, alloc, &image, machine.history(), &[4], word)
+    print_stores(rt, alloc, &image, &[(7, 0xDD), (8, 0xEE)], word)
 }
 
 /// Its second byte would be in a page that the image lacks: no pick, and a pick wants nothing.
@@ -203,13 +215,24 @@ fn machine_that_misses(alloc: Global, image: &Image) -> io::Result<Machine>
     Ok(machine)
 }
 
+fn print_misses(
+    rt: &impl Print,
+    alloc: Global,
+    image: &Image,
+    order: &[Pick],
+    failed: usize,
+) -> io::Result<()>
+    requires { IsWhole image.now }
+{
+    let counted = counted(order, 0);
+    print!(rt; "stores that miss: counted {counted} failed {failed}")?;
+    print_driven(rt, alloc, image, order, &[INSTRUCTIONS], QUADWORD)
+}
+
 /// One thread stores, and each second of its store conditionals fails.
 pub fn stores_that_miss(rt: &impl Print, alloc: Global) -> io::Result<()> {
     let image = image_of(alloc, &[0x200], &LOOP, &[0xFF; 8])?;
     let machine = machine_that_misses(alloc, &image)?;
     let order = machine.order(alloc)?;
-    let counted = counted(&order, 0);
-    let failed = machine.failed();
-    print!(rt; "stores that miss: counted {counted} failed {failed}")?;
-    print_driven(rt, alloc, &image, &order, &[INSTRUCTIONS], QUADWORD)
+    print_misses(rt, alloc, &image, &order, machine.failed())
 }
