@@ -1,12 +1,12 @@
 // A history beside the threads that are driven by its order.
 ghost use Rattle.image_file.specs.Whole.{IsWhole};
 
+use crate::machine::Machine;
 use crate::runs::{Bytes, byte_at, print_by_order, run_by};
 use image_file::Image;
 use memory_core::{Entry, Kind};
 use std::alloc::Global;
-use std::io::{self, ErrorKind};
-use system_model::order_of;
+use std::io;
 use vax_form::{Pick, Reference};
 use vax_run::DrivenRun;
 
@@ -84,22 +84,20 @@ fn matches(alloc: Global, image: &Image, history: &[Entry], order: &[Pick]) -> i
     Ok(true)
 }
 
-/// Prints whether a history matches the references of the threads that are driven by its order, the order, what the
-/// threads leave of these bytes, and the end of each.
+/// Prints whether the history of a machine matches the references of the threads that are driven by its order, the order,
+/// what the threads leave of these bytes, and the end of each.
 pub fn print_history(
     rt: &impl Print,
     alloc: Global,
     image: &Image,
-    history: &[Entry],
+    machine: &Machine,
     counts: &[u64],
     bytes: Bytes,
 ) -> io::Result<()>
     requires { IsWhole image.now }
 {
-    let Ok(order) = order_of(alloc, history) else {
-        return Err(ErrorKind::OutOfMemory.into());
-    };
-    if matches(alloc, image, history, &order)? {
+    let order = machine.order(alloc)?;
+    if matches(alloc, image, machine.history(), &order)? {
         print!(rt; "matches ")?;
     } else {
         print!(rt; "doesn't match ")?;

@@ -105,7 +105,7 @@ fn print_accesses(rt: &impl Print, alloc: Global, image: &Image, place: u8) -> i
     let mut machine = Machine::new(alloc, image, 0)?;
     let loaded = load_at(&mut machine, place) >> 16 & 0xFFFF_FFFF;
     print!(rt; "longword by accesses: loaded {loaded:08X} ")?;
-    print_history(rt, alloc, image, machine.history(), &COUNTS, AROUND)
+    print_history(rt, alloc, image, &machine, &COUNTS, AROUND)
 }
 
 /// The same by accesses, with the load before, between and behind those of the write: what is loaded, the order that is
@@ -189,7 +189,7 @@ fn print_increments(rt: &impl Print, alloc: Global, image: &Image, threads: u32)
         return Ok(());
     }
     print!(rt; "increments by accesses: ")?;
-    print_history(rt, alloc, image, machine.history(), &COUNTS, BYTE)
+    print_history(rt, alloc, image, &machine, &COUNTS, BYTE)
 }
 
 /// The increments by accesses, for every list of four picks by which each processor makes its two references: the
@@ -209,7 +209,7 @@ fn print_by_two(rt: &impl Print, alloc: Global, image: &Image) -> io::Result<()>
     let mut machine = Machine::new(alloc, image, 0)?;
     increment_in(&mut machine, 0b1100, 2);
     print!(rt; "increments by two: ")?;
-    print_history(rt, alloc, image, machine.history(), &COUNTS, BYTE)
+    print_history(rt, alloc, image, &machine, &COUNTS, BYTE)
 }
 
 // Each processor adds 1 to the byte by one load-locked access and one store conditional, and loads nothing before.
@@ -226,7 +226,7 @@ fn print_at_once(rt: &impl Print, alloc: Global, image: &Image) -> io::Result<()
     let mut machine = Machine::new(alloc, image, 0)?;
     increment_at_once(&mut machine);
     print!(rt; "increments in one access: ")?;
-    print_history(rt, alloc, image, machine.history(), &COUNTS, BYTE)
+    print_history(rt, alloc, image, &machine, &COUNTS, BYTE)
 }
 
 /// Histories of other accesses than the threads make: they add 2 to the byte, or increment it in one access each.

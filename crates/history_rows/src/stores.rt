@@ -58,7 +58,7 @@ fn print_stores(
     requires { IsWhole image.now }
 {
     let machine = machine_of_bytes(alloc, image, stores)?;
-    print_history(rt, alloc, image, machine.history(), &[4], bytes)
+    print_history(rt, alloc, image, &machine, &[4], bytes)
 }
 
 fn byte_at_place(rt: &impl Print, alloc: Global, k: u8) -> io::Result<()> {

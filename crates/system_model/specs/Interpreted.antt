@@ -1,5 +1,6 @@
 -- The interpreted steps of a driven thread.
 use Rattle.std.specs.Prelude.{ℕ, zero, suc, ◌+◌, Bool, true, false, List, [], ◌∷◌, Option, Some, None, if◌then◌else◌}
+use Rattle.std.specs.Option.{is_some}
 use Rattle.vax_form.specs.Pages.{first_bad}
 use Rattle.vax_form.specs.Tree.{Tree, Check, Ask, Fault, Ends, Life, Runs, Exited, Trapped, Retired}
 use Rattle.vax_form.specs.declared.pages.Pages.{Pages}
@@ -12,11 +13,6 @@ use Rattle.system_model.specs.Settings.{Setting, goes_on}
 -- the threads that start so, by what instructions mean
 abbrev pub threads_of : Setting → (starts : ℕ → Option VaxState) → Threads
 threads_of setting starts = record { pages = setting.meaning.pages; start = starts; tree = setting.meaning.tree }
-
--- there is such a word
-abbrev pub is_some : Option ℕ → Bool
-is_some None = false
-is_some (Some n) = true
 
 -- the thread's instruction at this address runs in Alpha code: it is mapped, and in no range of the thread
 abbrev pub is_translated : Setting → (thread pc : ℕ) → Bool

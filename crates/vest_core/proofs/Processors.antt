@@ -1,5 +1,6 @@
 -- Each processor's own entries are those of its thread.
 use Rattle.std.proofs.Common.{◌≡◌, ◌≢◌, ℕ, suc, ◌+◌, ◌-◌, ◌*◌, ◌<◌, ◌≤◌, Bool, true, false, if◌then◌else◌, List, [], ◌∷◌, ◌++◌, Option, Some, None, refl, sym, ap, ◌∙◌, subst, arith, length}
+use Rattle.std.specs.Option.{is_some}
 use Rattle.std.specs.Prelude.{MatchBool}
 use Rattle.alpha_meaning.specs.State.{Alpha, Regs, at_place}
 use Rattle.memory_core.specs.declared.entry.Entry.{Entry}
@@ -26,7 +27,7 @@ use Rattle.vest_core.specs.Headline.{Claims}
 use Rattle.vest_core.proofs.Facts.{IsShown, Facts}
 use Rattle.vest_core.proofs.Fair.{IsFair, AllFair}
 use Rattle.vest_core.proofs.Judged.{MadeBy, share_by, share_of}
-use Rattle.system_model.specs.Interpreted.{threads_of, is_some, is_translated, made_in, ties_in, end_in, ties_of, ties_open}
+use Rattle.system_model.specs.Interpreted.{threads_of, is_translated, made_in, ties_in, end_in, ties_of, ties_open}
 use Rattle.vest_core.specs.Kinds.{IsMadeIn, translated_at, AllMadeIn}
 use Rattle.system_model.specs.Quadwords.{reply_from}
 use Rattle.vax_form.specs.Ranges.{IsInRange, StaysInRange}
