@@ -1,7 +1,9 @@
 -- Meanings of instructions that go with processors.
 use Rattle.std.specs.Prelude.{◌≡◌, ◌<◌, ℕ, ◌≤◌}
 use Rattle.vax_form.specs.declared.state.VaxState.{VaxState}
+use Rattle.vax_form.specs.Moments.{handled}
 use Rattle.vax_form.specs.Ranges.{StaysInRange}
+use Rattle.vax_form.specs.declared.state.Pending.TheVariants.{Nothing}
 use Rattle.block_law.specs.Services.{service}
 use Rattle.block_law.specs.Translations.{Meaning}
 
@@ -9,5 +11,7 @@ use Rattle.block_law.specs.Translations.{Meaning}
 -- most 256 steps more
 pub record IsSound (meaning : Meaning) : Type 0 where
   pub ranged : (thread : ℕ) → thread < 256 → StaysInRange (meaning.tree thread)
+  pub moments_ranged : (thread : ℕ) → thread < 256 → StaysInRange (meaning.moment thread)
+  pub moments : (thread : ℕ) (state : VaxState) → state.pending ≡ Nothing → meaning.moment thread state ≡ handled meaning.pages state (meaning.tree thread state)
   pub serves : (thread code : ℕ) (state : VaxState) → meaning.serve thread code state ≡ service thread code state
   pub few : (address : ℕ) → meaning.bonus address ≤ 256

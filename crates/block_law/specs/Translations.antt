@@ -25,6 +25,8 @@ use Rattle.block_law.specs.Tidy.{IsTidy}
 pub record Meaning : Type 0 where
   pub pages : Pages
   pub tree : (thread : ℕ) → VaxState → Tree
+  -- what a thread does at a state: its instruction, whose exceptions its handler takes, or what is pending
+  pub moment : (thread : ℕ) → VaxState → Tree
   pub serve : (thread code : ℕ) → VaxState → Tree
   pub written : (address : ℕ) → Flags
   pub kinds : (address : ℕ) → AlphaKind → (bytes : ℕ) → Bool

@@ -7,6 +7,7 @@ use Rattle.vt_words.specs.Values.{bit}
 use Rattle.vax_form.specs.State.{with_core}
 use Rattle.vax_form.specs.declared.state.Flags.{Flags}
 use Rattle.vax_form.specs.declared.state.VaxState.{VaxState}
+use Rattle.vax_form.specs.declared.state.Pending.TheVariants.{Nothing}
 use Rattle.exception_records.specs.declared.rules.CodeRule.{CodeRule}
 use Rattle.exception_records.specs.declared.rules.Rules.{Rules}
 use Rattle.exception_records.specs.Codes.{codes_by, is_ready}
@@ -45,8 +46,8 @@ abbrev pub psw_shown : Regs → Rules → (held : Flags) → ℕ
 psw_shown regs rules held = psw_with (regs 20) (codes_shown regs rules held)
 
 -- the state: R0 to R14 by their low longwords, the PC, and the processor status word
-abbrev pub shown : Regs → (vax_pc : ℕ) → Rules → (held : Flags) → VaxState
-shown regs vax_pc rules held = record { r = registers_shown regs; pc = vax_pc; psw = psw_shown regs rules held }
+abbrev pub shown : Regs → (vax_pc : ℕ) → Rules → (held : Flags) → (handler : ℕ) → VaxState
+shown regs vax_pc rules held handler = record { r = registers_shown regs; pc = vax_pc; psw = psw_shown regs rules held; handler = handler; pending = Nothing }
 
 -- the registers show R0 to R14, the PC and the processor status word of a state
 abbrev pub Shows : Regs → (vax_pc : ℕ) → Rules → (held : Flags) → VaxState → Type 0

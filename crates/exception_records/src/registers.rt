@@ -2,7 +2,7 @@ ghost use Rattle.std.specs.Prelude.{◌≡◌, ◌%◌, ◌^◌, slice_index};
 ghost use Rattle.exception_records.specs.Shown.{code_shown, codes_shown, psw_shown, shown};
 
 use crate::rules::{CodeRule, Rules};
-use vax_form::{Flags, VaxState};
+use vax_form::{Flags, Pending, VaxState};
 
 // A code in its register where it is ready or held there, else by its rule.
 fn code_shown(rule: CodeRule, held: bool, in_register: bool, by_rule: bool) -> bool
@@ -51,8 +51,8 @@ fn low(value: u64) -> u32
 
 /// The VAX state at a boundary, as 32 registers of translated code show it: R0 to R14 by the low longwords of their
 /// registers, the PC, and the PSW by R20 and the condition codes.
-pub fn shown(registers: &[u64; 32], vax_pc: u32, rules: &Rules, held: &Flags) -> VaxState
-    ensures { result ≡ shown (slice_index registers.now) vax_pc rules.now held.now }
+pub fn shown(registers: &[u64; 32], vax_pc: u32, rules: &Rules, held: &Flags, handler: u32) -> VaxState
+    ensures { result ≡ shown (slice_index registers.now) vax_pc rules.now held.now handler }
 {
     VaxState {
         r: [
@@ -74,5 +74,7 @@ pub fn shown(registers: &[u64; 32], vax_pc: u32, rules: &Rules, held: &Flags) ->
         ],
         pc: vax_pc,
         psw: psw_shown(registers, rules, held),
+        handler,
+        pending: Pending::Nothing,
     }
 }

@@ -154,7 +154,7 @@ fn shows_the_state(rt: HostRuntime) -> Result<(), Fail> {
     for (rules, held, codes, psw) in rows {
         let held = flags(held);
         assert_eq!(rt; codes_shown(&registers, &rules, &held), flags(codes));
-        let state = shown(&registers, 0x207, &rules, &held);
+        let state = shown(&registers, 0x207, &rules, &held, 0);
         assert_eq!(rt; state.pc, 0x207);
         assert_eq!(rt; state.psw, psw);
         assert_eq!(rt; state.r[0], 0x8000_0001);

@@ -1,7 +1,7 @@
 ghost use Rattle.std.specs.Prelude.{◌≡◌, false, is_some};
 
 use std::marker::Model;
-use vax_form::{Pages, VaxState};
+use vax_form::{Pages, Pending, VaxState};
 
 /// Where a thread starts: its PC and its stack pointer.
 #[derive(Clone, Copy, Debug, PartialEq, Eq)]
@@ -23,6 +23,8 @@ impl Start {
             r,
             pc: self.pc,
             psw: 0,
+            handler: 0,
+            pending: Pending::Nothing,
         }
     }
 }

@@ -27,13 +27,14 @@ with_register_is n value state small is = record {
   longwords = All-set IsLongword state.r n value small is.longwords;
   pc = is.pc;
   psw = is.psw;
+  handler = is.handler;
 }
 
 pub with_pc_is : (pc : ℕ) (state : VaxState) → IsLongword pc → IsState state → IsState (with_pc pc state)
-with_pc_is pc state small is = record { registers = is.registers; longwords = is.longwords; pc = small; psw = is.psw }
+with_pc_is pc state small is = record { registers = is.registers; longwords = is.longwords; pc = small; psw = is.psw; handler = is.handler }
 
 pub with_psw_is : (psw : ℕ) (state : VaxState) → psw < 256 → IsState state → IsState (with_psw psw state)
-with_psw_is psw state small is = record { registers = is.registers; longwords = is.longwords; pc = is.pc; psw = small }
+with_psw_is psw state small is = record { registers = is.registers; longwords = is.longwords; pc = is.pc; psw = small; handler = is.handler }
 
 bit_below : (b : Bool) → bit b ≤ 1
 bit_below true = omega arith

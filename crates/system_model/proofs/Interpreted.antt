@@ -6,6 +6,7 @@ use Rattle.vax_form.specs.declared.state.Exception.TheVariants.{Breakpoint}
 use Rattle.vax_form.specs.declared.state.Reference.{Reference}
 use Rattle.vax_form.specs.declared.state.RefKind.{RefKind}
 use Rattle.vax_form.specs.declared.state.RefKind.TheVariants.{Read, Write}
+use Rattle.vax_form.specs.declared.state.Pending.TheVariants.{Nothing}
 use Rattle.vax_form.specs.declared.state.VaxState.{VaxState}
 use Rattle.memory_core.specs.declared.entry.Entry.{Entry}
 use Rattle.memory_core.specs.declared.entry.Kind.TheVariants as kinds
@@ -18,7 +19,7 @@ use Rattle.system_model.specs.declared.translation.End.TheVariants.{Raised}
 use Rattle.system_model.specs.declared.translation.Range.{Range}
 
 abbrev state_at : (pc : ℕ) → VaxState
-state_at pc = record { r = replicate 15 0; pc = pc; psw = 0 }
+state_at pc = record { r = replicate 15 0; pc = pc; psw = 0; handler = 0; pending = Nothing }
 
 abbrev byte : RefKind → Reference
 byte kind = record { address = 0x1001; count = 1; kind = kind }
@@ -37,6 +38,7 @@ module _ (pages : Pages) where
   meaning = record {
     pages = pages;
     tree = λ thread state. tree_at state.pc;
+    moment = λ thread state. tree_at state.pc;
     serve = λ thread code state. Ends (Exit state);
     written = λ address. all_held;
     kinds = λ address kind bytes. true;
@@ -51,13 +53,13 @@ module _ (pages : Pages) where
   abbrev ranged : Setting
   ranged = record mapped { ranges = range 0x200 0x201 ∷ [] }
 
-  in_code : goes_on mapped 0 0x200 ≡ Some 0
+  in_code : goes_on mapped 0 (state_at 0x200) ≡ Some 0
   in_code = refl
 
-  in_range : goes_on ranged 0 0x200 ≡ None
+  in_range : goes_on ranged 0 (state_at 0x200) ≡ None
   in_range = refl
 
-  range_of_another : goes_on ranged 1 0x200 ≡ Some 0
+  range_of_another : goes_on ranged 1 (state_at 0x200) ≡ Some 0
   range_of_another = refl
 
   -- ---- its turns

@@ -18,7 +18,9 @@ use Rattle.vax_form.specs.Tree as trees
 use Rattle.vax_form.specs.declared.state.Exception.{Exception}
 use Rattle.vax_form.specs.declared.state.VaxState.{VaxState}
 use Rattle.system_model.specs.Settings.{Setting}
-use Rattle.system_model.specs.Steps.{Last, Comes, Fails, Place, Inside, Lands, Leaves, Next, Moves, Wants, Stuck, Moment, state_at, behind, with_r0, is_defined, accesses, raised, served, called, does, next_by, next}
+use Rattle.vax_form.specs.State.{with_pending}
+use Rattle.vax_form.specs.declared.state.Pending.TheVariants.{Resume}
+use Rattle.system_model.specs.Steps.{Last, Comes, Fails, Place, Inside, Lands, Leaves, Next, Moves, Wants, Stuck, Moment, state_at, behind, with_r0, is_defined, accesses, raised, served, called, does, next_by, next, settled_last, exchanged}
 use Rattle.system_model.specs.Processors.{Mode, New, Runs, Interprets, Ended, Processor, moment_of, stepped, tied, left, placed, Turn, Went, Asks, Over, Lost, alpha_turn, tie_turn, turn_in, mode_of, turn}
 
 -- the request of a step is its thread's
@@ -39,20 +41,25 @@ of_choice : (thread : ℕ) (b : Bool) (x y : Next) → IsOfThread thread x → I
 of_choice thread true x y h k = h
 of_choice thread false x y h k = k
 
-of_choices : (thread : ℕ) (one two three four : Bool) (exit : Place) (put get : Request) (stays : Place) (gets : ℕ → Bool → Place) (tells none : Place) → put.processor ≡ thread → get.processor ≡ thread
-    → IsOfThread thread (if one then Moves exit else if two then Wants put (λ before success. stays) else if three then Wants get gets else if four then Moves tells else Moves none)
-of_choices thread true two three four exit put get stays gets tells none p g = tt
-of_choices thread false true three four exit put get stays gets tells none p g = p
-of_choices thread false false true four exit put get stays gets tells none p g = g
-of_choices thread false false false true exit put get stays gets tells none p g = tt
-of_choices thread false false false false exit put get stays gets tells none p g = tt
+of_choices : (thread : ℕ) (one two three four five six : Bool) (exit : Place) (put get : Request) (stays : Place) (gets : ℕ → Bool → Place) (tells swaps resumes none : Place) → put.processor ≡ thread → get.processor ≡ thread
+    → IsOfThread thread (if one then Moves exit else if two then Wants put (λ before success. stays) else if three then Wants get gets else if four then Moves tells else if five then Moves swaps else if six then Moves resumes else Moves none)
+of_choices thread true two three four five six exit put get stays gets tells swaps resumes none p g = tt
+of_choices thread false true three four five six exit put get stays gets tells swaps resumes none p g = p
+of_choices thread false false true four five six exit put get stays gets tells swaps resumes none p g = g
+of_choices thread false false false true five six exit put get stays gets tells swaps resumes none p g = tt
+of_choices thread false false false false true six exit put get stays gets tells swaps resumes none p g = tt
+of_choices thread false false false false false true exit put get stays gets tells swaps resumes none p g = tt
+of_choices thread false false false false false false exit put get stays gets tells swaps resumes none p g = tt
 
 of_served : (setting : Setting) (m : Moment) (code : ℕ) (rules : Rules) (c : Alpha) → IsOfThread m.thread (served setting m code rules c)
 of_served setting m code rules c =
-    of_choices m.thread (code == 1) (code == 2) (code == 3) (code == 4) (Leaves (Comes (Exit (state_at m.boundary c.regs (target c.regs) rules m.held))))
+    of_choices m.thread (code == 1) (code == 2) (code == 3) (code == 4) (code == 5) (code == 6) (Leaves (Comes (Exit (state_at m.boundary c.regs (target c.regs) rules m.held))))
     (record { processor = m.thread; retired = m.retired; kind = kinds.Put; quad = 0; change = Byte (c.regs 0 % 256) })
     (record { processor = m.thread; retired = m.retired; kind = kinds.Get; quad = 0; change = Nothing })
-    (behind setting m c c.regs) (λ before success. behind setting m c (with_r0 c.regs before)) (behind setting m c (with_r0 c.regs m.thread)) (behind setting m c (with_r0 c.regs 0)) refl refl
+    (behind setting m c c.regs) (λ before success. behind setting m c (with_r0 c.regs before)) (behind setting m c (with_r0 c.regs m.thread))
+    (Leaves (Comes (Finish (exchanged (state_at m.boundary c.regs (target c.regs) rules m.held)))))
+    (Leaves (Comes (Finish (with_pending Resume (state_at m.boundary c.regs (target c.regs) rules m.held)))))
+    (behind setting m c (with_r0 c.regs 0)) refl refl
 
 of_called : (setting : Setting) (m : Moment) (call : Call) (point : Option Point) (c : Alpha) → IsOfThread m.thread (called setting m call point c)
 of_called setting m Probe (Some point) c = tt
@@ -94,7 +101,7 @@ left_step setting p q (Fails x) h = record { thread = h.thread; steps = h.steps 
 placed_step : (setting : Setting) (p : Processor) (to : Place) → IsStep p (placed setting (stepped p) to)
 placed_step setting p (Inside alpha) = record { thread = refl; steps = refl }
 placed_step setting p (Lands s held regs) = record { thread = refl; steps = refl }
-placed_step setting p (Leaves last) = left_step setting p (stepped p) last (record { thread = refl; steps = refl })
+placed_step setting p (Leaves last) = left_step setting p (stepped p) (settled_last p.boundary last) (record { thread = refl; steps = refl })
 
 abbrev pub Makes : Processor → Turn → Type 0
 Makes p (Went q) = IsStep p q
@@ -115,7 +122,7 @@ tie_makes setting p state replies (trees.Comes x rest) = left_step setting p (ti
 makes_in : (setting : Setting) (p : Processor) (mode : Mode) → Makes p (turn_in setting p mode)
 makes_in setting p New = tt
 makes_in setting p (Runs alpha) = alpha_makes setting p (next setting (moment_of p) alpha) (of_next setting (moment_of p) alpha)
-makes_in setting p (Interprets state replies) = tie_makes setting p state replies (answer setting.meaning.pages (setting.meaning.tree p.thread state) replies)
+makes_in setting p (Interprets state replies) = tie_makes setting p state replies (answer setting.meaning.pages (setting.meaning.moment p.thread state) replies)
 makes_in setting p (Ended end) = tt
 
 pub makes : (setting : Setting) (p : Processor) → Makes p (turn setting p)

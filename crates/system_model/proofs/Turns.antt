@@ -1,5 +1,5 @@
 -- What keeps a history legal.
-use Rattle.std.proofs.Common.{◌≡◌, ◌≢◌, ℕ, zero, suc, ◌+◌, ◌<◌, ◌==◌, Bool, true, false, if◌then◌else◌, List, [], ◌∷◌, length, Some, refl, sym, ap, ◌∙◌, subst, arith, ◌⊎◌, inl, inr, ⊎_elim}
+use Rattle.std.proofs.Common.{◌≡◌, ◌≢◌, ℕ, zero, suc, ◌+◌, ◌<◌, ◌≤◌, ◌==◌, Bool, true, false, if◌then◌else◌, List, [], ◌∷◌, length, Some, refl, sym, ap, ◌∙◌, subst, arith, ◌⊎◌, inl, inr, ⊎_elim}
 use Rattle.std.specs.Prelude.{option_map, slice_get, slice_set}
 use Rattle.std.specs.List.{AllByRecursion}
 use Rattle.std.proofs.lemmas.Bool.Decides.{nat_tests}
@@ -88,6 +88,9 @@ begun_at n (suc k) (x ∷ xs) start p s h =
     let there : n + 1 + k ≡ n + suc k = omega arith in
     begun_at (n + 1) k xs start p s h ∙ ap (λ m. begun m start) there
 
+least : (n : ℕ) → 0 ≤ n
+least n = omega arith
+
 pub beginnings_are_legal : BeginningsAreLegal
 beginnings_are_legal setting set_up budget pages = record {
   pages = pages;
@@ -97,7 +100,7 @@ beginnings_are_legal setting set_up budget pages = record {
   known = tt;
   each = λ thread start p s h.
       let none : 0 + thread ≡ thread = omega arith in
-      record { was = begun thread start; reaches = Begins; now = inl (begun_at 0 thread set_up.image.threads start p s h ∙ ap (λ m. begun m start) none) };
+      record { was = begun thread start; within = least budget; reaches = Begins; now = inl (begun_at 0 thread set_up.image.threads start p s h ∙ ap (λ m. begun m start) none) };
 }
 
 module _ (setting : Setting) (set_up : SetUp) (budget : ℕ) (entries : List Entry) (processors : List Processor) (thread : ℕ) (p : Processor)
@@ -123,8 +126,8 @@ module _ (setting : Setting) (set_up : SetUp) (budget : ℕ) (entries : List Ent
       let was = going_is setting budget set_up.limit entries r.was p g r.now in
       ap (λ (x : Processor). x.thread) was ∙ reached_thread setting (begun thread (start_state s.0)) r.was.steps (own thread entries) r.was r.reaches
 
-  pub steps_legal : (q : Processor) → IsGoing p.mode → turn setting p ≡ Went q → IsLegal setting set_up budget entries (slice_set processors thread q)
-  steps_legal q g e = record {
+  pub steps_legal : (q : Processor) → IsGoing p.mode → turn setting p ≡ Went q → p.steps < budget → IsLegal setting set_up budget entries (slice_set processors thread q)
+  steps_legal q g e more = record {
     pages = legal.pages;
     order = legal.order;
     room = legal.room;
@@ -136,7 +139,7 @@ module _ (setting : Setting) (set_up : SetUp) (budget : ℕ) (entries : List Ent
         let was = going_is setting budget set_up.limit entries r.was p g r.now in
         let makes_one : IsStep p q = subst (Makes p) e (makes setting p) in
         let from = subst (λ (x : Processor). Reaches setting (begun thread start) x.steps (own thread entries) x) (sym was) r.reaches in
-        record { was = q; reaches = subst (λ n. Reaches setting (begun thread start) n (own thread entries) q) (sym makes_one.steps) (Steps from e); now = inl refl })
+        record { was = q; within = omega (arith, makes_one.steps, more); reaches = subst (λ n. Reaches setting (begun thread start) n (own thread entries) q) (sym makes_one.steps) (Steps from e); now = inl refl })
         (λ u start x apart r. r) u start x s h (thread == u) refl;
   }
 
@@ -152,14 +155,14 @@ module _ (setting : Setting) (set_up : SetUp) (budget : ℕ) (entries : List Ent
         let r = legal.each thread start p s at in
         let was = going_is setting budget set_up.limit entries r.was p g r.now in
         let from = subst (λ (x : Processor). Reaches setting (begun thread start) x.steps (own thread entries) x) (sym was) r.reaches in
-        record { was = p; reaches = from; now = inr (record { is = refl; going = g; cause = cause }) })
+        record { was = p; within = subst (λ (x : Processor). x.steps ≤ budget) (sym was) r.within; reaches = from; now = inr (record { is = refl; going = g; cause = cause }) })
         (λ u start x apart r. r) u start x s h (thread == u) refl;
   }
 
-  pub accesses_legal : (request : Request) (on : ℕ → Bool → Processor) (before : ℕ) (success : Bool) → IsGoing p.mode → turn setting p ≡ Asks request on
+  pub accesses_legal : (request : Request) (on : ℕ → Bool → Processor) (before : ℕ) (success : Bool) → IsGoing p.mode → turn setting p ≡ Asks request on → p.steps < budget
       → Meets set_up (entry_by request before success ∷ entries) → length entries < set_up.limit
       → IsLegal setting set_up budget (entry_by request before success ∷ entries) (slice_set processors thread (on before success))
-  accesses_legal request on before success g e meets room = record {
+  accesses_legal request on before success g e more meets room = record {
     pages = legal.pages;
     order = meets;
     room = omega (arith, room);
@@ -178,6 +181,7 @@ module _ (setting : Setting) (set_up : SetUp) (budget : ℕ) (entries : List Ent
         let makes_one : IsStep p q = (subst (Makes p) e (makes setting p)).1 before success in
         record {
           was = q;
+          within = omega (arith, makes_one.steps, more);
           reaches = subst (λ mine. Reaches setting (begun thread start) q.steps mine q) (sym its_own) (subst (λ n. Reaches setting (begun thread start) n (made ∷ own thread entries) q) (sym makes_one.steps) (Takes from e before success));
           now = inl refl;
         })
@@ -210,13 +214,13 @@ module _ (setting : Setting) (set_up : SetUp) (budget : ℕ) (entries : List Ent
       others u start x apart r =
           let apart' : request.processor ≢ u = λ same. apart (sym its_number ∙ same) in
           let same_own : own u later ≡ own u entries = own_if (request.processor == u) made (own u entries) false (other request.processor u apart') in
-          record { was = r.was; reaches = subst (λ mine. Reaches setting (begun u start) r.was.steps mine r.was) (sym same_own) r.reaches; now = still u x r.was r.now }
+          record { was = r.was; within = r.within; reaches = subst (λ mine. Reaches setting (begun u start) r.was.steps mine r.was) (sym same_own) r.reaches; now = still u x r.was r.now }
 
 pub steps_stay_legal : StepsStayLegal
-steps_stay_legal setting set_up budget entries processors thread p q legal at g e = steps_legal setting set_up budget entries processors thread p legal at q g e
+steps_stay_legal setting set_up budget entries processors thread p q legal at g e more = steps_legal setting set_up budget entries processors thread p legal at q g e more
 
 pub accesses_stay_legal : AccessesStayLegal
-accesses_stay_legal setting set_up budget entries processors thread p request on before success legal at g e meets room = accesses_legal setting set_up budget entries processors thread p legal at request on before success g e meets room
+accesses_stay_legal setting set_up budget entries processors thread p request on before success legal at g e more meets room = accesses_legal setting set_up budget entries processors thread p legal at request on before success g e more meets room
 
 pub ends_stay_legal : EndsStayLegal
 ends_stay_legal setting set_up budget entries processors thread p legal at g cause = ends_legal setting set_up budget entries processors thread p legal at g cause

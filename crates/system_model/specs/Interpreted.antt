@@ -12,11 +12,11 @@ use Rattle.system_model.specs.Settings.{Setting, goes_on}
 
 -- the threads that start so, by what instructions mean
 abbrev pub threads_of : Setting → (starts : ℕ → Option VaxState) → Threads
-threads_of setting starts = record { pages = setting.meaning.pages; start = starts; tree = setting.meaning.tree }
+threads_of setting starts = record { pages = setting.meaning.pages; start = starts; tree = setting.meaning.moment }
 
 -- the thread's instruction at this address runs in Alpha code: it is mapped, and in no range of the thread
-abbrev pub is_translated : Setting → (thread pc : ℕ) → Bool
-is_translated setting thread pc = is_some (goes_on setting thread pc)
+abbrev pub is_translated : Setting → (thread : ℕ) → VaxState → Bool
+is_translated setting thread state = is_some (goes_on setting thread state)
 
 -- ---- references
 -- nothing where a check fails
@@ -34,7 +34,7 @@ made_in pages (Ends e) w = 0
 
 -- those of an instruction that is interpreted
 abbrev pub ties_by : Setting → (thread : ℕ) → Life → VaxState → List ℕ → ℕ
-ties_by setting thread Runs state w = if is_translated setting thread state.pc then 0 else made_in setting.meaning.pages (setting.meaning.tree thread state) w
+ties_by setting thread Runs state w = if is_translated setting thread state then 0 else made_in setting.meaning.pages (setting.meaning.moment thread state) w
 ties_by setting thread Exited state w = 0
 ties_by setting thread (Trapped kind) state w = 0
 
@@ -46,7 +46,7 @@ ties_in setting thread (Some here) = ties_by setting thread here.life here.state
 -- ---- ends
 -- one for the end of an instruction that is interpreted
 abbrev pub end_by : Setting → (thread : ℕ) → Life → VaxState → ℕ
-end_by setting thread Runs state = if is_translated setting thread state.pc then 0 else 1
+end_by setting thread Runs state = if is_translated setting thread state then 0 else 1
 end_by setting thread Exited state = 0
 end_by setting thread (Trapped kind) state = 0
 

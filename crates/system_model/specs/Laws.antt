@@ -31,14 +31,14 @@ BeginningsAreLegal = (setting : Setting) (set_up : SetUp) (budget : ℕ) → set
 -- a turn that asks nothing
 abbrev pub StepsStayLegal : Type 0
 StepsStayLegal = (setting : Setting) (set_up : SetUp) (budget : ℕ) (entries : List Entry) (processors : List Processor) (thread : ℕ) (p q : Processor)
-    → IsLegal setting set_up budget entries processors → slice_get processors thread ≡ Some p → IsGoing p.mode → turn setting p ≡ Went q
+    → IsLegal setting set_up budget entries processors → slice_get processors thread ≡ Some p → IsGoing p.mode → turn setting p ≡ Went q → p.steps < budget
     → IsLegal setting set_up budget entries (slice_set processors thread q)
 
 -- a turn that asks, with an entry that the memory order allows
 abbrev pub AccessesStayLegal : Type 0
 AccessesStayLegal = (setting : Setting) (set_up : SetUp) (budget : ℕ) (entries : List Entry) (processors : List Processor) (thread : ℕ) (p : Processor)
     (request : Request) (on : ℕ → Bool → Processor) (before : ℕ) (success : Bool)
-    → IsLegal setting set_up budget entries processors → slice_get processors thread ≡ Some p → IsGoing p.mode → turn setting p ≡ Asks request on
+    → IsLegal setting set_up budget entries processors → slice_get processors thread ≡ Some p → IsGoing p.mode → turn setting p ≡ Asks request on → p.steps < budget
     → Meets set_up (entry_by request before success ∷ entries) → length entries < set_up.limit
     → IsLegal setting set_up budget (entry_by request before success ∷ entries) (slice_set processors thread (on before success))
 

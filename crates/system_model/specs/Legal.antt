@@ -43,6 +43,7 @@ pub record IsSpent (setting : Setting) (budget limit : ℕ) (entries : List Entr
 -- none is left over. An end Spent adds no step
 pub record IsReached (setting : Setting) (budget limit : ℕ) (entries : List Entry) (thread : ℕ) (start : VaxState) (p : Processor) : Type 0 where
   pub was : Processor
+  pub within : was.steps ≤ budget
   pub reaches : Reaches setting (begun thread start) was.steps (own thread entries) was
   pub now : (p ≡ was) ⊎ IsSpent setting budget limit entries was p
 

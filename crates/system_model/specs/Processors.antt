@@ -21,7 +21,7 @@ use Rattle.system_model.specs.declared.translation.End.{End}
 use Rattle.system_model.specs.declared.translation.End.TheVariants as ends
 use Rattle.system_model.specs.Quadwords.{quad_address, change_of, reply_found}
 use Rattle.system_model.specs.Settings.{Setting, goes_on}
-use Rattle.system_model.specs.Steps.{Last, Comes, Fails, Place, Inside, Lands, Leaves, Next, Moves, Wants, Stuck, Moment, next}
+use Rattle.system_model.specs.Steps.{Last, Comes, Fails, Place, Inside, Lands, Leaves, Next, Moves, Wants, Stuck, Moment, next, settled_last}
 
 -- what a processor is at
 pub data Mode : Type 0 where
@@ -67,7 +67,7 @@ mode_by (Some word) state regs = Runs (at_place regs word)
 
 -- the mode at a boundary of the thread: in Alpha code where the thread goes on there, else interpreting
 abbrev pub mode_at : Setting → (thread : ℕ) → VaxState → Regs → Mode
-mode_at setting thread state regs = mode_by (goes_on setting thread state.pc) state regs
+mode_at setting thread state regs = mode_by (goes_on setting thread state) state regs
 
 -- the processor of a thread that starts so: it has retired nothing
 abbrev pub begun : (thread : ℕ) → VaxState → Processor
@@ -101,7 +101,7 @@ left setting p (Fails exception) = record p { mode = Ended (ends.Raised exceptio
 abbrev pub placed : Setting → Processor → Place → Processor
 placed setting p (Inside alpha) = record p { mode = Runs alpha }
 placed setting p (Lands state held regs) = arrived setting p state held regs
-placed setting p (Leaves last) = left setting p last
+placed setting p (Leaves last) = left setting p (settled_last p.boundary last)
 
 -- what a processor does in its turn
 pub data Turn : Type 0 where
@@ -151,7 +151,7 @@ tie_turn setting p state replies (trees.Comes e rest) = Went (left setting (tied
 abbrev pub turn_in : Setting → Processor → Mode → Turn
 turn_in setting p New = Lost
 turn_in setting p (Runs alpha) = alpha_turn setting p (next setting (moment_of p) alpha)
-turn_in setting p (Interprets state replies) = tie_turn setting p state replies (answer setting.meaning.pages (setting.meaning.tree p.thread state) replies)
+turn_in setting p (Interprets state replies) = tie_turn setting p state replies (answer setting.meaning.pages (setting.meaning.moment p.thread state) replies)
 turn_in setting p (Ended end) = Over
 
 -- a new processor is at its first boundary

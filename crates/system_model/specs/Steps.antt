@@ -25,7 +25,9 @@ use Rattle.memory_core.specs.declared.entry.Kind.{Kind}
 use Rattle.memory_core.specs.declared.entry.Kind.TheVariants as kinds
 use Rattle.memory_core.specs.declared.entry.Request.{Request}
 use Rattle.vax_form.specs.Pages.{is_allowed, first_bad}
-use Rattle.vax_form.specs.State.{with_core}
+use Rattle.vax_form.specs.Moments.{delivering, has_handler, handled_ending}
+use Rattle.vax_form.specs.State.{with_core, register, with_register, with_handler, with_pending}
+use Rattle.vax_form.specs.declared.state.Pending.TheVariants.{Resume}
 use Rattle.vax_form.specs.Tree.{Ending, Finish, Exit, Trap}
 use Rattle.vax_form.specs.declared.state.Exception.{Exception}
 use Rattle.vax_form.specs.declared.state.Exception.TheVariants.{AccessViolation}
@@ -45,6 +47,11 @@ pub data Place : Type 0 where
   Inside : Alpha → Place
   Lands : VaxState → (held : Flags) → Regs → Place
   Leaves : Last → Place
+
+-- where the thread has a handler, it takes the exception
+abbrev pub settled_last : (before : VaxState) → Last → Last
+settled_last before (Comes e) = Comes (handled_ending e)
+settled_last before (Fails exception) = if has_handler before then Comes (Finish (delivering exception before)) else Fails exception
 
 -- what a step does. An access gives what it found and whether it succeeded
 pub data Next : Type 0 where
@@ -133,6 +140,10 @@ abbrev pub raised : Option Exception → Next
 raised None = Stuck
 raised (Some exception) = Moves (Leaves (Fails exception))
 
+-- state exchanges R0 and the handler
+abbrev pub exchanged : VaxState → VaxState
+exchanged state = with_register 0 state.handler (with_handler (register 0 state) state)
+
 -- services: 1 ends the thread, 2 puts out the low byte of R0, 3 gets an input byte into R0, 4 tells the thread's number
 -- in R0, and any other code puts 0 there
 abbrev pub served : Setting → Moment → (code : ℕ) → Rules → Alpha → Next
@@ -145,6 +156,8 @@ served setting moment code rules c =
     then Wants (record { processor = moment.thread; retired = moment.retired; kind = kinds.Get; quad = 0; change = Nothing })
     (λ before success. behind setting moment c (with_r0 c.regs before))
     else if code == 4 then Moves (behind setting moment c (with_r0 c.regs moment.thread))
+    else if code == 5 then Moves (Leaves (Comes (Finish (exchanged (state_at moment.boundary c.regs (target c.regs) rules moment.held)))))
+    else if code == 6 then Moves (Leaves (Comes (Finish (with_pending Resume (state_at moment.boundary c.regs (target c.regs) rules moment.held)))))
     else Moves (behind setting moment c (with_r0 c.regs 0))
 
 -- each call of the PALcode. 80, 82, 83 and 84 need a point. Looking up and switching arrive at the address in R26, with

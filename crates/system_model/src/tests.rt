@@ -63,13 +63,13 @@ fn registers_show_a_state(rt: HostRuntime) -> Result<(), Fail> {
     cpu.r[20] = 0x20;
     cpu.r[28] = 0x80;
     cpu.r[29] = 0x80;
-    let state = shown(&cpu, 0x207, &rules, &none);
+    let state = shown(&cpu, 0x207, &rules, &none, 0);
     assert_eq!(rt;
         (state.r[1], state.pc, state.psw),
         (0x8000_0001, 0x207, 0x27)
     );
     let held = Flags { n: true, ..none };
-    assert_eq!(rt; shown(&cpu, 0x207, &rules, &held).psw, 0x2F);
+    assert_eq!(rt; shown(&cpu, 0x207, &rules, &held, 0).psw, 0x2F);
     Ok(())
 }
 

@@ -1,6 +1,7 @@
 -- The definitions at worked rows.
 use Rattle.std.proofs.Common.{◌≡◌, ℕ, ◌+◌, ◌==◌, true, false, slice_index, if◌then◌else◌, List, [], ◌∷◌, Some, None, refl, replicate}
 use Rattle.vax_form.specs.Tree.{Tree, Ask, Fault, Ends, Finish, Exit}
+use Rattle.vax_form.specs.declared.state.Pending.TheVariants.{Nothing}
 use Rattle.vax_form.specs.declared.state.VaxState.{VaxState}
 use Rattle.vax_form.specs.declared.state.Pick.{Pick}
 use Rattle.vax_form.specs.declared.state.Reference.{Reference}
@@ -65,7 +66,7 @@ bit_replies = refl
 -- one instruction each: at 0 a thread takes an input byte, writes it and goes on; at 1 it puts it and exits; at 2 it
 -- reads and faults
 abbrev pub state : (pc value : ℕ) → VaxState
-state pc value = record { r = value ∷ replicate 14 0; pc = pc; psw = 0 }
+state pc value = record { r = value ∷ replicate 14 0; pc = pc; psw = 0; handler = 0; pending = Nothing }
 
 abbrev pub instruction : (pc value : ℕ) → Tree
 instruction pc value =

@@ -9,15 +9,15 @@ use Rattle.vax_form.specs.declared.state.Exception.TheVariants.{ReservedInstruct
 use Rattle.vax_form.specs.declared.script.Stop.{Stop}
 use Rattle.vax_form.specs.declared.script.Stop.TheVariants as stops
 use Rattle.vax_form.specs.declared.script.End.{End}
-use Rattle.vax_form.specs.Script.{Script, Moment, pure, bind, choose, ask, check_bytes, read_code, fail, get, change, run, then_do, asked, checked, fetched}
+use Rattle.vax_form.specs.Script.{Script, Moment, Halt, pure, bind, choose, ask, check_bytes, read_code, fail, get, change, run, then_do, asked, checked, fetched}
 use Rattle.vax_form.specs.Tree.{Tree, Ask, Fault, tree_of, code_or_fault, unless_bad, Fails, answer, feed, behind, outcome, run_outcome, ends_with, instruction_tree}
 use Rattle.vax_form.specs.TreeLaws.{Feeds, FeedingIsRunning, AnsweringIsRunning}
 
-feeds_there : {A : Type 0} (pages there : Pages) (fed : Tree) (tree : Pages → Tree) (rest : A → VaxState → Tree) (r : Result (A × Moment) Stop)
+feeds_there : {A : Type 0} (pages there : Pages) (fed : Tree) (tree : Pages → Tree) (rest : A → VaxState → Tree) (r : Result (A × Moment) Halt)
     → there ≡ pages → fed ≡ tree pages → Feeds there (tree there) rest r → Feeds pages fed rest r
 feeds_there pages there fed tree rest r same is feeds = rw is (rw same at feeds)
 
-feeds_bind : {A B : Type 0} (pages : Pages) (fed : Tree) (r : Result (A × Moment) Stop) (f : A → Script B) (rest : B → VaxState → Tree)
+feeds_bind : {A B : Type 0} (pages : Pages) (fed : Tree) (r : Result (A × Moment) Halt) (f : A → Script B) (rest : B → VaxState → Tree)
     → Feeds pages fed (λ x after. tree_of pages (f x) after rest) r
     → ((x : A) (t : Moment) → Feeds t.pages (feed t.pages (tree_of t.pages (f x) t.state rest) t.replies) rest (run (f x) t))
     → Feeds pages fed rest (then_do r (λ x. run (f x)))
@@ -60,11 +60,11 @@ feeding_is_running _ (get f) moment rest = (refl, refl)
 feeding_is_running _ (change f) moment rest = (refl, refl)
 
 -- a script that came to its end left the pages as they were
-KeepsPages : {A : Type 0} → Pages → Result (A × Moment) Stop → Type 0
+KeepsPages : {A : Type 0} → Pages → Result (A × Moment) Halt → Type 0
 KeepsPages pages (Ok (x, moment)) = moment.pages ≡ pages
 KeepsPages pages (Err stop) = Unit {0}
 
-pages_kept : {A : Type 0} (pages : Pages) (fed : Tree) (rest : A → VaxState → Tree) (r : Result (A × Moment) Stop) → Feeds pages fed rest r → KeepsPages pages r
+pages_kept : {A : Type 0} (pages : Pages) (fed : Tree) (rest : A → VaxState → Tree) (r : Result (A × Moment) Halt) → Feeds pages fed rest r → KeepsPages pages r
 unfolding KeepsPages
 pages_kept pages fed rest (Ok (x, t)) feeds = feeds.0
 pages_kept pages fed rest (Err stop) feeds = tt
@@ -73,13 +73,13 @@ pages_kept pages fed rest (Err stop) feeds = tt
 nothing_behind : {A : Type 0} → A → VaxState → Tree
 nothing_behind x state = Fault ReservedInstruction
 
-answers_bind : {A B : Type 0} (pages : Pages) (r : Result (A × Moment) Stop) (f : A → Script B) (rest : B → VaxState → Tree) → KeepsPages pages r
+answers_bind : {A B : Type 0} (pages : Pages) (r : Result (A × Moment) Halt) (f : A → Script B) (rest : B → VaxState → Tree) → KeepsPages pages r
     → ((x : A) (t : Moment) → answer t.pages (tree_of t.pages (f x) t.state rest) t.replies ≡ behind (run (f x) t) rest)
     → behind r (λ x after. tree_of pages (f x) after rest) ≡ behind (then_do r (λ x. run (f x))) rest
 unfolding KeepsPages
 answers_bind pages (Ok (x, t)) f rest kept each = ap (λ p. answer t.pages (tree_of p (f x) t.state rest) t.replies) (sym kept) ∙ each x t
-answers_bind pages (Err (stops.Wants reference)) f rest kept each = refl
-answers_bind pages (Err (stops.Fails exception)) f rest kept each = refl
+answers_bind pages (Err (stops.Wants reference, left)) f rest kept each = refl
+answers_bind pages (Err (stops.Fails exception, left)) f rest kept each = refl
 
 answers_choice : {A : Type 0} (b : Bool) (m n : Script A) (moment : Moment) (rest : A → VaxState → Tree)
     → answer moment.pages (tree_of moment.pages m moment.state rest) moment.replies ≡ behind (run m moment) rest
@@ -116,10 +116,10 @@ answering_is_running _ (fail exception) moment rest = refl
 answering_is_running _ (get f) moment rest = refl
 answering_is_running _ (change f) moment rest = refl
 
-outcome_behind : (before : VaxState) (r : Result (End × Moment) Stop) → outcome before (behind r ends_with) ≡ run_outcome before r
+outcome_behind : (before : VaxState) (r : Result (End × Moment) Halt) → outcome before (behind r ends_with) ≡ run_outcome before r
 outcome_behind before (Ok (end, moment)) = refl
-outcome_behind before (Err (stops.Wants reference)) = refl
-outcome_behind before (Err (stops.Fails exception)) = refl
+outcome_behind before (Err (stops.Wants reference, left)) = refl
+outcome_behind before (Err (stops.Fails exception, left)) = refl
 
 -- what is seen of an instruction's script that is run is what is seen of its tree
 pub outcome_by_tree : (script : Script End) (state : VaxState) (pages : Pages) (replies : List ℕ)

@@ -6,7 +6,7 @@ use Rattle.vax_form.specs.declared.pages.Pages.{Pages}
 use Rattle.vax_form.specs.declared.state.VaxState.{VaxState}
 use Rattle.vax_form.specs.declared.state.Reference.{Reference}
 use Rattle.vax_form.specs.declared.script.Stop.{Stop}
-use Rattle.vax_form.specs.Script.{Script, Moment, pure, bind, choose, ask, check_bytes, read_code, fail, get, change, run, then_do, checked, fetched}
+use Rattle.vax_form.specs.Script.{Script, Moment, Halt, pure, bind, choose, ask, check_bytes, read_code, fail, get, change, run, then_do, checked, fetched}
 use Rattle.vax_form.specs.Head.{Head, ended, failed, waits, onward, one_of, unless, with_byte, head, played}
 
 through_bind : {A B : Type 0} (h : Head A) (f : A → Script B) (pages : Pages) (replies : List ℕ)
@@ -17,7 +17,7 @@ through_bind (failed exception) f pages replies each = refl
 through_bind (waits reference k state) f pages [] each = refl
 through_bind (waits reference k state) f pages (reply ∷ replies) each = refl
 
-through_choice : {A : Type 0} (b : Bool) (m n : Head A) (pages : Pages) (replies : List ℕ) (r s : Result (A × Moment) Stop)
+through_choice : {A : Type 0} (b : Bool) (m n : Head A) (pages : Pages) (replies : List ℕ) (r s : Result (A × Moment) Halt)
     → r ≡ played m pages replies → s ≡ played n pages replies → (if b then r else s) ≡ played (one_of b m n) pages replies
 through_choice true m n pages replies r s first second = first
 through_choice false m n pages replies r s first second = second

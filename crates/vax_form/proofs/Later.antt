@@ -5,20 +5,20 @@ use Rattle.vax_form.specs.Pages.{first_bad, code_byte_at}
 use Rattle.vax_form.specs.declared.script.Stop.{Stop}
 use Rattle.vax_form.specs.declared.script.Stop.TheVariants.{Wants, Fails}
 use Rattle.vax_form.specs.declared.state.Reference.{Reference}
-use Rattle.vax_form.specs.Script.{Moment, pure, bind, choose, ask, check_bytes, read_code, fail, get, change, run, then_do, asked, checked, fetched, more, SameLater}
+use Rattle.vax_form.specs.Script.{Moment, Halt, pure, bind, choose, ask, check_bytes, read_code, fail, get, change, run, then_do, asked, checked, fetched, more, SameLater}
 use Rattle.vax_form.specs.TreeLaws.{RepliesComeLater}
 
-bind_later : {A B : Type 0} (extra : List ℕ) (r later : Result (A × Moment) Stop) (f : A → Moment → Result (B × Moment) Stop)
+bind_later : {A B : Type 0} (extra : List ℕ) (r later : Result (A × Moment) Halt) (f : A → Moment → Result (B × Moment) Halt)
     → SameLater extra r later → ((x : A) (t : Moment) → SameLater extra (f x t) (f x (more extra t))) → SameLater extra (then_do r f) (then_do later f)
 bind_later extra (Ok x) later f same each = rw same (each x.0 x.1)
-bind_later extra (Err (Wants reference)) later f same each = tt
-bind_later extra (Err (Fails exception)) later f same each = rw same refl
+bind_later extra (Err (Wants reference, left)) later f same each = tt
+bind_later extra (Err (Fails exception, left)) later f same each = rw same refl
 
 ask_later : (extra : List ℕ) (reference : Reference) (replies : List ℕ) (moment : Moment) → SameLater extra (asked reference replies moment) (asked reference (replies ++ extra) (more extra moment))
 ask_later extra reference [] moment = tt
 ask_later extra reference (reply ∷ replies) moment = refl
 
-choose_later : {A : Type 0} (extra : List ℕ) (b : Bool) (r later r' later' : Result (A × Moment) Stop) → SameLater extra r later → SameLater extra r' later'
+choose_later : {A : Type 0} (extra : List ℕ) (b : Bool) (r later r' later' : Result (A × Moment) Halt) → SameLater extra r later → SameLater extra r' later'
     → SameLater extra (if b then r else r') (if b then later else later')
 choose_later extra true r later r' later' first second = first
 choose_later extra false r later r' later' first second = second

@@ -1,7 +1,7 @@
 -- A script taken to its next reference, for what goes on one reply at a time.
 use Rattle.std.specs.Prelude.{ℕ, List, [], ◌∷◌, Bool, Option, Some, None, Result, Ok, Err, true, false}
 use Rattle.vax_form.specs.Pages.{first_bad, code_byte_at}
-use Rattle.vax_form.specs.Script.{Script, Moment, pure, bind, choose, ask, check_bytes, read_code, fail, get, change, run}
+use Rattle.vax_form.specs.Script.{Script, Moment, Halt, pure, bind, choose, ask, check_bytes, read_code, fail, get, change, run}
 use Rattle.vax_form.specs.declared.pages.Pages.{Pages}
 use Rattle.vax_form.specs.declared.state.VaxState.{VaxState}
 use Rattle.vax_form.specs.declared.state.Reference.{Reference}
@@ -44,8 +44,8 @@ head (get f) pages state = ended (f state) state
 head (change f) pages state = ended tt (f state)
 
 -- what the head comes to with these replies
-abbrev pub played : {A : Type 0} → Head A → Pages → List ℕ → Result (A × Moment) Stop
+abbrev pub played : {A : Type 0} → Head A → Pages → List ℕ → Result (A × Moment) Halt
 played (ended x state) pages replies = Ok (x, record { state = state; pages = pages; replies = replies })
-played (failed exception) pages replies = Err (Fails exception)
-played (waits reference k state) pages [] = Err (Wants reference)
+played (failed exception) pages replies = Err (Fails exception, replies)
+played (waits reference k state) pages [] = Err (Wants reference, [])
 played (waits reference k state) pages (reply ∷ replies) = run (k reply) (record { state = state; pages = pages; replies = replies })

@@ -16,6 +16,10 @@ pub record Moment : Type 0 where
   pub pages : Pages
   pub replies : List ℕ
 
+-- why a script does not come to its end, and the replies that are left there
+abbrev pub Halt : Type 0
+Halt = Stop × List ℕ
+
 pub data Script : Type 0 → Type 1 where
   -- does nothing
   pure : {A : Type 0} → A → Script A
@@ -48,36 +52,36 @@ infix 4 when◌then◌else◌
 abbrev pub when◌then◌else◌ : {A : Type 0} → Bool → Script A → Script A → Script A
 when b then m else n = choose b m n
 
-abbrev pub then_do : {A B : Type 0} → Result (A × Moment) Stop → (A → Moment → Result (B × Moment) Stop) → Result (B × Moment) Stop
+abbrev pub then_do : {A B : Type 0} → Result (A × Moment) Halt → (A → Moment → Result (B × Moment) Halt) → Result (B × Moment) Halt
 then_do (Ok x) f = f x.0 x.1
 then_do (Err e) f = Err e
 
 abbrev pub changed : (VaxState → VaxState) → Moment → Moment
 changed f moment = record moment { state = f moment.state }
 
-abbrev pub asked : Reference → List ℕ → Moment → Result (ℕ × Moment) Stop
-asked reference [] moment = Err (Wants reference)
+abbrev pub asked : Reference → List ℕ → Moment → Result (ℕ × Moment) Halt
+asked reference [] moment = Err (Wants reference, [])
 asked reference (reply ∷ replies) moment = Ok (reply, record moment { replies = replies })
 
 -- goes on where no byte was found that may not be used
-abbrev pub checked : Option ℕ → (write : Bool) → Moment → Result (Unit {0} × Moment) Stop
+abbrev pub checked : Option ℕ → (write : Bool) → Moment → Result (Unit {0} × Moment) Halt
 checked None write moment = Ok (tt, moment)
-checked (Some bad) write moment = Err (Fails (AccessViolation bad write))
+checked (Some bad) write moment = Err (Fails (AccessViolation bad write), moment.replies)
 
 -- goes on with a byte that was found; a fetch has no write intent
-abbrev pub fetched : Option ℕ → (address : ℕ) → Moment → Result (ℕ × Moment) Stop
-fetched None address moment = Err (Fails (AccessViolation address false))
+abbrev pub fetched : Option ℕ → (address : ℕ) → Moment → Result (ℕ × Moment) Halt
+fetched None address moment = Err (Fails (AccessViolation address false), moment.replies)
 fetched (Some byte) address moment = Ok (byte, moment)
 
 -- goes through a script until a reference has no reply, a fault comes, or to its end
-abbrev pub run : {A : Type 0} → Script A → Moment → Result (A × Moment) Stop
+abbrev pub run : {A : Type 0} → Script A → Moment → Result (A × Moment) Halt
 run (pure x) moment = Ok (x, moment)
 run (bind m f) moment = then_do (run m moment) (λ x. run (f x))
 run (choose b m n) moment = if b then run m moment else run n moment
 run (ask reference) moment = asked reference moment.replies moment
 run (check_bytes address count write) moment = checked (first_bad moment.pages write address count) write moment
 run (read_code address) moment = fetched (code_byte_at moment.pages address) address moment
-run (fail exception) moment = Err (Fails exception)
+run (fail exception) moment = Err (Fails exception, moment.replies)
 run (get f) moment = Ok (f moment.state, moment)
 run (change f) moment = Ok (tt, changed f moment)
 
@@ -86,7 +90,7 @@ abbrev pub more : List ℕ → Moment → Moment
 more extra moment = record moment { replies = moment.replies ++ extra }
 
 -- what ended or failed does so as before, with the further replies left
-abbrev pub SameLater : {A : Type 0} → List ℕ → Result (A × Moment) Stop → Result (A × Moment) Stop → Type 0
+abbrev pub SameLater : {A : Type 0} → List ℕ → Result (A × Moment) Halt → Result (A × Moment) Halt → Type 0
 SameLater extra (Ok x) later = later ≡ Ok (x.0, more extra x.1)
-SameLater extra (Err (Wants reference)) later = Unit {0}
-SameLater extra (Err (Fails exception)) later = later ≡ Err (Fails exception)
+SameLater extra (Err (Wants reference, left)) later = Unit {0}
+SameLater extra (Err (Fails exception, left)) later = later ≡ Err (Fails exception, left ++ extra)

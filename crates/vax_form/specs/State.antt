@@ -2,6 +2,7 @@
 -- VAX Architecture Reference Manual, "Processor State" and "Processor Status Longword".
 use Rattle.std.specs.Prelude.{◌≡◌, ℕ, ◌*◌, ◌^◌, ◌<◌, ◌⊎◌, All, List, length, slice_index, slice_set}
 use Rattle.vax_form.specs.declared.state.VaxState.{VaxState}
+use Rattle.vax_form.specs.declared.state.Pending.{Pending}
 use Rattle.vax_form.specs.declared.state.Reference.{Reference}
 use Rattle.vax_form.specs.declared.state.RefKind.{RefKind}
 use Rattle.vax_form.specs.declared.state.RefKind.TheVariants.{Read, Write, Add, SetBit, ClearBit, Put, Get}
@@ -16,6 +17,12 @@ with_pc pc state = with_core state state.r pc state.psw
 abbrev pub with_psw : (psw : ℕ) → VaxState → VaxState
 with_psw psw state = with_core state state.r state.pc psw
 
+abbrev pub with_handler : (handler : ℕ) → VaxState → VaxState
+with_handler handler state = record state { handler = handler }
+
+abbrev pub with_pending : Pending → VaxState → VaxState
+with_pending pending state = record state { pending = pending }
+
 -- a register, or 0 where there is none of that number
 abbrev pub register : (number : ℕ) → VaxState → ℕ
 register number state = slice_index state.r number
@@ -29,6 +36,7 @@ pub record IsState (state : VaxState) : Type 0 where
   pub longwords : All (λ value. value < 2 ^ 32) state.r
   pub pc : state.pc < 2 ^ 32
   pub psw : state.psw < 256
+  pub handler : state.handler < 2 ^ 32
 
 -- what a reference of so many bytes may be answered with: what was read, 0 for a write, what was there before for an
 -- interlocked one, and the next byte of the input or FFFFFFFF at its end

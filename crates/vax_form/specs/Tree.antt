@@ -4,7 +4,7 @@
 use Rattle.std.specs.Prelude.{◌≡◌, ℕ, List, [], ◌∷◌, Bool, false, Option, Some, None, Result, Ok, Err, if◌then◌else◌}
 use Rattle.vax_form.specs.Pages.{first_bad, code_byte_at}
 use Rattle.vax_form.specs.State.{Answers}
-use Rattle.vax_form.specs.Script.{Script, Moment, pure, bind, choose, ask, check_bytes, read_code, fail, get, change}
+use Rattle.vax_form.specs.Script.{Script, Moment, Halt, pure, bind, choose, ask, check_bytes, read_code, fail, get, change}
 use Rattle.vax_form.specs.declared.pages.Pages.{Pages}
 use Rattle.vax_form.specs.declared.state.VaxState.{VaxState}
 use Rattle.vax_form.specs.declared.state.Reference.{Reference}
@@ -127,16 +127,16 @@ retires (Comes (Exit state) left) = Some (record { life = Exited; state = state;
 retires (Comes (Trap kind state) left) = Some (record { life = Trapped kind; state = state; left = left })
 
 -- what comes behind a script, where the script came to its end
-abbrev pub behind : {A : Type 0} → Result (A × Moment) Stop → (A → VaxState → Tree) → Answer
+abbrev pub behind : {A : Type 0} → Result (A × Moment) Halt → (A → VaxState → Tree) → Answer
 behind (Ok (x, moment)) rest = answer moment.pages (rest x moment.state) moment.replies
-behind (Err (stops.Wants reference)) rest = Wants reference
-behind (Err (stops.Fails exception)) rest = Fails exception
+behind (Err (stops.Wants reference, left)) rest = Wants reference
+behind (Err (stops.Fails exception, left)) rest = Fails exception
 
 -- what is seen of an instruction's script that was run
-abbrev pub run_outcome : (before : VaxState) → Result (End × Moment) Stop → Outcome
+abbrev pub run_outcome : (before : VaxState) → Result (End × Moment) Halt → Outcome
 run_outcome before (Ok (end, moment)) = ending_outcome (ending end moment.state)
-run_outcome before (Err (stops.Wants reference)) = outcomes.Wants reference
-run_outcome before (Err (stops.Fails exception)) = outcomes.Raises exception before
+run_outcome before (Err (stops.Wants reference, left)) = outcomes.Wants reference
+run_outcome before (Err (stops.Fails exception, left)) = outcomes.Raises exception before
 
 -- what is seen of a stop
 abbrev pub stop_outcome : (before : VaxState) → Stop → Outcome

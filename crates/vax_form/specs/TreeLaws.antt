@@ -1,6 +1,6 @@
 -- Laws of scripts and trees.
 use Rattle.std.specs.Prelude.{◌≡◌, ℕ, List, ◌++◌, Result, Ok, Err}
-use Rattle.vax_form.specs.Script.{Script, Moment, run, more, SameLater}
+use Rattle.vax_form.specs.Script.{Script, Moment, Halt, run, more, SameLater}
 use Rattle.vax_form.specs.Tree.{Tree, Answer, Wants, Fails, Comes, tree_of, answer, feed, outcome, head_outcome, stop_outcome, behind, Same, AnswersTree}
 use Rattle.vax_form.specs.declared.pages.Pages.{Pages}
 use Rattle.vax_form.specs.declared.state.VaxState.{VaxState}
@@ -17,9 +17,9 @@ RepliesComeLater = (A : Type 0) (script : Script A) (extra : List ℕ) (moment :
     → SameLater extra (run script moment) (run script (more extra moment))
 
 -- what a script's tree comes to when it is fed, where the script came to that result
-abbrev pub Feeds : {A : Type 0} → Pages → Tree → (A → VaxState → Tree) → Result (A × Moment) Stop → Type 0
+abbrev pub Feeds : {A : Type 0} → Pages → Tree → (A → VaxState → Tree) → Result (A × Moment) Halt → Type 0
 Feeds pages fed rest (Ok (x, moment)) = (moment.pages ≡ pages) × (fed ≡ feed pages (rest x moment.state) moment.replies)
-Feeds pages fed rest (Err stop) = (before : VaxState) → head_outcome before fed ≡ stop_outcome before stop
+Feeds pages fed rest (Err halt) = (before : VaxState) → head_outcome before fed ≡ stop_outcome before halt.0
 
 -- feeding the tree of a script is running the script
 abbrev pub FeedingIsRunning : Type 1

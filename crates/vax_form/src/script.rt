@@ -1,4 +1,5 @@
 ghost use Rattle.vax_form.specs.After.{AfterWithMore};
+ghost use Rattle.vax_form.specs.Moments.{HandledIsSettled, HandledStaysInRange};
 ghost use Rattle.vax_form.specs.TreeLaws.{FeedingTwice, SeenOfTheRest, MoreReplies, ShowsTheOutcome, SameAnswers};
 
 use crate::state::{Exception, Reference};
@@ -37,4 +38,11 @@ pub fn tree_laws()
 #[tactic(auto, using(crate::proofs::Afters::after_with_more))]
 pub fn laws_of_after()
     ensures { AfterWithMore }
+{}
+
+/// Where a handler takes the exceptions of an instruction, its outcome is settled, and it stays in range.
+#[tactic(auto, using(crate::proofs::Moments::handled_is_settled, crate::proofs::Moments::handled_stays_in_range))]
+pub fn laws_of_handlers()
+    ensures settled { HandledIsSettled }
+    ensures ranged { HandledStaysInRange }
 {}

@@ -7,6 +7,18 @@ pub struct VaxState {
     pub r: [u32; 15],
     pub pc: u32,
     pub psw: u16,
+    pub handler: u32,
+    pub pending: Pending,
+}
+
+/// What a thread has to do before its next instruction.
+#[derive(Clone, Copy, Debug, PartialEq, Eq)]
+pub enum Pending {
+    Nothing,
+    /// Its handler is given the exception.
+    Deliver(Exception),
+    /// It takes up what a handler's frame says.
+    Resume,
 }
 
 impl VaxState {

@@ -29,7 +29,8 @@ entry_mask destination = do
 -- checks the pushes of a call frame from that top on
 unfoldable pub check_frame : (mask top : ℕ) → Script (Unit {0})
 check_frame mask top = do
-  pc ← check_registers 12 mask top
+  saved ← check_registers 12 mask top
+  pc ← check_push saved
   fp ← check_push pc
   ap ← check_push fp
   status ← check_push ap

@@ -40,7 +40,8 @@ pub fn frame_allowed(cursor: &mut Cursor, mask: u32, top: u32) -> Result<(), Sto
     ensures plays { Plays (check_frame mask top) cursor.old result cursor.new }
     ensures few { Uses 0 cursor.old result cursor.new }
 {
-    let pc = registers_allowed(cursor, 12, mask, top)?;
+    let saved = registers_allowed(cursor, 12, mask, top)?;
+    let pc = push_allowed(cursor, saved)?;
     let fp = push_allowed(cursor, pc)?;
     let ap = push_allowed(cursor, fp)?;
     let status = push_allowed(cursor, ap)?;

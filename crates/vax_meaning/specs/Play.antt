@@ -13,7 +13,7 @@ view c = record { state = c.state; pages = c.pages.now; replies = c.replies.now 
 -- a function of the code, from one cursor to another, does what the script does
 abbrev pub Plays : {A : Type 0} → Script A → Cursor → Result A Stop → Cursor → Type 0
 Plays script old (Ok x) new = run script (view old) ≡ Ok (x, view new)
-Plays script old (Err e) new = run script (view old) ≡ Err e
+Plays script old (Err e) new = run script (view old) ≡ Err (e, new.replies.now)
 
 -- how many replies are used at most: what wants one more had fewer
 abbrev pub Uses : {A : Type 0} → ℕ → Cursor → Result A Stop → Cursor → Type 0

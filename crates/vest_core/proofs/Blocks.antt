@@ -26,7 +26,8 @@ use Rattle.memory_core.specs.Changes.{leaves}
 use Rattle.memory_core.specs.Kinds.{is_memory}
 use Rattle.memory_core.proofs.Choices.{if_true}
 use Rattle.vax_form.specs.Pages.{is_allowed, first_bad}
-use Rattle.vax_form.specs.State.{register, with_register}
+use Rattle.vax_form.specs.State.{register, with_register, with_pending}
+use Rattle.vax_form.specs.declared.state.Pending.TheVariants.{Resume}
 use Rattle.vax_form.specs.Tree.{Tree, Check, Ask, Fault, Ends, Ending, Finish, Exit, Trap, Same, unless_bad, answer}
 use Rattle.vax_form.specs.Tree as trees
 use Rattle.vax_form.specs.declared.state.Exception.{Exception}
@@ -45,7 +46,7 @@ use Rattle.block_law.specs.References.{wants, wanted_by, is_of_memory, reply_by}
 use Rattle.block_law.specs.Translations.{fetch_of, placed}
 use Rattle.block_law.proofs.Blocks.{open_follows}
 use Rattle.system_model.specs.Settings.{Setting}
-use Rattle.system_model.specs.Steps.{Comes, Place, Lands, Leaves, Moves, Wants, Moment, state_at, rules_of, held_behind, place_by, place_of, request_for, is_defined, accesses, behind, with_r0, probed, raised, called, does, next_by, next}
+use Rattle.system_model.specs.Steps.{Comes, Place, Lands, Leaves, Moves, Wants, Moment, state_at, rules_of, held_behind, place_by, place_of, request_for, is_defined, accesses, behind, with_r0, probed, raised, called, does, exchanged, next_by, next}
 use Rattle.system_model.specs.Processors.{entry_by}
 use Rattle.vest_core.specs.Entries.{Lock}
 use Rattle.vest_core.proofs.Judged.{MadeBy}
@@ -105,7 +106,7 @@ module _ (setting : Setting) (thread : ℕ) (sound : IsSound setting.meaning) (r
     m = moment_at thread retired b held
 
     abbrev Owed_at : Option Lock → (spare : ℕ) → Tree → Place → Type 0
-    Owed_at = OwedPlace setting.meaning.pages (Owes b held) (IsForm setting)
+    Owed_at = OwedPlace setting.meaning.pages (Owes b held) (IsForm setting) (λ l. l)
 
     -- a place that is not mapped is inside
     inside : (d : Alpha) (phase : Phase) (lock : Option Lock) (spare : ℕ) (t : Tree) → phase_lock phase ≡ lock → block.Onward p (Ever p) phase spare d t → Owed_at lock spare t (place_of setting m d)
@@ -186,7 +187,7 @@ module _ (setting : Setting) (thread : ℕ) (sound : IsSound setting.meaning) (r
     loads : (address bytes value : ℕ) (i : AlphaInstr) (c : Alpha) (spare : ℕ) (t : Tree) (before : ℕ) (success : Bool) → before < 2 ^ 64 → success ≡ true
         → let a = an_access alpha.Load address bytes value in
         Made (wants t) (quad_of a) (λ before. before) (λ _. Unit {0}) (λ before u. block.Onward p (Ever p) Plain (spare + p.bonus) (leads i a c before true) u)
-        → OwedBehind setting.meaning.pages (Owes b held) (IsForm setting) spare t (entry_by (request_for m a) before success) (place_of setting m (leads i a c before success))
+        → OwedBehind setting.meaning.pages (Owes b held) (IsForm setting) (λ l. l) spare t (entry_by (request_for m a) before success) (place_of setting m (leads i a c before success))
     loads address bytes value i c spare t before success small is_true h =
         let a = an_access alpha.Load address bytes value in
         let q = request_for m a in (
@@ -199,7 +200,7 @@ module _ (setting : Setting) (thread : ℕ) (sound : IsSound setting.meaning) (r
     stores_all : (address bytes value : ℕ) (i : AlphaInstr) (c : Alpha) (spare : ℕ) (t : Tree) (before : ℕ) (success : Bool) → address % 8 + bytes ≤ 8 → before < 2 ^ 64 → success ≡ true
         → let a = an_access alpha.Store address bytes value in
         Made (wants t) (quad_of a) (changed a) (λ _. Unit {0}) (λ before u. block.Onward p (Ever p) Plain (spare + p.bonus) (leads i a c before true) u)
-        → OwedBehind setting.meaning.pages (Owes b held) (IsForm setting) spare t (entry_by (request_for m a) before success) (place_of setting m (leads i a c before success))
+        → OwedBehind setting.meaning.pages (Owes b held) (IsForm setting) (λ l. l) spare t (entry_by (request_for m a) before success) (place_of setting m (leads i a c before success))
     stores_all address bytes value i c spare t before success within small is_true h =
         let a = an_access alpha.Store address bytes value in
         let q = request_for m a in (
@@ -214,7 +215,7 @@ module _ (setting : Setting) (thread : ℕ) (sound : IsSound setting.meaning) (r
         → let a = an_access alpha.StoreConditional address bytes value in
         Made (wants t) (quad_of a) (changed a) (λ before. before ≡ found) (λ before u. block.Onward p (Ever p) Plain (spare + p.bonus) (leads i a c before true) u)
         → ((before : ℕ) → before < 2 ^ 64 → block.Onward p (Ever p) (Failed place) (spare + 16) (leads i a c before false) t)
-        → OwedBehind setting.meaning.pages (Owes b held) (IsForm setting) spare t (entry_by (request_for m a) before success) (place_of setting m (leads i a c before success))
+        → OwedBehind setting.meaning.pages (Owes b held) (IsForm setting) (λ l. l) spare t (entry_by (request_for m a) before success) (place_of setting m (leads i a c before success))
     conditionals address bytes value quad found place i c spare t before true within small same h lost =
         let a = an_access alpha.StoreConditional address bytes value in
         let q = request_for m a in
@@ -226,7 +227,7 @@ module _ (setting : Setting) (thread : ℕ) (sound : IsSound setting.meaning) (r
     access_owed : (kind : AlphaKind) (phase : Phase) (address bytes value : ℕ) (i : AlphaInstr) (c : Alpha) (spare : ℕ) (t : Tree) → address % 8 + bytes ≤ 8
         → let a = an_access kind address bytes value in
         Accesses kind phase c.pc (wants t) (quad_of a) (changed a) (leads i a c) p.bonus spare t (block.Onward p (Ever p))
-        → OwedAccess setting.meaning.pages (Owes b held) (IsForm setting) retired (phase_lock phase) spare t (request_for m a) (λ before success. place_of setting m (leads i a c before success))
+        → OwedAccess setting.meaning.pages (Owes b held) (IsForm setting) (λ l. l) retired (phase_lock phase) spare t (request_for m a) (λ before success. place_of setting m (leads i a c before success))
     access_owed alpha.Load Plain address bytes value i c spare t within h = record {
       same = refl;
       paired = tt;
@@ -266,11 +267,11 @@ module _ (setting : Setting) (thread : ℕ) (sound : IsSound setting.meaning) (r
     probe_owed point address count write tree c spare a k w on (Some bad) found =
         (Check address count write tree, Here, (refl, ap (λ o. unless_bad o trees.Fails write (answer setting.meaning.pages tree [])) found ∙ ap (λ x. trees.Fails (AccessViolation bad x)) w))
 
-    raise_owed : (o : Option Exception) (x : Exception) (c : Alpha) (spare : ℕ) → o ≡ Some x → OwedNext setting.meaning.pages (Owes b held) (IsForm setting) retired None spare (Fault x) (raised o)
+    raise_owed : (o : Option Exception) (x : Exception) (c : Alpha) (spare : ℕ) → o ≡ Some x → OwedNext setting.meaning.pages (Owes b held) (IsForm setting) (λ l. l) retired None spare (Fault x) (raised o)
     raise_owed None x c spare h = absurd (cc h)
     raise_owed (Some y) x c spare h = (Fault x, Here, (refl, ap trees.Fails (cc (sym h))))
 
-    ends_owed : (t : Tree) (e e' : Ending) (spare : ℕ) → t ≡ Ends e → e ≡ e' → OwedNext setting.meaning.pages (Owes b held) (IsForm setting) retired None spare t (Moves (Leaves (Comes e')))
+    ends_owed : (t : Tree) (e e' : Ending) (spare : ℕ) → t ≡ Ends e → e ≡ e' → OwedNext setting.meaning.pages (Owes b held) (IsForm setting) (λ l. l) retired None spare t (Moves (Leaves (Comes e')))
     ends_owed t e e' spare is same = (t, Here, (refl, ap (λ x. answer setting.meaning.pages x []) is ∙ ap (λ x. trees.Comes x []) same))
 
     longword_again : (x : ℕ) → sign_extended (x % 2 ^ 32) 32 ≡ sign_extended x 32
@@ -313,7 +314,7 @@ module _ (setting : Setting) (thread : ℕ) (sound : IsSound setting.meaning) (r
           (subst (λ regs. Owed_at None spare (Ends (Finish s)) (behind setting m c regs)) (r0_stays c.regs form) there)
 
       put_owed : (t : Tree) → Same t (Ask (record { address = 0; count = 0; kind = Put (register 0 s % 256) }) (λ _. Ends (Finish s))) → After
-          → OwedNext setting.meaning.pages (Owes b held) (IsForm setting) retired None spare t (Wants (record { processor = thread; retired = retired; kind = kinds.Put; quad = 0; change = changes.Byte (c.regs 0 % 256) }) (λ before success. behind setting m c c.regs))
+          → OwedNext setting.meaning.pages (Owes b held) (IsForm setting) (λ l. l) retired None spare t (Wants (record { processor = thread; retired = retired; kind = kinds.Put; quad = 0; change = changes.Byte (c.regs 0 % 256) }) (λ before success. behind setting m c c.regs))
       put_owed t same on =
           let r : Reference = record { address = 0; count = 0; kind = Put (register 0 s % 256) } in
           let asks = same_ask t r (λ _. Ends (Finish s)) same in
@@ -333,7 +334,7 @@ module _ (setting : Setting) (thread : ℕ) (sound : IsSound setting.meaning) (r
           }
 
       get_owed : (t : Tree) → Same t (Ask (record { address = 0; count = 0; kind = Get }) (λ reply. Ends (Finish (with_register 0 (reply % 2 ^ 32) s)))) → After
-          → OwedNext setting.meaning.pages (Owes b held) (IsForm setting) retired None spare t (Wants (record { processor = thread; retired = retired; kind = kinds.Get; quad = 0; change = changes.Nothing }) (λ before success. behind setting m c (with_r0 c.regs before)))
+          → OwedNext setting.meaning.pages (Owes b held) (IsForm setting) (λ l. l) retired None spare t (Wants (record { processor = thread; retired = retired; kind = kinds.Get; quad = 0; change = changes.Nothing }) (λ before success. behind setting m c (with_r0 c.regs before)))
       get_owed t same on =
           let r : Reference = record { address = 0; count = 0; kind = Get } in
           let asks = same_ask t r (λ reply. Ends (Finish (with_register 0 (reply % 2 ^ 32) s))) same in
@@ -354,27 +355,29 @@ module _ (setting : Setting) (thread : ℕ) (sound : IsSound setting.meaning) (r
                 );
           }
 
-      moves_owed : (t : Tree) (value : ℕ) → value < 2 ^ 32 → Same t (Ends (Finish (with_register 0 value s))) → After → OwedNext setting.meaning.pages (Owes b held) (IsForm setting) retired None spare t (Moves (behind setting m c (with_r0 c.regs value)))
+      moves_owed : (t : Tree) (value : ℕ) → value < 2 ^ 32 → Same t (Ends (Finish (with_register 0 value s))) → After → OwedNext setting.meaning.pages (Owes b held) (IsForm setting) (λ l. l) retired None spare t (Moves (behind setting m c (with_r0 c.regs value)))
       moves_owed t value small same on = (t, Here, r0_owed t value small (same_ends t (Finish (with_register 0 value s)) same) on)
 
-      serve_owed : (t : Tree) (one two three four : Bool)
+      serve_owed : (t : Tree) (one two three four five six : Bool)
           → Same t (if one then Ends (Exit s) else if two then Ask (record { address = 0; count = 0; kind = Put (register 0 s % 256) }) (λ _. Ends (Finish s))
           else if three then Ask (record { address = 0; count = 0; kind = Get }) (λ reply. Ends (Finish (with_register 0 (reply % 2 ^ 32) s)))
-          else if four then Ends (Finish (with_register 0 thread s)) else Ends (Finish (with_register 0 0 s)))
+          else if four then Ends (Finish (with_register 0 thread s)) else if five then Ends (Finish (exchanged s)) else if six then Ends (Finish (with_pending Resume s)) else Ends (Finish (with_register 0 0 s)))
           → After
-          → OwedNext setting.meaning.pages (Owes b held) (IsForm setting) retired None spare t
+          → OwedNext setting.meaning.pages (Owes b held) (IsForm setting) (λ l. l) retired None spare t
           (if one then Moves (Leaves (Comes (Exit s)))
           else if two then Wants (record { processor = thread; retired = retired; kind = kinds.Put; quad = 0; change = changes.Byte (c.regs 0 % 256) }) (λ before success. behind setting m c c.regs)
           else if three then Wants (record { processor = thread; retired = retired; kind = kinds.Get; quad = 0; change = changes.Nothing }) (λ before success. behind setting m c (with_r0 c.regs before))
-          else if four then Moves (behind setting m c (with_r0 c.regs thread)) else Moves (behind setting m c (with_r0 c.regs 0)))
-      serve_owed t true two three four same on = ends_owed t (Exit s) (Exit s) spare (same_ends t (Exit s) same) refl
-      serve_owed t false true three four same on = put_owed t same on
-      serve_owed t false false true four same on = get_owed t same on
-      serve_owed t false false false true same on = moves_owed t thread (omega (arith, few_threads)) same on
-      serve_owed t false false false false same on = moves_owed t 0 (lit< tt) same on
+          else if four then Moves (behind setting m c (with_r0 c.regs thread)) else if five then Moves (Leaves (Comes (Finish (exchanged s)))) else if six then Moves (Leaves (Comes (Finish (with_pending Resume s)))) else Moves (behind setting m c (with_r0 c.regs 0)))
+      serve_owed t true two three four five six same on = ends_owed t (Exit s) (Exit s) spare (same_ends t (Exit s) same) refl
+      serve_owed t false true three four five six same on = put_owed t same on
+      serve_owed t false false true four five six same on = get_owed t same on
+      serve_owed t false false false true five six same on = moves_owed t thread (omega (arith, few_threads)) same on
+      serve_owed t false false false false true six same on = ends_owed t (Finish (exchanged s)) (Finish (exchanged s)) spare (same_ends t (Finish (exchanged s)) same) refl
+      serve_owed t false false false false false true same on = ends_owed t (Finish (with_pending Resume s)) (Finish (with_pending Resume s)) spare (same_ends t (Finish (with_pending Resume s)) same) refl
+      serve_owed t false false false false false false same on = moves_owed t 0 (lit< tt) same on
 
     called_owed : thread < 256 → (call : Call) (point : Option Point) (phase : Phase) (t : Tree) (c : Alpha) (spare : ℕ) → Called call point phase t p c (λ d u. block.Onward p (Ever p) Plain spare d u)
-        → OwedNext setting.meaning.pages (Owes b held) (IsForm setting) retired (phase_lock phase) spare t (called setting m call point c)
+        → OwedNext setting.meaning.pages (Owes b held) (IsForm setting) (λ l. l) retired (phase_lock phase) spare t (called setting m call point c)
     called_owed lt Probe (Some point) Plain (Check address count write tree) c spare h =
         let same : first_bad setting.meaning.pages point.write (probe_address c.regs) (probe_count point c.regs) ≡ first_bad setting.meaning.pages write address count =
         sym (ap (λ w. first_bad setting.meaning.pages w address count) h.2 ∙ ap (λ a. first_bad setting.meaning.pages point.write a count) h.0 ∙ ap (λ n. first_bad setting.meaning.pages point.write (probe_address c.regs) n) h.1) in
@@ -386,7 +389,7 @@ module _ (setting : Setting) (thread : ℕ) (sound : IsSound setting.meaning) (r
     called_owed lt Switch point Plain (Ends (Finish state)) c spare h = ends_owed (Ends (Finish state)) (Finish state) (Finish (state_at b c.regs (target c.regs) all_ready held)) spare refl (ap Finish h.1)
     called_owed lt Serve (Some point) Plain t c spare h =
         let code = c.regs 21 % 2 ^ 16 in
-        serve_owed lt point c spare h.0 t (code == 1) (code == 2) (code == 3) (code == 4)
+        serve_owed lt point c spare h.0 t (code == 1) (code == 2) (code == 3) (code == 4) (code == 5) (code == 6)
         (subst (Same t) (sound.serves thread code (state_shown p c.regs (target c.regs) point.rules held)) h.1) h.2
     called_owed lt call point phase t c spare h = absurd h
 
@@ -396,13 +399,13 @@ module _ (setting : Setting) (thread : ℕ) (sound : IsSound setting.meaning) (r
         (λ d. block.Lands (p.stops d.pc) (p.points d.pc) phase t p d.regs (Forth phase p.first c.pc d.pc × Ever p (phase_after phase c.pc d.pc) spare d t))
         (λ number. Called (call_of number) (p.points c.pc) phase t p c (λ d u. block.Onward p (Ever p) Plain spare d u))
         (block.Onward p (Ever p))
-        → OwedNext setting.meaning.pages (Owes b held) (IsForm setting) retired (phase_lock phase) spare t (does setting m i what c)
+        → OwedNext setting.meaning.pages (Owes b held) (IsForm setting) (λ l. l) retired (phase_lock phase) spare t (does setting m i what c)
     acts_owed lt i phase t c spare (Goes d) is h = (t, Here, goes_to c.pc d phase t spare (address_at setting.code.map d.pc) refl h)
     acts_owed lt i phase t c spare (Calls number) is h = called_owed lt (call_of number) (point_at setting.code.points c.pc) phase t c spare h
     acts_owed lt i phase t c spare (Asks a) is h =
         let within = asks_within i c a is h.0 in
         let defined : is_defined setting a ≡ true = both_true (a.address % a.bytes == 0) (is_allowed setting.meaning.pages (quad_of a) (stores a.kind)) (zero_test (a.address % a.bytes) h.0) h.1 in
-        subst (λ x. OwedNext setting.meaning.pages (Owes b held) (IsForm setting) retired (phase_lock phase) spare t (accesses x setting m i a c)) (sym defined)
+        subst (λ x. OwedNext setting.meaning.pages (Owes b held) (IsForm setting) (λ l. l) retired (phase_lock phase) spare t (accesses x setting m i a c)) (sym defined)
         (access_owed a.kind phase a.address a.bytes a.value i c spare t within h.3)
 
     step_owed : thread < 256 → (o : Option AlphaInstr) (phase : Phase) (t : Tree) (c : Alpha) (spare : ℕ)
@@ -410,7 +413,7 @@ module _ (setting : Setting) (thread : ℕ) (sound : IsSound setting.meaning) (r
         (λ d. block.Lands (p.stops d.pc) (p.points d.pc) phase t p d.regs (Forth phase p.first c.pc d.pc × Ever p (phase_after phase c.pc d.pc) spare d t))
         (λ number. Called (call_of number) (p.points c.pc) phase t p c (λ d u. block.Onward p (Ever p) Plain spare d u))
         (block.Onward p (Ever p))
-        → OwedNext setting.meaning.pages (Owes b held) (IsForm setting) retired (phase_lock phase) spare t (next_by setting m o c)
+        → OwedNext setting.meaning.pages (Owes b held) (IsForm setting) (λ l. l) retired (phase_lock phase) spare t (next_by setting m o c)
     step_owed lt None phase t c spare h = absurd h
     step_owed lt (Some i) phase t c spare h = acts_owed lt i phase t c spare (act i c) refl h
 
@@ -420,11 +423,11 @@ module _ (setting : Setting) (thread : ℕ) (sound : IsSound setting.meaning) (r
 
   -- what is owed of a processor's step
   pub opens : thread < 256 → (retired : ℕ) (b : VaxState) (held : Flags) (lock : Option Lock) (spare : ℕ) (c : Alpha) (t : Tree) → Owes b held lock spare c t
-      → (0 < spare) × OwedNext setting.meaning.pages (Owes b held) (IsForm setting) retired lock (spare - 1) t (next setting (moment_at thread retired b held) c)
+      → (0 < spare) × OwedNext setting.meaning.pages (Owes b held) (IsForm setting) (λ l. l) retired lock (spare - 1) t (next setting (moment_at thread retired b held) c)
   opens lt retired b held lock spare c t o =
       let one = open_follows (placed setting.meaning setting.code thread b held o.first) o.phase spare c t o.ever in (
         one.2,
-        subst (λ n. OwedNext setting.meaning.pages (Owes b held) (IsForm setting) retired lock (spare - 1) t n) (sym (next_is (moment_at thread retired b held) c))
-            (subst (λ l. OwedNext setting.meaning.pages (Owes b held) (IsForm setting) retired l (spare - 1) t (next_by setting (moment_at thread retired b held) (fetch_of setting.code.words c.pc) c)) o.is_lock
+        subst (λ n. OwedNext setting.meaning.pages (Owes b held) (IsForm setting) (λ l. l) retired lock (spare - 1) t n) (sym (next_is (moment_at thread retired b held) c))
+            (subst (λ l. OwedNext setting.meaning.pages (Owes b held) (IsForm setting) (λ l. l) retired l (spare - 1) t (next_by setting (moment_at thread retired b held) (fetch_of setting.code.words c.pc) c)) o.is_lock
             (step_owed b held retired o.first lt (fetch_of setting.code.words c.pc) o.phase t c (spare - 1) one.3)),
       )

@@ -15,11 +15,13 @@ use Rattle.exception_records.specs.declared.rules.CodeRule.TheVariants.{Ready, Z
 use Rattle.exception_records.specs.declared.rules.Rules.{Rules}
 use Rattle.vax_form.specs.State.{IsState, with_core}
 use Rattle.vax_form.specs.declared.state.Flags.{Flags}
+use Rattle.vax_form.specs.declared.state.Pending.{Pending}
+use Rattle.vax_form.specs.declared.state.Pending.TheVariants.{Nothing, Deliver, Resume}
 use Rattle.vax_form.specs.declared.state.VaxState.{VaxState}
 use Rattle.block_law.specs.Placements.{InForm}
 use Rattle.block_law.specs.Translations.{Meets}
-use Rattle.system_model.specs.Settings.{Setting, goes_on}
-use Rattle.system_model.specs.Ranges.{covers}
+use Rattle.system_model.specs.Settings.{Setting, goes_on, unless_pending}
+use Rattle.system_model.specs.Ranges.{covers, word_for}
 use Rattle.system_model.specs.Processors.{all_held, registers_of}
 use Rattle.block_law.specs.Sound.{IsSound}
 use Rattle.vest_core.proofs.Blocks.{IsForm, Owes}
@@ -168,11 +170,16 @@ mapped : (b : Bool) (o : Option ℕ) (word : ℕ) → (if b then None else o) �
 mapped true o word h = absurd (cc h)
 mapped false o word h = h
 
+pub awake : (pending : Pending) (o : Option ℕ) (word : ℕ) → unless_pending pending o ≡ Some word → (pending ≡ Nothing) × (o ≡ Some word)
+awake Nothing o word h = (refl, h)
+awake (Deliver x) o word h = absurd (cc h)
+awake Resume o word h = absurd (cc h)
+
 -- where a thread goes on in Alpha code, its block follows its instruction's tree
 pub enter : (setting : Setting) (thread : ℕ) (sound : IsSound setting.meaning) (meets : Meets setting.meaning setting.code) → thread < 256
-    → (state : VaxState) (held : Flags) (regs : Regs) (word : ℕ) → IsState state → IsForm setting state held regs → goes_on setting thread state.pc ≡ Some word
+    → (state : VaxState) (held : Flags) (regs : Regs) (word : ℕ) → IsState state → IsForm setting state held regs → goes_on setting thread state ≡ Some word
     → Owes setting thread sound meets.map_rises state held None 256 (at_place regs word) (setting.meaning.tree thread state)
 enter setting thread sound meets lt state held regs word is form goes =
-    let at = mapped (list_any (covers thread state.pc) setting.ranges) (word_at setting.code.map state.pc) word goes in
+    let at = mapped (list_any (covers thread state.pc) setting.ranges) (word_at setting.code.map state.pc) word (awake state.pending (word_for setting.code.map setting.ranges thread state.pc) word goes).1 in
     let block = meets.blocks state.pc word at in
     record { first = word; phase = Plain; is_lock = refl; ever = λ n. block.follows thread n state held regs lt is refl form.form (form.shows word block.point at block.has_point) }

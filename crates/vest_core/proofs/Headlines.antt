@@ -7,6 +7,7 @@ use Rattle.image_file.specs.declared.image.Start.{Start}
 use Rattle.memory_core.specs.declared.entry.Entry.{Entry}
 use Rattle.memory_core.specs.declared.entry.SetUp.{SetUp}
 use Rattle.memory_core.specs.Order.{own}
+use Rattle.memory_core.specs.Order as memory
 use Rattle.vax_form.specs.State.{IsState}
 use Rattle.vax_form.specs.Tree.{Retired}
 use Rattle.vax_form.specs.declared.state.VaxState.{VaxState}
@@ -27,12 +28,16 @@ use Rattle.vest_core.specs.Headline.{Claims, HasTies}
 use Rattle.vest_core.proofs.Facts.{IsShown, HasFewEntries, Facts}
 use Rattle.system_model.specs.Interpreted.{threads_of, ties_of, ties_in, end_in, has_raised}
 use Rattle.vest_core.specs.Law.{IsRun, HasHeadline, LegalHasHeadline}
+use Rattle.vest_core.specs.OneProcessor.{ReachedIsSteady}
 use Rattle.block_law.specs.Sound.{IsSound}
 use Rattle.vest_core.proofs.Blocks.{Owes, IsForm, opens}
-use Rattle.vest_core.proofs.Boundaries.{fresh, enter}
+use Rattle.vest_core.proofs.Boundaries.{fresh, enter, awake}
+use Rattle.vest_core.proofs.Handled.{Handled, opens_handled}
+use Rattle.system_model.specs.Ranges.{word_for}
+use Rattle.system_model.specs.Steps.{next}
 use Rattle.vest_core.proofs.Failures.{fail_for_cause}
 use Rattle.vest_core.proofs.Locks.{all_fair}
-use Rattle.vest_core.proofs.Processors.{facts}
+use Rattle.vest_core.proofs.Processors.{facts, moment_at}
 use Rattle.vest_core.proofs.Sums.{all_entries, own_none}
 
 -- ---- lists
@@ -57,7 +62,7 @@ padded zero sp h = All-cons (λ value. value < 2 ^ 32) sp [] h (All-nil (λ valu
 padded (suc n) sp h = All-cons (λ value. value < 2 ^ 32) 0 (replicate n 0 ++ sp ∷ []) (lit< tt) (padded n sp h)
 
 pub start_is : (s : Start) → s.pc < 2 ^ 32 → s.sp < 2 ^ 32 → IsState (start_state s)
-start_is s pc sp = record { registers = refl; longwords = padded 14 s.sp sp; pc = pc; psw = lit< tt }
+start_is s pc sp = record { registers = refl; longwords = padded 14 s.sp sp; pc = pc; psw = lit< tt; handler = lit< tt }
 
 -- ---- ends
 spent_claims : (m : Mode) (run : ThreadRun) → IsGoing m → Claims m run → run.exited ≡ false
@@ -93,6 +98,38 @@ spent_facts setting begin thread mine was going f = record {
     here_is : Option Retired
     here_is = reached (threads_of setting begin) thread was.retired w
 
+-- ---- one processor
+module _ (setting : Setting) (set_up : SetUp) (entries : List Entry) (sound : IsSound setting.meaning) (meets : Meets setting.meaning setting.code) (run : IsRun set_up) (order : memory.Meets set_up entries) where
+  started : (thread : ℕ) (start : VaxState) → starts set_up.image thread ≡ Some start → IsState start × (thread < 256)
+  started thread start h =
+      let found = option_map-some start_state (slice_get set_up.image.threads thread) start h in
+      let range = run.starts thread found.0 found.1 in
+      (subst IsState found.2 (start_is found.0 range.1 range.2), range.0)
+
+  was_facts : (thread : ℕ) (start : VaxState) (was : Processor) → starts set_up.image thread ≡ Some start → Reaches setting (begun thread start) was.steps (own thread entries) was → Facts setting (starts set_up.image) thread (own thread entries) was
+  was_facts thread start was h reached_was =
+      let s = started thread start h in
+      facts setting (starts set_up.image) thread start h s.0 (sound.moments_ranged thread s.1)
+      (λ b held. Handled setting.meaning.pages b (Owes setting thread sound meets.map_rises b held) (IsForm setting)) (IsForm setting) (fresh setting)
+      (λ state held regs word is form goes. record {
+        alone = setting.meaning.tree thread state;
+        is = sound.moments thread state (awake state.pending (word_for setting.code.map setting.ranges thread state.pc) word goes).0;
+        owes = enter setting thread sound meets s.1 state held regs word is form goes;
+      })
+      (λ retired b held lock spare alpha k. opens_handled setting.meaning.pages b (Owes setting thread sound meets.map_rises b held) (IsForm setting) retired lock spare alpha k (next setting (moment_at thread retired b held) alpha)
+      (λ t. opens setting thread sound meets.map_rises s.1 retired b held lock spare alpha t))
+      was.steps (own thread entries) was reached_was (all_fair set_up run.bytes entries order thread)
+
+  pub facts_of : (budget thread : ℕ) (start : VaxState) (p : Processor) → starts set_up.image thread ≡ Some start → IsReached setting budget set_up.limit entries thread start p → Facts setting (starts set_up.image) thread (own thread entries) p
+  facts_of budget thread start p h r =
+      let f = was_facts thread start r.was h r.reaches in
+      ⊎_elim (λ e. subst (Facts setting (starts set_up.image) thread (own thread entries)) (sym e) f) (λ s. subst (Facts setting (starts set_up.image) thread (own thread entries)) (sym s.is) (spent_facts setting (starts set_up.image) thread (own thread entries) r.was s.going f)) r.now
+
+pub reached_is_steady : ReachedIsSteady
+reached_is_steady setting set_up budget entries thread start p sound meets run order h r =
+    let f = facts_of setting set_up entries sound meets run order budget thread start p h r in
+    record { goes_on = f.goes_on; steps = f.steps }
+
 module _ (setting : Setting) (set_up : SetUp) (budget : ℕ) (entries : List Entry) (processors : List Processor) (sound : IsSound setting.meaning) (meets : Meets setting.meaning setting.code) (run : IsRun set_up) (legal : IsLegal setting set_up budget entries processors) where
   abbrev begin : ℕ → Option VaxState
   begin = starts set_up.image
@@ -100,31 +137,13 @@ module _ (setting : Setting) (set_up : SetUp) (budget : ℕ) (entries : List Ent
   abbrev threads : Threads
   threads = threads_of setting begin
 
-  started : (thread : ℕ) (start : VaxState) → begin thread ≡ Some start → IsState start × (thread < 256) × (thread < length processors)
-  started thread start h =
-      let found = option_map-some start_state (slice_get set_up.image.threads thread) start h in
-      let range = run.starts thread found.0 found.1 in
-      let lt = within set_up.image.threads thread found.0 found.1 in
-      (subst IsState found.2 (start_is found.0 range.1 range.2), range.0, omega (arith, lt, legal.count))
-
-  was_facts : (thread : ℕ) (start : VaxState) (was : Processor) → begin thread ≡ Some start → Reaches setting (begun thread start) was.steps (own thread entries) was → Facts setting begin thread (own thread entries) was
-  was_facts thread start was h reached_was =
-      let s = started thread start h in
-      facts setting begin thread start h s.0 (sound.ranged thread s.1) (Owes setting thread sound meets.map_rises) (IsForm setting) (fresh setting) (enter setting thread sound meets s.1) (opens setting thread sound meets.map_rises s.1)
-      was.steps (own thread entries) was reached_was (all_fair set_up run.bytes entries legal.order thread)
-
-  facts_of : (thread : ℕ) (start : VaxState) (p : Processor) → begin thread ≡ Some start → IsReached setting budget set_up.limit entries thread start p → Facts setting begin thread (own thread entries) p
-  facts_of thread start p h r =
-      let f = was_facts thread start r.was h r.reaches in
-      ⊎_elim (λ e. subst (Facts setting begin thread (own thread entries)) (sym e) f) (λ s. subst (Facts setting begin thread (own thread entries)) (sym s.is) (spent_facts setting begin thread (own thread entries) r.was s.going f)) r.now
-
   -- the facts of each processor
   each_facts : (thread : ℕ) (p : Processor) → slice_get processors thread ≡ Some p → Facts setting begin thread (own thread entries) p
   each_facts thread p at =
       let lt = within processors thread p at in
       let s = there_is set_up.image.threads thread (omega (arith, lt, legal.count)) in
       let h : begin thread ≡ Some (start_state s.0) = ap (option_map start_state) s.1 in
-      facts_of thread (start_state s.0) p h (legal.each thread (start_state s.0) p h at)
+      facts_of setting set_up entries sound meets run legal.order budget thread (start_state s.0) p h (legal.each thread (start_state s.0) p h at)
 
   explained_by : (thread : ℕ) (o : Option Processor) → slice_get processors thread ≡ o → Explained threads thread (own thread entries)
   explained_by thread None at = subst (Explained threads thread) (sym (own_none (length processors) entries thread legal.known (beyond processors thread at))) tt

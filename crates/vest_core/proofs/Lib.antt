@@ -14,10 +14,10 @@ pub mod Processors
 pub mod Maps
 pub mod Sames
 pub mod Blocks
+pub mod Handled
 pub mod Boundaries
 pub mod Sums
 pub mod Headlines
-pub mod Closed
 pub mod Images
 pub mod Runs
 mod Refused

@@ -30,12 +30,12 @@ abbrev pub answer_by : Last → Answer
 answer_by (Comes e) = trees.Comes e []
 answer_by (Fails x) = trees.Fails x
 
-module _ (pages : Pages) (Owes : Option Lock → (spare : ℕ) → Alpha → Tree → Type 0) (Form : VaxState → (held : Flags) → Regs → Type 0) where
+module _ (pages : Pages) (Owes : Option Lock → (spare : ℕ) → Alpha → Tree → Type 0) (Form : VaxState → (held : Flags) → Regs → Type 0) (settle : Last → Last) where
   -- at a place that a step leads to, with so many steps left and this of the tree
   abbrev pub OwedPlace : Option Lock → (spare : ℕ) → Tree → Place → Type 0
   OwedPlace lock spare t (Inside alpha) = Owes lock spare alpha t
   OwedPlace lock spare t (Lands state held regs) = (lock ≡ None) × (t ≡ Ends (Finish state)) × Form state held regs
-  OwedPlace lock spare t (Leaves last) = (lock ≡ None) × (answer pages t [] ≡ answer_by last)
+  OwedPlace lock spare t (Leaves last) = (lock ≡ None) × (answer pages t [] ≡ answer_by (settle last))
 
   -- behind an entry: one that counts is of the next reference, and may allow steps more
   abbrev pub OwedBehind : (spare : ℕ) → Tree → Entry → Place → Type 0

@@ -18,7 +18,7 @@ use Rattle.vax_driven.specs.Threads.{Threads, after_start, wanted, run_at, fault
 use Rattle.system_model.specs.declared.translation.End.{End}
 use Rattle.system_model.specs.declared.translation.End.TheVariants as ends
 use Rattle.system_model.specs.Settings.{Setting, goes_on}
-use Rattle.system_model.specs.Steps.{Last, Comes, Fails, Place, Inside, Lands, Leaves, Next, Moves, Wants, Stuck, Moment, next}
+use Rattle.system_model.specs.Steps.{Last, Comes, Fails, Place, Inside, Lands, Leaves, Next, Moves, Wants, Stuck, Moment, next, settled_last}
 use Rattle.system_model.specs.Processors.{Mode, New, Runs, Interprets, Ended, Processor, all_held, registers_of, mode_by, begun, stepped, tied, arrived, left, placed, Turn, Went, Asks, Over, Lost, alpha_turn, kind_by, request_of, tie_turn, turn_in, mode_of, turn, entry_by, Reaches, Begins, Steps, Takes}
 use Rattle.system_model.specs.Counted.{counts, is_counted}
 use Rattle.vest_core.specs.Explained.{with_reply, replies_by, IsWanted, Explained}
@@ -57,7 +57,7 @@ module _ (setting : Setting) (starts : ℕ → Option VaxState) (thread : ℕ) w
   threads = threads_of setting starts
 
   abbrev tree : VaxState → Tree
-  tree = setting.meaning.tree thread
+  tree = setting.meaning.moment thread
 
   -- the instruction in flight: so many have retired, and it has taken just the replies that are left
   record Flight (w : List ℕ) (n : ℕ) (b : VaxState) (pending : List ℕ) (k : Tree) : Type 0 where
@@ -87,9 +87,9 @@ module _ (setting : Setting) (starts : ℕ → Option VaxState) (thread : ℕ) w
       (Owes : VaxState → Flags → Option Lock → (spare : ℕ) → Alpha → Tree → Type 0)
       (Form : VaxState → Flags → Regs → Type 0)
       (fresh : (state : VaxState) → IsState state → Form state all_held (registers_of state))
-      (enter : (state : VaxState) (held : Flags) (regs : Regs) (word : ℕ) → IsState state → Form state held regs → goes_on setting thread state.pc ≡ Some word → Owes state held None 256 (at_place regs word) (tree state))
+      (enter : (state : VaxState) (held : Flags) (regs : Regs) (word : ℕ) → IsState state → Form state held regs → goes_on setting thread state ≡ Some word → Owes state held None 256 (at_place regs word) (tree state))
       (opens : (retired : ℕ) (b : VaxState) (held : Flags) (lock : Option Lock) (spare : ℕ) (alpha : Alpha) (k : Tree) → Owes b held lock spare alpha k
-      → (0 < spare) × OwedNext setting.meaning.pages (Owes b held) Form retired lock (spare - 1) k (next setting (moment_at thread retired b held) alpha)) where
+      → (0 < spare) × OwedNext setting.meaning.pages (Owes b held) Form (settled_last b) retired lock (spare - 1) k (next setting (moment_at thread retired b held) alpha)) where
     -- what a processor's mode says of its thread, which was told w
     record Flies (w : List ℕ) (lock : Option Lock) (share : ℕ) (p : Processor) (alpha : Alpha) : Type 0 where
       pending : List ℕ
@@ -98,7 +98,7 @@ module _ (setting : Setting) (starts : ℕ → Option VaxState) (thread : ℕ) w
       flight : Flight w p.retired p.boundary pending rest
       room : p.steps + spare ≤ 256 * p.retired + 256 + share
       owed : Owes p.boundary p.held lock spare alpha rest
-      translated : is_translated setting thread p.boundary.pc ≡ true
+      translated : is_translated setting thread p.boundary ≡ true
       ties : p.ties ≡ ties_of setting starts thread p.retired w
 
     record Plays (w : List ℕ) (lock : Option Lock) (share : ℕ) (p : Processor) (state : VaxState) (pending : List ℕ) : Type 0 where
@@ -107,7 +107,7 @@ module _ (setting : Setting) (starts : ℕ → Option VaxState) (thread : ℕ) w
       same : state ≡ p.boundary
       free : lock ≡ None
       room : p.steps ≤ 256 * p.retired + share
-      interpreted : is_translated setting thread p.boundary.pc ≡ false
+      interpreted : is_translated setting thread p.boundary ≡ false
       ties : p.ties ≡ ties_of setting starts thread p.retired w + made_in setting.meaning.pages (tree p.boundary) pending
 
     -- at a boundary
@@ -139,7 +139,7 @@ module _ (setting : Setting) (starts : ℕ → Option VaxState) (thread : ℕ) w
     -- ---- arrivals
     arrive : (w : List ℕ) (lock : Option Lock) (share : ℕ) (q : Processor) (regs : Regs) → here setting starts thread q.retired w ≡ running q.boundary [] → IsState q.boundary → Form q.boundary q.held regs
         → lock ≡ None → q.steps ≤ 256 * q.retired + share → q.ties ≡ ties_of setting starts thread q.retired w
-        → (o : Option ℕ) → goes_on setting thread q.boundary.pc ≡ o → Stands w lock share q (mode_by o q.boundary regs)
+        → (o : Option ℕ) → goes_on setting thread q.boundary ≡ o → Stands w lock share q (mode_by o q.boundary regs)
     arrive w lock share q regs at state form free room sum None goes = record {
       rest = tree q.boundary;
       flight = record { at = at; path = Here; range = keeps q.boundary state };
@@ -163,7 +163,7 @@ module _ (setting : Setting) (starts : ℕ → Option VaxState) (thread : ℕ) w
     settle : (w : List ℕ) (lock : Option Lock) (share : ℕ) (p : Processor) (m : Mode) → p.thread ≡ thread → Stands w lock share p m → Stands w lock share p (mode_of setting p m)
     settle w lock share p New is s =
         arrive w lock share p (registers_of p.boundary) s.at s.state (subst (λ h. Form p.boundary h (registers_of p.boundary)) (sym s.held) (fresh p.boundary s.state)) s.free s.room s.ties
-        (goes_on setting p.thread p.boundary.pc) (ap (λ t. goes_on setting t p.boundary.pc) (sym is))
+        (goes_on setting p.thread p.boundary) (ap (λ t. goes_on setting t p.boundary) (sym is))
     settle w lock share p (Runs alpha) is s = s
     settle w lock share p (Interprets state pending) is s = s
     settle w lock share p (Ended end) is s = s
@@ -179,7 +179,7 @@ module _ (setting : Setting) (starts : ℕ → Option VaxState) (thread : ℕ) w
     leave w lock share p pending k (Comes (Finish s)) is f e free room sum =
         let state = comes_state setting.meaning.pages k (Finish s) [] f.range e in
         let at = reached_suc setting starts thread p.retired w p.boundary pending (trees.Comes (Finish s) []) f.at (comes w p.retired p.boundary pending k (trees.Comes (Finish s) []) f e) in
-        arrive w lock share (left setting p (Comes (Finish s))) (registers_of s) at state.0 (fresh s state.0) free (omega (arith, room)) sum (goes_on setting p.thread s.pc) (ap (λ t. goes_on setting t s.pc) (sym is))
+        arrive w lock share (left setting p (Comes (Finish s))) (registers_of s) at state.0 (fresh s state.0) free (omega (arith, room)) sum (goes_on setting p.thread s) (ap (λ t. goes_on setting t s) (sym is))
     leave w lock share p pending k (Comes (Exit s)) is f e free room sum =
         let at = reached_suc setting starts thread p.retired w p.boundary pending (trees.Comes (Exit s) []) f.at (comes w p.retired p.boundary pending k (trees.Comes (Exit s) []) f e) in
         record { left = (ap (run_at threads thread) at, refl); room = omega (arith, room); ties = omega (arith, sum, ap (ties_in setting thread) at) }
@@ -194,25 +194,25 @@ module _ (setting : Setting) (starts : ℕ → Option VaxState) (thread : ℕ) w
           ties = omega (arith, sum);
         }
 
-    quiet : (w : List ℕ) (p : Processor) (ties : ℕ) (pending : List ℕ) (k : Tree) → Flight w p.retired p.boundary pending k → is_translated setting thread p.boundary.pc ≡ true → ties ≡ ties_of setting starts thread p.retired w
+    quiet : (w : List ℕ) (p : Processor) (ties : ℕ) (pending : List ℕ) (k : Tree) → Flight w p.retired p.boundary pending k → is_translated setting thread p.boundary ≡ true → ties ≡ ties_of setting starts thread p.retired w
         → ties ≡ ties_of setting starts thread p.retired w + (end_in setting thread (here setting starts thread p.retired w) + ties_in setting thread (here setting starts thread p.retired w))
     quiet w p ties pending k f t sum = omega (arith, sum, ties_quiet setting starts thread p.retired w p.boundary pending f.at t, end_quiet setting starts thread p.retired w p.boundary pending f.at t)
 
     place : (w : List ℕ) (lock : Option Lock) (share : ℕ) (p : Processor) (pending : List ℕ) (k : Tree) (spare : ℕ) (to : Place) → p.thread ≡ thread → Flight w p.retired p.boundary pending k → p.steps + spare ≤ 256 * p.retired + 256 + share
-        → OwedPlace setting.meaning.pages (Owes p.boundary p.held) Form lock spare k to → is_translated setting thread p.boundary.pc ≡ true → p.ties ≡ ties_of setting starts thread p.retired w
+        → OwedPlace setting.meaning.pages (Owes p.boundary p.held) Form (settled_last p.boundary) lock spare k to → is_translated setting thread p.boundary ≡ true → p.ties ≡ ties_of setting starts thread p.retired w
         → Stands w lock share (placed setting p to) (placed setting p to).mode
     place w lock share p pending k spare (Inside alpha) is f room owed t sum = record { pending = pending; rest = k; spare = spare; flight = f; room = room; owed = owed; translated = t; ties = sum }
     place w lock share p pending k spare (Lands s held regs) is f room owed t sum =
         let e : answer setting.meaning.pages k [] ≡ trees.Comes (Finish s) [] = ap (λ x. answer setting.meaning.pages x []) owed.1 in
         let state = comes_state setting.meaning.pages k (Finish s) [] f.range e in
         let at = reached_suc setting starts thread p.retired w p.boundary pending (trees.Comes (Finish s) []) f.at (comes w p.retired p.boundary pending k (trees.Comes (Finish s) []) f e) in
-        arrive w lock share (arrived setting p s held regs) regs at state.0 owed.2 owed.0 (omega (arith, room)) (quiet w p p.ties pending k f t sum) (goes_on setting p.thread s.pc) (ap (λ t. goes_on setting t s.pc) (sym is))
+        arrive w lock share (arrived setting p s held regs) regs at state.0 owed.2 owed.0 (omega (arith, room)) (quiet w p p.ties pending k f t sum) (goes_on setting p.thread s) (ap (λ t. goes_on setting t s) (sym is))
     place w lock share p pending k spare (Leaves last) is f room owed t sum =
-        leave w lock share p pending k last is f owed.1 owed.0 (omega (arith, room)) (quiet w p p.ties pending k f t sum)
+        leave w lock share p pending k (settled_last p.boundary last) is f owed.1 owed.0 (omega (arith, room)) (quiet w p p.ties pending k f t sum)
 
     -- ---- a step that asks nothing
     moves_alpha : (w : List ℕ) (lock : Option Lock) (share : ℕ) (p q : Processor) (alpha : Alpha) (s : Flies w lock share p alpha) (to : Next) → p.thread ≡ thread
-        → 0 < s.spare → OwedNext setting.meaning.pages (Owes p.boundary p.held) Form p.retired lock (s.spare - 1) s.rest to → alpha_turn setting p to ≡ Went q → Stands w lock share q q.mode
+        → 0 < s.spare → OwedNext setting.meaning.pages (Owes p.boundary p.held) Form (settled_last p.boundary) p.retired lock (s.spare - 1) s.rest to → alpha_turn setting p to ≡ Went q → Stands w lock share q q.mode
     moves_alpha w lock share p q alpha s (Moves to) is some owed e =
         let e' : placed setting (stepped p) to ≡ q = cc e in
         let room : suc p.steps + (s.spare - 1) ≤ 256 * p.retired + 256 + share = omega (arith, some, s.room) in
@@ -246,8 +246,8 @@ module _ (setting : Setting) (starts : ℕ → Option VaxState) (thread : ℕ) w
         let o = opens p.retired p.boundary p.held lock s.spare alpha s.rest s.owed in
         moves_alpha w lock share p q alpha s (next setting (moment_at thread p.retired p.boundary p.held) alpha) is o.0 o.1 (ap (λ t. alpha_turn setting p (next setting (moment_at t p.retired p.boundary p.held) alpha)) (sym is) ∙ e)
     moves w lock share p q (Interprets state pending) is s e =
-        moves_tie w lock share p q state pending s (answer setting.meaning.pages (setting.meaning.tree p.thread state) pending) is
-        (ap (λ b. answer setting.meaning.pages (tree b) pending) (sym s.same) ∙ ap (λ t. answer setting.meaning.pages (setting.meaning.tree t state) pending) (sym is)) e
+        moves_tie w lock share p q state pending s (answer setting.meaning.pages (setting.meaning.moment p.thread state) pending) is
+        (ap (λ b. answer setting.meaning.pages (tree b) pending) (sym s.same) ∙ ap (λ t. answer setting.meaning.pages (setting.meaning.moment t state) pending) (sym is)) e
     moves w lock share p q (Ended end) is s e = absurd (cc e)
 
     -- ---- what an access makes of the replies
@@ -259,7 +259,7 @@ module _ (setting : Setting) (starts : ℕ → Option VaxState) (thread : ℕ) w
     silent_replies mine e c = rw c
 
     -- the boundary is where the thread is
-    made_at : (w : List ℕ) (n : ℕ) (boundary : VaxState) (pending : List ℕ) (b : Bool) (kind : Kind) → here setting starts thread n w ≡ running boundary pending → is_translated setting thread boundary.pc ≡ b → IsMadeIn b kind
+    made_at : (w : List ℕ) (n : ℕ) (boundary : VaxState) (pending : List ℕ) (b : Bool) (kind : Kind) → here setting starts thread n w ≡ running boundary pending → is_translated setting thread boundary ≡ b → IsMadeIn b kind
         → IsMadeIn (translated_at setting thread (here setting starts thread n w)) kind
     made_at w n boundary pending b kind at t i = subst (λ a. IsMadeIn (translated_at setting thread a) kind) (sym at) (subst (λ (x : Bool). IsMadeIn x kind) (sym t) i)
 
@@ -272,7 +272,7 @@ module _ (setting : Setting) (starts : ℕ → Option VaxState) (thread : ℕ) w
 
     -- ---- one access of Alpha code
     module _ (mine : List Entry) (lock : Option Lock) (p : Processor) (alpha : Alpha) (s : Flies (replies_by threads thread mine) lock (share_of mine) p alpha) (r : Request) (on : ℕ → Bool → Place) (is : p.thread ≡ thread) (some : 0 < s.spare)
-        (owed : OwedAccess setting.meaning.pages (Owes p.boundary p.held) Form p.retired lock (s.spare - 1) s.rest r on) (before : ℕ) (success : Bool) where
+        (owed : OwedAccess setting.meaning.pages (Owes p.boundary p.held) Form (settled_last p.boundary) p.retired lock (s.spare - 1) s.rest r on) (before : ℕ) (success : Bool) where
       abbrev said : List ℕ
       said = replies_by threads thread mine
 
@@ -282,7 +282,7 @@ module _ (setting : Setting) (starts : ℕ → Option VaxState) (thread : ℕ) w
       at_retired : here setting starts thread made.retired said ≡ running p.boundary s.pending
       at_retired = ap (λ n. here setting starts thread n said) owed.same ∙ s.flight.at
 
-      takes_silent : counts r.kind success ≡ false → OwedPlace setting.meaning.pages (Owes p.boundary p.held) Form (lock_by made.kind made.quad made.before) (more_by r.kind success (s.spare - 1)) s.rest (on before success)
+      takes_silent : counts r.kind success ≡ false → OwedPlace setting.meaning.pages (Owes p.boundary p.held) Form (settled_last p.boundary) (lock_by made.kind made.quad made.before) (more_by r.kind success (s.spare - 1)) s.rest (on before success)
           → Tells mine lock made (placed setting (stepped p) (on before success))
       takes_silent c place_owed =
           let q = placed setting (stepped p) (on before success) in
@@ -297,7 +297,7 @@ module _ (setting : Setting) (starts : ℕ → Option VaxState) (thread : ℕ) w
           }
 
       takes_made : (k : Tree) → k ≡ s.rest → (more : ℕ) → more ≤ 256 → counts r.kind success ≡ true → IsFair r.kind lock made.quad before success
-          → MadeBy k made (λ u. OwedPlace setting.meaning.pages (Owes p.boundary p.held) Form (lock_by made.kind made.quad made.before) (s.spare - 1 + more) u (on before success))
+          → MadeBy k made (λ u. OwedPlace setting.meaning.pages (Owes p.boundary p.held) Form (settled_last p.boundary) (lock_by made.kind made.quad made.before) (s.spare - 1 + more) u (on before success))
           → Tells mine lock made (placed setting (stepped p) (on before success))
       takes_made (Check _ _ _ _) same more few c fair m = absurd m
       takes_made (Fault _) same more few c fair m = absurd m
@@ -321,8 +321,8 @@ module _ (setting : Setting) (starts : ℕ → Option VaxState) (thread : ℕ) w
           }
 
       takes_either : IsFair r.kind lock made.quad before success → (b : Bool) → counts r.kind success ≡ b
-          → MatchBool b ((more : ℕ) × (more ≤ 256) × MadeBy s.rest made (λ u. OwedPlace setting.meaning.pages (Owes p.boundary p.held) Form (lock_by made.kind made.quad made.before) (s.spare - 1 + more) u (on before success)))
-          (OwedPlace setting.meaning.pages (Owes p.boundary p.held) Form (lock_by made.kind made.quad made.before) (more_by r.kind success (s.spare - 1)) s.rest (on before success))
+          → MatchBool b ((more : ℕ) × (more ≤ 256) × MadeBy s.rest made (λ u. OwedPlace setting.meaning.pages (Owes p.boundary p.held) Form (settled_last p.boundary) (lock_by made.kind made.quad made.before) (s.spare - 1 + more) u (on before success)))
+          (OwedPlace setting.meaning.pages (Owes p.boundary p.held) Form (settled_last p.boundary) (lock_by made.kind made.quad made.before) (more_by r.kind success (s.spare - 1)) s.rest (on before success))
           → Tells mine lock made (placed setting (stepped p) (on before success))
       takes_either fair true c m = takes_made s.rest refl m.0 m.1 c fair m.2
       takes_either fair false c m = takes_silent c m
@@ -333,7 +333,7 @@ module _ (setting : Setting) (starts : ℕ → Option VaxState) (thread : ℕ) w
     Owed mine lock before success turn = Unit {0}
 
     takes_alpha : (mine : List Entry) (lock : Option Lock) (p : Processor) (alpha : Alpha) (s : Flies (replies_by threads thread mine) lock (share_of mine) p alpha) (to : Next) (before : ℕ) (success : Bool) → p.thread ≡ thread
-        → 0 < s.spare → OwedNext setting.meaning.pages (Owes p.boundary p.held) Form p.retired lock (s.spare - 1) s.rest to → Owed mine lock before success (alpha_turn setting p to)
+        → 0 < s.spare → OwedNext setting.meaning.pages (Owes p.boundary p.held) Form (settled_last p.boundary) p.retired lock (s.spare - 1) s.rest to → Owed mine lock before success (alpha_turn setting p to)
     takes_alpha mine lock p alpha s (Moves to) before success is some owed = tt
     takes_alpha mine lock p alpha s Stuck before success is some owed = tt
     takes_alpha mine lock p alpha s (Wants r on) before success is some owed =
@@ -383,8 +383,8 @@ module _ (setting : Setting) (starts : ℕ → Option VaxState) (thread : ℕ) w
         subst (λ t. Owed mine lock before success (alpha_turn setting p (next setting (moment_at t p.retired p.boundary p.held) alpha))) (sym is)
         (takes_alpha mine lock p alpha s (next setting (moment_at thread p.retired p.boundary p.held) alpha) before success is o.0 o.1)
     takes_in mine lock p (Interprets state pending) before success is s =
-        takes_tie mine lock p state pending s (answer setting.meaning.pages (setting.meaning.tree p.thread state) pending) before success is
-        (ap (λ b. answer setting.meaning.pages (tree b) pending) (sym s.same) ∙ ap (λ t. answer setting.meaning.pages (setting.meaning.tree t state) pending) (sym is))
+        takes_tie mine lock p state pending s (answer setting.meaning.pages (setting.meaning.moment p.thread state) pending) before success is
+        (ap (λ b. answer setting.meaning.pages (tree b) pending) (sym s.same) ∙ ap (λ t. answer setting.meaning.pages (setting.meaning.moment t state) pending) (sym is))
 
 either_none : (b : Bool) (n : ℕ) → n ≡ 0 → (if b then 0 else n) ≡ 0
 either_none true n e = refl
@@ -400,7 +400,7 @@ left_thread setting p (Fails x) = refl
 placed_thread : (setting : Setting) (p : Processor) (to : Place) → (placed setting p to).thread ≡ p.thread
 placed_thread setting p (Inside alpha) = refl
 placed_thread setting p (Lands s held regs) = refl
-placed_thread setting p (Leaves last) = left_thread setting p last
+placed_thread setting p (Leaves last) = left_thread setting p (settled_last p.boundary last)
 
 abbrev KeepsThread : Processor → Turn → Type 0
 KeepsThread p (Went q) = q.thread ≡ p.thread
@@ -421,7 +421,7 @@ tie_thread setting p state pending (trees.Comes x rest) = left_thread setting (t
 turn_thread : (setting : Setting) (p : Processor) (m : Mode) → KeepsThread p (turn_in setting p m)
 turn_thread setting p New = tt
 turn_thread setting p (Runs alpha) = alpha_thread setting p (next setting (moment_at p.thread p.retired p.boundary p.held) alpha)
-turn_thread setting p (Interprets state pending) = tie_thread setting p state pending (answer setting.meaning.pages (setting.meaning.tree p.thread state) pending)
+turn_thread setting p (Interprets state pending) = tie_thread setting p state pending (answer setting.meaning.pages (setting.meaning.moment p.thread state) pending)
 turn_thread setting p (Ended end) = tt
 
 -- ---- a turn is one step
@@ -461,13 +461,13 @@ share_is [] = refl
 share_is (e ∷ mine) = ap (share_by e.kind e.success) (share_is mine) ∙ shares e.kind e.success (counted_in mine) (failed_in mine)
 
 module _ (setting : Setting) (starts : ℕ → Option VaxState) (thread : ℕ) (start : VaxState) (started : starts thread ≡ Some start) (ranged : IsState start)
-    (keeps : StaysInRange (setting.meaning.tree thread))
+    (keeps : StaysInRange (setting.meaning.moment thread))
     (Owes : VaxState → Flags → Option Lock → (spare : ℕ) → Alpha → Tree → Type 0)
     (Form : VaxState → Flags → Regs → Type 0)
     (fresh : (state : VaxState) → IsState state → Form state all_held (registers_of state))
-    (enter : (state : VaxState) (held : Flags) (regs : Regs) (word : ℕ) → IsState state → Form state held regs → goes_on setting thread state.pc ≡ Some word → Owes state held None 256 (at_place regs word) (setting.meaning.tree thread state))
+    (enter : (state : VaxState) (held : Flags) (regs : Regs) (word : ℕ) → IsState state → Form state held regs → goes_on setting thread state ≡ Some word → Owes state held None 256 (at_place regs word) (setting.meaning.moment thread state))
     (opens : (retired : ℕ) (b : VaxState) (held : Flags) (lock : Option Lock) (spare : ℕ) (alpha : Alpha) (k : Tree) → Owes b held lock spare alpha k
-    → (0 < spare) × OwedNext setting.meaning.pages (Owes b held) Form retired lock (spare - 1) k (next setting (moment_at thread retired b held) alpha)) where
+    → (0 < spare) × OwedNext setting.meaning.pages (Owes b held) Form (settled_last b) retired lock (spare - 1) k (next setting (moment_at thread retired b held) alpha)) where
   abbrev its_threads : Threads
   its_threads = threads_of setting starts
 
@@ -484,7 +484,7 @@ module _ (setting : Setting) (starts : ℕ → Option VaxState) (thread : ℕ) (
     long : length mine ≤ 2 * (counted_in mine + failed_in mine) + open_by (lock_of mine)
 
   begins : Here_stands [] None 0 (begun thread start) New
-  begins = record { at = ap (λ (o : Option VaxState). after_start (setting.meaning.tree thread) setting.meaning.pages o 0 []) started; state = ranged; held = refl; free = refl; room = omega arith; ties = refl }
+  begins = record { at = ap (λ (o : Option VaxState). after_start (setting.meaning.moment thread) setting.meaning.pages o 0 []) started; state = ranged; held = refl; free = refl; room = omega arith; ties = refl }
 
   told : (n : ℕ) (mine : List Entry) (p : Processor) → Reaches setting (begun thread start) n mine p → AllFair mine → Told mine p
   told n mine p Begins fair = record { is = refl; explained = tt; stands = begins; made = tt; paired = tt; long = omega arith }
@@ -515,7 +515,7 @@ module _ (setting : Setting) (starts : ℕ → Option VaxState) (thread : ℕ) (
 
   shown_running : (w : List ℕ) (p : Processor) (pending : List ℕ) → here setting starts thread p.retired w ≡ running p.boundary pending → ((run : ThreadRun) → run.exited ≡ false → Claims p.mode run) → IsShown setting starts thread w p
   shown_running w p pending at claims =
-      let run : ThreadRun = record { state = p.boundary; exited = false; raised = fault_of (answer setting.meaning.pages (setting.meaning.tree thread p.boundary) pending) } in
+      let run : ThreadRun = record { state = p.boundary; exited = false; raised = fault_of (answer setting.meaning.pages (setting.meaning.moment thread p.boundary) pending) } in
       record { run = run; driven = ap (run_at its_threads thread) at; state = refl; claims = claims run refl }
 
   shown_ended : (w : List ℕ) (p : Processor) (end : End) → p.mode ≡ Ended end → Left setting starts thread keeps Owes Form fresh enter opens w p end → IsShown setting starts thread w p
@@ -540,7 +540,7 @@ module _ (setting : Setting) (starts : ℕ → Option VaxState) (thread : ℕ) (
   bounded w lock share p (Ended end) s = s.room
 
   none_made : (w : List ℕ) (n : ℕ) (b : VaxState) → here setting starts thread n w ≡ running b [] → ties_in setting thread (here setting starts thread n w) ≡ 0
-  none_made w n b at = ap (ties_in setting thread) at ∙ either_none (is_translated setting thread b.pc) (made_in setting.meaning.pages (setting.meaning.tree thread b) []) (made_none setting.meaning.pages (setting.meaning.tree thread b))
+  none_made w n b at = ap (ties_in setting thread) at ∙ either_none (is_translated setting thread b) (made_in setting.meaning.pages (setting.meaning.moment thread b) []) (made_none setting.meaning.pages (setting.meaning.moment thread b))
 
   tied_in : (w : List ℕ) (lock : Option Lock) (share : ℕ) (p : Processor) (m : Mode) → Here_stands w lock share p m
       → p.ties ≡ ties_of setting starts thread p.retired w + ties_open setting thread (here setting starts thread p.retired w) m
@@ -549,7 +549,7 @@ module _ (setting : Setting) (starts : ℕ → Option VaxState) (thread : ℕ) (
   tied_in w lock share p (Interprets state pending) s = omega (arith, s.ties, ties_loud setting starts thread p.retired w p.boundary pending s.flight.at s.interpreted)
   tied_in w lock share p (Ended end) s = s.ties
 
-  alpha_moves : (p : Processor) (lock : Option Lock) (spare : ℕ) (k : Tree) (to : Next) → OwedNext setting.meaning.pages (Owes p.boundary p.held) Form p.retired lock spare k to → alpha_turn setting p to ≢ Lost
+  alpha_moves : (p : Processor) (lock : Option Lock) (spare : ℕ) (k : Tree) (to : Next) → OwedNext setting.meaning.pages (Owes p.boundary p.held) Form (settled_last p.boundary) p.retired lock spare k to → alpha_turn setting p to ≢ Lost
   alpha_moves p lock spare k (Moves to) o e = absurd (cc e)
   alpha_moves p lock spare k (Wants r on) o e = absurd (cc e)
   alpha_moves p lock spare k Stuck o e = absurd o
@@ -568,11 +568,11 @@ module _ (setting : Setting) (starts : ℕ → Option VaxState) (thread : ℕ) (
   moves_in w lock share p (Runs alpha) is old s =
       let o = opens p.retired p.boundary p.held lock s.spare alpha s.rest s.owed in
       subst (λ t. alpha_turn setting p (next setting (moment_at t p.retired p.boundary p.held) alpha) ≢ Lost) (sym is) (alpha_moves p lock (s.spare - 1) s.rest (next setting (moment_at thread p.retired p.boundary p.held) alpha) o.1)
-  moves_in w lock share p (Interprets state pending) is old s = tie_moves p state pending (answer setting.meaning.pages (setting.meaning.tree p.thread state) pending)
+  moves_in w lock share p (Interprets state pending) is old s = tie_moves p state pending (answer setting.meaning.pages (setting.meaning.moment p.thread state) pending)
   moves_in w lock share p (Ended end) is old s = λ e. absurd (cc e)
 
   not_new : (p : Processor) (m : Mode) → mode_of setting p m ≢ New
-  not_new p New = new_moves p (goes_on setting p.thread p.boundary.pc) p.boundary (registers_of p.boundary)
+  not_new p New = new_moves p (goes_on setting p.thread p.boundary) p.boundary (registers_of p.boundary)
   not_new p (Runs alpha) = λ e. absurd (cc e)
   not_new p (Interprets state pending) = λ e. absurd (cc e)
   not_new p (Ended end) = λ e. absurd (cc e)

@@ -33,7 +33,7 @@ IsMadeIn false kind = IsTie kind
 -- the instruction at which the thread stands is translated
 abbrev pub translated_at : Setting → (thread : ℕ) → Option Retired → Bool
 translated_at setting thread None = false
-translated_at setting thread (Some here) = is_translated setting thread here.state.pc
+translated_at setting thread (Some here) = is_translated setting thread here.state
 
 -- each entry has a kind of Alpha code where the thread's instruction then was translated, and one of TIE where it wasn't
 abbrev pub AllMadeIn : Setting → (starts : ℕ → Option VaxState) → (thread : ℕ) → List Entry → Type 0

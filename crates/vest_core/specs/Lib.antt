@@ -5,4 +5,4 @@ pub mod Entries
 pub mod Failures
 pub mod Headline
 pub mod Law
-pub mod Closed
+pub mod OneProcessor
