@@ -9,7 +9,7 @@ use Rattle.alpha_encode.specs.declared.instr.BranchOp.{BranchOp}
 use Rattle.alpha_encode.specs.declared.instr.BranchOp.TheVariants.{Br}
 use Rattle.alpha_encode.specs.declared.instr.OperateOp.{OperateOp}
 use Rattle.alpha_encode.specs.declared.instr.OperateOp.TheVariants.{Addl}
-use Rattle.alpha_encode.specs.declared.tables.TheConstants.{MEMORY_ROWS, BRANCH_ROWS, OPERATE_ROWS}
+use Rattle.alpha_encode.specs.Table.{memory_rows, branch_rows, operate_rows}
 use Rattle.alpha_encode.specs.contracts.instr.OperateOpPartialEq.TheImpl.{ghosts as operate_op}
 use Rattle.alpha_encode.specs.Rows.{row_at, code_of, memory_opcode, branch_opcode, operate_code, memory_at, branch_at, operate_at}
 
@@ -66,14 +66,14 @@ found_has code_of test (row ∷ rows) op all e =
     (chosen (test row.0) row.1 op (lookup test rows) e)
 
 pub memory_of_found : (opcode : ℕ) (op : MemoryOp) → memory_at opcode ≡ Some op → memory_opcode op ≡ opcode
-memory_of_found opcode op e = eqb-true (memory_opcode op) opcode (found_has memory_opcode (λ code. eqb code opcode) MEMORY_ROWS.now op refl e)
+memory_of_found opcode op e = eqb-true (memory_opcode op) opcode (found_has memory_opcode (λ code. eqb code opcode) memory_rows op refl e)
 
 pub branch_of_found : (opcode : ℕ) (op : BranchOp) → branch_at opcode ≡ Some op → branch_opcode op ≡ opcode
-branch_of_found opcode op e = eqb-true (branch_opcode op) opcode (found_has branch_opcode (λ code. eqb code opcode) BRANCH_ROWS.now op refl e)
+branch_of_found opcode op e = eqb-true (branch_opcode op) opcode (found_has branch_opcode (λ code. eqb code opcode) branch_rows op refl e)
 
 pub operate_of_found : (opcode function : ℕ) (op : OperateOp) → operate_at opcode function ≡ Some op → ((operate_code op).0 ≡ opcode) × ((operate_code op).1 ≡ function)
 operate_of_found opcode function op e =
-    let both = and_true _ _ (found_has (code_of operate_op.eq OPERATE_ROWS.now) (λ code. eqb (code / 2 ^ 8) opcode && eqb (code % 2 ^ 8) function) OPERATE_ROWS.now op refl e) in
+    let both = and_true _ _ (found_has (code_of operate_op.eq operate_rows) (λ code. eqb (code / 2 ^ 8) opcode && eqb (code % 2 ^ 8) function) operate_rows op refl e) in
     (eqb-true (operate_code op).0 opcode both.0, eqb-true (operate_code op).1 function both.1)
 
 -- an opcode and a function are one code
@@ -84,5 +84,5 @@ by_code : {A : Type 0} (rows : List (ℕ × A)) (opcode function : ℕ) → func
 by_code [] opcode function below = refl
 by_code (row ∷ rows) opcode function below = rw (one_code row.0 opcode function below, by_code rows opcode function below) refl
 
-pub operate_by_code : (opcode function : ℕ) → function < 2 ^ 8 → row_at OPERATE_ROWS.now (opcode * 2 ^ 8 + function) ≡ operate_at opcode function
-operate_by_code = by_code OPERATE_ROWS.now
+pub operate_by_code : (opcode function : ℕ) → function < 2 ^ 8 → row_at operate_rows (opcode * 2 ^ 8 + function) ≡ operate_at opcode function
+operate_by_code = by_code operate_rows

@@ -1,6 +1,7 @@
 // Alpha instructions, a row each: the manual's mnemonic with its code, and the mnemonic again in the
-// list below the enum. Definitions and decoder read that list, since a discriminant has no way back to
-// its variant. The contract of `encode` refuses a row that is missing there.
+// list below the enum. The decoder reads that list, since a discriminant has no way back to its
+// variant. The definitions have the manual's table; a code that differs from it, or a row that is
+// missing in the list, is refused.
 
 /// Memory format: loads, stores and load address, with the opcode. `L` behind the size is load-locked, `C` store conditional.
 #[derive(Clone, Copy, PartialEq, Eq, Debug)]

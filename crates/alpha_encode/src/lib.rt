@@ -1,11 +1,14 @@
 //! Alpha instructions and their 32-bit words, by the instruction formats of the Alpha Architecture
 //! Reference Manual: memory, branch, operate, JMP and PALcode. `encode` and `decode` undo each other.
+//! `pal` and `registers` have the numbers of the PALcode calls and registers that translated code uses.
 #![tactic(auto)]
 
 mod decoder;
 mod encoder;
 mod halves;
 mod instr;
+pub mod pal;
+pub mod registers;
 mod tables;
 #[cfg(test)]
 mod tests;
@@ -14,4 +17,4 @@ pub use crate::decoder::decode;
 pub use crate::encoder::encode;
 pub use crate::halves::{load_high, load_low};
 pub use crate::instr::{AlphaInstr, BranchOp, MemoryOp, OperateOp, Second};
-pub use crate::tables::{BRANCH_ROWS, MEMORY_ROWS, OPERATE_ROWS};
+pub use crate::tables::{BRANCH_ROWS, MEMORY_ROWS, OPERATE_ROWS, tables_are_the_manuals};

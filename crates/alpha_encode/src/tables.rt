@@ -1,6 +1,7 @@
 // The tables of the formats, from the lists of rows in instr.rt.
 ghost use Rattle.std.specs.Prelude.{◌≡◌, ◌^◌, ◌<◌};
 ghost use Rattle.alpha_encode.specs.Rows.{memory_at, branch_at, operate_at, row_at};
+ghost use Rattle.alpha_encode.specs.Table.{memory_rows, branch_rows, operate_rows};
 
 use crate::instr::{BranchOp, MemoryOp, OperateOp, branch_rows, memory_rows, operate_rows};
 
@@ -40,7 +41,7 @@ pub fn branch_op(opcode: u32) -> Option<BranchOp>
 
 /// Of the opcode in bits 15:8 and the function in 7:0.
 fn operate_row(code: u32) -> Option<OperateOp>
-    ensures { result ≡ row_at OPERATE_ROWS.now code }
+    ensures { result ≡ row_at operate_rows code }
 {
     operate_rows!(find code)
 }
@@ -52,3 +53,10 @@ pub fn operate_op(opcode: u32, function: u32) -> Option<OperateOp>
 {
     operate_row(opcode * (1 << 8) + function)
 }
+
+/// The tables are the manual's, row by row.
+pub fn tables_are_the_manuals()
+    ensures memory { MEMORY_ROWS.now ≡ memory_rows }
+    ensures branch { BRANCH_ROWS.now ≡ branch_rows }
+    ensures operate { OPERATE_ROWS.now ≡ operate_rows }
+{}

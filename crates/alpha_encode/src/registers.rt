@@ -1,0 +1,28 @@
+// What the Alpha registers hold in translated code. R0 to R14 are the VAX registers, as sign-extended longwords.
+
+/// The first operand of the rule of C.
+pub const CARRY_FIRST: u8 = 15;
+/// The condition codes, as 0 or 1.
+pub const NEGATIVE: u8 = 16;
+
+pub const IS_ZERO: u8 = 17;
+
+pub const OVERFLOW: u8 = 18;
+
+pub const CARRY: u8 = 19;
+/// Bits 7:4 of the processor status word, in place.
+pub const STATUS: u8 = 20;
+/// The temporaries are five registers, from this one on.
+pub const TEMPORARIES: u8 = 21;
+/// A VAX address to go on at; inside a block a temporary.
+pub const TARGET: u8 = 26;
+/// A VAX address to be probed; else scratch.
+pub const ADDRESS: u8 = 27;
+/// The operands of the rule of N, Z and V.
+pub const RULE_FIRST: u8 = 28;
+
+pub const RULE_SECOND: u8 = 29;
+/// The second operand of the rule of C.
+pub const CARRY_SECOND: u8 = 30;
+/// Reads zero, and is not written.
+pub const ZERO: u8 = 31;
