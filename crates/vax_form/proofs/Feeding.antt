@@ -6,7 +6,6 @@ use Rattle.vax_form.specs.declared.pages.Pages.{Pages}
 use Rattle.vax_form.specs.declared.state.VaxState.{VaxState}
 use Rattle.vax_form.specs.declared.state.Reference.{Reference}
 use Rattle.vax_form.specs.declared.state.Exception.TheVariants.{ReservedInstruction}
-use Rattle.vax_form.specs.declared.script.Stop.{Stop}
 use Rattle.vax_form.specs.declared.script.Stop.TheVariants as stops
 use Rattle.vax_form.specs.declared.script.End.{End}
 use Rattle.vax_form.specs.Script.{Script, Moment, Halt, pure, bind, choose, ask, check_bytes, read_code, fail, get, change, run, then_do, asked, checked, fetched}
@@ -60,17 +59,17 @@ feeding_is_running _ (get f) moment rest = (refl, refl)
 feeding_is_running _ (change f) moment rest = (refl, refl)
 
 -- a script that came to its end left the pages as they were
-KeepsPages : {A : Type 0} → Pages → Result (A × Moment) Halt → Type 0
+unfoldable pub KeepsPages : {A : Type 0} → Pages → Result (A × Moment) Halt → Type 0
 KeepsPages pages (Ok (x, moment)) = moment.pages ≡ pages
 KeepsPages pages (Err stop) = Unit {0}
 
-pages_kept : {A : Type 0} (pages : Pages) (fed : Tree) (rest : A → VaxState → Tree) (r : Result (A × Moment) Halt) → Feeds pages fed rest r → KeepsPages pages r
+pub pages_kept : {A : Type 0} (pages : Pages) (fed : Tree) (rest : A → VaxState → Tree) (r : Result (A × Moment) Halt) → Feeds pages fed rest r → KeepsPages pages r
 unfolding KeepsPages
 pages_kept pages fed rest (Ok (x, t)) feeds = feeds.0
 pages_kept pages fed rest (Err stop) feeds = tt
 
 -- what comes behind does not matter to the pages
-nothing_behind : {A : Type 0} → A → VaxState → Tree
+unfoldable pub nothing_behind : {A : Type 0} → A → VaxState → Tree
 nothing_behind x state = Fault ReservedInstruction
 
 answers_bind : {A B : Type 0} (pages : Pages) (r : Result (A × Moment) Halt) (f : A → Script B) (rest : B → VaxState → Tree) → KeepsPages pages r

@@ -5,7 +5,6 @@ use Rattle.vax_form.specs.Pages.{first_bad, code_byte_at}
 use Rattle.vax_form.specs.declared.pages.Pages.{Pages}
 use Rattle.vax_form.specs.declared.state.VaxState.{VaxState}
 use Rattle.vax_form.specs.declared.state.Reference.{Reference}
-use Rattle.vax_form.specs.declared.script.Stop.{Stop}
 use Rattle.vax_form.specs.Script.{Script, Moment, Halt, pure, bind, choose, ask, check_bytes, read_code, fail, get, change, run, then_do, checked, fetched}
 use Rattle.vax_form.specs.Head.{Head, ended, failed, waits, onward, one_of, unless, with_byte, head, played}
 

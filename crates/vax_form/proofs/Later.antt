@@ -2,7 +2,6 @@
 use Rattle.std.proofs.Common.{ℕ, List, [], ◌∷◌, ◌++◌, Bool, true, false, Result, refl}
 use Rattle.std.specs.Prelude.{Ok, Err, Option, Some, None, if◌then◌else◌}
 use Rattle.vax_form.specs.Pages.{first_bad, code_byte_at}
-use Rattle.vax_form.specs.declared.script.Stop.{Stop}
 use Rattle.vax_form.specs.declared.script.Stop.TheVariants.{Wants, Fails}
 use Rattle.vax_form.specs.declared.state.Reference.{Reference}
 use Rattle.vax_form.specs.Script.{Moment, Halt, pure, bind, choose, ask, check_bytes, read_code, fail, get, change, run, then_do, asked, checked, fetched, more, SameLater}

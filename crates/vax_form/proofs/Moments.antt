@@ -1,10 +1,10 @@
 -- Trees whose exceptions a handler takes.
-use Rattle.std.proofs.Common.{◌≡◌, ℕ, List, [], ◌∷◌, Bool, true, false, Option, Some, None, refl, sym, ap, ◌∙◌}
+use Rattle.std.proofs.Common.{◌≡◌, ℕ, List, [], ◌∷◌, Bool, true, false, Option, Some, None, refl}
 use Rattle.std.specs.Prelude.{if◌then◌else◌}
 use Rattle.vax_form.specs.Pages.{first_bad}
 use Rattle.vax_form.specs.State.{IsState}
 use Rattle.vax_form.specs.Ranges.{IsInRange, ending_state}
-use Rattle.vax_form.specs.Tree.{Tree, Check, Ask, Fault, Ends, Ending, Finish, Exit, Trap, Answer, Wants, Fails, Comes, unless_bad, answer, outcome, ending_outcome}
+use Rattle.vax_form.specs.Tree.{Tree, Check, Ask, Fault, Ends, Ending, Finish, Exit, Trap, Answer, Fails, unless_bad, answer, outcome, ending_outcome}
 use Rattle.vax_form.specs.Moments.{delivering, has_handler, handled_ending, handled_fault, handled, settled, HandledIsSettled, HandledStaysInRange}
 use Rattle.vax_form.specs.declared.pages.Pages.{Pages}
 use Rattle.vax_form.specs.declared.state.VaxState.{VaxState}

@@ -1,6 +1,6 @@
 -- The state of a thread, and the numbers that a reference may be answered with.
 -- VAX Architecture Reference Manual, "Processor State" and "Processor Status Longword".
-use Rattle.std.specs.Prelude.{◌≡◌, ℕ, ◌*◌, ◌^◌, ◌<◌, ◌⊎◌, All, List, length, slice_index, slice_set}
+use Rattle.std.specs.Prelude.{◌≡◌, ℕ, ◌+◌, ◌*◌, ◌^◌, ◌<◌, ◌⊎◌, All, List, length, slice_index, slice_set}
 use Rattle.vax_form.specs.declared.state.VaxState.{VaxState}
 use Rattle.vax_form.specs.declared.state.Pending.{Pending}
 use Rattle.vax_form.specs.declared.state.Reference.{Reference}
@@ -30,7 +30,14 @@ register number state = slice_index state.r number
 abbrev pub with_register : (number value : ℕ) → VaxState → VaxState
 with_register number value state = with_core state (slice_set state.r number value) state.pc state.psw
 
--- 15 longwords, a longword and the low byte of the processor status
+-- the processor status longword: user mode, now and before, and the low word
+abbrev pub user_mode : ℕ
+user_mode = 0x03C0_0000
+
+abbrev pub psl_of : VaxState → ℕ
+psl_of state = user_mode + state.psw
+
+-- 15 longwords, a longword, the low byte of the processor status, and a longword for the handler
 pub record IsState (state : VaxState) : Type 0 where
   pub registers : length state.r ≡ 15
   pub longwords : All (λ value. value < 2 ^ 32) state.r

@@ -4,7 +4,6 @@ use Rattle.vax_form.specs.Script.{Script, Moment, Halt, run, more, SameLater}
 use Rattle.vax_form.specs.Tree.{Tree, Answer, Wants, Fails, Comes, tree_of, answer, feed, outcome, head_outcome, stop_outcome, behind, Same, AnswersTree}
 use Rattle.vax_form.specs.declared.pages.Pages.{Pages}
 use Rattle.vax_form.specs.declared.state.VaxState.{VaxState}
-use Rattle.vax_form.specs.declared.script.Stop.{Stop}
 
 -- answering the tree of a script is running the script
 abbrev pub AnsweringIsRunning : Type 1

@@ -20,4 +20,6 @@ pub use operation::{
 pub use pages::{PageRange, Pages};
 pub use row::{Class, Row, class_of, is_long, row_of};
 pub use script::{End, Stop, laws_of_after, laws_of_handlers, tree_laws};
-pub use state::{Exception, Flags, Outcome, Pending, Pick, RefKind, Reference, VaxState, WantOfMemory};
+pub use state::{
+    Exception, Flags, Outcome, Pending, Pick, RefKind, Reference, VaxState, WantOfMemory,
+};

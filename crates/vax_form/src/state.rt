@@ -1,7 +1,11 @@
 ghost use Rattle.std.specs.Prelude.{◌≡◌};
 
-/// A thread's processor state: R0 to R14 (R12 is AP, R13 FP, R14 SP), the PC, and the low word of the processor status
-/// (C is bit 0, V 1, Z 2, N 3, T 4, IV 5, FU 6, DV 7).
+/// The processor status longword of a thread is this and its low word: user mode, now and before.
+const USER_MODE: u32 = 0x03C0_0000;
+
+/// A thread's processor state: R0 to R14 (R12 is AP, R13 FP, R14 SP), the PC, the low word of the processor status
+/// (C is bit 0, V 1, Z 2, N 3, T 4, IV 5, FU 6, DV 7), the address of its handler, or 0 where it has none, and what it
+/// does before its next instruction.
 #[derive(Clone, Copy, Debug, PartialEq, Eq)]
 pub struct VaxState {
     pub r: [u32; 15],
@@ -15,14 +19,14 @@ pub struct VaxState {
 #[derive(Clone, Copy, Debug, PartialEq, Eq)]
 pub enum Pending {
     Nothing,
-    /// Its handler is given the exception.
+    /// The exception's frame is pushed, and it goes on at its handler.
     Deliver(Exception),
-    /// It takes up what a handler's frame says.
+    /// It goes on as the frame at SP says.
     Resume,
 }
 
 impl VaxState {
-    ghost use Rattle.vax_form.specs.State.{register, with_register};
+    ghost use Rattle.vax_form.specs.State.{register, with_register, psl_of};
 
     /// A register R0 to R14, and 0 for any other number.
     pub fn register(&self, number: u8) -> u32
@@ -42,6 +46,13 @@ impl VaxState {
         if number < 15 {
             self.r[number as usize] = value;
         }
+    }
+
+    /// The processor status longword.
+    pub fn psl(&self) -> u32
+        ensures { result ≡ psl_of self.now }
+    {
+        USER_MODE + self.psw as u32
     }
 }
 
@@ -91,6 +102,45 @@ pub enum Exception {
     Breakpoint,
     /// An arithmetic trap: type 1 is integer overflow, 2 divide by zero, 7 subscript range.
     Arithmetic(u8),
+}
+
+impl Exception {
+    ghost use Rattle.vax_form.specs.Exceptions.{vector_of, parameter_of, intent_of};
+
+    /// The offset of its vector in the System Control Block.
+    pub fn vector(&self) -> u8
+        ensures { result ≡ vector_of self.now }
+    {
+        match self {
+            Exception::ReservedInstruction => 0x10,
+            Exception::ReservedOperand => 0x18,
+            Exception::ReservedMode => 0x1C,
+            Exception::AccessViolation { .. } => 0x20,
+            Exception::Breakpoint => 0x2C,
+            Exception::Arithmetic(_) => 0x34,
+        }
+    }
+
+    /// The address of an access violation, the type of an arithmetic trap, and 0 for any other.
+    pub fn parameter(&self) -> u32
+        ensures { result ≡ parameter_of self.now }
+    {
+        match self {
+            Exception::AccessViolation { address, .. } => *address,
+            Exception::Arithmetic(kind) => *kind as u32,
+            _ => 0,
+        }
+    }
+
+    /// 1 for an access violation with write intent, else 0.
+    pub fn intent(&self) -> u32
+        ensures { result ≡ intent_of self.now }
+    {
+        match self {
+            Exception::AccessViolation { write: true, .. } => 1,
+            _ => 0,
+        }
+    }
 }
 
 /// What an instruction comes to with the replies so far.
