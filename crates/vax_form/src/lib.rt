@@ -21,5 +21,5 @@ pub use pages::{PageRange, Pages};
 pub use row::{Class, Row, class_of, is_long, row_of};
 pub use script::{End, Stop, laws_of_after, laws_of_handlers, tree_laws};
 pub use state::{
-    Exception, Flags, Outcome, Pending, Pick, RefKind, Reference, VaxState, WantOfMemory,
+    Exception, Flags, Outcome, Pending, Pick, RefKind, Reference, USER_MODE, VaxState, WantOfMemory,
 };

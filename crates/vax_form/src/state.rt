@@ -1,7 +1,7 @@
 ghost use Rattle.std.specs.Prelude.{◌≡◌};
 
 /// The processor status longword of a thread is this and its low word: user mode, now and before.
-const USER_MODE: u32 = 0x03C0_0000;
+pub const USER_MODE: u32 = 0x03C0_0000;
 
 /// A thread's processor state: R0 to R14 (R12 is AP, R13 FP, R14 SP), the PC, the low word of the processor status
 /// (C is bit 0, V 1, Z 2, N 3, T 4, IV 5, FU 6, DV 7), the address of its handler, or 0 where it has none, and what it
@@ -26,6 +26,7 @@ pub enum Pending {
 }
 
 impl VaxState {
+    ghost use Rattle.vax_form.specs.Moments.{delivering, has_handler};
     ghost use Rattle.vax_form.specs.State.{register, with_register, psl_of};
 
     /// A register R0 to R14, and 0 for any other number.
@@ -46,6 +47,21 @@ impl VaxState {
         if number < 15 {
             self.r[number as usize] = value;
         }
+    }
+
+    /// Whether the thread has a handler.
+    pub fn has_handler(&self) -> bool
+        ensures { result ≡ has_handler self.now }
+    {
+        self.handler != 0
+    }
+
+    /// The state with that exception to be delivered.
+    pub fn delivering(&self, exception: Exception) -> VaxState
+        ensures { result ≡ delivering exception self.now }
+    {
+        let pending = Pending::Deliver(exception);
+        VaxState { pending, ..*self }
     }
 
     /// The processor status longword.

@@ -1,12 +1,13 @@
 -- The services and the breakpoint.
 -- VAX Architecture Reference Manual, "Operating System Support": CHMK, whose codes are this system's own.
 use Rattle.std.specs.Prelude.{ℕ, ◌%◌, ◌^◌, ◌==◌, List}
-use Rattle.vax_form.specs.State.{with_pc}
-use Rattle.vax_form.specs.Script.{Script, ◌>>=◌, ◌>>◌, pure, ask, change, when◌then◌else◌}
+use Rattle.vax_form.specs.State.{with_pc, with_handler, with_pending}
+use Rattle.vax_form.specs.Script.{Script, ◌>>=◌, ◌>>◌, pure, ask, get, change, when◌then◌else◌}
 use Rattle.vax_form.specs.declared.instr.Size.TheVariants.{Word}
 use Rattle.vax_form.specs.declared.instr.Instr.{Instr}
 use Rattle.vax_form.specs.declared.script.End.{End}
 use Rattle.vax_form.specs.declared.script.End.TheVariants.{Done, Exits}
+use Rattle.vax_form.specs.declared.state.Pending.TheVariants.{Resume}
 use Rattle.vax_form.specs.declared.state.RefKind.TheVariants.{Put, Get}
 use Rattle.vax_meaning.specs.declared.evaluation.Evaluated.{Evaluated}
 use Rattle.vax_meaning.specs.Operands.{get_register, set_register}
@@ -31,13 +32,30 @@ answer_with value = do
   set_register 0 value
   pure Done
 
--- a service: 1 ends the thread, 2 puts out a byte, 3 gets one, 4 tells the thread's number, and any other gives 0
+-- makes R0 the handler, and gives the handler before
+unfoldable pub exchange_handler : Script End
+exchange_handler = do
+  before ← get (λ state. state.handler)
+  first ← get_register 0
+  change (with_handler first)
+  answer_with before
+
+-- resumes behind the service
+abbrev pub ask_to_resume : Script End
+ask_to_resume = do
+  change (with_pending Resume)
+  pure Done
+
+-- a service: 1 ends the thread, 2 puts out a byte, 3 gets one, 4 tells the thread's number, 5 exchanges the handler,
+-- 6 resumes, and any other gives 0
 unfoldable pub serve : (code thread : ℕ) → Script End
 serve code thread =
     when code == 1 then pure Exits
     else when code == 2 then put_byte
     else when code == 3 then get_byte
     else when code == 4 then answer_with thread
+    else when code == 5 then exchange_handler
+    else when code == 6 then ask_to_resume
     else answer_with 0
 
 -- CHMK: the codes are kept

@@ -3,7 +3,7 @@
 -- "Miscellaneous Instructions"; the entry is named at each.
 use Rattle.std.specs.Prelude.{ℕ, ◌+◌, ◌-◌, ◌%◌, ◌^◌, nat_lt, int_lt, ◌==◌, List, Bool, true, false, bit_and, bit_or, if◌then◌else◌}
 use Rattle.vax_form.specs.Size.{bytes_of, size_of}
-use Rattle.vax_form.specs.State.{with_psw}
+use Rattle.vax_form.specs.State.{with_psw, psl_of}
 use Rattle.vax_form.specs.Script.{Script, ◌>>=◌, ◌>>◌, get, change, fail, when◌then◌else◌}
 use Rattle.vax_form.specs.declared.instr.Size.{Size}
 use Rattle.vax_form.specs.declared.instr.Size.TheVariants.{Word, Long}
@@ -92,10 +92,6 @@ unfoldable pub bit_test : Instr → Width → List Evaluated → Script End
 bit_test instr width values = do
   change (with_result (size_of width) (bit_and (value_of_place values 0 (size_of width)) (value_of_place values 1 (size_of width))))
   go_to instr.after
-
--- the longword of the processor status: user mode, and the low word
-abbrev pub psl_of : VaxState → ℕ
-psl_of state = 0x03C00000 + state.psw
 
 -- MOVPSL: the codes are kept
 unfoldable pub move_psl : Instr → List Evaluated → Script End

@@ -1,13 +1,13 @@
 ghost use Rattle.std.specs.Prelude.{◌≡◌, ◌<◌, ◌^◌};
 ghost use Rattle.vax_form.specs.Script.{ask};
 ghost use Rattle.vax_meaning.specs.Play.{Plays, Uses};
-ghost use Rattle.vax_meaning.specs.Control.{put_byte, get_byte, answer_with, serve, change_mode};
+ghost use Rattle.vax_meaning.specs.Control.{put_byte, get_byte, answer_with, exchange_handler, ask_to_resume, serve, change_mode};
 
 use crate::codes::set_pc;
 use crate::cursor::Cursor;
 use crate::evaluation::{Evaluated, value_at};
 use crate::operands::{register_of, set_register_of};
-use vax_form::{End, Instr, RefKind, Reference, Size, Stop};
+use vax_form::{End, Instr, Pending, RefKind, Reference, Size, Stop};
 
 /// A reference that is none to memory.
 fn outside(cursor: &mut Cursor, kind: RefKind) -> Result<u64, Stop>
@@ -52,7 +52,28 @@ fn answered(cursor: &mut Cursor, value: u32) -> Result<End, Stop>
     Ok(End::Done)
 }
 
-/// Does a service: 1 ends the thread, 2 puts out a byte, 3 gets one, 4 tells the thread's number.
+/// Makes R0 the handler, and gives the handler before.
+#[tactic(auto, unfolding(crate::specs::Control::exchange_handler))]
+fn handler_exchanged(cursor: &mut Cursor) -> Result<End, Stop>
+    ensures plays { Plays exchange_handler cursor.old result cursor.new }
+    ensures few { Uses 0 cursor.old result cursor.new }
+{
+    let before = cursor.state.handler;
+    cursor.state.handler = register_of(cursor, 0);
+    answered(cursor, before)
+}
+
+/// Resumes behind the service.
+fn resumption_asked(cursor: &mut Cursor) -> Result<End, Stop>
+    ensures plays { Plays ask_to_resume cursor.old result cursor.new }
+    ensures few { Uses 0 cursor.old result cursor.new }
+{
+    cursor.state.pending = Pending::Resume;
+    Ok(End::Done)
+}
+
+/// Does a service: 1 ends the thread, 2 puts out a byte, 3 gets one, 4 tells the thread's number, 5 exchanges R0 and
+/// the handler, 6 resumes, and any other gives 0.
 #[tactic(auto, unfolding(crate::specs::Control::serve))]
 pub fn served(cursor: &mut Cursor, code: u64, thread: u8) -> Result<End, Stop>
     ensures plays { Plays (serve code thread) cursor.old result cursor.new }
@@ -63,6 +84,8 @@ pub fn served(cursor: &mut Cursor, code: u64, thread: u8) -> Result<End, Stop>
         2 => byte_put(cursor),
         3 => byte_got(cursor),
         4 => answered(cursor, thread as u32),
+        5 => handler_exchanged(cursor),
+        6 => resumption_asked(cursor),
         _ => answered(cursor, 0),
     }
 }

@@ -2,7 +2,7 @@ ghost use Rattle.std.specs.Prelude.{◌≡◌, ◌<◌, ◌*◌, ◌^◌};
 ghost use Rattle.vax_form.specs.Size.{bytes_of, size_of};
 ghost use Rattle.vax_form.specs.Script.{changed};
 ghost use Rattle.vax_meaning.specs.Play.{Plays, Uses, view};
-ghost use Rattle.vax_meaning.specs.Moves.{give, move_value, clear, move_address, move_complemented, move_zero_extended, push, push_value, with_comparison, compare, test_value, bit_test, psl_of, move_psl, change_psw};
+ghost use Rattle.vax_meaning.specs.Moves.{give, move_value, clear, move_address, move_complemented, move_zero_extended, push, push_value, with_comparison, compare, test_value, bit_test, move_psl, change_psw};
 
 use crate::codes::{carry, gone_to, set_by_result, set_codes, sign};
 use crate::cursor::Cursor;
@@ -193,20 +193,13 @@ pub fn bits_tested(
     gone_to(cursor, instr.after)
 }
 
-/// The longword of the processor status.
-fn psl(cursor: &Cursor) -> u64
-    ensures { result ≡ psl_of cursor.now.state }
-{
-    0x03C0_0000 + cursor.state.psw as u64
-}
-
 /// MOVPSL.
 #[tactic(auto, unfolding(crate::specs::Moves::move_psl))]
 pub fn psl_moved(cursor: &mut Cursor, instr: &Instr, values: &[Evaluated; 6]) -> Result<End, Stop>
     ensures plays { Plays (move_psl instr.now values.now) cursor.old result cursor.new }
     ensures few { Uses 2 cursor.old result cursor.new }
 {
-    let value = psl(cursor);
+    let value = cursor.state.psl() as u64;
     stored(cursor, location_at(values, 0), Size::Long, value)?;
     gone_to(cursor, instr.after)
 }
