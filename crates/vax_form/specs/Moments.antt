@@ -52,7 +52,7 @@ HandledIsSettled = (pages : Pages) (before : VaxState) (tree : Tree) (replies : 
 
 -- it stays in range
 abbrev pub HandledStaysInRange : Type 0
-HandledStaysInRange = (pages : Pages) (before : VaxState) (tree : Tree) → IsState before → IsInRange tree → IsInRange (handled pages before tree)
+HandledStaysInRange = (pages : Pages) (before : VaxState) (tree : Tree) → IsState before → IsInRange pages tree → IsInRange pages (handled pages before tree)
 
 -- what a failure that the handler takes leaves, with the replies that were left there
 abbrev pub handled_failure : (before : VaxState) → Exception → (left : List ℕ) → Answer
