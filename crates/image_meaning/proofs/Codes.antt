@@ -15,6 +15,7 @@ use Rattle.vax_meaning.specs.Evaluation.{operand}
 use Rattle.vax_meaning.specs.Codes.{with_codes, with_all, with_three, with_result, carry_of, sign_of, go_to, finish}
 use Rattle.vax_meaning.specs.Moves.{with_comparison}
 use Rattle.vax_meaning.specs.Branches.{target, pc_after}
+use Rattle.vax_form.specs.declared.pages.Pages.{Pages}
 use Rattle.image_meaning.proofs.Keeping.{Keeps, Any, keep_pure, keep_then, keep_get, keep_change}
 use Rattle.image_meaning.proofs.States.{IsLongword, with_codes_is, with_pc_is}
 use Rattle.image_meaning.proofs.Operands.{FitsOperand}
@@ -25,29 +26,29 @@ pub record FitsInstr (instr : Instr) : Type 0 where
   pub after : IsLongword instr.after
   pub operands : FitsOperands instr
 
-pub keep_codes : (n z v c : Bool) → Keeps Any (change (with_codes n z v c))
+pub keep_codes : {pages : Pages} {w : Bool} (n z v c : Bool) → Keeps pages w w Any (change (with_codes n z v c))
 keep_codes n z v c = keep_change (with_codes_is n z v c)
 
-pub keep_all : (coded : Coded) → Keeps Any (change (with_all coded))
+pub keep_all : {pages : Pages} {w : Bool} (coded : Coded) → Keeps pages w w Any (change (with_all coded))
 keep_all coded = keep_change (with_codes_is coded.n coded.z coded.v coded.c)
 
-pub keep_three : (coded : Coded) → Keeps Any (change (with_three coded))
+pub keep_three : {pages : Pages} {w : Bool} (coded : Coded) → Keeps pages w w Any (change (with_three coded))
 keep_three coded = keep_change (λ state is. with_codes_is coded.n coded.z coded.v (carry_of state) state is)
 
-pub keep_result : (size : Size) (value : ℕ) → Keeps Any (change (with_result size value))
+pub keep_result : {pages : Pages} {w : Bool} (size : Size) (value : ℕ) → Keeps pages w w Any (change (with_result size value))
 keep_result size value = keep_change (λ state is. with_codes_is (sign_of size value) (value == 0) false (carry_of state) state is)
 
-pub keep_comparison : (width : Width) (first second : ℕ) → Keeps Any (change (with_comparison width first second))
+pub keep_comparison : {pages : Pages} {w : Bool} (width : Width) (first second : ℕ) → Keeps pages w w Any (change (with_comparison width first second))
 keep_comparison width first second =
     keep_change (λ state is. with_codes_is (int_lt (signed_value (bytes_of (size_of width)) first) (signed_value (bytes_of (size_of width)) second)) (first == second) false (nat_lt first second) state is)
 
-pub keep_pc : (pc : ℕ) → IsLongword pc → Keeps Any (change (with_pc pc))
+pub keep_pc : {pages : Pages} {w : Bool} (pc : ℕ) → IsLongword pc → Keeps pages w w Any (change (with_pc pc))
 keep_pc pc small = keep_change (λ state is. with_pc_is pc state small is)
 
-pub keep_go_to : (pc : ℕ) → IsLongword pc → Keeps Any (go_to pc)
+pub keep_go_to : {pages : Pages} {w : Bool} (pc : ℕ) → IsLongword pc → Keeps pages w w Any (go_to pc)
 keep_go_to pc small = keep_then (keep_pc pc small) (keep_pure tt)
 
-pub keep_finish : (pc : ℕ) → IsLongword pc → Keeps Any (finish pc)
+pub keep_finish : {pages : Pages} {w : Bool} (pc : ℕ) → IsLongword pc → Keeps pages w w Any (finish pc)
 unfolding finish
 keep_finish pc small = keep_then (keep_pc pc small) (keep_get (λ state is. tt))
 

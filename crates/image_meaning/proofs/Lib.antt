@@ -1,6 +1,8 @@
+pub mod Ranged
 pub mod Keeping
 pub mod States
 pub mod Services
+pub mod Allowed
 pub mod Memory
 pub mod Operands
 pub mod Evaluations

@@ -15,7 +15,9 @@ use Rattle.vax_meaning.specs.declared.operands.Location.{Location}
 use Rattle.vax_meaning.specs.declared.operands.Location.TheVariants.{InRegister, InMemory}
 use Rattle.vax_meaning.specs.Memory.{low_bytes}
 use Rattle.vax_meaning.specs.Operands.{get_register, set_register, through, base_address, place_address, locate, modify_at, with_low, put_register, put, store}
-use Rattle.image_meaning.proofs.Keeping.{Keeps, Any, keep_pure, keep_bind, keep_then, keep_get, keep_change, keep_check}
+use Rattle.vax_form.specs.declared.pages.Pages.{Pages}
+use Rattle.image_meaning.proofs.Keeping.{Keeps, Any, kept, keep_pure, keep_bind, keep_then, keep_get, keep_change, keep_written, stay_check_write}
+use Rattle.image_meaning.proofs.Allowed.{Allows, read_allowed}
 use Rattle.image_meaning.proofs.States.{IsLongword, low_longword, register_is, with_register_is}
 use Rattle.image_meaning.proofs.Memory.{keep_read, keep_write, keep_fetch}
 
@@ -52,6 +54,12 @@ bytes_most Word = omega arith
 bytes_most Long = omega arith
 bytes_most Quad = omega arith
 
+pub bytes_least : (size : Size) → 1 ≤ bytes_of size
+bytes_least Byte = omega arith
+bytes_least Word = omega arith
+bytes_least Long = omega arith
+bytes_least Quad = omega arith
+
 low_quadword : (value : ℕ) → value % 2 ^ 64 < 2 ^ 64
 low_quadword value = omega arith
 
@@ -72,17 +80,17 @@ width_fits widths.Byte value = tt
 width_fits widths.Word value = tt
 width_fits widths.Long value = tt
 
-pub keep_get_register : (n : ℕ) → Keeps IsLongword (get_register n)
+pub keep_get_register : {pages : Pages} {w : Bool} (n : ℕ) → Keeps pages w w IsLongword (get_register n)
 keep_get_register n = keep_get (register_is n)
 
-pub keep_set_register : (n value : ℕ) → IsLongword value → Keeps Any (set_register n value)
+pub keep_set_register : {pages : Pages} {w : Bool} (n value : ℕ) → IsLongword value → Keeps pages w w Any (set_register n value)
 keep_set_register n value small = keep_change (λ state is. with_register_is n value state small is)
 
-pub keep_through : (address : ℕ) (deferred : Bool) → IsLongword address → Keeps IsLongword (through address deferred)
-keep_through address true small = keep_bind (keep_fetch address 4 small (omega arith)) (λ longword _. keep_pure (low_longword longword))
+pub keep_through : {pages : Pages} {w : Bool} (address : ℕ) (deferred : Bool) → IsLongword address → Keeps pages w w IsLongword (through address deferred)
+keep_through address true small = keep_bind (keep_fetch address 4 small (omega arith) (omega arith)) (λ longword _. keep_pure (low_longword longword))
 keep_through address false small = keep_pure small
 
-pub keep_base_address : (base : Base) (size : ℕ) → FitsBase base → Keeps IsLongword (base_address base size)
+pub keep_base_address : {pages : Pages} {w : Bool} (base : Base) (size : ℕ) → FitsBase base → Keeps pages w w IsLongword (base_address base size)
 unfolding base_address
 keep_base_address (Deferred n) size fits = keep_get_register n
 keep_base_address (Decrement n) size fits =
@@ -95,13 +103,13 @@ keep_base_address (Offset n offset deferred) size fits =
     keep_bind (keep_get_register n) (λ old is. keep_through ((old + offset) % 2 ^ 32) deferred (low_longword (old + offset)))
 keep_base_address (Fixed address deferred) size fits = keep_through address deferred fits
 
-pub keep_place_address : (base : Base) (index : Option ℕ) (size : ℕ) → FitsBase base → Keeps IsLongword (place_address base index size)
+pub keep_place_address : {pages : Pages} {w : Bool} (base : Base) (index : Option ℕ) (size : ℕ) → FitsBase base → Keeps pages w w IsLongword (place_address base index size)
 unfolding place_address
 keep_place_address base None size fits = keep_base_address base size fits
 keep_place_address base (Some x) size fits =
     keep_bind (keep_base_address base size fits) (λ address _. keep_bind (keep_get_register x) (λ steps _. keep_pure (low_longword (address + (steps * size) % 2 ^ 32))))
 
-pub keep_locate : (operand : Operand) (size : Size) → FitsOperand operand → Keeps FitsLocation (locate operand size)
+pub keep_locate : {pages : Pages} {w : Bool} (operand : Operand) (size : Size) → FitsOperand operand → Keeps pages w w FitsLocation (locate operand size)
 unfolding locate
 keep_locate (Register n) size fits = keep_pure tt
 keep_locate (Place base index) size fits = keep_bind (keep_place_address base index (bytes_of size) fits) (λ address small. keep_pure small)
@@ -109,10 +117,18 @@ keep_locate Unused size fits = keep_pure (lit< tt)
 keep_locate (Value value) size fits = keep_pure (lit< tt)
 keep_locate (Target address) size fits = keep_pure (lit< tt)
 
-pub keep_modify_at : (location : Location) (size : Size) → FitsLocation location → Keeps Any (modify_at location size)
+-- an operand may be written where it is: in memory its bytes were checked
+abbrev pub Writable : Pages → Location → Size → Type 0
+Writable pages (InRegister n) size = Unit {0}
+Writable pages (InMemory address) size = Allows pages true address (bytes_of size)
+
+pub keep_modify_at : {pages : Pages} (location : Location) (size : Size) → FitsLocation location
+    → Keeps pages false false (λ _. Writable pages location size) (modify_at location size)
 unfolding modify_at
 keep_modify_at (InRegister n) size fits = keep_get (λ state is. tt)
-keep_modify_at (InMemory address) size fits = keep_then keep_check (keep_bind (keep_read address (bytes_of size) fits (bytes_most size)) (λ value _. keep_pure tt))
+keep_modify_at {pages = pages} (InMemory address) size fits =
+    keep_bind (kept (stay_check_write address (bytes_of size) fits)) (λ _ all.
+    keep_bind {P = Any} (keep_read address (bytes_of size) fits (bytes_least size) (bytes_most size) (read_allowed pages address (bytes_of size) all)) (λ value _. keep_pure all))
 
 with_low_is : (size : Size) (old value : ℕ) → IsLongword old → IsLongword (with_low size old value)
 with_low_is Byte old value small = omega arith
@@ -130,12 +146,14 @@ put_register_is n Long value state fits is = with_register_is n _ state (low_lon
 put_register_is n Quad value state fits is =
     with_register_is (min (n + 1) 255) (value / 2 ^ 32) (with_register n (value % 2 ^ 32) state) (high_longword value fits) (with_register_is n (value % 2 ^ 32) state (low_longword value) is)
 
-pub keep_put : (location : Location) (size : Size) (value : ℕ) → FitsLocation location → FitsSize size value → Keeps Any (put location size value)
+pub keep_put : {pages : Pages} {w : Bool} (location : Location) (size : Size) (value : ℕ) → FitsLocation location → FitsSize size value → Writable pages location size
+    → Keeps pages w true Any (put location size value)
 unfolding put
-keep_put (InRegister n) size value fits sized = keep_change (λ state is. put_register_is n size value state sized is)
-keep_put (InMemory address) size value fits sized = keep_write address (bytes_of size) value fits (bytes_most size)
+keep_put (InRegister n) size value fits sized may = keep_written (keep_change (λ state is. put_register_is n size value state sized is))
+keep_put (InMemory address) size value fits sized may = keep_write address (bytes_of size) value fits (bytes_least size) (bytes_most size) may
 
-pub keep_store : (location : Location) (size : Size) (value : ℕ) → FitsLocation location → FitsSize size value → Keeps Any (store location size value)
+pub keep_store : {pages : Pages} (location : Location) (size : Size) (value : ℕ) → FitsLocation location → FitsSize size value → Keeps pages false true Any (store location size value)
 unfolding store
-keep_store (InRegister n) size value fits sized = keep_put (InRegister n) size value fits sized
-keep_store (InMemory address) size value fits sized = keep_then keep_check (keep_put (InMemory address) size value fits sized)
+keep_store (InRegister n) size value fits sized = keep_put (InRegister n) size value fits sized tt
+keep_store (InMemory address) size value fits sized =
+    keep_bind (kept (stay_check_write address (bytes_of size) fits)) (λ _ all. keep_put (InMemory address) size value fits sized all)

@@ -1,7 +1,8 @@
 -- What the VAX instructions do stays in range, and goes with processors.
 use Rattle.std.specs.Prelude.{◌≡◌, ℕ, ◌<◌, ◌≤◌, Bool}
 use Rattle.vax_form.specs.GrammarLaws.{AreBytes}
-use Rattle.vax_form.specs.Ranges.{StaysInRange}
+use Rattle.vax_form.specs.Ranges.{StaysInRange, FailsByFaults}
+use Rattle.vax_form.specs.State.{IsState}
 use Rattle.vax_form.specs.Tree.{instruction_tree}
 use Rattle.vax_form.specs.declared.pages.Pages.{Pages}
 use Rattle.vax_form.specs.declared.state.Flags.{Flags}
@@ -15,7 +16,12 @@ use Rattle.image_meaning.specs.Meant.{vax_meaning}
 
 -- whatever stands at the PC of a state of a thread, where the code has bytes alone
 abbrev pub TreeAtStaysInRange : Type 0
-TreeAtStaysInRange = (pages : Pages) (thread : ℕ) → AreBytes pages.code → thread < 256 → StaysInRange (tree_at pages thread)
+TreeAtStaysInRange = (pages : Pages) (thread : ℕ) → AreBytes pages.code → thread < 256 → StaysInRange pages (tree_at pages thread)
+
+-- no instruction's fault is arithmetic
+abbrev pub TreeAtFailsByFaults : Type 0
+TreeAtFailsByFaults = (pages : Pages) (thread : ℕ) → AreBytes pages.code → thread < 256 → (state : VaxState) → IsState state
+    → FailsByFaults pages (tree_at pages thread state)
 
 -- what CHMK does by its code is the service
 abbrev pub ServicesAre : Type 0

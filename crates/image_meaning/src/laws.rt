@@ -1,14 +1,21 @@
 //! Laws of what instructions do, for the proofs of the crates above. Their functions do nothing.
 ghost use Rattle.vax_form.specs.GrammarLaws.{AreBytes};
-ghost use Rattle.image_meaning.specs.Laws.{TreeAtStaysInRange, ServicesAre, VaxMeaningIsSound};
+ghost use Rattle.image_meaning.specs.Laws.{TreeAtStaysInRange, TreeAtFailsByFaults, ServicesAre, VaxMeaningIsSound};
 
 use vax_form::Pages;
 
 /// From every state in range of a thread below 256, what stands at the PC makes references within one aligned quadword
-/// alone, and for all replies that they can get each end is a state in range.
+/// alone, each in a page that allows it and of a value that fits its bytes; once it wrote it checks nothing with write
+/// intent; and for all replies that its references can get each end is a state in range.
 #[tactic(auto, using(crate::proofs::TreesAt::tree_at_stays_in_range))]
 pub fn tree_at_stays_in_range()
     ensures { TreeAtStaysInRange }
+{}
+
+/// No instruction fails with an arithmetic exception: that is a trap's.
+#[tactic(auto, using(crate::proofs::TreesAt::tree_at_fails_by_faults))]
+pub fn tree_at_fails_by_faults()
+    ensures { TreeAtFailsByFaults }
 {}
 
 /// What CHMK does by its code is the service.
