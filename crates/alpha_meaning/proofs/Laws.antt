@@ -10,44 +10,61 @@ use Rattle.alpha_meaning.specs.declared.access.AlphaAccess.{AlphaAccess}
 use Rattle.alpha_meaning.specs.State.{Alpha, Regs, at_place}
 use Rattle.alpha_meaning.specs.Memory.{kind_of}
 use Rattle.alpha_meaning.specs.Act.{Does, Goes, Asks, Calls, act, finished, memory_act_by, memory_finish_by}
-use Rattle.alpha_meaning.specs.Pieces.{quad_of, loaded, changed, Terms, Fetch, Plan, Access, Over, bind, Wants, Wanted, Nothing, wants, Phase, Plain, Held, Failed, Made, Accesses, Acts, Steps, Forth, phase_after, Piece, Choose, Ended, Runs, piece}
+use Rattle.alpha_meaning.specs.Pieces.{quad_of, loaded, changed, Allowed, Kinds, Terms, Fetch, Plan, Access, Over, bind, Wants, Wanted, Nothing, wants, Suits, retry_steps, Phase, Plain, Held, Failed, Made, Accesses, Acts, Steps, Forth, phase_after, Piece, Choose, Ended, Runs, piece}
 
 -- ---- one step, from one tree to another
--- the second tree wants the same access, and related trees follow
+-- the second tree wants the same access, for which the same kinds may be made, and related trees follow
 abbrev pub Covers : {T U : Type 0} → (T → U → Type 0) → Wants T → Wants U → Type 0
-Covers R (Wanted quad leaves rest) (Wanted quad' leaves' rest') = (quad' ≡ quad) × ((before : ℕ) → before < 2 ^ 64 → (leaves before ≡ leaves' before) × R (rest before) (rest' before))
-Covers R (Wanted quad leaves rest) Nothing = ⊥
+Covers R (Wanted quad leaves kinds rest) (Wanted quad' leaves' kinds' rest') =
+    (quad' ≡ quad)
+    × ((kind : AlphaKind) (bytes : ℕ) → kinds kind bytes ≡ true → kinds' kind bytes ≡ true)
+    × ((before : ℕ) → before < 2 ^ 64 → (leaves before ≡ leaves' before) × R (rest before) (rest' before))
+Covers R (Wanted quad leaves kinds rest) Nothing = ⊥
 Covers R Nothing x = Unit {0}
 
-module _ {T U : Type 0} (R : T → U → Type 0) (more : ℕ) (Next : Phase → ℕ → Alpha → T → Type 0) (Next' : Phase → ℕ → Alpha → U → Type 0) (go : (phase : Phase) (spare : ℕ) (d : Alpha) (t : T) (u : U) → R t u → Next phase spare d t → Next' phase (spare + more) d u) where
-  swap : (earned : ℕ) (phase : Phase) (spare : ℕ) (d : Alpha) (u : U) → Next' phase (spare + earned + more) d u → Next' phase (spare + more + earned) d u
-  swap earned phase spare d u h = let e : spare + earned + more ≡ spare + more + earned = omega arith in subst (λ s. Next' phase s d u) e h
+suits_map : {T U : Type 0} (R : T → U → Type 0) (w : Wants T) (x : Wants U) (kind : AlphaKind) (bytes : ℕ) → Covers R w x → Suits w kind bytes → Suits x kind bytes
+suits_map R (Wanted q l s k) (Wanted q' l' s' k') kind bytes c h = c.1 kind bytes h
+suits_map R (Wanted q l s k) Nothing kind bytes c h = absurd c
+suits_map R Nothing x kind bytes c h = absurd h
 
-  made_map : (w : Wants T) (x : Wants U) (quad : ℕ) (left : ℕ → ℕ) (Fits : ℕ → Type 0) (on : ℕ → Alpha) (bonus spare : ℕ) → Covers R w x
-      → Made w quad left Fits (λ before u. Next Plain (spare + bonus) (on before) u) → Made x quad left Fits (λ before u. Next' Plain (spare + more + bonus) (on before) u)
-  made_map (Wanted q l k) (Wanted q' l' k') quad left Fits on bonus spare c h =
-      (c.0 ∙ h.0, λ before lt fits. ((h.1 before lt fits).0 ∙ (c.1 before lt).0, swap bonus Plain spare (on before) (k' before) (go Plain (spare + bonus) (on before) (k before) (k' before) (c.1 before lt).1 (h.1 before lt fits).1)))
-  made_map (Wanted q l k) Nothing quad left Fits on bonus spare c h = absurd c
-  made_map Nothing x quad left Fits on bonus spare c h = absurd h
+-- more steps may be spare, and an access may allow more of them
+module _ {T U : Type 0} (R : T → U → Type 0) (more : ℕ) (Next : Phase → ℕ → Alpha → T → Type 0) (Next' : Phase → ℕ → Alpha → U → Type 0)
+    (go : (phase : Phase) (spare spare' : ℕ) (d : Alpha) (t : T) (u : U) → spare + more ≤ spare' → R t u → Next phase spare d t → Next' phase spare' d u) where
+  made_map : (w : Wants T) (x : Wants U) (quad : ℕ) (left : ℕ → ℕ) (Fits : ℕ → Type 0) (on : ℕ → Alpha) (spare spare' : ℕ) → spare + more ≤ spare' → Covers R w x
+      → Made w quad left Fits (λ before u. Next Plain spare (on before) u) → Made x quad left Fits (λ before u. Next' Plain spare' (on before) u)
+  made_map (Wanted q l s k) (Wanted q' l' s' k') quad left Fits on spare spare' room c h =
+      (c.0 ∙ h.0, λ before lt fits. ((h.1 before lt fits).0 ∙ (c.2 before lt).0, go Plain spare spare' (on before) (k before) (k' before) room (c.2 before lt).1 (h.1 before lt fits).1))
+  made_map (Wanted q l s k) Nothing quad left Fits on spare spare' room c h = absurd c
+  made_map Nothing x quad left Fits on spare spare' room c h = absurd h
 
-  accesses_map : (kind : AlphaKind) (phase : Phase) (place : ℕ) (w : Wants T) (x : Wants U) (quad : ℕ) (left : ℕ → ℕ) (on : ℕ → Bool → Alpha) (bonus spare : ℕ) (t : T) (u : U) → Covers R w x → R t u
-      → Accesses kind phase place w quad left on bonus spare t Next → Accesses kind phase place x quad left on bonus (spare + more) u Next'
-  accesses_map Load Plain place w x quad left on bonus spare t u c r h = made_map w x quad (λ b. b) (λ _. Unit {0}) (λ b. on b true) bonus spare c h
-  accesses_map Store Plain place w x quad left on bonus spare t u c r h = made_map w x quad left (λ _. Unit {0}) (λ b. on b true) bonus spare c h
-  accesses_map LoadLocked Plain place w x quad left on bonus spare t u c r h = λ b lt. go (Held quad b place) spare (on b true) t u r (h b lt)
-  accesses_map StoreConditional (Held q found first) place w x quad left on bonus spare t u c r h =
-      (h.0, made_map w x quad left (λ b. b ≡ found) (λ b. on b true) bonus spare c h.1, λ b lt. swap 16 (Failed first) spare (on b false) u (go (Failed first) (spare + 16) (on b false) t u r (h.2 b lt)))
-  accesses_map kind phase place w x quad left on bonus spare t u c r h = absurd h
+  module _ (bonus bonus' spare spare' : ℕ) (earns : bonus ≤ bonus') (room : spare + more ≤ spare') where
+    earned : spare + bonus + more ≤ spare' + bonus'
+    earned = omega arith
 
-  module _ (terms : Terms) (phase : Phase) (spare : ℕ) (c : Alpha) (w : Wants T) (x : Wants U) (t : T) (u : U) (covers : Covers R w x) (r : R t u) (Moves Moves' : Alpha → Type 0) (Pal Pal' : ℕ → Type 0) (moves : (d : Alpha) → Moves d → Moves' d) (pal : (n : ℕ) → Pal n → Pal' n) where
-    acts_map : (does : Does) (i : AlphaInstr) → Acts does i terms phase spare c w t Moves Pal Next → Acts does i terms phase (spare + more) c x u Moves' Pal' Next'
-    acts_map (Goes d) i h = moves d h
-    acts_map (Asks a) i h = (h.0, h.1, h.2, accesses_map a.kind phase c.pc w x (quad_of a) (changed a) (λ b s. finished i (loaded a b) s c) terms.bonus spare t u covers r h.3)
-    acts_map (Calls n) i h = pal n h
+    retried : spare + retry_steps + more ≤ spare' + retry_steps
+    retried = omega arith
 
-    pub steps_map : (o : Option AlphaInstr) → Steps o terms phase spare c w t Moves Pal Next → Steps o terms phase (spare + more) c x u Moves' Pal' Next'
-    steps_map None h = absurd h
-    steps_map (Some i) h = acts_map (act i c) i h
+    accesses_map : (kind : AlphaKind) (phase : Phase) (place : ℕ) (w : Wants T) (x : Wants U) (quad : ℕ) (left : ℕ → ℕ) (on : ℕ → Bool → Alpha) (t : T) (u : U) → Covers R w x → R t u
+        → Accesses kind phase place w quad left on bonus spare t Next → Accesses kind phase place x quad left on bonus' spare' u Next'
+    accesses_map Load Plain place w x quad left on t u c r h = made_map w x quad (λ b. b) (λ _. Unit {0}) (λ b. on b true) (spare + bonus) (spare' + bonus') earned c h
+    accesses_map Store Plain place w x quad left on t u c r h = made_map w x quad left (λ _. Unit {0}) (λ b. on b true) (spare + bonus) (spare' + bonus') earned c h
+    accesses_map LoadLocked Plain place w x quad left on t u c r h = λ b lt. go (Held quad b place) spare spare' (on b true) t u room r (h b lt)
+    accesses_map StoreConditional (Held q found first) place w x quad left on t u c r h = (
+      h.0,
+      made_map w x quad left (λ b. b ≡ found) (λ b. on b true) (spare + bonus) (spare' + bonus') earned c h.1,
+      λ b lt. go (Failed first) (spare + retry_steps) (spare' + retry_steps) (on b false) t u retried r (h.2 b lt),
+    )
+    accesses_map kind phase place w x quad left on t u c r h = absurd h
+
+    module _ (allowed : Allowed) (phase : Phase) (c : Alpha) (w : Wants T) (x : Wants U) (t : T) (u : U) (covers : Covers R w x) (r : R t u) (Moves Moves' : Alpha → Type 0) (Pal Pal' : ℕ → Type 0) (moves : (d : Alpha) → Moves d → Moves' d) (pal : (n : ℕ) → Pal n → Pal' n) where
+      acts_map : (does : Does) (i : AlphaInstr) → Acts does i allowed bonus phase spare c w t Moves Pal Next → Acts does i allowed bonus' phase spare' c x u Moves' Pal' Next'
+      acts_map (Goes d) i h = moves d h
+      acts_map (Asks a) i h = (h.0, h.1, suits_map R w x a.kind a.bytes covers h.2, accesses_map a.kind phase c.pc w x (quad_of a) (changed a) (λ b s. finished i (loaded a b) s c) t u covers r h.3)
+      acts_map (Calls n) i h = pal n h
+
+      pub steps_map : (o : Option AlphaInstr) → Steps o allowed bonus phase spare c w t Moves Pal Next → Steps o allowed bonus' phase spare' c x u Moves' Pal' Next'
+      steps_map None h = absurd h
+      steps_map (Some i) h = acts_map (act i c) i h
 
 -- ---- one step on the same tree, with other things owed behind it
 -- an access ends at the next word
@@ -65,28 +82,28 @@ asks_next (Operate op ra rb rc) c a h value success = cc
 asks_next (Jump ra rb) c a h value success = cc
 asks_next (Pal n) c a h value success = cc
 
-module _ {T : Type 0} (terms : Terms) (phase : Phase) (spare : ℕ) (c : Alpha) (t : T) (Moves Moves' : Alpha → Type 0) (Pals Pals' : ℕ → Type 0) (Next Next' : Phase → ℕ → Alpha → T → Type 0)
+module _ {T : Type 0} (allowed : Allowed) (bonus : ℕ) (phase : Phase) (spare : ℕ) (c : Alpha) (t : T) (Moves Moves' : Alpha → Type 0) (Pals Pals' : ℕ → Type 0) (Next Next' : Phase → ℕ → Alpha → T → Type 0)
     (moves : (d : Alpha) → Moves d → Moves' d) (pals : (n : ℕ) → Pals n → Pals' n) (next : (phase : Phase) (spare : ℕ) (d : Alpha) (u : T) → d.pc ≡ c.pc + 1 → Next phase spare d u → Next' phase spare d u) where
   made_refine : (w : Wants T) (quad : ℕ) (left : ℕ → ℕ) (Fits : ℕ → Type 0) (on : ℕ → Alpha) (spare : ℕ) → ((before : ℕ) → (on before).pc ≡ c.pc + 1)
       → Made w quad left Fits (λ before u. Next Plain spare (on before) u) → Made w quad left Fits (λ before u. Next' Plain spare (on before) u)
-  made_refine (Wanted q l k) quad left Fits on spare at h = (h.0, λ b lt fits. ((h.1 b lt fits).0, next Plain spare (on b) (k b) (at b) (h.1 b lt fits).1))
+  made_refine (Wanted q l s k) quad left Fits on spare at h = (h.0, λ b lt fits. ((h.1 b lt fits).0, next Plain spare (on b) (k b) (at b) (h.1 b lt fits).1))
   made_refine Nothing quad left Fits on spare at h = absurd h
 
-  accesses_refine : (kind : AlphaKind) (phase : Phase) (place : ℕ) (w : Wants T) (quad : ℕ) (left : ℕ → ℕ) (on : ℕ → Bool → Alpha) (bonus : ℕ) → ((before : ℕ) (success : Bool) → (on before success).pc ≡ c.pc + 1)
+  accesses_refine : (kind : AlphaKind) (phase : Phase) (place : ℕ) (w : Wants T) (quad : ℕ) (left : ℕ → ℕ) (on : ℕ → Bool → Alpha) → ((before : ℕ) (success : Bool) → (on before success).pc ≡ c.pc + 1)
       → Accesses kind phase place w quad left on bonus spare t Next → Accesses kind phase place w quad left on bonus spare t Next'
-  accesses_refine Load Plain place w quad left on bonus at h = made_refine w quad (λ b. b) (λ _. Unit {0}) (λ b. on b true) (spare + bonus) (λ b. at b true) h
-  accesses_refine Store Plain place w quad left on bonus at h = made_refine w quad left (λ _. Unit {0}) (λ b. on b true) (spare + bonus) (λ b. at b true) h
-  accesses_refine LoadLocked Plain place w quad left on bonus at h = λ b lt. next (Held quad b place) spare (on b true) t (at b true) (h b lt)
-  accesses_refine StoreConditional (Held q found first) place w quad left on bonus at h =
-      (h.0, made_refine w quad left (λ b. b ≡ found) (λ b. on b true) (spare + bonus) (λ b. at b true) h.1, λ b lt. next (Failed first) (spare + 16) (on b false) t (at b false) (h.2 b lt))
-  accesses_refine kind phase place w quad left on bonus at h = absurd h
+  accesses_refine Load Plain place w quad left on at h = made_refine w quad (λ b. b) (λ _. Unit {0}) (λ b. on b true) (spare + bonus) (λ b. at b true) h
+  accesses_refine Store Plain place w quad left on at h = made_refine w quad left (λ _. Unit {0}) (λ b. on b true) (spare + bonus) (λ b. at b true) h
+  accesses_refine LoadLocked Plain place w quad left on at h = λ b lt. next (Held quad b place) spare (on b true) t (at b true) (h b lt)
+  accesses_refine StoreConditional (Held q found first) place w quad left on at h =
+      (h.0, made_refine w quad left (λ b. b ≡ found) (λ b. on b true) (spare + bonus) (λ b. at b true) h.1, λ b lt. next (Failed first) (spare + retry_steps) (on b false) t (at b false) (h.2 b lt))
+  accesses_refine kind phase place w quad left on at h = absurd h
 
-  acts_refine : (w : Wants T) (does : Does) (i : AlphaInstr) → act i c ≡ does → Acts does i terms phase spare c w t Moves Pals Next → Acts does i terms phase spare c w t Moves' Pals' Next'
+  acts_refine : (w : Wants T) (does : Does) (i : AlphaInstr) → act i c ≡ does → Acts does i allowed bonus phase spare c w t Moves Pals Next → Acts does i allowed bonus phase spare c w t Moves' Pals' Next'
   acts_refine w (Goes d) i is h = moves d h
-  acts_refine w (Asks a) i is h = (h.0, h.1, h.2, accesses_refine a.kind phase c.pc w (quad_of a) (changed a) (λ b s. finished i (loaded a b) s c) terms.bonus (λ b s. asks_next i c a is (loaded a b) s) h.3)
+  acts_refine w (Asks a) i is h = (h.0, h.1, h.2, accesses_refine a.kind phase c.pc w (quad_of a) (changed a) (λ b s. finished i (loaded a b) s c) (λ b s. asks_next i c a is (loaded a b) s) h.3)
   acts_refine w (Calls n) i is h = pals n h
 
-  pub steps_refine : (w : Wants T) (o : Option AlphaInstr) → Steps o terms phase spare c w t Moves Pals Next → Steps o terms phase spare c w t Moves' Pals' Next'
+  pub steps_refine : (w : Wants T) (o : Option AlphaInstr) → Steps o allowed bonus phase spare c w t Moves Pals Next → Steps o allowed bonus phase spare c w t Moves' Pals' Next'
   steps_refine w None h = absurd h
   steps_refine w (Some i) h = acts_refine w (act i c) i refl h
 
@@ -104,7 +121,7 @@ eq_is a b h = grind (arith, nat_tests, h)
 abbrev pub Inside : {A : Type 0} → Piece → (Phase → ℕ → Alpha → Plan A → Type 0) → Phase → ℕ → Alpha → Plan A → Type 0
 Inside p Next phase spare c t =
     (p.from ≤ c.pc) × (c.pc < p.to) × (0 < spare)
-    × Steps (p.fetch c.pc) p.terms phase (spare - 1) c (wants t) t (λ d. Forth phase p.from c.pc d.pc × (d.pc ≤ p.to) × Next (phase_after phase c.pc d.pc) (spare - 1) d t) (λ _. ⊥) Next
+    × Steps (p.fetch c.pc) p.terms.allowed p.terms.bonus phase (spare - 1) c (wants p.terms.kinds t) t (λ d. Forth phase p.from c.pc d.pc × (d.pc ≤ p.to) × Next (phase_after phase c.pc d.pc) (spare - 1) d t) (λ _. ⊥) Next
 
 pub no_steps : {A : Type 0} (p : Piece) (Ends : A → Regs → Type 0) (phase : Phase) (spare : ℕ) (c : Alpha) (t : Plan A) → Runs p Ends 0 phase spare c t
 unfolding Runs
@@ -133,57 +150,55 @@ runs_by p Ends n phase spare c t h = split (c.pc == p.to) refl h
     split false e h = inside h
 
 -- ---- from a piece to anything that is made of the same steps
-module _ {A T : Type 0} (p : Piece) (Ends : A → Regs → Type 0) (R : Plan A → T → Type 0) (head : T → Wants T) (J : ℕ → Phase → ℕ → Alpha → T → Type 0) (more : ℕ)
-    (covers : (t : Plan A) (u : T) → R t u → Covers R (wants t) (head u))
+module _ {A T : Type 0} (p : Piece) (Ends : A → Regs → Type 0) (R : Plan A → T → Type 0) (head : T → Wants T) (J : ℕ → Phase → ℕ → Alpha → T → Type 0) (bonus more : ℕ) (earns : p.terms.bonus ≤ bonus)
+    (covers : (t : Plan A) (u : T) → R t u → Covers R (wants p.terms.kinds t) (head u))
     (none : (phase : Phase) (spare : ℕ) (c : Alpha) (u : T) → J 0 phase spare c u)
     (next : (n : ℕ) (phase : Phase) (spare : ℕ) (c : Alpha) (u : T) → p.from ≤ c.pc → c.pc < p.to → 0 < spare
-    → Steps (p.fetch c.pc) p.terms phase (spare - 1) c (head u) u (λ d. Forth phase p.from c.pc d.pc × (d.pc ≤ p.to) × J n (phase_after phase c.pc d.pc) (spare - 1) d u) (λ _. ⊥) (J n)
+    → Steps (p.fetch c.pc) p.terms.allowed bonus phase (spare - 1) c (head u) u (λ d. Forth phase p.from c.pc d.pc × (d.pc ≤ p.to) × J n (phase_after phase c.pc d.pc) (spare - 1) d u) (λ _. ⊥) (J n)
     → J (suc n) phase spare c u) where
   -- what the rest owes behind the piece, for so many steps and more room
   abbrev pub Behind : ℕ → Type 0
   Behind most = (n spare : ℕ) (a : A) (regs : Regs) (u : T) → n ≤ most → more ≤ spare → Ends a regs → R (Over a) u → J n Plain spare (at_place regs p.to) u
 
-  behind_end : (most n spare : ℕ) (phase : Phase) (c : Alpha) (t : Plan A) (u : T) → Behind most → n ≤ most → c.pc ≡ p.to → Ended Ends phase t c.regs → R t u → J n phase (spare + more) c u
-  behind_end most n spare Plain c (Over a) u k le at h r = subst (λ pc. J n Plain (spare + more) (at_place c.regs pc) u) (sym at) (k n (spare + more) a c.regs u le (omega arith) h r)
-  behind_end most n spare Plain c (Access _ _ _) u k le at h r = absurd h
-  behind_end most n spare (Held _ _ _) c t u k le at h r = absurd h
-  behind_end most n spare (Failed _) c t u k le at h r = absurd h
+  behind_end : (most n spare : ℕ) (phase : Phase) (c : Alpha) (t : Plan A) (u : T) → Behind most → n ≤ most → more ≤ spare → c.pc ≡ p.to → Ended Ends phase t c.regs → R t u → J n phase spare c u
+  behind_end most n spare Plain c (Over a) u k le room at h r = subst (λ pc. J n Plain spare (at_place c.regs pc) u) (sym at) (k n spare a c.regs u le room h r)
+  behind_end most n spare Plain c (Access _ _ _) u k le room at h r = absurd h
+  behind_end most n spare (Held _ _ _) c t u k le room at h r = absurd h
+  behind_end most n spare (Failed _) c t u k le room at h r = absurd h
 
   -- the next step, where the rest is proved for fewer
-  onward : (most n m : ℕ) → suc n ≤ most → Behind most → (phase : Phase) (spare : ℕ) (c : Alpha) (t : Plan A) (u : T) → R t u
-      → ((phase : Phase) (spare : ℕ) (c : Alpha) (t : Plan A) (u : T) → R t u → Runs p Ends m phase spare c t → J n phase (spare + more) c u)
-      → Runs_by p Ends m phase spare c t → J (suc n) phase (spare + more) c u
-  onward most n m le k phase spare c t u r again (at_end at e) = behind_end most (suc n) spare phase c t u k le at e r
-  onward most n m le k phase spare c t u r again (inside i) =
+  onward : (most n m : ℕ) → suc n ≤ most → Behind most → (phase : Phase) (spare spare' : ℕ) (c : Alpha) (t : Plan A) (u : T) → spare + more ≤ spare' → R t u
+      → ((phase : Phase) (spare spare' : ℕ) (c : Alpha) (t : Plan A) (u : T) → spare + more ≤ spare' → R t u → Runs p Ends m phase spare c t → J n phase spare' c u)
+      → Runs_by p Ends m phase spare c t → J (suc n) phase spare' c u
+  onward most n m le k phase spare spare' c t u room r again (at_end at e) = behind_end most (suc n) spare' phase c t u k le (omega arith) at e r
+  onward most n m le k phase spare spare' c t u room r again (inside i) =
       let some : 0 < spare = i.2 in
-      let less : spare - 1 + more ≡ spare + more - 1 = omega arith in
-      next n phase (spare + more) c u i.0 i.1 (omega arith)
-      (subst (λ s. Steps (p.fetch c.pc) p.terms phase s c (head u) u (λ d. Forth phase p.from c.pc d.pc × (d.pc ≤ p.to) × J n (phase_after phase c.pc d.pc) s d u) (λ _. ⊥) (J n)) less
-      (steps_map R more (Runs p Ends m) (J n) again p.terms phase (spare - 1) c (wants t) (head u) t u (covers t u r) r _ _ _ _
-      (λ d w. (w.0, w.1, again (phase_after phase c.pc d.pc) (spare - 1) d t u r w.2)) (λ _ x. x) (p.fetch c.pc) i.3))
+      next n phase spare' c u i.0 i.1 (omega arith)
+      (steps_map R more (Runs p Ends m) (J n) again p.terms.bonus bonus (spare - 1) (spare' - 1) earns (omega arith) p.terms.allowed phase c (wants p.terms.kinds t) (head u) t u (covers t u r) r _ _ _ _
+      (λ d w. (w.0, w.1, again (phase_after phase c.pc d.pc) (spare - 1) (spare' - 1) d t u (omega arith) r w.2)) (λ _ x. x) (p.fetch c.pc) i.3)
 
-  pub onto : (most n m : ℕ) → n ≤ m → n ≤ most → Behind most → (phase : Phase) (spare : ℕ) (c : Alpha) (t : Plan A) (u : T) → R t u → Runs p Ends m phase spare c t → J n phase (spare + more) c u
-  onto most zero m le le' k phase spare c t u r h = none phase (spare + more) c u
-  onto most (suc n) zero le le' k phase spare c t u r h = absurd (omega arith)
-  onto most (suc n) (suc m) le le' k phase spare c t u r h =
-      onward most n m le' k phase spare c t u r (onto most n m (omega arith) (omega arith) k) (runs_by p Ends m phase spare c t h)
+  pub onto : (most n m : ℕ) → n ≤ m → n ≤ most → Behind most → (phase : Phase) (spare spare' : ℕ) (c : Alpha) (t : Plan A) (u : T) → spare + more ≤ spare' → R t u → Runs p Ends m phase spare c t → J n phase spare' c u
+  onto most zero m le le' k phase spare spare' c t u room r h = none phase spare' c u
+  onto most (suc n) zero le le' k phase spare spare' c t u room r h = absurd (omega arith)
+  onto most (suc n) (suc m) le le' k phase spare spare' c t u room r h =
+      onward most n m le' k phase spare spare' c t u room r (onto most n m (omega arith) (omega arith) k) (runs_by p Ends m phase spare c t h)
 
 -- ---- the same piece
-same_covers : {A : Type 0} (t u : Plan A) → u ≡ t → Covers (λ (t : Plan A) (u : Plan A). u ≡ t) (wants t) (wants u)
-same_covers {A} t u e = subst (λ x. Covers (λ (t : Plan A) (u : Plan A). u ≡ t) (wants t) (wants x)) (sym e) (self t)
+same_covers : {A : Type 0} (kinds : Kinds) (t u : Plan A) → u ≡ t → Covers (λ (t : Plan A) (u : Plan A). u ≡ t) (wants kinds t) (wants kinds u)
+same_covers {A} kinds t u e = subst (λ x. Covers (λ (t : Plan A) (u : Plan A). u ≡ t) (wants kinds t) (wants kinds x)) (sym e) (self t)
   where
-    self : (t : Plan A) → Covers (λ (t : Plan A) (u : Plan A). u ≡ t) (wants t) (wants t)
-    self (Access quad leaves rest) = (refl, λ before lt. (refl, refl))
+    self : (t : Plan A) → Covers (λ (t : Plan A) (u : Plan A). u ≡ t) (wants kinds t) (wants kinds t)
+    self (Access quad leaves rest) = (refl, λ kind bytes may. may, λ before lt. (refl, refl))
     self (Over a) = tt
 
 -- what holds for some steps and some room holds for fewer steps and more room
 pub fewer : {A : Type 0} (p : Piece) (Ends : A → Regs → Type 0) (n m more : ℕ) → n ≤ m → (phase : Phase) (spare : ℕ) (c : Alpha) (t : Plan A) → Runs p Ends m phase spare c t → Runs p Ends n phase (spare + more) c t
 fewer {A} p Ends n m more le phase spare c t h =
-    onto p Ends (λ (t : Plan A) (u : Plan A). u ≡ t) wants (Runs p Ends) more same_covers (no_steps p Ends)
+    onto p Ends (λ (t : Plan A) (u : Plan A). u ≡ t) (wants p.terms.kinds) (Runs p Ends) p.terms.bonus more (omega arith) (same_covers p.terms.kinds) (no_steps p Ends)
     (λ n phase spare c u from to some steps. begin p Ends n phase spare c u (from, to, some, steps))
     n n m le (omega arith)
     (λ n spare a regs u le room h e. subst (Runs p Ends n Plain spare (at_place regs p.to)) (sym e) (ends p Ends n spare (at_place regs p.to) a refl h))
-    phase spare c t t refl h
+    phase spare (spare + more) c t t (omega arith) refl h
 
 -- ---- one piece and then another
 further : (phase : Phase) (from from' pc pc' : ℕ) → from' ≤ from → Forth phase from pc pc' → Forth phase from' pc pc'
@@ -191,11 +206,11 @@ further Plain from from' pc pc' le h = h
 further (Held _ _ _) from from' pc pc' le h = h
 further (Failed _) from from' pc pc' le h = (let at = h.0 in omega arith, h.1)
 
-bind_covers : {A B : Type 0} (f : A → Plan B) (t : Plan A) (u : Plan B) → u ≡ bind t f → Covers (λ (t : Plan A) (u : Plan B). u ≡ bind t f) (wants t) (wants u)
-bind_covers {A} {B} f t u e = subst (λ x. Covers (λ (t : Plan A) (u : Plan B). u ≡ bind t f) (wants t) (wants x)) (sym e) (self t)
+bind_covers : {A B : Type 0} (kinds : Kinds) (f : A → Plan B) (t : Plan A) (u : Plan B) → u ≡ bind t f → Covers (λ (t : Plan A) (u : Plan B). u ≡ bind t f) (wants kinds t) (wants kinds u)
+bind_covers {A} {B} kinds f t u e = subst (λ x. Covers (λ (t : Plan A) (u : Plan B). u ≡ bind t f) (wants kinds t) (wants kinds x)) (sym e) (self t)
   where
-    self : (t : Plan A) → Covers (λ (t : Plan A) (u : Plan B). u ≡ bind t f) (wants t) (wants (bind t f))
-    self (Access quad leaves rest) = (refl, λ before lt. (refl, refl))
+    self : (t : Plan A) → Covers (λ (t : Plan A) (u : Plan B). u ≡ bind t f) (wants kinds t) (wants kinds (bind t f))
+    self (Access quad leaves rest) = (refl, λ kind bytes may. may, λ before lt. (refl, refl))
     self (Over a) = tt
 
 pub then_runs : {A B : Type 0} (fetch : Fetch) (terms : Terms) (from mid to more : ℕ) (Ends : A → Regs → Type 0) (Ends' : B → Regs → Type 0) (f : A → Plan B) → mid ≤ to
@@ -204,16 +219,18 @@ pub then_runs : {A B : Type 0} (fetch : Fetch) (terms : Terms) (from mid to more
 then_runs {A} {B} fetch terms from mid to more Ends Ends' f le n k phase spare c t h =
     let p = piece fetch terms from mid in
     let w = piece fetch terms from to in
-    onto p Ends (λ (t : Plan A) (u : Plan B). u ≡ bind t f) wants (Runs w Ends') more (bind_covers f) (no_steps w Ends')
+    onto p Ends (λ (t : Plan A) (u : Plan B). u ≡ bind t f) (wants terms.kinds) (Runs w Ends') terms.bonus more (omega arith) (bind_covers terms.kinds f) (no_steps w Ends')
     (λ n phase spare c u in_from in_to some steps. begin w Ends' n phase spare c u (in_from, omega arith, some, longer n phase spare c u in_from in_to steps))
     n n n (omega arith) (omega arith)
     (λ m spare a regs u le room h e. subst (Runs w Ends' m Plain spare (at_place regs mid)) (sym e) (k m spare a regs le room h))
-    phase spare c t (bind t f) refl h
+    phase spare (spare + more) c t (bind t f) (omega arith) refl h
   where
     longer : (n : ℕ) (phase : Phase) (spare : ℕ) (c : Alpha) (u : Plan B) → from ≤ c.pc → c.pc < mid
-        → Steps (fetch c.pc) terms phase (spare - 1) c (wants u) u (λ d. Forth phase from c.pc d.pc × (d.pc ≤ mid) × Runs (piece fetch terms from to) Ends' n (phase_after phase c.pc d.pc) (spare - 1) d u) (λ _. ⊥) (Runs (piece fetch terms from to) Ends' n)
-        → Steps (fetch c.pc) terms phase (spare - 1) c (wants u) u (λ d. Forth phase from c.pc d.pc × (d.pc ≤ to) × Runs (piece fetch terms from to) Ends' n (phase_after phase c.pc d.pc) (spare - 1) d u) (λ _. ⊥) (Runs (piece fetch terms from to) Ends' n)
-    longer n phase spare c u in_from in_to h = steps_refine terms phase (spare - 1) c u _ _ (λ _. ⊥) (λ _. ⊥) (Runs (piece fetch terms from to) Ends' n) (Runs (piece fetch terms from to) Ends' n) (λ d w. (w.0, (let at : d.pc ≤ mid = w.1 in omega arith), w.2)) (λ _ x. x) (λ _ _ _ _ _ x. x) (wants u) (fetch c.pc) h
+        → Steps (fetch c.pc) terms.allowed terms.bonus phase (spare - 1) c (wants terms.kinds u) u (λ d. Forth phase from c.pc d.pc × (d.pc ≤ mid) × Runs (piece fetch terms from to) Ends' n (phase_after phase c.pc d.pc) (spare - 1) d u) (λ _. ⊥) (Runs (piece fetch terms from to) Ends' n)
+        → Steps (fetch c.pc) terms.allowed terms.bonus phase (spare - 1) c (wants terms.kinds u) u (λ d. Forth phase from c.pc d.pc × (d.pc ≤ to) × Runs (piece fetch terms from to) Ends' n (phase_after phase c.pc d.pc) (spare - 1) d u) (λ _. ⊥) (Runs (piece fetch terms from to) Ends' n)
+    longer n phase spare c u in_from in_to h =
+        steps_refine terms.allowed terms.bonus phase (spare - 1) c u _ _ (λ _. ⊥) (λ _. ⊥) (Runs (piece fetch terms from to) Ends' n) (Runs (piece fetch terms from to) Ends' n)
+        (λ d w. (w.0, (let at : d.pc ≤ mid = w.1 in omega arith), w.2)) (λ _ x. x) (λ _ _ _ _ _ x. x) (wants terms.kinds u) (fetch c.pc) h
 
 -- ---- one step taken out of what holds for every number of steps
 module _ {T : Type 0} (Next : ℕ → Phase → ℕ → Alpha → T → Type 0) where
@@ -222,7 +239,7 @@ module _ {T : Type 0} (Next : ℕ → Phase → ℕ → Alpha → T → Type 0) 
 
   made_open : (w : Wants T) (quad : ℕ) (left : ℕ → ℕ) (Fits : ℕ → Type 0) (on : ℕ → Alpha) (spare : ℕ)
       → ((n : ℕ) → Made w quad left Fits (λ before u. Next n Plain spare (on before) u)) → Made w quad left Fits (λ before u. Ever Plain spare (on before) u)
-  made_open (Wanted q l k) quad left Fits on spare h = ((h 0).0, λ before lt fits. (((h 0).1 before lt fits).0, λ n. ((h n).1 before lt fits).1))
+  made_open (Wanted q l s k) quad left Fits on spare h = ((h 0).0, λ before lt fits. (((h 0).1 before lt fits).0, λ n. ((h n).1 before lt fits).1))
   made_open Nothing quad left Fits on spare h = absurd (h 0)
 
   accesses_open : (kind : AlphaKind) (phase : Phase) (place : ℕ) (w : Wants T) (quad : ℕ) (left : ℕ → ℕ) (on : ℕ → Bool → Alpha) (bonus spare : ℕ) (t : T)
@@ -234,13 +251,13 @@ module _ {T : Type 0} (Next : ℕ → Phase → ℕ → Alpha → T → Type 0) 
       ((h 0).0, made_open w quad left (λ b. b ≡ found) (λ b. on b true) (spare + bonus) (λ n. (h n).1), λ b lt n. (h n).2 b lt)
   accesses_open kind phase place w quad left on bonus spare t h = absurd (h 0)
 
-  module _ (terms : Terms) (phase : Phase) (spare : ℕ) (c : Alpha) (w : Wants T) (t : T) (Moves : ℕ → Alpha → Type 0) (Pal : ℕ → ℕ → Type 0) where
-    acts_open : (does : Does) (i : AlphaInstr) → ((n : ℕ) → Acts does i terms phase spare c w t (Moves n) (Pal n) (Next n)) → Acts does i terms phase spare c w t (λ d. (n : ℕ) → Moves n d) (λ k. (n : ℕ) → Pal n k) Ever
+  module _ (allowed : Allowed) (bonus : ℕ) (phase : Phase) (spare : ℕ) (c : Alpha) (w : Wants T) (t : T) (Moves : ℕ → Alpha → Type 0) (Pal : ℕ → ℕ → Type 0) where
+    acts_open : (does : Does) (i : AlphaInstr) → ((n : ℕ) → Acts does i allowed bonus phase spare c w t (Moves n) (Pal n) (Next n)) → Acts does i allowed bonus phase spare c w t (λ d. (n : ℕ) → Moves n d) (λ k. (n : ℕ) → Pal n k) Ever
     acts_open (Goes d) i h = h
-    acts_open (Asks a) i h = ((h 0).0, (h 0).1, (h 0).2, accesses_open a.kind phase c.pc w (quad_of a) (changed a) (λ b s. finished i (loaded a b) s c) terms.bonus spare t (λ n. (h n).3))
+    acts_open (Asks a) i h = ((h 0).0, (h 0).1, (h 0).2, accesses_open a.kind phase c.pc w (quad_of a) (changed a) (λ b s. finished i (loaded a b) s c) bonus spare t (λ n. (h n).3))
     acts_open (Calls k) i h = h
 
-    pub steps_open : (o : Option AlphaInstr) → ((n : ℕ) → Steps o terms phase spare c w t (Moves n) (Pal n) (Next n)) → Steps o terms phase spare c w t (λ d. (n : ℕ) → Moves n d) (λ k. (n : ℕ) → Pal n k) Ever
+    pub steps_open : (o : Option AlphaInstr) → ((n : ℕ) → Steps o allowed bonus phase spare c w t (Moves n) (Pal n) (Next n)) → Steps o allowed bonus phase spare c w t (λ d. (n : ℕ) → Moves n d) (λ k. (n : ℕ) → Pal n k) Ever
     steps_open None h = absurd (h 0)
     steps_open (Some i) h = acts_open (act i c) i h
 
@@ -251,9 +268,9 @@ open_runs {A} p Ends phase spare c t away h =
       one.0,
       one.1,
       one.2,
-      steps_refine p.terms phase (spare - 1) c t (λ d. (n : ℕ) → Forth phase p.from c.pc d.pc × (d.pc ≤ p.to) × Runs p Ends n (phase_after phase c.pc d.pc) (spare - 1) d t) _ (λ k. (n : ℕ) → ⊥) (λ _. ⊥) (λ phase spare d u. (n : ℕ) → Runs p Ends n phase spare d u) (λ phase spare d u. (n : ℕ) → Runs p Ends n phase spare d u)
-          (λ d w. ((w 0).0, (w 0).1, λ n. (w n).2)) (λ k w. w 0) (λ _ _ _ _ _ x. x) (wants t) (p.fetch c.pc)
-          (steps_open (Runs p Ends) p.terms phase (spare - 1) c (wants t) t (λ n d. Forth phase p.from c.pc d.pc × (d.pc ≤ p.to) × Runs p Ends n (phase_after phase c.pc d.pc) (spare - 1) d t) (λ n k. ⊥) (p.fetch c.pc) (λ n. (within n).3)),
+      steps_refine p.terms.allowed p.terms.bonus phase (spare - 1) c t (λ d. (n : ℕ) → Forth phase p.from c.pc d.pc × (d.pc ≤ p.to) × Runs p Ends n (phase_after phase c.pc d.pc) (spare - 1) d t) _ (λ k. (n : ℕ) → ⊥) (λ _. ⊥) (λ phase spare d u. (n : ℕ) → Runs p Ends n phase spare d u) (λ phase spare d u. (n : ℕ) → Runs p Ends n phase spare d u)
+          (λ d w. ((w 0).0, (w 0).1, λ n. (w n).2)) (λ k w. w 0) (λ _ _ _ _ _ x. x) (wants p.terms.kinds t) (p.fetch c.pc)
+          (steps_open (Runs p Ends) p.terms.allowed p.terms.bonus phase (spare - 1) c (wants p.terms.kinds t) t (λ n d. Forth phase p.from c.pc d.pc × (d.pc ≤ p.to) × Runs p Ends n (phase_after phase c.pc d.pc) (spare - 1) d t) (λ n k. ⊥) (p.fetch c.pc) (λ n. (within n).3)),
     )
   where
     by : (n : ℕ) → Runs_by p Ends n phase spare c t → Inside p (Runs p Ends n) phase spare c t

@@ -111,5 +111,5 @@ module _ {A : Type 0} (p : Piece) (Ends : A → Regs → Type 0) (L q : ℕ) (mi
       let count : length middle + (need + 1 + 1) + 1 ≡ length middle + 3 + need = omega arith in
       let rest' : Rest most = λ x g lt after n spare le room. rest x g lt after n spare (omega arith) room in
       subst (λ m. Always p Ends (suc most) m Plain (at_place g L) (Access q change k)) count
-      (locked p Ends most (length middle + (need + 1 + 1)) (at_place g L) (Memory LdqL 25 27 (pos 0)) (plus (g 27) 0) 8 q (Access q change k) has.0 refl (omega arith) (omega arith) (rw (address g r) al) (quad g r) may_load load_kind
+      (locked p Ends most (length middle + (need + 1 + 1)) (at_place g L) (Memory LdqL 25 27 (pos 0)) (plus (g 27) 0) 8 q q change k has.0 refl (omega arith) (omega arith) (rw (address g r) al) (quad g r) may_load load_kind
       (λ x lt. behind most rest' (turns most rest') g r x (field_of x (plus (g 27) 0 % 8) 8) lt (loaded_whole x (plus (g 27) 0) lt (rw (address g r) al))))

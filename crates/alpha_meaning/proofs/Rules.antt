@@ -13,7 +13,7 @@ use Rattle.alpha_meaning.specs.declared.access.AlphaKind.TheVariants.{Load, Load
 use Rattle.alpha_meaning.specs.State.{Alpha, Regs, put, at_place}
 use Rattle.alpha_meaning.specs.Act.{Does, Goes, Asks, act, finished, second_value, taken, links, target_of}
 use Rattle.alpha_meaning.specs.Result.{result_of}
-use Rattle.alpha_meaning.specs.Pieces.{Fetch, Plan, Access, Over, wants, Phase, Plain, Held, Failed, Acts, Steps, Forth, phase_after, Piece, Runs, HasAt, Only}
+use Rattle.alpha_meaning.specs.Pieces.{Fetch, Plan, Access, Over, wants, retry_steps, Phase, Plain, Held, Failed, Acts, Steps, Forth, phase_after, Piece, Runs, HasAt, Only}
 use Rattle.alpha_meaning.specs.Loops.{is_operate, written, effect, effects, fine}
 use Rattle.alpha_meaning.proofs.Laws.{no_steps, begin, ends}
 
@@ -50,15 +50,15 @@ module _ {A : Type 0} (p : Piece) (Ends : A → Regs → Type 0) where
 
   -- one step, from what its instruction does
   stepped : (n need spare : ℕ) (phase : Phase) (c : Alpha) (t : Plan A) (i : AlphaInstr) (does : Does) → p.fetch c.pc ≡ Some i → act i c ≡ does → p.from ≤ c.pc → c.pc < p.to → 0 < spare
-      → Acts does i p.terms phase (spare - 1) c (wants t) t (λ d. Forth phase p.from c.pc d.pc × (d.pc ≤ p.to) × Runs p Ends n (phase_after phase c.pc d.pc) (spare - 1) d t) (λ _. ⊥) (Runs p Ends n)
+      → Acts does i p.terms.allowed p.terms.bonus phase (spare - 1) c (wants p.terms.kinds t) t (λ d. Forth phase p.from c.pc d.pc × (d.pc ≤ p.to) × Runs p Ends n (phase_after phase c.pc d.pc) (spare - 1) d t) (λ _. ⊥) (Runs p Ends n)
       → Runs p Ends (suc n) phase spare c t
   stepped n need spare phase c t i does at is from to some h =
       begin p Ends n phase spare c t (
         from,
         to,
         some,
-        subst (λ o. Steps o p.terms phase (spare - 1) c (wants t) t (λ d. Forth phase p.from c.pc d.pc × (d.pc ≤ p.to) × Runs p Ends n (phase_after phase c.pc d.pc) (spare - 1) d t) (λ _. ⊥) (Runs p Ends n)) (sym at)
-            (subst (λ x. Acts x i p.terms phase (spare - 1) c (wants t) t (λ d. Forth phase p.from c.pc d.pc × (d.pc ≤ p.to) × Runs p Ends n (phase_after phase c.pc d.pc) (spare - 1) d t) (λ _. ⊥) (Runs p Ends n)) (sym is) h),
+        subst (λ o. Steps o p.terms.allowed p.terms.bonus phase (spare - 1) c (wants p.terms.kinds t) t (λ d. Forth phase p.from c.pc d.pc × (d.pc ≤ p.to) × Runs p Ends n (phase_after phase c.pc d.pc) (spare - 1) d t) (λ _. ⊥) (Runs p Ends n)) (sym at)
+            (subst (λ x. Acts x i p.terms.allowed p.terms.bonus phase (spare - 1) c (wants p.terms.kinds t) t (λ d. Forth phase p.from c.pc d.pc × (d.pc ≤ p.to) × Runs p Ends n (phase_after phase c.pc d.pc) (spare - 1) d t) (λ _. ⊥) (Runs p Ends n)) (sym is) h),
       )
 
   -- a local step, forward or back
@@ -103,18 +103,18 @@ module _ {A : Type 0} (p : Piece) (Ends : A → Regs → Type 0) where
       (aligned, ap (p.terms.allowed true) quad ∙ may, kind, (sym quad, λ b lt _. (same b lt, rest b lt n (spare - 1 + p.terms.bonus) (omega arith) (omega arith))))
 
   -- a load-locked access: the rest has one step less
-  pub locked : (most need : ℕ) (c : Alpha) (i : AlphaInstr) (address bytes q : ℕ) (t : Plan A) → p.fetch c.pc ≡ Some i → act i c ≡ Asks (record { kind = LoadLocked; address = address; bytes = bytes; value = 0 }) → p.from ≤ c.pc → c.pc < p.to
+  pub locked : (most need : ℕ) (c : Alpha) (i : AlphaInstr) (address bytes q wanted : ℕ) (leaves : ℕ → ℕ) (k : ℕ → Plan A) → p.fetch c.pc ≡ Some i → act i c ≡ Asks (record { kind = LoadLocked; address = address; bytes = bytes; value = 0 }) → p.from ≤ c.pc → c.pc < p.to
       → address % bytes ≡ 0 → address / 8 * 8 ≡ q → p.terms.allowed false q ≡ true → p.terms.kinds LoadLocked bytes ≡ true
-      → ((before : ℕ) → before < 2 ^ 64 → Always p Ends most need (Held q before c.pc) (finished i (field_of before (address % 8) bytes) true c) t)
-      → Always p Ends (suc most) (need + 1) Plain c t
-  locked most need c i address bytes q t at is from to aligned quad may kind rest zero spare le room = no_steps p Ends Plain spare c t
-  locked most need c i address bytes q t at is from to aligned quad may kind rest (suc n) spare le room =
-      stepped n need spare Plain c t i (Asks (record { kind = LoadLocked; address = address; bytes = bytes; value = 0 })) at is from to (omega arith)
-      (aligned, ap (p.terms.allowed false) quad ∙ may, kind, λ b lt. subst (λ x. Runs p Ends n (Held x b c.pc) (spare - 1) (finished i (field_of b (address % 8) bytes) true c) t) (sym quad) (rest b lt n (spare - 1) (omega arith) (omega arith)))
+      → ((before : ℕ) → before < 2 ^ 64 → Always p Ends most need (Held q before c.pc) (finished i (field_of before (address % 8) bytes) true c) (Access wanted leaves k))
+      → Always p Ends (suc most) (need + 1) Plain c (Access wanted leaves k)
+  locked most need c i address bytes q wanted leaves k at is from to aligned quad may kind rest zero spare le room = no_steps p Ends Plain spare c (Access wanted leaves k)
+  locked most need c i address bytes q wanted leaves k at is from to aligned quad may kind rest (suc n) spare le room =
+      stepped n need spare Plain c (Access wanted leaves k) i (Asks (record { kind = LoadLocked; address = address; bytes = bytes; value = 0 })) at is from to (omega arith)
+      (aligned, ap (p.terms.allowed false) quad ∙ may, kind, λ b lt. subst (λ x. Runs p Ends n (Held x b c.pc) (spare - 1) (finished i (field_of b (address % 8) bytes) true c) (Access wanted leaves k)) (sym quad) (rest b lt n (spare - 1) (omega arith) (omega arith)))
 
-  -- a store conditional: where it fails there is room for 16 steps more
+  -- a store conditional: where it fails there is room for a turn more
   pub conditional : (most need lost : ℕ) (c : Alpha) (i : AlphaInstr) (address bytes value q found first : ℕ) (leaves : ℕ → ℕ) (k : ℕ → Plan A) → p.fetch c.pc ≡ Some i → act i c ≡ Asks (record { kind = StoreConditional; address = address; bytes = bytes; value = value }) → p.from ≤ c.pc → c.pc < p.to
-      → address % bytes ≡ 0 → address / 8 * 8 ≡ q → p.terms.allowed true q ≡ true → p.terms.kinds StoreConditional bytes ≡ true → found < 2 ^ 64 → with_field_of found (address % 8) bytes value ≡ leaves found → lost ≤ need + 16
+      → address % bytes ≡ 0 → address / 8 * 8 ≡ q → p.terms.allowed true q ≡ true → p.terms.kinds StoreConditional bytes ≡ true → found < 2 ^ 64 → with_field_of found (address % 8) bytes value ≡ leaves found → lost ≤ need + retry_steps
       → Always p Ends most need Plain (finished i (field_of found (address % 8) bytes) true c) (k found)
       → ((before : ℕ) → before < 2 ^ 64 → Always p Ends most lost (Failed first) (finished i (field_of before (address % 8) bytes) false c) (Access q leaves k))
       → Always p Ends most (need + 1) (Held q found first) c (Access q leaves k)
@@ -127,7 +127,7 @@ module _ {A : Type 0} (p : Piece) (Ends : A → Regs → Type 0) where
         (
           quad,
           (sym quad, λ b lt same. subst (λ x. (with_field_of x (address % 8) bytes value ≡ leaves x) × Runs p Ends n Plain (spare - 1 + p.terms.bonus) (finished i (field_of x (address % 8) bytes) true c) (k x)) (sym same) (left, won n (spare - 1 + p.terms.bonus) (omega arith) (omega arith))),
-          λ b lt. again b lt n (spare - 1 + 16) (omega arith) (omega arith),
+          λ b lt. again b lt n (spare - 1 + retry_steps) (omega arith) (omega arith),
         ),
       )
 

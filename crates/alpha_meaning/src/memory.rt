@@ -1,4 +1,5 @@
 ghost use Rattle.std.specs.Prelude.{◌≡◌, ◌<◌, ◌≤◌};
+ghost use Rattle.vt_words.specs.Quad.{IsCount};
 ghost use Rattle.alpha_meaning.specs.Memory.{kind_of, bytes_of, extension_of, drops_low_bits, scale_of, address_of, access_of, extended};
 
 use crate::access::{AlphaAccess, AlphaKind, Extension, stores};
@@ -21,8 +22,7 @@ pub fn kind_of(op: MemoryOp) -> Option<AlphaKind>
 /// The number of bytes of the access, which is also its alignment; 8 where there is none.
 pub fn bytes_of(op: MemoryOp) -> u8
     ensures value { result ≡ bytes_of op }
-    ensures some { 1 ≤ result }
-    ensures within { result ≤ 8 }
+    ensures count { IsCount result }
 {
     match op {
         MemoryOp::Ldl | MemoryOp::LdlL | MemoryOp::Stl | MemoryOp::StlC => 4,
@@ -75,7 +75,7 @@ pub fn address_of(op: MemoryOp, base: u64, disp: i16) -> u64
 /// The access of a memory instruction of that kind, for its address and the value of Ra.
 pub fn access_of(op: MemoryOp, kind: AlphaKind, address: u64, register: u64) -> AlphaAccess
     ensures value { result ≡ access_of op kind address register }
-    ensures some { 0 < result.bytes }
+    ensures count { IsCount result.bytes }
 {
     let bytes = bytes_of(op);
     let value = if stores(kind) {

@@ -1,5 +1,5 @@
 -- Blocks by themselves, and where they stand in code.
-use Rattle.std.specs.Prelude.{◌≡◌, ℕ, ◌<◌, ◌≤◌, ◌+◌, ◌^◌, ◌&&◌, not, nat_lt, nat_le, Bool, true, false, All, List, length, slice_get, Option, Some, None}
+use Rattle.std.specs.Prelude.{◌≡◌, ℕ, ◌<◌, ◌≤◌, ◌+◌, ◌^◌, ◌==◌, ◌&&◌, not, nat_lt, nat_le, Bool, true, false, All, List, length, slice_get, Option, Some, None}
 use Rattle.std.specs.List.{list_any, AllAdjacentBelow}
 use Rattle.vax_form.specs.declared.state.Flags.{Flags}
 use Rattle.vax_form.specs.declared.state.VaxState.{VaxState}
@@ -34,25 +34,29 @@ has_word word exit = nat_le exit.0 word && nat_lt word (exit.0 + exit_words)
 abbrev pub is_exit_word : List Exit → (word : ℕ) → Bool
 is_exit_word exits word = list_any (has_word word) exits
 
--- it writes no register that a boundary shows, makes no access and raises nothing
+-- the word is one of an exit's behind its first
+abbrev pub is_past_exit : List Exit → (word : ℕ) → Bool
+is_past_exit exits word = list_any (λ exit. has_word word exit && not (word == exit.0)) exits
+
+-- it writes no register that a boundary shows, makes no access, raises nothing and ends nothing
 abbrev pub is_quiet : AlphaInstr → Bool
-is_quiet i = not (is_kept (register_written i)) && not (may_fault i) && not (interprets i)
+is_quiet i = not (is_kept (register_written i)) && not (may_fault i) && not (interprets i) && (done_at (Some i) == 0)
 
 -- ---- a block by itself
 -- an exit's words are the block's
 abbrev pub IsExitOf : BlockValue → Exit → Type 0
 IsExitOf block exit = (exit.0 + exit_words ≤ length block.words) × (exit.1 < 2 ^ 32)
 
--- a point is of that instruction, at a word of the block that is no exit's
+-- a point is of that instruction, at a word of the block that is no exit's but for its first
 pub record IsPointOf (address : ℕ) (block : BlockValue) (word : ℕ) (point : Point) : Type 0 where
   pub within : word < length block.words
-  pub no_exit : is_exit_word block.exits word ≡ false
+  pub no_exit : is_past_exit block.exits word ≡ false
   pub its : point.vax_pc ≡ address
   pub done : point.done ≡ done_at (slice_get block.words word)
 
--- a block of the instruction at that address, wherever it may come to stand
-pub record IsBlockOf (address : ℕ) (block : BlockValue) : Type 0 where
-  pub tidy : IsTidy block.words
+-- a block of the instruction at that address, with a loop or without, wherever it may come to stand
+pub record IsBlockOf (loops : Bool) (address : ℕ) (block : BlockValue) : Type 0 where
+  pub tidy : IsTidy loops block.words
   pub encodable : All IsEncodable block.words
   pub exits : All (IsExitOf block) block.exits
   pub exits_apart : AllAdjacentBelow (λ e f. e.0 + exit_words ≤ f.0) block.exits (length block.exits)

@@ -5,12 +5,13 @@ use Rattle.vax_form.specs.Pages.{first_bad}
 use Rattle.vax_form.specs.State.{with_register}
 use Rattle.vax_form.specs.Tree.{Tree, Check, Fault, Ends, Finish, Trap, Same}
 use Rattle.alpha_meaning.specs.State.{Alpha, Regs, put, at_place}
-use Rattle.alpha_meaning.specs.Pieces.{Phase, Plain, Steps, Forth, phase_after}
+use Rattle.alpha_meaning.specs.Pieces.{Phase, Plain, Steps, phase_after}
 use Rattle.exception_records.specs.Points.{raised_at}
 use Rattle.exception_records.specs.declared.points.Point.{Point}
 use Rattle.exception_records.specs.declared.rules.Rules.{Rules}
 use Rattle.block_law.specs.References.{wants}
-use Rattle.block_law.specs.Placements.{Placement, terms_of, InForm, state_shown, state_behind, state_ready, target}
+use Rattle.block_law.specs.Rounds.{Round, stepped, round_behind, round_after, Goes}
+use Rattle.block_law.specs.Placements.{Placement, allowed_in, InForm, state_shown, state_behind, state_ready, target}
 
 -- ---- PALcode calls
 -- Alpha Architecture Reference Manual, "Call Privileged Architecture Library": the numbers are this system's own.
@@ -34,9 +35,9 @@ call_of number =
     else if number == 0x86 then Switch
     else Other
 
--- how many bytes a probe checks, from the address in R27 on
+-- how many bytes a probe checks, from the address in R27 on: the point's count, or where it is 0 the low word of R21
 abbrev pub probe_count : Point → Regs → ℕ
-probe_count point regs = point.count
+probe_count point regs = if point.count == 0 then regs 21 % 2 ^ 16 else point.count
 
 -- where a probe begins: the low longword of R27
 abbrev pub probe_address : Regs → ℕ
@@ -79,28 +80,30 @@ Lands (Some address) point phase tree p regs Inside = Landed phase tree p addres
 Lands None point phase tree p regs Inside = Inside
 
 -- no access and no call stands before the first word of a block
-abbrev pub Onward : Placement → (Phase → (spare : ℕ) → Alpha → Tree → Type 0) → Phase → (spare : ℕ) → Alpha → Tree → Type 0
-Onward p Next phase spare d tree = (p.stops d.pc ≡ None) × Next phase spare d tree
+abbrev pub Onward : Placement → (Phase → (spare : ℕ) → Round → Alpha → Tree → Type 0) → Phase → (spare : ℕ) → Round → Alpha → Tree → Type 0
+Onward p Next phase spare round d tree = (p.stops d.pc ≡ None) × Next phase spare round d tree
 
 -- ---- steps
 -- one step inside the block, with `Next` owed behind it
-abbrev pub Clause : Placement → (Phase → (spare : ℕ) → Alpha → Tree → Type 0) → Phase → (spare : ℕ) → Alpha → Tree → Type 0
-Clause p Next phase spare c tree =
+abbrev pub Clause : Placement → (Phase → (spare : ℕ) → Round → Alpha → Tree → Type 0) → Phase → (spare : ℕ) → Round → Alpha → Tree → Type 0
+Clause p Next phase spare round c tree =
     (p.first ≤ c.pc) × (c.pc < p.end) × (0 < spare)
-    × Steps (p.fetch c.pc) (terms_of p) phase (spare - 1) c (wants tree) tree
-    (λ d. Lands (p.stops d.pc) (p.points d.pc) phase tree p d.regs (Forth phase p.first c.pc d.pc × Next (phase_after phase c.pc d.pc) (spare - 1) d tree))
-    (λ number. Called (call_of number) (p.points c.pc) phase tree p c (λ d u. Onward p Next Plain (spare - 1) d u))
-    (Onward p Next)
+    × Steps (p.fetch c.pc) (allowed_in p.pages) p.bonus phase (spare - 1) c (wants p.kinds tree) tree
+    (λ d. Lands (p.stops d.pc) (p.points d.pc) phase tree p d.regs
+    (Goes p.bonus p.first phase round c.pc d.pc × Next (phase_after phase c.pc d.pc) (spare - 1) (round_after phase round c.pc d.pc) d tree))
+    (λ number. Called (call_of number) (p.points c.pc) phase tree p c (λ d u. Onward p Next Plain (spare - 1) (stepped round) d u))
+    (λ phase' spare' d u. Onward p Next phase' spare' (round_behind phase' tree round) d u)
 
 -- For n steps, whatever memory answers, the words do what the tree says: they make its checks and references in their
--- order, and end as it ends. `spare` steps are left, to which each failed store adds 16.
-unfoldable pub Follows : Placement → (n : ℕ) → Phase → (spare : ℕ) → Alpha → Tree → Type 0
-Follows p zero phase spare c tree = Unit {0}
-Follows p (suc n) phase spare c tree = Clause p (Follows p n) phase spare c tree
+-- order, and end as it ends. `spare` steps are left, to which each failed store adds those of a turn, and each access
+-- that counts adds the block's bonus.
+unfoldable pub Follows : Placement → (n : ℕ) → Phase → (spare : ℕ) → Round → Alpha → Tree → Type 0
+Follows p zero phase spare round c tree = Unit {0}
+Follows p (suc n) phase spare round c tree = Clause p (Follows p n) phase spare round c tree
 
 -- From this word on, in so many steps, the words arrive at the address, whatever the registers are that show the state
 -- there by these rules.
 abbrev pub LeadsTo : Placement → (word address : ℕ) → Rules → (steps : ℕ) → Type 0
 LeadsTo p word address rules steps =
-    (n spare : ℕ) (regs : Regs) → steps ≤ spare → InForm regs
-    → Follows p n Plain spare (at_place regs word) (Ends (Finish (state_behind p regs address rules)))
+    (n spare : ℕ) (round : Round) (regs : Regs) → steps ≤ spare → InForm regs
+    → Follows p n Plain spare round (at_place regs word) (Ends (Finish (state_behind p regs address rules)))

@@ -1,5 +1,6 @@
 pub mod References
 pub mod Placements
+pub mod Rounds
 pub mod Follows
 pub mod Laws
 pub mod Tidy

@@ -1,15 +1,15 @@
 -- A block of Alpha code in its place, and the registers at the boundaries between instructions.
-use Rattle.std.specs.Prelude.{◌≡◌, ℕ, ◌<◌, ◌≤◌, ◌%◌, ◌^◌, Bool, Option}
+use Rattle.std.specs.Prelude.{◌≡◌, ℕ, ◌<◌, ◌≤◌, ◌%◌, ◌^◌, Option}
 use Rattle.vt_words.specs.Quad.{sign_extended}
 use Rattle.vax_form.specs.Pages.{is_allowed}
 use Rattle.vax_form.specs.State.{with_core}
 use Rattle.vax_form.specs.Tree.{Tree}
 use Rattle.vax_form.specs.declared.pages.Pages.{Pages}
 use Rattle.vax_form.specs.declared.state.Flags.{Flags}
+use Rattle.vax_form.specs.declared.state.Reference.{Reference}
 use Rattle.vax_form.specs.declared.state.VaxState.{VaxState}
-use Rattle.alpha_meaning.specs.declared.access.AlphaKind.{AlphaKind}
 use Rattle.alpha_meaning.specs.State.{Regs}
-use Rattle.alpha_meaning.specs.Pieces.{Fetch, Terms}
+use Rattle.alpha_meaning.specs.Pieces.{Allowed, Fetch, Kinds}
 use Rattle.exception_records.specs.Codes.{all_ready}
 use Rattle.exception_records.specs.Shown.{registers_shown, psw_shown, still_held}
 use Rattle.exception_records.specs.declared.points.Point.{Point}
@@ -34,13 +34,13 @@ pub record Placement : Type 0 where
   pub written : Flags
   -- what a service does at a state
   pub serve : (code : ℕ) → VaxState → Tree
-  -- the kinds of accesses that may be made, with their numbers of bytes, and how many steps more each of them allows
-  pub kinds : AlphaKind → (bytes : ℕ) → Bool
+  -- the kinds of accesses that may be made for a reference, and how many steps more each that counts allows
+  pub kinds : Reference → Kinds
   pub bonus : ℕ
 
 -- a quadword may be accessed where its page allows it
-abbrev pub terms_of : Placement → Terms
-terms_of p = record { allowed = λ store quad. is_allowed p.pages quad store; kinds = p.kinds; bonus = p.bonus }
+abbrev pub allowed_in : Pages → Allowed
+allowed_in pages store quad = is_allowed pages quad store
 
 -- At a boundary R0 to R14 hold sign-extended longwords, R16 to R19 codes, R20 bits 7:4 of the processor status word,
 -- and R31 reads zero.

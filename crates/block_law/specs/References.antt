@@ -6,7 +6,7 @@ use Rattle.vax_form.specs.Tree.{Tree, Check, Ask, Fault, Ends}
 use Rattle.vax_form.specs.declared.state.Reference.{Reference}
 use Rattle.vax_form.specs.declared.state.RefKind.{RefKind}
 use Rattle.vax_form.specs.declared.state.RefKind.TheVariants.{Read, Write, Add, SetBit, ClearBit, Put, Get}
-use Rattle.alpha_meaning.specs.Pieces.{Wants, Wanted, Nothing}
+use Rattle.alpha_meaning.specs.Pieces.{Kinds, Wants, Wanted, Nothing}
 
 -- the reply to a reference that begins at this byte of the quadword, by what the quadword held before
 abbrev pub reply_by : RefKind → (at count before : ℕ) → ℕ
@@ -38,16 +38,17 @@ is_of_memory (ClearBit n) = true
 is_of_memory (Put byte) = false
 is_of_memory Get = false
 
--- the access to the reference's quadword, and how the tree goes on for what it finds there
-abbrev pub wanted_by : Bool → Reference → (ℕ → Tree) → Wants Tree
-wanted_by true r on =
-    Wanted (r.address / 8 * 8) (left_by r.kind (r.address % 8) r.count)
+-- the access to the reference's quadword, the kinds that may be made for it, and how the tree goes on for what it finds
+-- there
+abbrev pub wanted_by : Bool → (Reference → Kinds) → Reference → (ℕ → Tree) → Wants Tree
+wanted_by true kinds r on =
+    Wanted (r.address / 8 * 8) (left_by r.kind (r.address % 8) r.count) (kinds r)
     (λ before. on (reply_by r.kind (r.address % 8) r.count before))
-wanted_by false r on = Nothing
+wanted_by false kinds r on = Nothing
 
--- the access that a tree wants next
-abbrev pub wants : Tree → Wants Tree
-wants (Check address count write tree) = Nothing
-wants (Ask r on) = wanted_by (is_of_memory r.kind) r on
-wants (Fault exception) = Nothing
-wants (Ends e) = Nothing
+-- the access that a tree wants next, where these kinds may be made for each reference
+abbrev pub wants : (Reference → Kinds) → Tree → Wants Tree
+wants kinds (Check address count write tree) = Nothing
+wants kinds (Ask r on) = wanted_by (is_of_memory r.kind) kinds r on
+wants kinds (Fault exception) = Nothing
+wants kinds (Ends e) = Nothing

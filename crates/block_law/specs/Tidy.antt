@@ -33,29 +33,47 @@ abbrev pub is_access : Option AlphaKind → Bool
 is_access None = false
 is_access (Some kind) = true
 
+-- a probe or an exception
+abbrev pub may_raise : AlphaInstr → Bool
+may_raise (Memory op ra rb disp) = false
+may_raise (Branch op ra disp) = false
+may_raise (Operate op ra rb rc) = false
+may_raise (Jump ra rb) = false
+may_raise (Pal number) = number == 0x80 || number == 0x83
+
 -- a load, a store, a probe or an exception
 abbrev pub may_fault : AlphaInstr → Bool
 may_fault (Memory op ra rb disp) = is_access (kind_of op)
 may_fault (Branch op ra disp) = false
 may_fault (Operate op ra rb rc) = false
 may_fault (Jump ra rb) = false
-may_fault (Pal number) = number == 0x80 || number == 0x83
+may_fault (Pal number) = may_raise (Pal number)
 
--- no kept register is written before the last word that may fault
-abbrev pub keeps_until_faults : List AlphaInstr → Bool
-keeps_until_faults [] = true
-keeps_until_faults (i ∷ is) = not (is_kept (register_written i) && list_any may_fault is) && keeps_until_faults is
+-- no kept register is written before the last such word
+abbrev pub keeps_until : (is_such : AlphaInstr → Bool) → List AlphaInstr → Bool
+keeps_until is_such [] = true
+keeps_until is_such (i ∷ is) = not (is_kept (register_written i) && list_any is_such is) && keeps_until is_such is
+
+-- the words up to which kept registers stay: those that may fault, and in a block with a loop, which is kept in R0 to
+-- R5, those that may raise something
+abbrev pub keeps_to : (loops : Bool) → AlphaInstr → Bool
+keeps_to true = may_raise
+keeps_to false = may_fault
 
 -- a call that has the interpreter do the block's instruction
 abbrev pub interprets : AlphaInstr → Bool
 interprets (Pal number) = number == 0x85
 interprets i = false
 
--- 1 to 256 words, none of which leaves its instruction to the interpreter
-pub record IsTidy (words : List AlphaInstr) : Type 0 where
+-- how many words a block may have
+abbrev pub block_words : ℕ
+block_words = 256
+
+-- a block has words, not too many, none of which leaves its instruction to the interpreter
+pub record IsTidy (loops : Bool) (words : List AlphaInstr) : Type 0 where
   pub some : 1 ≤ length words
-  pub few : length words ≤ 256
-  pub keeps : keeps_until_faults words ≡ true
+  pub few : length words ≤ block_words
+  pub keeps : keeps_until (keeps_to loops) words ≡ true
   pub translated : list_any interprets words ≡ false
 
 -- some word writes the register

@@ -4,24 +4,25 @@ use Rattle.vax_form.specs.State.{IsState}
 use Rattle.vax_form.specs.Tree.{Tree}
 use Rattle.vax_form.specs.declared.pages.Pages.{Pages}
 use Rattle.vax_form.specs.declared.state.Flags.{Flags}
+use Rattle.vax_form.specs.declared.state.Reference.{Reference}
 use Rattle.vax_form.specs.declared.state.VaxState.{VaxState}
 use Rattle.alpha_encode.specs.Words.{instr_at}
 use Rattle.alpha_encode.specs.declared.instr.AlphaInstr.{AlphaInstr}
 use Rattle.alpha_encode.specs.declared.instr.AlphaInstr.TheVariants.{Memory, Branch, Operate, Jump, Pal}
-use Rattle.alpha_meaning.specs.declared.access.AlphaKind.{AlphaKind}
 use Rattle.alpha_meaning.specs.State.{Regs, at_place}
-use Rattle.alpha_meaning.specs.Pieces.{Fetch, Plain, HasAt}
+use Rattle.alpha_meaning.specs.Pieces.{Fetch, Kinds, Plain, HasAt}
 use Rattle.address_map.specs.Pairs.{Pair, AllRise, word_at, address_at}
 use Rattle.exception_records.specs.Points.{Entry, WordsRise, point_at}
 use Rattle.exception_records.specs.Shown.{Shows}
 use Rattle.exception_records.specs.declared.points.Point.{Point}
 use Rattle.block_law.specs.Placements.{Placement, InForm}
+use Rattle.block_law.specs.Rounds.{block_steps, new_round}
 use Rattle.block_law.specs.Follows.{Follows}
 use Rattle.block_law.specs.Tidy.{IsTidy}
 
 -- what the instructions of an image mean: the tree of the one at a state of a thread, what a service does there, the
--- condition codes that the one at an address writes, the accesses that its block may make, and how many steps more each
--- of them allows
+-- condition codes that the one at an address writes, the kinds of accesses that its block may make for a reference, and
+-- how many steps more each that counts allows
 pub record Meaning : Type 0 where
   pub pages : Pages
   pub tree : (thread : ℕ) → VaxState → Tree
@@ -29,7 +30,7 @@ pub record Meaning : Type 0 where
   pub moment : (thread : ℕ) → VaxState → Tree
   pub serve : (thread code : ℕ) → VaxState → Tree
   pub written : (address : ℕ) → Flags
-  pub kinds : (address : ℕ) → AlphaKind → (bytes : ℕ) → Bool
+  pub kinds : (address : ℕ) → Reference → Kinds
   pub bonus : (address : ℕ) → ℕ
 
 -- the words, the map from VAX addresses to the first words of their blocks, and the points of words
@@ -69,9 +70,9 @@ placed meaning code thread begun held first = record {
   bonus = meaning.bonus begun.pc;
 }
 
--- how many steps a block may take, besides those behind failed stores
-abbrev pub block_steps : ℕ
-block_steps = 256
+-- the block of an instruction may have a loop where accesses that count allow more steps
+abbrev pub has_loop : Meaning → (address : ℕ) → Bool
+has_loop meaning address = nat_lt 0 (meaning.bonus address)
 
 -- whether the instruction is done at its word
 abbrev pub done_at : Option AlphaInstr → ℕ
@@ -94,13 +95,13 @@ pub record IsBlock (meaning : Meaning) (code : Code) (address first : ℕ) : Typ
   pub ends : first + length words ≡ end_of code first
   pub within : end_of code first ≤ length code.words
   pub stand : HasAt (fetch_of code.words) first words
-  pub tidy : IsTidy words
+  pub tidy : IsTidy (has_loop meaning address) words
   -- whatever the thread's state there is, and the registers that show it, they follow the instruction's tree
   pub follows : (thread n : ℕ) (state : VaxState) (held : Flags) (regs : Regs) → thread < 256 → IsState state → state.pc ≡ address
       → InForm regs → Shows regs address point.rules held state
-      → Follows (placed meaning code thread state held first) n Plain block_steps (at_place regs first) (meaning.tree thread state)
+      → Follows (placed meaning code thread state held first) n Plain block_steps new_round (at_place regs first) (meaning.tree thread state)
 
--- the most words of Alpha code: 32,768 blocks
+-- the most words of Alpha code: those of 32,768 blocks
 abbrev pub most_words : ℕ
 most_words = 8388608
 
