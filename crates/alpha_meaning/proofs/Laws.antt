@@ -27,44 +27,36 @@ suits_map R (Wanted q l s k) (Wanted q' l' s' k') kind bytes c h = c.1 kind byte
 suits_map R (Wanted q l s k) Nothing kind bytes c h = absurd c
 suits_map R Nothing x kind bytes c h = absurd h
 
--- more steps may be spare, and an access may allow more of them
-module _ {T U : Type 0} (R : T → U → Type 0) (more : ℕ) (Next : Phase → ℕ → Alpha → T → Type 0) (Next' : Phase → ℕ → Alpha → U → Type 0)
-    (go : (phase : Phase) (spare spare' : ℕ) (d : Alpha) (t : T) (u : U) → spare + more ≤ spare' → R t u → Next phase spare d t → Next' phase spare' d u) where
-  made_map : (w : Wants T) (x : Wants U) (quad : ℕ) (left : ℕ → ℕ) (Fits : ℕ → Type 0) (on : ℕ → Alpha) (spare spare' : ℕ) → spare + more ≤ spare' → Covers R w x
-      → Made w quad left Fits (λ before u. Next Plain spare (on before) u) → Made x quad left Fits (λ before u. Next' Plain spare' (on before) u)
-  made_map (Wanted q l s k) (Wanted q' l' s' k') quad left Fits on spare spare' room c h =
-      (c.0 ∙ h.0, λ before lt fits. ((h.1 before lt fits).0 ∙ (c.2 before lt).0, go Plain spare spare' (on before) (k before) (k' before) room (c.2 before lt).1 (h.1 before lt fits).1))
-  made_map (Wanted q l s k) Nothing quad left Fits on spare spare' room c h = absurd c
-  made_map Nothing x quad left Fits on spare spare' room c h = absurd h
+-- another number of steps may be spare, and an access may allow another number of them
+module _ {T U : Type 0} (R : T → U → Type 0) (Next : Phase → ℕ → Alpha → T → Type 0) (Next' : Phase → ℕ → Alpha → U → Type 0) (bonus bonus' spare spare' : ℕ) (t : T) (u : U)
+    (counted : (d : Alpha) (v : T) (w : U) → R v w → Next Plain (spare + bonus) d v → Next' Plain (spare' + bonus') d w)
+    (held : (quad found place : ℕ) (d : Alpha) → Next (Held quad found place) spare d t → Next' (Held quad found place) spare' d u)
+    (failed : (place : ℕ) (d : Alpha) → Next (Failed place) (spare + retry_steps) d t → Next' (Failed place) (spare' + retry_steps) d u) where
+  made_map : (w : Wants T) (x : Wants U) (quad : ℕ) (left : ℕ → ℕ) (Fits : ℕ → Type 0) (on : ℕ → Alpha) → Covers R w x
+      → Made w quad left Fits (λ before v. Next Plain (spare + bonus) (on before) v) → Made x quad left Fits (λ before v. Next' Plain (spare' + bonus') (on before) v)
+  made_map (Wanted q l s k) (Wanted q' l' s' k') quad left Fits on c h =
+      (c.0 ∙ h.0, λ before lt fits. ((h.1 before lt fits).0 ∙ (c.2 before lt).0, counted (on before) (k before) (k' before) (c.2 before lt).1 (h.1 before lt fits).1))
+  made_map (Wanted q l s k) Nothing quad left Fits on c h = absurd c
+  made_map Nothing x quad left Fits on c h = absurd h
 
-  module _ (bonus bonus' spare spare' : ℕ) (earns : bonus ≤ bonus') (room : spare + more ≤ spare') where
-    earned : spare + bonus + more ≤ spare' + bonus'
-    earned = omega arith
+  accesses_map : (kind : AlphaKind) (phase : Phase) (place : ℕ) (w : Wants T) (x : Wants U) (quad : ℕ) (left : ℕ → ℕ) (on : ℕ → Bool → Alpha) → Covers R w x
+      → Accesses kind phase place w quad left on bonus spare t Next → Accesses kind phase place x quad left on bonus' spare' u Next'
+  accesses_map Load Plain place w x quad left on c h = made_map w x quad (λ b. b) (λ _. Unit {0}) (λ b. on b true) c h
+  accesses_map Store Plain place w x quad left on c h = made_map w x quad left (λ _. Unit {0}) (λ b. on b true) c h
+  accesses_map LoadLocked Plain place w x quad left on c h = λ b lt. held quad b place (on b true) (h b lt)
+  accesses_map StoreConditional (Held q found first) place w x quad left on c h =
+      (h.0, made_map w x quad left (λ b. b ≡ found) (λ b. on b true) c h.1, λ b lt. failed first (on b false) (h.2 b lt))
+  accesses_map kind phase place w x quad left on c h = absurd h
 
-    retried : spare + retry_steps + more ≤ spare' + retry_steps
-    retried = omega arith
+  module _ (allowed : Allowed) (phase : Phase) (c : Alpha) (w : Wants T) (x : Wants U) (covers : Covers R w x) (Moves Moves' : Alpha → Type 0) (Pal Pal' : ℕ → Type 0) (moves : (d : Alpha) → Moves d → Moves' d) (pal : (n : ℕ) → Pal n → Pal' n) where
+    acts_map : (does : Does) (i : AlphaInstr) → Acts does i allowed bonus phase spare c w t Moves Pal Next → Acts does i allowed bonus' phase spare' c x u Moves' Pal' Next'
+    acts_map (Goes d) i h = moves d h
+    acts_map (Asks a) i h = (h.0, h.1, suits_map R w x a.kind a.bytes covers h.2, accesses_map a.kind phase c.pc w x (quad_of a) (changed a) (λ b s. finished i (loaded a b) s c) covers h.3)
+    acts_map (Calls n) i h = pal n h
 
-    accesses_map : (kind : AlphaKind) (phase : Phase) (place : ℕ) (w : Wants T) (x : Wants U) (quad : ℕ) (left : ℕ → ℕ) (on : ℕ → Bool → Alpha) (t : T) (u : U) → Covers R w x → R t u
-        → Accesses kind phase place w quad left on bonus spare t Next → Accesses kind phase place x quad left on bonus' spare' u Next'
-    accesses_map Load Plain place w x quad left on t u c r h = made_map w x quad (λ b. b) (λ _. Unit {0}) (λ b. on b true) (spare + bonus) (spare' + bonus') earned c h
-    accesses_map Store Plain place w x quad left on t u c r h = made_map w x quad left (λ _. Unit {0}) (λ b. on b true) (spare + bonus) (spare' + bonus') earned c h
-    accesses_map LoadLocked Plain place w x quad left on t u c r h = λ b lt. go (Held quad b place) spare spare' (on b true) t u room r (h b lt)
-    accesses_map StoreConditional (Held q found first) place w x quad left on t u c r h = (
-      h.0,
-      made_map w x quad left (λ b. b ≡ found) (λ b. on b true) (spare + bonus) (spare' + bonus') earned c h.1,
-      λ b lt. go (Failed first) (spare + retry_steps) (spare' + retry_steps) (on b false) t u retried r (h.2 b lt),
-    )
-    accesses_map kind phase place w x quad left on t u c r h = absurd h
-
-    module _ (allowed : Allowed) (phase : Phase) (c : Alpha) (w : Wants T) (x : Wants U) (t : T) (u : U) (covers : Covers R w x) (r : R t u) (Moves Moves' : Alpha → Type 0) (Pal Pal' : ℕ → Type 0) (moves : (d : Alpha) → Moves d → Moves' d) (pal : (n : ℕ) → Pal n → Pal' n) where
-      acts_map : (does : Does) (i : AlphaInstr) → Acts does i allowed bonus phase spare c w t Moves Pal Next → Acts does i allowed bonus' phase spare' c x u Moves' Pal' Next'
-      acts_map (Goes d) i h = moves d h
-      acts_map (Asks a) i h = (h.0, h.1, suits_map R w x a.kind a.bytes covers h.2, accesses_map a.kind phase c.pc w x (quad_of a) (changed a) (λ b s. finished i (loaded a b) s c) t u covers r h.3)
-      acts_map (Calls n) i h = pal n h
-
-      pub steps_map : (o : Option AlphaInstr) → Steps o allowed bonus phase spare c w t Moves Pal Next → Steps o allowed bonus' phase spare' c x u Moves' Pal' Next'
-      steps_map None h = absurd h
-      steps_map (Some i) h = acts_map (act i c) i h
+    pub steps_map : (o : Option AlphaInstr) → Steps o allowed bonus phase spare c w t Moves Pal Next → Steps o allowed bonus' phase spare' c x u Moves' Pal' Next'
+    steps_map None h = absurd h
+    steps_map (Some i) h = acts_map (act i c) i h
 
 -- ---- one step on the same tree, with other things owed behind it
 -- an access ends at the next word
@@ -174,7 +166,11 @@ module _ {A T : Type 0} (p : Piece) (Ends : A → Regs → Type 0) (R : Plan A �
   onward most n m le k phase spare spare' c t u room r again (inside i) =
       let some : 0 < spare = i.2 in
       next n phase spare' c u i.0 i.1 (omega arith)
-      (steps_map R more (Runs p Ends m) (J n) again p.terms.bonus bonus (spare - 1) (spare' - 1) earns (omega arith) p.terms.allowed phase c (wants p.terms.kinds t) (head u) t u (covers t u r) r _ _ _ _
+      (steps_map R (Runs p Ends m) (J n) p.terms.bonus bonus (spare - 1) (spare' - 1) t u
+      (λ d v w r'. again Plain (spare - 1 + p.terms.bonus) (spare' - 1 + bonus) d v w (omega arith) r')
+      (λ q found place d. again (Held q found place) (spare - 1) (spare' - 1) d t u (omega arith) r)
+      (λ place d. again (Failed place) (spare - 1 + retry_steps) (spare' - 1 + retry_steps) d t u (omega arith) r)
+      p.terms.allowed phase c (wants p.terms.kinds t) (head u) (covers t u r) _ _ _ _
       (λ d w. (w.0, w.1, again (phase_after phase c.pc d.pc) (spare - 1) (spare' - 1) d t u (omega arith) r w.2)) (λ _ x. x) (p.fetch c.pc) i.3)
 
   pub onto : (most n m : ℕ) → n ≤ m → n ≤ most → Behind most → (phase : Phase) (spare spare' : ℕ) (c : Alpha) (t : Plan A) (u : T) → spare + more ≤ spare' → R t u → Runs p Ends m phase spare c t → J n phase spare' c u

@@ -7,14 +7,15 @@ use Rattle.alpha_meaning.specs.Pieces.{Phase, Plain, Held}
 use Rattle.exception_records.specs.declared.points.Point.{Point}
 use Rattle.exception_records.specs.declared.rules.CodeRule.TheVariants.{Zero}
 use Rattle.block_law.specs.Placements.{Placement, target}
+use Rattle.block_law.specs.Rounds.{Round}
 use Rattle.block_law.specs.Follows.{call_of, Called, Landed, Follows}
 use Rattle.block_law.proofs.Blocks.{clause_of}
 use Rattle.vt_words.specs.Values.{bit}
 use Rattle.exception_records.specs.Shown.{psw_shown, codes_shown, still_held}
 
 -- make a step where none is spare
-pub no_spare : (p : Placement) (n : ℕ) (phase : Phase) (c : Alpha) (t : Tree) → Follows p (suc n) phase 0 c t → ⊥
-no_spare p n phase c t h = let x = (clause_of p n phase 0 c t h).2 in absurd (omega arith)
+pub no_spare : (p : Placement) (n : ℕ) (phase : Phase) (round : Round) (c : Alpha) (t : Tree) → Follows p (suc n) phase 0 round c t → ⊥
+no_spare p n phase round c t h = let x = (clause_of p n phase 0 round c t h).2 in absurd (omega arith)
 
 -- probe behind a load-locked access
 pub held_call : (q found place : ℕ) (point : Option Point) (t : Tree) (p : Placement) (c : Alpha) (Next : Alpha → Tree → Type 0) → Called (call_of 0x80) point (Held q found place) t p c Next → ⊥

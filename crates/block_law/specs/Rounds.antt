@@ -56,10 +56,10 @@ pub record IsWhole (round : Round) : Type 0 where
 
 -- A step back goes not to the block's first word. It goes behind a failed store, as in a piece; or it ends a round of a
 -- loop, where accesses that count allow more steps.
-abbrev pub Goes : (bonus first : ℕ) → Phase → Round → (pc pc' : ℕ) → Type 0
-Goes bonus first Plain round pc pc' = (first < pc') × (pc' ≤ pc → (0 < bonus) × IsWhole (stepped round))
-Goes bonus first (Held quad found place) round pc pc' = Forth (Held quad found place) first pc pc'
-Goes bonus first (Failed place) round pc pc' = Forth (Failed place) first pc pc'
+abbrev pub MayGo : (bonus first : ℕ) → Phase → Round → (pc pc' : ℕ) → Type 0
+MayGo bonus first Plain round pc pc' = (first < pc') × (pc' ≤ pc → (0 < bonus) × IsWhole (stepped round))
+MayGo bonus first (Held quad found place) round pc pc' = Forth (Held quad found place) first pc pc'
+MayGo bonus first (Failed place) round pc pc' = Forth (Failed place) first pc pc'
 
 -- a loop's step back begins a round
 abbrev pub round_after : Phase → Round → (pc pc' : ℕ) → Round
