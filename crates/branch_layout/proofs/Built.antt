@@ -17,7 +17,7 @@ use Rattle.exception_records.specs.Points.{Entry, WordsRise, point_at}
 use Rattle.address_map.proofs.Lookups.{find_at, find_none}
 use Rattle.block_law.specs.Blocks.{IsBlockOf}
 use Rattle.block_law.specs.Translations.{fetch_of}
-use Rattle.branch_layout.specs.Layouts.{Placed, AreBlocks, words_of, shifted, IsFilled}
+use Rattle.branch_layout.specs.Layouts.{Placed, IsPlaced, AreBlocks, words_of, shifted, IsFilled}
 use Rattle.branch_layout.proofs.Filling.{has_by, has_same, All_at, some_same}
 use Rattle.branch_layout.proofs.Places.{size}
 
@@ -89,8 +89,8 @@ shifted_length : (first : ℕ) (points : List Entry) → length (shifted first p
 shifted_length first points = length-map points (λ (entry : Entry). (first + entry.0, entry.1))
 
 -- the points of a block are at its words
-pub points_within : (address : ℕ) (block : BlockValue) → IsBlockOf address block → All (λ entry. entry.0 < length block.words) block.points
-points_within address block of k d lt =
+pub points_within : (loops : Bool) (address : ℕ) (block : BlockValue) → IsBlockOf loops address block → All (λ entry. entry.0 < length block.words) block.points
+points_within loops address block of k d lt =
     let entry = get_or block.points k d in
     let found = find_at (λ (p : Entry). p.0) block.points k entry.0 d of.points_rise lt refl in
     (of.points entry.0 entry.1 (ap (option_map (λ (p : Entry). p.1)) found)).within
@@ -195,7 +195,8 @@ pub built_more : (blocks : List Placed) (pairs : List Pair) (count : ℕ) (words
     → IsFilled pairs (length words) block.1 instrs → AreBuilt blocks pairs (count + 1) (words ++ map word_of instrs) (points ++ shifted (length words) block.1.points)
 built_more blocks pairs count words points block instrs are at up filled =
     let size_is = up.size in
-    let of = All_at (λ block. IsBlockOf block.0 block.1) blocks count block are at in
+    let own = All_at IsPlaced blocks count block are at in
+    let of = own.1 in
     let like_count = filled.like.count in
     let sum = length-append words (map word_of instrs) in
     let count_more = length-map instrs word_of in
@@ -203,7 +204,7 @@ built_more blocks pairs count words points block instrs are at up filled =
     let all : words_of (take (count + 1) blocks) ≡ words_of (take count blocks) + size block = rw (← get_or_from_slice_get blocks count block block at) (sum_by_more size blocks count block within) in
     record {
       size = omega arith;
-      under = under_more (length words) (length (words ++ map word_of instrs)) (length block.1.words) points block.1.points (omega arith) up.under (points_within block.0 block.1 of);
+      under = under_more (length words) (length (words ++ map word_of instrs)) (length block.1.words) points block.1.points (omega arith) up.under (points_within own.0 block.0 block.1 of);
       rise = rise_more (length words) points block.1.points up.under up.rise of.points_rise;
       set = λ place b lt here. by (nat_lt place count) place refl b lt here;
     }

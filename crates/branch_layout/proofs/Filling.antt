@@ -127,7 +127,7 @@ not_of (f ∷ exits) (suc n) exit word e outside = not_of exits n exit word e (o
     or_second true b e = cc
     or_second false b e = e
 
-module _ (pairs : List Pair) (first address : ℕ) (block : BlockValue) (of : IsBlockOf address block) where
+module _ (pairs : List Pair) (first : ℕ) (loops : Bool) (address : ℕ) (block : BlockValue) (of : IsBlockOf loops address block) where
   abbrev code : Exit → List AlphaInstr
   code exit = exit_code (word_at pairs exit.1) (first + exit.0) exit.1
 

@@ -9,18 +9,18 @@ use Rattle.address_map.specs.Pairs.{Pair, AllRise, word_at, address_at}
 use Rattle.exception_records.specs.Points.{Entry, point_at}
 use Rattle.exception_records.specs.declared.points.Point.{Point}
 use Rattle.exception_records.specs.declared.rules.Rules.{Rules}
-use Rattle.block_law.specs.Blocks.{Exit, IsExitOf, IsBlockOf, Stands, RulesAt}
+use Rattle.block_law.specs.Blocks.{Exit, IsExitOf, Stands, RulesAt}
 use Rattle.block_law.specs.Follows.{LeadsTo}
 use Rattle.block_law.specs.Translations.{Meaning, Code, fetch_of, end_of, placed, most_words}
 use Rattle.branch_layout.specs.Exits.{is_near, code_to, exit_code}
-use Rattle.branch_layout.specs.Layouts.{Placed, AddressesRise, AreBlocks, IsLayout, places, words_of}
+use Rattle.branch_layout.specs.Layouts.{Placed, IsPlaced, AddressesRise, AreBlocks, IsLayout, places, words_of}
 use Rattle.branch_layout.proofs.Places.{size, places_rise, mapped, starts, placed_of, behind, alone, words_below, words_few}
 use Rattle.branch_layout.proofs.Filling.{has_by, has_each, All_at, some_same}
 use Rattle.branch_layout.proofs.Built.{IsSet, AreBuilt}
 use Rattle.branch_layout.proofs.Leads.{near_leads, far_leads, none_leads}
 
 pub all_few : (blocks : List Placed) → AreBlocks blocks → length blocks ≤ 32768 → words_of blocks ≤ most_words
-all_few blocks are few = let count = words_few blocks (λ k d lt. (are k d lt).tidy.few) in omega arith
+all_few blocks are few = let count = words_few blocks (λ k d lt. (are k d lt).1.tidy.few) in omega arith
 
 -- there is room for the next block
 pub room_for : (blocks : List Placed) (pairs : List Pair) (count first : ℕ) (words : List ℕ) (points : List Entry) (block : Placed) → AreBlocks blocks → length blocks ≤ 32768 → pairs ≡ places 0 blocks → slice_get blocks count ≡ Some block
@@ -48,11 +48,11 @@ module _ (blocks : List Placed) (are : AreBlocks blocks) (rising : AddressesRise
   abbrev code : Code
   code = record { words = words; map = places 0 blocks; points = points }
 
-  own : (place : ℕ) (block : Placed) → slice_get blocks place ≡ Some block → IsBlockOf block.0 block.1
-  own place block at = All_at (λ block. IsBlockOf block.0 block.1) blocks place block are at
+  own : (place : ℕ) (block : Placed) → slice_get blocks place ≡ Some block → IsPlaced block
+  own place block at = All_at IsPlaced blocks place block are at
 
   rise : AllRise (places 0 blocks)
-  rise = places_rise 0 blocks rising (λ place block at. (own place block at).tidy.some)
+  rise = places_rise 0 blocks rising (λ place block at. (own place block at).1.tidy.some)
 
   total : length words ≡ words_of blocks
   total = built.size ∙ ap words_of (take_all (length blocks) blocks (le_refl _))
@@ -65,7 +65,7 @@ module _ (blocks : List Placed) (are : AreBlocks blocks) (rising : AddressesRise
 
   end_is : (place : ℕ) (block : Placed) → slice_get blocks place ≡ Some block → end_of code (words_of (take place blocks)) ≡ words_of (take place blocks) + size block
   end_is place block at =
-      behind 0 blocks place block (words_of (take place blocks)) (length words) (omega arith) (total ∙ sym (zero-add (words_of blocks))) at ((own place block at).tidy.some)
+      behind 0 blocks place block (words_of (take place blocks)) (length words) (omega arith) (total ∙ sym (zero-add (words_of blocks))) at ((own place block at).1.tidy.some)
 
   alone_in : (place : ℕ) (block : Placed) (word : ℕ) → slice_get blocks place ≡ Some block → words_of (take place blocks) < word → word < words_of (take place blocks) + size block → address_at (places 0 blocks) word ≡ None
   alone_in place block word at low high = alone 0 blocks place block word at (omega arith) (omega arith)
@@ -108,7 +108,7 @@ module _ (blocks : List Placed) (are : AreBlocks blocks) (rising : AddressesRise
   is_target : (address target : ℕ) → word_at (places 0 blocks) address ≡ Some target → IsTarget address target
   is_target address target e =
       let h = placed_of 0 blocks address target e in
-      let of = own h.place h.block h.is in
+      let of = (own h.place h.block h.is).1 in
       let some = of.tidy.some in
       let here : target ≡ words_of (take h.place blocks) = h.first ∙ zero-add (words_of (take h.place blocks)) in
       let room = words_below blocks h.place h.block h.is in
@@ -130,7 +130,7 @@ module _ (blocks : List Placed) (are : AreBlocks blocks) (rising : AddressesRise
         word = words_of (take place blocks) + exit.0
 
         in_block : (exit.0 + 3 ≤ size block) × (exit.1 < 2 ^ 32)
-        in_block = All_at (IsExitOf block.1) block.1.exits exit_place exit (own place block at).exits exit_at
+        in_block = All_at (IsExitOf block.1) block.1.exits exit_place exit (own place block at).1.exits exit_at
 
         high : word + 3 ≤ end_of code (words_of (take place blocks))
         high = let room = in_block.0 in let end = end_is place block at in omega arith

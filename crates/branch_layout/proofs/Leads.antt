@@ -68,38 +68,38 @@ put_in_form regs n value low high form =
 module _ (p : Placement) (word address : ℕ) (rules : Rules) (low : p.first ≤ word) (high : word + 3 ≤ p.end) (alone : (k : ℕ) → word < k → k < word + 3 → p.stops k ≡ None) where
   module _ (target : ℕ) (point : Point) (word_small : word < 2 ^ 23) (target_small : target < 2 ^ 23) (stops : p.stops target ≡ Some address) (has : p.points target ≡ Some point) (same : point.rules ≡ rules) where
     pub near_leads : HasAt p.fetch word (code_to true word target) → LeadsTo p word address rules 3
-    near_leads at n spare regs room form =
-        lands p (at_place regs word) (at_place regs target) (Branch Br 31 (displacement word target)) (state_behind p regs address rules) address point
+    near_leads at n spare round regs room form =
+        lands p None (at_place regs word) (at_place regs target) (Branch Br 31 (displacement word target)) (state_behind p regs address rules) address point
         (record { is = at.0; low = low; high = omega arith })
-        (rw (branch_target word target (omega arith) (omega arith)) refl) stops has form (rw same refl) n spare (omega arith)
+        (rw (branch_target word target (omega arith) (omega arith)) refl) stops has form (rw same refl) n spare round (omega arith)
 
     pub far_leads : HasAt p.fetch word (code_to false word target) → LeadsTo p word address rules 3
-    far_leads at n spare regs room form =
+    far_leads at n spare round regs room form =
         let high_part = address_of Ldah (regs 31) (high_half (4 * target)) in
         let one = put regs 27 high_part in
         let both = put one 27 (loaded (regs 31) (4 * target)) in
         let is : loaded (regs 31) (4 * target) ≡ 4 * target = (loaded_is (regs 31) (4 * target) form.zero (omega arith)).1 (omega arith) in
         let jump : loaded (regs 31) (4 * target) / 4 % 2 ^ 32 ≡ target = omega arith in
-        goes p 2 (at_place regs word) (at_place one (word + 1)) (load_high 27 (4 * target)) (Ends (Finish (state_behind p regs address rules)))
+        goes p None 2 (at_place regs word) (at_place one (word + 1)) (load_high 27 (4 * target)) (Ends (Finish (state_behind p regs address rules)))
         (record { is = at.0; low = low; high = omega arith }) refl (omega arith) (alone (word + 1) (omega arith) (omega arith))
-        (goes p 1 (at_place one (word + 1)) (at_place both (word + 1 + 1)) (load_low 27 (4 * target)) (Ends (Finish (state_behind p regs address rules)))
+        (goes p None 1 (at_place one (word + 1)) (at_place both (word + 1 + 1)) (load_low 27 (4 * target)) (Ends (Finish (state_behind p regs address rules)))
         (record { is = at.1.0; low = omega arith; high = omega arith }) refl (omega arith) (alone (word + 1 + 1) (omega arith) (omega arith))
-        (lands p (at_place both (word + 1 + 1)) (at_place both target) (Jump 31 27) (state_behind p regs address rules) address point
+        (lands p None (at_place both (word + 1 + 1)) (at_place both target) (Jump 31 27) (state_behind p regs address rules) address point
         (record { is = at.1.1.0; low = omega arith; high = omega arith })
         (ap (λ pc. Goes (at_place both pc)) jump) stops has
         (put_in_form one 27 (loaded (regs 31) (4 * target)) (omega arith) (omega arith) (put_in_form regs 27 high_part (omega arith) (omega arith) form)) (rw same refl)))
-        n spare room
+        n spare round room
 
   pub none_leads : rules ≡ all_ready → address < 2 ^ 32 → p.maps address ≡ None → HasAt p.fetch word (exit_code None word address) → LeadsTo p word address rules 3
-  none_leads ready small unmapped at n spare regs room form =
+  none_leads ready small unmapped at n spare round regs room form =
       let high_part = address_of Ldah (regs 31) (high_half address) in
       let one = put regs 26 high_part in
       let both = put one 26 (loaded (regs 31) address) in
       let is : loaded (regs 31) address % 2 ^ 32 ≡ address = (loaded_is (regs 31) address form.zero small).0 in
-      goes p 2 (at_place regs word) (at_place one (word + 1)) (load_high 26 address) (Ends (Finish (state_behind p regs address rules)))
+      goes p None 2 (at_place regs word) (at_place one (word + 1)) (load_high 26 address) (Ends (Finish (state_behind p regs address rules)))
       (record { is = at.0; low = low; high = omega arith }) refl (omega arith) (alone (word + 1) (omega arith) (omega arith))
-      (goes p 1 (at_place one (word + 1)) (at_place both (word + 1 + 1)) (load_low 26 address) (Ends (Finish (state_behind p regs address rules)))
+      (goes p None 1 (at_place one (word + 1)) (at_place both (word + 1 + 1)) (load_low 26 address) (Ends (Finish (state_behind p regs address rules)))
       (record { is = at.1.0; low = omega arith; high = omega arith }) refl (omega arith) (alone (word + 1 + 1) (omega arith) (omega arith))
-      (switches p (state_behind p regs address rules) (at_place both (word + 1 + 1)) (record { is = at.1.1.0; low = omega arith; high = omega arith })
+      (switches p None (state_behind p regs address rules) (at_place both (word + 1 + 1)) (record { is = at.1.1.0; low = omega arith; high = omega arith })
       (put_in_form one 26 (loaded (regs 31) address) (omega arith) (omega arith) (put_in_form regs 26 high_part (omega arith) (omega arith) form)) (rw (ready, is) refl) (rw is unmapped)))
-      n spare room
+      n spare round room

@@ -1,5 +1,5 @@
 -- Blocks in their places, one behind the other.
-use Rattle.std.specs.Prelude.{◌≡◌, ℕ, ◌<◌, ◌≤◌, ◌+◌, All, List, [], ◌∷◌, length, map, slice_get, sum_by, Some}
+use Rattle.std.specs.Prelude.{◌≡◌, ℕ, ◌<◌, ◌≤◌, ◌+◌, All, Bool, List, [], ◌∷◌, length, map, slice_get, sum_by, Some}
 use Rattle.std.specs.List.{AllAdjacentBelow}
 use Rattle.alpha_encode.specs.Words.{IsEncodable}
 use Rattle.alpha_encode.specs.declared.instr.AlphaInstr.{AlphaInstr}
@@ -19,9 +19,13 @@ Placed = ℕ × BlockValue
 abbrev pub AddressesRise : List Placed → Type 0
 AddressesRise blocks = AllAdjacentBelow (λ b c. b.0 < c.0) blocks (length blocks)
 
--- each is the block of its instruction
+-- the block is its instruction's, with a loop or without
+abbrev pub IsPlaced : Placed → Type 0
+IsPlaced block = (loops : Bool) × IsBlockOf loops block.0 block.1
+
+-- each is
 abbrev pub AreBlocks : List Placed → Type 0
-AreBlocks blocks = All (λ block. IsBlockOf block.0 block.1) blocks
+AreBlocks blocks = All IsPlaced blocks
 
 -- each address with the first word of its block, which stands behind the one before
 abbrev pub places : (first : ℕ) → List Placed → List Pair

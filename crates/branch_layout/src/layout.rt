@@ -2,9 +2,9 @@
 ghost use Rattle.std.specs.Prelude.{◌≡◌, ◌<◌, ◌≤◌, ◌+◌, ◌++◌, ◌^◌, ℕ, All, length, map, slice_get, take, drop, IfOk, IfSome, OnOk};
 ghost use Rattle.alpha_encode.specs.Words.{IsEncodable, word_of};
 ghost use Rattle.address_map.specs.Pairs.{word_at};
-ghost use Rattle.block_law.specs.Blocks.{IsBlockOf};
+ghost use Rattle.block_law.specs.Tidy.{block_words};
 ghost use Rattle.block_law.specs.Translations.{Code, most_words};
-ghost use Rattle.branch_layout.specs.Layouts.{AddressesRise, AreBlocks, IsFilled, IsLayout, places, shifted};
+ghost use Rattle.branch_layout.specs.Layouts.{AddressesRise, AreBlocks, IsFilled, IsLayout, IsPlaced, places, shifted};
 
 use crate::exits::{EXIT_WORDS, exit_code};
 use address_map::{AddressMap, build};
@@ -16,7 +16,7 @@ use vax_form::WantOfMemory;
 /// Each address with the first word of its block.
 fn places(alloc: Global, blocks: &[(u32, Block)]) -> Result<Vec<(u32, u32)>, AllocError>
     requires few { length blocks.now ≤ 32768 }
-    requires sizes { All (λ block. length block.1.words ≤ 256) blocks.now }
+    requires sizes { All (λ block. length block.1.words ≤ block_words) blocks.now }
     ensures { IfOk result (λ pairs. pairs.items ≡ places 0 blocks.now) }
 {
     let mut places = Vec::new(alloc);
@@ -45,7 +45,7 @@ fn filled(
 ) -> Result<Vec<AlphaInstr>, AllocError>
     requires within { first + length block.now.words ≤ most_words }
     requires targets { (address : ℕ) → IfSome (word_at map.now address) (λ target. target ≤ most_words) }
-    requires block { (address : ℕ) × IsBlockOf address block.now }
+    requires block { (address : ℕ) × IsPlaced (address, block.now) }
     ensures { IfOk result (λ words. IsFilled map.now first block.now words.items) }
 {
     let mut words = block.words.clone()?;

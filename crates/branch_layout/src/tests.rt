@@ -34,7 +34,7 @@ const NOTHING: Point = Point {
 
 /// One word, and an exit behind it.
 fn block(alloc: Global, vax_pc: u32, target: u32) -> Result<Block, AllocError>
-    ensures { IfOk result (IsBlockOf vax_pc) }
+    ensures { IfOk result (IsBlockOf false vax_pc) }
 {
     let point = Point { vax_pc, ..NOTHING };
     Ok(Block {
@@ -44,12 +44,24 @@ fn block(alloc: Global, vax_pc: u32, target: u32) -> Result<Block, AllocError>
     })
 }
 
+/// An exit alone: its first word has the point.
+fn exit_alone(alloc: Global, vax_pc: u32, target: u32) -> Result<Block, AllocError>
+    ensures { IfOk result (IsBlockOf false vax_pc) }
+{
+    let point = Point { vax_pc, ..NOTHING };
+    Ok(Block {
+        words: vec![in alloc; IDLE, IDLE, IDLE]?,
+        exits: vec![in alloc; (0, target)]?,
+        points: vec![in alloc; (0, point)]?,
+    })
+}
+
 #[test]
 fn lays_out_three_blocks(rt: HostRuntime) -> Result<(), Fail> {
     let alloc = rt.alloc();
     let blocks = [
         (0x200, block(alloc, 0x200, 0x207)?),
-        (0x207, block(alloc, 0x207, 0x200)?),
+        (0x207, exit_alone(alloc, 0x207, 0x200)?),
         (0x20D, block(alloc, 0x20D, 0x1_8000)?),
     ];
     let (words, map, points) = lay_out(alloc, &blocks).ok().ok_or("want of memory")?;
@@ -59,9 +71,8 @@ fn lays_out_three_blocks(rt: HostRuntime) -> Result<(), Fail> {
         0xC3E0_0002,
         0x47FF_041F,
         0x47FF_041F,
-        // BR six words back
-        0x47FF_041F,
-        0xC3FF_FFFA,
+        // BR five words back
+        0xC3FF_FFFB,
         0x47FF_041F,
         0x47FF_041F,
         // LDAH R26,2(R31); LDA R26,-32768(R26); CALL_PAL 86
@@ -73,7 +84,7 @@ fn lays_out_three_blocks(rt: HostRuntime) -> Result<(), Fail> {
     assert_eq!(rt; words.as_slice(), wanted.as_slice());
     assert_eq!(rt;
         map.as_slice(),
-        [(0x200, 0), (0x207, 4), (0x20D, 8)].as_slice()
+        [(0x200, 0), (0x207, 4), (0x20D, 7)].as_slice()
     );
     for ((word, point), pair) in points.iter().zip(map.iter()) {
         assert_eq!(rt; (point.vax_pc, *word), *pair);

@@ -1,7 +1,7 @@
 use Rattle.std.proofs.Common.{◌≡◌, ◌<◌, ◌^◌, length, arith, rules, refl, ap, ◌∙◌}
 use Rattle.std.proofs.lemmas.Option.{slice_get_read}
 use Rattle.exception_records.specs.Blocks.{BlockValue}
-use Rattle.block_law.specs.Blocks.{IsBlockOf}
+use Rattle.branch_layout.specs.Layouts.{IsPlaced}
 use Rattle.branch_layout.proofs.Filling.{All_at}
 use Rattle.branch_layout.proofs.Built.{built_next, points_within}
 use Rattle.branch_layout.proofs.Laid.{room_for, targets_few, is_laid}
@@ -29,6 +29,13 @@ filled-requires-clause-within c =
 pub filled-requires-clause-targets : goal.filled-requires-clause-targets
 filled-requires-clause-targets c = rw c.requires.places (targets_few c.args.blocks.now c.requires.blocks c.requires.few)
 
+pub filled-requires-clause-block : goal.filled-requires-clause-block
+filled-requires-clause-block c =
+    let bs = c.args.blocks.now in
+    let b = c.loop-block-item.result in
+    let at = slice_get_read bs (length bs) c.loop-block.block-index b refl c.loop-block-test.true c.loop-block-item.is in
+    (b.0, All_at IsPlaced bs c.loop-block.block-index b c.requires.blocks at)
+
 pub append_points-requires : goal.append_points-requires
 append_points-requires c =
     let bs = c.args.blocks.now in
@@ -37,7 +44,7 @@ append_points-requires c =
     let first : c.len-first.result ≡ length c.loop-block.words.items = search rules in
     let room = room_for bs c.args.map.now c.loop-block.block-index c.len-first.result c.loop-block.words.items c.loop-block.points.items b c.requires.blocks c.requires.few c.requires.places at c.loop-block.invariant first in
     let points : c.as_slice-in-loop-block.result.now ≡ b.1.points = c.as_slice-in-loop-block.ensures.value ∙ ap (λ (v : BlockValue). v.points) c.block.view_is in
-    rw points (λ j d lt. let inside = points_within b.0 b.1 (All_at (λ block. IsBlockOf block.0 block.1) bs c.loop-block.block-index b c.requires.blocks at) j d lt in omega arith)
+    rw points (λ j d lt. let inside = let own = All_at IsPlaced bs c.loop-block.block-index b c.requires.blocks at in points_within own.0 b.0 b.1 own.1 j d lt in omega arith)
 
 pub loop-block-preserved : goal.loop-block-preserved
 loop-block-preserved c =

@@ -9,7 +9,7 @@ loop-word-preserved c =
     let exits : c.deref-word-items.result.now ≡ c.args.block.now.exits = c.deref-word-items.ensures.value ∙ ap (λ (b : BlockValue). b.exits) c.block.view_is in
     let words = c.loop-word.words.items in
     let count : c.loop-word.words.len ≡ length words = search rules in
-    let more = filled_more c.args.map.now c.args.first c.requires.block.0 c.args.block.now c.requires.block.1 c.deref-word-items.result.now c.loop-word.word-index words c.deref_mut.result.now c.fill.new.words c.exit_code-code.result exits
+    let more = filled_more c.args.map.now c.args.first c.requires.block.1.0 c.requires.block.0 c.args.block.now c.requires.block.1.1 c.deref-word-items.result.now c.loop-word.word-index words c.deref_mut.result.now c.fill.new.words c.exit_code-code.result exits
     c.loop-word-test.true c.deref_mut.ensures.value c.exit_code-code.ensures c.fill.ensures c.loop-word.invariant
     in
     rw (written_back c.loop-word.words.len c.fill.new.words words count more.0) more.1

@@ -26,7 +26,7 @@ its_point : (address target word : ℕ) (point p : Point) → point.vax_pc ≡ a
 its_point address target zero point p its done e = let same : point ≡ p = cc in subst (λ (q : Point). IsPointOf address (one_exit point target) 0 q) same (record { within = lit< tt; no_exit = refl; its = its; done = done })
 its_point address target (suc word) point p its done e = let other : eqb 0 (suc word) ≡ false = ne_eqb 0 (suc word) (λ same. absurd (omega arith)) in let none = rw other at e in absurd (cc)
 
-has_one_exit : (address target : ℕ) (point : Point) → target < 2 ^ 32 → point.vax_pc ≡ address → point.done ≡ 0 → IsBlockOf address (one_exit point target)
+has_one_exit : (address target : ℕ) (point : Point) → target < 2 ^ 32 → point.vax_pc ≡ address → point.done ≡ 0 → IsBlockOf false address (one_exit point target)
 has_one_exit address target point small its done = record {
   tidy = record { some = lit≤ tt; few = lit≤ tt; keeps = refl; translated = refl };
   encodable = All_by IsEncodable (idle ∷ idle ∷ idle ∷ idle ∷ []) (λ k i e. subst IsEncodable (idle_is k i e) (lit< tt, lit< tt, lit< tt));

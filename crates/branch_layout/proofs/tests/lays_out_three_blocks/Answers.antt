@@ -1,6 +1,5 @@
-use Rattle.std.proofs.Common.{ℕ, zero, suc, ◌<◌, arith, [], ◌∷◌, get_or}
-use Rattle.branch_layout.specs.Layouts.{Placed}
-use Rattle.block_law.specs.Blocks.{IsBlockOf}
+use Rattle.std.proofs.Common.{ℕ, false, zero, suc, ◌<◌, arith, [], ◌∷◌, get_or}
+use Rattle.branch_layout.specs.Layouts.{Placed, IsPlaced}
 use Rattle.branch_layout.proofs.tests.lays_out_three_blocks.Goals as goal
 
 three : (P : Placed → Type 0) (x y z : Placed) → P x → P y → P z → (k : ℕ) (d : Placed) → k < 3 → P (get_or (x ∷ y ∷ z ∷ []) k d)
@@ -10,4 +9,4 @@ three P x y z px py pz (suc (suc zero)) d lt = pz
 three P x y z px py pz (suc (suc (suc k))) d lt = absurd (omega arith)
 
 pub lay_out-requires-clause-blocks : goal.lay_out-requires-clause-blocks
-lay_out-requires-clause-blocks g c k d lt = three (λ block. IsBlockOf block.0 block.1) (512, c.in_ok-block.field-0) (519, c.in_ok-block-2.field-0) (525, c.in_ok-block-3.field-0) c.in_ok-block.ensures c.in_ok-block-2.ensures c.in_ok-block-3.ensures k d lt
+lay_out-requires-clause-blocks g c k d lt = three IsPlaced (512, c.in_ok-block.field-0) (519, c.in_ok-exit_alone.field-0) (525, c.in_ok-block-2.field-0) (false, c.in_ok-block.ensures) (false, c.in_ok-exit_alone.ensures) (false, c.in_ok-block-2.ensures) k d lt
