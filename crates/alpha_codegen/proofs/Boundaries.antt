@@ -110,7 +110,10 @@ carry_is psw u n z v false e = ap (λ x. x == 1) (even psw u (bit n) (bit z) (bi
     even psw u n z v e = omega arith
 
 -- ---- the state behind an instruction
-module _ (p : Placement) (address after : ℕ) (held : Flags) (state : VaxState) (regs : Regs) (shows : Shows regs address all_ready held state) where
+module _ (p : Placement) (address after : ℕ) (held : Flags) (regs : Regs) (shows : Shows regs address all_ready held p.begun) where
+  abbrev state : VaxState
+  state = p.begun
+
   pub r_shown : state.r ≡ registers_shown regs
   r_shown = ap (λ (s : VaxState). s.r) shows
 

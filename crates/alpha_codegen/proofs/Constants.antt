@@ -64,8 +64,8 @@ module _ (p : Placement) (to : ℕ) where
   -- ---- constants
   pub halves_set : (need pc r v : ℕ) (mark : Option Point) (rest : List Line) (regs : Regs) (t : Tree) → (r == 31) ≡ false → v < 2 ^ 32 → regs 31 ≡ 0
       → Within p to pc (halves mark r v ++ rest)
-      → ((g : Regs) → Only (λ m. m == r) regs g → g r % 2 ^ 32 ≡ v → Within p to (pc + 1 + 1) rest → Always p need (at_place g (pc + 1 + 1)) t)
-      → Always p (need + 1 + 1) (at_place regs pc) t
+      → ((g : Regs) → Only (λ m. m == r) regs g → g r % 2 ^ 32 ≡ v → Within p to (pc + 1 + 1) rest → Always p None need (at_place g (pc + 1 + 1)) t)
+      → Always p None (need + 1 + 1) (at_place regs pc) t
   halves_set need pc r v mark rest regs t real lt zero_reads w behind =
       let first : Line = record { instr = Memory Ldah r 31 (high_half v); point = mark } in
       let second : Line = record { instr = Memory Lda r r (low_half v); point = None } in
@@ -82,8 +82,8 @@ module _ (p : Placement) (to : ℕ) where
 
   pub longword_set : (need pc r v : ℕ) (mark : Option Point) (rest : List Line) (regs : Regs) (t : Tree) → (r == 31) ≡ false → v < 2 ^ 32 → regs 31 ≡ 0
       → Within p to pc (longword mark r v ++ rest)
-      → ((g : Regs) → Sets r (sign_extended v 32) regs g → Within p to (pc + 1 + 1 + 1) rest → Always p need (at_place g (pc + 1 + 1 + 1)) t)
-      → Always p (need + 1 + 1 + 1) (at_place regs pc) t
+      → ((g : Regs) → Sets r (sign_extended v 32) regs g → Within p to (pc + 1 + 1 + 1) rest → Always p None need (at_place g (pc + 1 + 1 + 1)) t)
+      → Always p None (need + 1 + 1 + 1) (at_place regs pc) t
   longword_set need pc r v mark rest regs t real lt zero_reads w behind =
       let last : Line = record { instr = Operate Addl 31 (seconds.Register r) r; point = None } in
       halves_set (need + 1) pc r v mark (last ∷ rest) regs t real lt zero_reads w
@@ -95,8 +95,8 @@ module _ (p : Placement) (to : ℕ) where
 
   pub place_set : (need pc r v : ℕ) (mark : Option Point) (rest : List Line) (regs : Regs) (t : Tree) → (r == 31) ≡ false → v < 2 ^ 32 → regs 31 ≡ 0
       → Within p to pc (place mark r v ++ rest)
-      → ((g : Regs) → Sets r v regs g → Within p to (pc + 1 + 1 + 1) rest → Always p need (at_place g (pc + 1 + 1 + 1)) t)
-      → Always p (need + 1 + 1 + 1) (at_place regs pc) t
+      → ((g : Regs) → Sets r v regs g → Within p to (pc + 1 + 1 + 1) rest → Always p None need (at_place g (pc + 1 + 1 + 1)) t)
+      → Always p None (need + 1 + 1 + 1) (at_place regs pc) t
   place_set need pc r v mark rest regs t real lt zero_reads w behind =
       let last : Line = record { instr = Operate Zapnot r (Literal 15) r; point = None } in
       halves_set (need + 1) pc r v mark (last ∷ rest) regs t real lt zero_reads w

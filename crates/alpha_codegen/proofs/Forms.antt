@@ -1,5 +1,5 @@
 -- From what a callee ensures where it succeeds, and what a block promises by what it does.
-use Rattle.std.proofs.Common.{◌≡◌, ℕ, ◌^◌, ◌<◌, arith, Result, Ok, Err}
+use Rattle.std.proofs.Common.{◌≡◌, ℕ, ◌^◌, ◌<◌, arith, false, Result, Ok, Err}
 use Rattle.std.specs.Prelude.{All, IfOk}
 use Rattle.exception_records.specs.Codes.{all_ready}
 use Rattle.exception_records.specs.Points.{Entry}
@@ -15,7 +15,7 @@ pub if_ok_then : {A E : Type 0} (r : Result A E) (P Q : A → Type 0) → ((a : 
 if_ok_then (Ok a) P Q f h = f a h
 if_ok_then (Err e) P Q f h = h
 
-pub shaped : (address after : ℕ) (work : Work) → FitsWork work → after < 2 ^ 32 → IsBlockOf address (block_of (lines_of address after work) after)
+pub shaped : (address after : ℕ) (work : Work) → FitsWork work → after < 2 ^ 32 → IsBlockOf false address (block_of (lines_of address after work) after)
 shaped address after (Move s d) fits lt = move_block address after s d lt fits.0 fits.1
 shaped address after (Serve code) fits lt = service_block address after code lt (omega arith)
 

@@ -10,7 +10,7 @@ use Rattle.alpha_encode.specs.declared.instr.Second.TheVariants as seconds
 use Rattle.alpha_encode.specs.declared.instr.Second.TheVariants.{Literal}
 use Rattle.exception_records.specs.Points.{point_at}
 use Rattle.exception_records.specs.declared.points.Point.{Point}
-use Rattle.block_law.specs.Tidy.{IsTidy, is_kept, keeps_until_faults}
+use Rattle.block_law.specs.Tidy.{IsTidy, is_kept, may_fault, keeps_until}
 use Rattle.block_law.specs.Blocks.{IsBlockOf}
 use Rattle.alpha_codegen.specs.declared.lines.Line.{Line}
 use Rattle.alpha_codegen.specs.declared.works.Source.{Source}
@@ -24,27 +24,27 @@ use Rattle.alpha_codegen.specs.HasBlock.{FitsSource, FitsDestination}
 use Rattle.alpha_codegen.proofs.Shapes.{IsPoint, EachLine, each_append, block_stands}
 
 -- ---- tidy
-move_tidy : (at : ℕ) (s : Source) (d : Destination) → IsTidy (words_of (move_lines at s d) ++ quiet_words)
+move_tidy : (at : ℕ) (s : Source) (d : Destination) → IsTidy false (words_of (move_lines at s d) ++ quiet_words)
 move_tidy at (Constant v) (destinations.Register n) = record { some = lit≤ tt; few = lit≤ tt; keeps = by (is_kept n) refl; translated = refl }
   where
-    by : (b : Bool) → is_kept n ≡ b → keeps_until_faults (words_of (move_lines at (Constant v) (destinations.Register n)) ++ quiet_words) ≡ true
+    by : (b : Bool) → is_kept n ≡ b → keeps_until may_fault (words_of (move_lines at (Constant v) (destinations.Register n)) ++ quiet_words) ≡ true
     by true e = rw e refl
     by false e = rw e refl
 move_tidy at (sources.Register m) (destinations.Register n) = record { some = lit≤ tt; few = lit≤ tt; keeps = by (is_kept n) refl; translated = refl }
   where
-    by : (b : Bool) → is_kept n ≡ b → keeps_until_faults (words_of (move_lines at (sources.Register m) (destinations.Register n)) ++ quiet_words) ≡ true
+    by : (b : Bool) → is_kept n ≡ b → keeps_until may_fault (words_of (move_lines at (sources.Register m) (destinations.Register n)) ++ quiet_words) ≡ true
     by true e = rw e refl
     by false e = rw e refl
 move_tidy at (sources.Longword a) (destinations.Register n) = record { some = lit≤ tt; few = lit≤ tt; keeps = by (is_kept n) refl; translated = refl }
   where
-    by : (b : Bool) → is_kept n ≡ b → keeps_until_faults (words_of (move_lines at (sources.Longword a) (destinations.Register n)) ++ quiet_words) ≡ true
+    by : (b : Bool) → is_kept n ≡ b → keeps_until may_fault (words_of (move_lines at (sources.Longword a) (destinations.Register n)) ++ quiet_words) ≡ true
     by true e = rw e refl
     by false e = rw e refl
 move_tidy at (Constant v) (destinations.Longword b) = record { some = lit≤ tt; few = lit≤ tt; keeps = refl; translated = refl }
 move_tidy at (sources.Register m) (destinations.Longword b) = record { some = lit≤ tt; few = lit≤ tt; keeps = refl; translated = refl }
 move_tidy at (sources.Longword a) (destinations.Longword b) = record { some = lit≤ tt; few = lit≤ tt; keeps = refl; translated = refl }
 
-service_tidy : (at after code : ℕ) → IsTidy (words_of (service_lines at after code) ++ quiet_words)
+service_tidy : (at after code : ℕ) → IsTidy false (words_of (service_lines at after code) ++ quiet_words)
 service_tidy at after code = record { some = lit≤ tt; few = lit≤ tt; keeps = refl; translated = refl }
 
 -- ---- encodings and points
@@ -118,8 +118,8 @@ module _ (address : ℕ) where
   first_marked (sources.Register n) d = refl
   first_marked (sources.Longword a) d = refl
 
-  pub move_block : (after : ℕ) (s : Source) (d : Destination) → after < 2 ^ 32 → FitsSource s → FitsDestination d → IsBlockOf address (block_of (move_lines address s d) after)
+  pub move_block : (after : ℕ) (s : Source) (d : Destination) → after < 2 ^ 32 → FitsSource s → FitsDestination d → IsBlockOf false address (block_of (move_lines address s d) after)
   move_block after s d lt fits fits' = block_stands address after (move_lines address s d) (move_tidy address s d) (move_each s d fits fits') lt (point_of address false) (first_marked s d)
 
-  pub service_block : (after code : ℕ) → after < 2 ^ 32 → code < 2 ^ 15 → IsBlockOf address (block_of (service_lines address after code) after)
+  pub service_block : (after code : ℕ) → after < 2 ^ 32 → code < 2 ^ 15 → IsBlockOf false address (block_of (service_lines address after code) after)
   service_block after code lt small = block_stands address after (service_lines address after code) (service_tidy address after code) (service_each after code small) lt (point_of address false) refl

@@ -15,7 +15,7 @@ use Rattle.block_law.specs.Blocks.{IsBlockOf, IsExitOf, IsPointOf, is_exit_word,
 use Rattle.alpha_codegen.specs.declared.lines.Line.{Line}
 use Rattle.alpha_codegen.specs.Words.{words_of, quiet, quiet_words, with_point, points_from, block_of}
 use Rattle.alpha_codegen.proofs.Known.{some_same}
-use Rattle.alpha_codegen.proofs.Standing.{word_at_line, words_length, no_exit}
+use Rattle.alpha_codegen.proofs.Standing.{word_at_line, words_length, not_past}
 
 -- ---- lines one by one
 abbrev pub IsPoint : (address : ℕ) → AlphaInstr → Option Point → Type 0
@@ -117,7 +117,7 @@ rules_ready address (l ∷ lines) each w = by (rules_ready address lines each.2 
 
 -- ---- a block
 module _ (address after : ℕ) (lines : List Line) where
-  pub block_stands : IsTidy (words_of lines ++ quiet_words) → EachLine address lines → after < 2 ^ 32 → (first : Point) → point_at (points_from 0 lines) 0 ≡ Some first → IsBlockOf address (block_of lines after)
+  pub block_stands : IsTidy false (words_of lines ++ quiet_words) → EachLine address lines → after < 2 ^ 32 → (first : Point) → point_at (points_from 0 lines) 0 ≡ Some first → IsBlockOf false address (block_of lines after)
   block_stands tidy each fits first has = record {
     tidy = tidy;
     encodable = encoded address lines each;
@@ -138,7 +138,7 @@ module _ (address after : ℕ) (lines : List Line) where
           let its = subst (IsPoint address x.line.instr) x.its (each_at address lines word x.line each is) in
           let count = words_length lines in record {
             within = omega arith;
-            no_exit = no_exit lines after word lt;
+            no_exit = not_past lines after word lt;
             its = its.0;
             done = its.1 ∙ ap done_at (sym (word_at_line lines quiet_words word x.line is));
           }

@@ -11,7 +11,7 @@ use Rattle.exception_records.specs.Points.{point_at}
 use Rattle.exception_records.specs.declared.points.Point.{Point}
 use Rattle.block_law.specs.Placements.{Placement}
 use Rattle.block_law.specs.Translations.{Meaning, Code, placed}
-use Rattle.block_law.specs.Blocks.{is_exit_word, Stands}
+use Rattle.block_law.specs.Blocks.{is_exit_word, is_past_exit, Stands}
 use Rattle.alpha_codegen.specs.declared.lines.Line.{Line}
 use Rattle.alpha_codegen.specs.Words.{words_of, quiet_words, with_point, points_from, block_of}
 use Rattle.alpha_codegen.proofs.Known.{some_same}
@@ -35,6 +35,10 @@ words_length (l ∷ lines) = let e = words_length lines in omega arith
 -- a line's word is none of the exit's
 pub no_exit : (lines : List Line) (after k : ℕ) → k < length lines → is_exit_word ((length lines, after) ∷ []) k ≡ false
 no_exit lines after k lt = let e : nat_le (length lines) k ≡ false = grind (arith, nat_tests) in rw e refl
+
+-- nor behind its first
+pub not_past : (lines : List Line) (after k : ℕ) → k < length lines → is_past_exit ((length lines, after) ∷ []) k ≡ false
+not_past lines after k lt = let e : nat_le (length lines) k ≡ false = grind (arith, nat_tests) in rw e refl
 
 -- ---- points
 not_before : (lines : List Line) (word w : ℕ) → word < w → point_at (points_from w lines) word ≡ None

@@ -15,13 +15,12 @@ use Rattle.alpha_encode.specs.declared.instr.AlphaInstr.TheVariants.{Memory}
 use Rattle.alpha_encode.specs.declared.instr.MemoryOp.TheVariants.{Ldl, Stl}
 use Rattle.alpha_meaning.specs.declared.access.AlphaKind.TheVariants.{Load, Store}
 use Rattle.alpha_meaning.specs.State.{Alpha, Regs, put, at_place}
-use Rattle.alpha_meaning.specs.Act.{Does, Goes, Asks, act}
-use Rattle.alpha_meaning.specs.Pieces.{Plain, Acts, Steps, Forth, Only}
-use Rattle.block_law.specs.References.{wants}
-use Rattle.block_law.specs.Placements.{Placement, terms_of}
-use Rattle.block_law.specs.Follows.{Called, call_of, Lands, Onward, Follows}
-use Rattle.block_law.proofs.Blocks.{no_steps, begin}
-use Rattle.block_law.proofs.Rules.{Always, IsAt, goes}
+use Rattle.alpha_meaning.specs.Act.{Goes, Asks, act}
+use Rattle.alpha_meaning.specs.Pieces.{Plain, Only}
+use Rattle.block_law.specs.Placements.{Placement}
+use Rattle.block_law.specs.Rounds.{round_behind}
+use Rattle.block_law.proofs.Blocks.{no_steps}
+use Rattle.block_law.proofs.Rules.{Always, IsAt, goes, stepping}
 use Rattle.alpha_codegen.specs.declared.lines.Line.{Line}
 
 -- ---- lines in their place
@@ -65,9 +64,9 @@ module _ (p : Placement) (to : ℕ) where
   -- ---- one register is written
   pub sets_one : (need pc n value : ℕ) (regs : Regs) (line : Line) (lines : List Line) (t : Tree) → Within p to pc (line ∷ lines)
       → act line.instr (at_place regs pc) ≡ Goes (at_place (put regs n value) (pc + 1)) → (n == 31) ≡ false
-      → ((g : Regs) → Sets n value regs g → Always p need (at_place g (pc + 1)) t) → Always p (need + 1) (at_place regs pc) t
+      → ((g : Regs) → Sets n value regs g → Always p None need (at_place g (pc + 1)) t) → Always p None (need + 1) (at_place regs pc) t
   sets_one need pc n value regs line lines t w acts real rest =
-      goes p need (at_place regs pc) (at_place (put regs n value) (pc + 1)) line.instr t (stands pc line lines w) acts (omega arith) (onward pc line lines w)
+      goes p None need (at_place regs pc) (at_place (put regs n value) (pc + 1)) line.instr t (stands pc line lines w) acts (omega arith) (onward pc line lines w)
       (rest (put regs n value) (put_sets regs n value real))
 
 -- ---- pages
@@ -87,40 +86,24 @@ quad_allowed pages write address e = by_page pages (address / 8 * 8) address wri
 
 -- ---- LDL and STL of a longword at a multiple of 4
 module _ (p : Placement) where
-  -- one access, from what its instruction asks
-  accesses : (n spare : ℕ) (c : Alpha) (t : Tree) (i : AlphaInstr) (does : Does) → IsAt p c.pc i → act i c ≡ does → 0 < spare
-      → Acts does i (terms_of p) Plain (spare - 1) c (wants t) t (λ d. Lands (p.stops d.pc) (p.points d.pc) Plain t p d.regs (Forth Plain p.first c.pc d.pc × Follows p n Plain (spare - 1) d t))
-      (λ number. Called (call_of number) (p.points c.pc) Plain t p c (λ d u. Onward p (Follows p n) Plain (spare - 1) d u)) (Onward p (Follows p n))
-      → Follows p (suc n) Plain spare c t
-  accesses n spare c t i does at acts some h =
-      begin p n Plain spare c t (
-        at.low,
-        at.high,
-        some,
-        subst (λ o. Steps o (terms_of p) Plain (spare - 1) c (wants t) t (λ d. Lands (p.stops d.pc) (p.points d.pc) Plain t p d.regs (Forth Plain p.first c.pc d.pc × Follows p n Plain (spare - 1) d t))
-            (λ number. Called (call_of number) (p.points c.pc) Plain t p c (λ d u. Onward p (Follows p n) Plain (spare - 1) d u)) (Onward p (Follows p n))) (sym at.is)
-            (subst (λ does. Acts does i (terms_of p) Plain (spare - 1) c (wants t) t (λ d. Lands (p.stops d.pc) (p.points d.pc) Plain t p d.regs (Forth Plain p.first c.pc d.pc × Follows p n Plain (spare - 1) d t))
-            (λ number. Called (call_of number) (p.points c.pc) Plain t p c (λ d u. Onward p (Follows p n) Plain (spare - 1) d u)) (Onward p (Follows p n))) (sym acts) h),
-      )
-
   pub loads : (need address ra rb : ℕ) (c : Alpha) (on : ℕ → Tree) → IsAt p c.pc (Memory Ldl ra rb (pos 0)) → p.stops (c.pc + 1) ≡ None
-      → c.regs rb ≡ address → address < 2 ^ 32 → address % 4 ≡ 0 → is_allowed p.pages (address / 8 * 8) false ≡ true → p.kinds Load 4 ≡ true
-      → ((value : ℕ) → value < 2 ^ 32 → Always p need (at_place (put c.regs ra (sign_extended value 32)) (c.pc + 1)) (on value))
-      → Always p (need + 1) c (Ask (record { address = address; count = 4; kind = Read }) on)
-  loads need address ra rb c on at inside is fits aligned may kind rest zero spare room = no_steps p Plain spare c _
-  loads need address ra rb c on at inside is fits aligned may kind rest (suc n) spare room =
+      → c.regs rb ≡ address → address < 2 ^ 32 → address % 4 ≡ 0 → is_allowed p.pages (address / 8 * 8) false ≡ true → p.kinds (record { address = address; count = 4; kind = Read }) Load 4 ≡ true
+      → ((value : ℕ) → value < 2 ^ 32 → Always p None need (at_place (put c.regs ra (sign_extended value 32)) (c.pc + 1)) (on value))
+      → Always p None (need + 1) c (Ask (record { address = address; count = 4; kind = Read }) on)
+  loads need address ra rb c on at inside is fits aligned may kind rest zero spare round room = no_steps p Plain spare round c _
+  loads need address ra rb c on at inside is fits aligned may kind rest (suc n) spare round room =
       let sum : (address + 0) % 2 ^ 64 ≡ address = omega arith in
-      accesses n spare c (Ask (record { address = address; count = 4; kind = Read }) on) (Memory Ldl ra rb (pos 0)) (Asks (record { kind = Load; address = address; bytes = 4; value = 0 }))
+      stepping p None n spare round c (Ask (record { address = address; count = 4; kind = Read }) on) (Memory Ldl ra rb (pos 0)) (Asks (record { kind = Load; address = address; bytes = 4; value = 0 }))
       at (rw (is, sum) refl) (omega arith)
-      (aligned, may, kind, (refl, λ before lt fit. (refl, (inside, rest (field_of before (address % 8) 4) (mod_below (before / 2 ^ (8 * (address % 8))) (2 ^ 32) (pow_pos 32)) n (spare - 1 + p.bonus) (omega arith)))))
+      (aligned, may, kind, (refl, λ before lt fit. (refl, (inside, rest (field_of before (address % 8) 4) (mod_below (before / 2 ^ (8 * (address % 8))) (2 ^ 32) (pow_pos 32)) n (spare - 1 + p.bonus) (round_behind Plain (Ask (record { address = address; count = 4; kind = Read }) on) round) (omega arith)))))
 
   pub saves : (need address value ra rb : ℕ) (c : Alpha) (on : ℕ → Tree) → IsAt p c.pc (Memory Stl ra rb (pos 0)) → p.stops (c.pc + 1) ≡ None
-      → c.regs rb ≡ address → address < 2 ^ 32 → address % 4 ≡ 0 → c.regs ra % 2 ^ 32 ≡ value → is_allowed p.pages (address / 8 * 8) true ≡ true → p.kinds Store 4 ≡ true
-      → Always p need (at_place c.regs (c.pc + 1)) (on 0)
-      → Always p (need + 1) c (Ask (record { address = address; count = 4; kind = Write value }) on)
-  saves need address value ra rb c on at inside is fits aligned low may kind rest zero spare room = no_steps p Plain spare c _
-  saves need address value ra rb c on at inside is fits aligned low may kind rest (suc n) spare room =
+      → c.regs rb ≡ address → address < 2 ^ 32 → address % 4 ≡ 0 → c.regs ra % 2 ^ 32 ≡ value → is_allowed p.pages (address / 8 * 8) true ≡ true → p.kinds (record { address = address; count = 4; kind = Write value }) Store 4 ≡ true
+      → Always p None need (at_place c.regs (c.pc + 1)) (on 0)
+      → Always p None (need + 1) c (Ask (record { address = address; count = 4; kind = Write value }) on)
+  saves need address value ra rb c on at inside is fits aligned low may kind rest zero spare round room = no_steps p Plain spare round c _
+  saves need address value ra rb c on at inside is fits aligned low may kind rest (suc n) spare round room =
       let sum : (address + 0) % 2 ^ 64 ≡ address = omega arith in
-      accesses n spare c (Ask (record { address = address; count = 4; kind = Write value }) on) (Memory Stl ra rb (pos 0)) (Asks (record { kind = Store; address = address; bytes = 4; value = value }))
+      stepping p None n spare round c (Ask (record { address = address; count = 4; kind = Write value }) on) (Memory Stl ra rb (pos 0)) (Asks (record { kind = Store; address = address; bytes = 4; value = value }))
       at (rw (is, sum, low) refl) (omega arith)
-      (aligned, may, kind, (refl, λ before lt fit. (refl, (inside, rest n (spare - 1 + p.bonus) (omega arith)))))
+      (aligned, may, kind, (refl, λ before lt fit. (refl, (inside, rest n (spare - 1 + p.bonus) (round_behind Plain (Ask (record { address = address; count = 4; kind = Write value }) on) round) (omega arith)))))

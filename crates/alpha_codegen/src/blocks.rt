@@ -1,5 +1,5 @@
 // The block of an instruction.
-ghost use Rattle.std.specs.Prelude.{◌≡◌, ◌<◌, ◌^◌, All, IfOk, true};
+ghost use Rattle.std.specs.Prelude.{◌≡◌, ◌<◌, ◌^◌, All, IfOk, false, true};
 ghost use Rattle.exception_records.specs.Codes.{all_ready};
 ghost use Rattle.block_law.specs.Blocks.{IsBlockOf};
 ghost use Rattle.alpha_codegen.specs.HasBlock.{has_block, work_of};
@@ -58,7 +58,7 @@ fn block_in(alloc: Global, at: u32, after: u32, work: Work) -> Result<Block, All
 pub fn block(alloc: Global, instr: &Instr) -> Result<Block, WantOfMemory>
     requires { has_block instr.now ≡ true }
     // It has 1 to 256 words, which have encodings, and writes nothing that a boundary shows before its last fault.
-    ensures shape { IfOk result (λ block. IsBlockOf instr.now.at block) }
+    ensures shape { IfOk result (λ block. IsBlockOf false instr.now.at block) }
     // Its exits lead behind the instruction.
     ensures exits { IfOk result (λ block. All (λ exit. exit.1 ≡ instr.now.after) block.exits) }
     // All codes are ready at its words.

@@ -1,5 +1,5 @@
 //! Words worked out by hand from the formats of the Alpha Architecture Reference Manual.
-ghost use Rattle.std.specs.Prelude.{◌^◌, ◌<◌, IfOk};
+ghost use Rattle.std.specs.Prelude.{◌^◌, ◌<◌, IfOk, false};
 ghost use Rattle.block_law.specs.Blocks.{IsBlockOf};
 
 use super::*;

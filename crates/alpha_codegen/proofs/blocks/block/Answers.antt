@@ -1,4 +1,4 @@
-use Rattle.std.proofs.Common.{◌≡◌, sym, subst, rules}
+use Rattle.std.proofs.Common.{◌≡◌, false, sym, subst, rules}
 use Rattle.std.specs.Prelude.{All}
 use Rattle.exception_records.specs.Blocks.{BlockValue}
 use Rattle.exception_records.specs.Codes.{all_ready}
@@ -14,8 +14,8 @@ use Rattle.alpha_codegen.proofs.blocks.block.Goals as goal
 pub returns-clause-shape : goal.returns-clause-shape
 returns-clause-shape c =
     let i = c.args.instr.now in let work = c.in-Some.work in
-    if_ok_then c.map_err.result (λ (b : BlockValue). b ≡ block_of (lines_of i.at i.after work) i.after) (λ b. IsBlockOf i.at b)
-    (λ b e. subst (λ (b : BlockValue). IsBlockOf i.at b) (sym e) (shaped i.at i.after work c.in-Some.ensures.fits c.block_in.ensures.fits)) (search rules)
+    if_ok_then c.map_err.result (λ (b : BlockValue). b ≡ block_of (lines_of i.at i.after work) i.after) (λ b. IsBlockOf false i.at b)
+    (λ b e. subst (λ (b : BlockValue). IsBlockOf false i.at b) (sym e) (shaped i.at i.after work c.in-Some.ensures.fits c.block_in.ensures.fits)) (search rules)
 
 pub returns-clause-rules : goal.returns-clause-rules
 returns-clause-rules c =
