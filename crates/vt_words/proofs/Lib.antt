@@ -3,3 +3,4 @@ pub mod Laws
 pub mod Fields
 pub mod Joined
 pub mod Shifting
+pub mod Extended

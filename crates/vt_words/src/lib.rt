@@ -6,6 +6,7 @@ mod arithmetic;
 mod bits;
 mod bytes;
 mod conversion;
+mod extensions;
 mod values;
 
 pub use arithmetic::{Coded, add, divide, mul, negate, sub, with_signs};
@@ -15,4 +16,5 @@ pub use bytes::{
     sign_extend, spread, with_field,
 };
 pub use conversion::{convert, extended_product, is_negative};
+pub use extensions::{extension_laws, quadword_laws};
 pub use values::{limit, signed, wrapped};
