@@ -190,28 +190,46 @@ fn programs_that_fit(rt: HostRuntime) {
     }
 }
 
+/// The sources of an instruction that keeps the codes.
+fn kept() -> CodeSources {
+    CodeSources {
+        nzv: CodeSource::Kept,
+        c: CodeSource::Kept,
+    }
+}
+
 #[test]
 fn programs_that_do_not_fit(rt: HostRuntime) {
-    let codes = CodeSources {
-        nzv: CodeSource::Result(Size::Long),
-        c: CodeSource::Zero,
-    };
-    for (name, text) in MISFITS {
+    for (name, nzv, c, text) in MISFITS {
+        let codes = CodeSources { nzv, c };
         assert!(rt; !fits(codes, &program(&rt, rt.alloc(), text)), "{name}");
     }
-    assert!(rt; !fits(codes, &[]));
+    assert!(rt; !fits(kept(), &[]));
+}
+
+/// How many words have room, and what is left out for the words that make the codes.
+#[test]
+fn words_of_programs(rt: HostRuntime) {
     let write =
         "Move l 0 R1 t0; Move l 1 R2 t0; Probe 0 8 w; Write 0 8 1; Probe 0 8 w; Write 0 8 1; Probe 0 8 w; Write 0 8 1; Probe 0 8 w; Write 0 8 1; Probe 0 8 w; Write 0 8 1; Probe 0 8 w; Write 0 8 1; Probe 0 8 w; Write 0 8 1; Leave Next";
     let seven = program(&rt, rt.alloc(), write);
-    assert!(rt; fits(codes, &seven));
-    assert_eq!(rt; program_words(codes, &seven), 184);
+    assert!(rt; fits(kept(), &seven));
+    assert_eq!(rt; program_words(kept(), &seven), 184);
+    let result = CodeSources {
+        nzv: CodeSource::Result(Size::Long),
+        c: CodeSource::Kept,
+    };
     let computed = CodeSources {
         nzv: CodeSource::Computed(Size::Long),
         c: CodeSource::Kept,
     };
-    let high = program(&rt, rt.alloc(), "Move b 8 #0 t0; Codes 8 8 8 -; Leave Next");
-    assert!(rt; fits(codes, &high) && !fits(computed, &high));
+    let high = program(
+        &rt,
+        rt.alloc(),
+        "Move l 0 R1 t0; Move l 2 t0 t0; Move b 3 #0 t0; Move b 8 #0 t0; Codes 8 8 8 -; Leave Next",
+    );
+    assert!(rt; fits(result, &high) && !fits(computed, &high));
     let first = Micro::Refuse { when: 0 };
     assert_eq!(rt; words_of(first), 2);
-    assert!(rt; !is_left_out(codes, first, &seven));
+    assert!(rt; !is_left_out(result, first, &seven));
 }

@@ -12,12 +12,13 @@ use Rattle.vax_form.specs.declared.state.VaxState.{VaxState}
 use Rattle.vax_meaning.specs.Evaluation.{evaluated_row, operands_from, find, obtain, read_found}
 use Rattle.vax_meaning.specs.Operands.{locate}
 use Rattle.vax_meaning.specs.Instructions.{tree_for, operation_script, body}
-use Rattle.micro_ops.specs.Fits.{fits, has_any, each_below, is_exit, is_in_range, keeps_low, reads_written, is_lost, reads_kept, is_longword, has_longword_place, temp_fits, has_apart_temps, faults_first, reads_flags_first, commits_last, sets_once, leaves_last, leaves_apart, operation_fits, each_fits}
+use Rattle.micro_ops.specs.Fits.{fits, step}
 use Rattle.micro_ops.specs.Meaning.{Left, departed, denote}
 use Rattle.micro_ops.specs.Values.{value_from}
 use Rattle.micro_ops.specs.declared.codes.CodeSources.{CodeSources}
 use Rattle.micro_ops.specs.declared.program.Micro.{Micro}
-use Rattle.micro_lower.specs.Lowering.{sources_of, service, Lowers}
+use Rattle.micro_ops.specs.Sources.{sources_of}
+use Rattle.micro_lower.specs.Lowering.{service, Lowers}
 use Rattle.micro_ops.specs.Leaving.{CodesComeFrom}
 use Rattle.micro_lower.specs.Programs.{no_operation_program, breakpoint_program, branch_program, branch_if_program, subroutine_program, return_program}
 use Rattle.micro_lower.proofs.Spelled.{with_operands}
@@ -54,7 +55,7 @@ unfolding operation_script operands_from evaluated_row operands_of find obtain r
 no_operation_does at opcode count after is state pages thread ok = rw is (record { signs = (refl, refl, refl); carry = refl }, refl)
 
 pub no_operation_fits : fits (sources_of operations.NoOperation) no_operation_program ≡ true
-unfolding sources_of has_any each_below is_exit is_in_range keeps_low reads_written is_lost reads_kept is_longword has_longword_place temp_fits has_apart_temps faults_first reads_flags_first commits_last sets_once leaves_last leaves_apart operation_fits each_fits
+unfolding sources_of step
 no_operation_fits = refl
 
 pub breakpoint_does : (at opcode count after : ℕ) → operation_at opcode ≡ Some operations.Breakpoint
@@ -63,7 +64,7 @@ unfolding operation_script operands_from evaluated_row operands_of find obtain r
 breakpoint_does at opcode count after is state pages thread ok = rw is refl
 
 pub breakpoint_fits : fits (sources_of operations.Breakpoint) breakpoint_program ≡ true
-unfolding sources_of has_any each_below is_exit is_in_range keeps_low reads_written is_lost reads_kept is_longword has_longword_place temp_fits has_apart_temps faults_first reads_flags_first commits_last sets_once leaves_last leaves_apart operation_fits each_fits
+unfolding sources_of step
 breakpoint_fits = refl
 
 pub branch_does : (at opcode count after target : ℕ) (width : Width) → operation_at opcode ≡ Some (operations.Branch width)
@@ -72,7 +73,7 @@ unfolding operation_script operands_from evaluated_row operands_of find obtain r
 branch_does at opcode count after target width is state pages thread ok = rw is (record { signs = (refl, refl, refl); carry = refl }, refl)
 
 pub branch_fits : (width : Width) (target : ℕ) → fits (sources_of (operations.Branch width)) (branch_program target) ≡ true
-unfolding sources_of has_any each_below is_exit is_in_range keeps_low reads_written is_lost reads_kept is_longword has_longword_place temp_fits has_apart_temps faults_first reads_flags_first commits_last sets_once leaves_last leaves_apart operation_fits each_fits
+unfolding sources_of step
 branch_fits width target = refl
 
 bit_cases : (x : ℕ) → (x % 2 ≡ 0) ⊎ (x % 2 ≡ 1)
@@ -127,7 +128,7 @@ branch_if_does CarrySet at opcode count after target is state pages thread ok =
     rw (is, whole state.psw) (elim (bit_cases state.psw) [ inl c ↦ rw c (record { signs = (refl, refl, refl); carry = refl }, refl) | inr c ↦ rw c (record { signs = (refl, refl, refl); carry = refl }, refl) ])
 
 pub branch_if_fits : (condition : Condition) (target after : ℕ) → fits (sources_of (operations.BranchIf condition)) (branch_if_program condition target after) ≡ true
-unfolding sources_of has_any each_below is_exit is_in_range keeps_low reads_written is_lost reads_kept is_longword has_longword_place temp_fits has_apart_temps faults_first reads_flags_first commits_last sets_once leaves_last leaves_apart operation_fits each_fits
+unfolding sources_of step
 branch_if_fits NotEqual target after = refl
 branch_if_fits Equal target after = refl
 branch_if_fits Greater target after = refl
@@ -151,7 +152,7 @@ subroutine_does at opcode count after target width within is state pages thread 
     rw (is, low, same) (refl, refl, refl, writes_agree (CodesComeFrom (sources_of (operations.BranchToSubroutine width)) state) _ pages _ 4 after state _ _ (lit< tt) (record { signs = (refl, refl, refl); carry = refl }, rw wrap refl))
 
 pub subroutine_fits : (width : Width) (target after : ℕ) → fits (sources_of (operations.BranchToSubroutine width)) (subroutine_program target after) ≡ true
-unfolding sources_of has_any each_below is_exit is_in_range keeps_low reads_written is_lost reads_kept is_longword has_longword_place temp_fits has_apart_temps faults_first reads_flags_first commits_last sets_once leaves_last leaves_apart operation_fits each_fits
+unfolding sources_of step
 subroutine_fits width target after = refl
 
 pub return_does : (at opcode count after : ℕ) → operation_at opcode ≡ Some operations.ReturnFromSubroutine
@@ -163,5 +164,5 @@ return_does at opcode count after is state pages thread ok =
     rw (is, low) (refl, refl, refl, reads_agree (CodesComeFrom (sources_of operations.ReturnFromSubroutine) state) _ pages _ 4 state _ _ (lit< tt) (λ value below. (record { signs = (refl, refl, refl); carry = refl }, rw wrap refl)))
 
 pub return_fits : fits (sources_of operations.ReturnFromSubroutine) return_program ≡ true
-unfolding sources_of has_any each_below is_exit is_in_range keeps_low reads_written is_lost reads_kept is_longword has_longword_place temp_fits has_apart_temps faults_first reads_flags_first commits_last sets_once leaves_last leaves_apart operation_fits each_fits
+unfolding sources_of step
 return_fits = refl

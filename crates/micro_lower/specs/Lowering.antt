@@ -1,17 +1,10 @@
 -- What a lowered program has to meet: it does what the instruction does, the temporaries hold what its condition codes
 -- come from where it leaves, and it fits a block.
--- VAX Architecture Reference Manual, "Instruction Descriptions": the line of condition codes of each instruction.
 use Rattle.std.specs.Prelude.{◌≡◌, ℕ, true, List}
-use Rattle.vax_form.specs.Size.{size_of}
 use Rattle.vax_form.specs.State.{IsState}
 use Rattle.vax_form.specs.Tree.{Tree, instruction_tree, Same}
 use Rattle.vax_form.specs.declared.instr.Instr.{Instr}
-use Rattle.vax_form.specs.declared.instr.Size.{Size}
-use Rattle.vax_form.specs.declared.instr.Size.TheVariants.{Word, Long, Quad}
-use Rattle.vax_form.specs.declared.operation.BinaryOperation.{BinaryOperation}
-use Rattle.vax_form.specs.declared.operation.BinaryOperation.TheVariants as binary
 use Rattle.vax_form.specs.declared.operation.Operation.{Operation}
-use Rattle.vax_form.specs.declared.operation.Operation.TheVariants as operations
 use Rattle.vax_form.specs.declared.pages.Pages.{Pages}
 use Rattle.vax_form.specs.declared.state.VaxState.{VaxState}
 use Rattle.vax_meaning.specs.Control.{serve}
@@ -19,53 +12,10 @@ use Rattle.vax_meaning.specs.Instructions.{tree_for}
 use Rattle.micro_ops.specs.Fits.{fits}
 use Rattle.micro_ops.specs.Leaving.{CodesAgree}
 use Rattle.micro_ops.specs.Meaning.{program_tree}
-use Rattle.micro_ops.specs.declared.codes.CodeSource.{CodeSource}
-use Rattle.micro_ops.specs.declared.codes.CodeSource.TheVariants.{Kept, Zero, Result, Add, Sub, Compare, Computed, Psw}
+use Rattle.micro_ops.specs.Sources.{sources_of}
 use Rattle.micro_ops.specs.declared.codes.CodeSources.{CodeSources}
 use Rattle.micro_ops.specs.declared.program.Micro.{Micro}
 
--- ---- where the codes of each operation come from
-abbrev pub from : (nzv c : CodeSource) → CodeSources
-from nzv c = record { nzv = nzv; c = c }
-
-abbrev pub sources_of_binary : BinaryOperation → Size → CodeSources
-sources_of_binary binary.Add size = from (Add size) (Add size)
-sources_of_binary binary.Subtract size = from (Sub size) (Sub size)
-sources_of_binary binary.Multiply size = from (Computed size) Zero
-sources_of_binary binary.Divide size = from (Computed size) Zero
-sources_of_binary _ size = from (Result size) Kept
-
-unfoldable pub sources_of : Operation → CodeSources
-sources_of (operations.Move size) = from (Result size) Kept
-sources_of (operations.Clear size) = from (Result size) Kept
-sources_of (operations.MoveAddress size) = from (Result Long) Kept
-sources_of (operations.PushAddress size) = from (Result Long) Kept
-sources_of operations.PushLong = from (Result Long) Kept
-sources_of (operations.MoveZeroExtended source to) = from (Result (size_of to)) Kept
-sources_of (operations.Convert source to) = from (Computed (size_of to)) Zero
-sources_of (operations.MoveComplemented width) = from (Result (size_of width)) Kept
-sources_of (operations.MoveNegated width) = from (Sub (size_of width)) (Sub (size_of width))
-sources_of operations.BitSetPsw = from Psw Psw
-sources_of operations.BitClearPsw = from Psw Psw
-sources_of (operations.Compare width) = from (Compare (size_of width)) (Compare (size_of width))
-sources_of (operations.Test width) = from (Result (size_of width)) Zero
-sources_of (operations.BitTest width) = from (Result (size_of width)) Kept
-sources_of (operations.TwoOperands operation width) = sources_of_binary operation (size_of width)
-sources_of (operations.ThreeOperands operation width) = sources_of_binary operation (size_of width)
-sources_of (operations.Increment width) = from (Add (size_of width)) (Add (size_of width))
-sources_of (operations.Decrement width) = from (Sub (size_of width)) (Sub (size_of width))
-sources_of operations.AddWithCarry = from (Computed Long) (Computed Long)
-sources_of operations.SubtractWithCarry = from (Computed Long) (Computed Long)
-sources_of operations.AddAlignedWord = from (Add Word) (Add Word)
-sources_of operations.ExtendedMultiply = from (Result Quad) Zero
-sources_of operations.ArithmeticShift = from (Computed Long) Zero
-sources_of operations.Rotate = from (Result Long) Kept
-sources_of (operations.AddOneBranch or_equal) = from (Computed Long) Kept
-sources_of (operations.SubtractOneBranch or_equal) = from (Computed Long) Kept
-sources_of (operations.AddCompareBranch width) = from (Computed (size_of width)) Kept
-sources_of _ = from Kept Kept
-
--- ---- the whole
 -- what a service does
 abbrev pub service : Pages → (thread : ℕ) → (code : ℕ) → VaxState → Tree
 service pages thread code state = instruction_tree pages (serve code thread) state

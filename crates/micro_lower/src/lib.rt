@@ -3,11 +3,9 @@
 #![tactic(auto)]
 
 mod branches;
-mod sources;
 mod specifiers;
 
 pub use branches::lower_operation;
-pub use sources::sources_of;
 pub use specifiers::{Pointer, Steps, put_place, put_read, put_store};
 
 #[cfg(test)]

@@ -1,4 +1,4 @@
-pub mod Below
 pub mod Lists
 pub mod Parts
 pub mod Tables
+pub mod Walks

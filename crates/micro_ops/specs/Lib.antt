@@ -4,6 +4,8 @@ pub mod Meaning
 pub mod Uses
 pub mod LeftOut
 pub mod WordCounts
+pub mod Known
 pub mod Fits
+pub mod Sources
 pub mod Leaving
 pub mod Laws

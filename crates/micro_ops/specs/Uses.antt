@@ -1,11 +1,11 @@
--- Which temporaries, registers and flags a micro operation reads and writes.
+-- Which temporaries a micro operation reads and writes.
 use Rattle.std.specs.Prelude.{ℕ, ◌==◌, ◌&&◌, ◌||◌, Bool, true, false, not, Option, Some, None, nat_le}
 use Rattle.vax_form.specs.declared.instr.Size.{Size}
 use Rattle.vax_form.specs.declared.instr.Size.TheVariants.{Quad}
 use Rattle.micro_ops.specs.declared.program.Arg.{Arg}
-use Rattle.micro_ops.specs.declared.program.Arg.TheVariants.{Temp, Register, Flag}
+use Rattle.micro_ops.specs.declared.program.Arg.TheVariants.{Temp}
 use Rattle.micro_ops.specs.declared.program.Exit.{Exit}
-use Rattle.micro_ops.specs.declared.program.Exit.TheVariants.{Computed, Choice, Service, Breakpoint}
+use Rattle.micro_ops.specs.declared.program.Exit.TheVariants.{Computed, Choice, Service}
 use Rattle.micro_ops.specs.declared.program.Micro.{Micro}
 use Rattle.micro_ops.specs.declared.program.Micro.TheVariants.{Compute, Probe, Refuse, Read, Write, Locked, Commit, Codes, SetPsw, Leave}
 use Rattle.micro_ops.specs.declared.program.MicroOp.{MicroOp}
@@ -26,14 +26,6 @@ is_select op = false
 abbrev pub is_temp : (temp : ℕ) → Arg → Bool
 is_temp temp (Temp number) = number == temp
 is_temp temp arg = false
-
-abbrev pub is_register : (number : ℕ) → Arg → Bool
-is_register number (Register other) = other == number
-is_register number arg = false
-
-abbrev pub is_flag : Arg → Bool
-is_flag (Flag flag) = true
-is_flag arg = false
 
 -- an argument of the computation is one that passes
 abbrev pub takes : (Arg → Bool) → MicroOp → (a b : Arg) → Bool
@@ -74,60 +66,9 @@ abbrev pub replaces : (temp : ℕ) → Micro → Bool
 replaces temp (Compute to op size a b) = (to == temp) && not (is_select op)
 replaces temp operation = writes temp operation
 
-abbrev pub reads_register : (number : ℕ) → Micro → Bool
-reads_register number (Compute to op size a b) = takes (is_register number) op a b
-reads_register number operation = false
-
-abbrev pub commits : (number : ℕ) → Micro → Bool
-commits number (Commit register from) = register == number
-commits number operation = false
-
-abbrev pub reads_flag : Micro → Bool
-reads_flag (Compute to op size a b) = takes is_flag op a b
-reads_flag operation = false
-
 abbrev pub is_codes : Micro → Bool
 is_codes (Codes n z v c) = true
 is_codes operation = false
-
-abbrev pub is_set_psw : Micro → Bool
-is_set_psw (SetPsw from) = true
-is_set_psw operation = false
-
-abbrev pub is_leave : Micro → Bool
-is_leave (Leave exit) = true
-is_leave operation = false
-
--- what changes the state that is left
-abbrev pub is_change : Micro → Bool
-is_change (Commit register from) = true
-is_change operation = is_codes operation || is_set_psw operation
-
--- what may fault, or makes references
-abbrev pub is_guarded : Micro → Bool
-is_guarded (Probe place count write) = true
-is_guarded (Refuse when) = true
-is_guarded (Read to place count) = true
-is_guarded (Write place count from) = true
-is_guarded (Locked to place kind from) = true
-is_guarded (Leave Breakpoint) = true
-is_guarded operation = false
-
--- a check or a reference
-abbrev pub is_access : Micro → Bool
-is_access (Probe place count write) = true
-is_access (Read to place count) = true
-is_access (Write place count from) = true
-is_access (Locked to place kind from) = true
-is_access operation = false
-
--- its address is in that temporary
-abbrev pub has_place : (temp : ℕ) → Micro → Bool
-has_place temp (Probe place count write) = place == temp
-has_place temp (Read to place count) = place == temp
-has_place temp (Write place count from) = place == temp
-has_place temp (Locked to place kind from) = place == temp
-has_place temp operation = false
 
 abbrev pub is_quad : Size → Bool
 is_quad Quad = true

@@ -1,5 +1,5 @@
 ghost use Rattle.std.specs.Prelude.{◌≡◌};
-ghost use Rattle.micro_ops.specs.Uses.{is_unary, is_select, is_temp, is_register, is_flag, is_code, leaves_through, reads, writes, replaces, reads_register, commits, reads_flag, is_codes, is_set_psw, is_leave, is_change, is_guarded, is_access, has_place, leaves_longword};
+ghost use Rattle.micro_ops.specs.Uses.{is_unary, is_select, is_temp, is_code, leaves_through, reads, writes, replaces, is_codes, leaves_longword};
 
 use crate::program::{Arg, Exit, Micro, MicroOp};
 use vax_form::Size;
@@ -14,7 +14,8 @@ pub fn is_unary(op: MicroOp) -> bool
     )
 }
 
-fn is_select(op: MicroOp) -> bool
+/// Whether an operation may leave its temporary as it was.
+pub fn is_select(op: MicroOp) -> bool
     ensures { result ≡ is_select op }
 {
     matches!(op, MicroOp::SelectNonzero)
@@ -24,18 +25,6 @@ fn is_temp(temp: u8, arg: Arg) -> bool
     ensures { result ≡ is_temp temp arg }
 {
     matches!(arg, Arg::Temp(number) if number == temp)
-}
-
-fn is_register(number: u8, arg: Arg) -> bool
-    ensures { result ≡ is_register number arg }
-{
-    matches!(arg, Arg::Register(other) if other == number)
-}
-
-fn is_flag(arg: Arg) -> bool
-    ensures { result ≡ is_flag arg }
-{
-    matches!(arg, Arg::Flag(_))
 }
 
 /// Whether a code is taken from a temporary.
@@ -95,91 +84,10 @@ pub fn replaces(temp: u8, operation: Micro) -> bool
     }
 }
 
-pub fn reads_register(number: u8, operation: Micro) -> bool
-    ensures { result ≡ reads_register number operation }
-{
-    match operation {
-        Micro::Compute { op, a, b, .. } => {
-            is_register(number, a) || (!is_unary(op) && is_register(number, b))
-        }
-        _ => false,
-    }
-}
-
-pub fn commits(number: u8, operation: Micro) -> bool
-    ensures { result ≡ commits number operation }
-{
-    matches!(operation, Micro::Commit { register, .. } if register == number)
-}
-
-pub fn reads_flag(operation: Micro) -> bool
-    ensures { result ≡ reads_flag operation }
-{
-    match operation {
-        Micro::Compute { op, a, b, .. } => is_flag(a) || (!is_unary(op) && is_flag(b)),
-        _ => false,
-    }
-}
-
 pub fn is_codes(operation: Micro) -> bool
     ensures { result ≡ is_codes operation }
 {
     matches!(operation, Micro::Codes { .. })
-}
-
-pub fn is_set_psw(operation: Micro) -> bool
-    ensures { result ≡ is_set_psw operation }
-{
-    matches!(operation, Micro::SetPsw { .. })
-}
-
-pub fn is_leave(operation: Micro) -> bool
-    ensures { result ≡ is_leave operation }
-{
-    matches!(operation, Micro::Leave(_))
-}
-
-/// Whether the operation changes the state that is left.
-pub fn is_change(operation: Micro) -> bool
-    ensures { result ≡ is_change operation }
-{
-    matches!(
-        operation,
-        Micro::Commit { .. } | Micro::Codes { .. } | Micro::SetPsw { .. }
-    )
-}
-
-/// Whether the operation may fault, or makes references.
-pub fn is_guarded(operation: Micro) -> bool
-    ensures { result ≡ is_guarded operation }
-{
-    match operation {
-        Micro::Refuse { .. } | Micro::Leave(Exit::Breakpoint) => true,
-        _ => is_access(operation),
-    }
-}
-
-/// Whether the operation is a check or a reference.
-pub fn is_access(operation: Micro) -> bool
-    ensures { result ≡ is_access operation }
-{
-    matches!(
-        operation,
-        Micro::Probe { .. } | Micro::Read { .. } | Micro::Write { .. } | Micro::Locked { .. }
-    )
-}
-
-/// Whether the address of a check or a reference is in a temporary.
-pub fn has_place(temp: u8, operation: Micro) -> bool
-    ensures { result ≡ has_place temp operation }
-{
-    match operation {
-        Micro::Probe { place, .. }
-        | Micro::Read { place, .. }
-        | Micro::Write { place, .. }
-        | Micro::Locked { place, .. } => place == temp,
-        _ => false,
-    }
 }
 
 /// Whether what the operation writes is below 2^32.

@@ -1,7 +1,7 @@
 ghost use Rattle.std.specs.Prelude.{◌≡◌};
-ghost use Rattle.micro_lower.specs.Lowering.{from, sources_of_binary, sources_of};
+ghost use Rattle.micro_ops.specs.Sources.{from, sources_of_binary, sources_of};
 
-use micro_ops::{CodeSource, CodeSources};
+use crate::codes::{CodeSource, CodeSources};
 use vax_form::{BinaryOperation, Operation, Size};
 
 fn from(nzv: CodeSource, c: CodeSource) -> CodeSources
@@ -25,7 +25,7 @@ fn of_binary(operation: BinaryOperation, size: Size) -> CodeSources
 }
 
 /// Where an operation's condition codes come from when its program leaves.
-#[tactic(auto, unfolding(crate::specs::Lowering::sources_of))]
+#[tactic(auto, unfolding(crate::specs::Sources::sources_of))]
 pub fn sources_of(operation: Operation) -> CodeSources
     ensures { result ≡ sources_of operation }
 {
