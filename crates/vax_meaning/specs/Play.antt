@@ -2,6 +2,8 @@
 use Rattle.std.specs.Prelude.{◌≡◌, ℕ, List, ◌+◌, ◌<◌, ◌≤◌, length, Result, Ok, Err}
 use Rattle.vax_form.specs.declared.script.Stop.{Stop}
 use Rattle.vax_form.specs.declared.script.Stop.TheVariants.{Wants, Fails}
+use Rattle.vax_form.specs.declared.state.Exception.{Exception}
+use Rattle.vax_form.specs.declared.state.Exception.TheVariants.{Arithmetic}
 use Rattle.vax_form.specs.declared.state.Outcome.{Outcome}
 use Rattle.vax_form.specs.declared.state.Outcome.TheVariants as outcomes
 use Rattle.vax_form.specs.Script.{Script, Moment, run}
@@ -15,11 +17,16 @@ abbrev pub Plays : {A : Type 0} → Script A → Cursor → Result A Stop → Cu
 Plays script old (Ok x) new = run script (view old) ≡ Ok (x, view new)
 Plays script old (Err e) new = run script (view old) ≡ Err (e, new.replies.now)
 
--- how many replies are used at most: what wants one more had fewer
+-- a fault: an arithmetic exception is a trap, with which no script fails
+abbrev pub IsFault : Exception → Type 0
+IsFault (Arithmetic kind) = ⊥
+IsFault _ = Unit {0}
+
+-- how many replies are used at most: what wants one more had fewer, and what fails does so by a fault
 abbrev pub Uses : {A : Type 0} → ℕ → Cursor → Result A Stop → Cursor → Type 0
 Uses most old (Ok x) new = length old.replies.now ≤ length new.replies.now + most
 Uses most old (Err (Wants reference)) new = length old.replies.now < most
-Uses most old (Err (Fails exception)) new = Unit {0}
+Uses most old (Err (Fails exception)) new = IsFault exception
 
 -- an outcome that wants a reference had fewer replies
 abbrev pub Within : ℕ → List ℕ → Outcome → Type 0
