@@ -1,15 +1,13 @@
 -- Numbers and tables that are read are those that were written.
-use Rattle.std.proofs.Common.{◌≡◌, ℕ, zero, suc, ◌+◌, ◌*◌, ◌^◌, ◌<◌, ◌≤◌, List, [], ◌∷◌, ◌++◌, length, get_or, take, drop, refl, sym, ap, ◌∙◌, arith, append_assoc, map}
+use Rattle.std.proofs.Common.{◌≡◌, ℕ, zero, suc, ◌+◌, ◌*◌, ◌^◌, ◌<◌, ◌≤◌, List, [], ◌∷◌, ◌++◌, length, get_or, take, drop, refl, sym, ap, ◌∙◌, arith, append_assoc}
 use Rattle.std.specs.List.{flat_map, AllByRecursion}
 use Rattle.std.specs.Int.{w16, w32, to_le_bytes, from_le_bytes}
 use Rattle.std.proofs.lemmas.Bool.{cases_lt}
 use Rattle.std.proofs.Common.{inl, inr}
-use Rattle.std.proofs.lemmas.List.{take_at, drop_at, length-append, length-take, length-drop, get_or-drop, get_or-take, get_or_past, drop-drop}
+use Rattle.std.proofs.lemmas.List.{take_at, drop_at, length-append, length-take, length-drop, get_or-drop, get_or-take, get_or_past}
 use Rattle.std.proofs.lemmas.Nat.{le_bytes_2, le_bytes_4, from_le_bytes-to_le_bytes_2, from_le_bytes-to_le_bytes_4}
-use Rattle.image_file.specs.declared.image.Start.{Start}
-use Rattle.image_file.specs.declared.rows.Row.{Row}
-use Rattle.image_file.specs.Spelling.{start_bytes, row_bytes}
-use Rattle.image_file.specs.Reading.{half, word, table_in, start_in, row_in}
+use Rattle.image_file.specs.Spelling.{row_bytes}
+use Rattle.image_file.specs.Reading.{half, word, table_in, row_in}
 
 abbrev pub IsBytes : List ℕ → Type 0
 IsBytes bytes = (i : ℕ) → get_or bytes i 0 < 256
@@ -71,22 +69,19 @@ table_all P width read each zero bytes fits = tt
 table_all P width read each (suc count) bytes fits = (each bytes fits, table_all P width read each count (drop width bytes) (IsBytes-drop width bytes fits))
 
 pub table_again : {X : Type 0} (P : X → Type 0) (width : ℕ) (read : List ℕ → X) (write : X → List ℕ)
-    → ((x : X) (rest : List ℕ) → P x → read (write x ++ rest) ≡ x) → ((x : X) → length (write x) ≡ width)
+    → ((x : X) (rest : List ℕ) → P x → read (write x ++ rest) ≡ x) → ((x : X) → P x → length (write x) ≡ width)
     → (xs : List X) (rest : List ℕ) → AllByRecursion P xs → table_in width read (length xs) (flat_map write xs ++ rest) ≡ xs
 table_again P width read write again wide [] rest fits = refl
 table_again P width read write again wide (x ∷ xs) rest fits =
     let whole : flat_map write (x ∷ xs) ++ rest ≡ write x ++ (flat_map write xs ++ rest) = append_assoc (write x) (flat_map write xs) rest in
     ap (table_in width read (suc (length xs))) whole
-    ∙ (λ i. again x (flat_map write xs ++ rest) fits.0 i ∷ table_in width read (length xs) (drop_at (write x) (flat_map write xs ++ rest) width (wide x) i))
+    ∙ (λ i. again x (flat_map write xs ++ rest) fits.0 i ∷ table_in width read (length xs) (drop_at (write x) (flat_map write xs ++ rest) width (wide x fits.0) i))
     ∙ ap (λ ys. x ∷ ys) (table_again P width read write again wide xs rest fits.1)
 
-pub length-written : {X : Type 0} (width : ℕ) (write : X → List ℕ) → ((x : X) → length (write x) ≡ width) → (xs : List X) → length (flat_map write xs) ≡ width * length xs
-length-written width write wide [] = omega arith
-length-written width write wide (x ∷ xs) = omega (arith, length-append (write x) (flat_map write xs), wide x, length-written width write wide xs)
-
-pub start_back : (bytes : List ℕ) → 8 ≤ length bytes → IsBytes bytes → start_bytes (start_in bytes) ≡ take 8 bytes
-start_back bytes long fits =
-    (λ i. word_back bytes (omega arith) fits i ++ word_back (drop 4 bytes) (omega (arith, length-drop 4 bytes)) (IsBytes-drop 4 bytes fits) i) ∙ take_join 4 4 bytes
+pub length-written : {X : Type 0} (P : X → Type 0) (width : ℕ) (write : X → List ℕ) → ((x : X) → P x → length (write x) ≡ width)
+    → (xs : List X) → AllByRecursion P xs → length (flat_map write xs) ≡ width * length xs
+length-written P width write wide [] fits = omega arith
+length-written P width write wide (x ∷ xs) fits = omega (arith, length-append (write x) (flat_map write xs), wide x fits.0, length-written P width write wide xs fits.1)
 
 pub row_back : (bytes : List ℕ) → 16 ≤ length bytes → IsBytes bytes → row_bytes (row_in bytes) ≡ take 16 bytes
 row_back bytes long fits =

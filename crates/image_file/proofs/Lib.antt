@@ -1,11 +1,13 @@
 pub mod TableItems
 pub mod Overlaps
 pub mod Placing
-pub mod Laws
+pub mod ListLaws
 pub mod FieldLaws
+pub mod StartLaws
 pub mod ReadLaws
 pub mod SpelledLaws
 pub mod AgainLaws
 pub mod WriteLaws
 pub mod Found
+pub mod Prefixes
 pub mod PageLaws

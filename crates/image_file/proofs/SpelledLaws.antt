@@ -1,26 +1,27 @@
 -- What is read is spelled so, and is a whole image.
-use Rattle.std.proofs.Common.{◌≡◌, ℕ, zero, suc, ◌+◌, ◌-◌, ◌*◌, ◌^◌, ◌<◌, ◌≤◌, Bool, true, false, List, [], ◌∷◌, ◌++◌, length, get_or, take, drop, refl, sym, ap, subst, ◌∙◌, arith, append_assoc, map}
+use Rattle.std.proofs.Common.{◌≡◌, ℕ, suc, ◌+◌, ◌*◌, ◌^◌, ◌<◌, ◌≤◌, List, [], ◌∷◌, ◌++◌, length, take, drop, refl, sym, ap, subst, ◌∙◌, arith, map}
 use Rattle.std.specs.Prelude.{codes}
-use Rattle.std.specs.List.{flat_map, AllByRecursion, list_all, list_any}
-use Rattle.std.specs.Int.{w16, w32, to_le_bytes, from_le_bytes}
-use Rattle.std.proofs.lemmas.List.{length-append, length-take, length-drop, take_all, drop-drop}
-use Rattle.image_file.specs.declared.limits.TheConstants.{MAGIC, VERSION, HEADER, START_BYTES, ROW_BYTES, ENTRY_BYTES, MOST_THREADS, MOST_SECTIONS, MOST_ENTRIES, MOST_BYTES}
-use Rattle.image_file.specs.declared.image.Start.{Start}
+use Rattle.std.specs.List.{flat_map, list_all, list_any}
+use Rattle.std.specs.Int.{w16, w32, to_le_bytes}
+use Rattle.std.proofs.lemmas.List.{length-drop, take_all}
+use Rattle.image_file.specs.declared.limits.TheConstants.{HEADER, ROW_BYTES, ENTRY_BYTES}
+use Rattle.image_file.specs.Limits.{most_bytes, start_width}
 use Rattle.image_file.specs.declared.rows.Row.{Row}
 use Rattle.image_file.specs.declared.header.Counts.{Counts}
 use Rattle.image_file.specs.Values.{SectionValue, ImageValue}
 use Rattle.image_file.specs.Rows.{is_sound, has_code, first_overlap, total_bytes, stored_bytes}
 use Rattle.image_file.specs.Spelling.{start_bytes, row_bytes, row_of, header_bytes, spelling}
-use Rattle.image_file.specs.Whole.{StartFits, HasRoom, IsLaidOut, IsWhole}
-use Rattle.image_file.specs.Reading.{half, word, tables_end, counts_in, counts_of, start_in, row_in, table_in, threads_in, rows_in, entries_in, sections_in, image_in, image_of}
-use Rattle.image_file.proofs.FieldLaws.{IsBytes, IsBytes-drop, take_join, half_back, word_back, word_fits, length-table, table_back, table_all, start_back, row_back}
-use Rattle.image_file.proofs.ReadLaws.{IsRead, IsHeader, IsLayout, counts_ok, rows_again}
+use Rattle.image_file.specs.Whole.{IsStart, HasRoom, IsLaidOut, IsWhole}
+use Rattle.image_file.specs.Reading.{word, rows_at, tables_end, start_in, row_in, rows_in, sections_in, image_in}
+use Rattle.image_file.proofs.FieldLaws.{IsBytes, IsBytes-drop, take_join, half_back, word_back, word_fits, length-table, table_back, table_all, row_back}
+use Rattle.image_file.proofs.StartLaws.{start_back, is_start}
+use Rattle.image_file.proofs.ReadLaws.{IsRead, IsHeader, counts_ok, rows_again}
 
-header_back : (bytes : List ℕ) (counts : Counts) → IsBytes bytes → IsHeader bytes counts → header_bytes counts.threads counts.sections counts.entries ≡ take 12 bytes
+header_back : (bytes : List ℕ) (counts : Counts) → IsBytes bytes → IsHeader bytes counts → header_bytes counts.version counts.threads counts.sections counts.entries ≡ take 12 bytes
 header_back bytes counts fits header =
     let long : 12 ≤ length bytes = omega (arith, header.tables) in
     let magic : codes "VXIM" ≡ take 4 bytes = ap (to_le_bytes w32) (sym header.magic) ∙ word_back bytes (omega arith) fits in
-    let version : to_le_bytes w16 VERSION ≡ take 2 (drop 4 bytes) = ap (to_le_bytes w16) (sym header.version) ∙ half_back (drop 4 bytes) (omega (arith, length-drop 4 bytes)) (IsBytes-drop 4 bytes fits) in
+    let version : to_le_bytes w16 counts.version ≡ take 2 (drop 4 bytes) = ap (λ (k : Counts). to_le_bytes w16 k.version) (sym header.is) ∙ half_back (drop 4 bytes) (omega (arith, length-drop 4 bytes)) (IsBytes-drop 4 bytes fits) in
     let threads : to_le_bytes w16 counts.threads ≡ take 2 (drop 6 bytes) = ap (λ (k : Counts). to_le_bytes w16 k.threads) (sym header.is) ∙ half_back (drop 6 bytes) (omega (arith, length-drop 6 bytes)) (IsBytes-drop 6 bytes fits) in
     let sections : to_le_bytes w16 counts.sections ≡ take 2 (drop 8 bytes) = ap (λ (k : Counts). to_le_bytes w16 k.sections) (sym header.is) ∙ half_back (drop 8 bytes) (omega (arith, length-drop 8 bytes)) (IsBytes-drop 8 bytes fits) in
     let entries : to_le_bytes w16 counts.entries ≡ take 2 (drop 10 bytes) = ap (λ (k : Counts). to_le_bytes w16 k.entries) (sym header.is) ∙ half_back (drop 10 bytes) (omega (arith, length-drop 10 bytes)) (IsBytes-drop 10 bytes fits) in
@@ -53,9 +54,9 @@ record HasCounts (counts : Counts) (image : ImageValue) : Type 0 where
 
 counts_are : (bytes : List ℕ) (counts : Counts) → HasCounts counts (image_in counts bytes)
 counts_are bytes counts = record {
-  threads = length-table START_BYTES start_in counts.threads (drop HEADER bytes);
-  sections = length-sections (rows_in counts bytes) (drop (tables_end counts) bytes) ∙ length-table ROW_BYTES row_in counts.sections (drop (HEADER + START_BYTES * counts.threads) bytes);
-  entries = length-table ENTRY_BYTES word counts.entries (drop (HEADER + START_BYTES * counts.threads + ROW_BYTES * counts.sections) bytes);
+  threads = length-table (start_width counts.version) (start_in counts.version) counts.threads (drop HEADER bytes);
+  sections = length-sections (rows_in counts bytes) (drop (tables_end counts) bytes) ∙ length-table ROW_BYTES row_in counts.sections (drop (rows_at counts) bytes);
+  entries = length-table ENTRY_BYTES word counts.entries (drop (rows_at counts + ROW_BYTES * counts.sections) bytes);
 }
 
 -- the sections' rows are those of the table
@@ -69,16 +70,17 @@ spelled_so bytes image fits read =
     let header = counts_ok bytes counts read.counted in
     let has = counts_are bytes counts in
     let made : ImageValue = image_in counts bytes in
-    let t : ℕ = HEADER + START_BYTES * counts.threads in
+    let width : ℕ = start_width counts.version in
+    let t : ℕ = rows_at counts in
     let s : ℕ = t + ROW_BYTES * counts.sections in
-    let front : header_bytes (length made.threads) (length made.sections) (length made.entries) ≡ take 12 bytes = (λ i. header_bytes (has.threads i) (has.sections i) (has.entries i)) ∙ header_back bytes counts fits header in
-    let threads : flat_map start_bytes made.threads ≡ take (8 * counts.threads) (drop 12 bytes) = table_back 8 start_in start_bytes start_back counts.threads (drop 12 bytes) (omega (arith, header.tables, length-drop 12 bytes)) (IsBytes-drop 12 bytes fits) in
+    let front : header_bytes counts.version (length made.threads) (length made.sections) (length made.entries) ≡ take 12 bytes = (λ i. header_bytes counts.version (has.threads i) (has.sections i) (has.entries i)) ∙ header_back bytes counts fits header in
+    let threads : flat_map (start_bytes counts.version) made.threads ≡ take (width * counts.threads) (drop 12 bytes) = table_back width (start_in counts.version) (start_bytes counts.version) (start_back counts.version) counts.threads (drop 12 bytes) (omega (arith, header.tables, length-drop 12 bytes)) (IsBytes-drop 12 bytes fits) in
     let rows : flat_map row_bytes (map row_of made.sections) ≡ take (16 * counts.sections) (drop t bytes) =
     ap (λ rs. flat_map row_bytes rs) (rows_are bytes image read) ∙ table_back 16 row_in row_bytes row_back counts.sections (drop t bytes) (omega (arith, header.tables, length-drop t bytes)) (IsBytes-drop t bytes fits) in
     let entries : flat_map (to_le_bytes w32) made.entries ≡ take (4 * counts.entries) (drop s bytes) = table_back 4 word (to_le_bytes w32) word_back counts.entries (drop s bytes) (omega (arith, header.tables, length-drop s bytes)) (IsBytes-drop s bytes fits) in
     let stored = stored_back (rows_in counts bytes) (drop (tables_end counts) bytes) in
     let whole : take (tables_end counts + stored_bytes (rows_in counts bytes)) bytes ≡ bytes = take_all (tables_end counts + stored_bytes (rows_in counts bytes)) bytes (omega (arith, read.ended)) in
-    let parts : spelling made ≡ bytes = (λ i. front i ++ threads i ++ rows i ++ entries i ++ stored i) ∙ five_parts 12 (8 * counts.threads) (16 * counts.sections) (4 * counts.entries) (stored_bytes (rows_in counts bytes)) bytes ∙ whole in
+    let parts : spelling made ≡ bytes = (λ i. front i ++ threads i ++ rows i ++ entries i ++ stored i) ∙ five_parts 12 (width * counts.threads) (16 * counts.sections) (4 * counts.entries) (stored_bytes (rows_in counts bytes)) bytes ∙ whole in
     sym parts ∙ ap spelling read.is
 
 pub whole_image : (bytes : List ℕ) (image : ImageValue) → IsBytes bytes → IsRead bytes image → IsWhole image
@@ -88,20 +90,22 @@ whole_image bytes image fits read =
     let has = counts_are bytes counts in
     let made : ImageValue = image_in counts bytes in
     let rows = rows_are bytes image read in
-    let t : ℕ = HEADER + START_BYTES * counts.threads in
+    let width : ℕ = start_width counts.version in
+    let t : ℕ = rows_at counts in
     let s : ℕ = t + ROW_BYTES * counts.sections in
     let room : HasRoom made = record {
+      version = header.version;
       some_thread = omega (arith, has.threads, header.some);
       threads = omega (arith, has.threads, header.threads);
       sections = omega (arith, has.sections, header.sections);
       entries = omega (arith, has.entries, header.entries);
-      starts_fit = table_all StartFits 8 start_in (λ bs f. (word_fits bs f, word_fits (drop 4 bs) (IsBytes-drop 4 bs f))) counts.threads (drop 12 bytes) (IsBytes-drop 12 bytes fits);
+      starts_fit = table_all (IsStart counts.version) (start_width counts.version) (start_in counts.version) (is_start counts.version) counts.threads (drop 12 bytes) (IsBytes-drop 12 bytes fits);
       entries_fit = table_all (λ e. e < 2 ^ 32) 4 word word_fits counts.entries (drop s bytes) (IsBytes-drop s bytes fits);
     } in
     let laid_out : IsLaidOut made = record {
       sound = ap (λ rs. list_all is_sound rs) rows ∙ read.layout.sound;
       apart = ap (λ rs. first_overlap 0 rs) rows ∙ read.layout.apart;
-      small = subst (λ rs. total_bytes rs ≤ MOST_BYTES) (sym rows) read.layout.small;
+      small = subst (λ rs. total_bytes rs ≤ most_bytes counts.version) (sym rows) read.layout.small;
       entries_in_code = ap (λ rs. list_all (λ (e : ℕ). list_any (has_code e) rs) made.entries) rows ∙ read.layout.in_code;
       pages = refl;
     } in

@@ -1,5 +1,5 @@
 -- Tables read one item after the other.
-use Rattle.std.proofs.Common.{add-one, ◌≡◌, ℕ, zero, suc, ◌+◌, ◌*◌, ◌<◌, ◌≤◌, List, [], ◌∷◌, ◌++◌, length, drop, take, refl, sym, ap, ◌∙◌, arith, rules}
+use Rattle.std.proofs.Common.{add-one, ◌≡◌, ℕ, zero, suc, ◌+◌, ◌*◌, List, [], ◌∷◌, ◌++◌, drop, refl, sym, ap, ◌∙◌, arith}
 use Rattle.std.proofs.Math.Nat.{mul-zero}
 use Rattle.std.proofs.lemmas.List.{drop-drop}
 use Rattle.image_file.specs.Reading.{word, table_in}

@@ -1,6 +1,6 @@
 -- Parts appended one after the other.
 use mir.Val.{bool_byte}
-use Rattle.std.proofs.Common.{false, cond, ◌≡◌, ◌≤◌, ◌<◌, ℕ, zero, suc, ◌+◌, Bool, true, List, [], ◌∷◌, ◌++◌, length, get_or, take, refl, sym, ap, ◌∙◌, arith, append_assoc, map, Result, Ok, Err}
+use Rattle.std.proofs.Common.{false, cond, ◌≡◌, ◌<◌, ℕ, zero, suc, ◌+◌, Bool, true, List, [], ◌∷◌, ◌++◌, length, get_or, take, refl, sym, ap, ◌∙◌, arith, append_assoc, map, Result, Ok, Err}
 use Rattle.std.specs.Prelude.{IfOk}
 use Rattle.std.specs.Global.{Vec}
 use Rattle.std.specs.List.{flat_map, list_all, AllByRecursion}
@@ -11,7 +11,7 @@ use Rattle.image_file.specs.Rows.{is_sound}
 use Rattle.image_file.specs.Spelling.{row_of, row_bytes, spelling}
 use Rattle.image_file.specs.Whole.{IsWhole}
 use Rattle.image_file.specs.Reading.{image_of}
-use Rattle.image_file.proofs.Laws.{each_passes}
+use Rattle.image_file.proofs.ListLaws.{each_passes}
 use Rattle.image_file.proofs.AgainLaws.{read_again}
 
 pub four_parts : (o a b c d : List ℕ) → o ++ a ++ b ++ c ++ d ≡ o ++ (a ++ b ++ c ++ d)

@@ -1,5 +1,7 @@
+pub mod Limits
 pub mod Memory
 pub mod Pages
+pub mod Prefixes
 pub mod Reading
 pub mod Refusal
 pub mod Rows

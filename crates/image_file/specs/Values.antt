@@ -10,6 +10,7 @@ pub record SectionValue : Type 0 where
   pub stored : List ℕ
 
 pub record ImageValue : Type 0 where
+  pub version : ℕ
   pub threads : List Start
   pub sections : List SectionValue
   pub entries : List ℕ

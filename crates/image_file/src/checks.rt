@@ -58,10 +58,10 @@ fn first_bad_entry(rows: &[Row], entries: &[u32]) -> Option<usize>
 
 /// Whether the tables give a layout of memory.
 #[tactic(auto, unfolding(crate::specs::Reading::layout_of))]
-pub fn check_layout(rows: &[Row], entries: &[u32]) -> Result<(), ImageRefusal>
+pub fn check_layout(version: u16, rows: &[Row], entries: &[u32]) -> Result<(), ImageRefusal>
     requires rows { length rows.now ≤ MOST_SECTIONS }
     requires entries { length entries.now ≤ MOST_ENTRIES }
-    ensures { result ≡ layout_of rows.now entries.now }
+    ensures { result ≡ layout_of version rows.now entries.now }
 {
     if let Some(place) = first_unsound(rows) {
         return Err(ImageRefusal::BadSection {
@@ -75,7 +75,7 @@ pub fn check_layout(rows: &[Row], entries: &[u32]) -> Result<(), ImageRefusal>
         });
     }
     let total = total_bytes(rows);
-    if total > MOST_BYTES {
+    if total > most_bytes(version) {
         return Err(ImageRefusal::TooLarge { total });
     }
     if let Some(place) = first_bad_entry(rows, entries) {

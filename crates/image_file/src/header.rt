@@ -1,28 +1,34 @@
 ghost use Rattle.std.specs.Prelude.{◌≡◌, ◌≤◌, ◌<◌, ◌^◌, length, IfOk, OnOk};
-ghost use Rattle.image_file.specs.Reading.{tables_end, counts_allowed, counts_of};
+ghost use Rattle.image_file.specs.Reading.{rows_at, tables_end, counts_allowed, counts_of};
 
 use crate::fields::{half_at, word_at};
 use crate::limits::*;
 use crate::refusal::ImageRefusal;
 
-/// How many threads, sections and entries the tables have.
+/// The version, and how many threads, sections and entries the tables have.
 #[derive(Clone, Copy, Debug, PartialEq, Eq)]
 pub struct Counts {
+    pub version: u16,
     pub threads: u16,
     pub sections: u16,
     pub entries: u16,
 }
 
 impl Counts {
+    /// Where the section table stands.
+    pub fn rows_at(&self) -> usize
+        ensures value { result ≡ rows_at self.now }
+        ensures bound { result < 2 ^ 31 }
+    {
+        HEADER + start_width(self.version) * self.threads as usize
+    }
+
     /// Where the tables end.
     pub fn tables_end(&self) -> usize
         ensures value { result ≡ tables_end self.now }
         ensures bound { result < 2 ^ 32 }
     {
-        HEADER
-            + START_BYTES * self.threads as usize
-            + ROW_BYTES * self.sections as usize
-            + ENTRY_BYTES * self.entries as usize
+        self.rows_at() + ROW_BYTES * self.sections as usize + ENTRY_BYTES * self.entries as usize
     }
 
     #[tactic(auto, unfolding(crate::specs::Reading::counts_allowed))]
@@ -34,7 +40,7 @@ impl Counts {
         if self.threads == 0 {
             return Err(ImageRefusal::NoThread);
         }
-        if self.threads > MOST_THREADS {
+        if self.threads > most_threads(self.version) {
             let count = self.threads;
             return Err(ImageRefusal::TooManyThreads { count });
         }
@@ -66,10 +72,11 @@ pub fn counts_of(bytes: &[u8]) -> Result<Counts, ImageRefusal>
         return Err(ImageRefusal::BadMagic);
     }
     let found = half_at(bytes, 4);
-    if found != VERSION {
+    if !is_version(found) {
         return Err(ImageRefusal::BadVersion { found });
     }
     let counts = Counts {
+        version: found,
         threads: half_at(bytes, 6),
         sections: half_at(bytes, 8),
         entries: half_at(bytes, 10),

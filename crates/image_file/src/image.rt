@@ -1,13 +1,15 @@
 ghost use Rattle.std.specs.Prelude.{◌≡◌, false, is_some};
 
+use crate::limits::FIRST_REGISTERS;
 use std::marker::Model;
 use vax_form::{Pages, Pending, VaxState};
 
-/// Where a thread starts: its PC and its stack pointer.
+/// Where a thread starts: its PC, its stack pointer, and R0 to R13, which are 0 in images of version 1.
 #[derive(Clone, Copy, Debug, PartialEq, Eq)]
 pub struct Start {
     pub pc: u32,
     pub sp: u32,
+    pub first: [u32; FIRST_REGISTERS],
 }
 
 impl Start {
@@ -17,8 +19,8 @@ impl Start {
     pub fn state(&self) -> VaxState
         ensures { result ≡ start_state self.now }
     {
-        let mut r = [0; 15];
-        r[14] = self.sp;
+        let mut r = [self.sp; FIRST_REGISTERS + 1];
+        r[..FIRST_REGISTERS].copy_from_slice(&self.first);
         VaxState {
             r,
             pc: self.pc,
@@ -65,10 +67,11 @@ impl Section {
     }
 }
 
-/// A VAX image. `entries` are addresses of code beside those at which threads start, and `pages` is the page table of
+/// A VAX image, of version 1 or 2 of the format. `entries` are addresses of code beside those at which threads start, and `pages` is the page table of
 /// the sections.
 #[derive(Debug, Drop)]
 pub struct Image {
+    pub version: u16,
     pub threads: Vec<Start>,
     pub sections: Vec<Section>,
     pub entries: Vec<u32>,
@@ -80,7 +83,7 @@ impl Model for Image {
 
     ghost Value = { ImageValue };
 
-    ghost view = { λ i. record { threads = i.threads.items; sections = i.sections.items; entries = i.entries.items; pages = i.pages } };
+    ghost view = { λ i. record { version = i.version; threads = i.threads.items; sections = i.sections.items; entries = i.entries.items; pages = i.pages } };
 }
 
 impl Image {

@@ -5,6 +5,7 @@ mod checks;
 mod fields;
 mod header;
 mod image;
+pub mod laws;
 mod limits;
 mod pages;
 mod reading;
@@ -14,7 +15,7 @@ mod tables;
 mod writing;
 
 pub use image::{Image, Section, Start};
-pub use limits::{ADDRESS_END, MOST_BYTES, MOST_ENTRIES, MOST_SECTIONS, MOST_THREADS};
+pub use limits::{ADDRESS_END, MOST_ENTRIES, MOST_SECTIONS, most_bytes, most_threads};
 pub use reading::read_image;
-pub use refusal::ImageRefusal;
+pub use refusal::{ImageRefusal, Numbers};
 pub use writing::write_image;

@@ -53,7 +53,7 @@ fn image_of(alloc: Global, bytes: &[u8]) -> Result<Image, ImageRefusal>
 {
     let counts = counts_of(bytes)?;
     let tables = tables_of(alloc, &counts, bytes)?;
-    check_layout(&tables.rows, &tables.entries)?;
+    check_layout(counts.version, &tables.rows, &tables.entries)?;
     let stored_at = counts.tables_end();
     let end = stored_at + stored_bytes(&tables.rows);
     if bytes.len() < end {
@@ -66,6 +66,7 @@ fn image_of(alloc: Global, bytes: &[u8]) -> Result<Image, ImageRefusal>
     let sections = sections_of(alloc, &tables.rows, &bytes[stored_at..])?;
     let pages = pages_of(alloc, &sections)?;
     Ok(Image {
+        version: counts.version,
         threads: tables.threads,
         sections,
         entries: tables.entries,

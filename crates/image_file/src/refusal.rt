@@ -1,7 +1,11 @@
 ghost use Rattle.std.specs.Prelude.{◌≡◌};
 ghost use Rattle.image_file.specs.declared.refusal.ImageRefusal.TheVariants.{WantOfMemory};
 
+use arrayvec::ArrayVec;
 use std::alloc::{AllocError, AllocFailed};
+
+/// A refusal's number, and then what it tells of the file.
+pub type Numbers = ArrayVec<u64, 3>;
 
 /// Why bytes are no image: the first reason in the order of the checks.
 #[derive(Clone, Copy, Debug, PartialEq, Eq)]
@@ -29,7 +33,8 @@ pub enum ImageRefusal {
 }
 
 impl ImageRefusal {
-    ghost use Rattle.image_file.specs.Refusal.{number_of};
+    ghost use Rattle.std.specs.Prelude.{◌++◌};
+    ghost use Rattle.image_file.specs.Refusal.{number_of, numbers_of};
 
     /// The refusal's number, which want of memory lacks.
     pub fn number(self) -> Option<u8>
@@ -50,6 +55,33 @@ impl ImageRefusal {
             ImageRefusal::TooManyEntries { .. } => Some(12),
             ImageRefusal::WantOfMemory => None,
         }
+    }
+
+    /// The refusal's number, and then what it tells of the file.
+    pub fn numbers(self) -> Numbers
+        ensures { result.items ≡ numbers_of self }
+    {
+        let mut numbers = Numbers::new();
+        if let Some(number) = self.number() {
+            numbers.push(u64::from(number));
+        }
+        match self {
+            ImageRefusal::Truncated { at } | ImageRefusal::Trailing { at } => numbers.push(at),
+            ImageRefusal::BadVersion { found } => numbers.push(u64::from(found)),
+            ImageRefusal::TooManyThreads { count }
+            | ImageRefusal::TooManySections { count }
+            | ImageRefusal::TooManyEntries { count } => numbers.push(u64::from(count)),
+            ImageRefusal::BadSection { place } | ImageRefusal::BadEntry { place } => {
+                numbers.push(u64::from(place))
+            }
+            ImageRefusal::Overlap { low, high } => {
+                numbers.push(u64::from(low));
+                numbers.push(u64::from(high));
+            }
+            ImageRefusal::TooLarge { total } => numbers.push(total),
+            ImageRefusal::BadMagic | ImageRefusal::NoThread | ImageRefusal::WantOfMemory => {}
+        }
+        numbers
     }
 }
 

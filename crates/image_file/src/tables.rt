@@ -1,5 +1,6 @@
 ghost use Rattle.std.specs.Prelude.{◌≡◌, ◌≤◌, ◌+◌, ◌*◌, length, drop, IfOk};
-ghost use Rattle.image_file.specs.Reading.{word, start_in, row_in, table_in, tables_end, threads_in, rows_in, entries_in};
+ghost use Rattle.image_file.specs.Limits.{start_width};
+ghost use Rattle.image_file.specs.Reading.{word, first_in, start_in, row_in, table_in, tables_end, threads_in, rows_in, entries_in};
 
 use crate::fields::word_at;
 use crate::header::Counts;
@@ -16,13 +17,36 @@ pub struct Tables {
     pub entries: Vec<u32>,
 }
 
-fn start_at(bytes: &[u8], at: usize) -> Start
-    requires { at + START_BYTES ≤ length bytes.now }
-    ensures { result ≡ start_in (drop at bytes.now) }
+fn registers_at(bytes: &[u8], at: usize) -> [u32; FIRST_REGISTERS]
+    requires { at + REGISTER_BYTES * FIRST_REGISTERS ≤ length bytes.now }
+    ensures { result ≡ table_in REGISTER_BYTES word FIRST_REGISTERS (drop at bytes.now) }
+{
+    let mut registers = [0; FIRST_REGISTERS];
+    for number in 0..FIRST_REGISTERS {
+        registers[number] = word_at(bytes, at + REGISTER_BYTES * number);
+    }
+    registers
+}
+
+fn first_at(version: u16, bytes: &[u8], at: usize) -> [u32; FIRST_REGISTERS]
+    requires { at + start_width version ≤ FIRST_AT + length bytes.now }
+    ensures { result ≡ first_in version (drop at bytes.now) }
+{
+    if version == VERSION_1 {
+        [0; FIRST_REGISTERS]
+    } else {
+        registers_at(bytes, at)
+    }
+}
+
+fn start_at(version: u16, bytes: &[u8], at: usize) -> Start
+    requires { at + start_width version ≤ length bytes.now }
+    ensures { result ≡ start_in version (drop at bytes.now) }
 {
     Start {
         pc: word_at(bytes, at),
         sp: word_at(bytes, at + 4),
+        first: first_at(version, bytes, at + FIRST_AT),
     }
 }
 
@@ -39,13 +63,19 @@ fn row_at(bytes: &[u8], at: usize) -> Row
 }
 
 /// The table of threads, which stands in front.
-fn threads_of(alloc: Global, count: u16, bytes: &[u8]) -> Result<Vec<Start>, AllocError>
-    requires { START_BYTES * count ≤ length bytes.now }
-    ensures { IfOk result (λ v. v.items ≡ table_in START_BYTES start_in count bytes.now) }
+fn threads_of(
+    alloc: Global,
+    version: u16,
+    count: u16,
+    bytes: &[u8],
+) -> Result<Vec<Start>, AllocError>
+    requires { start_width version * count ≤ length bytes.now }
+    ensures { IfOk result (λ v. v.items ≡ table_in (start_width version) (start_in version) count bytes.now) }
 {
+    let width = start_width(version);
     let mut threads = Vec::new(alloc);
     for place in 0..count {
-        threads.push(start_at(bytes, START_BYTES * place as usize))?;
+        threads.push(start_at(version, bytes, width * place as usize))?;
     }
     Ok(threads)
 }
@@ -81,10 +111,10 @@ pub fn tables_of(alloc: Global, counts: &Counts, bytes: &[u8]) -> Result<Tables,
     ensures rows { IfOk result (λ tables. tables.rows.items ≡ rows_in counts.now bytes.now) }
     ensures entries { IfOk result (λ tables. tables.entries.items ≡ entries_in counts.now bytes.now) }
 {
-    let rows_at = HEADER + START_BYTES * counts.threads as usize;
+    let rows_at = counts.rows_at();
     let entries_at = rows_at + ROW_BYTES * counts.sections as usize;
     Ok(Tables {
-        threads: threads_of(alloc, counts.threads, &bytes[HEADER..])?,
+        threads: threads_of(alloc, counts.version, counts.threads, &bytes[HEADER..])?,
         rows: rows_of(alloc, counts.sections, &bytes[rows_at..])?,
         entries: entries_of(alloc, counts.entries, &bytes[entries_at..])?,
     })

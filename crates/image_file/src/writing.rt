@@ -14,26 +14,46 @@ use vax_form::WantOfMemory;
 
 fn put_header(
     out: &mut Vec<u8>,
+    version: u16,
     threads: u16,
     sections: u16,
     entries: u16,
 ) -> Result<(), AllocError>
-    ensures { OnOk result (out.new.items ≡ out.old.items ++ header_bytes threads sections entries) }
+    ensures { OnOk result (out.new.items ≡ out.old.items ++ header_bytes version threads sections entries) }
 {
     out.extend_from_slice(&MAGIC.to_le_bytes())?;
-    out.extend_from_slice(&VERSION.to_le_bytes())?;
+    out.extend_from_slice(&version.to_le_bytes())?;
     out.extend_from_slice(&threads.to_le_bytes())?;
     out.extend_from_slice(&sections.to_le_bytes())?;
     out.extend_from_slice(&entries.to_le_bytes())?;
     Ok(())
 }
 
-fn put_threads(out: &mut Vec<u8>, threads: &[Start]) -> Result<(), AllocError>
-    ensures { OnOk result (out.new.items ≡ out.old.items ++ flat_map start_bytes threads.now) }
+fn put_words(out: &mut Vec<u8>, words: &[u32]) -> Result<(), AllocError>
+    ensures { OnOk result (out.new.items ≡ out.old.items ++ flat_map (to_le_bytes w32) words.now) }
+{
+    for word in words {
+        out.extend_from_slice(&word.to_le_bytes())?;
+    }
+    Ok(())
+}
+
+fn put_start(out: &mut Vec<u8>, version: u16, start: &Start) -> Result<(), AllocError>
+    ensures { OnOk result (out.new.items ≡ out.old.items ++ start_bytes version start.now) }
+{
+    out.extend_from_slice(&start.pc.to_le_bytes())?;
+    out.extend_from_slice(&start.sp.to_le_bytes())?;
+    if version != VERSION_1 {
+        put_words(out, &start.first)?;
+    }
+    Ok(())
+}
+
+fn put_threads(out: &mut Vec<u8>, version: u16, threads: &[Start]) -> Result<(), AllocError>
+    ensures { OnOk result (out.new.items ≡ out.old.items ++ flat_map (start_bytes version) threads.now) }
 {
     for start in threads {
-        out.extend_from_slice(&start.pc.to_le_bytes())?;
-        out.extend_from_slice(&start.sp.to_le_bytes())?;
+        put_start(out, version, start)?;
     }
     Ok(())
 }
@@ -59,15 +79,6 @@ fn put_rows(out: &mut Vec<u8>, sections: &[Section]) -> Result<(), AllocError>
     Ok(())
 }
 
-fn put_entries(out: &mut Vec<u8>, entries: &[u32]) -> Result<(), AllocError>
-    ensures { OnOk result (out.new.items ≡ out.old.items ++ flat_map (to_le_bytes w32) entries.now) }
-{
-    for entry in entries {
-        out.extend_from_slice(&entry.to_le_bytes())?;
-    }
-    Ok(())
-}
-
 fn put_stored(out: &mut Vec<u8>, sections: &[Section]) -> Result<(), AllocError>
     ensures { OnOk result (out.new.items ≡ out.old.items ++ flat_map (λ (s : SectionValue). s.stored) sections.now) }
 {
@@ -85,13 +96,14 @@ fn spelled(alloc: Global, image: &Image) -> Result<Vec<u8>, AllocError>
     let mut out = Vec::new(alloc);
     put_header(
         &mut out,
+        image.version,
         image.threads.len() as u16,
         image.sections.len() as u16,
         image.entries.len() as u16,
     )?;
-    put_threads(&mut out, &image.threads)?;
+    put_threads(&mut out, image.version, &image.threads)?;
     put_rows(&mut out, &image.sections)?;
-    put_entries(&mut out, &image.entries)?;
+    put_words(&mut out, &image.entries)?;
     put_stored(&mut out, &image.sections)?;
     Ok(out)
 }

@@ -1,4 +1,3 @@
-use Rattle.std.proofs.Common.{arith}
 use Rattle.image_file.proofs.Overlaps.{overlap_found, overlap_later}
 use Rattle.image_file.proofs.checks.first_overlap.Goals as goal
 

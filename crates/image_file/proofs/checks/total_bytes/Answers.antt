@@ -1,5 +1,4 @@
-use Rattle.std.proofs.Common.{◌≡◌, ◌≤◌, ◌*◌, arith, ap, ◌∙◌}
-use Rattle.image_file.specs.Rows.{page_bytes}
+use Rattle.std.proofs.Common.{◌*◌, arith, ap, ◌∙◌}
 use Rattle.image_file.proofs.Overlaps.{total_more}
 use Rattle.image_file.proofs.checks.total_bytes.Goals as goal
 

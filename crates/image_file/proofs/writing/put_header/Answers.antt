@@ -1,6 +1,6 @@
 use Rattle.std.proofs.Common.{◌++◌, ◌∙◌}
 use Rattle.std.specs.Int.{w16, w32, to_le_bytes}
-use Rattle.image_file.specs.declared.limits.TheConstants.{MAGIC, VERSION}
+use Rattle.image_file.specs.declared.limits.TheConstants.{MAGIC}
 use Rattle.image_file.proofs.WriteLaws.{five_parts}
 use Rattle.image_file.proofs.writing.put_header.Goals as goal
 
@@ -11,4 +11,4 @@ returns c =
     let d = c.in_ok-extend_from_slice-3.ensures.items ∙ (λ i. b i ++ c.to_le_bytes-3.ensures i) in
     let e = c.in_ok-extend_from_slice-4.ensures.items ∙ (λ i. d i ++ c.to_le_bytes-4.ensures i) in
     let f = c.in_ok-extend_from_slice-5.ensures.items ∙ (λ i. e i ++ c.to_le_bytes-5.ensures i) in
-    f ∙ five_parts c.args.out.now.items (to_le_bytes w32 MAGIC) (to_le_bytes w16 VERSION) (to_le_bytes w16 c.args.threads) (to_le_bytes w16 c.args.sections) (to_le_bytes w16 c.args.entries)
+    f ∙ five_parts c.args.out.now.items (to_le_bytes w32 MAGIC) (to_le_bytes w16 c.args.version) (to_le_bytes w16 c.args.threads) (to_le_bytes w16 c.args.sections) (to_le_bytes w16 c.args.entries)

@@ -1,8 +1,6 @@
-use Rattle.std.proofs.Common.{◌≡◌, ◌++◌, take, map}
+use Rattle.std.proofs.Common.{◌≡◌, ◌++◌, take}
 use Rattle.std.specs.List.{flat_map}
-use Rattle.std.specs.Int.{w32, to_le_bytes}
 use Rattle.image_file.specs.Values.{SectionValue}
-use Rattle.image_file.specs.Spelling.{row_of, start_bytes, row_bytes}
 use Rattle.image_file.proofs.writing.put_stored.Given as goal
 
 abbrev pub invariant-loop-section : goal.invariant-loop-section

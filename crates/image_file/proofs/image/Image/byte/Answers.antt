@@ -1,4 +1,4 @@
-use Rattle.std.proofs.Common.{ℕ, Option, ◌≡◌, ◌∙◌, sym, ap, Some, None, true, false}
+use Rattle.std.proofs.Common.{ℕ, Option, ◌≡◌, ◌∙◌, sym, ap, Some, None, false}
 use Rattle.std.specs.Prelude.{find, option_map, is_some}
 use Rattle.vax_form.specs.PageTable.{PageTable}
 use Rattle.vax_form.specs.Pages.{is_allowed}
@@ -6,7 +6,7 @@ use Rattle.vax_form.proofs.PageTable.{found_is_some}
 use Rattle.image_file.specs.Memory.{has_address, byte_at, byte_of_image}
 use Rattle.image_file.specs.Values.{ImageValue}
 use Rattle.image_file.specs.Whole.{IsWhole}
-use Rattle.image_file.proofs.Laws.{found_here, found_later, found_nowhere}
+use Rattle.image_file.proofs.ListLaws.{found_here, found_later, found_nowhere}
 use Rattle.image_file.proofs.PageLaws.{pages_have}
 use Rattle.image_file.proofs.image.Image.byte.Goals as goal
 

@@ -1,9 +1,0 @@
-use Rattle.std.proofs.Common.{◌≡◌, ◌++◌, take, map}
-use Rattle.std.specs.List.{flat_map}
-use Rattle.std.specs.Int.{w32, to_le_bytes}
-use Rattle.image_file.specs.Values.{SectionValue}
-use Rattle.image_file.specs.Spelling.{row_of, start_bytes, row_bytes}
-use Rattle.image_file.proofs.writing.put_entries.Given as goal
-
-abbrev pub invariant-loop-entry : goal.invariant-loop-entry
-invariant-loop-entry l = l.out.items ≡ l.fn.out.items ++ flat_map (to_le_bytes w32) (take l.entry-index l.entries)
