@@ -1,0 +1,23 @@
+-- An answer beside what the words spell.
+use Rattle.std.specs.Prelude.{◌≡◌, Option, Some, None, Result, MatchResult}
+use Rattle.command_words.specs.Commands.{CommandValue, generate, list, run, translate}
+use Rattle.command_words.specs.declared.commands.Command.{Command}
+use Rattle.command_words.specs.declared.commands.Command.TheVariants as command
+use Rattle.command_words.specs.declared.WordsFault.{WordsFault}
+use Rattle.command_words.specs.declared.WordsFault.TheVariants.{Usage}
+
+abbrev pub command_value : Command → CommandValue
+command_value (command.Run name limits ranges) = run name.now limits ranges.items
+command_value (command.Translate image out) = translate image.now out.now
+command_value (command.List name) = list name.now
+command_value (command.Generate number) = generate number
+
+-- the answer is the command where there is one, and else none
+abbrev pub Reads : Option CommandValue → Option Command → Type 0
+Reads spelled None = spelled ≡ None
+Reads spelled (Some c) = spelled ≡ Some (command_value c)
+
+-- a command comes only where it is spelled, and usage only where none is
+abbrev pub AnswersTo : Option CommandValue → Result Command WordsFault → Type 0
+AnswersTo spelled result = MatchResult result (λ c. spelled ≡ Some (command_value c))
+    (λ e. e ≡ Usage → spelled ≡ None)

@@ -1,0 +1,68 @@
+-- The command line as it is made for clap, and what clap's matches hold of the parts of the words.
+use Rattle.std.specs.Prelude.{◌≡◌, ◌++◌, true, false, List, [], ◌∷◌, Option, Some, None}
+use Rattle.std.specs.Prelude.{codes, unwrap_or, MatchOption}
+use Rattle.std.specs.Str.{bytes_eq}
+use Rattle.clap.specs.Words.{App, Row, Rule, all_of, new_app, new_rule}
+use Rattle.clap.specs.Words.{subcommand_rows_of, with_rule, with_subcommand}
+use Rattle.clap.specs.Simple.{on_top}
+use Rattle.clap.specs.declared.builder.action.ArgAction.TheVariants.{Append}
+use Rattle.clap.specs.declared.parser.matches.ArgMatches.{ArgMatches}
+use Rattle.command_words.specs.Parts.{Part, Text, names_in, values_in}
+use Rattle.command_words.specs.Forms.{Form, line_of}
+use Rattle.command_words.specs.Commands.{forms}
+
+-- all names of a command have one id
+abbrev pub names_id : Text
+names_id = codes "names"
+
+abbrev pub names_arg : Rule
+names_arg = record (new_rule names_id) { action = Some Append }
+
+abbrev pub option_arg : Text → Rule
+option_arg label = record (new_rule label) { long = Some label }
+
+abbrev pub repeated_arg : Text → Rule
+repeated_arg label = record (option_arg label) { action = Some Append }
+
+abbrev pub plain_app : Text → App
+plain_app title = with_rule (new_app title) names_arg
+
+abbrev pub limited_app : App
+limited_app = with_rule (with_rule (with_rule (plain_app (codes "run"))
+    (option_arg (codes "budget"))) (option_arg (codes "events"))) (option_arg (codes "miss"))
+
+abbrev pub run_app : App
+run_app = with_rule limited_app (repeated_arg (codes "interpret"))
+
+abbrev pub top_app : App
+top_app = on_top (λ s. record s {
+  no_binary_name = true;
+  disable_help_flag = true;
+  disable_help_subcommand = true;
+  subcommand_required = true;
+}) (new_app (codes "vest"))
+
+abbrev pub vest_app : App
+vest_app = with_subcommand (with_subcommand (with_subcommand
+    (with_subcommand top_app run_app.top) (plain_app (codes "translate")).top)
+    (plain_app (codes "list")).top) (plain_app (codes "generate")).top
+
+-- some values, or none
+abbrev pub joined : Option (List Text) → List Text → Option (List Text)
+joined o [] = o
+joined o (v ∷ vs) = Some (unwrap_or o [] ++ v ∷ vs)
+
+-- the rows hold the names and the values of the parts
+pub record HoldsParts (parts : List Part) (rows : List Row) : Type 0 where
+  pub names : all_of names_id rows ≡ joined None (names_in parts)
+  pub values : (n : Text) → bytes_eq names_id n ≡ false → all_of n rows ≡ joined None (values_in n parts)
+
+-- the command of the matches, and its rows, are those of the line that the words spell
+abbrev pub FitsLine : List Text → Text × List Row → Type 0
+FitsLine words p = (form : Form) × (parts : List Part) × (line_of forms words ≡ Some (form, parts))
+    × (form.title ≡ p.0) × HoldsParts parts p.1
+
+-- the matches are those of the line that the words spell, or name no command, as the words don't
+abbrev pub MatchesLine : List Text → ArgMatches → Type 0
+MatchesLine words m =
+    MatchOption (subcommand_rows_of m) (line_of forms words ≡ None) (FitsLine words)

@@ -1,0 +1,91 @@
+-- The commands, and the one that words spell.
+use Rattle.std.specs.Prelude.{◌==◌, ◌&&◌, ◌||◌, ℕ, Bool, true, false, List, [], ◌∷◌, Option, Some, None}
+use Rattle.std.specs.Prelude.{if◌then◌else◌, codes, nat_le}
+use Rattle.std.specs.Str.{bytes_eq}
+use Rattle.command_words.specs.declared.commands.Limits.{Limits}
+use Rattle.command_words.specs.declared.commands.TheConstants.{BUDGET, EVENTS, MISS, MOST_BUDGET, MOST_EVENTS, MOST_MISS, MOST_GENERATED}
+use Rattle.command_words.specs.declared.numbers.Range.{Range}
+use Rattle.command_words.specs.Parts.{Choice, Part, Text, first_of, names_in, only_name, two_names, values_in}
+use Rattle.command_words.specs.Forms.{Form, line_of}
+use Rattle.command_words.specs.Numbers.{◌>>=◌, few_ranges, number_in, within}
+
+-- a command with what is behind it
+pub data CommandValue : Type 0 where
+  run : (name : Text) → Limits → List Range → CommandValue
+  translate : (image out : Text) → CommandValue
+  list : (name : Text) → CommandValue
+  generate : (number : ℕ) → CommandValue
+
+abbrev pub once : Text → Choice
+once label = record { label = label; repeats = false }
+
+abbrev pub often : Text → Choice
+often label = record { label = label; repeats = true }
+
+abbrev pub plain_form : Text → Form
+plain_form title = record { title = title; choices = [] }
+
+abbrev pub run_form : Form
+run_form = record {
+  title = codes "run";
+  choices = once (codes "budget") ∷ once (codes "events") ∷ once (codes "miss") ∷ often (codes "interpret") ∷ [];
+}
+
+-- a row for each command
+abbrev pub forms : List Form
+forms = run_form ∷ plain_form (codes "translate") ∷ plain_form (codes "list") ∷ plain_form (codes "generate") ∷ []
+
+-- the number that an option gives, or its default
+abbrev pub number_or : ℕ → Option Text → Option ℕ
+number_or default None = Some default
+number_or default (Some text) = number_in text
+
+abbrev pub number_of : Text → ℕ → List Part → Option ℕ
+number_of label default parts = number_or default (first_of (values_in label parts))
+
+-- a store conditional never misses by the rule, or each so many times; to miss each time is left out
+abbrev pub is_miss : ℕ → Bool
+is_miss n = n == 0 || (nat_le 2 n && nat_le n MOST_MISS)
+
+abbrev pub limits_of : List Part → Option Limits
+limits_of parts = do
+  budget ← within (λ n. nat_le n MOST_BUDGET) (number_of (codes "budget") BUDGET parts)
+  events ← within (λ n. nat_le n MOST_EVENTS) (number_of (codes "events") EVENTS parts)
+  miss ← within is_miss (number_of (codes "miss") MISS parts)
+  Some (record { budget = budget; events = events; miss = miss })
+
+abbrev pub run_of : List Part → Option CommandValue
+run_of parts = do
+  name ← only_name (names_in parts)
+  limits ← limits_of parts
+  ranges ← few_ranges (values_in (codes "interpret") parts)
+  Some (run name limits ranges)
+
+abbrev pub translate_of : List Part → Option CommandValue
+translate_of parts = do
+  names ← two_names (names_in parts)
+  Some (translate names.0 names.1)
+
+abbrev pub list_of : List Part → Option CommandValue
+list_of parts = do
+  name ← only_name (names_in parts)
+  Some (list name)
+
+abbrev pub generate_of : List Part → Option CommandValue
+generate_of parts = do
+  name ← only_name (names_in parts)
+  number ← within (λ n. nat_le 1 n && nat_le n MOST_GENERATED) (number_in name)
+  Some (generate number)
+
+abbrev pub command_of : Form × List Part → Option CommandValue
+command_of (form, parts) =
+    if bytes_eq form.title (codes "run") then run_of parts
+    else (if bytes_eq form.title (codes "translate") then translate_of parts
+    else (if bytes_eq form.title (codes "list") then list_of parts
+    else (if bytes_eq form.title (codes "generate") then generate_of parts else None)))
+
+-- the command that the words spell, by the forms of the commands that there are
+abbrev pub spells : List Form → List Text → Option CommandValue
+spells forms words = do
+  line ← line_of forms words
+  command_of line

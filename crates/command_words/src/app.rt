@@ -1,0 +1,82 @@
+// The commands as `clap` sees them.
+ghost use Rattle.std.specs.Prelude.{◌≡◌, IfOk, false};
+ghost use Rattle.clap.specs.Words.{app_of, rule_of};
+ghost use Rattle.clap.specs.declared.builder.command.Command.TheViews.{out-Command as fields_of};
+ghost use Rattle.command_words.specs.App as spec;
+
+use clap::{Arg, ArgAction, Command};
+use std::alloc::{AllocError, Global};
+
+// All names of a command.
+fn names_arg<'a>(alloc: Global) -> Arg<'a>
+    ensures rule { rule_of result ≡ spec.names_arg }
+    ensures local { result.global ≡ false }
+{
+    Arg::new(alloc, "names").action(ArgAction::Append)
+}
+
+// An option that stands at most once.
+fn option_arg<'a>(alloc: Global, label: &'a str) -> Arg<'a>
+    ensures rule { rule_of result ≡ spec.option_arg label.entry.now }
+    ensures local { result.global ≡ false }
+{
+    Arg::new(alloc, label).long(label)
+}
+
+fn repeated_arg<'a>(alloc: Global, label: &'a str) -> Arg<'a>
+    ensures rule { rule_of result ≡ spec.repeated_arg label.entry.now }
+    ensures local { result.global ≡ false }
+{
+    option_arg(alloc, label).action(ArgAction::Append)
+}
+
+// A command without options.
+fn plain_app<'a>(alloc: Global, title: &'a str) -> Result<Command<'a>, AllocError>
+    ensures app { IfOk result (λ c. app_of c ≡ spec.plain_app title.entry.now) }
+    ensures local { IfOk result (λ c. (fields_of c).has_globals ≡ false) }
+{
+    Command::new(alloc, title).arg(names_arg(alloc))
+}
+
+// `run` with the options that stand at most once.
+fn limited_app<'a>(alloc: Global) -> Result<Command<'a>, AllocError>
+    ensures app { IfOk result (λ c. app_of c ≡ spec.limited_app) }
+    ensures local { IfOk result (λ c. (fields_of c).has_globals ≡ false) }
+{
+    plain_app(alloc, "run")?
+        .arg(option_arg(alloc, "budget"))?
+        .arg(option_arg(alloc, "events"))?
+        .arg(option_arg(alloc, "miss"))
+}
+
+fn run_app<'a>(alloc: Global) -> Result<Command<'a>, AllocError>
+    ensures app { IfOk result (λ c. app_of c ≡ spec.run_app) }
+    ensures local { IfOk result (λ c. (fields_of c).has_globals ≡ false) }
+{
+    limited_app(alloc)?.arg(repeated_arg(alloc, "interpret"))
+}
+
+// The words begin with a command, and nothing is told of help.
+fn top_app<'a>(alloc: Global) -> Command<'a>
+    ensures { app_of result ≡ spec.top_app }
+{
+    Command::new(alloc, "vest")
+        .no_binary_name(true)
+        .disable_help_flag(true)
+        .disable_help_subcommand(true)
+        .subcommand_required(true)
+}
+
+// All commands.
+pub fn vest_app<'a>(alloc: Global) -> Result<Command<'a>, AllocError>
+    ensures { IfOk result (λ c. app_of c ≡ spec.vest_app) }
+{
+    let run = run_app(alloc)?;
+    let translate = plain_app(alloc, "translate")?;
+    let list = plain_app(alloc, "list")?;
+    let generate = plain_app(alloc, "generate")?;
+    let with_run = top_app(alloc).subcommand(run)?;
+    let with_translate = with_run.subcommand(translate)?;
+    let with_list = with_translate.subcommand(list)?;
+    with_list.subcommand(generate)
+}

@@ -1,0 +1,174 @@
+// The commands, and a reader for each.
+ghost use Rattle.std.specs.Prelude.{◌≡◌, ◌≤◌, IfOk, IfSome, List, codes, false, nat_le, option_map};
+ghost use Rattle.std.specs.Str.{bytes_eq};
+ghost use Rattle.clap.specs.Words.{found_of, rows_of};
+ghost use Rattle.command_words.specs.App.{HoldsParts, names_id};
+ghost use Rattle.command_words.specs.Answers.{AnswersTo, Reads};
+ghost use Rattle.command_words.specs.Parts.{Part, values_in};
+ghost use Rattle.command_words.specs.Numbers.{within, few_ranges};
+ghost use Rattle.command_words.specs.Commands as spec;
+
+use crate::WordsFault;
+use crate::numbers::{Range, few_ranges, number_in};
+use crate::values::{only_name, two_names, value_of};
+use clap::ArgMatches;
+use std::alloc::{AllocError, Global};
+
+/// The number of steps of a processor where no option says it.
+const BUDGET: u64 = 100_000_000;
+
+const MOST_BUDGET: u64 = 1_000_000_000_000;
+
+/// The number of entries of a history where no option says it.
+const EVENTS: u64 = 4_194_304;
+
+const MOST_EVENTS: u64 = 4_194_304;
+
+/// The miss number where no option says it.
+const MISS: u64 = 0;
+
+const MOST_MISS: u64 = 1_000;
+
+/// The greatest number of a generated image.
+const MOST_GENERATED: u64 = 32_000;
+
+/// What limits a run.
+#[derive(Clone, Copy, Debug, PartialEq, Eq)]
+pub struct Limits {
+    /// How many steps a processor makes at most: up to 10^12.
+    pub budget: u64,
+    /// How many entries the history has at most: up to 4,194,304.
+    pub events: u32,
+    /// The number by which store conditionals miss: 0 for never, else 2 to 1,000.
+    pub miss: u16,
+}
+
+/// What a command line asks for. The names are words of the line.
+#[derive(Debug, Drop)]
+pub enum Command<'a> {
+    /// `run NAME`, with `--budget`, `--events`, `--miss` and `--interpret` behind it: runs an image.
+    Run {
+        name: &'a str,
+        limits: Limits,
+        /// At most 64.
+        ranges: Vec<Range>,
+    },
+    /// `translate IMAGE OUT`: writes the translated file.
+    Translate {
+        image: &'a str,
+        out: &'a str,
+    },
+    /// `list NAME`: writes the listing.
+    List {
+        name: &'a str,
+    },
+    /// `generate N`: runs the image that is generated for a number from 1 to 32,000.
+    Generate {
+        number: u32,
+    },
+}
+
+// The number of an option.
+fn number_of(matches: &ArgMatches<'_>, label: &str, default: u64) -> Option<u64>
+    requires { bytes_eq names_id label.now ≡ false }
+    ensures { (parts : List Part) → HoldsParts parts (rows_of (found_of matches.now))
+        → result ≡ spec.number_of label.now default parts }
+{
+    match value_of(matches, label) {
+        Some(text) => number_in(text),
+        None => Some(default),
+    }
+}
+
+fn number_within(matches: &ArgMatches<'_>, label: &str, default: u64, most: u64) -> Option<u64>
+    requires { bytes_eq names_id label.now ≡ false }
+    ensures value { (parts : List Part) → HoldsParts parts (rows_of (found_of matches.now))
+        → result ≡ within (λ n. nat_le n most) (spec.number_of label.now default parts) }
+    ensures bound { IfSome result (λ n. n ≤ most) }
+{
+    let number = number_of(matches, label, default)?;
+    if number <= most { Some(number) } else { None }
+}
+
+fn miss_of(matches: &ArgMatches<'_>) -> Option<u16>
+    ensures { (parts : List Part) → HoldsParts parts (rows_of (found_of matches.now))
+        → result ≡ within spec.is_miss (spec.number_of (codes "miss") MISS parts) }
+{
+    let miss = number_of(matches, "miss", MISS)?;
+    if miss == 0 || (miss >= 2 && miss <= MOST_MISS) {
+        Some(miss as u16)
+    } else {
+        None
+    }
+}
+
+fn limits_of(matches: &ArgMatches<'_>) -> Option<Limits>
+    ensures { (parts : List Part) → HoldsParts parts (rows_of (found_of matches.now))
+        → result ≡ spec.limits_of parts }
+{
+    let budget = number_within(matches, "budget", BUDGET, MOST_BUDGET)?;
+    let events = number_within(matches, "events", EVENTS, MOST_EVENTS)?;
+    let miss = miss_of(matches)?;
+    Some(Limits {
+        budget,
+        events: events as u32,
+        miss,
+    })
+}
+
+fn ranges_of(alloc: Global, matches: &ArgMatches<'_>) -> Result<Option<Vec<Range>>, AllocError>
+    ensures { (parts : List Part) → HoldsParts parts (rows_of (found_of matches.now))
+        → IfOk result (λ o. option_map (λ v. v.items) o
+        ≡ few_ranges (values_in (codes "interpret") parts)) }
+{
+    match matches.get_strs("interpret") {
+        Some(texts) => few_ranges(alloc, texts),
+        None => Ok(Some(Vec::new(alloc))),
+    }
+}
+
+pub fn read_run<'a>(alloc: Global, matches: &ArgMatches<'a>) -> Result<Command<'a>, WordsFault>
+    ensures { (parts : List Part) → HoldsParts parts (rows_of (found_of matches.now))
+        → AnswersTo (spec.run_of parts) result }
+{
+    let name = only_name(matches).ok_or(WordsFault::Usage)?;
+    let limits = limits_of(matches).ok_or(WordsFault::Usage)?;
+    match ranges_of(alloc, matches) {
+        Ok(Some(ranges)) => Ok(Command::Run {
+            name,
+            limits,
+            ranges,
+        }),
+        Ok(None) => Err(WordsFault::Usage),
+        Err(_) => Err(WordsFault::WantOfMemory),
+    }
+}
+
+pub fn read_translate<'a>(matches: &ArgMatches<'a>) -> Option<Command<'a>>
+    ensures { (parts : List Part) → HoldsParts parts (rows_of (found_of matches.now))
+        → Reads (spec.translate_of parts) result }
+{
+    let (image, out) = two_names(matches)?;
+    Some(Command::Translate { image, out })
+}
+
+pub fn read_list<'a>(matches: &ArgMatches<'a>) -> Option<Command<'a>>
+    ensures { (parts : List Part) → HoldsParts parts (rows_of (found_of matches.now))
+        → Reads (spec.list_of parts) result }
+{
+    let name = only_name(matches)?;
+    Some(Command::List { name })
+}
+
+pub fn read_generate<'a>(matches: &ArgMatches<'a>) -> Option<Command<'a>>
+    ensures { (parts : List Part) → HoldsParts parts (rows_of (found_of matches.now))
+        → Reads (spec.generate_of parts) result }
+{
+    let number = number_in(only_name(matches)?)?;
+    if number < 1 || number > MOST_GENERATED {
+        return None;
+    }
+    Some(Command::Generate {
+        number: number as u32,
+    })
+}
