@@ -1,6 +1,6 @@
 // Whole-number arithmetic, by a simulator's answers.
 use anyhow::{Result, bail, ensure};
-use row_tally::Tally;
+use row_tally::{Tally, fields, longword, number, rows};
 use std::alloc::Global;
 use vt_words::{Coded, add, divide, limit, mul, negate, sub};
 
@@ -37,10 +37,6 @@ pub fn coded(value: u64, codes: u8) -> Coded {
     }
 }
 
-fn number(text: &str) -> Result<u64> {
-    Ok(u64::from_str_radix(text, 16)?)
-}
-
 fn bit(text: &str) -> Result<bool> {
     Ok(match text {
         "0" => false,
@@ -62,29 +58,27 @@ fn answer(operation: Operation, bytes: u32, a: u64, b: u64, carry: bool) -> Resu
     })
 }
 
-/// Reads a line, for what the operation gives and what it is to give.
-fn case(alloc: Global, line: &str) -> Result<(Coded, Coded)> {
-    let words: Vec<&str> = line.split(' ').collect(alloc)?;
-    let [operation, bytes, a, b, carry, value, codes] = words.as_slice() else {
-        bail!("not seven words: {line}");
-    };
+/// Reads a row, for what the operation gives and what it is to give.
+fn case(alloc: Global, row: &str) -> Result<(Coded, Coded)> {
+    let words = fields(alloc, row, 7)?;
     let found = answer(
-        Operation::named(operation)?,
-        bytes.parse::<u32>()?,
-        number(a)?,
-        number(b)?,
-        bit(carry)?,
+        Operation::named(words[0])?,
+        longword(words[1])?,
+        number(words[2])?,
+        number(words[3])?,
+        bit(words[4])?,
     )?;
-    let wanted = coded(number(value)?, u8::from_str_radix(codes, 2)?);
-    Ok((found, wanted))
+    let codes = u8::from_str_radix(words[6], 2)?;
+    Ok((found, coded(number(words[5])?, codes)))
 }
 
-/// Checks the cases, one a line.
-pub fn check(rt: &(impl Print + AllocGlobal), cases: &str) -> Result<()> {
+/// Checks the cases, one a row.
+pub fn check(rt: &(impl Print + AllocGlobal), cases: &str) -> Result<Tally> {
     let mut tally = Tally::NONE;
-    for line in cases.lines().filter(|line| !line.starts_with('#')) {
-        let (found, wanted) = case(rt.alloc(), line)?;
-        tally.check(rt, line, &found, &wanted)?;
+    for row in &rows(rt.alloc(), cases)? {
+        let (found, wanted) = case(rt.alloc(), row)?;
+        tally.check(rt, row, &found, &wanted)?;
     }
-    tally.print(rt, "arithmetic")
+    tally.print(rt, "arithmetic")?;
+    Ok(tally)
 }

@@ -2,7 +2,7 @@
 use crate::arithmetic::coded;
 use anyhow::Result;
 use row_tally::Tally;
-use vax_form::{Mode, Size, VaxState, Width};
+use vax_form::{Mode, Pending, Size, VaxState, Width};
 use vt_words::{
     and, and_not, cleared, complement, convert, extended_product, extract_high, extract_low, field,
     insert_high, insert_low, is_negative, kept, mask_high, mask_low, or, rotate, shift_left,
@@ -10,7 +10,7 @@ use vt_words::{
 };
 
 /// Conversions and shifts with their condition codes, by the VAX simulator SIMH; and signs.
-pub fn check_conversions(rt: &impl Print) -> Result<()> {
+pub fn check_conversions(rt: &impl Print) -> Result<Tally> {
     let mut tally = Tally::NONE;
     for (case, found, wanted) in [
         ("CVTWB", convert(2, 1, 0x4268), coded(0x68, 0b0010)),
@@ -31,11 +31,12 @@ pub fn check_conversions(rt: &impl Print) -> Result<()> {
     ] {
         tally.check(rt, case, &found, &wanted)?;
     }
-    tally.print(rt, "conversions")
+    tally.print(rt, "conversions")?;
+    Ok(tally)
 }
 
 /// Operations that give a value alone. Those that are a VAX instruction are by the simulator SIMH.
-pub fn check_logic(rt: &impl Print) -> Result<()> {
+pub fn check_logic(rt: &impl Print) -> Result<Tally> {
     let mut tally = Tally::NONE;
     for (case, found, wanted) in [
         ("ASHL by -1", shift_right(0x3c, 1), 0x1e),
@@ -59,11 +60,12 @@ pub fn check_logic(rt: &impl Print) -> Result<()> {
     ] {
         tally.check(rt, case, &found, &wanted)?;
     }
-    tally.print(rt, "logic and products")
+    tally.print(rt, "logic and products")?;
+    Ok(tally)
 }
 
 /// Operations on quadwords. Those that are an Alpha instruction are by QEMU.
-pub fn check_quadwords(rt: &impl Print) -> Result<()> {
+pub fn check_quadwords(rt: &impl Print) -> Result<Tally> {
     let mut tally = Tally::NONE;
     let (quad, offset) = (0xcbee_ac87_e345_923a, 7);
     for (case, found, wanted) in [
@@ -94,11 +96,12 @@ pub fn check_quadwords(rt: &impl Print) -> Result<()> {
     ] {
         tally.check(rt, case, &found, &wanted)?;
     }
-    tally.print(rt, "quadwords")
+    tally.print(rt, "quadwords")?;
+    Ok(tally)
 }
 
 /// Sizes, addressing modes and registers, by the VAX Architecture Reference Manual.
-pub fn check_forms(rt: &impl Print) -> Result<()> {
+pub fn check_forms(rt: &impl Print) -> Result<Tally> {
     let mut tally = Tally::NONE;
     tally.check(rt, "a quadword", &Size::Quad.bytes(), &8)?;
     tally.check(rt, "a word", &Width::Word.bytes(), &2)?;
@@ -108,8 +111,11 @@ pub fn check_forms(rt: &impl Print) -> Result<()> {
         r: [0; 15],
         pc: 0,
         psw: 0,
+        handler: 0,
+        pending: Pending::Nothing,
     };
     state.set_register(14, 0x1460);
     tally.check(rt, "SP", &state.register(14), &0x1460)?;
-    tally.print(rt, "sizes, modes and registers")
+    tally.print(rt, "sizes, modes and registers")?;
+    Ok(tally)
 }

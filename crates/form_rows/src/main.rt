@@ -12,16 +12,19 @@ mod opcodes;
 mod pages;
 
 use anyhow::{Context, Result};
+use row_tally::Tally;
 use std::fs;
 
 fn main(rt: HostRuntime) -> Result<()> {
+    let mut all = Tally::NONE;
     let table = fs::read_to_string(&rt, "opcodes.txt").context("opcodes.txt")?;
-    opcodes::check(&rt, table.as_str())?;
+    all.add(opcodes::check(&rt, table.as_str())?);
     let cases = fs::read_to_string(&rt, "arithmetic.txt").context("arithmetic.txt")?;
-    arithmetic::check(&rt, cases.as_str())?;
-    calls::check_conversions(&rt)?;
-    calls::check_logic(&rt)?;
-    calls::check_quadwords(&rt)?;
-    calls::check_forms(&rt)?;
-    pages::check(&rt)
+    all.add(arithmetic::check(&rt, cases.as_str())?);
+    all.add(calls::check_conversions(&rt)?);
+    all.add(calls::check_logic(&rt)?);
+    all.add(calls::check_quadwords(&rt)?);
+    all.add(calls::check_forms(&rt)?);
+    all.add(pages::check(&rt)?);
+    all.verdict()
 }

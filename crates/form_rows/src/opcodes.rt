@@ -1,7 +1,7 @@
 // The opcodes, by the table of instructions.
 use crate::names::name_of;
 use anyhow::{Context, Result, bail, ensure};
-use row_tally::Tally;
+use row_tally::{Tally, longword, rows, words};
 use std::alloc::{AllocError, Global};
 use vax_form::{Access, Class, Row, Size, class_of, is_long, operation_of, row_of};
 
@@ -36,11 +36,11 @@ impl Form {
         })
     }
 
-    /// Reads a line, for the opcode and its form.
-    fn read(alloc: Global, line: &str) -> Result<(u8, Form)> {
-        let words: Vec<&str> = line.split(' ').collect(alloc)?;
+    /// Reads a row, for the opcode and its form.
+    fn read(alloc: Global, row: &str) -> Result<(u8, Form)> {
+        let words = words(alloc, row)?;
         let [opcode, name, class, operands @ ..] = words.as_slice() else {
-            bail!("not three words: {line}");
+            bail!("not three words: {row}");
         };
         let (class, is_long) = class_named(class)?;
         let form = Form {
@@ -49,7 +49,7 @@ impl Form {
             is_long,
             row: Some(row_with(operands)?),
         };
-        Ok((u8::from_str_radix(opcode, 16)?, form))
+        Ok((u8::try_from(longword(opcode)?)?, form))
     }
 }
 
@@ -104,21 +104,25 @@ fn row_with(operands: &[&str]) -> Result<Row> {
     Ok(row)
 }
 
-/// Checks the opcodes of the table, one a line, and that all others are reserved.
-pub fn check(rt: &(impl Print + AllocGlobal), table: &str) -> Result<()> {
+/// Checks the opcodes of the table, one a row, and tells which there are.
+fn check_known(rt: &(impl Print + AllocGlobal), table: &str) -> Result<([bool; 256], Tally)> {
     let alloc = rt.alloc();
     let mut known = [false; 256];
-    let mut instructions = Tally::NONE;
-    for line in table.lines().filter(|line| !line.starts_with('#')) {
-        let (opcode, form) = Form::read(alloc, line)?;
-        ensure!(
-            !known[usize::from(opcode)],
-            "a second line for {opcode:02X}"
-        );
+    let mut tally = Tally::NONE;
+    for row in &rows(alloc, table)? {
+        let (opcode, form) = Form::read(alloc, row)?;
+        ensure!(!known[usize::from(opcode)], "a second row for {opcode:02X}");
         known[usize::from(opcode)] = true;
-        instructions.check(rt, line, &Form::of(alloc, opcode)?, &form)?;
+        tally.check(rt, row, &Form::of(alloc, opcode)?, &form)?;
     }
-    instructions.print(rt, "instructions")?;
+    tally.print(rt, "instructions")?;
+    Ok((known, tally))
+}
+
+/// Checks the opcodes of the table, and that all others are reserved.
+pub fn check(rt: &(impl Print + AllocGlobal), table: &str) -> Result<Tally> {
+    let alloc = rt.alloc();
+    let (known, instructions) = check_known(rt, table)?;
     let mut reserved = Tally::NONE;
     for opcode in 0..=255u8 {
         if !known[usize::from(opcode)] {
@@ -126,5 +130,7 @@ pub fn check(rt: &(impl Print + AllocGlobal), table: &str) -> Result<()> {
             reserved.check(rt, &case, &Form::of(alloc, opcode)?, &Form::RESERVED)?;
         }
     }
-    reserved.print(rt, "reserved opcodes")
+    reserved.print(rt, "reserved opcodes")?;
+    reserved.add(instructions);
+    Ok(reserved)
 }

@@ -62,7 +62,7 @@ fn code(byte: u8) -> Place {
 }
 
 /// Checks addresses beside and on the edges of the pages, and areas that reach from one page into the next.
-pub fn check(rt: &(impl Print + AllocGlobal)) -> Result<()> {
+pub fn check(rt: &(impl Print + AllocGlobal)) -> Result<Tally> {
     let alloc = rt.alloc();
     let pages = table(alloc)?;
     let mut tally = Tally::NONE;
@@ -102,5 +102,6 @@ pub fn check(rt: &(impl Print + AllocGlobal)) -> Result<()> {
     ] {
         tally.check(rt, case, &found, &wanted)?;
     }
-    tally.print(rt, "page table")
+    tally.print(rt, "page table")?;
+    Ok(tally)
 }

@@ -1,9 +1,16 @@
-//! How many rows of a table there are and how many agree, for the programs that go through tables.
+//! Tables of rows, for the programs that go through them: how they are read, how many rows there are and how many agree.
 #![tactic(auto)]
 
-ghost use Rattle.std.specs.Prelude.{◌≡◌, ◌+◌, min, if◌then◌else◌};
+mod families;
+mod fault;
+mod reading;
 
-use anyhow::Result;
+ghost use Rattle.std.specs.Prelude.{◌≡◌, ◌+◌, ◌↔◌, min, if◌then◌else◌, IsOk};
+
+use anyhow::{Result, ensure};
+pub use families::Families;
+pub use fault::RowFault;
+pub use reading::{bytes, fields, is_row, longword, number, pieces, rows, words};
 use std::fmt::Debug;
 
 /// How many rows there were, and how many agree; neither counts on beyond the greatest number.
@@ -52,6 +59,14 @@ impl Tally {
         if !agrees {
             println!(rt; "{row}: {found:?}, not {wanted:?}")?;
         }
+        Ok(())
+    }
+
+    /// Refuses a tally in which a row disagrees, so that a program which ends with it has another status.
+    pub fn verdict(self) -> Result<()>
+        ensures { IsOk result ↔ self.agree ≡ self.rows }
+    {
+        ensure!(self.agree == self.rows, "rows disagree");
         Ok(())
     }
 
