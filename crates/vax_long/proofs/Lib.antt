@@ -2,3 +2,5 @@ pub mod Stops
 pub mod RegisterSteps
 pub mod StringSteps
 pub mod TreesAt
+pub mod Seeing
+pub mod Deliveries

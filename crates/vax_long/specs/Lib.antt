@@ -4,3 +4,5 @@ pub mod Strings
 pub mod Index
 pub mod Instructions
 pub mod TreeAt
+pub mod Pending
+pub mod Seen

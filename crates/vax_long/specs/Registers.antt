@@ -1,6 +1,6 @@
 -- Lists of registers on the stack, by the bits of a mask.
 -- VAX Architecture Reference Manual, "Miscellaneous Instructions": PUSHR and POPR.
-use Rattle.std.specs.Prelude.{ℕ, zero, suc, ◌+◌, ◌-◌, ◌/◌, ◌%◌, ◌^◌, ◌==◌, List, Bool, true}
+use Rattle.std.specs.Prelude.{ℕ, zero, suc, ◌+◌, ◌-◌, ◌/◌, ◌%◌, ◌^◌, ◌==◌, List, Bool, true, false}
 use Rattle.vax_form.specs.State.{register}
 use Rattle.vax_form.specs.Script.{Script, ◌>>=◌, ◌>>◌, pure, get, when◌then◌else◌}
 use Rattle.vax_form.specs.declared.instr.Size.TheVariants.{Word}
@@ -8,7 +8,7 @@ use Rattle.vax_form.specs.declared.instr.Instr.{Instr}
 use Rattle.vax_form.specs.declared.script.End.{End}
 use Rattle.vax_form.specs.declared.state.VaxState.{VaxState}
 use Rattle.vax_meaning.specs.declared.evaluation.Evaluated.{Evaluated}
-use Rattle.vax_meaning.specs.Memory.{low_bytes, check, write, fetch}
+use Rattle.vax_meaning.specs.Memory.{low_bytes, check, read, write}
 use Rattle.vax_meaning.specs.Operands.{get_register, set_register}
 use Rattle.vax_meaning.specs.Evaluation.{value_of_place}
 use Rattle.vax_meaning.specs.Codes.{go_to}
@@ -48,13 +48,20 @@ push_registers (suc number) mask values = do
   when is_in_mask number mask then push_checked (register number values) else pure tt
   push_registers number mask values
 
--- checks and pops a longword: SP is raised by 4
+-- pops a longword whose place was checked: SP is raised by 4
+unfoldable pub pop_checked : Script ℕ
+pop_checked = do
+  top ← get_register 14
+  value ← read top 4
+  set_register 14 ((top + 4) % 2 ^ 32)
+  pure (low_bytes 4 value)
+
+-- checks and pops a longword
 unfoldable pub pop : Script ℕ
 pop = do
   top ← get_register 14
-  value ← fetch top 4
-  set_register 14 ((top + 4) % 2 ^ 32)
-  pure (low_bytes 4 value)
+  check top 4 false
+  pop_checked
 
 -- pops into a register
 unfoldable pub pop_register : (number : ℕ) → Script (Unit {0})

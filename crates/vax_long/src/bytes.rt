@@ -26,7 +26,7 @@ pub fn beside(down: bool, address: u32) -> u32
 }
 
 /// The first of many bytes from the address on that may not be used with that intent.
-fn first_bad(pages: &Pages, address: u32, count: u16, write: bool) -> Option<u32>
+pub(crate) fn first_bad(pages: &Pages, address: u32, count: u16, write: bool) -> Option<u32>
     ensures { result ≡ first_bad pages.now write address count }
 {
     let mut place = address;

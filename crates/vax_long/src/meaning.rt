@@ -3,6 +3,7 @@ ghost use Rattle.vax_form.specs.Script.{Moment, run};
 ghost use Rattle.vax_form.specs.Tree.{run_outcome};
 ghost use Rattle.vax_meaning.specs.Play.{Within};
 ghost use Rattle.vax_long.specs.Instructions.{long_script_of, next_long_of};
+ghost use Rattle.vax_long.specs.Seen.{seen_of};
 
 use crate::instructions::{long_operation_of, long_operation_run};
 use vax_form::{End, Exception, Instr, Outcome, Pages, Stop, VaxState};
@@ -21,12 +22,20 @@ fn played(state: &VaxState, instr: &Instr, pages: &Pages, replies: &[u64]) -> Ou
         pages,
         replies,
     };
-    match long_operation_run(&mut cursor, operation, instr) {
-        Ok(End::Done) => Outcome::Done(cursor.state),
-        Ok(End::Exits) => Outcome::Exits(cursor.state),
-        Ok(End::Traps(kind)) => Outcome::Raises(Exception::Arithmetic(kind), cursor.state),
+    let run = long_operation_run(&mut cursor, operation, instr);
+    seen(state, &cursor.state, run)
+}
+
+/// What is seen of a script that was run from one state to another.
+pub(crate) fn seen(before: &VaxState, after: &VaxState, run: Result<End, Stop>) -> Outcome
+    ensures { result ≡ seen_of before.now after.now run }
+{
+    match run {
+        Ok(End::Done) => Outcome::Done(*after),
+        Ok(End::Exits) => Outcome::Exits(*after),
+        Ok(End::Traps(kind)) => Outcome::Raises(Exception::Arithmetic(kind), *after),
         Err(Stop::Wants(reference)) => Outcome::Wants(reference),
-        Err(Stop::Fails(exception)) => Outcome::Raises(exception, *state),
+        Err(Stop::Fails(exception)) => Outcome::Raises(exception, *before),
     }
 }
 

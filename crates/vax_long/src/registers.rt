@@ -1,11 +1,11 @@
 ghost use Rattle.std.specs.Prelude.{◌≡◌, ◌<◌, ◌≤◌, ◌+◌, ◌*◌};
 ghost use Rattle.vax_form.specs.Script.{pure, when◌then◌else◌};
 ghost use Rattle.vax_meaning.specs.Play.{Plays, Uses};
-ghost use Rattle.vax_long.specs.Registers.{is_in_mask, below, check_push, check_registers, push_checked, push_registers, pop, pop_register, pop_registers, push_by_mask, pop_by_mask};
+ghost use Rattle.vax_long.specs.Registers.{is_in_mask, below, check_push, check_registers, push_checked, push_registers, pop_checked, pop, pop_register, pop_registers, push_by_mask, pop_by_mask};
 
 use vax_form::{End, Instr, Size, Stop, VaxState};
 use vax_meaning::{
-    Cursor, Evaluated, checked, fetched, gone_to, low, register_of, set_register_of, value_at,
+    Cursor, Evaluated, checked, gone_to, low, read_checked, register_of, set_register_of, value_at,
     written,
 };
 
@@ -98,16 +98,26 @@ pub fn registers_pushed(
     Ok(())
 }
 
+/// Pops a longword whose place was checked.
+#[tactic(auto, unfolding(crate::specs::Registers::pop_checked))]
+pub fn longword_taken(cursor: &mut Cursor) -> Result<u32, Stop>
+    ensures plays { Plays pop_checked cursor.old result cursor.new }
+    ensures few { Uses 2 cursor.old result cursor.new }
+{
+    let top = register_of(cursor, 14);
+    let value = read_checked(cursor, top, 4)?;
+    set_register_of(cursor, 14, top.wrapping_add(4));
+    Ok(low(4, value) as u32)
+}
+
 /// Checks and pops a longword.
 #[tactic(auto, unfolding(crate::specs::Registers::pop))]
 pub fn longword_popped(cursor: &mut Cursor) -> Result<u32, Stop>
     ensures plays { Plays pop cursor.old result cursor.new }
     ensures few { Uses 2 cursor.old result cursor.new }
 {
-    let top = register_of(cursor, 14);
-    let value = fetched(cursor, top, 4)?;
-    set_register_of(cursor, 14, top.wrapping_add(4));
-    Ok(low(4, value) as u32)
+    checked(cursor, register_of(cursor, 14), 4, false)?;
+    longword_taken(cursor)
 }
 
 /// Pops into a register.
