@@ -8,7 +8,7 @@ use Rattle.block_law.specs.Rounds.{block_steps}
 use Rattle.block_law.specs.Services.{service}
 use Rattle.block_law.specs.Translations.{Meaning}
 
--- instructions keep to states and to references that memory can make, services are these, and an access allows at most as
+-- instructions keep to states and to references that memory can make, services are the six, and an access allows at most as
 -- many steps more as a block may take
 pub record IsSound (meaning : Meaning) : Type 0 where
   pub ranged : (thread : ℕ) → thread < 256 → StaysInRange meaning.pages (meaning.tree thread)

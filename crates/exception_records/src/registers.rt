@@ -51,7 +51,13 @@ fn low(value: u64) -> u32
 
 /// The VAX state at a boundary, as 32 registers of translated code show it: R0 to R14 by the low longwords of their
 /// registers, the PC, and the PSW by R20 and the condition codes.
-pub fn shown(registers: &[u64; 32], vax_pc: u32, rules: &Rules, held: &Flags, handler: u32) -> VaxState
+pub fn shown(
+    registers: &[u64; 32],
+    vax_pc: u32,
+    rules: &Rules,
+    held: &Flags,
+    handler: u32,
+) -> VaxState
     ensures { result ≡ shown (slice_index registers.now) vax_pc rules.now held.now handler }
 {
     VaxState {

@@ -1,7 +1,8 @@
 -- A legal history has the headline.
-use Rattle.std.proofs.Common.{◌≡◌, ◌≢◌, ℕ, zero, suc, ◌<◌, ◌≤◌, ◌+◌, ◌^◌, false, if◌then◌else◌, List, [], ◌∷◌, ◌++◌, length, Option, Some, None, refl, sym, ap, ◌∙◌, subst, arith, lit<, ⊎_elim, All}
+use Rattle.std.proofs.Common.{◌≡◌, ◌≢◌, ℕ, zero, suc, ◌<◌, ◌≤◌, ◌+◌, ◌-◌, ◌^◌, false, if◌then◌else◌, List, [], ◌∷◌, ◌++◌, length, Option, Some, None, refl, sym, ap, ◌∙◌, subst, arith, lit<, ⊎_elim, All}
 use Rattle.std.specs.Prelude.{map, option_map, slice_get, replicate}
 use Rattle.std.proofs.lemmas.List.Elements.{All-nil, All-cons}
+use Rattle.alpha_meaning.specs.State.{Alpha, Regs, at_place}
 use Rattle.image_file.specs.Start.{start_state}
 use Rattle.image_file.specs.declared.image.Start.{Start}
 use Rattle.memory_core.specs.declared.entry.Entry.{Entry}
@@ -9,7 +10,8 @@ use Rattle.memory_core.specs.declared.entry.SetUp.{SetUp}
 use Rattle.memory_core.specs.Order.{own}
 use Rattle.memory_core.specs.Order as memory
 use Rattle.vax_form.specs.State.{IsState}
-use Rattle.vax_form.specs.Tree.{Retired}
+use Rattle.vax_form.specs.Tree.{Tree, Retired}
+use Rattle.vax_form.specs.declared.state.Flags.{Flags}
 use Rattle.vax_form.specs.declared.state.VaxState.{VaxState}
 use Rattle.vax_form.proofs.GrammarFinds.{option_map-some}
 use Rattle.vax_driven.specs.declared.ThreadRun.{ThreadRun}
@@ -20,10 +22,10 @@ use Rattle.vest_core.specs.Explained.{replies_by, Explained}
 use Rattle.vest_core.specs.OneHistory.{world_of, IsDriven}
 use Rattle.vest_core.proofs.Histories.{one_history}
 use Rattle.block_law.specs.Translations.{Meets}
-use Rattle.system_model.specs.Settings.{Setting}
+use Rattle.system_model.specs.Settings.{Setting, goes_on}
 use Rattle.system_model.specs.Processors.{Mode, New, Runs, Interprets, Ended, Processor, Lost, begun, turn, Reaches}
 use Rattle.system_model.specs.Legal.{starts, spent, IsGoing, IsReached, IsLegal}
-use Rattle.vest_core.specs.Entries.{AllPaired}
+use Rattle.vest_core.specs.Entries.{AllPaired, Lock}
 use Rattle.vest_core.specs.Headline.{Claims, HasTies}
 use Rattle.vest_core.proofs.Facts.{IsShown, HasFewEntries, Facts}
 use Rattle.system_model.specs.Interpreted.{threads_of, ties_of, ties_in, end_in, has_raised}
@@ -34,9 +36,10 @@ use Rattle.vest_core.proofs.Blocks.{Owes, IsForm, opens}
 use Rattle.vest_core.proofs.Boundaries.{fresh, enter, awake}
 use Rattle.vest_core.proofs.Handled.{Handled, opens_handled}
 use Rattle.system_model.specs.Ranges.{word_for}
-use Rattle.system_model.specs.Steps.{next}
+use Rattle.system_model.specs.Steps.{next, settled_last}
 use Rattle.vest_core.proofs.Failures.{fail_for_cause}
 use Rattle.vest_core.proofs.Locks.{all_fair}
+use Rattle.vest_core.proofs.Owed.{OwedNext}
 use Rattle.vest_core.proofs.Processors.{facts, moment_at}
 use Rattle.vest_core.proofs.Sums.{all_entries, own_none}
 
@@ -98,6 +101,25 @@ spent_facts setting begin thread mine was going f = record {
     here_is : Option Retired
     here_is = reached (threads_of setting begin) thread was.retired w
 
+-- ---- what is owed of a thread's instructions, with its handler
+module _ (setting : Setting) (sound : IsSound setting.meaning) (meets : Meets setting.meaning setting.code) (thread : ℕ) (few : thread < 256) where
+  abbrev pub Owing : VaxState → Flags → Option Lock → (spare : ℕ) → Alpha → Tree → Type 0
+  Owing b held = Handled setting.meaning.pages b (Owes setting thread sound meets.map_rises b held) (IsForm setting)
+
+  pub owing_enters : (state : VaxState) (held : Flags) (regs : Regs) (word : ℕ) → IsState state → IsForm setting state held regs → goes_on setting thread state ≡ Some word
+      → Owing state held None 256 (at_place regs word) (setting.meaning.moment thread state)
+  owing_enters state held regs word is form goes = record {
+    alone = setting.meaning.tree thread state;
+    is = sound.moments thread state (awake state.pending (word_for setting.code.map setting.ranges thread state.pc) word goes).0;
+    owes = enter setting thread sound meets few state held regs word is form goes;
+  }
+
+  pub owing_opens : (retired : ℕ) (b : VaxState) (held : Flags) (lock : Option Lock) (spare : ℕ) (alpha : Alpha) (k : Tree) → Owing b held lock spare alpha k
+      → (0 < spare) × OwedNext setting.meaning.pages (Owing b held) (IsForm setting) (settled_last b) retired lock (spare - 1) k (next setting (moment_at thread retired b held) alpha)
+  owing_opens retired b held lock spare alpha k =
+      opens_handled setting.meaning.pages b (Owes setting thread sound meets.map_rises b held) (IsForm setting) retired lock spare alpha k (next setting (moment_at thread retired b held) alpha)
+      (λ t. opens setting thread sound meets.map_rises few retired b held lock spare alpha t)
+
 -- ---- one processor
 module _ (setting : Setting) (set_up : SetUp) (entries : List Entry) (sound : IsSound setting.meaning) (meets : Meets setting.meaning setting.code) (run : IsRun set_up) (order : memory.Meets set_up entries) where
   started : (thread : ℕ) (start : VaxState) → starts set_up.image thread ≡ Some start → IsState start × (thread < 256)
@@ -110,14 +132,7 @@ module _ (setting : Setting) (set_up : SetUp) (entries : List Entry) (sound : Is
   was_facts thread start was h reached_was =
       let s = started thread start h in
       facts setting (starts set_up.image) thread start h s.0 (sound.moments_ranged thread s.1)
-      (λ b held. Handled setting.meaning.pages b (Owes setting thread sound meets.map_rises b held) (IsForm setting)) (IsForm setting) (fresh setting)
-      (λ state held regs word is form goes. record {
-        alone = setting.meaning.tree thread state;
-        is = sound.moments thread state (awake state.pending (word_for setting.code.map setting.ranges thread state.pc) word goes).0;
-        owes = enter setting thread sound meets s.1 state held regs word is form goes;
-      })
-      (λ retired b held lock spare alpha k. opens_handled setting.meaning.pages b (Owes setting thread sound meets.map_rises b held) (IsForm setting) retired lock spare alpha k (next setting (moment_at thread retired b held) alpha)
-      (λ t. opens setting thread sound meets.map_rises s.1 retired b held lock spare alpha t))
+      (Owing setting sound meets thread s.1) (IsForm setting) (fresh setting) (owing_enters setting sound meets thread s.1) (owing_opens setting sound meets thread s.1)
       was.steps (own thread entries) was reached_was (all_fair set_up run.bytes entries order thread)
 
   pub facts_of : (budget thread : ℕ) (start : VaxState) (p : Processor) → starts set_up.image thread ≡ Some start → IsReached setting budget set_up.limit entries thread start p → Facts setting (starts set_up.image) thread (own thread entries) p

@@ -18,6 +18,7 @@ pub mod Handled
 pub mod Boundaries
 pub mod Sums
 pub mod Headlines
+pub mod Closed
 pub mod Images
 pub mod Runs
 mod Refused

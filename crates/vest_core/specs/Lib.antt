@@ -6,3 +6,4 @@ pub mod Failures
 pub mod Headline
 pub mod Law
 pub mod OneProcessor
+pub mod Closed
