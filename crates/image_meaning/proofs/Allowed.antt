@@ -41,6 +41,15 @@ pub first_allowed : (pages : Pages) (write : Bool) (address count : ℕ) → IsL
 first_allowed pages write address count small some all =
     subst (λ (at : ℕ). is_allowed pages at write ≡ true) (sym (first_address address small)) (all 0 (omega arith))
 
+-- some of them, from a place on
+pub part_allowed : (pages : Pages) (write : Bool) (address count : ℕ) → Allows pages write address count → (place few : ℕ) → place + few ≤ count
+    → Allows pages write ((address + place) % 2 ^ 32) few
+part_allowed pages write address count all place few fits i less =
+    subst (λ (at : ℕ). is_allowed pages at write ≡ true) (place_of address place i) (all (place + i) (omega arith))
+  where
+    place_of : (address place i : ℕ) → (address + (place + i)) % 2 ^ 32 ≡ ((address + place) % 2 ^ 32 + i) % 2 ^ 32
+    place_of address place i = omega arith
+
 -- ---- what may be written may be read
 
 read_where : (has writable : Bool) → (has && (not true || writable)) ≡ true → (has && (not false || writable)) ≡ true

@@ -9,11 +9,12 @@ use Rattle.vax_form.specs.declared.operation.Operation.TheVariants as operations
 use Rattle.vax_form.specs.declared.operation.Operation.TheVariants.{NoOperation, Breakpoint, ChangeMode, Move, Clear, MoveAddress, PushAddress, PushLong, MoveZeroExtended, Convert, MoveComplemented, MoveNegated, MovePsl, BitSetPsw, BitClearPsw, Compare, Test, BitTest, TwoOperands, ThreeOperands, Increment, Decrement, AddWithCarry, SubtractWithCarry, AddAlignedWord, ExtendedMultiply, ArithmeticShift, Rotate, ExtractField, InsertField, Branch, BranchIf, BranchOnLowBit, BranchOnBit, AddOneBranch, SubtractOneBranch, AddCompareBranch, BranchToSubroutine, Jump, JumpToSubroutine, ReturnFromSubroutine, Case}
 use Rattle.vax_meaning.specs.declared.evaluation.Evaluated.{Evaluated}
 use Rattle.vax_meaning.specs.Evaluation.{value_of_place, evaluated_row, nothings}
-use Rattle.vax_meaning.specs.Control.{put_byte, get_byte, serve, change_mode}
+use Rattle.vax_form.specs.declared.state.Pending.TheVariants.{Resume}
+use Rattle.vax_meaning.specs.Control.{put_byte, get_byte, exchange_handler, ask_to_resume, serve, change_mode}
 use Rattle.vax_meaning.specs.Instructions.{body, operation_script, script_where, script_of}
 use Rattle.vax_form.specs.declared.pages.Pages.{Pages}
-use Rattle.image_meaning.proofs.Keeping.{Keeps, Any, keep_pure, keep_bind, keep_then, keep_either, keep_fail, keep_written, kept, stay_ask}
-use Rattle.image_meaning.proofs.States.{low_longword}
+use Rattle.image_meaning.proofs.Keeping.{Keeps, Any, keep_pure, keep_bind, keep_then, keep_either, keep_get, keep_change, keep_fail, keep_written, kept, stay_ask}
+use Rattle.image_meaning.proofs.States.{IsLongword, low_longword, with_handler_is, with_pending_is}
 use Rattle.image_meaning.proofs.Operands.{keep_get_register, keep_set_register}
 use Rattle.image_meaning.proofs.Evaluations.{FitsValues, FitsRow, nothings_are_fit, keep_operands_from}
 use Rattle.image_meaning.proofs.Codes.{FitsInstr, keep_pc, keep_go_to}
@@ -36,11 +37,23 @@ keep_get_byte =
     keep_bind {P = Any} (kept (stay_ask (record { quadword = record { longword = lit< tt; within = omega arith; bit = tt }; allowed = tt; value = tt }) (λ reply _. tt)))
     (λ got _. keep_then (keep_set_register 0 (got % 2 ^ 32) (low_longword got)) (keep_pure tt))
 
+keep_exchange_handler : {pages : Pages} {w : Bool} → Keeps pages w w Any exchange_handler
+unfolding exchange_handler
+keep_exchange_handler =
+    keep_bind {P = IsLongword} (keep_get (λ state is. is.handler)) (λ before small.
+    keep_bind (keep_get_register 0) (λ first is.
+    keep_then (keep_change (λ state still. with_handler_is first state is still))
+    (keep_then (keep_set_register 0 before small) (keep_pure tt))))
+
+keep_ask_to_resume : {pages : Pages} {w : Bool} → Keeps pages w w Any ask_to_resume
+keep_ask_to_resume = keep_then (keep_change (λ state is. with_pending_is Resume state is)) (keep_pure tt)
+
 keep_serve : {pages : Pages} {w : Bool} (code thread : ℕ) → thread < 256 → Keeps pages w w Any (serve code thread)
 unfolding serve
 keep_serve code thread few =
     keep_either (keep_pure tt) (keep_either keep_put_byte (keep_either keep_get_byte (keep_either
-    (keep_then (keep_set_register 0 thread (omega arith)) (keep_pure tt)) (keep_then (keep_set_register 0 0 (lit< tt)) (keep_pure tt)))))
+    (keep_then (keep_set_register 0 thread (omega arith)) (keep_pure tt)) (keep_either keep_exchange_handler (keep_either keep_ask_to_resume
+    (keep_then (keep_set_register 0 0 (lit< tt)) (keep_pure tt)))))))
 
 keep_change_mode : {pages : Pages} {w : Bool} (instr : Instr) (thread : ℕ) (values : List Evaluated) → thread < 256 → FitsInstr instr → Keeps pages w w Any (change_mode instr thread values)
 unfolding change_mode

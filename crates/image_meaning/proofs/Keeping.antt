@@ -130,7 +130,7 @@ ends_kept pages w Done state is = is
 ends_kept pages w Exits state is = is
 ends_kept pages w (Traps kind) state is = is
 
--- the tree of an instruction's script
-pub keeps_tree : (pages : Pages) (script : Script End) (state : VaxState) → Keeps pages false true Any script → IsState state
-    → Ranged pages false (instruction_tree pages script state)
-keeps_tree pages script state kept is = kept.keeps state ends_with is (λ end after _ still. ends_kept pages true end after still)
+-- the tree of an instruction's script, and of the last part of one
+pub keeps_tree : (pages : Pages) (w v : Bool) (script : Script End) (state : VaxState) → Keeps pages w v Any script → IsState state
+    → Ranged pages w (instruction_tree pages script state)
+keeps_tree pages w v script state kept is = kept.keeps state ends_with is (λ end after _ still. ends_kept pages v end after still)

@@ -17,4 +17,5 @@ pub mod Registers
 pub mod Calls
 pub mod Strings
 pub mod TreesAt
+pub mod Moments
 pub mod Meanings

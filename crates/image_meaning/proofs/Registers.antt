@@ -1,5 +1,5 @@
 -- Lists of registers on the stack: each push goes to a place that was checked.
-use Rattle.std.proofs.Common.{◌≡◌, ℕ, zero, suc, ◌+◌, ◌-◌, ◌^◌, Bool, true, false, arith, List, refl, ap, ◌∙◌, subst, sym}
+use Rattle.std.proofs.Common.{◌≡◌, ℕ, zero, suc, ◌+◌, ◌-◌, ◌%◌, ◌^◌, Bool, true, false, arith, List, refl, ap, ◌∙◌, subst, sym}
 use Rattle.std.specs.Prelude.{if◌then◌else◌}
 use Rattle.std.proofs.lemmas.List.{get_or-set_same}
 use Rattle.vax_form.specs.State.{IsState, register, with_register}
@@ -11,13 +11,13 @@ use Rattle.vax_form.specs.declared.state.VaxState.{VaxState}
 use Rattle.vax_meaning.specs.declared.evaluation.Evaluated.{Evaluated}
 use Rattle.vax_meaning.specs.Codes.{go_to}
 use Rattle.vax_meaning.specs.Evaluation.{value_of_place}
-use Rattle.vax_long.specs.Registers.{is_in_mask, below, check_push, check_registers, push_checked, push_registers, pop, pop_register, pop_registers, push_by_mask, pop_by_mask}
+use Rattle.vax_long.specs.Registers.{is_in_mask, below, check_push, check_registers, push_checked, push_registers, pop_checked, pop, pop_register, pop_registers, push_by_mask, pop_by_mask}
 use Rattle.vax_form.specs.declared.pages.Pages.{Pages}
 use Rattle.image_meaning.proofs.Ranged.{Ranged, ranged_anywhere}
 use Rattle.image_meaning.proofs.Allowed.{Allows}
-use Rattle.image_meaning.proofs.Keeping.{Keeps, Any, keep_pure, keep_bind, keep_then, keep_either, stay_check_write}
+use Rattle.image_meaning.proofs.Keeping.{Keeps, Any, keep_pure, keep_bind, keep_then, keep_either, stay_check_read, stay_check_write}
 use Rattle.image_meaning.proofs.States.{IsLongword, low_longword, register_is, with_register_is}
-use Rattle.image_meaning.proofs.Memory.{stay_write, keep_fetch}
+use Rattle.image_meaning.proofs.Memory.{stay_read, stay_write}
 use Rattle.image_meaning.proofs.Operands.{keep_get_register, keep_set_register}
 use Rattle.image_meaning.proofs.Codes.{FitsInstr, keep_go_to}
 
@@ -128,11 +128,25 @@ push_registers_pushes (suc number) mask top values can =
 
 -- ---- pops
 
+-- pops a longword that may be read
+pub pop_from : (pages : Pages) (w : Bool) (state : VaxState) (rest : ℕ → VaxState → Tree) → IsState state → Allows pages false (register 14 state) 4
+    → ((value : ℕ) (after : VaxState) → IsLongword value → IsState after → register 14 after ≡ (register 14 state + 4) % 2 ^ 32 → Ranged pages w (rest value after))
+    → Ranged pages w (tree_of pages pop_checked state rest)
+unfolding pop_checked
+pop_from pages w state rest is can onward =
+    let top = (register 14 state + 4) % 2 ^ 32 in
+    let small : IsLongword top = low_longword (register 14 state + 4) in
+    (stay_read (register 14 state) 4 (register_is 14 state is) (omega arith) (omega arith) can).stays state
+    (λ value after. rest (value % 2 ^ 32) (with_register 14 top after))
+    (λ value _. onward (value % 2 ^ 32) (with_register 14 top state) (low_longword value) (with_register_is 14 top state small is) (top_set top state is))
+
 pub keep_pop : {pages : Pages} {w : Bool} → Keeps pages w w IsLongword pop
 unfolding pop
-keep_pop =
-    keep_bind (keep_get_register 14) (λ top is. keep_bind (keep_fetch top 4 is (omega arith) (omega arith)) (λ value _.
-    keep_then (keep_set_register 14 _ (low_longword (top + 4))) (keep_pure (low_longword value))))
+keep_pop {pages = pages} {w = w} = record {
+  keeps = λ state rest is onward.
+      (stay_check_read (register 14 state) 4 (register_is 14 state is)).stays state (λ _ after. tree_of pages pop_checked after rest) (λ _ can.
+      pop_from pages w state rest is can (λ value after small still _. onward value after small still));
+}
 
 pub keep_pop_register : {pages : Pages} {w : Bool} (number : ℕ) → Keeps pages w w Any (pop_register number)
 unfolding pop_register

@@ -3,7 +3,8 @@ use Rattle.std.proofs.Common.{ℕ, ◌+◌, ◌*◌, ◌/◌, ◌%◌, ◌<◌, 
 use Rattle.std.proofs.lemmas.Bool.{cases_lt}
 use Rattle.std.proofs.lemmas.List.{length-set, get_or_past}
 use Rattle.std.proofs.lemmas.List.Elements.{All-set}
-use Rattle.vax_form.specs.State.{IsState, register, with_register, with_pc, with_psw}
+use Rattle.vax_form.specs.State.{IsState, register, with_register, with_pc, with_psw, with_handler, with_pending}
+use Rattle.vax_form.specs.declared.state.Pending.{Pending}
 use Rattle.vax_form.specs.declared.state.VaxState.{VaxState}
 use Rattle.vt_words.specs.Values.{bit}
 use Rattle.vax_meaning.specs.Codes.{with_codes}
@@ -35,6 +36,12 @@ with_pc_is pc state small is = record { registers = is.registers; longwords = is
 
 pub with_psw_is : (psw : ℕ) (state : VaxState) → psw < 256 → IsState state → IsState (with_psw psw state)
 with_psw_is psw state small is = record { registers = is.registers; longwords = is.longwords; pc = is.pc; psw = small; handler = is.handler }
+
+pub with_handler_is : (handler : ℕ) (state : VaxState) → IsLongword handler → IsState state → IsState (with_handler handler state)
+with_handler_is handler state small is = record { registers = is.registers; longwords = is.longwords; pc = is.pc; psw = is.psw; handler = small }
+
+pub with_pending_is : (pending : Pending) (state : VaxState) → IsState state → IsState (with_pending pending state)
+with_pending_is pending state is = record { registers = is.registers; longwords = is.longwords; pc = is.pc; psw = is.psw; handler = is.handler }
 
 bit_below : (b : Bool) → bit b ≤ 1
 bit_below true = omega arith

@@ -57,7 +57,7 @@ keep_script_found (past address) thread few fits = keep_fail tt
 
 tree_ranged : (pages : Pages) (thread : ℕ) (state : VaxState) → AreBytes pages.code → thread < 256 → IsState state → Ranged pages false (tree_at pages thread state)
 tree_ranged pages thread state code few is =
-    keeps_tree pages (script_at pages thread state) state
+    keeps_tree pages false true (script_at pages thread state) state
     (keep_script_found (found pages state.pc) thread few (λ instr stands. found_fits pages state.pc instr code stands)) is
 
 pub tree_at_stays_in_range : TreeAtStaysInRange

@@ -9,6 +9,7 @@ use Rattle.vax_form.specs.declared.state.Flags.{Flags}
 use Rattle.vax_form.specs.declared.state.VaxState.{VaxState}
 use Rattle.vax_meaning.specs.Control.{serve}
 use Rattle.vax_long.specs.Instructions.{tree_at}
+use Rattle.vax_long.specs.Pending.{moment_at}
 use Rattle.alpha_meaning.specs.declared.access.AlphaKind.{AlphaKind}
 use Rattle.block_law.specs.Services.{service}
 use Rattle.block_law.specs.Sound.{IsSound}
@@ -17,6 +18,10 @@ use Rattle.image_meaning.specs.Meant.{vax_meaning}
 -- whatever stands at the PC of a state of a thread, where the code has bytes alone
 abbrev pub TreeAtStaysInRange : Type 0
 TreeAtStaysInRange = (pages : Pages) (thread : ℕ) → AreBytes pages.code → thread < 256 → StaysInRange pages (tree_at pages thread)
+
+-- whatever a thread does at a state
+abbrev pub MomentsStayInRange : Type 0
+MomentsStayInRange = (pages : Pages) (thread : ℕ) → AreBytes pages.code → thread < 256 → StaysInRange pages (moment_at pages thread)
 
 -- no instruction's fault is arithmetic
 abbrev pub TreeAtFailsByFaults : Type 0

@@ -9,16 +9,19 @@ use Rattle.vax_form.specs.declared.pages.Pages.{Pages}
 use Rattle.vax_form.specs.declared.state.Flags.{Flags}
 use Rattle.vax_meaning.specs.Control.{serve}
 use Rattle.vax_long.specs.Instructions.{tree_at}
+use Rattle.vax_long.specs.Pending.{moment_at}
 use Rattle.cc_liveness.specs.Codes.{none}
 use Rattle.cc_liveness.specs.Uses.{code_use_of}
 use Rattle.alpha_meaning.specs.declared.access.AlphaKind.{AlphaKind}
 use Rattle.block_law.specs.Translations.{Meaning}
 
--- what stands at a state's PC, and what CHMK does there, with what a translation says of each address
+-- what stands at a state's PC, what a thread does at a state, and what CHMK does, with what a translation says of each
+-- address
 abbrev pub vax_meaning : Pages → (written : ℕ → Flags) → (kinds : ℕ → AlphaKind → (bytes : ℕ) → Bool) → (bonus : ℕ → ℕ) → Meaning
 vax_meaning pages written kinds bonus = record {
   pages = pages;
   tree = tree_at pages;
+  moment = moment_at pages;
   serve = λ thread code state. instruction_tree pages (serve code thread) state;
   written = written;
   kinds = kinds;

@@ -1,6 +1,6 @@
 //! Laws of what instructions do, for the proofs of the crates above. Their functions do nothing.
 ghost use Rattle.vax_form.specs.GrammarLaws.{AreBytes};
-ghost use Rattle.image_meaning.specs.Laws.{TreeAtStaysInRange, TreeAtFailsByFaults, ServicesAre, VaxMeaningIsSound};
+ghost use Rattle.image_meaning.specs.Laws.{TreeAtStaysInRange, MomentsStayInRange, TreeAtFailsByFaults, ServicesAre, VaxMeaningIsSound};
 
 use vax_form::Pages;
 
@@ -10,6 +10,12 @@ use vax_form::Pages;
 #[tactic(auto, using(crate::proofs::TreesAt::tree_at_stays_in_range))]
 pub fn tree_at_stays_in_range()
     ensures { TreeAtStaysInRange }
+{}
+
+/// So does what the thread does at such a state, be it its instruction, a delivery or a resumption.
+#[tactic(auto, using(crate::proofs::Moments::moments_stay_in_range))]
+pub fn moments_stay_in_range()
+    ensures { MomentsStayInRange }
 {}
 
 /// No instruction fails with an arithmetic exception: that is a trap's.

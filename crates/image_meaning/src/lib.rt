@@ -1,5 +1,5 @@
 //! What the VAX instructions of an image mean for the processors that run them, and that this meaning is sound: from every
-//! state, each reference is one that memory can make, each end is a state, and the services are the model's.
+//! state, each reference is one that memory can make, each end is a state, and the services are the six.
 #![tactic(auto)]
 
 pub mod laws;
