@@ -1,13 +1,15 @@
--- What keeps a history legal, and references beside their quadwords. Lists of entries are newest first.
-use Rattle.std.specs.Prelude.{◌≡◌, ◌≢◌, ◌<◌, ◌+◌, ◌%◌, ◌⊎◌, ℕ, Bool, true, List, [], ◌∷◌, Some, length, reverse, slice_get, slice_set}
+-- What keeps a processor reached by its own entries, and makes a history legal; and references beside their quadwords. Lists of entries are newest first.
+use Rattle.std.specs.Prelude.{◌≡◌, ◌≢◌, ◌<◌, ◌≤◌, ◌+◌, ◌%◌, ◌⊎◌, ℕ, Bool, true, List, [], ◌∷◌, ◌++◌, Some, length, reverse, slice_get}
+use Rattle.std.specs.List.{AllByRecursion}
 use Rattle.image_file.specs.Start.{start_state}
 use Rattle.image_file.specs.declared.image.Start.{Start}
 use Rattle.memory_core.specs.declared.entry.Entry.{Entry}
 use Rattle.memory_core.specs.declared.entry.Request.{Request}
 use Rattle.memory_core.specs.declared.entry.SetUp.{SetUp}
 use Rattle.memory_core.specs.Changes as quadwords
-use Rattle.memory_core.specs.Order.{Meets}
+use Rattle.memory_core.specs.Order.{own, Meets}
 use Rattle.vax_form.specs.declared.state.Reference.{Reference}
+use Rattle.vax_form.specs.declared.state.VaxState.{VaxState}
 use Rattle.vax_form.specs.References.{reply_of, changed, AreBytes, FitsQuadword}
 use Rattle.block_law.specs.References.{is_of_memory}
 use Rattle.system_model.specs.Counted.{order}
@@ -15,7 +17,7 @@ use Rattle.system_model.specs.Matches.{KeepsOthers}
 use Rattle.system_model.specs.Quadwords.{quad_at, quad_address, change_of, reply_found, IsOf}
 use Rattle.system_model.specs.Settings.{Setting}
 use Rattle.system_model.specs.Processors.{Processor, Went, Asks, begun, turn, entry_by}
-use Rattle.system_model.specs.Legal.{spent, IsGoing, IsAsking, IsLegal}
+use Rattle.system_model.specs.Legal.{starts, spent, IsGoing, IsAsking, IsReached, IsLegal}
 
 -- ---- legal histories
 -- processors before their first turn, from that thread on
@@ -28,26 +30,46 @@ abbrev pub BeginningsAreLegal : Type 0
 BeginningsAreLegal = (setting : Setting) (set_up : SetUp) (budget : ℕ) → setting.meaning.pages ≡ set_up.image.pages
     → IsLegal setting set_up budget [] (begun_from 0 set_up.image.threads)
 
--- a turn that asks nothing
-abbrev pub StepsStayLegal : Type 0
-StepsStayLegal = (setting : Setting) (set_up : SetUp) (budget : ℕ) (entries : List Entry) (processors : List Processor) (thread : ℕ) (p q : Processor)
-    → IsLegal setting set_up budget entries processors → slice_get processors thread ≡ Some p → IsGoing p.mode → turn setting p ≡ Went q → p.steps < budget
-    → IsLegal setting set_up budget entries (slice_set processors thread q)
+-- ---- one processor, by its own entries
+-- it stays reached by a turn that asks nothing
+abbrev pub StepsKeepReached : Type 0
+StepsKeepReached = (setting : Setting) (budget limit : ℕ) (entries : List Entry) (thread : ℕ) (start : VaxState) (p q : Processor)
+    → IsReached setting budget limit entries thread start p → IsGoing p.mode → turn setting p ≡ Went q → p.steps < budget
+    → IsReached setting budget limit entries thread start q
 
--- a turn that asks, with an entry that the memory order allows
-abbrev pub AccessesStayLegal : Type 0
-AccessesStayLegal = (setting : Setting) (set_up : SetUp) (budget : ℕ) (entries : List Entry) (processors : List Processor) (thread : ℕ) (p : Processor)
+-- by a turn that asks, with the entry that it asked for
+abbrev pub AccessesKeepReached : Type 0
+AccessesKeepReached = (setting : Setting) (budget limit : ℕ) (entries : List Entry) (thread : ℕ) (start : VaxState) (p : Processor)
     (request : Request) (on : ℕ → Bool → Processor) (before : ℕ) (success : Bool)
-    → IsLegal setting set_up budget entries processors → slice_get processors thread ≡ Some p → IsGoing p.mode → turn setting p ≡ Asks request on → p.steps < budget
-    → Meets set_up (entry_by request before success ∷ entries) → length entries < set_up.limit
-    → IsLegal setting set_up budget (entry_by request before success ∷ entries) (slice_set processors thread (on before success))
+    → IsReached setting budget limit entries thread start p → IsGoing p.mode → turn setting p ≡ Asks request on → p.steps < budget
+    → IsReached setting budget limit (entry_by request before success ∷ entries) thread start (on before success)
 
--- a processor that has no step left, or asks where the history is full
-abbrev pub EndsStayLegal : Type 0
-EndsStayLegal = (setting : Setting) (set_up : SetUp) (budget : ℕ) (entries : List Entry) (processors : List Processor) (thread : ℕ) (p : Processor)
-    → IsLegal setting set_up budget entries processors → slice_get processors thread ≡ Some p → IsGoing p.mode
-    → (p.steps ≡ budget) ⊎ (IsAsking (turn setting p) × (length entries ≡ set_up.limit))
-    → IsLegal setting set_up budget entries (slice_set processors thread (spent p))
+-- and where it has no step left, or asks where the history is full
+abbrev pub EndsKeepReached : Type 0
+EndsKeepReached = (setting : Setting) (budget limit : ℕ) (entries : List Entry) (thread : ℕ) (start : VaxState) (p : Processor)
+    → IsReached setting budget limit entries thread start p → IsGoing p.mode → (p.steps ≡ budget) ⊎ (IsAsking (turn setting p) × (length entries ≡ limit))
+    → IsReached setting budget limit entries thread start (spent p)
+
+-- reached by a beginning of a history it is reached by the whole, where none of its entries come later
+abbrev pub OthersKeepReached : Type 0
+OthersKeepReached = (setting : Setting) (budget limit : ℕ) (later entries : List Entry) (thread : ℕ) (start : VaxState) (p : Processor)
+    → IsReached setting budget limit entries thread start p → own thread later ≡ [] → length (later ++ entries) ≤ limit
+    → IsReached setting budget limit (later ++ entries) thread start p
+
+-- what it asks is of its thread
+abbrev pub RequestsAreOwn : Type 0
+RequestsAreOwn = (setting : Setting) (budget limit : ℕ) (entries : List Entry) (thread : ℕ) (start : VaxState) (p : Processor) (request : Request) (on : ℕ → Bool → Processor)
+    → IsReached setting budget limit entries thread start p → IsGoing p.mode → turn setting p ≡ Asks request on → request.processor ≡ thread
+
+-- just one processor for each thread of the image, each reached by its own entries of a history that meets the memory
+-- order and the limit and has entries of these alone
+abbrev pub ReachedAreLegal : Type 0
+ReachedAreLegal = (setting : Setting) (set_up : SetUp) (budget : ℕ) (entries : List Entry) (processors : List Processor)
+    → setting.meaning.pages ≡ set_up.image.pages → Meets set_up entries → length entries ≤ set_up.limit → length processors ≡ length set_up.image.threads
+    → AllByRecursion (λ e. e.processor < length processors) entries
+    → ((thread : ℕ) (start : VaxState) (p : Processor) → starts set_up.image thread ≡ Some start → slice_get processors thread ≡ Some p
+    → IsReached setting budget set_up.limit entries thread start p)
+    → IsLegal setting set_up budget entries processors
 
 -- ---- references and their quadwords
 -- a reference's bytes and its quadword are changed alike

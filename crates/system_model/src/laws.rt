@@ -1,25 +1,47 @@
-//! What keeps a history legal, and references beside the quadwords of their accesses, for the proofs of the crates above.
+//! What keeps processors reached and makes a history legal, and references beside the quadwords of their accesses, for the proofs of the crates above.
 //! Its functions do nothing.
-ghost use Rattle.system_model.specs.Laws.{BeginningsAreLegal, StepsStayLegal, AccessesStayLegal, EndsStayLegal, QuadwordChanges, OtherQuadwordsStay, QuadwordReplies, NeighboursStay, OrderTurns};
+ghost use Rattle.system_model.specs.Laws.{BeginningsAreLegal, StepsKeepReached, AccessesKeepReached, EndsKeepReached, OthersKeepReached, RequestsAreOwn, ReachedAreLegal, QuadwordChanges, OtherQuadwordsStay, QuadwordReplies, NeighboursStay, OrderTurns};
 
 /// Processors before their first turn are legal, whatever is interpreted.
 pub fn beginnings_are_legal()
     ensures { BeginningsAreLegal }
 {}
 
-/// A turn that asks nothing keeps a history and its processors legal.
-pub fn steps_stay_legal()
-    ensures { StepsStayLegal }
+/// A turn that asks nothing keeps a processor reached by its own entries.
+#[tactic(auto, using(crate::proofs::Turns::steps_keep_reached))]
+pub fn steps_keep_reached()
+    ensures { StepsKeepReached }
 {}
 
-/// So does a turn that asks, with an entry that the memory order allows.
-pub fn accesses_stay_legal()
-    ensures { AccessesStayLegal }
+/// So does a turn that asks, with the entry that it asked for.
+#[tactic(auto, using(crate::proofs::Turns::accesses_keep_reached))]
+pub fn accesses_keep_reached()
+    ensures { AccessesKeepReached }
 {}
 
 /// And so does the end of a processor that has no step left, or asks where the history is full.
-pub fn ends_stay_legal()
-    ensures { EndsStayLegal }
+#[tactic(auto, using(crate::proofs::Turns::ends_keep_reached))]
+pub fn ends_keep_reached()
+    ensures { EndsKeepReached }
+{}
+
+/// A processor that is reached by a beginning of a history is reached by the whole, where none of its entries come later.
+#[tactic(auto, using(crate::proofs::Turns::others_keep_reached))]
+pub fn others_keep_reached()
+    ensures { OthersKeepReached }
+{}
+
+/// What a reached processor asks is of its thread.
+#[tactic(auto, using(crate::proofs::Turns::requests_are_own))]
+pub fn requests_are_own()
+    ensures { RequestsAreOwn }
+{}
+
+/// A history that meets the memory order and the limit is legal, where each thread's processor is reached by its own
+/// entries and there are no others.
+#[tactic(auto, using(crate::proofs::Turns::reached_are_legal))]
+pub fn reached_are_legal()
+    ensures { ReachedAreLegal }
 {}
 
 /// A reference changes its bytes as its change does their quadword.

@@ -1,19 +1,23 @@
--- A turn keeps a history and its processors legal.
-use Rattle.std.proofs.Common.{◌≡◌, ℕ, zero, suc, ◌<◌, ◌==◌, ◌&&◌, inl, inr, Bool, true, false, List, [], ◌∷◌, ◌++◌, length, Some, refl, sym, ap, ◌∙◌, subst, arith}
-use Rattle.std.specs.Prelude.{MatchBool, reverse, slice_get, slice_set}
+-- A turn keeps a processor reached by its own entries, and a history and its processors legal.
+use Rattle.std.proofs.Common.{◌≡◌, ◌≢◌, ℕ, zero, suc, ◌+◌, ◌<◌, ◌≤◌, ◌==◌, ◌&&◌, ◌⊎◌, inl, inr, Bool, true, false, if◌then◌else◌, List, [], ◌∷◌, ◌++◌, length, Some, refl, sym, ap, ◌∙◌, subst, arith}
+use Rattle.std.specs.Prelude.{MatchBool, option_map, reverse, slice_get, slice_set}
+use Rattle.std.specs.List.{AllByRecursion}
 use Rattle.std.proofs.lemmas.Bool.Decides.{nat_tests}
 use Rattle.std.proofs.lemmas.List.{append-nil, reverse-append, length-reverse}
+use Rattle.std.proofs.lemmas.List.Elements.{filter-append}
+use Rattle.image_file.specs.Start.{start_state}
 use Rattle.memory_core.specs.Contents.{entry_for}
-use Rattle.memory_core.specs.Order.{Meets}
+use Rattle.memory_core.specs.Order.{own, Meets}
 use Rattle.memory_core.specs.declared.entry.Entry.{Entry}
 use Rattle.memory_core.specs.declared.entry.Request.{Request}
 use Rattle.memory_core.specs.declared.entry.SetUp.{SetUp}
-use Rattle.system_model.specs.Laws.{StepsStayLegal, AccessesStayLegal, EndsStayLegal}
-use Rattle.system_model.specs.Legal.{spent, IsGoing, IsAsking, IsLegal}
+use Rattle.vax_form.specs.declared.state.VaxState.{VaxState}
+use Rattle.system_model.specs.Laws.{StepsKeepReached, AccessesKeepReached, EndsKeepReached, OthersKeepReached, RequestsAreOwn, ReachedAreLegal}
+use Rattle.system_model.specs.Legal.{starts, spent, IsGoing, IsAsking, IsSpent, IsReached, IsLegal}
 use Rattle.system_model.specs.Processors.{Mode, New, Runs, Interprets, Ended, Processor, Turn, Went, Asks, Over, Lost, turn, turn_in, mode_of, entry_by}
 use Rattle.system_model.specs.Settings.{Setting}
-use Rattle.tie_switch.specs.Laws.{TurnsStayLegal}
-use Rattle.tie_switch.specs.Turns.{IsMade, IsRefused, IsStill, Makes, goes_on, is_out}
+use Rattle.tie_switch.specs.Laws.{TurnsKeepReached, TurnsStayLegal}
+use Rattle.tie_switch.specs.Turns.{IsMade, IsRefused, IsStill, Makes, goes_on, is_out, IsTurn}
 
 -- ---- a processor that goes on
 going_by : (m : Mode) → goes_on m ≡ true → IsGoing m
@@ -26,6 +30,25 @@ both_tests : (a b : Bool) → (a && b) ≡ true → (a ≡ true) × (b ≡ true)
 both_tests true true e = (refl, refl)
 both_tests true false e = absurd (cc e)
 both_tests false b e = absurd (cc e)
+
+goes_by : (m : Mode) → IsGoing m → goes_on m ≡ true
+goes_by New g = refl
+goes_by (Runs alpha) g = refl
+goes_by (Interprets state replies) g = refl
+goes_by (Ended end) g = absurd g
+
+second_test : (a b : Bool) → a ≡ true → (a && b) ≡ false → b ≡ false
+second_test true b e out = out
+second_test false b e out = absurd (cc e)
+
+-- one that goes on is what it was, and made no more steps than the budget
+now_is : (setting : Setting) (budget limit : ℕ) (entries : List Entry) (was p : Processor) → IsGoing p.mode → (p ≡ was) ⊎ IsSpent setting budget limit entries was p → p ≡ was
+now_is setting budget limit entries was p g (inl same) = same
+now_is setting budget limit entries was p g (inr s) = absurd (subst (λ (x : Processor). IsGoing x.mode) s.is g)
+
+steps_within : (setting : Setting) (budget limit : ℕ) (entries : List Entry) (thread : ℕ) (start : VaxState) (p : Processor) → IsReached setting budget limit entries thread start p → IsGoing p.mode → p.steps ≤ budget
+steps_within setting budget limit entries thread start p r g =
+    subst (λ (x : Processor). x.steps ≤ budget) (sym (now_is setting budget limit entries r.was p g r.now)) r.within
 
 -- its turn is not over
 abbrev IsStep : Turn → Type 0
@@ -44,15 +67,68 @@ going : (setting : Setting) (p : Processor) (t : Turn) → turn setting p ≡ t 
 going setting p t e h = going_in setting p p.mode (subst IsStep (sym e) h)
 
 -- ---- lists
-set_same : {A : Type 0} (xs : List A) (n : ℕ) (x : A) → slice_get xs n ≡ Some x → slice_set xs n x ≡ xs
-set_same [] n x e = refl
-set_same (y ∷ ys) zero x e =
-    let same : y ≡ x = cc e in
-    ap (λ z. z ∷ ys) (sym same)
-set_same (y ∷ ys) (suc n) x e = ap (λ zs. y ∷ zs) (set_same ys n x e)
+-- where none of the entries is the thread's, none is told the other way round
+own_reverse : (thread : ℕ) (entries : List Entry) → own thread entries ≡ [] → own thread (reverse entries) ≡ []
+own_reverse thread [] none = refl
+own_reverse thread (e ∷ entries) none =
+    let here : own thread (e ∷ []) ≡ [] = by (e.processor == thread) none in
+    let later : own thread entries ≡ [] = after (e.processor == thread) none in
+    ap (own thread) (reverse-append (e ∷ []) entries)
+    ∙ filter-append (λ (x : Entry). x.processor == thread) (reverse entries) (e ∷ [])
+    ∙ ap (λ mine. mine ++ own thread (e ∷ [])) (own_reverse thread entries later)
+    ∙ here
+  where
+    by : (b : Bool) → (if b then e ∷ own thread entries else own thread entries) ≡ [] → (if b then e ∷ [] else []) ≡ []
+    by true none = absurd (cc none)
+    by false none = refl
+    after : (b : Bool) → (if b then e ∷ own thread entries else own thread entries) ≡ [] → own thread entries ≡ []
+    after true none = absurd (cc none)
+    after false none = none
 
-none_between : (history between : List Entry) → between ≡ [] → history ++ between ≡ history
-none_between history between e = ap (λ b. history ++ b) e ∙ append-nil history
+-- nor is one of another thread's
+own_other : (thread other : ℕ) (entries : List Entry) → AllByRecursion (λ e. e.processor ≡ thread) entries → thread ≢ other → own other entries ≡ []
+own_other thread other [] all apart = refl
+own_other thread other (e ∷ entries) all apart =
+    ap (λ b. if b then e ∷ own other entries else own other entries) (unequal e.processor other (λ same. apart (sym all.0 ∙ same)))
+    ∙ own_other thread other entries all.1 apart
+  where
+    unequal : (a b : ℕ) → a ≢ b → (a == b) ≡ false
+    unequal a b h = grind (arith, nat_tests)
+
+all_append : {A : Type 0} (P : A → Type 0) (xs ys : List A) → AllByRecursion P xs → AllByRecursion P ys → AllByRecursion P (xs ++ ys)
+all_append P [] ys first second = second
+all_append P (x ∷ xs) ys first second = (first.0, all_append P xs ys first.1 second)
+
+all_more : {A : Type 0} (P Q : A → Type 0) (xs : List A) → ((x : A) → P x → Q x) → AllByRecursion P xs → AllByRecursion Q xs
+all_more P Q [] more all = tt
+all_more P Q (x ∷ xs) more all = (more x all.0, all_more P Q xs more all.1)
+
+set_length : {A : Type 0} (xs : List A) (n : ℕ) (y : A) → length (slice_set xs n y) ≡ length xs
+set_length [] n y = refl
+set_length (x ∷ xs) zero y = refl
+set_length (x ∷ xs) (suc n) y = ap suc (set_length xs n y)
+
+get_same : {A : Type 0} (xs : List A) (n : ℕ) (x y : A) → slice_get xs n ≡ Some x → slice_get (slice_set xs n y) n ≡ Some y
+get_same [] n x y h = absurd (cc h)
+get_same (z ∷ zs) zero x y h = refl
+get_same (z ∷ zs) (suc n) x y h = get_same zs n x y h
+
+get_other : {A : Type 0} (xs : List A) (n m : ℕ) (y : A) → n ≢ m → slice_get (slice_set xs n y) m ≡ slice_get xs m
+get_other [] n m y h = refl
+get_other (z ∷ zs) zero zero y h = absurd (h refl)
+get_other (z ∷ zs) zero (suc m) y h = refl
+get_other (z ∷ zs) (suc n) zero y h = refl
+get_other (z ∷ zs) (suc n) (suc m) y h = get_other zs n m y (λ e. h (ap suc e))
+
+within : {A : Type 0} (xs : List A) (n : ℕ) (x : A) → slice_get xs n ≡ Some x → n < length xs
+within [] n x h = absurd (cc h)
+within (y ∷ ys) zero x h = omega arith
+within (y ∷ ys) (suc n) x h = omega (arith, within ys n x h)
+
+there_is : {A : Type 0} (xs : List A) (n : ℕ) → n < length xs → (x : A) × (slice_get xs n ≡ Some x)
+there_is [] n h = absurd (omega arith)
+there_is (x ∷ xs) zero h = (x, refl)
+there_is (x ∷ xs) (suc n) h = there_is xs n (omega arith)
 
 newest : (history : List Entry) (e : Entry) → reverse (history ++ e ∷ []) ≡ e ∷ reverse history
 newest history e = reverse-append history (e ∷ [])
@@ -63,55 +139,214 @@ same_entry : (set_up : SetUp) (history : List Entry) (request : Request) (before
 same_entry set_up history request before success e k =
     sym (ap (λ x. entry_by request x success) e ∙ ap (λ x. entry_by request (entry_for set_up history request).before x) k)
 
-module _ (steps : StepsStayLegal) (accesses : AccessesStayLegal) (ends : EndsStayLegal) (setting : Setting) (set_up : SetUp) (budget : ℕ) (history : List Entry) (processors : List Processor) (thread : ℕ) (p : Processor)
-    (legal : IsLegal setting set_up budget (reverse history) processors) (at : slice_get processors thread ≡ Some p) where
+-- ---- one processor, among any entries of others
+module _ (steps : StepsKeepReached) (accesses : AccessesKeepReached) (ends : EndsKeepReached) (others : OthersKeepReached) (requests : RequestsAreOwn)
+    (setting : Setting) (set_up : SetUp) (may_come : List Entry → Type 0) (budget : ℕ) (old : List Entry) (thread : ℕ) (start : VaxState) (p : Processor)
+    (reached : IsReached setting budget set_up.limit (reverse old) thread start p) where
   abbrev Keeps : List Entry → Processor → Type 0
-  Keeps new q = IsLegal setting set_up budget (reverse new) (slice_set processors thread q)
+  Keeps new q = IsReached setting budget set_up.limit (reverse new) thread start q
 
-  made : (request : Request) (on : ℕ → Bool → Processor) (q : Processor) (new : List Entry) → turn setting p ≡ Asks request on → IsMade set_up (λ between. between ≡ []) request on q history new → Keeps new q
-  made request on q new e m =
+  -- reached, with the entries of others that were seen
+  seen_more : (between : List Entry) → own thread between ≡ [] → length (old ++ between) ≤ set_up.limit
+      → IsReached setting budget set_up.limit (reverse (old ++ between)) thread start p
+  seen_more between none room =
+      let turned : reverse (old ++ between) ≡ reverse between ++ reverse old = reverse-append old between in
+      let few : length (reverse between ++ reverse old) ≤ set_up.limit = omega (arith, room, ap length turned, length-reverse (old ++ between)) in
+      let none_turned : own thread (reverse between) ≡ [] = own_reverse thread between none in
+      subst (λ (entries : List Entry). IsReached setting budget set_up.limit entries thread start p) (sym turned)
+      (others setting budget set_up.limit (reverse between) (reverse old) thread start p reached none_turned few)
+
+  -- whatever it asks is of its thread
+  its_own : (request : Request) (on : ℕ → Bool → Processor) → turn setting p ≡ Asks request on → request.processor ≡ thread
+  its_own request on e = requests setting budget set_up.limit (reverse old) thread start p request on reached (going setting p (Asks request on) e tt) e
+
+  made : (request : Request) (on : ℕ → Bool → Processor) (q : Processor) (new : List Entry) → turn setting p ≡ Asks request on → p.steps < budget
+      → IsMade set_up may_come request on q old new → Keeps new q
+  made request on q new e more m =
       let n = m.entry in
+      let past = old ++ n.between in
       let found = entry_by request m.before m.success in
-      let old : history ++ n.between ≡ history = none_between history n.between n.come in
-      let entry : entry_for set_up history request ≡ found =
-      same_entry set_up history request m.before m.success (n.found ∙ ap (λ h. (entry_for set_up h request).before) old) (n.succeeded ∙ ap (λ h. (entry_for set_up h request).success) old) in
-      let is : new ≡ history ++ found ∷ [] = n.seen ∙ ap (λ h. h ++ entry_for set_up h request ∷ []) old ∙ ap (λ x. history ++ x ∷ []) entry in
-      let turned : reverse new ≡ found ∷ reverse history = ap reverse is ∙ newest history found in
-      let room : length (reverse history) < set_up.limit = omega (arith, n.room, ap length turned, length-reverse new) in
-      subst (λ (entries : List Entry). IsLegal setting set_up budget entries (slice_set processors thread q)) (sym turned)
-      (subst (λ (x : Processor). IsLegal setting set_up budget (found ∷ reverse history) (slice_set processors thread x)) (sym m.goes)
-      (accesses setting set_up budget (reverse history) processors thread p request on m.before m.success legal at (going setting p (Asks request on) e tt) e (subst (Meets set_up) turned n.order) room))
+      let entry : entry_for set_up past request ≡ found = same_entry set_up past request m.before m.success n.found n.succeeded in
+      let is : new ≡ past ++ found ∷ [] = n.seen ∙ ap (λ x. past ++ x ∷ []) entry in
+      let turned : reverse new ≡ found ∷ reverse past = ap reverse is ∙ newest past found in
+      let room : length past ≤ set_up.limit = omega (arith, n.room, ap length turned, length-reverse new, length-reverse past) in
+      let none : own thread n.between ≡ [] = subst (λ (t : ℕ). own t n.between ≡ []) (its_own request on e) n.others in
+      subst (λ (entries : List Entry). IsReached setting budget set_up.limit entries thread start q) (sym turned)
+      (subst (λ (x : Processor). IsReached setting budget set_up.limit (found ∷ reverse past) thread start x) (sym m.goes)
+      (accesses setting budget set_up.limit (reverse past) thread start p request on m.before m.success (seen_more n.between none room) (going setting p (Asks request on) e tt) e more))
 
-  refused : (request : Request) (on : ℕ → Bool → Processor) (q : Processor) (new : List Entry) → turn setting p ≡ Asks request on → IsRefused set_up (λ between. between ≡ []) request p q history new → Keeps new q
+  refused : (request : Request) (on : ℕ → Bool → Processor) (q : Processor) (new : List Entry) → turn setting p ≡ Asks request on
+      → IsRefused set_up may_come request p q old new → Keeps new q
   refused request on q new e r =
       let o = r.over in
-      let is : new ≡ history = o.seen ∙ none_between history o.between o.come in
-      let full : length (reverse history) ≡ set_up.limit = length-reverse history ∙ sym (ap length is) ∙ o.full in
-      subst (λ (entries : List Entry). IsLegal setting set_up budget (reverse entries) (slice_set processors thread q)) (sym is)
-      (subst (λ (x : Processor). IsLegal setting set_up budget (reverse history) (slice_set processors thread x)) (sym r.goes)
-      (ends setting set_up budget (reverse history) processors thread p legal at (going setting p (Asks request on) e tt) (inr (subst IsAsking (sym e) tt, full))))
+      let past = old ++ o.between in
+      let full : length (reverse past) ≡ set_up.limit = length-reverse past ∙ sym (ap length o.seen) ∙ o.full in
+      let room : length past ≤ set_up.limit = omega (arith, ap length o.seen, o.full) in
+      let none : own thread o.between ≡ [] = subst (λ (t : ℕ). own t o.between ≡ []) (its_own request on e) o.others in
+      subst (λ (entries : List Entry). IsReached setting budget set_up.limit (reverse entries) thread start q) (sym o.seen)
+      (subst (λ (x : Processor). IsReached setting budget set_up.limit (reverse past) thread start x) (sym r.goes)
+      (ends setting budget set_up.limit (reverse past) thread start p (seen_more o.between none room) (going setting p (Asks request on) e tt) (inr (subst IsAsking (sym e) tt, full))))
 
-  still : (r q : Processor) (new : List Entry) → IsStill r q history new → IsLegal setting set_up budget (reverse history) (slice_set processors thread r) → Keeps new q
+  still : (r q : Processor) (new : List Entry) → IsStill r q old new → IsReached setting budget set_up.limit (reverse old) thread start r → Keeps new q
   still r q new s k =
-      subst (λ (entries : List Entry). IsLegal setting set_up budget (reverse entries) (slice_set processors thread q)) (sym s.seen)
-      (subst (λ (x : Processor). IsLegal setting set_up budget (reverse history) (slice_set processors thread x)) (sym s.processor) k)
+      subst (λ (entries : List Entry). IsReached setting budget set_up.limit (reverse entries) thread start q) (sym s.seen)
+      (subst (λ (x : Processor). IsReached setting budget set_up.limit (reverse old) thread start x) (sym s.processor) k)
 
-  makes : (t : Turn) (q : Processor) (new : List Entry) → turn setting p ≡ t → Makes t set_up (λ between. between ≡ []) p q history new → Keeps new q
-  makes (Went r) q new e m = still r q new m (steps setting set_up budget (reverse history) processors thread p r legal at (going setting p (Went r) e tt) e)
-  makes (Asks request on) q new e (inl m) = made request on q new e m
-  makes (Asks request on) q new e (inr r) = refused request on q new e r
-  makes Over q new e m = still p q new m (subst (IsLegal setting set_up budget (reverse history)) (sym (set_same processors thread p at)) legal)
-  makes Lost q new e m = absurd m
+  -- a processor that goes on, and whose steps don't equal the budget, has steps left
+  has_more : IsGoing p.mode → is_out budget p ≡ false → p.steps < budget
+  has_more g out =
+      let within : p.steps ≤ budget = steps_within setting budget set_up.limit (reverse old) thread start p reached g in
+      let other : (p.steps == budget) ≡ false = second_test (goes_on p.mode) (p.steps == budget) (goes_by p.mode g) out in
+      less p.steps budget within other
+    where
+      less : (n m : ℕ) → n ≤ m → (n == m) ≡ false → n < m
+      less n m h k = grind (arith, nat_tests)
 
-  by_out : (b : Bool) (q : Processor) (new : List Entry) → is_out budget p ≡ b → MatchBool b (IsStill (spent p) q history new) (Makes (turn setting p) set_up (λ between. between ≡ []) p q history new) → Keeps new q
+  makes : (t : Turn) (q : Processor) (new : List Entry) → turn setting p ≡ t → is_out budget p ≡ false → Makes t set_up may_come p q old new → Keeps new q
+  makes (Went r) q new e out m =
+      let g = going setting p (Went r) e tt in
+      still r q new m (steps setting budget set_up.limit (reverse old) thread start p r reached g e (has_more g out))
+  makes (Asks request on) q new e out (inl m) = made request on q new e (has_more (going setting p (Asks request on) e tt) out) m
+  makes (Asks request on) q new e out (inr r) = refused request on q new e r
+  makes Over q new e out m = still p q new m reached
+  makes Lost q new e out m = absurd m
+
+  by_out : (b : Bool) (q : Processor) (new : List Entry) → is_out budget p ≡ b → MatchBool b (IsStill (spent p) q old new) (Makes (turn setting p) set_up may_come p q old new) → Keeps new q
   by_out true q new e m =
       let tests = both_tests (goes_on p.mode) (p.steps == budget) e in
-      still (spent p) q new m (ends setting set_up budget (reverse history) processors thread p legal at (going_by p.mode tests.0) (inl (same_number p.steps budget tests.1)))
+      still (spent p) q new m (ends setting budget set_up.limit (reverse old) thread start p reached (going_by p.mode tests.0) (inl (same_number p.steps budget tests.1)))
     where
       same_number : (n m : ℕ) → (n == m) ≡ true → n ≡ m
       same_number n m h = grind (arith, nat_tests)
-  by_out false q new e m = makes (turn setting p) q new refl m
+  by_out false q new e m = makes (turn setting p) q new refl e m
 
-pub turns_stay_legal : StepsStayLegal → AccessesStayLegal → EndsStayLegal → TurnsStayLegal
-turns_stay_legal steps accesses ends setting set_up budget history new processors thread p q legal at t =
-    by_out steps accesses ends setting set_up budget history processors thread p legal at (is_out budget p) q new refl t
+-- for a memory between whose entries any of others may come
+pub keeps_reached : StepsKeepReached → AccessesKeepReached → EndsKeepReached → OthersKeepReached → RequestsAreOwn
+    → (setting : Setting) (set_up : SetUp) (may_come : List Entry → Type 0) (budget : ℕ) (old new : List Entry) (thread : ℕ) (start : VaxState) (p q : Processor)
+    → IsReached setting budget set_up.limit (reverse old) thread start p → IsTurn setting set_up may_come budget p q old new
+    → IsReached setting budget set_up.limit (reverse new) thread start q
+keeps_reached steps accesses ends others requests setting set_up may_come budget old new thread start p q reached t =
+    by_out steps accesses ends others requests setting set_up may_come budget old thread start p reached (is_out budget p) q new refl t
+
+pub turns_keep_reached : StepsKeepReached → AccessesKeepReached → EndsKeepReached → OthersKeepReached → RequestsAreOwn → TurnsKeepReached
+turns_keep_reached steps accesses ends others requests setting set_up budget old new thread start p q reached t =
+    keeps_reached steps accesses ends others requests setting set_up (λ between. Unit {0}) budget old new thread start p q reached t
+
+-- ---- all processors, where no entries of others come between
+
+-- what a turn adds: nothing, or an entry of the processor's own that the memory order allows
+record IsGrown (set_up : SetUp) (thread : ℕ) (old new : List Entry) : Type 0 where
+  added : List Entry
+  seen : reverse new ≡ added ++ reverse old
+  its : AllByRecursion (λ e. e.processor ≡ thread) added
+  order : Meets set_up (reverse old) → Meets set_up (reverse new)
+  room : length old ≤ set_up.limit → length new ≤ set_up.limit
+
+module _ (setting : Setting) (set_up : SetUp) (thread : ℕ) (p : Processor) (asks : (request : Request) (on : ℕ → Bool → Processor) → turn setting p ≡ Asks request on → request.processor ≡ thread) where
+  same_grown : (old new : List Entry) → new ≡ old → IsGrown set_up thread old new
+  same_grown old new same = record {
+    added = [];
+    seen = ap reverse same;
+    its = tt;
+    order = λ order. subst (λ (entries : List Entry). Meets set_up (reverse entries)) (sym same) order;
+    room = λ room. subst (λ (entries : List Entry). length entries ≤ set_up.limit) (sym same) room;
+  }
+
+  grown_by : (t : Turn) (q : Processor) (old new : List Entry) → turn setting p ≡ t → Makes t set_up (λ between. between ≡ []) p q old new → IsGrown set_up thread old new
+  grown_by (Went r) q old new e m = same_grown old new m.seen
+  grown_by (Asks request on) q old new e (inl m) =
+      let n = m.entry in
+      let made = entry_for set_up (old ++ n.between) request in
+      let past : old ++ n.between ≡ old = ap (λ b. old ++ b) n.come ∙ append-nil old in
+      let is : new ≡ old ++ made ∷ [] = n.seen ∙ ap (λ h. h ++ made ∷ []) past in
+      record {
+        added = made ∷ [];
+        seen = ap reverse is ∙ newest old made;
+        its = (asks request on e, tt);
+        order = λ _. n.order;
+        room = λ _. n.room;
+      }
+  grown_by (Asks request on) q old new e (inr r) = same_grown old new ((r.over).seen ∙ ap (λ b. old ++ b) (r.over).come ∙ append-nil old)
+  grown_by Over q old new e m = same_grown old new m.seen
+  grown_by Lost q old new e m = absurd m
+
+  grown : (budget : ℕ) (b : Bool) (q : Processor) (old new : List Entry) → MatchBool b (IsStill (spent p) q old new) (Makes (turn setting p) set_up (λ between. between ≡ []) p q old new) → IsGrown set_up thread old new
+  grown budget true q old new m = same_grown old new m.seen
+  grown budget false q old new m = grown_by (turn setting p) q old new refl m
+
+module _ (kept : TurnsKeepReached) (others : OthersKeepReached) (requests : RequestsAreOwn) (are_legal : ReachedAreLegal)
+    (setting : Setting) (set_up : SetUp) (budget : ℕ) (old new : List Entry) (processors : List Processor) (thread : ℕ) (p q : Processor)
+    (legal : IsLegal setting set_up budget (reverse old) processors) (at : slice_get processors thread ≡ Some p)
+    (turned : IsTurn setting set_up (λ between. between ≡ []) budget p q old new) where
+  its_start : (start : VaxState) × (starts set_up.image thread ≡ Some start)
+  its_start =
+      let s = there_is set_up.image.threads thread (omega (arith, within processors thread p at, legal.count)) in
+      (start_state s.0, ap (option_map start_state) s.1)
+
+  its_requests : (request : Request) (on : ℕ → Bool → Processor) → turn setting p ≡ Asks request on → request.processor ≡ thread
+  its_requests request on e =
+      let s = its_start in
+      requests setting budget set_up.limit (reverse old) thread s.0 p request on (legal.each thread s.0 p s.1 at) (going setting p (Asks request on) e tt) e
+
+  here_grown : IsGrown set_up thread old new
+  here_grown = grown setting set_up thread p its_requests budget (is_out budget p) q old new turned
+
+  -- any entries of others may come where none do
+  any_may : (t : Turn) (b : Bool) → MatchBool b (IsStill (spent p) q old new) (Makes t set_up (λ between. between ≡ []) p q old new)
+      → MatchBool b (IsStill (spent p) q old new) (Makes t set_up (λ between. Unit {0}) p q old new)
+  any_may t true m = m
+  any_may (Went r) false m = m
+  any_may (Asks request on) false (inl m) = inl (record {
+    before = m.before;
+    success = m.success;
+    entry = record { between = (m.entry).between; others = (m.entry).others; come = tt; seen = (m.entry).seen; found = (m.entry).found; succeeded = (m.entry).succeeded; order = (m.entry).order; room = (m.entry).room };
+    goes = m.goes;
+  })
+  any_may (Asks request on) false (inr r) = inr (record {
+    over = record { between = (r.over).between; others = (r.over).others; come = tt; seen = (r.over).seen; full = (r.over).full; order = (r.over).order };
+    goes = r.goes;
+  })
+  any_may Over false m = m
+  any_may Lost false m = m
+
+  each_reached : (u : ℕ) (start : VaxState) (x : Processor) → starts set_up.image u ≡ Some start → slice_get (slice_set processors thread q) u ≡ Some x
+      → (b : Bool) → (thread == u) ≡ b → IsReached setting budget set_up.limit (reverse new) u start x
+  each_reached u start x s h true e =
+      let same : thread ≡ u = equal thread u e in
+      let got : Some q ≡ Some x = sym (get_same processors thread p q at) ∙ ap (λ n. slice_get (slice_set processors thread q) n) same ∙ h in
+      let is : q ≡ x = cc got in
+      let here = kept setting set_up budget old new thread start p q (legal.each thread start p (ap (starts set_up.image) same ∙ s) at) (any_may (turn setting p) (is_out budget p) turned) in
+      subst (λ n. IsReached setting budget set_up.limit (reverse new) n start x) same (subst (IsReached setting budget set_up.limit (reverse new) thread start) is here)
+    where
+      equal : (a b : ℕ) → (a == b) ≡ true → a ≡ b
+      equal a b k = grind (arith, nat_tests)
+  each_reached u start x s h false e =
+      let apart : thread ≢ u = unequal thread u e in
+      let g = here_grown in
+      let room : length (g.added ++ reverse old) ≤ set_up.limit = omega (arith, g.room (omega (arith, legal.room, length-reverse old)), ap length g.seen, length-reverse new) in
+      subst (λ (entries : List Entry). IsReached setting budget set_up.limit entries u start x) (sym g.seen)
+      (others setting budget set_up.limit g.added (reverse old) u start x (legal.each u start x s (sym (get_other processors thread u q apart) ∙ h)) (own_other thread u g.added g.its apart) room)
+    where
+      unequal : (a b : ℕ) → (a == b) ≡ false → a ≢ b
+      unequal a b k = grind (arith, nat_tests)
+
+  all_known : AllByRecursion (λ e. e.processor < length (slice_set processors thread q)) (reverse new)
+  all_known =
+      let count : length (slice_set processors thread q) ≡ length processors = set_length processors thread q in
+      let there : thread < length processors = within processors thread p at in
+      let g = here_grown in
+      subst (AllByRecursion (λ e. e.processor < length (slice_set processors thread q))) (sym g.seen)
+      (all_append (λ e. e.processor < length (slice_set processors thread q)) g.added (reverse old)
+      (all_more (λ e. e.processor ≡ thread) (λ e. e.processor < length (slice_set processors thread q)) g.added (λ e same. omega (arith, same, there, count)) g.its)
+      (subst (λ n. AllByRecursion (λ e. e.processor < n) (reverse old)) (sym count) legal.known))
+
+  stays_legal : IsLegal setting set_up budget (reverse new) (slice_set processors thread q)
+  stays_legal =
+      let g = here_grown in
+      are_legal setting set_up budget (reverse new) (slice_set processors thread q) legal.pages (g.order legal.order)
+      (omega (arith, g.room (omega (arith, legal.room, length-reverse old)), length-reverse new))
+      (set_length processors thread q ∙ legal.count) all_known (λ u start x s h. each_reached u start x s h (thread == u) refl)
+
+pub turns_stay_legal : TurnsKeepReached → OthersKeepReached → RequestsAreOwn → ReachedAreLegal → TurnsStayLegal
+turns_stay_legal kept others requests are_legal setting set_up budget history new processors thread p q legal at t =
+    stays_legal kept others requests are_legal setting set_up budget history new processors thread p q legal at t

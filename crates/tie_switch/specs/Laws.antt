@@ -2,10 +2,18 @@
 use Rattle.std.specs.Prelude.{◌≡◌, ℕ, List, [], Some, reverse, slice_get, slice_set}
 use Rattle.memory_core.specs.declared.entry.Entry.{Entry}
 use Rattle.memory_core.specs.declared.entry.SetUp.{SetUp}
-use Rattle.system_model.specs.Legal.{IsLegal}
+use Rattle.vax_form.specs.declared.state.VaxState.{VaxState}
+use Rattle.system_model.specs.Legal.{IsReached, IsLegal}
 use Rattle.system_model.specs.Processors.{Processor}
 use Rattle.system_model.specs.Settings.{Setting}
 use Rattle.tie_switch.specs.Turns.{IsTurn}
+
+-- whatever entries of others come between, a processor stays reached by its own entries of what was seen
+abbrev pub TurnsKeepReached : Type 0
+TurnsKeepReached = (setting : Setting) (set_up : SetUp) (budget : ℕ) (old new : List Entry) (thread : ℕ) (start : VaxState) (p q : Processor)
+    → IsReached setting budget set_up.limit (reverse old) thread start p
+    → IsTurn setting set_up (λ between. Unit {0}) budget p q old new
+    → IsReached setting budget set_up.limit (reverse new) thread start q
 
 -- where no entries of others come between
 abbrev pub TurnsStayLegal : Type 0

@@ -1,13 +1,29 @@
-//! What a turn keeps, for the proofs of the crates above. Its function does nothing.
-ghost use Rattle.tie_switch.specs.Laws.{TurnsStayLegal};
+//! What a turn keeps, for the proofs of the crates above. Its functions do nothing.
+ghost use Rattle.tie_switch.specs.Laws.{TurnsKeepReached, TurnsStayLegal};
 
-use system_model::laws::{accesses_stay_legal, ends_stay_legal, steps_stay_legal};
+use system_model::laws::{
+    accesses_keep_reached, ends_keep_reached, others_keep_reached, reached_are_legal, requests_are_own,
+    steps_keep_reached,
+};
+
+/// A turn over any memory, with entries of others before its own, keeps a processor reached by its own entries of what was
+/// seen.
+pub fn turns_keep_reached()
+    ensures { TurnsKeepReached }
+{
+    steps_keep_reached();
+    accesses_keep_reached();
+    ends_keep_reached();
+    others_keep_reached();
+    requests_are_own();
+}
 
 /// A turn keeps a history and its processors legal, in a memory of one owner.
 pub fn turns_stay_legal()
     ensures { TurnsStayLegal }
 {
-    steps_stay_legal();
-    accesses_stay_legal();
-    ends_stay_legal();
+    turns_keep_reached();
+    others_keep_reached();
+    requests_are_own();
+    reached_are_legal();
 }

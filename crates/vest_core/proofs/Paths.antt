@@ -42,21 +42,21 @@ module _ (pages : Pages) where
       by (Some bad) ok again e = absurd (cc e)
 
   -- a place to which replies led ends in states where the tree does
-  pub silent_ends : (t u : Tree) (v : List ℕ) → v ≡ [] → Path pages t v u → IsInRange t → IsInRange u
+  pub silent_ends : (t u : Tree) (v : List ℕ) → v ≡ [] → Path pages t v u → IsInRange pages t → IsInRange pages u
   silent_ends t u v n Here h = h
-  silent_ends t u v n (Passes {t = t'} {v = v'} ok p) h = silent_ends t' u v' n p h
+  silent_ends t u v n (Passes {t = t'} {v = v'} ok p) h = silent_ends t' u v' n p (h ok)
   silent_ends t u v n (Takes p) h = absurd (cc n)
 
-  pub comes_state : (t : Tree) (e : Ending) (left : List ℕ) → IsInRange t → answer pages t [] ≡ Comes e left → IsState (ending_state e) × (left ≡ [])
+  pub comes_state : (t : Tree) (e : Ending) (left : List ℕ) → IsInRange pages t → answer pages t [] ≡ Comes e left → IsState (ending_state e) × (left ≡ [])
   comes_state (Ask q on) e left h a = absurd (cc a)
   comes_state (Fault x) e left h a = absurd (cc a)
   comes_state (Ends x) e left h a =
       let same : x ≡ e = cc a in
       (subst (λ (y : Ending). IsState (ending_state y)) same h, cc a)
-  comes_state (Check ad c w t) e left h a = by (first_bad pages w ad c) (comes_state t e left h) a
+  comes_state (Check ad c w t) e left h a = by (first_bad pages w ad c) (λ ok. comes_state t e left (h ok)) a
     where
-      by : (o : Option ℕ) → (answer pages t [] ≡ Comes e left → IsState (ending_state e) × (left ≡ [])) → unless_bad o Fails w (answer pages t []) ≡ Comes e left → IsState (ending_state e) × (left ≡ [])
-      by None again a = again a
+      by : (o : Option ℕ) → (o ≡ None → answer pages t [] ≡ Comes e left → IsState (ending_state e) × (left ≡ [])) → unless_bad o Fails w (answer pages t []) ≡ Comes e left → IsState (ending_state e) × (left ≡ [])
+      by None again a = again refl a
       by (Some bad) again a = absurd (cc a)
 
   -- ---- how many references were made

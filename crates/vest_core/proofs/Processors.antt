@@ -63,9 +63,9 @@ module _ (setting : Setting) (starts : ℕ → Option VaxState) (thread : ℕ) w
   record Flight (w : List ℕ) (n : ℕ) (b : VaxState) (pending : List ℕ) (k : Tree) : Type 0 where
     at : here setting starts thread n w ≡ running b pending
     path : Path setting.meaning.pages (tree b) pending k
-    range : IsInRange k
+    range : IsInRange setting.meaning.pages k
 
-  fly_on : (w : List ℕ) (n : ℕ) (b : VaxState) (pending : List ℕ) (r : Reference) (on : ℕ → Tree) (v : ℕ) → IsInRange (on v)
+  fly_on : (w : List ℕ) (n : ℕ) (b : VaxState) (pending : List ℕ) (r : Reference) (on : ℕ → Tree) (v : ℕ) → IsInRange setting.meaning.pages (on v)
       → Flight w n b pending (Ask r on) → Flight (w ++ v ∷ []) n b (pending ++ v ∷ []) (on v)
   fly_on w n b pending r on v range f = record {
     at = reached_more setting starts thread n w (v ∷ []) b pending f.at;
@@ -83,7 +83,7 @@ module _ (setting : Setting) (starts : ℕ → Option VaxState) (thread : ℕ) w
     range = silent_ends setting.meaning.pages k u [] refl p f.range;
   }
 
-  module _ (keeps : StaysInRange tree)
+  module _ (keeps : StaysInRange setting.meaning.pages tree)
       (Owes : VaxState → Flags → Option Lock → (spare : ℕ) → Alpha → Tree → Type 0)
       (Form : VaxState → Flags → Regs → Type 0)
       (fresh : (state : VaxState) → IsState state → Form state all_held (registers_of state))
@@ -307,7 +307,7 @@ module _ (setting : Setting) (starts : ℕ → Option VaxState) (thread : ℕ) w
           let v = reply_from a made in
           let f : Flight said p.retired p.boundary s.pending (Ask a next_tree) = subst (Flight said p.retired p.boundary s.pending) (sym same) s.flight in
           let want : wanted threads thread made.retired said ≡ Some a = ap (λ n. wanted threads thread n said) owed.same ∙ fly_wants said p.retired p.boundary s.pending a next_tree f in
-          let m' = m f.range.0 in
+          let m' = m (f.range.0).quadword in
           let fits = reply_fits a made lock m'.0 fair in
           let on_flight = fly_on said p.retired p.boundary s.pending a next_tree v (f.range.1 v fits) f in
           let room : suc p.steps + (s.spare - 1 + more) ≤ 256 * p.retired + 256 + share_of (made ∷ mine) = omega (arith, some, s.room, few, granted r.kind success (share_of mine) c) in
@@ -350,7 +350,7 @@ module _ (setting : Setting) (starts : ℕ → Option VaxState) (thread : ℕ) w
         let asked = to_ask setting.meaning.pages s.rest q (sym (answered setting.meaning.pages (tree p.boundary) s.rest pending s.flight.path) ∙ a) in
         let f = fly_to told p.retired p.boundary pending s.rest (Ask q asked.0) asked.1 s.flight in
         let want = fly_wants told p.retired p.boundary pending q asked.0 f in
-        let of = tie_is q p.thread p.retired before success f.range.0 in
+        let of = tie_is q p.thread p.retired before success (f.range.0).quadword in
         let v = reply_from q e in
         let fits = reply_fits q e lock of fair in
         let on_flight = fly_on told p.retired p.boundary pending q asked.0 v (f.range.1 v fits) f in
@@ -461,7 +461,7 @@ share_is [] = refl
 share_is (e ∷ mine) = ap (share_by e.kind e.success) (share_is mine) ∙ shares e.kind e.success (counted_in mine) (failed_in mine)
 
 module _ (setting : Setting) (starts : ℕ → Option VaxState) (thread : ℕ) (start : VaxState) (started : starts thread ≡ Some start) (ranged : IsState start)
-    (keeps : StaysInRange (setting.meaning.moment thread))
+    (keeps : StaysInRange setting.meaning.pages (setting.meaning.moment thread))
     (Owes : VaxState → Flags → Option Lock → (spare : ℕ) → Alpha → Tree → Type 0)
     (Form : VaxState → Flags → Regs → Type 0)
     (fresh : (state : VaxState) → IsState state → Form state all_held (registers_of state))
@@ -600,7 +600,7 @@ module _ (setting : Setting) (starts : ℕ → Option VaxState) (thread : ℕ) (
     pub is : p.thread ≡ thread
     pub spare : ℕ
     pub rest : Tree
-    pub range : IsInRange rest
+    pub range : IsInRange setting.meaning.pages rest
     pub owed : Owes p.boundary p.held lock spare alpha rest
 
   pub flying : (n : ℕ) (mine : List Entry) (p : Processor) → Reaches setting (begun thread start) n mine p → AllFair mine → (alpha : Alpha) → mode_of setting p p.mode ≡ Runs alpha → Flying (lock_of mine) p alpha

@@ -1,6 +1,6 @@
--- By what keeps a history legal.
+-- By what keeps each processor reached, and makes a history legal.
 use Rattle.tie_switch.proofs.Turns.{turns_stay_legal}
 use Rattle.tie_switch.proofs.laws.turns_stay_legal.Goals as goal
 
 pub returns : goal.returns
-returns c = turns_stay_legal c.steps_stay_legal.ensures c.accesses_stay_legal.ensures c.ends_stay_legal.ensures
+returns c = turns_stay_legal c.turns_keep_reached.ensures c.others_keep_reached.ensures c.requests_are_own.ensures c.reached_are_legal.ensures
