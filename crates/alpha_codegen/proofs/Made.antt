@@ -1,16 +1,18 @@
 -- The blocks that are made, by themselves: their words are tidy and have encodings, and their points are the instruction's.
 use Rattle.std.proofs.Common.{◌≡◌, ℕ, ◌+◌, ◌/◌, ◌%◌, ◌^◌, ◌<◌, refl, arith, [], ◌∷◌, ◌++◌, Option, Some, None, Bool, true, false, lit<, lit≤}
-use Rattle.std.specs.Prelude.{pos, FitsSigned}
+use Rattle.std.specs.Prelude.{◌==◌, pos, FitsSigned}
 use Rattle.std.specs.Int.{cast_signed, w16}
 use Rattle.std.proofs.lemmas.Int.{ints}
+use Rattle.std.proofs.lemmas.Bool.{ne_eqb}
 use Rattle.alpha_encode.specs.declared.instr.AlphaInstr.TheVariants.{Memory, Operate, Pal}
 use Rattle.alpha_encode.specs.declared.instr.MemoryOp.TheVariants.{Ldah, Ldl, Stl}
 use Rattle.alpha_encode.specs.declared.instr.OperateOp.TheVariants.{Addl, Zapnot}
 use Rattle.alpha_encode.specs.declared.instr.Second.TheVariants as seconds
 use Rattle.alpha_encode.specs.declared.instr.Second.TheVariants.{Literal}
+use Rattle.vax_form.specs.declared.state.Flags.{Flags}
 use Rattle.exception_records.specs.Points.{point_at}
 use Rattle.exception_records.specs.declared.points.Point.{Point}
-use Rattle.block_law.specs.Tidy.{IsTidy, is_kept, may_fault, keeps_until}
+use Rattle.block_law.specs.Tidy.{IsTidy, is_kept, may_fault, keeps_until, codes_written}
 use Rattle.block_law.specs.Blocks.{IsBlockOf}
 use Rattle.alpha_codegen.specs.declared.lines.Line.{Line}
 use Rattle.alpha_codegen.specs.declared.works.Source.{Source}
@@ -46,6 +48,29 @@ move_tidy at (sources.Longword a) (destinations.Longword b) = record { some = li
 
 service_tidy : (at after code : ℕ) → IsTidy false (words_of (service_lines at after code) ++ quiet_words)
 service_tidy at after code = record { some = lit≤ tt; few = lit≤ tt; keeps = refl; translated = refl }
+
+-- ---- codes
+abbrev moved_codes : Flags
+moved_codes = record { n = true; z = true; v = true; c = false }
+
+-- a register of the VAX is none of a code's
+not_code : (n k : ℕ) → n < 15 → 15 < k → (n == k) ≡ false
+not_code n k lt gt = ne_eqb n k (λ (e : n ≡ k). absurd (omega arith))
+
+pub move_codes : (at : ℕ) (s : Source) (d : Destination) → FitsDestination d → codes_written (words_of (move_lines at s d) ++ quiet_words) ≡ moved_codes
+move_codes at s (destinations.Register n) fits =
+    by s (not_code n 16 fits (lit< tt)) (not_code n 17 fits (lit< tt)) (not_code n 18 fits (lit< tt)) (not_code n 19 fits (lit< tt))
+  where
+    by : (s : Source) → (n == 16) ≡ false → (n == 17) ≡ false → (n == 18) ≡ false → (n == 19) ≡ false → codes_written (words_of (move_lines at s (destinations.Register n)) ++ quiet_words) ≡ moved_codes
+    by (Constant v) n16 n17 n18 n19 = rw (n16, n17, n18, n19) refl
+    by (sources.Register m) n16 n17 n18 n19 = rw (n16, n17, n18, n19) refl
+    by (sources.Longword a) n16 n17 n18 n19 = rw (n16, n17, n18, n19) refl
+move_codes at (Constant v) (destinations.Longword b) fits = refl
+move_codes at (sources.Register m) (destinations.Longword b) fits = refl
+move_codes at (sources.Longword a) (destinations.Longword b) fits = refl
+
+pub service_codes : (at after code : ℕ) → codes_written (words_of (service_lines at after code) ++ quiet_words) ≡ (record { n = false; z = false; v = false; c = false })
+service_codes at after code = refl
 
 -- ---- encodings and points
 half_fits : (n : ℕ) → n < 2 ^ 16 → FitsSigned w16 (cast_signed w16 n)

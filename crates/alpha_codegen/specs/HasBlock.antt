@@ -14,6 +14,7 @@ use Rattle.vax_form.specs.declared.instr.Size.TheVariants.{Long}
 use Rattle.vax_form.specs.declared.operation.Operation.{Operation}
 use Rattle.vax_form.specs.declared.operation.Operation.TheVariants as operations
 use Rattle.vax_form.specs.declared.operation.Operation.TheVariants.{Clear, ChangeMode}
+use Rattle.vax_form.specs.declared.state.Flags.{Flags}
 use Rattle.vax_meaning.specs.Evaluation.{operand}
 use Rattle.alpha_codegen.specs.declared.works.Source.{Source}
 use Rattle.alpha_codegen.specs.declared.works.Source.TheVariants as sources
@@ -116,6 +117,12 @@ work_of instr = work_where (operation_at instr.opcode) instr
 
 abbrev pub has_block : Instr → Bool
 has_block instr = is_some (work_of instr)
+
+-- the codes whose registers the block writes: N, Z and V by what is moved
+abbrev pub codes_of : Option Work → Flags
+codes_of (Some (Move source destination)) = record { n = true; z = true; v = true; c = false }
+codes_of (Some (Serve code)) = record { n = false; z = false; v = false; c = false }
+codes_of None = record { n = false; z = false; v = false; c = false }
 
 abbrev pub is_exit : Option Work → Bool
 is_exit (Some (Serve code)) = code == 1

@@ -2,7 +2,8 @@
 ghost use Rattle.std.specs.Prelude.{◌≡◌, ◌<◌, ◌^◌, All, IfOk, false, true};
 ghost use Rattle.exception_records.specs.Codes.{all_ready};
 ghost use Rattle.block_law.specs.Blocks.{IsBlockOf};
-ghost use Rattle.alpha_codegen.specs.HasBlock.{has_block, work_of};
+ghost use Rattle.block_law.specs.Tidy.{codes_written};
+ghost use Rattle.alpha_codegen.specs.HasBlock.{codes_of, has_block, work_of};
 ghost use Rattle.alpha_codegen.specs.Words.{lines_of, block_of, move_lines};
 ghost use Rattle.alpha_codegen.specs.Promises.{Compiles};
 
@@ -63,6 +64,8 @@ pub fn block(alloc: Global, instr: &Instr) -> Result<Block, WantOfMemory>
     ensures exits { IfOk result (λ block. All (λ exit. exit.1 ≡ instr.now.after) block.exits) }
     // All codes are ready at its words.
     ensures rules { IfOk result (λ block. All (λ entry. entry.1.rules ≡ all_ready) block.points) }
+    // Of the registers of the codes it writes those of the codes that the instruction writes.
+    ensures codes { IfOk result (λ block. codes_written block.words ≡ codes_of (work_of instr.now)) }
     // Wherever it stands, it does what the instruction means.
     ensures means { IfOk result (Compiles instr.now) }
 {

@@ -1,13 +1,24 @@
 -- What the registers show where others of them change, and where one is written.
-use Rattle.std.proofs.Common.{◌≡◌, ℕ, zero, suc, ◌%◌, ◌^◌, ◌<◌, refl, ◌∙◌, arith, true}
-use Rattle.std.specs.Prelude.{slice_set}
+use Rattle.std.proofs.Common.{◌≡◌, ℕ, zero, suc, ◌%◌, ◌^◌, ◌<◌, refl, ◌∙◌, arith, List, [], ◌∷◌, Option, Some, None, Bool, true, false}
+use Rattle.std.specs.Prelude.{ℤ, ◌==◌, ◌||◌, if◌then◌else◌, slice_set}
 use Rattle.std.proofs.lemmas.Bool.Decides.{nat_tests}
 use Rattle.vax_form.specs.declared.state.Flags.{Flags}
-use Rattle.alpha_meaning.specs.State.{Regs, put}
+use Rattle.std.specs.List.{list_all}
+use Rattle.alpha_encode.specs.declared.instr.MemoryOp.{MemoryOp}
+use Rattle.alpha_encode.specs.declared.instr.AlphaInstr.{AlphaInstr}
+use Rattle.alpha_encode.specs.declared.instr.AlphaInstr.TheVariants.{Memory, Branch, Operate, Jump, Pal}
+use Rattle.alpha_meaning.specs.declared.access.AlphaKind.{AlphaKind}
+use Rattle.alpha_meaning.specs.declared.access.AlphaKind.TheVariants.{Load, LoadLocked, Store, StoreConditional}
+use Rattle.alpha_meaning.specs.State.{Alpha, Regs, put}
+use Rattle.alpha_meaning.specs.Act.{links, link_of, memory_act_by, memory_finish_by}
+use Rattle.alpha_meaning.specs.Memory.{kind_of}
+use Rattle.alpha_meaning.specs.Loops.{is_operate, effect, effects}
+use Rattle.alpha_meaning.proofs.Rules.{and_true}
 use Rattle.exception_records.specs.Shown.{registers_shown, psw_shown}
 use Rattle.exception_records.specs.declared.rules.Rules.{Rules}
 use Rattle.block_law.specs.Placements.{Placement, InForm, state_shown}
-use Rattle.block_law.specs.Tidy.{is_kept}
+use Rattle.block_law.specs.Tidy.{is_kept, memory_writes, register_written, writes_register}
+use Rattle.block_law.specs.Laws.{StaysBy, UnwrittenStay, shows_psw, SameStatus}
 
 kept_below : (n : ℕ) → n < 21 → is_kept n ≡ true
 kept_below n lt = grind (arith, nat_tests)
@@ -66,3 +77,63 @@ registers_put regs n value lt =
 pub psw_put : (regs : Regs) (n value : ℕ) (rules : Rules) (held : Flags) → n < 15 → psw_shown (put regs n value) rules held ≡ psw_shown regs rules held
 psw_put regs n value rules held lt =
     by_register (λ n. psw_shown (put regs n value) rules held ≡ psw_shown regs rules held) refl refl refl refl refl refl refl refl refl refl refl refl refl refl refl n lt
+
+-- ---- registers that no word writes
+put_stays : (f : Regs) (register value n : ℕ) → (register == n) ≡ false → put f register value n ≡ f n
+put_stays f register value n e = by (register == 31) (n == register) (turned register n e)
+  where
+    turned : (a b : ℕ) → (a == b) ≡ false → (b == a) ≡ false
+    turned a b e = grind (arith, nat_tests)
+
+    by : (zero same : Bool) → same ≡ false → (if zero then f n else (if same then value else f n)) ≡ f n
+    by true same e = refl
+    by false true e = absurd (cc e)
+    by false false e = refl
+
+link_stays : (links : Bool) (f : Regs) (ra link n : ℕ) → ((if links then ra else 31) == n) ≡ false → (if links then put f ra link else f) n ≡ f n
+link_stays true f ra link n e = put_stays f ra link n e
+link_stays false f ra link n e = refl
+
+memory_stays : (kind : Option AlphaKind) (op : MemoryOp) (ra rb : ℕ) (disp : ℤ) (c : Alpha) (n : ℕ) → (memory_writes kind ra == n) ≡ false
+    → StaysBy (memory_act_by kind op ra rb disp c) (λ value success. memory_finish_by kind op ra value success c) c n
+memory_stays None op ra rb disp c n e = put_stays c.regs ra _ n e
+memory_stays (Some Load) op ra rb disp c n e = λ value success. put_stays c.regs ra _ n e
+memory_stays (Some LoadLocked) op ra rb disp c n e = λ value success. put_stays c.regs ra _ n e
+memory_stays (Some Store) op ra rb disp c n e = λ value success. refl
+memory_stays (Some StoreConditional) op ra rb disp c n e = λ value success. put_stays c.regs ra _ n e
+
+pub unwritten_stay : UnwrittenStay
+unwritten_stay (Memory op ra rb disp) c n e = memory_stays (kind_of op) op ra rb disp c n e
+unwritten_stay (Branch op ra disp) c n e = link_stays (links op) c.regs ra (link_of c.pc) n e
+unwritten_stay (Operate op ra rb rc) c n e = put_stays c.regs rc _ n e
+unwritten_stay (Jump ra rb) c n e = put_stays c.regs ra _ n e
+unwritten_stay (Pal number) c n e = tt
+
+-- behind operate words in a row
+pub effects_stay : (is : List AlphaInstr) (f : Regs) (n : ℕ) → list_all is_operate is ≡ true → writes_register n is ≡ false → effects is f n ≡ f n
+effects_stay [] f n ok e = refl
+effects_stay (i ∷ is) f n ok e =
+    let parts = and_true (is_operate i) (list_all is_operate is) ok in
+    let rest = neither (register_written i == n) (writes_register n is) e in
+    effects_stay is (effect i f) n parts.1 rest.1 ∙ effect_stays i parts.0 rest.0
+  where
+    neither : (a b : Bool) → (a || b) ≡ false → (a ≡ false) × (b ≡ false)
+    neither false b e = (refl, e)
+    neither true b e = absurd (cc e)
+
+    effect_stays : (i : AlphaInstr) → is_operate i ≡ true → (register_written i == n) ≡ false → effect i f n ≡ f n
+    effect_stays (Operate op ra rb rc) h e = put_stays f rc _ n e
+    effect_stays (Memory op ra rb disp) h e = absurd (cc h)
+    effect_stays (Branch op ra disp) h e = absurd (cc h)
+    effect_stays (Jump ra rb) h e = absurd (cc h)
+    effect_stays (Pal number) h e = absurd (cc h)
+
+-- the processor status word shows the same where R15 to R20 and R28 to R30 stay
+pub same_status : SameStatus
+same_status old new rules held stay =
+    rw (stay 15 refl, stay 16 refl, stay 17 refl, stay 18 refl, stay 19 refl, stay 20 refl, stay 28 refl, stay 29 refl, stay 30 refl) refl
+
+-- so it does behind words that write none of them
+pub psw_effects : (is : List AlphaInstr) (f : Regs) (rules : Rules) (held : Flags) → list_all is_operate is ≡ true → ((n : ℕ) → shows_psw n ≡ true → writes_register n is ≡ false)
+    → psw_shown (effects is f) rules held ≡ psw_shown f rules held
+psw_effects is f rules held ok none = same_status f (effects is f) rules held (λ n e. effects_stay is f n ok (none n e))

@@ -1,11 +1,17 @@
 -- Laws of the judgement on blocks.
-use Rattle.std.specs.Prelude.{ℕ, ◌≤◌, ◌+◌}
+use Rattle.std.specs.Prelude.{◌≡◌, ℕ, ◌≤◌, ◌+◌, ◌==◌, ◌&&◌, ◌||◌, nat_lt, nat_le, Bool, true, false}
 use Rattle.vax_form.specs.Tree.{Tree, Same}
-use Rattle.alpha_meaning.specs.State.{Alpha}
+use Rattle.vax_form.specs.declared.state.Flags.{Flags}
+use Rattle.alpha_encode.specs.declared.instr.AlphaInstr.{AlphaInstr}
+use Rattle.alpha_meaning.specs.State.{Alpha, Regs}
+use Rattle.alpha_meaning.specs.Act.{Does, Goes, Asks, Calls, act, finished}
 use Rattle.alpha_meaning.specs.Pieces.{Phase}
+use Rattle.exception_records.specs.Shown.{psw_shown}
+use Rattle.exception_records.specs.declared.rules.Rules.{Rules}
 use Rattle.block_law.specs.Placements.{Placement}
 use Rattle.block_law.specs.Rounds.{Round}
 use Rattle.block_law.specs.Follows.{Clause, Follows}
+use Rattle.block_law.specs.Tidy.{register_written}
 
 -- what holds for every number of steps
 abbrev pub Ever : Placement → Phase → (spare : ℕ) → Round → Alpha → Tree → Type 0
@@ -24,3 +30,22 @@ FewerStepsFollow =
 abbrev pub SameTreeFollows : Type 0
 SameTreeFollows =
     (p : Placement) (n : ℕ) (phase : Phase) (spare : ℕ) (round : Round) (c : Alpha) (tree other : Tree) → Same other tree → Follows p n phase spare round c tree → Follows p n phase spare round c other
+
+-- ---- registers
+-- the register is as before: behind a local step, and behind an access, whatever it found
+abbrev pub StaysBy : Does → (finished : (value : ℕ) (success : Bool) → Alpha) → Alpha → (register : ℕ) → Type 0
+StaysBy (Goes d) finished c register = d.regs register ≡ c.regs register
+StaysBy (Asks access) finished c register = (value : ℕ) (success : Bool) → (finished value success).regs register ≡ c.regs register
+StaysBy (Calls number) finished c register = Unit {0}
+
+-- an instruction leaves each register that it does not write
+abbrev pub UnwrittenStay : Type 0
+UnwrittenStay = (i : AlphaInstr) (c : Alpha) (register : ℕ) → (register_written i == register) ≡ false → StaysBy (act i c) (λ value success. finished i value success c) c register
+
+-- R15 to R20 and R28 to R30 tell the processor status word
+abbrev pub shows_psw : (register : ℕ) → Bool
+shows_psw register = (nat_le 15 register && nat_lt register 21) || (nat_le 28 register && nat_lt register 31)
+
+-- it shows the same where these registers stay
+abbrev pub SameStatus : Type 0
+SameStatus = (old new : Regs) (rules : Rules) (held : Flags) → ((register : ℕ) → shows_psw register ≡ true → new register ≡ old register) → psw_shown new rules held ≡ psw_shown old rules held

@@ -1,6 +1,7 @@
 -- What is asked of the words of a block one by one.
 use Rattle.std.specs.Prelude.{◌≡◌, ℕ, ◌≤◌, ◌==◌, ◌&&◌, ◌||◌, not, nat_lt, nat_le, Bool, true, false, List, [], ◌∷◌, length, Option, Some, None, if◌then◌else◌}
 use Rattle.std.specs.List.{list_any}
+use Rattle.vax_form.specs.declared.state.Flags.{Flags}
 use Rattle.alpha_encode.specs.declared.instr.AlphaInstr.{AlphaInstr}
 use Rattle.alpha_encode.specs.declared.instr.AlphaInstr.TheVariants.{Memory, Branch, Operate, Jump, Pal}
 use Rattle.alpha_meaning.specs.declared.access.AlphaKind.{AlphaKind}
@@ -79,3 +80,7 @@ pub record IsTidy (loops : Bool) (words : List AlphaInstr) : Type 0 where
 -- some word writes the register
 abbrev pub writes_register : (register : ℕ) → List AlphaInstr → Bool
 writes_register register words = list_any (λ i. register_written i == register) words
+
+-- the codes whose registers, R16 to R19, some word writes
+abbrev pub codes_written : List AlphaInstr → Flags
+codes_written words = record { n = writes_register 16 words; z = writes_register 17 words; v = writes_register 18 words; c = writes_register 19 words }
