@@ -2,7 +2,7 @@
 use Rattle.std.specs.Prelude.{◌≡◌, ℕ, ◌<◌, true}
 use Rattle.vax_form.specs.Grammar.{instruction}
 use Rattle.vax_form.specs.GrammarFound.{found}
-use Rattle.vax_form.specs.Finishes.{AllFinish}
+use Rattle.vax_form.specs.Finishes.{AllEnd, AllFinish}
 use Rattle.vax_form.specs.State.{IsState}
 use Rattle.vax_form.specs.Tree.{instruction_tree}
 use Rattle.vax_form.specs.declared.instr.Instr.{Instr}
@@ -49,3 +49,13 @@ FinishesBehind = (pages : Pages) (thread : ℕ) (state : VaxState) (instr : Inst
 abbrev pub ExitNeverFinishes : Type 0
 ExitNeverFinishes = (pages : Pages) (thread : ℕ) (state : VaxState) (instr : Instr) → ends_thread instr ≡ true
     → found pages state.pc ≡ instruction instr → AllFinish (tree_at pages thread state) (λ s. ⊥)
+
+-- the handler and what is pending are as before
+pub record KeepsHandler (before state : VaxState) : Type 0 where
+  pub handler : state.handler ≡ before.handler
+  pub pending : state.pending ≡ before.pending
+
+-- an instruction that has a block leaves them
+abbrev pub EndsWithHandler : Type 0
+EndsWithHandler = (pages : Pages) (thread : ℕ) (state : VaxState) (instr : Instr) → has_block instr ≡ true
+    → found pages state.pc ≡ instruction instr → AllEnd (tree_at pages thread state) (KeepsHandler state)

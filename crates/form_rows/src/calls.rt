@@ -2,7 +2,7 @@
 use crate::arithmetic::coded;
 use anyhow::Result;
 use row_tally::Tally;
-use vax_form::{Mode, Pending, Size, VaxState, Width};
+use vax_form::{Exception, Mode, Pending, Size, VaxState, Width};
 use vt_words::{
     and, and_not, cleared, complement, convert, extended_product, extract_high, extract_low, field,
     insert_high, insert_low, is_negative, kept, mask_high, mask_low, or, rotate, shift_left,
@@ -110,12 +110,30 @@ pub fn check_forms(rt: &impl Print) -> Result<Tally> {
     let mut state = VaxState {
         r: [0; 15],
         pc: 0,
-        psw: 0,
+        psw: 0x24,
         handler: 0,
         pending: Pending::Nothing,
     };
     state.set_register(14, 0x1460);
     tally.check(rt, "SP", &state.register(14), &0x1460)?;
+    tally.check(rt, "PSL", &state.psl(), &0x03C0_0024)?;
+    let violation = Exception::AccessViolation {
+        address: 0x1200,
+        write: true,
+    };
+    tally.check(rt, "a vector", &violation.vector(), &0x20)?;
+    tally.check(rt, "an address", &violation.parameter(), &0x1200)?;
+    tally.check(rt, "an intent", &violation.intent(), &1)?;
+    let trap = Exception::Arithmetic(2);
+    tally.check(rt, "a type", &trap.parameter(), &2)?;
+    tally.check(rt, "no handler", &state.has_handler(), &false)?;
+    let delivering = state.delivering(trap);
+    tally.check(
+        rt,
+        "a trap to deliver",
+        &delivering.pending,
+        &Pending::Deliver(trap),
+    )?;
     tally.print(rt, "sizes, modes and registers")?;
     Ok(tally)
 }

@@ -6,6 +6,7 @@
 //! order: it matches where each counted entry is the access of its reference.
 #![tactic(auto)]
 
+mod handlers;
 mod histories;
 mod images;
 mod machine;
@@ -27,5 +28,6 @@ fn main(rt: HostRuntime) -> io::Result<()> {
     orders::longword_by_accesses(&rt, alloc)?;
     orders::increments_by_accesses(&rt, alloc)?;
     orders::other_accesses(&rt, alloc)?;
+    handlers::handlers(&rt, alloc)?;
     Ok(())
 }

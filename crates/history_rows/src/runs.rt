@@ -49,7 +49,13 @@ fn print_thread(rt: &impl Print, thread: &ThreadRun) -> io::Result<()> {
             let r1 = thread.state.r[1];
             print!(rt; " access violation {address:08X} write {write} R0 {r0:08X} R1 {r1:08X}")
         }
-        Some(_) => print!(rt; " exception"),
+        Some(exception) => {
+            let vector = exception.vector();
+            let pc = thread.state.pc;
+            let psl = thread.state.psl();
+            let sp = thread.state.r[14];
+            print!(rt; " exception {vector:02X} pc {pc:08X} psl {psl:08X} R0 {r0:08X} SP {sp:08X}")
+        }
         None if thread.exited => print!(rt; " exit {r0:08X}"),
         None => print!(rt; " goes on"),
     }

@@ -2,7 +2,7 @@
 use crate::memory::Memory;
 use anyhow::{Context, Result, bail};
 use std::alloc::Global;
-use vax_form::{Exception, VaxState};
+use vax_form::{Exception, Pending, VaxState};
 
 #[derive(Drop)]
 pub struct Case<'a> {
@@ -24,6 +24,8 @@ fn state_of(pc: &str, psw: &str, r: [u32; 15]) -> Result<VaxState> {
         r,
         pc: number(pc)?,
         psw: u16::from_str_radix(psw, 16)?,
+        handler: 0,
+        pending: Pending::Nothing,
     })
 }
 

@@ -80,7 +80,8 @@ fn reads_code(opcode: u8) -> bool {
     )
 }
 
-fn outcome(state: &VaxState, instr: &Instr, pages: &Pages, replies: &[u64]) -> Outcome {
+/// What an instruction, long or not, comes to.
+pub fn outcome(state: &VaxState, instr: &Instr, pages: &Pages, replies: &[u64]) -> Outcome {
     if is_long(instr.opcode) {
         next_long(state, instr, pages, 0, replies)
     } else {

@@ -1,17 +1,20 @@
 //! Runs the instructions of data/instructions.txt through the decoder and the meaning of the VAX instructions, and says
 //! for each family how many of them end as in that file, where a simulator's answers stand.
 //!
-//! `case` reads a line, `memory` answers references, `ending` runs one instruction, and `difference` compares.
+//! `case` reads a line, `memory` answers references, `ending` runs one instruction, and `difference` compares. `stacks` has
+//! instructions that push and pop at the ends of a page, worked from the manual.
 #![tactic(auto)]
 
 mod case;
 mod difference;
 mod ending;
 mod memory;
+mod stacks;
 
 use crate::case::Case;
 use crate::difference::difference;
 use crate::ending::ending_of;
+use crate::stacks::check_stacks;
 use anyhow::{Context, Result};
 use row_tally::Tally;
 use std::fs;
@@ -53,5 +56,6 @@ fn run(rt: &(impl Print + AllocGlobal), text: &str) -> Result<()> {
 
 fn main(rt: HostRuntime) -> Result<()> {
     let text = fs::read_to_string(&rt, "instructions.txt").context("instructions.txt")?;
-    run(&rt, text.as_str())
+    run(&rt, text.as_str())?;
+    check_stacks(&rt)
 }

@@ -3,7 +3,8 @@ ghost use Rattle.std.specs.Prelude.{◌≡◌};
 use std::alloc::{AllocError, Global};
 use std::test::Fail;
 use vax_form::{
-    Base, Exception, Instr, Operand, Outcome, PageRange, Pages, RefKind, Reference, VaxState,
+    Base, Exception, Instr, Operand, Outcome, PageRange, Pages, Pending, RefKind, Reference,
+    VaxState,
 };
 use vax_long::next_long;
 
@@ -117,6 +118,8 @@ fn case_of(alloc: Global, row: &'static str) -> Result<Case, Fail> {
         r: [0; 15],
         pc: numbers[1],
         psw: (numbers[4] % 256) as u16,
+        handler: 0,
+        pending: Pending::Nothing,
     };
     for place in 0..15u8 {
         before.set_register(place, number(tokens.next().ok_or("short")?)?);

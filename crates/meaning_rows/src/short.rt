@@ -3,8 +3,8 @@ ghost use Rattle.std.specs.Prelude.{◌≡◌};
 use std::alloc::{AllocError, Global};
 use std::test::Fail;
 use vax_form::{
-    Base, Exception, Instr, Operand, Outcome, PageRange, Pages, RefKind, Reference, VaxState,
-    is_long,
+    Base, Exception, Instr, Operand, Outcome, PageRange, Pages, Pending, RefKind, Reference,
+    VaxState, is_long,
 };
 use vax_meaning::next;
 
@@ -50,8 +50,9 @@ static ROWS: [&str; 23] = [
 /// The table of the rows with CASEL, from the address 207 on.
 static TABLE: [u8; 6] = [0x0B, 0, 0x10, 0, 0x15, 0];
 
-/// CHMK: its code, the replies, the reference that it wants, or else R0 behind it.
-static SERVICES: [(u64, &'static [u64], Option<RefKind>, u32); 9] = [
+/// CHMK: its code, the replies, the reference that it wants, or else R0 behind it. R0 is 1241 before it, and the handler
+/// 300.
+static SERVICES: [(u64, &'static [u64], Option<RefKind>, u32); 11] = [
     (1, &[], None, 0x1241),
     (2, &[], Some(RefKind::Put(0x41)), 0),
     (2, &[0], None, 0x1241),
@@ -60,7 +61,9 @@ static SERVICES: [(u64, &'static [u64], Option<RefKind>, u32); 9] = [
     (3, &[0xFFFF_FFFF], None, 0xFFFF_FFFF),
     (4, &[], None, 7),
     (0, &[], None, 0),
-    (5, &[], None, 0),
+    (5, &[], None, 0x300),
+    (6, &[], None, 0x1241),
+    (7, &[], None, 0),
 ];
 
 /// The bytes from the address 1000 on.
@@ -127,6 +130,8 @@ impl Row {
             r: [0; 15],
             pc: 0x200,
             psw: 0,
+            handler: 0,
+            pending: Pending::Nothing,
         };
         before.set_register(14, 0x1200);
         Row {
@@ -300,6 +305,7 @@ fn services(rt: HostRuntime) -> Result<(), Fail> {
     let pages = pages(rt.alloc())?;
     let mut row = Row::empty(rt.alloc());
     row.before.set_register(0, 0x1241);
+    row.before.handler = 0x300;
     row.behind.pc = 0x202;
     for (code, replies, reference, r0) in SERVICES {
         let mut operands = [Operand::Unused; 6];
@@ -312,6 +318,12 @@ fn services(rt: HostRuntime) -> Result<(), Fail> {
             after: 0x202,
         };
         row.behind.set_register(0, r0);
+        row.behind.handler = if code == 5 { 0x1241 } else { 0x300 };
+        row.behind.pending = if code == 6 {
+            Pending::Resume
+        } else {
+            Pending::Nothing
+        };
         let wanted = match reference {
             Some(kind) => Outcome::Wants(Reference {
                 address: 0,

@@ -44,12 +44,17 @@ has_step setting m answer cpu new within some e h =
     subst (λ (o : Option AlphaInstr). next_by setting m o (state_of cpu) ≢ Stuck) (sym f) (by_fetch setting m (current setting.code.words cpu) answer cpu new some e h)
 
 -- ---- calls that have a step with a point
-chosen : (one two three four : Bool) (a b c d e : Next) → a ≢ Stuck → b ≢ Stuck → c ≢ Stuck → d ≢ Stuck → e ≢ Stuck → (if one then a else if two then b else if three then c else if four then d else e) ≢ Stuck
-chosen true two three four a b c d e ha hb hc hd he = ha
-chosen false true three four a b c d e ha hb hc hd he = hb
-chosen false false true four a b c d e ha hb hc hd he = hc
-chosen false false false true a b c d e ha hb hc hd he = hd
-chosen false false false false a b c d e ha hb hc hd he = he
+chosen : (one two three four five six : Bool) (a b c d e f g : Next) → a ≢ Stuck → b ≢ Stuck → c ≢ Stuck → d ≢ Stuck → e ≢ Stuck → f ≢ Stuck → g ≢ Stuck
+    → (if one then a else if two then b else if three then c else if four then d else if five then e else if six then f else g) ≢ Stuck
+chosen true two three four five six a b c d e f g ha hb hc hd he hf hg = ha
+chosen false true three four five six a b c d e f g ha hb hc hd he hf hg = hb
+chosen false false true four five six a b c d e f g ha hb hc hd he hf hg = hc
+chosen false false false true five six a b c d e f g ha hb hc hd he hf hg = hd
+chosen false false false false true six a b c d e f g ha hb hc hd he hf hg = he
+chosen false false false false false true a b c d e f g ha hb hc hd he hf hg = hf
+chosen false false false false false false a b c d e f g ha hb hc hd he hf hg = hg
 
 pub serves : (setting : Setting) (m : Moment) (code : ℕ) (rules : _) (c : Alpha) → served setting m code rules c ≢ Stuck
-serves setting m code rules c = chosen (code == 1) (code == 2) (code == 3) (code == 4) _ _ _ _ _ (λ h. absurd (cc h)) (λ h. absurd (cc h)) (λ h. absurd (cc h)) (λ h. absurd (cc h)) (λ h. absurd (cc h))
+serves setting m code rules c =
+    chosen (code == 1) (code == 2) (code == 3) (code == 4) (code == 5) (code == 6) _ _ _ _ _ _ _
+    (λ h. absurd (cc h)) (λ h. absurd (cc h)) (λ h. absurd (cc h)) (λ h. absurd (cc h)) (λ h. absurd (cc h)) (λ h. absurd (cc h)) (λ h. absurd (cc h))

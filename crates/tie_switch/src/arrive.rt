@@ -4,6 +4,7 @@ ghost use Rattle.alpha_machine.specs.Step.{state_of};
 ghost use Rattle.alpha_meaning.specs.State.{regs_of};
 ghost use Rattle.system_model.specs.Processors.{Ended, mode_at, stepped, arrived, left, placed};
 ghost use Rattle.system_model.specs.Legal.{spent};
+ghost use Rattle.system_model.specs.Steps.{settled_last};
 ghost use Rattle.tie_switch.specs.Seen as seen;
 ghost use Rattle.tie_switch.specs.Seen.{setting_of};
 
@@ -19,9 +20,32 @@ use vax_form::{Exception, Flags, VaxState};
 pub(crate) fn mode_at(setting: Setting<'_>, thread: u8, state: &VaxState, r: [u64; 32]) -> Mode
     ensures { seen.mode_of result state.now ≡ mode_at (setting_of setting.entry) thread state.now (regs_of r) }
 {
-    match goes_on(setting, thread, state.pc) {
+    match goes_on(setting, thread, state) {
         Some(pc) => Mode::Runs(Cpu { r, pc }),
         None => Mode::Interprets,
+    }
+}
+
+/// Where the thread has a handler, it takes the exception: a fault with the state before the instruction.
+fn settled(before: &VaxState, last: Last) -> Last
+    ensures { seen.last_of result ≡ settled_last before.now (seen.last_of last) }
+{
+    match last {
+        Last::Trap(kind, state) => {
+            if state.has_handler() {
+                Last::Finish(state.delivering(Exception::Arithmetic(kind)))
+            } else {
+                last
+            }
+        }
+        Last::Fault(exception) => {
+            if before.has_handler() {
+                Last::Finish(before.delivering(exception))
+            } else {
+                last
+            }
+        }
+        Last::Finish(_) | Last::Exit(_) => last,
     }
 }
 
@@ -94,7 +118,7 @@ impl Processor {
         match place {
             Place::Inside(cpu) => self.mode = Mode::Runs(cpu),
             Place::Lands { state, held, cpu } => self.arrive(setting, state, held, cpu.r),
-            Place::Leaves(last) => self.leave(setting, last),
+            Place::Leaves(last) => self.leave(setting, settled(&self.boundary, last)),
         }
     }
 }

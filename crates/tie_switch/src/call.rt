@@ -7,7 +7,7 @@ ghost use Rattle.block_law.specs.Translations.{most_words};
 ghost use Rattle.exception_records.specs.Codes.{all_ready};
 ghost use Rattle.exception_records.specs.Points.{point_at};
 ghost use Rattle.system_model.specs.Processors.{moment_of};
-ghost use Rattle.system_model.specs.Steps.{Comes, Stuck, probed, served, called, state_at, held_behind};
+ghost use Rattle.system_model.specs.Steps.{Comes, Stuck, exchanged, probed, served, called, state_at, held_behind};
 ghost use Rattle.vax_form.specs.Pages.{first_bad};
 ghost use Rattle.vax_form.specs.Tree.{Finish, Trap};
 ghost use Rattle.tie_switch.specs.Accesses.{AllCanAsk};
@@ -22,8 +22,7 @@ use crate::setting::{READY, Setting};
 use alpha_machine::Cpu;
 use exception_records::{Point, Rules};
 use memory_core::{Change, Kind, Request};
-use system_model::shown;
-use vax_form::Exception;
+use vax_form::{Exception, Pending, VaxState};
 
 /// A PALcode call, by its number.
 #[derive(Clone, Copy)]
@@ -49,6 +48,16 @@ pub(crate) fn call_of(number: u8) -> PalCall
         0x86 => PalCall::Switch,
         _ => PalCall::Other,
     }
+}
+
+/// R0 and the handler are exchanged.
+fn exchanged(state: &VaxState) -> VaxState
+    ensures { result ≡ exchanged state.now }
+{
+    let mut after = *state;
+    after.handler = state.register(0);
+    after.set_register(0, state.handler);
+    after
 }
 
 impl Processor {
@@ -96,7 +105,7 @@ impl Processor {
     {
         match cpu.r[21] % (1 << 16) {
             1 => {
-                let state = shown(&cpu, target(&cpu), &rules, &self.held);
+                let state = self.state_at(&cpu, target(&cpu), &rules, &self.held);
                 Next::Moves(Place::Leaves(Last::Exit(state)))
             }
             2 => {
@@ -109,6 +118,15 @@ impl Processor {
                 let told = with_r0(cpu, u64::from(self.thread));
                 Next::Moves(self.place_next(setting, told))
             }
+            5 => {
+                let state = self.state_at(&cpu, target(&cpu), &rules, &self.held);
+                Next::Moves(Place::Leaves(Last::Finish(exchanged(&state))))
+            }
+            6 => {
+                let state = self.state_at(&cpu, target(&cpu), &rules, &self.held);
+                let pending = Pending::Resume;
+                Next::Moves(Place::Leaves(Last::Finish(VaxState { pending, ..state })))
+            }
             _ => Next::Moves(self.place_next(setting, with_r0(cpu, 0))),
         }
     }
@@ -117,7 +135,7 @@ impl Processor {
     fn finish_ready(&self, cpu: &Cpu) -> Last
         ensures { seen.last_of result ≡ Comes (Finish (state_at (processor_of self.now).boundary (state_of cpu.now).regs (target (state_of cpu.now).regs) all_ready (processor_of self.now).held)) }
     {
-        Last::Finish(shown(cpu, target(cpu), &READY, &self.held))
+        Last::Finish(self.state_at(cpu, target(cpu), &READY, &self.held))
     }
 
     // The instruction is done, and raises an arithmetic trap.
@@ -128,7 +146,7 @@ impl Processor {
     {
         let kind = (cpu.r[21] % 256) as u8;
         let held = self.held_behind(setting);
-        Last::Trap(kind, shown(cpu, target(cpu), &rules, &held))
+        Last::Trap(kind, self.state_at(cpu, target(cpu), &rules, &held))
     }
 
     /// What a PALcode call does.

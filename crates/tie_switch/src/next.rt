@@ -3,7 +3,7 @@ ghost use Rattle.std.specs.Prelude.{◌≡◌, ◌≢◌, ◌≤◌, ◌<◌, le
 ghost use Rattle.alpha_machine.specs.Step.{state_of};
 ghost use Rattle.block_law.specs.Translations.{most_words};
 ghost use Rattle.system_model.specs.Processors.{moment_of};
-ghost use Rattle.system_model.specs.Steps.{Stuck, next, held_behind, place_of, behind};
+ghost use Rattle.system_model.specs.Steps.{Stuck, next, held_behind, place_of, behind, state_at};
 ghost use Rattle.tie_switch.specs.Accesses.{AllCanAsk, Fits, IsFetched, IsNextBy};
 ghost use Rattle.tie_switch.specs.Seen as seen;
 ghost use Rattle.tie_switch.specs.Seen.{setting_of, next_of, place_behind};
@@ -14,8 +14,9 @@ use crate::registers::with_r0;
 use crate::setting::{Setting, codes_written, rules_at};
 use alpha_machine::{AlphaStep, Cpu, finish, step};
 use alpha_meaning::AlphaAccess;
+use exception_records::Rules;
 use system_model::shown;
-use vax_form::Flags;
+use vax_form::{Flags, VaxState};
 use vt_words::field;
 
 impl Processor {
@@ -34,6 +35,17 @@ impl Processor {
         }
     }
 
+    /// The state that registers show at a PC, and all else as it was at the boundary.
+    pub(crate) fn state_at(&self, cpu: &Cpu, pc: u32, rules: &Rules, held: &Flags) -> VaxState
+        ensures { result ≡ state_at (processor_of self.now).boundary (state_of cpu.now).regs pc rules.now held.now }
+    {
+        let before = self.boundary;
+        VaxState {
+            pending: before.pending,
+            ..shown(cpu, pc, rules, held, before.handler)
+        }
+    }
+
     /// A step lands where it arrives at a mapped word.
     pub(crate) fn place(&self, setting: Setting<'_>, cpu: Cpu) -> Place
         ensures { seen.place_of result ≡ place_of (setting_of setting.entry) (moment_of (processor_of self.now)) (state_of cpu) }
@@ -45,7 +57,7 @@ impl Processor {
                 let held = self.held_behind(setting);
                 let rules = rules_at(code, cpu.pc);
                 Place::Lands {
-                    state: shown(&cpu, address, &rules, &held),
+                    state: self.state_at(&cpu, address, &rules, &held),
                     held,
                     cpu,
                 }

@@ -10,7 +10,7 @@ use cc_liveness::code_use;
 use exception_records::{CodeRule, Rules};
 use system_model::{Range, Translation, word_for};
 use vax_decode::{Decoded, decode_at};
-use vax_form::{Flags, Pages, operation_of};
+use vax_form::{Flags, Pages, Pending, VaxState, operation_of};
 
 /// The pages of an image, its translation, and the addresses that threads interpret.
 #[derive(Clone, Copy)]
@@ -57,10 +57,13 @@ pub(crate) fn rules_at(code: &Translation, word: u32) -> Rules
     }
 }
 
-/// Whether a thread goes on in Alpha code at an address, and at which word.
-pub(crate) fn goes_on(setting: Setting<'_>, thread: u8, address: u32) -> Option<u32>
-    ensures { result ≡ goes_on (setting_of setting.entry) thread address }
+/// Whether a thread goes on in Alpha code at a state, and at which word.
+pub(crate) fn goes_on(setting: Setting<'_>, thread: u8, state: &VaxState) -> Option<u32>
+    ensures { result ≡ goes_on (setting_of setting.entry) thread state.now }
 {
     let code = setting.code;
-    word_for(&code.map, setting.ranges, thread, address)
+    match state.pending {
+        Pending::Nothing => word_for(&code.map, setting.ranges, thread, state.pc),
+        Pending::Deliver(_) | Pending::Resume => None,
+    }
 }

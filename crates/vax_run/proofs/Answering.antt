@@ -1,5 +1,5 @@
 -- Scripts that were run, as answers of their trees.
-use Rattle.std.proofs.Common.{◌≡◌, Bool, ℕ, zero, suc, ◌+◌, ◌-◌, ◌≤◌, List, [], ◌∷◌, length, drop, Option, Some, None, Result, Ok, Err, refl, sym, ap, ◌∙◌, subst, arith}
+use Rattle.std.proofs.Common.{◌≡◌, Bool, true, false, if◌then◌else◌, ℕ, zero, suc, ◌+◌, ◌-◌, ◌≤◌, List, [], ◌∷◌, length, drop, Option, Some, None, Result, Ok, Err, refl, sym, ap, ◌∙◌, subst, arith}
 use Rattle.vax_form.specs.Pages.{first_bad}
 use Rattle.vax_form.specs.Script.{Script}
 use Rattle.vax_form.specs.Tree as trees
@@ -10,14 +10,17 @@ use Rattle.vax_form.specs.declared.script.End.TheVariants as ends
 use Rattle.vax_form.specs.declared.script.Stop.{Stop}
 use Rattle.vax_form.specs.declared.script.Stop.TheVariants as stops
 use Rattle.vax_form.specs.declared.state.VaxState.{VaxState}
+use Rattle.vax_form.specs.Moments.{delivering, has_handler, handled, handled_behind}
+use Rattle.vax_form.specs.declared.state.Exception.{Exception}
+use Rattle.vax_form.specs.declared.state.Exception.TheVariants.{Arithmetic}
 use Rattle.vax_form.proofs.Feeding.{answering_is_running}
-use Rattle.vax_meaning.specs.After.{if_runs, one_more, after}
+use Rattle.vax_form.proofs.Handling.{handling_is_running}
+use Rattle.vax_meaning.specs.After.{one_more, after}
 use Rattle.vax_meaning.specs.Play.{Plays, view}
 use Rattle.vax_meaning.specs.declared.cursor.Cursor.{Cursor}
-use Rattle.vax_run.specs.Answered.{answer_of, answer_to, IsWithin, life_of, life_behind_of, reached_of, if_running, running_at}
+use Rattle.vax_run.specs.Answered.{answer_of, answer_to, handled_answer, IsWithin, life_behind_of, reached_of}
 use Rattle.vax_run.specs.declared.answered.Answer.{Answer}
-use Rattle.vax_run.specs.declared.advance.Life.{Life}
-use Rattle.vax_run.specs.declared.advance.Life.TheVariants as lives
+use Rattle.vax_run.specs.declared.answered.Answer.TheVariants.{Fails, Comes}
 use Rattle.vax_run.specs.declared.advance.Place.{Place}
 
 -- the replies that are left are the last of those that there were
@@ -52,17 +55,52 @@ pub record IsAnswer (pages : Pages) (tree : Tree) (replies : List ℕ) (a : Answ
   pub value : answer_to replies a ≡ answer pages tree replies
   pub within : IsWithin (length replies) a
 
+comes_is : (pages : Pages) (tree : Tree) (replies : List ℕ) (end : End) (state : VaxState) (left : List ℕ) → answer pages tree replies ≡ trees.Comes (ending end state) left
+    → IsAnswer pages tree replies (Comes end state (length replies - length left))
+comes_is pages tree replies end state left e =
+    let r = rest pages tree replies (ending end state) left e in
+    record { value = ap (trees.Comes (ending end state)) (sym r.last) ∙ sym e; within = omega arith }
+
 pub answer_is : (script : Script End) (old new : Cursor) (r : Result End Stop) → Plays script old r new
     → IsAnswer old.pages.now (instruction_tree old.pages.now script old.state) old.replies.now (answer_of r new.state (length old.replies.now - length new.replies.now))
 answer_is script old new (Ok end) plays =
-    let tree = instruction_tree old.pages.now script old.state in
-    let e : answer old.pages.now tree old.replies.now ≡ trees.Comes (ending end new.state) new.replies.now = answering_is_running _ script (view old) ends_with ∙ ap (λ r. behind r ends_with) plays in
-    let r = rest old.pages.now tree old.replies.now (ending end new.state) new.replies.now e in
-    record { value = ap (trees.Comes (ending end new.state)) (sym r.last) ∙ sym e; within = omega arith }
+    comes_is old.pages.now (instruction_tree old.pages.now script old.state) old.replies.now end new.state new.replies.now
+    (answering_is_running _ script (view old) ends_with ∙ ap (λ r. behind r ends_with) plays)
 answer_is script old new (Err (stops.Wants reference)) plays =
     record { value = sym (answering_is_running _ script (view old) ends_with ∙ ap (λ r. behind r ends_with) plays); within = tt }
 answer_is script old new (Err (stops.Fails exception)) plays =
     record { value = sym (answering_is_running _ script (view old) ends_with ∙ ap (λ r. behind r ends_with) plays); within = tt }
+
+-- the same where the handler takes the exceptions
+trap_is : (b : Bool) (pages : Pages) (tree : Tree) (replies : List ℕ) (kind : ℕ) (state : VaxState) (left : List ℕ)
+    → answer pages tree replies ≡ trees.Comes (if b then trees.Finish (delivering (Arithmetic kind) state) else trees.Trap kind state) left
+    → IsAnswer pages tree replies (if b then Comes ends.Done (delivering (Arithmetic kind) state) (length replies - length left) else Comes (ends.Traps kind) state (length replies - length left))
+trap_is true pages tree replies kind state left e = comes_is pages tree replies ends.Done (delivering (Arithmetic kind) state) left e
+trap_is false pages tree replies kind state left e = comes_is pages tree replies (ends.Traps kind) state left e
+
+fault_is : (b : Bool) (pages : Pages) (tree : Tree) (replies : List ℕ) (exception : Exception) (before : VaxState) (left : List ℕ)
+    → answer pages tree replies ≡ (if b then trees.Comes (trees.Finish (delivering exception before)) left else trees.Fails exception)
+    → IsAnswer pages tree replies (if b then Comes ends.Done (delivering exception before) (length replies - length left) else Fails exception)
+fault_is true pages tree replies exception before left e = comes_is pages tree replies ends.Done (delivering exception before) left e
+fault_is false pages tree replies exception before left e = record { value = sym e; within = tt }
+
+pub handled_is : (script : Script End) (old new : Cursor) (r : Result End Stop) → Plays script old r new
+    → IsAnswer old.pages.now (handled old.pages.now old.state (instruction_tree old.pages.now script old.state)) old.replies.now
+    (handled_answer old.state new.state r (length old.replies.now - length new.replies.now))
+handled_is script old new (Ok ends.Done) plays =
+    comes_is old.pages.now (handled old.pages.now old.state (instruction_tree old.pages.now script old.state)) old.replies.now ends.Done new.state new.replies.now
+    (handling_is_running _ script old.state (view old) ends_with ∙ ap (λ r. handled_behind old.state r ends_with) plays)
+handled_is script old new (Ok ends.Exits) plays =
+    comes_is old.pages.now (handled old.pages.now old.state (instruction_tree old.pages.now script old.state)) old.replies.now ends.Exits new.state new.replies.now
+    (handling_is_running _ script old.state (view old) ends_with ∙ ap (λ r. handled_behind old.state r ends_with) plays)
+handled_is script old new (Ok (ends.Traps kind)) plays =
+    trap_is (has_handler new.state) old.pages.now (handled old.pages.now old.state (instruction_tree old.pages.now script old.state)) old.replies.now kind new.state new.replies.now
+    (handling_is_running _ script old.state (view old) ends_with ∙ ap (λ r. handled_behind old.state r ends_with) plays)
+handled_is script old new (Err (stops.Wants reference)) plays =
+    record { value = sym (handling_is_running _ script old.state (view old) ends_with ∙ ap (λ r. handled_behind old.state r ends_with) plays); within = tt }
+handled_is script old new (Err (stops.Fails exception)) plays =
+    fault_is (has_handler old.state) old.pages.now (handled old.pages.now old.state (instruction_tree old.pages.now script old.state)) old.replies.now exception old.state new.replies.now
+    (handling_is_running _ script old.state (view old) ends_with ∙ ap (λ r. handled_behind old.state r ends_with) plays)
 
 drop_nothing : (k : ℕ) → drop {A = ℕ} k [] ≡ []
 drop_nothing zero = refl
@@ -81,46 +119,20 @@ retired_there ends.Exits state taken more replies = ap (λ l. Some (record { lif
 retired_there (ends.Traps kind) state taken more replies = ap (λ l. Some (record { life = trees.Trapped kind; state = state; left = l })) (sym (drop_twice taken more replies))
 
 module _ (tree : VaxState → Tree) (pages : Pages) (replies : List ℕ) where
-  life_stops : (life : Life) (place : Place) (next : Option trees.Retired) → if_running life place ≡ None → if_runs (life_of life) next ≡ None
-  life_stops lives.Runs place next is = absurd (cc is)
-  life_stops lives.Exited place next is = refl
-  life_stops (lives.Trapped kind) place next is = refl
-
-  -- a thread that doesn't go on comes no further
-  pub stops_at : (here : Option Place) → running_at here ≡ None → one_more tree pages (reached_of replies here) ≡ None
-  stops_at None is = refl
-  stops_at (Some place) is = life_stops place.life place (retires (answer pages (tree place.state) (drop place.taken replies))) is
-
-  life_goes : (life : Life) (place on : Place) (next : Option trees.Retired) → if_running life place ≡ Some on → (place ≡ on) × (if_runs (life_of life) next ≡ next)
-  life_goes lives.Runs place on next is = (cc is, refl)
-  life_goes lives.Exited place on next is = absurd (cc is)
-  life_goes (lives.Trapped kind) place on next is = absurd (cc is)
-
-  pub goes_at : (here : Option Place) (on : Place) → running_at here ≡ Some on → one_more tree pages (reached_of replies here) ≡ retires (answer pages (tree on.state) (drop on.taken replies))
-  goes_at None on is = absurd (cc is)
-  goes_at (Some place) on is =
-      let g = life_goes place.life place on (retires (answer pages (tree place.state) (drop place.taken replies))) is in
-      g.1 ∙ ap (λ (p : Place). retires (answer pages (tree p.state) (drop p.taken replies))) g.0
-
-  pub place_at : (here : Option Place) (on : Place) → running_at here ≡ Some on → here ≡ Some on
-  place_at None on is = absurd (cc is)
-  place_at (Some place) on is = ap (λ p. Some p) (life_goes place.life place on None is).0
-
   nothing_more : (start : VaxState) (count more : ℕ) → after tree pages start count replies ≡ None → after tree pages start (more + count) replies ≡ None
   nothing_more start count zero is = let e : 0 + count ≡ count = omega arith in ap (λ n. after tree pages start n replies) e ∙ is
   nothing_more start count (suc more) is =
       let e : suc more + count ≡ suc (more + count) = omega arith in
       ap (λ n. after tree pages start n replies) e ∙ ap (one_more tree pages) (nothing_more start count more is)
 
-  pub never : (start : VaxState) (now count : ℕ) (here : Option Place) → after tree pages start now replies ≡ reached_of replies here → running_at here ≡ None → now + 1 ≤ count
-      → after tree pages start count replies ≡ None
-  never start now count here is stops ahead =
-      let next : after tree pages start (suc now) replies ≡ None = ap (one_more tree pages) is ∙ stops_at here stops in
-      let e : count - suc now + suc now ≡ count = omega arith in
-      subst (λ n. after tree pages start n replies ≡ None) e (nothing_more start (suc now) (count - suc now) next)
+  -- a thread that did not come so far comes no further
+  pub never : (start : VaxState) (now count : ℕ) → after tree pages start now replies ≡ None → now ≤ count → after tree pages start count replies ≡ None
+  never start now count is ahead =
+      let e : count - now + now ≡ count = omega arith in
+      subst (λ n. after tree pages start n replies ≡ None) e (nothing_more start now (count - now) is)
 
-  pub once : (start : VaxState) (now : ℕ) (here next : Option Place) (on : Place) → after tree pages start now replies ≡ reached_of replies here → running_at here ≡ Some on
-      → reached_of replies next ≡ retires (answer pages (tree on.state) (drop on.taken replies)) → after tree pages start (now + 1) replies ≡ reached_of replies next
-  once start now here next on is runs retired =
+  pub once : (start : VaxState) (now : ℕ) (here next : Option Place) (on : Place) → after tree pages start now replies ≡ reached_of replies here → here ≡ Some on
+      → reached_of replies next ≡ one_more tree pages (reached_of replies (Some on)) → after tree pages start (now + 1) replies ≡ reached_of replies next
+  once start now here next on is stands retired =
       let e : now + 1 ≡ suc now = omega arith in
-      ap (λ n. after tree pages start n replies) e ∙ ap (one_more tree pages) is ∙ goes_at here on runs ∙ sym retired
+      ap (λ n. after tree pages start n replies) e ∙ ap (one_more tree pages) (is ∙ ap (reached_of replies) stands) ∙ sym retired

@@ -13,7 +13,7 @@ use Rattle.vax_meaning.specs.After.{after, KeepsRetired}
 use Rattle.vax_form.proofs.Afters.{after_with_more}
 use Rattle.vax_meaning.specs.Made.{Made, replies_to}
 use Rattle.vax_driven.specs.Threads.{after_start, reached, wanted_at, wanted}
-use Rattle.vax_long.specs.Instructions.{tree_at}
+use Rattle.vax_long.specs.Pending.{moment_at}
 use Rattle.vax_run.specs.Answered.{life_of, reached_of}
 use Rattle.vax_run.specs.Threads.{after_of, IsAt, IsPlaceOf, IsThread, AreThreads}
 use Rattle.vax_run.specs.Values.{threads_of}
@@ -58,7 +58,7 @@ module _ (image : ImageValue) (made : List Made) (m : Made) where
       → new.start ≡ t.start → new.replies.items ≡ t.replies.items ++ m.reply ∷ [] → new.place ≡ place → new.retired ≡ count
       → IsThread image m.thread (m ∷ made) start new
   taken_on start t new count place is stands same replies here retired =
-      let T = tree_at image.pages m.thread in
+      let T = moment_at image.pages m.thread in
       let P = image.pages in
       let xs = t.replies.items ++ m.reply ∷ [] in
       let at : new.place.taken ≡ place.taken = ap (λ (p : Place). p.taken) here in
@@ -149,7 +149,7 @@ module _ (image : ImageValue) (made : List Made) where
   -- where a thread of the image comes
   pub reached_is : (n count : ℕ) (t : Thread) → IsAmong 0 n image.threads t → reached (threads_of image) n count (replies_to n made) ≡ after_of image n t count
   reached_is n count t a =
-      let T = tree_at image.pages n in
+      let T = moment_at image.pages n in
       let e : 0 + n ≡ n = omega arith in
       let is : IsThread image n made a.from t = subst (λ k. IsThread image k made a.from t) e a.thread in
       ap (λ (o : Option Start). after_start T image.pages (option_map start_state o) count (replies_to n made)) a.found
@@ -158,7 +158,7 @@ module _ (image : ImageValue) (made : List Made) where
 
   pub nothing_wanted : (n count : ℕ) → slice_get image.threads n ≡ None → wanted (threads_of image) n count (replies_to n made) ≡ None
   nothing_wanted n count none =
-      ap (λ (o : Option Start). wanted_at (threads_of image) n (after_start (tree_at image.pages n) image.pages (option_map start_state o) count (replies_to n made))) none
+      ap (λ (o : Option Start). wanted_at (threads_of image) n (after_start (moment_at image.pages n) image.pages (option_map start_state o) count (replies_to n made))) none
 
   pub at_among : (n : ℕ) (t : Thread) → IsAmong 0 n image.threads t → IsAt image n t
   at_among n t a = let e : 0 + n ≡ n = omega arith in subst (λ k. IsAt image k t) e a.thread.at
@@ -167,7 +167,7 @@ module _ (image : ImageValue) (made : List Made) where
 pub fresh : (image : ImageValue) (n : ℕ) (start : Start) (state : VaxState) (t : Thread) → t.start ≡ state → t.replies.items ≡ []
     → t.place ≡ record { life = lives.Runs; state = state; taken = 0 } → t.retired ≡ 0 → state ≡ start_state start → IsThread image n [] start t
 fresh image n start state t same none here unretired begins =
-    let T = tree_at image.pages n in
+    let T = moment_at image.pages n in
     let P = image.pages in
     let e : t.place.taken ≡ 0 = ap (λ (p : Place). p.taken) here in
     record {

@@ -1,11 +1,13 @@
 -- Answers of instructions as the code sees them.
-use Rattle.std.specs.Prelude.{ℕ, ◌≤◌, List, Option, Some, None, Result, Ok, Err, drop}
+use Rattle.std.specs.Prelude.{ℕ, ◌≤◌, List, Option, Some, None, Result, Ok, Err, drop, if◌then◌else◌}
+use Rattle.vax_form.specs.Moments.{delivering, has_handler}
 use Rattle.vax_form.specs.Tree as trees
 use Rattle.vax_form.specs.Tree.{Retired, ending}
 use Rattle.vax_form.specs.declared.script.End.{End}
 use Rattle.vax_form.specs.declared.script.End.TheVariants as ends
 use Rattle.vax_form.specs.declared.script.Stop.{Stop}
 use Rattle.vax_form.specs.declared.script.Stop.TheVariants as stops
+use Rattle.vax_form.specs.declared.state.Exception.TheVariants.{Arithmetic}
 use Rattle.vax_form.specs.declared.state.VaxState.{VaxState}
 use Rattle.vax_run.specs.declared.answered.Answer.{Answer}
 use Rattle.vax_run.specs.declared.answered.Answer.TheVariants.{Wants, Fails, Comes}
@@ -31,6 +33,20 @@ answer_of (Ok end) state taken = Comes end state taken
 answer_of (Err (stops.Wants reference)) state taken = Wants reference
 answer_of (Err (stops.Fails exception)) state taken = Fails exception
 
+-- the end of what a thread does at a state, where the handler takes a trap
+abbrev pub handled_end : VaxState → End → (taken : ℕ) → Answer
+handled_end state ends.Done taken = Comes ends.Done state taken
+handled_end state ends.Exits taken = Comes ends.Exits state taken
+handled_end state (ends.Traps kind) taken =
+    if has_handler state then Comes ends.Done (delivering (Arithmetic kind) state) taken else Comes (ends.Traps kind) state taken
+
+-- what a script that was run comes to, where the handler takes the exceptions
+abbrev pub handled_answer : (before state : VaxState) → Result End Stop → (taken : ℕ) → Answer
+handled_answer before state (Ok end) taken = handled_end state end taken
+handled_answer before state (Err (stops.Wants reference)) taken = Wants reference
+handled_answer before state (Err (stops.Fails exception)) taken =
+    if has_handler before then Comes ends.Done (delivering exception before) taken else Fails exception
+
 -- how a thread goes on, as the trees say it
 abbrev pub life_of : Life → trees.Life
 life_of Runs = trees.Runs
@@ -52,14 +68,3 @@ reached_of replies (Some place) = Some (record { life = life_of place.life; stat
 abbrev pub IsPlace : (count : ℕ) → Option Place → Type 0
 IsPlace count None = Unit {0}
 IsPlace count (Some place) = place.taken ≤ count
-
--- the place where the thread goes on
-abbrev pub if_running : Life → Place → Option Place
-if_running Runs place = Some place
-if_running Exited place = None
-if_running (Trapped kind) place = None
-
--- the place where a thread goes on, where it was reached
-abbrev pub running_at : Option Place → Option Place
-running_at None = None
-running_at (Some place) = if_running place.life place

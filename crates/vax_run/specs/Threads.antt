@@ -6,14 +6,14 @@ use Rattle.image_file.specs.Values.{ImageValue}
 use Rattle.vax_form.specs.Tree.{Retired}
 use Rattle.vax_meaning.specs.After.{after}
 use Rattle.vax_meaning.specs.Made.{Made, replies_to}
-use Rattle.vax_long.specs.Instructions.{tree_at}
+use Rattle.vax_long.specs.Pending.{moment_at}
 use Rattle.vax_run.specs.Answered.{reached_of}
 use Rattle.vax_run.specs.declared.advance.Place.{Place}
 use Rattle.vax_run.specs.declared.thread.Thread.{Thread}
 
 -- a thread after so many instructions, with the replies that it got
 abbrev pub after_of : ImageValue → (thread : ℕ) → Thread → (count : ℕ) → Option Retired
-after_of image thread t count = after (tree_at image.pages thread) image.pages t.start count t.replies.items
+after_of image thread t count = after (moment_at image.pages thread) image.pages t.start count t.replies.items
 
 -- it stands where it is after the instructions that it retired
 pub record IsAt (image : ImageValue) (thread : ℕ) (t : Thread) : Type 0 where

@@ -11,14 +11,14 @@ use Rattle.vax_driven.specs.declared.thread.ThreadRun.{ThreadRun}
 use Rattle.vax_driven.specs.Driven.{World, Driven, driven}
 use Rattle.vax_meaning.specs.Made.{Made, bytes_after, output_after}
 use Rattle.vax_driven.specs.Threads.{Threads}
-use Rattle.vax_long.specs.Instructions.{tree_at}
+use Rattle.vax_long.specs.Pending.{moment_at}
 
 -- the threads of an image
 abbrev pub threads_of : ImageValue → Threads
 threads_of image = record {
   pages = image.pages;
   start = λ thread. option_map start_state (slice_get image.threads thread);
-  tree = tree_at image.pages;
+  tree = moment_at image.pages;
 }
 
 -- the threads, bytes and input of an image

@@ -8,5 +8,6 @@ mod run;
 mod thread;
 mod world;
 
+pub use advance::{Life, Place, one_more};
 pub use run::{DrivenRun, driven};
 pub use vax_driven::ThreadRun;

@@ -1,7 +1,7 @@
 ghost use Rattle.std.specs.Prelude.{◌≡◌, ◌≤◌, ◌++◌, ◌∷◌, [], drop, length, option_map, IfSome, OnOk};
 ghost use Rattle.vax_form.specs.Tree.{answer};
 ghost use Rattle.vax_driven.specs.Threads.{wanted_at, wanted_in, fault_of, run_in, run_at};
-ghost use Rattle.vax_long.specs.Instructions.{tree_at};
+ghost use Rattle.vax_long.specs.Pending.{moment_at};
 ghost use Rattle.vax_run.specs.Answered.{life_of, IsPlace, reached_of};
 ghost use Rattle.vax_run.specs.Threads.{after_of, IsAt, IsPlaceOf};
 ghost use Rattle.vax_run.specs.Values.{threads_of};
@@ -100,7 +100,7 @@ impl Thread {
     /// The fault of the thread's next instruction at a place.
     fn fault_at(&self, image: &Image, thread: u8, place: &Place) -> Option<Exception>
         requires { place.now.taken ≤ length self.now.replies.items }
-        ensures { result ≡ fault_of (answer image.now.pages (tree_at image.now.pages thread place.now.state) (drop place.now.taken self.now.replies.items)) }
+        ensures { result ≡ fault_of (answer image.now.pages (moment_at image.now.pages thread place.now.state) (drop place.now.taken self.now.replies.items)) }
     {
         let left = &self.replies[place.taken..];
         match answered(&image.pages, &place.state, thread, left) {

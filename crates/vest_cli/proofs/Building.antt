@@ -13,7 +13,7 @@ use Rattle.vax_form.specs.declared.state.VaxState.{VaxState}
 use Rattle.address_map.specs.Pairs.{Pair, word_at}
 use Rattle.alpha_codegen.specs.HasBlock.{has_block}
 use Rattle.block_law.specs.Translations.{Code, Meets}
-use Rattle.system_model.specs.Closed.{IsMapped, IsClosed}
+use Rattle.system_model.specs.Closed.{IsInCode, IsClosed}
 use Rattle.system_model.specs.Legal.{starts}
 use Rattle.image_meaning.specs.Meant.{image_meaning}
 use Rattle.translate.specs.Compiled.{AreFound, GoOn, InOrder, addresses}
@@ -79,21 +79,22 @@ start_mapped pages start [] pairs walk e = absurd walk.ends
 start_mapped pages start (instr ∷ instrs) pairs walk e =
     first_mapped pairs start (addresses instrs) (e ∙ ap (λ a. a ∷ addresses instrs) walk.in_line.0.at)
 
-start_by : (s : Start) (thread : ℕ) (start : VaxState) → option_map start_state (slice_get (s ∷ []) thread) ≡ Some start → s.pc ≡ start.pc
-start_by s zero start e = let is : start_state s ≡ start = cc in ap (λ (x : VaxState). x.pc) is
+-- it starts with no handler and nothing pending
+start_by : (s : Start) (thread : ℕ) (start : VaxState) → option_map start_state (slice_get (s ∷ []) thread) ≡ Some start → start_state s ≡ start
+start_by s zero start e = cc
 start_by s (suc thread) start e = absurd cc
 
-starts_by : (threads : List Start) (pages : Pages) (instrs : List Instr) (pairs : List Pair) → IsWalkBy threads pages instrs
-    → map (λ (p : Pair). p.0) pairs ≡ addresses instrs → (thread : ℕ) (start : VaxState) → option_map start_state (slice_get threads thread) ≡ Some start
-    → IsSome (word_at pairs start.pc)
-starts_by [] pages instrs pairs walk e thread start at = absurd walk
-starts_by (s ∷ []) pages instrs pairs walk e thread start at =
-    subst (λ pc. IsSome (word_at pairs pc)) (start_by s thread start at) (start_mapped pages s.pc instrs pairs walk e)
-starts_by (s ∷ other ∷ rest) pages instrs pairs walk e thread start at = absurd walk
+starts_by : (threads : List Start) (pages : Pages) (instrs : List Instr) (code : Code) → IsWalkBy threads pages instrs
+    → map (λ (p : Pair). p.0) code.map ≡ addresses instrs → (thread : ℕ) (start : VaxState) → option_map start_state (slice_get threads thread) ≡ Some start
+    → IsInCode code start
+starts_by [] pages instrs code walk e thread start at = absurd walk
+starts_by (s ∷ []) pages instrs code walk e thread start at =
+    subst (IsInCode code) (start_by s thread start at) (record { mapped = start_mapped pages s.pc instrs code.map walk e; handler = refl; pending = refl })
+starts_by (s ∷ other ∷ rest) pages instrs code walk e thread start at = absurd walk
 
 pub all_start : (image : ImageValue) (instrs : List Instr) (code : Code) → IsWalkOf image instrs → map (λ (p : Pair). p.0) code.map ≡ addresses instrs
-    → (thread : ℕ) (start : VaxState) → starts image thread ≡ Some start → IsMapped code start
-all_start image instrs code walk e thread start at = starts_by image.threads image.pages instrs code.map walk e thread start at
+    → (thread : ℕ) (start : VaxState) → starts image thread ≡ Some start → IsInCode code start
+all_start image instrs code walk e thread start at = starts_by image.threads image.pages instrs code walk e thread start at
 
 walk_by : (threads : List Start) (pages : Pages) (instrs : List Instr) → IsWalkBy threads pages instrs → (start : ℕ) × IsWalk pages start instrs
 walk_by [] pages instrs walk = absurd walk

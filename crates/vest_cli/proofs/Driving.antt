@@ -24,7 +24,7 @@ use Rattle.vax_form.specs.GrammarLaws.{AreBytes}
 use Rattle.vax_form.specs.declared.state.VaxState.{VaxState}
 use Rattle.block_law.specs.Translations.{Code}
 use Rattle.memory_core.specs.Contents.{Contents}
-use Rattle.system_model.specs.Closed.{IsMapped, interprets_next}
+use Rattle.system_model.specs.Closed.{IsInCode, interprets_next}
 use Rattle.image_meaning.specs.Meant.{all_kinds, codes_written, image_meaning, no_bonus}
 use Rattle.tie_switch.specs.Laws.{TurnsStayLegal}
 use Rattle.tie_switch.specs.Processors.{Kept as ProcessorValue, processor_of}
@@ -84,7 +84,7 @@ module _ (sound_law : VaxMeaningIsSound) (headline_law : LegalHasHeadline) (clos
   module _ (memory : Contents) (p : ProcessorValue) (way : IsUnderWay image code of memory p) where
     pub translated : interprets_next (setting_of image code) (processor_of p) ≡ false
     translated = closed_law (setting_of image code) of BUDGET (reverse memory.history) (processor_of p ∷ []) sound builds.translated.meets
-        builds.stays.closed refl (subst (λ (i : ImageValue). (thread : ℕ) (start : VaxState) → starts i thread ≡ Some start → IsMapped code start) (sym is) builds.stays.starts)
+        builds.stays.closed refl (subst (λ (i : ImageValue). (thread : ℕ) (start : VaxState) → starts i thread ≡ Some start → IsInCode code start) (sym is) builds.stays.starts)
         run way.legal 0 (processor_of p) refl
 
     pub has_step : turn (setting_of image code) (processor_of p) ≢ Lost

@@ -8,7 +8,7 @@ use Rattle.address_map.specs.Pairs.{Pair}
 use Rattle.block_law.specs.Translations.{Code, Meets}
 use Rattle.vax_form.specs.declared.instr.Instr.{Instr}
 use Rattle.vax_form.specs.declared.state.VaxState.{VaxState}
-use Rattle.system_model.specs.Closed.{IsClosed, IsMapped}
+use Rattle.system_model.specs.Closed.{IsClosed, IsInCode}
 use Rattle.system_model.specs.Legal.{starts, IsLegal}
 use Rattle.image_meaning.specs.Meant.{image_meaning}
 use Rattle.tie_switch.specs.Settings.{image_setting}
@@ -28,10 +28,10 @@ use Rattle.vest_cli.specs.declared.run.TheConstants.{BUDGET}
 abbrev pub setting_of : ImageValue → Code → Setting
 setting_of image code = image_setting image.pages code []
 
--- each thread starts at a mapped instruction, and each mapped instruction goes on at a mapped one
+-- each thread starts in the code, and each instruction in it goes on at one in it
 pub record StaysInCode (image : ImageValue) (code : Code) : Type 0 where
   pub closed : IsClosed (image_meaning image.pages) code
-  pub starts : (thread : ℕ) (start : VaxState) → starts image thread ≡ Some start → IsMapped code start
+  pub starts : (thread : ℕ) (start : VaxState) → starts image thread ≡ Some start → IsInCode code start
 
 -- the translation has just the instructions of the image's walk, and they mean what they mean in the image
 pub record IsTranslated (image : ImageValue) (code : Code) : Type 0 where

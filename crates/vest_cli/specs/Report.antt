@@ -3,8 +3,10 @@
 -- status longword of user mode.
 use Rattle.std.specs.Prelude.{ℕ, ◌+◌, Bool, true, false, List, [], ◌∷◌, ◌++◌, codes, decimal, if◌then◌else◌}
 use Rattle.std.specs.List.{list_any}
+use Rattle.vax_form.specs.Exceptions.{vector_of}
+use Rattle.vax_form.specs.State.{psl_of}
 use Rattle.vax_form.specs.declared.state.Exception.{Exception}
-use Rattle.vax_form.specs.declared.state.Exception.TheVariants.{ReservedInstruction, ReservedOperand, ReservedMode, AccessViolation, Breakpoint, Arithmetic}
+use Rattle.vax_form.specs.declared.state.Exception.TheVariants.{AccessViolation, Arithmetic}
 use Rattle.vax_form.specs.declared.state.VaxState.{VaxState}
 use Rattle.system_model.specs.Processors.{Mode, Ended, Processor}
 use Rattle.system_model.specs.declared.translation.End.{End}
@@ -13,14 +15,6 @@ use Rattle.system_model.specs.Interpreted.{has_raised}
 use Rattle.vest_cli.specs.Digits.{two_digits, eight_digits}
 use Rattle.vest_cli.specs.declared.status.Status.{Status}
 use Rattle.vest_cli.specs.declared.status.Status.TheVariants as status
-
-abbrev pub vector_of : Exception → ℕ
-vector_of ReservedInstruction = 0x10
-vector_of ReservedOperand = 0x18
-vector_of ReservedMode = 0x1C
-vector_of (AccessViolation address write) = 0x20
-vector_of Breakpoint = 0x2C
-vector_of (Arithmetic kind) = 0x34
 
 -- what comes with an exception: the address and the intent of an access violation, and the type of an arithmetic trap
 abbrev pub detail_of : Exception → List ℕ
@@ -37,7 +31,7 @@ registers_text (value ∷ values) = (32 ∷ eight_digits value) ++ registers_tex
 -- the PC, the processor status longword, and on a line of their own the registers
 abbrev pub state_text : VaxState → List ℕ
 state_text state =
-    codes " pc " ++ eight_digits state.pc ++ codes " psl " ++ eight_digits (0x03C0_0000 + state.psw)
+    codes " pc " ++ eight_digits state.pc ++ codes " psl " ++ eight_digits (psl_of state)
     ++ codes "\nregisters" ++ registers_text state.r
 
 abbrev pub end_text : End → VaxState → (retired : ℕ) → List ℕ

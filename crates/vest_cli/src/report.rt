@@ -1,14 +1,12 @@
 // The report of a run: how each thread ended, and the registers of one that did not exit.
 ghost use Rattle.std.specs.Prelude.{◌≡◌, ◌+◌, ◌<◌, ◌≤◌, ◌++◌, ◌∷◌, [], length, codes, decimal};
+ghost use Rattle.vax_form.specs.Exceptions.{vector_of};
 ghost use Rattle.vest_cli.specs.Digits.{two_digits};
-ghost use Rattle.vest_cli.specs.Report.{vector_of, detail_of, registers_text, state_text, end_text, thread_text};
+ghost use Rattle.vest_cli.specs.Report.{detail_of, registers_text, state_text, end_text, thread_text};
 
 use crate::line::{LINE_ROOM, Line};
 use system_model::End;
 use vax_form::{Exception, VaxState};
-
-/// The processor status longword of a thread is this and its low word: user mode, before and now.
-const USER_MODE: u32 = 0x03C0_0000;
 
 /// The lines of a thread that ended so, with that state and that count of retired instructions.
 pub fn thread_lines(thread: u8, end: End, state: &VaxState, retired: u64) -> Line
@@ -51,21 +49,8 @@ fn push_exception(line: &mut Line, exception: Exception)
     ensures room { length line.new ≤ 70 }
 {
     line.push_text(b" exception ");
-    line.push_byte(vector_of(exception));
+    line.push_byte(exception.vector());
     push_detail(line, exception);
-}
-
-fn vector_of(exception: Exception) -> u8
-    ensures { result ≡ vector_of exception }
-{
-    match exception {
-        Exception::ReservedInstruction => 0x10,
-        Exception::ReservedOperand => 0x18,
-        Exception::ReservedMode => 0x1C,
-        Exception::AccessViolation { .. } => 0x20,
-        Exception::Breakpoint => 0x2C,
-        Exception::Arithmetic(_) => 0x34,
-    }
 }
 
 fn push_detail(line: &mut Line, exception: Exception)
@@ -96,7 +81,7 @@ fn push_state(line: &mut Line, state: &VaxState)
     line.push_text(b" pc ");
     line.push_longword(state.pc);
     line.push_text(b" psl ");
-    line.push_longword(USER_MODE + u32::from(state.psw));
+    line.push_longword(state.psl());
     line.push_text(b"\nregisters");
     push_registers(line, &state.r);
 }

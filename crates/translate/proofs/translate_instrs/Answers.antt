@@ -31,5 +31,5 @@ returns c =
     record {
       meets = meets c.args.pages.now instrs blocks code are layout c.requires.found;
       mapped = ap (map (λ (pair : Pair). pair.0)) layout.places ∙ map_addresses 0 instrs blocks are;
-      closed = closed c.ends_at_after.ensures.behind c.ends_at_after.ensures.exit c.args.pages.now instrs blocks code are layout c.requires.found c.requires.built;
+      closed = closed c.ends_at_after.ensures.behind c.ends_at_after.ensures.exit c.ends_at_after.ensures.handler c.args.pages.now instrs blocks code are layout c.requires.found c.requires.built;
     }
