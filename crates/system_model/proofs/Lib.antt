@@ -5,3 +5,4 @@ pub mod Neighbours
 pub mod Orders
 pub mod Rows
 pub mod Interpreted
+pub mod Handlers
