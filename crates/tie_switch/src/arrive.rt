@@ -118,7 +118,10 @@ impl Processor {
         match place {
             Place::Inside(cpu) => self.mode = Mode::Runs(cpu),
             Place::Lands { state, held, cpu } => self.arrive(setting, state, held, cpu.r),
-            Place::Leaves(last) => self.leave(setting, settled(&self.boundary, last)),
+            Place::Leaves(last) => {
+                let before = self.boundary;
+                self.leave(setting, settled(&before, last));
+            }
         }
     }
 }
