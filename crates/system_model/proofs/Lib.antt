@@ -6,3 +6,4 @@ pub mod Orders
 pub mod Rows
 pub mod Interpreted
 pub mod Handlers
+pub mod Making

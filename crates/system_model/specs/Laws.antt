@@ -8,15 +8,19 @@ use Rattle.memory_core.specs.declared.entry.Request.{Request}
 use Rattle.memory_core.specs.declared.entry.SetUp.{SetUp}
 use Rattle.memory_core.specs.Changes as quadwords
 use Rattle.memory_core.specs.Order.{own, Meets}
+use Rattle.memory_core.specs.Requests.{CanMake}
+use Rattle.alpha_meaning.specs.State.{Alpha}
 use Rattle.vax_form.specs.declared.state.Reference.{Reference}
 use Rattle.vax_form.specs.declared.state.VaxState.{VaxState}
+use Rattle.vax_form.specs.Ranges.{FitsPage}
 use Rattle.vax_form.specs.References.{reply_of, changed, AreBytes, FitsQuadword}
 use Rattle.block_law.specs.References.{is_of_memory}
 use Rattle.system_model.specs.Counted.{order}
 use Rattle.system_model.specs.Matches.{KeepsOthers}
 use Rattle.system_model.specs.Quadwords.{quad_at, quad_address, change_of, reply_found, IsOf}
 use Rattle.system_model.specs.Settings.{Setting}
-use Rattle.system_model.specs.Processors.{Processor, Went, Asks, begun, turn, entry_by}
+use Rattle.system_model.specs.Steps.{Place, Wants, Moment, next}
+use Rattle.system_model.specs.Processors.{Processor, Went, Asks, begun, request_of, turn, entry_by}
 use Rattle.system_model.specs.Legal.{starts, spent, IsGoing, IsAsking, IsReached, IsLegal}
 
 -- ---- legal histories
@@ -70,6 +74,17 @@ ReachedAreLegal = (setting : Setting) (set_up : SetUp) (budget : ℕ) (entries :
     → ((thread : ℕ) (start : VaxState) (p : Processor) → starts set_up.image thread ≡ Some start → slice_get processors thread ≡ Some p
     → IsReached setting budget set_up.limit entries thread start p)
     → IsLegal setting set_up budget entries processors
+
+-- ---- what memory is asked
+-- it can make the access of a reference that fits its page
+abbrev pub ReferencesCanBeMade : Type 0
+ReferencesCanBeMade = (set_up : SetUp) (thread retired : ℕ) (reference : Reference) → FitsPage set_up.image.pages reference
+    → CanMake set_up (request_of thread retired reference)
+
+-- and what a step of Alpha code wants
+abbrev pub StepsCanBeMade : Type 0
+StepsCanBeMade = (setting : Setting) (set_up : SetUp) (moment : Moment) (alpha : Alpha) (request : Request) (on : ℕ → Bool → Place)
+    → setting.meaning.pages ≡ set_up.image.pages → next setting moment alpha ≡ Wants request on → CanMake set_up request
 
 -- ---- references and their quadwords
 -- a reference's bytes and its quadword are changed alike

@@ -1,6 +1,6 @@
 //! What keeps processors reached and makes a history legal, and references beside the quadwords of their accesses, for the proofs of the crates above.
 //! Its functions do nothing.
-ghost use Rattle.system_model.specs.Laws.{BeginningsAreLegal, StepsKeepReached, AccessesKeepReached, EndsKeepReached, OthersKeepReached, RequestsAreOwn, ReachedAreLegal, QuadwordChanges, OtherQuadwordsStay, QuadwordReplies, NeighboursStay, OrderTurns};
+ghost use Rattle.system_model.specs.Laws.{BeginningsAreLegal, StepsKeepReached, AccessesKeepReached, EndsKeepReached, OthersKeepReached, RequestsAreOwn, ReachedAreLegal, ReferencesCanBeMade, StepsCanBeMade, QuadwordChanges, OtherQuadwordsStay, QuadwordReplies, NeighboursStay, OrderTurns};
 
 /// Processors before their first turn are legal, whatever is interpreted.
 pub fn beginnings_are_legal()
@@ -32,7 +32,6 @@ pub fn others_keep_reached()
 {}
 
 /// What a reached processor asks is of its thread.
-#[tactic(auto, using(crate::proofs::Turns::requests_are_own))]
 pub fn requests_are_own()
     ensures { RequestsAreOwn }
 {}
@@ -42,6 +41,16 @@ pub fn requests_are_own()
 #[tactic(auto, using(crate::proofs::Turns::reached_are_legal))]
 pub fn reached_are_legal()
     ensures { ReachedAreLegal }
+{}
+
+/// Memory can make the access of a reference that fits its page.
+pub fn references_can_be_made()
+    ensures { ReferencesCanBeMade }
+{}
+
+/// And it can make what a step of Alpha code wants.
+pub fn steps_can_be_made()
+    ensures { StepsCanBeMade }
 {}
 
 /// A reference changes its bytes as its change does their quadword.

@@ -27,7 +27,7 @@ use Rattle.system_model.specs.Processors.{Mode, New, Runs, Interprets, Ended, Pr
 use Rattle.system_model.specs.Legal.{starts, spent, IsGoing, IsReached, IsLegal}
 use Rattle.vest_core.specs.Entries.{AllPaired, Lock}
 use Rattle.vest_core.specs.Headline.{Claims, HasTies}
-use Rattle.vest_core.proofs.Facts.{IsShown, HasFewEntries, Facts}
+use Rattle.vest_core.proofs.Facts.{IsShown, CanTurn, HasFewEntries, Facts}
 use Rattle.system_model.specs.Interpreted.{threads_of, ties_of, ties_in, end_in, has_raised}
 use Rattle.vest_core.specs.Law.{IsRun, HasHeadline, LegalHasHeadline}
 use Rattle.vest_core.specs.OneProcessor.{ReachedIsSteady}
@@ -93,6 +93,7 @@ spent_facts setting begin thread mine was going f = record {
   paired = f.paired;
   entries = f.entries;
   goes_on = over_goes setting was;
+  asks = λ set_up pages. tt;
 }
   where
     w : List ℕ
@@ -141,9 +142,9 @@ module _ (setting : Setting) (set_up : SetUp) (entries : List Entry) (sound : Is
       ⊎_elim (λ e. subst (Facts setting (starts set_up.image) thread (own thread entries)) (sym e) f) (λ s. subst (Facts setting (starts set_up.image) thread (own thread entries)) (sym s.is) (spent_facts setting (starts set_up.image) thread (own thread entries) r.was s.going f)) r.now
 
 pub reached_is_steady : ReachedIsSteady
-reached_is_steady setting set_up budget entries thread start p sound meets run order h r =
+reached_is_steady setting set_up budget entries thread start p sound meets run pages order h r =
     let f = facts_of setting set_up entries sound meets run order budget thread start p h r in
-    record { goes_on = f.goes_on; steps = f.steps }
+    record { goes_on = f.goes_on; asks = λ request on e. subst (CanTurn set_up) e (f.asks set_up pages); steps = f.steps }
 
 module _ (setting : Setting) (set_up : SetUp) (budget : ℕ) (entries : List Entry) (processors : List Processor) (sound : IsSound setting.meaning) (meets : Meets setting.meaning setting.code) (run : IsRun set_up) (legal : IsLegal setting set_up budget entries processors) where
   abbrev begin : ℕ → Option VaxState

@@ -7,6 +7,7 @@ use Rattle.memory_core.specs.declared.entry.Entry.{Entry}
 use Rattle.memory_core.specs.declared.entry.Kind.{Kind}
 use Rattle.memory_core.specs.declared.entry.Kind.TheVariants.{LoadLocked, StoreConditional}
 use Rattle.memory_core.specs.declared.entry.Request.{Request}
+use Rattle.memory_core.specs.declared.entry.SetUp.{SetUp}
 use Rattle.vax_form.specs.State.{IsState, register}
 use Rattle.vax_form.specs.Tree.{Tree, Check, Ask, Fault, Ends, Ending, Finish, Exit, Trap, Answer, answer, Life, Exited, Trapped, Retired, retires}
 use Rattle.vax_form.specs.Tree as trees
@@ -19,18 +20,20 @@ use Rattle.system_model.specs.declared.translation.End.{End}
 use Rattle.system_model.specs.declared.translation.End.TheVariants as ends
 use Rattle.system_model.specs.Settings.{Setting, goes_on}
 use Rattle.system_model.specs.Steps.{Last, Comes, Fails, Place, Inside, Lands, Leaves, Next, Moves, Wants, Stuck, Moment, next, settled_last}
-use Rattle.system_model.specs.Processors.{Mode, New, Runs, Interprets, Ended, Processor, all_held, registers_of, mode_by, begun, stepped, tied, arrived, left, placed, Turn, Went, Asks, Over, Lost, alpha_turn, kind_by, request_of, tie_turn, turn_in, mode_of, turn, entry_by, Reaches, Begins, Steps, Takes}
+use Rattle.system_model.specs.Processors.{Mode, New, Runs, Interprets, Ended, Processor, all_held, registers_of, mode_by, begun, stepped, tied, arrived, left, placed, moment_of, Turn, Went, Asks, Over, Lost, alpha_turn, kind_by, request_of, tie_turn, turn_in, mode_of, turn, entry_by, Reaches, Begins, Steps, Takes}
 use Rattle.system_model.specs.Counted.{counts, is_counted}
 use Rattle.vest_core.specs.Explained.{with_reply, replies_by, IsWanted, Explained}
 use Rattle.vest_core.specs.Entries.{Paired, AllPaired, fails, counted_in, failed_in, Lock, lock_by, lock_of}
 use Rattle.vest_core.specs.Headline.{Claims}
-use Rattle.vest_core.proofs.Facts.{IsShown, Facts}
+use Rattle.vest_core.proofs.Facts.{IsShown, CanTurn, Facts}
 use Rattle.vest_core.proofs.Fair.{IsFair, AllFair}
 use Rattle.vest_core.proofs.Judged.{MadeBy, share_by, share_of}
 use Rattle.system_model.specs.Interpreted.{threads_of, is_translated, made_in, ties_in, end_in, ties_of, ties_open}
 use Rattle.vest_core.specs.Kinds.{IsMadeIn, translated_at, AllMadeIn}
 use Rattle.system_model.specs.Quadwords.{reply_from}
-use Rattle.vax_form.specs.Ranges.{IsInRange, StaysInRange}
+use Rattle.vax_form.specs.Ranges.{FitsPage, IsInRange, StaysInRange}
+use Rattle.vax_form.specs.declared.pages.Pages.{Pages}
+use Rattle.system_model.proofs.Making.{references_can_be_made, steps_can_be_made}
 use Rattle.vest_core.proofs.Paths.{Path, Here, Takes, joined, joined_here, answered, to_ask, silent_ends, comes_state, made_none, made_one}
 use Rattle.vest_core.proofs.Reached.{running, here, reached_more, reached_suc, wanted_is, ties_more, ties_quiet, end_quiet, ties_loud, end_loud}
 use Rattle.vest_core.proofs.Replying.{reply_fits, tie_counts, tie_is, tie_free, tie_paired, tie_kind, tie_share}
@@ -571,6 +574,33 @@ module _ (setting : Setting) (starts : ℕ → Option VaxState) (thread : ℕ) (
   moves_in w lock share p (Interprets state pending) is old s = tie_moves p state pending (answer setting.meaning.pages (setting.meaning.moment p.thread state) pending)
   moves_in w lock share p (Ended end) is old s = λ e. absurd (cc e)
 
+  -- memory can make what a step of Alpha code wants
+  alpha_asks : (set_up : SetUp) → setting.meaning.pages ≡ set_up.image.pages → (p : Processor) (alpha : Alpha) (to : Next) → next setting (moment_of p) alpha ≡ to → CanTurn set_up (alpha_turn setting p to)
+  alpha_asks set_up pages p alpha (Moves to) e = tt
+  alpha_asks set_up pages p alpha (Wants r on) e = steps_can_be_made setting set_up (moment_of p) alpha r on pages e
+  alpha_asks set_up pages p alpha Stuck e = tt
+
+  -- and the reference that an interpreted instruction wants
+  tie_asks : (set_up : SetUp) → setting.meaning.pages ≡ set_up.image.pages → (w : List ℕ) (lock : Option Lock) (share : ℕ) (p : Processor) (state : VaxState) (pending : List ℕ) (a : Answer)
+      → p.thread ≡ thread → Here_stands w lock share p (Interprets state pending) → answer setting.meaning.pages (setting.meaning.moment p.thread state) pending ≡ a → CanTurn set_up (tie_turn setting p state pending a)
+  tie_asks set_up pages w lock share p state pending (trees.Fails x) is s e = tt
+  tie_asks set_up pages w lock share p state pending (trees.Comes x rest) is s e = tt
+  tie_asks set_up pages w lock share p state pending (trees.Wants q) is s e =
+      let here_wants : answer setting.meaning.pages (setting.meaning.moment thread p.boundary) pending ≡ trees.Wants q =
+      ap (λ b. answer setting.meaning.pages (setting.meaning.moment thread b) pending) (sym s.same)
+      ∙ ap (λ t. answer setting.meaning.pages (setting.meaning.moment t state) pending) (sym is) ∙ e in
+      let asked = to_ask setting.meaning.pages s.rest q (sym (answered setting.meaning.pages (setting.meaning.moment thread p.boundary) s.rest pending s.flight.path) ∙ here_wants) in
+      let range = silent_ends setting.meaning.pages s.rest (Ask q asked.0) [] refl asked.1 s.flight.range in
+      references_can_be_made set_up p.thread p.retired q (subst (λ (x : Pages). FitsPage x q) pages range.0)
+
+  asks_in : (set_up : SetUp) → setting.meaning.pages ≡ set_up.image.pages → (w : List ℕ) (lock : Option Lock) (share : ℕ) (p : Processor) (m : Mode) → p.thread ≡ thread → Here_stands w lock share p m
+      → CanTurn set_up (turn_in setting p m)
+  asks_in set_up pages w lock share p New is s = tt
+  asks_in set_up pages w lock share p (Runs alpha) is s = alpha_asks set_up pages p alpha (next setting (moment_of p) alpha) refl
+  asks_in set_up pages w lock share p (Interprets state pending) is s =
+      tie_asks set_up pages w lock share p state pending (answer setting.meaning.pages (setting.meaning.moment p.thread state) pending) is s refl
+  asks_in set_up pages w lock share p (Ended end) is s = tt
+
   not_new : (p : Processor) (m : Mode) → mode_of setting p m ≢ New
   not_new p New = new_moves p (goes_on setting p.thread p.boundary) p.boundary (registers_of p.boundary)
   not_new p (Runs alpha) = λ e. absurd (cc e)
@@ -593,6 +623,7 @@ module _ (setting : Setting) (starts : ℕ → Option VaxState) (thread : ℕ) (
         paired = t.paired;
         entries = omega (arith, t.long, open_one (lock_of mine));
         goes_on = moves_in w (lock_of mine) (share_of mine) p (mode_of setting p p.mode) t.is (not_new p p.mode) settled;
+        asks = λ set_up pages. asks_in set_up pages w (lock_of mine) (share_of mine) p (mode_of setting p p.mode) t.is settled;
       }
 
   -- in Alpha code something is owed of what is still to be done

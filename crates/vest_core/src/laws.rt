@@ -25,7 +25,7 @@ pub fn legal_has_headline()
     ensures { LegalHasHeadline }
 {}
 
-/// One processor alone, whatever the others do: it has a step, and few behind it.
+/// One processor alone, whatever the others do: it has a step, memory can make it if it asks, and few are behind it.
 #[tactic(auto, using(crate::proofs::Headlines::reached_is_steady))]
 pub fn reached_is_steady()
     ensures { ReachedIsSteady }
