@@ -160,7 +160,7 @@ module _ (setting : Setting) (none : setting.ranges ≡ []) where
         arrives (placed setting p (Lands s held regs)) p.thread s regs here
     goes_home lock spare t (Leaves last) h o = leaves_home t (settled_last p.boundary last) h o.1
 
-    made_home : (lock old : Option Lock) (spare : ℕ) (t : Tree) (request : Request) (before : ℕ) (success : Bool) (to : Place) → AllFinish t (IsInCode setting.code) → IsInRange t
+    made_home : (lock old : Option Lock) (spare : ℕ) (t : Tree) (request : Request) (before : ℕ) (success : Bool) (to : Place) → AllFinish t (IsInCode setting.code) → IsInRange setting.meaning.pages t
         → IsFair request.kind old (entry_by request before success).quad before success
         → MadeBy t (entry_by request before success) (λ u. Owed_at lock spare u to) → IsHome setting (placed setting p to)
     made_home lock old spare (Check ad c w t) request before success to h range fair m = absurd m
@@ -168,10 +168,10 @@ module _ (setting : Setting) (none : setting.ranges ≡ []) where
     made_home lock old spare (Ends e) request before success to h range fair m = absurd m
     made_home lock old spare (Ask r on) request before success to h range fair m =
         let e = entry_by request before success in
-        let made = m range.0 in
+        let made = m (range.0).quadword in
         goes_home lock spare (on (reply_from r e)) to (h (reply_from r e) (reply_fits r e old made.0 fair)) made.1
 
-    behind_home : (b : Bool) (lock old : Option Lock) (spare less : ℕ) (t : Tree) (request : Request) (before : ℕ) (success : Bool) (to : Place) → AllFinish t (IsInCode setting.code) → IsInRange t
+    behind_home : (b : Bool) (lock old : Option Lock) (spare less : ℕ) (t : Tree) (request : Request) (before : ℕ) (success : Bool) (to : Place) → AllFinish t (IsInCode setting.code) → IsInRange setting.meaning.pages t
         → IsFair request.kind old (entry_by request before success).quad before success
         → MatchBool b ((more : ℕ) × (more ≤ 256) × MadeBy t (entry_by request before success) (λ u. Owed_at lock (spare + more) u to)) (Owed_at lock less t to)
         → IsHome setting (placed setting p to)
@@ -186,7 +186,7 @@ module _ (setting : Setting) (none : setting.ranges ≡ []) where
   AllStay lock Lost = Unit {0}
 
   alpha_stays : (Owed : Option Lock → (spare : ℕ) → Alpha → Tree → Type 0) (Form : VaxState → Flags → Regs → Type 0) (p : Processor) → p.boundary.handler ≡ 0
-      → (retired : ℕ) (lock : Option Lock) (spare : ℕ) (t : Tree) (to : Next) → AllFinish t (IsInCode setting.code) → IsInRange t
+      → (retired : ℕ) (lock : Option Lock) (spare : ℕ) (t : Tree) (to : Next) → AllFinish t (IsInCode setting.code) → IsInRange setting.meaning.pages t
       → OwedNext setting.meaning.pages Owed Form (settled_last p.boundary) retired lock spare t to → AllStay lock (alpha_turn setting p to)
   alpha_stays Owed Form p home retired lock spare t (Moves to) h range o =
       goes_home Owed Form (stepped p) home lock spare o.0 to (path_finish (IsInCode setting.code) setting.meaning.pages t o.0 [] refl o.1 h) o.2
