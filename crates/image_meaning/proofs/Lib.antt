@@ -19,3 +19,4 @@ pub mod Strings
 pub mod TreesAt
 pub mod Moments
 pub mod Meanings
+mod Refused

@@ -7,3 +7,4 @@ pub mod Rows
 pub mod Interpreted
 pub mod Handlers
 pub mod Making
+mod Refused

@@ -29,7 +29,7 @@ going_is : (setting : Setting) (budget limit : ℕ) (entries : List Entry) (was 
 going_is setting budget limit entries was p g (inl e) = e
 going_is setting budget limit entries was p g (inr s) = absurd (subst (λ (x : Processor). IsGoing x.mode) s.is g)
 
-reached_thread : (setting : Setting) (first : Processor) (n : ℕ) (mine : List Entry) (p : Processor) → Reaches setting first n mine p → p.thread ≡ first.thread
+pub reached_thread : (setting : Setting) (first : Processor) (n : ℕ) (mine : List Entry) (p : Processor) → Reaches setting first n mine p → p.thread ≡ first.thread
 reached_thread setting first n mine p Begins = refl
 reached_thread setting first n mine p (Steps {p = q} r e) = (subst (Makes q) e (makes setting q)).thread ∙ reached_thread setting first _ mine q r
 reached_thread setting first n mine p (Takes {mine = older} {p = q} r e before success) = ((subst (Makes q) e (makes setting q)).1 before success).thread ∙ reached_thread setting first _ older q r
