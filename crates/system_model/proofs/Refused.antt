@@ -9,10 +9,10 @@ use Rattle.system_model.proofs.Requests.{Makes, makes}
 use Rattle.system_model.proofs.Turns.{reached_thread}
 
 -- reached by an entry of another processor
-pub by_another : (setting : Setting) (thread n : ℕ) (start : VaxState) (e : Entry) (mine : List Entry) (p : Processor) → e.processor ≢ thread
+pub by_another : (setting : Setting) (thread : ℕ) (start : VaxState) (n : ℕ) (e : Entry) (mine : List Entry) (p : Processor) → e.processor ≢ thread
     → Reaches setting (begun thread start) n (e ∷ mine) p → ⊥
-by_another setting thread n start e mine p other (Steps {p = q} r turned) = by_another setting thread _ start e mine q other r
-by_another setting thread n start e mine p other (Takes {mine = older} {p = q} r turned before success) =
+by_another setting thread start n e mine p other (Steps {p = q} r turned) = by_another setting thread start _ e mine q other r
+by_another setting thread start n e mine p other (Takes {mine = older} {p = q} r turned before success) =
     other ((subst (Makes q) turned (makes setting q)).0 ∙ reached_thread setting (begun thread start) _ older q r)
 
 -- spent by a full history, in a history with one entry more
