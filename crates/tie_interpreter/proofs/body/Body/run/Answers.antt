@@ -1,0 +1,6 @@
+-- What comes behind the operands ends the tree, or stops it.
+use Rattle.tie_interpreter.proofs.Bodies.{body_passes}
+use Rattle.tie_interpreter.proofs.body.Body.run.Goals as goal
+
+pub returns-clause-passes : goal.returns-clause-passes
+returns-clause-passes c = body_passes c.args.before.now c.args.self.now c.args.cursor.now c.body_fed.new.cursor c.body_fed.result c.body_fed.ensures.fed c.body_fed.ensures.few
