@@ -1,6 +1,7 @@
 // A case: an instruction with what stands before it and behind it.
 use crate::memory::Memory;
-use anyhow::{Context, Result, bail};
+use anyhow::{Context, Result, bail, ensure};
+use row_tally::{fields, longword, pieces};
 use std::alloc::Global;
 use vax_form::{Exception, Pending, VaxState};
 
@@ -14,42 +15,36 @@ pub struct Case<'a> {
     pub memory_behind: Memory,
 }
 
-fn number(text: &str) -> Result<u32> {
-    u32::from_str_radix(text, 16).context("a number")
-}
-
 /// The processor state with these registers.
 fn state_of(pc: &str, psw: &str, r: [u32; 15]) -> Result<VaxState> {
     Ok(VaxState {
         r,
-        pc: number(pc)?,
-        psw: u16::from_str_radix(psw, 16)?,
+        pc: longword(pc)?,
+        psw: u16::try_from(longword(psw)?)?,
         handler: 0,
         pending: Pending::Nothing,
     })
 }
 
-fn registers_of(text: &str) -> Result<[u32; 15]> {
+fn registers_of(alloc: Global, text: &str) -> Result<[u32; 15]> {
     let mut registers = [0; 15];
-    let mut numbers = text.split(',');
-    for register in &mut registers {
-        *register = number(numbers.next().context("fifteen registers")?)?;
+    let numbers = pieces(alloc, text)?;
+    ensure!(numbers.len() == registers.len(), "not fifteen registers");
+    for (register, number) in registers.iter_mut().zip(numbers.iter()) {
+        *register = longword(number)?;
     }
     Ok(registers)
 }
 
-/// The registers with those changed that are written as NUMBER=VALUE with commas between, or - for none.
-fn with_changes(registers: [u32; 15], changes: &str) -> Result<[u32; 15]> {
+/// The registers with those changed that are written as NUMBER=VALUE.
+fn with_changes(alloc: Global, registers: [u32; 15], changes: &str) -> Result<[u32; 15]> {
     let mut registers = registers;
-    if changes == "-" {
-        return Ok(registers);
-    }
-    for change in changes.split(',') {
+    for change in &pieces(alloc, changes)? {
         let (place, value) = change.split_once('=').context("a register")?;
         let register = registers
-            .get_mut(usize::from_str_radix(place, 16)?)
+            .get_mut(longword(place)? as usize)
             .context("a register below 15")?;
-        *register = number(value)?;
+        *register = longword(value)?;
     }
     Ok(registers)
 }
@@ -68,36 +63,21 @@ fn raised_by(ending: &str) -> Result<Option<Exception>> {
 }
 
 impl<'a> Case<'a> {
-    /// Reads a line.
-    pub fn read(alloc: Global, line: &'a str) -> Result<Case<'a>> {
-        let parts: Vec<&str> = line.split(' ').collect(alloc)?;
-        let [
-            name,
-            pc,
-            psw,
-            registers,
-            ending,
-            pc_behind,
-            psw_behind,
-            changes,
-            written,
-            areas,
-        ] = parts.as_slice()
-        else {
-            bail!("not ten parts");
-        };
-        let registers = registers_of(registers)?;
+    /// Reads a row.
+    pub fn read(alloc: Global, row: &'a str) -> Result<Case<'a>> {
+        let words = fields(alloc, row, 10)?;
+        let registers = registers_of(alloc, words[3])?;
+        let changed = with_changes(alloc, registers, words[7])?;
         let mut memory = Memory::new(alloc);
-        memory.store_areas(alloc, areas)?;
-        let mut memory_behind = Memory::new(alloc);
-        memory_behind.store_areas(alloc, areas)?;
-        memory_behind.store_areas(alloc, written)?;
+        memory.store_areas(alloc, words[9])?;
+        let mut memory_behind = memory.copy()?;
+        memory_behind.store_areas(alloc, words[8])?;
         Ok(Case {
-            name: *name,
-            before: state_of(pc, psw, registers)?,
+            name: words[0],
+            before: state_of(words[1], words[2], registers)?,
             memory,
-            raised: raised_by(ending)?,
-            behind: state_of(pc_behind, psw_behind, with_changes(registers, changes)?)?,
+            raised: raised_by(words[4])?,
+            behind: state_of(words[5], words[6], changed)?,
             memory_behind,
         })
     }

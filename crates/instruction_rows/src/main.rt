@@ -16,13 +16,13 @@ use crate::difference::difference;
 use crate::ending::ending_of;
 use crate::stacks::check_stacks;
 use anyhow::{Context, Result};
-use row_tally::Tally;
+use row_tally::{Families, Tally, rows};
 use std::fs;
 
-/// Runs the case of a line, and prints how it differs.
-fn agrees(rt: &(impl Print + AllocGlobal), line: &str) -> Result<bool> {
+/// Runs the case of a row, and prints how it differs.
+fn agrees(rt: &(impl Print + AllocGlobal), row: &str) -> Result<bool> {
     let alloc = rt.alloc();
-    let case = Case::read(alloc, line)?;
+    let case = Case::read(alloc, row)?;
     let ending = ending_of(alloc, &case)?;
     let difference = difference(alloc, &case, &ending)?;
     if let Some(difference) = &difference {
@@ -31,31 +31,20 @@ fn agrees(rt: &(impl Print + AllocGlobal), line: &str) -> Result<bool> {
     Ok(difference.is_none())
 }
 
-/// Runs the cases of a family, one a line.
-fn tally_of(rt: &(impl Print + AllocGlobal), lines: &str) -> Result<Tally> {
-    let mut tally = Tally::NONE;
-    for line in lines.lines() {
-        if !line.is_empty() {
-            tally.count(agrees(rt, line)?);
+/// Runs the cases of all families, one a row.
+fn run(rt: &(impl Print + AllocGlobal), table: &str) -> Result<Tally> {
+    let mut families = Families::NONE;
+    for row in &rows(rt.alloc(), table)? {
+        match row.strip_prefix("family ") {
+            Some(name) => families.begin(rt, name)?,
+            None => families.count(agrees(rt, row)?),
         }
     }
-    Ok(tally)
-}
-
-/// Runs the cases of all families, which follow a head of comments.
-fn run(rt: &(impl Print + AllocGlobal), text: &str) -> Result<()> {
-    let mut all = Tally::NONE;
-    for section in text.split("\nfamily ").skip(1) {
-        let (family, lines) = section.split_once('\n').context("a family's name")?;
-        let tally = tally_of(rt, lines)?;
-        tally.print(rt, family)?;
-        all.add(tally);
-    }
-    all.print(rt, "all")
+    families.end(rt)
 }
 
 fn main(rt: HostRuntime) -> Result<()> {
     let text = fs::read_to_string(&rt, "instructions.txt").context("instructions.txt")?;
-    run(&rt, text.as_str())?;
+    run(&rt, text.as_str())?.verdict()?;
     check_stacks(&rt)
 }

@@ -1,5 +1,6 @@
 // The memory of a case.
 use anyhow::{Context, Result, bail};
+use row_tally::{bytes, longword, pieces};
 use std::alloc::{AllocError, Global};
 use std::collections::BTreeMap;
 use vax_form::{RefKind, Reference};
@@ -37,15 +38,11 @@ impl Memory {
         Ok(())
     }
 
-    /// Stores areas that are written as ADDRESS=BYTES with commas between, or - for none.
+    /// Stores areas that are written as ADDRESS=BYTES.
     pub fn store_areas(&mut self, alloc: Global, areas: &str) -> Result<()> {
-        if areas == "-" {
-            return Ok(());
-        }
-        for area in areas.split(',') {
-            let (address, bytes) = area.split_once('=').context("an area")?;
-            let bytes = hex::decode(alloc, bytes)?;
-            self.store(u32::from_str_radix(address, 16)?, &bytes)?;
+        for area in &pieces(alloc, areas)? {
+            let (address, spelled) = area.split_once('=').context("an area")?;
+            self.store(longword(address)?, &bytes(alloc, spelled)?)?;
         }
         Ok(())
     }

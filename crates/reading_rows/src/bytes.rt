@@ -1,19 +1,13 @@
 // The numbers and the bytes of a question.
 use anyhow::{Context, Result};
+use row_tally::{bytes, longword, pieces};
 use std::alloc::Global;
-
-/// A hexadecimal number.
-pub fn number(text: &str) -> Result<u32> {
-    u32::from_str_radix(text, 16).context(format_args!("a number: {text}"))
-}
 
 /// Hexadecimal numbers with commas between, or - for none.
 pub fn numbers(alloc: Global, text: &str) -> Result<Vec<u32>> {
     let mut numbers = Vec::new(alloc);
-    if text != "-" {
-        for text in text.split(',') {
-            numbers.push(number(text)?)?;
-        }
+    for text in &pieces(alloc, text)? {
+        numbers.push(longword(text)?)?;
     }
     Ok(numbers)
 }
@@ -24,26 +18,26 @@ fn part_of<'a>(sample: &'a [u8], part: &str) -> Result<&'a [u8]> {
         return Ok(sample);
     }
     let (from, to) = part.split_once('-').context("a part of the sample")?;
-    let (from, to) = (number(from)? as usize, number(to)? as usize);
+    let (from, to) = (longword(from)? as usize, longword(to)? as usize);
     sample.get(from..to).context("a part of the sample")
 }
 
 /// The bytes that pieces spell, with commas between: BYTES in hexadecimal, BYTES*COUNT, or @FROM-TO of the sample.
-pub fn bytes_of(alloc: Global, sample: &[u8], pieces: &str) -> Result<Vec<u8>> {
-    let mut bytes = Vec::new(alloc);
-    for piece in pieces.split(',') {
+pub fn bytes_of(alloc: Global, sample: &[u8], text: &str) -> Result<Vec<u8>> {
+    let mut all = Vec::new(alloc);
+    for piece in &pieces(alloc, text)? {
         if let Some(part) = piece.strip_prefix('@') {
-            bytes.extend_from_slice(part_of(sample, part)?)?;
+            all.extend_from_slice(part_of(sample, part)?)?;
             continue;
         }
         let (piece, count) = match piece.split_once('*') {
-            Some((piece, count)) => (piece, number(count)?),
-            None => (piece, 1),
+            Some((piece, count)) => (piece, longword(count)?),
+            None => (*piece, 1),
         };
-        let piece = hex::decode(alloc, piece)?;
+        let piece = bytes(alloc, piece)?;
         for _ in 0..count {
-            bytes.extend_from_slice(&piece)?;
+            all.extend_from_slice(&piece)?;
         }
     }
-    Ok(bytes)
+    Ok(all)
 }

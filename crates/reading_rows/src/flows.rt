@@ -1,8 +1,9 @@
 // Questions about the flow of small images.
-use crate::bytes::{bytes_of, number, numbers};
-use anyhow::{Context, Result, anyhow, bail};
+use crate::bytes::{bytes_of, numbers};
+use anyhow::{Context, Result, anyhow};
 use flow_discovery::{FlowRefusal, is_start, reach};
 use image_file::{Image, read_image};
+use row_tally::{fields, longword};
 use std::alloc::{AllocError, Global};
 use vax_form::Instr;
 
@@ -39,13 +40,11 @@ fn file_of(alloc: Global, pc: u32, size: u32, entries: &[u32], code: &[u8]) -> R
 impl Flow {
     /// Reads PC SIZE ENTRIES HINTS CODE.
     fn read(alloc: Global, sample: &[u8], text: &str) -> Result<Flow> {
-        let parts: Vec<&str> = text.split(' ').collect(alloc)?;
-        let [pc, size, entries, hints, code] = parts.as_slice() else {
-            bail!("not five parts");
-        };
-        let (entries, hints) = (numbers(alloc, entries)?, numbers(alloc, hints)?);
-        let code = bytes_of(alloc, sample, code)?;
-        let file = file_of(alloc, number(pc)?, number(size)?, &entries, &code)?;
+        let parts = fields(alloc, text, 5)?;
+        let (pc, size) = (longword(parts[0])?, longword(parts[1])?);
+        let (entries, hints) = (numbers(alloc, parts[2])?, numbers(alloc, parts[3])?);
+        let code = bytes_of(alloc, sample, parts[4])?;
+        let file = file_of(alloc, pc, size, &entries, &code)?;
         let image = read_image(alloc, &file).map_err(|refusal| anyhow!("no image: {refusal:?}"))?;
         Ok(Flow { image, hints })
     }
@@ -87,7 +86,7 @@ pub fn answer(alloc: Global, sample: &[u8], question: &str) -> Result<String> {
     let rest = question.strip_prefix("start ").context("a question")?;
     let (address, flow) = rest.split_once(' ').context("an address")?;
     let flow = Flow::read(alloc, sample, flow)?;
-    let is_start = is_start(&flow.image, &flow.hints, number(address)?);
+    let is_start = is_start(&flow.image, &flow.hints, longword(address)?);
     let answer = if is_start { "yes" } else { "no" };
     Ok(String::from_str(alloc, answer)?)
 }

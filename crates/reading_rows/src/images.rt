@@ -1,9 +1,10 @@
 // Questions about the files of images.
 ghost use Rattle.image_file.specs.Whole.{IsWhole};
 
-use crate::bytes::{bytes_of, number};
+use crate::bytes::bytes_of;
 use anyhow::{Context, Result, anyhow, bail};
 use image_file::{Image, ImageRefusal, Section, read_image, write_image};
+use row_tally::longword;
 use std::alloc::{AllocError, Global};
 
 fn refusal_text(alloc: Global, refusal: ImageRefusal) -> Result<String, AllocError> {
@@ -85,9 +86,9 @@ fn image_answer(alloc: Global, image: &Image, bytes: &[u8], question: &str) -> R
         "entries" => entries_text(alloc, image)?,
         "sections" => sections_text(alloc, image)?,
         "state" => state_text(alloc, image)?,
-        "byte" => byte_text(alloc, image.byte(number(argument)?))?,
-        "code" => byte_text(alloc, image.pages.code_byte(number(argument)?))?,
-        "writable" => yes_or_no(alloc, image.pages.allowed(number(argument)?, true))?,
+        "byte" => byte_text(alloc, image.byte(longword(argument)?))?,
+        "code" => byte_text(alloc, image.pages.code_byte(longword(argument)?))?,
+        "writable" => yes_or_no(alloc, image.pages.allowed(longword(argument)?, true))?,
         "code-bytes" => format!(in alloc; "{:X}", image.pages.code.len())?,
         "written" => {
             let written = write_image(alloc, image).map_err(|want| anyhow!("{want:?}"))?;

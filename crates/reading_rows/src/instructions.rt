@@ -1,7 +1,8 @@
 // Questions about instructions in two read-only sections.
-use crate::bytes::{bytes_of, number};
+use crate::bytes::bytes_of;
 use crate::spelling::Spelling;
-use anyhow::{Context, Result, bail};
+use anyhow::{Context, Result};
+use row_tally::{fields, longword};
 use std::alloc::{AllocError, Global};
 use vax_decode::{Decoded, decode_at};
 use vax_form::{Instr, PageRange, Pages};
@@ -84,11 +85,9 @@ fn text_of(alloc: Global, decoded: &Decoded) -> Result<String, AllocError> {
 
 /// Answers PLACE BYTES ADDRESS: what stands at an address where bytes stand from a place on.
 pub fn answer(alloc: Global, sample: &[u8], question: &str) -> Result<String> {
-    let parts: Vec<&str> = question.split(' ').collect(alloc)?;
-    let [place, bytes, address] = parts.as_slice() else {
-        bail!("not three parts");
-    };
-    let code = code_of(number(place)?, &bytes_of(alloc, sample, bytes)?)?;
+    let parts = fields(alloc, question, 3)?;
+    let (place, address) = (longword(parts[0])?, longword(parts[2])?);
+    let code = code_of(place, &bytes_of(alloc, sample, parts[1])?)?;
     let pages = pages_of(alloc, &code)?;
-    Ok(text_of(alloc, &decode_at(&pages, number(address)?))?)
+    Ok(text_of(alloc, &decode_at(&pages, address))?)
 }

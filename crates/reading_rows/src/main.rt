@@ -13,10 +13,9 @@ mod operands;
 mod spelling;
 
 use anyhow::{Context, Result};
-use row_tally::Tally;
+use row_tally::{Families, Tally, bytes, rows};
 use std::alloc::Global;
 use std::fs;
-use std::rt::Files;
 
 /// What a file asks about.
 #[derive(Clone, Copy)]
@@ -72,43 +71,29 @@ fn agrees(
     Ok(agrees)
 }
 
-/// Answers the questions of a family. A line `sample` gives the bytes that those below it name.
-fn tally_of(rt: &(impl Print + AllocGlobal), topic: Topic, lines: &str) -> Result<Tally> {
-    let mut tally = Tally::NONE;
-    let mut sample = Vec::new(rt.alloc());
-    for line in lines.lines() {
-        if line.is_empty() || line.starts_with('#') {
-            continue;
-        }
-        match line.strip_prefix("sample ") {
-            Some(bytes) => sample = hex::decode(rt.alloc(), bytes)?,
-            None => tally.count(agrees(rt, topic, &sample, line)?),
-        }
-    }
-    Ok(tally)
-}
-
-/// Answers the questions of a file, whose families follow a head of comments.
+/// Answers the questions of a file, one a row. A row `sample` gives the bytes that those below it name.
 fn run(rt: &(impl Print + AllocGlobal), topic: Topic, text: &str) -> Result<Tally> {
-    let mut all = Tally::NONE;
-    for section in text.split("\nfamily ").skip(1) {
-        let (family, lines) = section.split_once('\n').context("a family's name")?;
-        let tally = tally_of(rt, topic, lines)?;
-        tally.print(rt, family)?;
-        all.add(tally);
+    let mut families = Families::NONE;
+    let mut sample = Vec::new(rt.alloc());
+    for row in &rows(rt.alloc(), text)? {
+        if let Some(name) = row.strip_prefix("family ") {
+            families.begin(rt, name)?;
+        } else if let Some(text) = row.strip_prefix("sample ") {
+            sample = bytes(rt.alloc(), text)?;
+        } else {
+            families.count(agrees(rt, topic, &sample, row)?);
+        }
     }
-    Ok(all)
-}
-
-fn run_all(rt: &(impl Print + AllocGlobal + Files)) -> Result<()> {
-    let mut all = Tally::NONE;
-    for topic in Topic::ALL {
-        let text = fs::read_to_string(rt, topic.file()).context(topic.file())?;
-        all.add(run(rt, topic, text.as_str())?);
-    }
-    all.print(rt, "all")
+    families.begin(rt, "")?;
+    Ok(families.before)
 }
 
 fn main(rt: HostRuntime) -> Result<()> {
-    run_all(&rt)
+    let mut all = Tally::NONE;
+    for topic in Topic::ALL {
+        let text = fs::read_to_string(&rt, topic.file()).context(topic.file())?;
+        all.add(run(&rt, topic, text.as_str())?);
+    }
+    all.print(&rt, "all")?;
+    all.verdict()
 }

@@ -5,6 +5,7 @@ use crate::bytes::bytes_of;
 use crate::spelling::Spelling;
 use anyhow::{Result, bail};
 use operand_specifiers::{SpecFault, read_spec};
+use row_tally::fields;
 use std::alloc::{AllocError, Global};
 use vax_form::{Access, Operand, Size};
 
@@ -82,10 +83,7 @@ fn specified(alloc: Global, bytes: &[u8], access: Access, size: Size) -> Result<
 
 /// Answers BYTES ACCESS SIZE.
 pub fn answer(alloc: Global, sample: &[u8], question: &str) -> Result<String> {
-    let parts: Vec<&str> = question.split(' ').collect(alloc)?;
-    let [bytes, access, size] = parts.as_slice() else {
-        bail!("not three parts");
-    };
-    let bytes = bytes_of(alloc, sample, bytes)?;
-    specified(alloc, &bytes, access_of(access)?, size_of(size)?)
+    let parts = fields(alloc, question, 3)?;
+    let bytes = bytes_of(alloc, sample, parts[0])?;
+    specified(alloc, &bytes, access_of(parts[1])?, size_of(parts[2])?)
 }
