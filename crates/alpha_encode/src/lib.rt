@@ -10,8 +10,6 @@ mod instr;
 pub mod pal;
 pub mod registers;
 mod tables;
-#[cfg(test)]
-mod tests;
 
 pub use crate::decoder::decode;
 pub use crate::encoder::encode;

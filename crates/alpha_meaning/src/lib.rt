@@ -15,6 +15,3 @@ pub use memory::{
     access_of, address_of, bytes_of, drops_low_bits, extended, extension_of, kind_of, scale_of,
 };
 pub use operate::result;
-
-#[cfg(test)]
-mod tests;
