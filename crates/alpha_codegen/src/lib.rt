@@ -15,6 +15,3 @@ mod works;
 
 pub use blocks::block;
 pub use works::{ends_thread, has_block};
-
-#[cfg(test)]
-mod tests;

@@ -59,6 +59,3 @@ pub fn translate_instrs(
     ends_at_after();
     Ok(Translation { words, map, points })
 }
-
-#[cfg(test)]
-mod tests;
