@@ -130,6 +130,3 @@ pub fn build(alloc: Global, pairs: &[(u32, u32)]) -> Result<AddressMap, MapRefus
         Err(_) => Err(MapRefusal::WantOfMemory),
     }
 }
-
-#[cfg(test)]
-mod tests;

@@ -11,6 +11,3 @@ pub use block::Block;
 pub use points::{Point, PointRefusal, Points, build};
 pub use registers::{codes_shown, shown};
 pub use rules::{CodeRule, Rules};
-
-#[cfg(test)]
-mod tests;
