@@ -10,8 +10,6 @@ mod memory;
 mod page;
 mod reservation;
 mod state;
-#[cfg(test)]
-mod tests;
 
 pub use entry::{Change, Entry, Kind, Reply, Request, SetUp};
 pub use memory::Memory;
