@@ -104,13 +104,14 @@ fn raised_text(alloc: Global, offset: &str) -> Result<String> {
     })
 }
 
-/// What the worked registers show: R0, R14 and the PSW's bits as they are, codes in R16 and R30, operands beside them.
+/// What the worked registers show: N and C are in R16 and R19, and R15 and R30 are operands of the rules.
 fn shown_text(alloc: Global, rules: &str, held: &str) -> Result<String> {
     let mut registers = [0; 32];
     registers[0] = 0xFFFF_FFFF_8000_0001;
     registers[14] = 0x1200;
     registers[15] = 0xFFFF_FFFF;
     registers[16] = 1;
+    registers[19] = 1;
     registers[20] = 0x20;
     registers[30] = 1;
     let rules = match rules {
