@@ -58,13 +58,12 @@ not_code : (n k : ℕ) → n < 15 → 15 < k → (n == k) ≡ false
 not_code n k lt gt = ne_eqb n k (λ (e : n ≡ k). absurd (omega arith))
 
 pub move_codes : (at : ℕ) (s : Source) (d : Destination) → FitsDestination d → codes_written (words_of (move_lines at s d) ++ quiet_words) ≡ moved_codes
-move_codes at s (destinations.Register n) fits =
-    by s (not_code n 16 fits (lit< tt)) (not_code n 17 fits (lit< tt)) (not_code n 18 fits (lit< tt)) (not_code n 19 fits (lit< tt))
+move_codes at s (destinations.Register n) fits = by s (not_code n 19 fits (lit< tt))
   where
-    by : (s : Source) → (n == 16) ≡ false → (n == 17) ≡ false → (n == 18) ≡ false → (n == 19) ≡ false → codes_written (words_of (move_lines at s (destinations.Register n)) ++ quiet_words) ≡ moved_codes
-    by (Constant v) n16 n17 n18 n19 = rw (n16, n17, n18, n19) refl
-    by (sources.Register m) n16 n17 n18 n19 = rw (n16, n17, n18, n19) refl
-    by (sources.Longword a) n16 n17 n18 n19 = rw (n16, n17, n18, n19) refl
+    by : (s : Source) → (n == 19) ≡ false → codes_written (words_of (move_lines at s (destinations.Register n)) ++ quiet_words) ≡ moved_codes
+    by (Constant v) other = rw other refl
+    by (sources.Register m) other = rw other refl
+    by (sources.Longword a) other = rw other refl
 move_codes at (Constant v) (destinations.Longword b) fits = refl
 move_codes at (sources.Register m) (destinations.Longword b) fits = refl
 move_codes at (sources.Longword a) (destinations.Longword b) fits = refl

@@ -1,16 +1,18 @@
 -- What the VAX instructions do stays in range, and goes with processors.
-use Rattle.std.specs.Prelude.{◌≡◌, ℕ, ◌<◌, ◌≤◌, Bool}
+use Rattle.std.specs.Prelude.{◌≡◌, ℕ, ◌<◌, ◌≤◌}
 use Rattle.vax_form.specs.GrammarLaws.{AreBytes}
 use Rattle.vax_form.specs.Ranges.{StaysInRange, FailsByFaults}
 use Rattle.vax_form.specs.State.{IsState}
 use Rattle.vax_form.specs.Tree.{instruction_tree}
 use Rattle.vax_form.specs.declared.pages.Pages.{Pages}
 use Rattle.vax_form.specs.declared.state.Flags.{Flags}
+use Rattle.vax_form.specs.declared.state.Reference.{Reference}
 use Rattle.vax_form.specs.declared.state.VaxState.{VaxState}
 use Rattle.vax_meaning.specs.Control.{serve}
 use Rattle.vax_long.specs.Instructions.{tree_at}
 use Rattle.vax_long.specs.Pending.{moment_at}
-use Rattle.alpha_meaning.specs.declared.access.AlphaKind.{AlphaKind}
+use Rattle.alpha_meaning.specs.Pieces.{Kinds}
+use Rattle.block_law.specs.Rounds.{block_steps}
 use Rattle.block_law.specs.Services.{service}
 use Rattle.block_law.specs.Sound.{IsSound}
 use Rattle.image_meaning.specs.Meant.{vax_meaning}
@@ -32,7 +34,7 @@ TreeAtFailsByFaults = (pages : Pages) (thread : ℕ) → AreBytes pages.code →
 abbrev pub ServicesAre : Type 0
 ServicesAre = (pages : Pages) (thread code : ℕ) (state : VaxState) → instruction_tree pages (serve code thread) state ≡ service thread code state
 
--- where the code has bytes alone, and an access allows at most 256 steps more
+-- where the code has bytes alone, and an access allows at most as many steps more as a block may take
 abbrev pub VaxMeaningIsSound : Type 0
-VaxMeaningIsSound = (pages : Pages) (written : ℕ → Flags) (kinds : ℕ → AlphaKind → (bytes : ℕ) → Bool) (bonus : ℕ → ℕ)
-    → AreBytes pages.code → ((address : ℕ) → bonus address ≤ 256) → IsSound (vax_meaning pages written kinds bonus)
+VaxMeaningIsSound = (pages : Pages) (written : ℕ → Flags) (kinds : ℕ → Reference → Kinds) (bonus : ℕ → ℕ)
+    → AreBytes pages.code → ((address : ℕ) → bonus address ≤ block_steps) → IsSound (vax_meaning pages written kinds bonus)

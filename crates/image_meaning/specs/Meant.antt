@@ -7,17 +7,18 @@ use Rattle.vax_form.specs.Tree.{instruction_tree}
 use Rattle.vax_form.specs.declared.operation.Operation.{Operation}
 use Rattle.vax_form.specs.declared.pages.Pages.{Pages}
 use Rattle.vax_form.specs.declared.state.Flags.{Flags}
+use Rattle.vax_form.specs.declared.state.Reference.{Reference}
 use Rattle.vax_meaning.specs.Control.{serve}
 use Rattle.vax_long.specs.Instructions.{tree_at}
 use Rattle.vax_long.specs.Pending.{moment_at}
 use Rattle.cc_liveness.specs.Codes.{none}
 use Rattle.cc_liveness.specs.Uses.{code_use_of}
-use Rattle.alpha_meaning.specs.declared.access.AlphaKind.{AlphaKind}
+use Rattle.alpha_meaning.specs.Pieces.{Kinds}
 use Rattle.block_law.specs.Translations.{Meaning}
 
 -- what stands at a state's PC, what a thread does at a state, and what CHMK does, with what a translation says of each
 -- address
-abbrev pub vax_meaning : Pages → (written : ℕ → Flags) → (kinds : ℕ → AlphaKind → (bytes : ℕ) → Bool) → (bonus : ℕ → ℕ) → Meaning
+abbrev pub vax_meaning : Pages → (written : ℕ → Flags) → (kinds : ℕ → Reference → Kinds) → (bonus : ℕ → ℕ) → Meaning
 vax_meaning pages written kinds bonus = record {
   pages = pages;
   tree = tree_at pages;
@@ -42,8 +43,8 @@ codes_found (past address) = none
 abbrev pub codes_written : Pages → (address : ℕ) → Flags
 codes_written pages address = codes_found (found pages address)
 
-abbrev pub all_kinds : (address : ℕ) → AlphaKind → (bytes : ℕ) → Bool
-all_kinds address kind bytes = true
+abbrev pub all_kinds : (address : ℕ) → Reference → Kinds
+all_kinds address reference kind bytes = true
 
 abbrev pub no_bonus : (address : ℕ) → ℕ
 no_bonus address = 0

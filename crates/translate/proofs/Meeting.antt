@@ -26,7 +26,7 @@ use Rattle.translate.proofs.Tidied.{like_tidy}
 use Rattle.translate.proofs.Zipped.{instr_of}
 
 means_vax : (pages : Pages) → MeansVax (image_meaning pages)
-means_vax pages = record { tree = λ thread state. refl; serve = λ thread code state. refl; kinds = λ address kind bytes. refl }
+means_vax pages = record { tree = λ thread state. refl; serve = λ thread code state. refl; kinds = λ address reference kind bytes. refl }
 
 -- all rules of a block are ready
 ready_at : (points : List Entry) (word : ℕ) (point : Point) → All (λ entry. entry.1.rules ≡ all_ready) points → point_at points word ≡ Some point → point.rules ≡ all_ready

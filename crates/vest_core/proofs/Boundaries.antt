@@ -1,5 +1,6 @@
 -- Boundaries: registers set from a state show it, and a mapped boundary begins a block.
 use Rattle.std.proofs.Common.{◌≡◌, ℕ, zero, suc, ◌<◌, ◌≤◌, ◌+◌, ◌-◌, ◌*◌, ◌/◌, ◌%◌, ◌^◌, ◌==◌, Bool, true, false, if◌then◌else◌, List, [], ◌∷◌, length, Option, Some, None, refl, sym, ap, ◌∙◌, arith, lit<, All}
+use Rattle.block_law.specs.Rounds.{block_steps}
 use Rattle.std.specs.Prelude.{nat_lt, map, slice_index}
 use Rattle.std.specs.List.{list_any}
 use Rattle.std.proofs.lemmas.Bool.Decides.{nat_tests}
@@ -178,7 +179,7 @@ awake Resume o word h = absurd (cc h)
 -- where a thread goes on in Alpha code, its block follows its instruction's tree
 pub enter : (setting : Setting) (thread : ℕ) (sound : IsSound setting.meaning) (meets : Meets setting.meaning setting.code) → thread < 256
     → (state : VaxState) (held : Flags) (regs : Regs) (word : ℕ) → IsState state → IsForm setting state held regs → goes_on setting thread state ≡ Some word
-    → Owes setting thread sound meets.map_rises state held None 256 (at_place regs word) (setting.meaning.tree thread state)
+    → Owes setting thread sound meets.map_rises state held None block_steps (at_place regs word) (setting.meaning.tree thread state)
 enter setting thread sound meets lt state held regs word is form goes =
     let at = mapped (list_any (covers thread state.pc) setting.ranges) (word_at setting.code.map state.pc) word (awake state.pending (word_for setting.code.map setting.ranges thread state.pc) word goes).1 in
     let block = meets.blocks state.pc word at in

@@ -1,5 +1,7 @@
 -- Closed code is never interpreted.
 use Rattle.std.proofs.Common.{◌≡◌, ℕ, ◌+◌, ◌-◌, ◌<◌, ◌≤◌, Bool, true, false, if◌then◌else◌, List, [], Option, Some, None, refl, sym, ap, subst, arith, ⊎_elim}
+use Rattle.alpha_meaning.specs.Pieces.{Kinds}
+use Rattle.block_law.specs.Rounds.{block_steps}
 use Rattle.std.specs.Prelude.{MatchBool, IsSome, option_map}
 use Rattle.std.specs.List.{list_any}
 use Rattle.address_map.specs.Pairs.{word_at}
@@ -15,6 +17,7 @@ use Rattle.vax_form.specs.Tree.{Tree, Check, Ask, Fault, Ends, Ending, Finish, E
 use Rattle.vax_form.specs.Tree as trees
 use Rattle.vax_form.specs.declared.pages.Pages.{Pages}
 use Rattle.vax_form.specs.declared.state.Flags.{Flags}
+use Rattle.vax_form.specs.declared.state.Reference.{Reference}
 use Rattle.vax_form.specs.declared.state.VaxState.{VaxState}
 use Rattle.vax_form.specs.Ranges.{IsInRange}
 use Rattle.system_model.specs.Counted.{is_counted}
@@ -83,24 +86,24 @@ module _ (P : VaxState → Type 0) (pages : Pages) where
 
     both_behind : (b : Bool) (old : Option Lock) (spare : ℕ) (t : Tree) (request : Request) (before : ℕ) (success : Bool) (to : Place) → (If → AllFinish t P)
         → IsFair request.kind old (entry_by request before success).quad before success
-        → MatchBool b ((more : ℕ) × (more ≤ 256) × MadeBy t (entry_by request before success) (λ u. OwedPlace pages Owed Form settle (lock_by (entry_by request before success).kind (entry_by request before success).quad before) (spare + more) u to))
+        → MatchBool b ((more : ℕ) × (more ≤ block_steps) × MadeBy t (entry_by request before success) (λ u. OwedPlace pages Owed Form settle (lock_by (entry_by request before success).kind (entry_by request before success).quad before) (spare + more) u to))
         (OwedPlace pages Owed Form settle (lock_by (entry_by request before success).kind (entry_by request before success).quad before) (more_by request.kind success spare) t to)
-        → MatchBool b ((more : ℕ) × (more ≤ 256) × MadeBy t (entry_by request before success) (λ u. OwedPlace pages Both Form settle (lock_by (entry_by request before success).kind (entry_by request before success).quad before) (spare + more) u to))
+        → MatchBool b ((more : ℕ) × (more ≤ block_steps) × MadeBy t (entry_by request before success) (λ u. OwedPlace pages Both Form settle (lock_by (entry_by request before success).kind (entry_by request before success).quad before) (spare + more) u to))
         (OwedPlace pages Both Form settle (lock_by (entry_by request before success).kind (entry_by request before success).quad before) (more_by request.kind success spare) t to)
     both_behind true old spare t request before success to h fair m =
         (m.0, m.1, both_made (lock_by (entry_by request before success).kind (entry_by request before success).quad before) old (spare + m.0) t request before success to h fair m.2)
     both_behind false old spare t request before success to h fair m =
         both_place (lock_by (entry_by request before success).kind (entry_by request before success).quad before) (more_by request.kind success spare) t to h m
 
-    both_next : (retired : ℕ) (lock : Option Lock) (spare : ℕ) (t : Tree) (to : Next) → (If → AllFinish t P) → OwedNext pages Owed Form settle retired lock spare t to → OwedNext pages Both Form settle retired lock spare t to
-    both_next retired lock spare t (Moves to) h o = (o.0, o.1, both_place lock spare o.0 to (λ so. path_finish t o.0 [] refl o.1 (h so)) o.2)
-    both_next retired lock spare t (Wants request on) h o = record {
+    both_next : (each : Reference → Kinds) (retired : ℕ) (lock : Option Lock) (spare : ℕ) (t : Tree) (to : Next) → (If → AllFinish t P) → OwedNext pages Owed Form settle each retired lock spare t to → OwedNext pages Both Form settle each retired lock spare t to
+    both_next each retired lock spare t (Moves to) h o = (o.0, o.1, both_place lock spare o.0 to (λ so. path_finish t o.0 [] refl o.1 (h so)) o.2)
+    both_next each retired lock spare t (Wants request on) h o = record {
       same = o.same;
       paired = o.paired;
       alpha = o.alpha;
       behind = λ before success fair. both_behind (is_counted (entry_by request before success)) lock spare t request before success (on before success) h fair (o.behind before success fair);
     }
-    both_next retired lock spare t Stuck h o = absurd o
+    both_next each retired lock spare t Stuck h o = absurd o
 
 -- ---- modes
 -- a processor in Alpha code whose thread has no handler, or which has ended
@@ -173,7 +176,7 @@ module _ (setting : Setting) (none : setting.ranges ≡ []) where
 
     behind_home : (b : Bool) (lock old : Option Lock) (spare less : ℕ) (t : Tree) (request : Request) (before : ℕ) (success : Bool) (to : Place) → AllFinish t (IsInCode setting.code) → IsInRange setting.meaning.pages t
         → IsFair request.kind old (entry_by request before success).quad before success
-        → MatchBool b ((more : ℕ) × (more ≤ 256) × MadeBy t (entry_by request before success) (λ u. Owed_at lock (spare + more) u to)) (Owed_at lock less t to)
+        → MatchBool b ((more : ℕ) × (more ≤ block_steps) × MadeBy t (entry_by request before success) (λ u. Owed_at lock (spare + more) u to)) (Owed_at lock less t to)
         → IsHome setting (placed setting p to)
     behind_home true lock old spare less t request before success to h range fair m = made_home lock old (spare + m.0) t request before success to h range fair m.2
     behind_home false lock old spare less t request before success to h range fair m = goes_home lock less t to h m
@@ -186,14 +189,14 @@ module _ (setting : Setting) (none : setting.ranges ≡ []) where
   AllStay lock Lost = Unit {0}
 
   alpha_stays : (Owed : Option Lock → (spare : ℕ) → Alpha → Tree → Type 0) (Form : VaxState → Flags → Regs → Type 0) (p : Processor) → p.boundary.handler ≡ 0
-      → (retired : ℕ) (lock : Option Lock) (spare : ℕ) (t : Tree) (to : Next) → AllFinish t (IsInCode setting.code) → IsInRange setting.meaning.pages t
-      → OwedNext setting.meaning.pages Owed Form (settled_last p.boundary) retired lock spare t to → AllStay lock (alpha_turn setting p to)
-  alpha_stays Owed Form p home retired lock spare t (Moves to) h range o =
+      → (each : Reference → Kinds) (retired : ℕ) (lock : Option Lock) (spare : ℕ) (t : Tree) (to : Next) → AllFinish t (IsInCode setting.code) → IsInRange setting.meaning.pages t
+      → OwedNext setting.meaning.pages Owed Form (settled_last p.boundary) each retired lock spare t to → AllStay lock (alpha_turn setting p to)
+  alpha_stays Owed Form p home each retired lock spare t (Moves to) h range o =
       goes_home Owed Form (stepped p) home lock spare o.0 to (path_finish (IsInCode setting.code) setting.meaning.pages t o.0 [] refl o.1 h) o.2
-  alpha_stays Owed Form p home retired lock spare t (Wants request on) h range o = λ before success fair.
+  alpha_stays Owed Form p home each retired lock spare t (Wants request on) h range o = λ before success fair.
       let e = entry_by request before success in
       behind_home Owed Form (stepped p) home (is_counted e) (lock_by e.kind e.quad e.before) lock spare (more_by e.kind e.success spare) t request before success (on before success) h range fair (o.behind before success fair)
-  alpha_stays Owed Form p home retired lock spare t Stuck h range o = tt
+  alpha_stays Owed Form p home each retired lock spare t Stuck h range o = tt
 
 -- ---- after any number of turns
 module _ (setting : Setting) (sound : IsSound setting.meaning) (meets : Meets setting.meaning setting.code) (closed : IsClosed setting.meaning setting.code) (none : setting.ranges ≡ [])
@@ -201,7 +204,7 @@ module _ (setting : Setting) (sound : IsSound setting.meaning) (meets : Meets se
   abbrev Closing : VaxState → Flags → Option Lock → (spare : ℕ) → Alpha → Tree → Type 0
   Closing b held lock spare alpha t = Owing setting sound meets thread few b held lock spare alpha t × (b.handler ≡ 0 → AllFinish t (IsInCode setting.code))
 
-  enters : (state : VaxState) (held : Flags) (regs : Regs) (word : ℕ) → IsState state → IsForm setting state held regs → goes_on setting thread state ≡ Some word → Closing state held None 256 (at_place regs word) (setting.meaning.moment thread state)
+  enters : (state : VaxState) (held : Flags) (regs : Regs) (word : ℕ) → IsState state → IsForm setting state held regs → goes_on setting thread state ≡ Some word → Closing state held None block_steps (at_place regs word) (setting.meaning.moment thread state)
   enters state held regs word is form goes =
       let there = awake state.pending (word_for setting.code.map setting.ranges thread state.pc) word goes in (
         owing_enters setting sound meets thread few state held regs word is form goes,
@@ -209,10 +212,10 @@ module _ (setting : Setting) (sound : IsSound setting.meaning) (meets : Meets se
       )
 
   opening : (retired : ℕ) (b : VaxState) (held : Flags) (lock : Option Lock) (spare : ℕ) (alpha : Alpha) (k : Tree) → Closing b held lock spare alpha k
-      → (0 < spare) × OwedNext setting.meaning.pages (Closing b held) (IsForm setting) (settled_last b) retired lock (spare - 1) k (next setting (moment_at thread retired b held) alpha)
+      → (0 < spare) × OwedNext setting.meaning.pages (Closing b held) (IsForm setting) (settled_last b) (setting.meaning.kinds b.pc) retired lock (spare - 1) k (next setting (moment_at thread retired b held) alpha)
   opening retired b held lock spare alpha k o =
       let owes = owing_opens setting sound meets thread few retired b held lock spare alpha k o.0 in
-      (owes.0, both_next (IsInCode setting.code) setting.meaning.pages (b.handler ≡ 0) (Owing setting sound meets thread few b held) (IsForm setting) (settled_last b) retired lock (spare - 1) k (next setting (moment_at thread retired b held) alpha) o.1 owes.1)
+      (owes.0, both_next (IsInCode setting.code) setting.meaning.pages (b.handler ≡ 0) (Owing setting sound meets thread few b held) (IsForm setting) (settled_last b) (setting.meaning.kinds b.pc) retired lock (spare - 1) k (next setting (moment_at thread retired b held) alpha) o.1 owes.1)
 
   abbrev Stays : List Entry → Turn → Type 0
   Stays mine = AllStay setting none (lock_of mine)
@@ -226,7 +229,7 @@ module _ (setting : Setting) (sound : IsSound setting.meaning) (meets : Meets se
           let f = flying setting begin thread start started ranged (sound.moments_ranged thread few) Closing (IsForm setting) (fresh setting) enters opening n mine q reached_q fair alpha e in
           let owes = owing_opens setting sound meets thread few q.retired q.boundary q.held (lock_of mine) f.spare alpha f.rest f.owed.0 in
           subst (λ t. Stays mine (alpha_turn setting q (next setting (moment_at t q.retired q.boundary q.held) alpha))) (sym f.is)
-          (alpha_stays setting none (Owing setting sound meets thread few q.boundary q.held) (IsForm setting) q h q.retired (lock_of mine) (f.spare - 1) f.rest (next setting (moment_at thread q.retired q.boundary q.held) alpha) (f.owed.1 h) f.range owes.1)
+          (alpha_stays setting none (Owing setting sound meets thread few q.boundary q.held) (IsForm setting) q h (setting.meaning.kinds q.boundary.pc) q.retired (lock_of mine) (f.spare - 1) f.rest (next setting (moment_at thread q.retired q.boundary q.held) alpha) (f.owed.1 h) f.range owes.1)
       by (Interprets state replies) e h = absurd h
       by (Ended end) e h = tt
 

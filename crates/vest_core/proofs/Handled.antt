@@ -1,8 +1,12 @@
 -- Blocks follow the instruction alone; its thread does it with the handler.
 use Rattle.std.proofs.Common.{◌≡◌, ℕ, ◌<◌, ◌≤◌, ◌-◌, ◌+◌, Bool, true, false, if◌then◌else◌, List, [], ◌∷◌, Option, Some, None, refl, sym, ap, ◌∙◌, subst}
+use Rattle.vest_core.specs.Kinds.{IsAlpha}
+use Rattle.alpha_meaning.specs.Pieces.{Kinds}
+use Rattle.block_law.specs.Rounds.{block_steps}
 use Rattle.std.specs.Prelude.{MatchBool}
 use Rattle.alpha_meaning.specs.State.{Alpha, Regs}
 use Rattle.memory_core.specs.declared.entry.Entry.{Entry}
+use Rattle.memory_core.specs.declared.entry.Kind.{Kind}
 use Rattle.memory_core.specs.declared.entry.Request.{Request}
 use Rattle.vax_form.specs.Pages.{first_bad}
 use Rattle.vax_form.specs.Moments.{delivering, has_handler, handled_ending, handled_fault, handled}
@@ -12,13 +16,14 @@ use Rattle.vax_form.specs.declared.pages.Pages.{Pages}
 use Rattle.vax_form.specs.declared.state.Exception.{Exception}
 use Rattle.vax_form.specs.declared.state.Exception.TheVariants.{AccessViolation}
 use Rattle.vax_form.specs.declared.state.Flags.{Flags}
+use Rattle.vax_form.specs.declared.state.Reference.{Reference}
 use Rattle.vax_form.specs.declared.state.VaxState.{VaxState}
 use Rattle.system_model.specs.Steps.{Last, Comes, Fails, Place, Inside, Lands, Leaves, Next, Moves, Wants, Stuck, settled_last}
 use Rattle.system_model.specs.Counted.{is_counted}
 use Rattle.system_model.specs.Processors.{entry_by}
 use Rattle.system_model.specs.Quadwords.{reply_from}
 use Rattle.vest_core.specs.Entries.{Lock, lock_by}
-use Rattle.vest_core.proofs.Judged.{MadeBy}
+use Rattle.vest_core.proofs.Judged.{MadeBy, head_of, for_nothing}
 use Rattle.vest_core.proofs.Owed.{answer_by, more_by, OwedPlace, OwedBehind, OwedAccess, OwedNext}
 use Rattle.vest_core.proofs.Paths.{Path, Here, Passes, Takes}
 
@@ -90,9 +95,9 @@ module _ (pages : Pages) (b : VaxState) where
     on_behind : (spare : ℕ) (t : Tree) (e : Entry) (place : Place) → OwedBehind pages Owes Form (λ l. l) spare t e place
         → OwedBehind pages Handled Form (settled_last b) spare (handled pages b t) e place
     on_behind spare t e place = either (is_counted e)
-        ((more : ℕ) × (more ≤ 256) × MadeBy t e (λ u. OwedPlace pages Owes Form (λ l. l) (lock_by e.kind e.quad e.before) (spare + more) u place))
+        ((more : ℕ) × (more ≤ block_steps) × MadeBy t e (λ u. OwedPlace pages Owes Form (λ l. l) (lock_by e.kind e.quad e.before) (spare + more) u place))
         (OwedPlace pages Owes Form (λ l. l) (lock_by e.kind e.quad e.before) (more_by e.kind e.success spare) t place)
-        ((more : ℕ) × (more ≤ 256) × MadeBy (handled pages b t) e (λ u. OwedPlace pages Handled Form (settled_last b) (lock_by e.kind e.quad e.before) (spare + more) u place))
+        ((more : ℕ) × (more ≤ block_steps) × MadeBy (handled pages b t) e (λ u. OwedPlace pages Handled Form (settled_last b) (lock_by e.kind e.quad e.before) (spare + more) u place))
         (OwedPlace pages Handled Form (settled_last b) (lock_by e.kind e.quad e.before) (more_by e.kind e.success spare) (handled pages b t) place)
         (λ m. (
           m.0,
@@ -103,20 +108,27 @@ module _ (pages : Pages) (b : VaxState) where
         ))
         (on_place (lock_by e.kind e.quad e.before) (more_by e.kind e.success spare) t place)
 
-    on_next : (retired : ℕ) (lock : Option Lock) (spare : ℕ) (t : Tree) (to : Next) → OwedNext pages Owes Form (λ l. l) retired lock spare t to
-        → OwedNext pages Handled Form (settled_last b) retired lock spare (handled pages b t) to
-    on_next retired lock spare t (Moves place) o = (handled pages b o.0, on_path t o.0 [] o.1, on_place lock spare o.0 place o.2)
-    on_next retired lock spare t (Wants request on) o = record {
+    -- a handler changes no reference
+    on_alpha : (kind : Kind) (each : Reference → Kinds) (t : Tree) → IsAlpha kind each (head_of t) → IsAlpha kind each (head_of (handled pages b t))
+    on_alpha kind each (Ask r on) i = i
+    on_alpha kind each (Check address count write t) i = for_nothing kind each (head_of (handled pages b (Check address count write t))) i
+    on_alpha kind each (Fault x) i = for_nothing kind each (head_of (handled pages b (Fault x))) i
+    on_alpha kind each (Ends e) i = for_nothing kind each (head_of (handled pages b (Ends e))) i
+
+    on_next : (each : Reference → Kinds) (retired : ℕ) (lock : Option Lock) (spare : ℕ) (t : Tree) (to : Next) → OwedNext pages Owes Form (λ l. l) each retired lock spare t to
+        → OwedNext pages Handled Form (settled_last b) each retired lock spare (handled pages b t) to
+    on_next each retired lock spare t (Moves place) o = (handled pages b o.0, on_path t o.0 [] o.1, on_place lock spare o.0 place o.2)
+    on_next each retired lock spare t (Wants request on) o = record {
       same = o.same;
       paired = o.paired;
-      alpha = o.alpha;
+      alpha = on_alpha request.kind each t o.alpha;
       behind = λ before success fair. on_behind spare t (entry_by request before success) (on before success) (o.behind before success fair);
     }
-    on_next retired lock spare t Stuck o = absurd o
+    on_next each retired lock spare t Stuck o = absurd o
 
-    pub opens_handled : (retired : ℕ) (lock : Option Lock) (spare : ℕ) (alpha : Alpha) (t : Tree) (to : Next)
-        → ((k : Tree) → Owes lock spare alpha k → (0 < spare) × OwedNext pages Owes Form (λ l. l) retired lock (spare - 1) k to)
-        → Handled lock spare alpha t → (0 < spare) × OwedNext pages Handled Form (settled_last b) retired lock (spare - 1) t to
-    opens_handled retired lock spare alpha t to opens h =
+    pub opens_handled : (each : Reference → Kinds) (retired : ℕ) (lock : Option Lock) (spare : ℕ) (alpha : Alpha) (t : Tree) (to : Next)
+        → ((k : Tree) → Owes lock spare alpha k → (0 < spare) × OwedNext pages Owes Form (λ l. l) each retired lock (spare - 1) k to)
+        → Handled lock spare alpha t → (0 < spare) × OwedNext pages Handled Form (settled_last b) each retired lock (spare - 1) t to
+    opens_handled each retired lock spare alpha t to opens h =
         let o = opens h.alone h.owes in
-        (o.0, subst (λ x. OwedNext pages Handled Form (settled_last b) retired lock (spare - 1) x to) (sym h.is) (on_next retired lock (spare - 1) h.alone to o.1))
+        (o.0, subst (λ x. OwedNext pages Handled Form (settled_last b) each retired lock (spare - 1) x to) (sym h.is) (on_next each retired lock (spare - 1) h.alone to o.1))

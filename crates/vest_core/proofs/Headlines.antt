@@ -1,5 +1,6 @@
 -- A legal history has the headline.
 use Rattle.std.proofs.Common.{◌≡◌, ◌≢◌, ℕ, zero, suc, ◌<◌, ◌≤◌, ◌+◌, ◌-◌, ◌^◌, false, if◌then◌else◌, List, [], ◌∷◌, ◌++◌, length, Option, Some, None, refl, sym, ap, ◌∙◌, subst, arith, lit<, ⊎_elim, All}
+use Rattle.block_law.specs.Rounds.{block_steps}
 use Rattle.std.specs.Prelude.{map, option_map, slice_get, replicate}
 use Rattle.std.proofs.lemmas.List.Elements.{All-nil, All-cons}
 use Rattle.alpha_meaning.specs.State.{Alpha, Regs, at_place}
@@ -108,7 +109,7 @@ module _ (setting : Setting) (sound : IsSound setting.meaning) (meets : Meets se
   Owing b held = Handled setting.meaning.pages b (Owes setting thread sound meets.map_rises b held) (IsForm setting)
 
   pub owing_enters : (state : VaxState) (held : Flags) (regs : Regs) (word : ℕ) → IsState state → IsForm setting state held regs → goes_on setting thread state ≡ Some word
-      → Owing state held None 256 (at_place regs word) (setting.meaning.moment thread state)
+      → Owing state held None block_steps (at_place regs word) (setting.meaning.moment thread state)
   owing_enters state held regs word is form goes = record {
     alone = setting.meaning.tree thread state;
     is = sound.moments thread state (awake state.pending (word_for setting.code.map setting.ranges thread state.pc) word goes).0;
@@ -116,9 +117,9 @@ module _ (setting : Setting) (sound : IsSound setting.meaning) (meets : Meets se
   }
 
   pub owing_opens : (retired : ℕ) (b : VaxState) (held : Flags) (lock : Option Lock) (spare : ℕ) (alpha : Alpha) (k : Tree) → Owing b held lock spare alpha k
-      → (0 < spare) × OwedNext setting.meaning.pages (Owing b held) (IsForm setting) (settled_last b) retired lock (spare - 1) k (next setting (moment_at thread retired b held) alpha)
+      → (0 < spare) × OwedNext setting.meaning.pages (Owing b held) (IsForm setting) (settled_last b) (setting.meaning.kinds b.pc) retired lock (spare - 1) k (next setting (moment_at thread retired b held) alpha)
   owing_opens retired b held lock spare alpha k =
-      opens_handled setting.meaning.pages b (Owes setting thread sound meets.map_rises b held) (IsForm setting) retired lock spare alpha k (next setting (moment_at thread retired b held) alpha)
+      opens_handled setting.meaning.pages b (Owes setting thread sound meets.map_rises b held) (IsForm setting) (setting.meaning.kinds b.pc) retired lock spare alpha k (next setting (moment_at thread retired b held) alpha)
       (λ t. opens setting thread sound meets.map_rises few retired b held lock spare alpha t)
 
 -- ---- one processor

@@ -1,7 +1,9 @@
 -- What is owed of each step of Alpha code, for a judgement on what is still to be done.
 use Rattle.std.proofs.Common.{◌≡◌, ℕ, ◌+◌, ◌≤◌, Bool, false, if◌then◌else◌, [], Option, None}
 use Rattle.std.specs.Prelude.{MatchBool}
+use Rattle.alpha_meaning.specs.Pieces.{Kinds, retry_steps}
 use Rattle.alpha_meaning.specs.State.{Alpha, Regs}
+use Rattle.block_law.specs.Rounds.{block_steps}
 use Rattle.memory_core.specs.declared.entry.Entry.{Entry}
 use Rattle.memory_core.specs.declared.entry.Kind.{Kind}
 use Rattle.memory_core.specs.declared.entry.Kind.TheVariants.{StoreConditional}
@@ -11,6 +13,7 @@ use Rattle.vax_form.specs.Tree.{Tree, Check, Ask, Fault, Ends, Ending, Finish, A
 use Rattle.vax_form.specs.Tree as trees
 use Rattle.vax_form.specs.declared.pages.Pages.{Pages}
 use Rattle.vax_form.specs.declared.state.Flags.{Flags}
+use Rattle.vax_form.specs.declared.state.Reference.{Reference}
 use Rattle.vax_form.specs.declared.state.VaxState.{VaxState}
 use Rattle.system_model.specs.Processors.{entry_by}
 use Rattle.system_model.specs.Steps.{Last, Comes, Fails, Place, Inside, Lands, Leaves, Next, Moves, Wants, Stuck}
@@ -18,12 +21,12 @@ use Rattle.system_model.specs.Counted.{is_counted}
 use Rattle.vest_core.specs.Kinds.{IsAlpha}
 use Rattle.vest_core.specs.Entries.{Paired, Lock, lock_by}
 use Rattle.vest_core.proofs.Fair.{IsFair}
-use Rattle.vest_core.proofs.Judged.{MadeBy}
+use Rattle.vest_core.proofs.Judged.{MadeBy, head_of}
 use Rattle.vest_core.proofs.Paths.{Path}
 
 -- steps more behind a store that failed
 abbrev pub more_by : Kind → (success : Bool) → ℕ → ℕ
-more_by StoreConditional false spare = spare + 16
+more_by StoreConditional false spare = spare + retry_steps
 more_by _ success spare = spare
 
 abbrev pub answer_by : Last → Answer
@@ -41,17 +44,19 @@ module _ (pages : Pages) (Owes : Option Lock → (spare : ℕ) → Alpha → Tre
   abbrev pub OwedBehind : (spare : ℕ) → Tree → Entry → Place → Type 0
   OwedBehind spare t e place =
       MatchBool (is_counted e)
-      ((more : ℕ) × (more ≤ 256) × MadeBy t e (λ u. OwedPlace (lock_by e.kind e.quad e.before) (spare + more) u place))
+      ((more : ℕ) × (more ≤ block_steps) × MadeBy t e (λ u. OwedPlace (lock_by e.kind e.quad e.before) (spare + more) u place))
       (OwedPlace (lock_by e.kind e.quad e.before) (more_by e.kind e.success spare) t place)
 
-  pub record OwedAccess (retired : ℕ) (lock : Option Lock) (spare : ℕ) (t : Tree) (request : Request) (on : ℕ → Bool → Place) : Type 0 where
-    pub same : request.retired ≡ retired
-    pub paired : Paired request.kind lock (if is_memory request.kind then request.quad else 0)
-    pub alpha : IsAlpha request.kind
-    pub behind : (before : ℕ) (success : Bool) → IsFair request.kind lock (if is_memory request.kind then request.quad else 0) before success
-        → OwedBehind spare t (entry_by request before success) (on before success)
+  -- where Alpha code may make these kinds of accesses for a reference
+  module _ (each : Reference → Kinds) where
+    pub record OwedAccess (retired : ℕ) (lock : Option Lock) (spare : ℕ) (t : Tree) (request : Request) (on : ℕ → Bool → Place) : Type 0 where
+      pub same : request.retired ≡ retired
+      pub paired : Paired request.kind lock (if is_memory request.kind then request.quad else 0)
+      pub alpha : IsAlpha request.kind each (head_of t)
+      pub behind : (before : ℕ) (success : Bool) → IsFair request.kind lock (if is_memory request.kind then request.quad else 0) before success
+          → OwedBehind spare t (entry_by request before success) (on before success)
 
-  abbrev pub OwedNext : (retired : ℕ) → Option Lock → (spare : ℕ) → Tree → Next → Type 0
-  OwedNext retired lock spare t (Moves place) = (u : Tree) × Path pages t [] u × OwedPlace lock spare u place
-  OwedNext retired lock spare t (Wants request on) = OwedAccess retired lock spare t request on
-  OwedNext retired lock spare t Stuck = ⊥
+    abbrev pub OwedNext : (retired : ℕ) → Option Lock → (spare : ℕ) → Tree → Next → Type 0
+    OwedNext retired lock spare t (Moves place) = (u : Tree) × Path pages t [] u × OwedPlace lock spare u place
+    OwedNext retired lock spare t (Wants request on) = OwedAccess retired lock spare t request on
+    OwedNext retired lock spare t Stuck = ⊥

@@ -1,5 +1,7 @@
 -- Each processor's own entries are those of its thread.
 use Rattle.std.proofs.Common.{◌≡◌, ◌≢◌, ℕ, suc, ◌+◌, ◌-◌, ◌*◌, ◌<◌, ◌≤◌, Bool, true, false, if◌then◌else◌, List, [], ◌∷◌, ◌++◌, Option, Some, None, refl, sym, ap, ◌∙◌, subst, arith, length}
+use Rattle.alpha_meaning.specs.Pieces.{Kinds, retry_steps}
+use Rattle.block_law.specs.Rounds.{block_steps}
 use Rattle.std.specs.Option.{is_some}
 use Rattle.std.specs.Prelude.{MatchBool}
 use Rattle.alpha_meaning.specs.State.{Alpha, Regs, at_place}
@@ -27,9 +29,9 @@ use Rattle.vest_core.specs.Entries.{Paired, AllPaired, fails, counted_in, failed
 use Rattle.vest_core.specs.Headline.{Claims}
 use Rattle.vest_core.proofs.Facts.{IsShown, CanTurn, Facts}
 use Rattle.vest_core.proofs.Fair.{IsFair, AllFair}
-use Rattle.vest_core.proofs.Judged.{MadeBy, share_by, share_of}
+use Rattle.vest_core.proofs.Judged.{MadeBy, head_of, for_nothing, share_by, share_of}
 use Rattle.system_model.specs.Interpreted.{threads_of, is_translated, made_in, ties_in, end_in, ties_of, ties_open}
-use Rattle.vest_core.specs.Kinds.{IsMadeIn, translated_at, AllMadeIn}
+use Rattle.vest_core.specs.Kinds.{IsAlpha, IsMadeIn, IsMadeAt, IsMade, AllMadeIn}
 use Rattle.system_model.specs.Quadwords.{reply_from}
 use Rattle.vax_form.specs.Ranges.{FitsPage, IsInRange, StaysInRange}
 use Rattle.vax_form.specs.declared.pages.Pages.{Pages}
@@ -49,7 +51,7 @@ spared StoreConditional false steps spare base share c h = omega arith
 spared LoadLocked success steps spare base share c h = h
 spared _ success steps spare base share c h = absurd (cc c)
 
-granted : (kind : Kind) (success : Bool) (share : ℕ) → counts kind success ≡ true → share_by kind success share ≡ share + 256
+granted : (kind : Kind) (success : Bool) (share : ℕ) → counts kind success ≡ true → share_by kind success share ≡ share + block_steps
 granted StoreConditional true share c = refl
 granted StoreConditional false share c = absurd (cc c)
 granted LoadLocked success share c = absurd (cc c)
@@ -90,16 +92,16 @@ module _ (setting : Setting) (starts : ℕ → Option VaxState) (thread : ℕ) w
       (Owes : VaxState → Flags → Option Lock → (spare : ℕ) → Alpha → Tree → Type 0)
       (Form : VaxState → Flags → Regs → Type 0)
       (fresh : (state : VaxState) → IsState state → Form state all_held (registers_of state))
-      (enter : (state : VaxState) (held : Flags) (regs : Regs) (word : ℕ) → IsState state → Form state held regs → goes_on setting thread state ≡ Some word → Owes state held None 256 (at_place regs word) (tree state))
+      (enter : (state : VaxState) (held : Flags) (regs : Regs) (word : ℕ) → IsState state → Form state held regs → goes_on setting thread state ≡ Some word → Owes state held None block_steps (at_place regs word) (tree state))
       (opens : (retired : ℕ) (b : VaxState) (held : Flags) (lock : Option Lock) (spare : ℕ) (alpha : Alpha) (k : Tree) → Owes b held lock spare alpha k
-      → (0 < spare) × OwedNext setting.meaning.pages (Owes b held) Form (settled_last b) retired lock (spare - 1) k (next setting (moment_at thread retired b held) alpha)) where
+      → (0 < spare) × OwedNext setting.meaning.pages (Owes b held) Form (settled_last b) (setting.meaning.kinds b.pc) retired lock (spare - 1) k (next setting (moment_at thread retired b held) alpha)) where
     -- what a processor's mode says of its thread, which was told w
     record Flies (w : List ℕ) (lock : Option Lock) (share : ℕ) (p : Processor) (alpha : Alpha) : Type 0 where
       pending : List ℕ
       rest : Tree
       spare : ℕ
       flight : Flight w p.retired p.boundary pending rest
-      room : p.steps + spare ≤ 256 * p.retired + 256 + share
+      room : p.steps + spare ≤ block_steps * p.retired + block_steps + share
       owed : Owes p.boundary p.held lock spare alpha rest
       translated : is_translated setting thread p.boundary ≡ true
       ties : p.ties ≡ ties_of setting starts thread p.retired w
@@ -109,7 +111,7 @@ module _ (setting : Setting) (starts : ℕ → Option VaxState) (thread : ℕ) w
       flight : Flight w p.retired p.boundary pending rest
       same : state ≡ p.boundary
       free : lock ≡ None
-      room : p.steps ≤ 256 * p.retired + share
+      room : p.steps ≤ block_steps * p.retired + share
       interpreted : is_translated setting thread p.boundary ≡ false
       ties : p.ties ≡ ties_of setting starts thread p.retired w + made_in setting.meaning.pages (tree p.boundary) pending
 
@@ -119,7 +121,7 @@ module _ (setting : Setting) (starts : ℕ → Option VaxState) (thread : ℕ) w
       state : IsState p.boundary
       held : p.held ≡ all_held
       free : lock ≡ None
-      room : p.steps ≤ 256 * p.retired + share
+      room : p.steps ≤ block_steps * p.retired + share
       ties : p.ties ≡ ties_of setting starts thread p.retired w
 
     -- how the thread ended, and the state that it shows
@@ -130,7 +132,7 @@ module _ (setting : Setting) (starts : ℕ → Option VaxState) (thread : ℕ) w
 
     record Rests (w : List ℕ) (share : ℕ) (p : Processor) (end : End) : Type 0 where
       left : Left w p end
-      room : p.steps ≤ 256 * p.retired + 256 + share
+      room : p.steps ≤ block_steps * p.retired + block_steps + share
       ties : p.ties ≡ ties_of setting starts thread p.retired w + ties_open setting thread (here setting starts thread p.retired w) (Ended end)
 
     abbrev Stands : List ℕ → Option Lock → (share : ℕ) → Processor → Mode → Type 0
@@ -141,7 +143,7 @@ module _ (setting : Setting) (starts : ℕ → Option VaxState) (thread : ℕ) w
 
     -- ---- arrivals
     arrive : (w : List ℕ) (lock : Option Lock) (share : ℕ) (q : Processor) (regs : Regs) → here setting starts thread q.retired w ≡ running q.boundary [] → IsState q.boundary → Form q.boundary q.held regs
-        → lock ≡ None → q.steps ≤ 256 * q.retired + share → q.ties ≡ ties_of setting starts thread q.retired w
+        → lock ≡ None → q.steps ≤ block_steps * q.retired + share → q.ties ≡ ties_of setting starts thread q.retired w
         → (o : Option ℕ) → goes_on setting thread q.boundary ≡ o → Stands w lock share q (mode_by o q.boundary regs)
     arrive w lock share q regs at state form free room sum None goes = record {
       rest = tree q.boundary;
@@ -155,10 +157,10 @@ module _ (setting : Setting) (starts : ℕ → Option VaxState) (thread : ℕ) w
     arrive w lock share q regs at state form free room sum (Some word) goes = record {
       pending = [];
       rest = tree q.boundary;
-      spare = 256;
+      spare = block_steps;
       flight = record { at = at; path = Here; range = keeps q.boundary state };
       room = omega (arith, room);
-      owed = subst (λ l. Owes q.boundary q.held l 256 (at_place regs word) (tree q.boundary)) (sym free) (enter q.boundary q.held regs word state form goes);
+      owed = subst (λ l. Owes q.boundary q.held l block_steps (at_place regs word) (tree q.boundary)) (sym free) (enter q.boundary q.held regs word state form goes);
       translated = ap is_some goes;
       ties = sum;
     }
@@ -176,7 +178,7 @@ module _ (setting : Setting) (starts : ℕ → Option VaxState) (thread : ℕ) w
     comes w n b pending k a f e = answered setting.meaning.pages (tree b) k pending f.path ∙ e
 
     leave : (w : List ℕ) (lock : Option Lock) (share : ℕ) (p : Processor) (pending : List ℕ) (k : Tree) (last : Last) → p.thread ≡ thread → Flight w p.retired p.boundary pending k → answer setting.meaning.pages k [] ≡ answer_by last → lock ≡ None
-        → p.steps ≤ 256 * p.retired + 256 + share
+        → p.steps ≤ block_steps * p.retired + block_steps + share
         → p.ties ≡ ties_of setting starts thread p.retired w + (end_in setting thread (here setting starts thread p.retired w) + ties_in setting thread (here setting starts thread p.retired w))
         → Stands w lock share (left setting p last) (left setting p last).mode
     leave w lock share p pending k (Comes (Finish s)) is f e free room sum =
@@ -201,7 +203,7 @@ module _ (setting : Setting) (starts : ℕ → Option VaxState) (thread : ℕ) w
         → ties ≡ ties_of setting starts thread p.retired w + (end_in setting thread (here setting starts thread p.retired w) + ties_in setting thread (here setting starts thread p.retired w))
     quiet w p ties pending k f t sum = omega (arith, sum, ties_quiet setting starts thread p.retired w p.boundary pending f.at t, end_quiet setting starts thread p.retired w p.boundary pending f.at t)
 
-    place : (w : List ℕ) (lock : Option Lock) (share : ℕ) (p : Processor) (pending : List ℕ) (k : Tree) (spare : ℕ) (to : Place) → p.thread ≡ thread → Flight w p.retired p.boundary pending k → p.steps + spare ≤ 256 * p.retired + 256 + share
+    place : (w : List ℕ) (lock : Option Lock) (share : ℕ) (p : Processor) (pending : List ℕ) (k : Tree) (spare : ℕ) (to : Place) → p.thread ≡ thread → Flight w p.retired p.boundary pending k → p.steps + spare ≤ block_steps * p.retired + block_steps + share
         → OwedPlace setting.meaning.pages (Owes p.boundary p.held) Form (settled_last p.boundary) lock spare k to → is_translated setting thread p.boundary ≡ true → p.ties ≡ ties_of setting starts thread p.retired w
         → Stands w lock share (placed setting p to) (placed setting p to).mode
     place w lock share p pending k spare (Inside alpha) is f room owed t sum = record { pending = pending; rest = k; spare = spare; flight = f; room = room; owed = owed; translated = t; ties = sum }
@@ -215,10 +217,10 @@ module _ (setting : Setting) (starts : ℕ → Option VaxState) (thread : ℕ) w
 
     -- ---- a step that asks nothing
     moves_alpha : (w : List ℕ) (lock : Option Lock) (share : ℕ) (p q : Processor) (alpha : Alpha) (s : Flies w lock share p alpha) (to : Next) → p.thread ≡ thread
-        → 0 < s.spare → OwedNext setting.meaning.pages (Owes p.boundary p.held) Form (settled_last p.boundary) p.retired lock (s.spare - 1) s.rest to → alpha_turn setting p to ≡ Went q → Stands w lock share q q.mode
+        → 0 < s.spare → OwedNext setting.meaning.pages (Owes p.boundary p.held) Form (settled_last p.boundary) (setting.meaning.kinds p.boundary.pc) p.retired lock (s.spare - 1) s.rest to → alpha_turn setting p to ≡ Went q → Stands w lock share q q.mode
     moves_alpha w lock share p q alpha s (Moves to) is some owed e =
         let e' : placed setting (stepped p) to ≡ q = cc e in
-        let room : suc p.steps + (s.spare - 1) ≤ 256 * p.retired + 256 + share = omega (arith, some, s.room) in
+        let room : suc p.steps + (s.spare - 1) ≤ block_steps * p.retired + block_steps + share = omega (arith, some, s.room) in
         subst (λ (x : Processor). Stands w lock share x x.mode) e'
         (place w lock share (stepped p) s.pending owed.0 (s.spare - 1) to is (fly_to w p.retired p.boundary s.pending s.rest owed.0 owed.1 s.flight) room owed.2 s.translated s.ties)
     moves_alpha w lock share p q alpha s (Wants r on) is some owed e = absurd (cc e)
@@ -262,20 +264,28 @@ module _ (setting : Setting) (starts : ℕ → Option VaxState) (thread : ℕ) w
     silent_replies mine e c = rw c
 
     -- the boundary is where the thread is
-    made_at : (w : List ℕ) (n : ℕ) (boundary : VaxState) (pending : List ℕ) (b : Bool) (kind : Kind) → here setting starts thread n w ≡ running boundary pending → is_translated setting thread boundary ≡ b → IsMadeIn b kind
-        → IsMadeIn (translated_at setting thread (here setting starts thread n w)) kind
-    made_at w n boundary pending b kind at t i = subst (λ a. IsMadeIn (translated_at setting thread a) kind) (sym at) (subst (λ (x : Bool). IsMadeIn x kind) (sym t) i)
+    made_at : (w : List ℕ) (n : ℕ) (boundary : VaxState) (pending : List ℕ) (b : Bool) (want : Option Reference) (kind : Kind) → here setting starts thread n w ≡ running boundary pending → is_translated setting thread boundary ≡ b
+        → IsMadeIn b (setting.meaning.kinds boundary.pc) want kind → IsMadeAt setting thread (here setting starts thread n w) want kind
+    made_at w n boundary pending b want kind at t i =
+        subst (λ a. IsMadeAt setting thread a want kind) (sym at) (subst (λ (x : Bool). IsMadeIn x (setting.meaning.kinds boundary.pc) want kind) (sym t) i)
+
+    -- a tree in flight wants what its thread wants
+    flight_made : (w : List ℕ) (n : ℕ) (b : VaxState) (pending : List ℕ) (k : Tree) (kind : Kind) (each : Reference → Kinds) → Flight w n b pending k → IsAlpha kind each (head_of k) → IsAlpha kind each (wanted threads thread n w)
+    flight_made w n b pending (Ask a next_tree) kind each f i = subst (IsAlpha kind each) (sym (fly_wants w n b pending a next_tree f)) i
+    flight_made w n b pending (Check address count write k) kind each f i = for_nothing kind each (wanted threads thread n w) i
+    flight_made w n b pending (Fault x) kind each f i = for_nothing kind each (wanted threads thread n w) i
+    flight_made w n b pending (Ends e) kind each f i = for_nothing kind each (wanted threads thread n w) i
 
     -- what a step that asks makes of its entry
     record Tells (mine : List Entry) (lock : Option Lock) (e : Entry) (q : Processor) : Type 0 where
       counted : is_counted e ≡ true → IsWanted threads thread (replies_by threads thread mine) e
       paired : Paired e.kind lock e.quad
-      made : IsMadeIn (translated_at setting thread (here setting starts thread e.retired (replies_by threads thread mine))) e.kind
+      made : IsMade setting threads thread (replies_by threads thread mine) e
       stands : Stands (replies_by threads thread (e ∷ mine)) (lock_by e.kind e.quad e.before) (share_of (e ∷ mine)) q q.mode
 
     -- ---- one access of Alpha code
     module _ (mine : List Entry) (lock : Option Lock) (p : Processor) (alpha : Alpha) (s : Flies (replies_by threads thread mine) lock (share_of mine) p alpha) (r : Request) (on : ℕ → Bool → Place) (is : p.thread ≡ thread) (some : 0 < s.spare)
-        (owed : OwedAccess setting.meaning.pages (Owes p.boundary p.held) Form (settled_last p.boundary) p.retired lock (s.spare - 1) s.rest r on) (before : ℕ) (success : Bool) where
+        (owed : OwedAccess setting.meaning.pages (Owes p.boundary p.held) Form (settled_last p.boundary) (setting.meaning.kinds p.boundary.pc) p.retired lock (s.spare - 1) s.rest r on) (before : ℕ) (success : Bool) where
       abbrev said : List ℕ
       said = replies_by threads thread mine
 
@@ -285,21 +295,27 @@ module _ (setting : Setting) (starts : ℕ → Option VaxState) (thread : ℕ) w
       at_retired : here setting starts thread made.retired said ≡ running p.boundary s.pending
       at_retired = ap (λ n. here setting starts thread n said) owed.same ∙ s.flight.at
 
+      alpha_made : IsMade setting threads thread said made
+      alpha_made =
+          made_at said made.retired p.boundary s.pending true (wanted threads thread made.retired said) r.kind at_retired s.translated
+          (subst (λ n. IsAlpha r.kind (setting.meaning.kinds p.boundary.pc) (wanted threads thread n said)) (sym owed.same)
+          (flight_made said p.retired p.boundary s.pending s.rest r.kind (setting.meaning.kinds p.boundary.pc) s.flight owed.alpha))
+
       takes_silent : counts r.kind success ≡ false → OwedPlace setting.meaning.pages (Owes p.boundary p.held) Form (settled_last p.boundary) (lock_by made.kind made.quad made.before) (more_by r.kind success (s.spare - 1)) s.rest (on before success)
           → Tells mine lock made (placed setting (stepped p) (on before success))
       takes_silent c place_owed =
           let q = placed setting (stepped p) (on before success) in
-          let room : suc p.steps + (s.spare - 1) ≤ 256 * p.retired + 256 + share_of mine = omega (arith, some, s.room) in
+          let room : suc p.steps + (s.spare - 1) ≤ block_steps * p.retired + block_steps + share_of mine = omega (arith, some, s.room) in
           record {
             counted = λ c'. absurd (cc (c, c'));
             paired = owed.paired;
-            made = made_at said made.retired p.boundary s.pending true r.kind at_retired s.translated owed.alpha;
+            made = alpha_made;
             stands = subst (λ u. Stands u (lock_by made.kind made.quad made.before) (share_of (made ∷ mine)) q q.mode) (sym (silent_replies mine made c))
                 (place said (lock_by made.kind made.quad made.before) (share_of (made ∷ mine)) (stepped p) s.pending s.rest (more_by r.kind success (s.spare - 1)) (on before success) is s.flight
-                (spared r.kind success (suc p.steps) (s.spare - 1) (256 * p.retired + 256) (share_of mine) c room) place_owed s.translated s.ties);
+                (spared r.kind success (suc p.steps) (s.spare - 1) (block_steps * p.retired + block_steps) (share_of mine) c room) place_owed s.translated s.ties);
           }
 
-      takes_made : (k : Tree) → k ≡ s.rest → (more : ℕ) → more ≤ 256 → counts r.kind success ≡ true → IsFair r.kind lock made.quad before success
+      takes_made : (k : Tree) → k ≡ s.rest → (more : ℕ) → more ≤ block_steps → counts r.kind success ≡ true → IsFair r.kind lock made.quad before success
           → MadeBy k made (λ u. OwedPlace setting.meaning.pages (Owes p.boundary p.held) Form (settled_last p.boundary) (lock_by made.kind made.quad made.before) (s.spare - 1 + more) u (on before success))
           → Tells mine lock made (placed setting (stepped p) (on before success))
       takes_made (Check _ _ _ _) same more few c fair m = absurd m
@@ -313,18 +329,18 @@ module _ (setting : Setting) (starts : ℕ → Option VaxState) (thread : ℕ) w
           let m' = m (f.range.0).quadword in
           let fits = reply_fits a made lock m'.0 fair in
           let on_flight = fly_on said p.retired p.boundary s.pending a next_tree v (f.range.1 v fits) f in
-          let room : suc p.steps + (s.spare - 1 + more) ≤ 256 * p.retired + 256 + share_of (made ∷ mine) = omega (arith, some, s.room, few, granted r.kind success (share_of mine) c) in
+          let room : suc p.steps + (s.spare - 1 + more) ≤ block_steps * p.retired + block_steps + share_of (made ∷ mine) = omega (arith, some, s.room, few, granted r.kind success (share_of mine) c) in
           record {
             counted = λ _. record { reference = a; wants = want; of = m'.0 };
             paired = owed.paired;
-            made = made_at said made.retired p.boundary s.pending true r.kind at_retired s.translated owed.alpha;
+            made = alpha_made;
             stands = subst (λ u. Stands u (lock_by made.kind made.quad made.before) (share_of (made ∷ mine)) q q.mode) (sym (counted_replies mine made a c want))
                 (place (said ++ v ∷ []) (lock_by made.kind made.quad made.before) (share_of (made ∷ mine)) (stepped p) (s.pending ++ v ∷ []) (next_tree v) (s.spare - 1 + more) (on before success) is on_flight
                 room m'.1 s.translated (s.ties ∙ sym (ties_more setting starts thread p.retired said (v ∷ []) p.boundary s.pending s.flight.at)));
           }
 
       takes_either : IsFair r.kind lock made.quad before success → (b : Bool) → counts r.kind success ≡ b
-          → MatchBool b ((more : ℕ) × (more ≤ 256) × MadeBy s.rest made (λ u. OwedPlace setting.meaning.pages (Owes p.boundary p.held) Form (settled_last p.boundary) (lock_by made.kind made.quad made.before) (s.spare - 1 + more) u (on before success)))
+          → MatchBool b ((more : ℕ) × (more ≤ block_steps) × MadeBy s.rest made (λ u. OwedPlace setting.meaning.pages (Owes p.boundary p.held) Form (settled_last p.boundary) (lock_by made.kind made.quad made.before) (s.spare - 1 + more) u (on before success)))
           (OwedPlace setting.meaning.pages (Owes p.boundary p.held) Form (settled_last p.boundary) (lock_by made.kind made.quad made.before) (more_by r.kind success (s.spare - 1)) s.rest (on before success))
           → Tells mine lock made (placed setting (stepped p) (on before success))
       takes_either fair true c m = takes_made s.rest refl m.0 m.1 c fair m.2
@@ -336,7 +352,7 @@ module _ (setting : Setting) (starts : ℕ → Option VaxState) (thread : ℕ) w
     Owed mine lock before success turn = Unit {0}
 
     takes_alpha : (mine : List Entry) (lock : Option Lock) (p : Processor) (alpha : Alpha) (s : Flies (replies_by threads thread mine) lock (share_of mine) p alpha) (to : Next) (before : ℕ) (success : Bool) → p.thread ≡ thread
-        → 0 < s.spare → OwedNext setting.meaning.pages (Owes p.boundary p.held) Form (settled_last p.boundary) p.retired lock (s.spare - 1) s.rest to → Owed mine lock before success (alpha_turn setting p to)
+        → 0 < s.spare → OwedNext setting.meaning.pages (Owes p.boundary p.held) Form (settled_last p.boundary) (setting.meaning.kinds p.boundary.pc) p.retired lock (s.spare - 1) s.rest to → Owed mine lock before success (alpha_turn setting p to)
     takes_alpha mine lock p alpha s (Moves to) before success is some owed = tt
     takes_alpha mine lock p alpha s Stuck before success is some owed = tt
     takes_alpha mine lock p alpha s (Wants r on) before success is some owed =
@@ -372,7 +388,7 @@ module _ (setting : Setting) (starts : ℕ → Option VaxState) (thread : ℕ) w
         record {
           counted = λ _. record { reference = q; wants = want; of = of };
           paired = tie_paired q lock e.quad s.free;
-          made = made_at told p.retired p.boundary pending false (kind_by q.kind) s.flight.at s.interpreted (tie_kind q);
+          made = made_at told p.retired p.boundary pending false (wanted threads thread p.retired told) (kind_by q.kind) s.flight.at s.interpreted (tie_kind q);
           stands = subst (λ x. Stands x (lock_by e.kind e.quad e.before) (share_of (e ∷ mine)) p' (Interprets state (pending ++ v ∷ []))) (sym (counted_replies mine e q c want))
               (subst (λ l. Stands (told ++ v ∷ []) l (share_of (e ∷ mine)) p' (Interprets state (pending ++ v ∷ []))) (sym (tie_free q e.quad before)) plays);
         }
@@ -453,13 +469,13 @@ pub open_one : (lock : Option Lock) → open_by lock ≤ 1
 open_one None = omega arith
 open_one (Some l) = omega arith
 
-shares : (kind : Kind) (success : Bool) (c f : ℕ) → share_by kind success (256 * c + 16 * f) ≡ 256 * (if counts kind success then suc c else c) + 16 * (if fails kind success then suc f else f)
+shares : (kind : Kind) (success : Bool) (c f : ℕ) → share_by kind success (block_steps * c + retry_steps * f) ≡ block_steps * (if counts kind success then suc c else c) + retry_steps * (if fails kind success then suc f else f)
 shares StoreConditional true c f = omega arith
 shares StoreConditional false c f = omega arith
 shares LoadLocked success c f = refl
 shares _ success c f = omega arith
 
-pub share_is : (mine : List Entry) → share_of mine ≡ 256 * counted_in mine + 16 * failed_in mine
+pub share_is : (mine : List Entry) → share_of mine ≡ block_steps * counted_in mine + retry_steps * failed_in mine
 share_is [] = refl
 share_is (e ∷ mine) = ap (share_by e.kind e.success) (share_is mine) ∙ shares e.kind e.success (counted_in mine) (failed_in mine)
 
@@ -468,9 +484,9 @@ module _ (setting : Setting) (starts : ℕ → Option VaxState) (thread : ℕ) (
     (Owes : VaxState → Flags → Option Lock → (spare : ℕ) → Alpha → Tree → Type 0)
     (Form : VaxState → Flags → Regs → Type 0)
     (fresh : (state : VaxState) → IsState state → Form state all_held (registers_of state))
-    (enter : (state : VaxState) (held : Flags) (regs : Regs) (word : ℕ) → IsState state → Form state held regs → goes_on setting thread state ≡ Some word → Owes state held None 256 (at_place regs word) (setting.meaning.moment thread state))
+    (enter : (state : VaxState) (held : Flags) (regs : Regs) (word : ℕ) → IsState state → Form state held regs → goes_on setting thread state ≡ Some word → Owes state held None block_steps (at_place regs word) (setting.meaning.moment thread state))
     (opens : (retired : ℕ) (b : VaxState) (held : Flags) (lock : Option Lock) (spare : ℕ) (alpha : Alpha) (k : Tree) → Owes b held lock spare alpha k
-    → (0 < spare) × OwedNext setting.meaning.pages (Owes b held) Form (settled_last b) retired lock (spare - 1) k (next setting (moment_at thread retired b held) alpha)) where
+    → (0 < spare) × OwedNext setting.meaning.pages (Owes b held) Form (settled_last b) (setting.meaning.kinds b.pc) retired lock (spare - 1) k (next setting (moment_at thread retired b held) alpha)) where
   abbrev its_threads : Threads
   its_threads = threads_of setting starts
 
@@ -536,7 +552,7 @@ module _ (setting : Setting) (starts : ℕ → Option VaxState) (thread : ℕ) (
   shown_in w lock share p (Interprets state pending) m s = shown_running w p pending s.flight.at (λ run e. subst (λ m. Claims m run) (sym m) e)
   shown_in w lock share p (Ended end) m s = shown_ended w p end m s.left
 
-  bounded : (w : List ℕ) (lock : Option Lock) (share : ℕ) (p : Processor) (m : Mode) → Here_stands w lock share p m → p.steps ≤ 256 * p.retired + 256 + share
+  bounded : (w : List ℕ) (lock : Option Lock) (share : ℕ) (p : Processor) (m : Mode) → Here_stands w lock share p m → p.steps ≤ block_steps * p.retired + block_steps + share
   bounded w lock share p New s = omega (arith, s.room)
   bounded w lock share p (Runs alpha) s = omega (arith, s.room)
   bounded w lock share p (Interprets state pending) s = omega (arith, s.room)
@@ -552,7 +568,7 @@ module _ (setting : Setting) (starts : ℕ → Option VaxState) (thread : ℕ) (
   tied_in w lock share p (Interprets state pending) s = omega (arith, s.ties, ties_loud setting starts thread p.retired w p.boundary pending s.flight.at s.interpreted)
   tied_in w lock share p (Ended end) s = s.ties
 
-  alpha_moves : (p : Processor) (lock : Option Lock) (spare : ℕ) (k : Tree) (to : Next) → OwedNext setting.meaning.pages (Owes p.boundary p.held) Form (settled_last p.boundary) p.retired lock spare k to → alpha_turn setting p to ≢ Lost
+  alpha_moves : (p : Processor) (lock : Option Lock) (spare : ℕ) (k : Tree) (to : Next) → OwedNext setting.meaning.pages (Owes p.boundary p.held) Form (settled_last p.boundary) (setting.meaning.kinds p.boundary.pc) p.retired lock spare k to → alpha_turn setting p to ≢ Lost
   alpha_moves p lock spare k (Moves to) o e = absurd (cc e)
   alpha_moves p lock spare k (Wants r on) o e = absurd (cc e)
   alpha_moves p lock spare k Stuck o e = absurd o

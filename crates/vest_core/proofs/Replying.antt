@@ -1,5 +1,6 @@
 -- The replies to references are in range, and those to interpreted references are their accesses'.
 use Rattle.std.proofs.Common.{◌≡◌, ℕ, ◌+◌, Bool, true, false, Option, None, refl, sym, ap, subst}
+use Rattle.block_law.specs.Rounds.{block_steps}
 use Rattle.memory_core.specs.declared.entry.Entry.{Entry}
 use Rattle.memory_core.specs.declared.entry.Request.{Request}
 use Rattle.memory_core.specs.Changes.{changed}
@@ -12,7 +13,7 @@ use Rattle.block_law.specs.References.{reply_by}
 use Rattle.block_law.proofs.Blocks.{reply_answers}
 use Rattle.system_model.specs.Processors.{request_of, entry_by, kind_by}
 use Rattle.system_model.specs.Counted.{counts}
-use Rattle.vest_core.specs.Kinds.{IsMadeIn}
+use Rattle.vest_core.specs.Kinds.{IsTie}
 use Rattle.vest_core.specs.Entries.{Paired, Lock, lock_by}
 use Rattle.vest_core.proofs.Fair.{IsFair}
 use Rattle.vest_core.proofs.Judged.{share_by}
@@ -64,7 +65,7 @@ tie_is_by Get r k thread retired before success fits = refl
 pub tie_is : (r : Reference) (thread retired before : ℕ) (success : Bool) → FitsQuadword r → IsOf r (entry_by (request_of thread retired r) before success)
 tie_is r thread retired before success fits = tie_is_by r.kind r refl thread retired before success fits
 
--- it is no lock, has none before it, and allows 256 steps more
+-- it is no lock, has none before it, and allows as many steps more as a block may take
 tie_free_by : (what : RefKind) (quad before : ℕ) → lock_by (kind_by what) quad before ≡ None
 tie_free_by Read quad before = refl
 tie_free_by (Write value) quad before = refl
@@ -89,7 +90,7 @@ tie_paired_by Get quad = tt
 pub tie_paired : (q : Reference) (lock : Option Lock) (quad : ℕ) → lock ≡ None → Paired (kind_by q.kind) lock quad
 tie_paired q lock quad free = subst (λ l. Paired (kind_by q.kind) l quad) (sym free) (tie_paired_by q.kind quad)
 
-tie_kind_by : (what : RefKind) → IsMadeIn false (kind_by what)
+tie_kind_by : (what : RefKind) → IsTie (kind_by what)
 tie_kind_by Read = tt
 tie_kind_by (Write value) = tt
 tie_kind_by (Add value) = tt
@@ -98,10 +99,10 @@ tie_kind_by (ClearBit n) = tt
 tie_kind_by (Put byte) = tt
 tie_kind_by Get = tt
 
-pub tie_kind : (q : Reference) → IsMadeIn false (kind_by q.kind)
+pub tie_kind : (q : Reference) → IsTie (kind_by q.kind)
 tie_kind q = tie_kind_by q.kind
 
-tie_share_by : (what : RefKind) (success : Bool) (share : ℕ) → share_by (kind_by what) success share ≡ share + 256
+tie_share_by : (what : RefKind) (success : Bool) (share : ℕ) → share_by (kind_by what) success share ≡ share + block_steps
 tie_share_by Read success share = refl
 tie_share_by (Write value) success share = refl
 tie_share_by (Add value) success share = refl
@@ -110,5 +111,5 @@ tie_share_by (ClearBit n) success share = refl
 tie_share_by (Put byte) success share = refl
 tie_share_by Get success share = refl
 
-pub tie_share : (q : Reference) (success : Bool) (share : ℕ) → share_by (kind_by q.kind) success share ≡ share + 256
+pub tie_share : (q : Reference) (success : Bool) (share : ℕ) → share_by (kind_by q.kind) success share ≡ share + block_steps
 tie_share q success share = tie_share_by q.kind success share

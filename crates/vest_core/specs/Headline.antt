@@ -4,7 +4,8 @@ use Rattle.memory_core.specs.declared.entry.Entry.{Entry}
 use Rattle.vax_form.specs.State.{register}
 use Rattle.vax_form.specs.declared.state.VaxState.{VaxState}
 use Rattle.vax_driven.specs.declared.ThreadRun.{ThreadRun}
-use Rattle.block_law.specs.Translations.{block_steps}
+use Rattle.alpha_meaning.specs.Pieces.{retry_steps}
+use Rattle.block_law.specs.Rounds.{block_steps}
 use Rattle.system_model.specs.Interpreted.{ties}
 use Rattle.system_model.specs.Settings.{Setting}
 use Rattle.system_model.specs.Processors.{Mode, New, Runs, Interprets, Ended, Processor}
@@ -20,10 +21,6 @@ Claims (Ended ends.Spent) run = run.exited ≡ false
 Claims New run = run.exited ≡ false
 Claims (Runs alpha) run = run.exited ≡ false
 Claims (Interprets state replies) run = run.exited ≡ false
-
--- how many steps a failed store conditional allows more: those of one turn of its loop
-abbrev pub retry_steps : ℕ
-retry_steps = 16
 
 -- its steps are bounded by the instructions it retired, the references it made, and the stores that failed
 abbrev pub HasFewSteps : Processor → List Entry → Type 0
