@@ -1,6 +1,6 @@
 -- Boundaries: registers set from a state show it, and a mapped boundary begins a block.
 use Rattle.std.proofs.Common.{◌≡◌, ℕ, zero, suc, ◌<◌, ◌≤◌, ◌+◌, ◌-◌, ◌*◌, ◌/◌, ◌%◌, ◌^◌, ◌==◌, Bool, true, false, if◌then◌else◌, List, [], ◌∷◌, length, Option, Some, None, refl, sym, ap, ◌∙◌, arith, lit<, All}
-use Rattle.block_law.specs.Rounds.{block_steps}
+use Rattle.block_law.specs.Rounds.{block_steps, new_round}
 use Rattle.std.specs.Prelude.{nat_lt, map, slice_index}
 use Rattle.std.specs.List.{list_any}
 use Rattle.std.proofs.lemmas.Bool.Decides.{nat_tests}
@@ -183,4 +183,4 @@ pub enter : (setting : Setting) (thread : ℕ) (sound : IsSound setting.meaning)
 enter setting thread sound meets lt state held regs word is form goes =
     let at = mapped (list_any (covers thread state.pc) setting.ranges) (word_at setting.code.map state.pc) word (awake state.pending (word_for setting.code.map setting.ranges thread state.pc) word goes).1 in
     let block = meets.blocks state.pc word at in
-    record { first = word; phase = Plain; is_lock = refl; ever = λ n. block.follows thread n state held regs lt is refl form.form (form.shows word block.point at block.has_point) }
+    record { first = word; round = new_round; phase = Plain; is_lock = refl; ever = λ n. block.follows thread n state held regs lt is refl form.form (form.shows word block.point at block.has_point) }
