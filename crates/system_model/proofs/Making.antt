@@ -57,6 +57,7 @@ stored_range place count value fits small = (mask, bytes)
   where
     mask : 2 ^ (place + count) - 2 ^ place < 2 ^ 8
     mask = omega (arith, pow-sub-lt (place + count) (pow_pos place), pow_mono {i = place + count} {j = 8} fits)
+
     bytes : value * 2 ^ (8 * place) < 2 ^ 64
     bytes =
         let less : value * 2 ^ (8 * place) < 2 ^ (8 * count) * 2 ^ (8 * place) = mul-lt-mul_of_pos_right small (pow_pos (8 * place)) in

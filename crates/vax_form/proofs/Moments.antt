@@ -88,8 +88,10 @@ pub handled_stays_in_range : HandledStaysInRange
 handled_stays_in_range pages before (Check address count write tree) is range =
     check_ranged (first_bad pages write address count) write pages before (handled pages before tree) is
     (λ holds. handled_stays_in_range pages before tree is (range holds))
-handled_stays_in_range pages before (Ask reference on) is range =
-    (range.0, λ reply answers. handled_stays_in_range pages before (on reply) is (range.1 reply answers),
-    λ writes reply answers. handled_unchecked pages before (on reply))
+handled_stays_in_range pages before (Ask reference on) is range = (
+  range.0,
+  λ reply answers. handled_stays_in_range pages before (on reply) is (range.1 reply answers),
+  λ writes reply answers. handled_unchecked pages before (on reply),
+)
 handled_stays_in_range pages before (Fault exception) is range = fault_ranged (has_handler before) pages before exception is
 handled_stays_in_range pages before (Ends e) is range = end_ranged e range
