@@ -1,4 +1,5 @@
 pub mod Low
+pub mod Masks
 pub mod Steps
 pub mod Turns
 pub mod Defined

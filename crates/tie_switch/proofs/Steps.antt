@@ -1,18 +1,19 @@
 -- What the word at which a processor stands does, by what the processor's step answers.
-use Rattle.std.proofs.Common.{◌≡◌, ◌≢◌, ℕ, ◌+◌, ◌%◌, ◌^◌, ◌<◌, ◌≤◌, inl, inr, ℤ, Bool, true, false, if◌then◌else◌, List, length, Option, Some, None, refl, sym, ap, ◌∙◌, subst, arith, lit<}
+use Rattle.std.proofs.Common.{◌≡◌, ◌≢◌, ℕ, ◌+◌, ◌*◌, ◌%◌, ◌^◌, ◌<◌, ◌≤◌, ℤ, Bool, true, false, if◌then◌else◌, List, length, Option, Some, None, refl, sym, ap, ◌∙◌, subst, arith, lit<}
 use Rattle.std.proofs.Math.Nat.{mod-eq_of_lt, mod-lt}
+use Rattle.std.proofs.lemmas.Nat.{pow_pos}
 use Rattle.std.proofs.lemmas.Bool.{ltb-true}
 use Rattle.std.specs.Prelude.{nat_lt, slice_index, IsSome, IfSome}
 use Rattle.alpha_encode.specs.Words.{instr_at}
 use Rattle.alpha_encode.specs.declared.instr.AlphaInstr.{AlphaInstr}
 use Rattle.alpha_encode.specs.declared.instr.AlphaInstr.TheVariants.{Memory, Branch, Operate, Jump, Pal}
 use Rattle.alpha_encode.specs.declared.instr.MemoryOp.{MemoryOp}
-use Rattle.alpha_encode.specs.declared.instr.MemoryOp.TheVariants.{Ldl, LdlL, Stl, StlC}
 use Rattle.alpha_machine.specs.Step.{IsStep, state_of, wrapped, current}
 use Rattle.alpha_machine.specs.declared.cpu.AlphaStep.{AlphaStep}
 use Rattle.alpha_machine.specs.declared.cpu.Cpu.{Cpu}
 use Rattle.alpha_meaning.specs.Act.{Does, Goes, Asks, Calls, act, taken, target_of, finished, memory_act_by, memory_finish_by}
-use Rattle.alpha_meaning.specs.Memory.{kind_of, access_of, stores}
+use Rattle.alpha_meaning.specs.Memory.{kind_of, bytes_of, access_of, stores}
+use Rattle.alpha_meaning.proofs.Rows.{bytes_count}
 use Rattle.alpha_meaning.specs.Pieces.{loaded}
 use Rattle.alpha_meaning.specs.State.{Alpha, at_place}
 use Rattle.alpha_meaning.specs.declared.access.AlphaAccess.{AlphaAccess}
@@ -57,11 +58,7 @@ valued true register n h = mod-lt register h
 valued false register n h = h
 
 access_small : (op : MemoryOp) (kind : AlphaKind) (address register : ℕ) → IsAccess (access_of op kind address register)
-access_small Ldl kind address register = record { bytes = inl refl; value = valued (stores kind) register (2 ^ 32) (lit< tt) }
-access_small LdlL kind address register = record { bytes = inl refl; value = valued (stores kind) register (2 ^ 32) (lit< tt) }
-access_small Stl kind address register = record { bytes = inl refl; value = valued (stores kind) register (2 ^ 32) (lit< tt) }
-access_small StlC kind address register = record { bytes = inl refl; value = valued (stores kind) register (2 ^ 32) (lit< tt) }
-access_small _ kind address register = record { bytes = inr refl; value = valued (stores kind) register (2 ^ 64) (lit< tt) }
+access_small op kind address register = record { bytes = bytes_count op; value = valued (stores kind) register (2 ^ (8 * bytes_of op)) (pow_pos (8 * bytes_of op)) }
 
 memory_small : (o : Option AlphaKind) (op : MemoryOp) (ra rb : ℕ) (disp : ℤ) (s : Alpha) → s.pc + 1 < 2 ^ 32 → IsSmall (memory_act_by o op ra rb disp s)
 memory_small None op ra rb disp s h = h

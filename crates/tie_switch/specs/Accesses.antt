@@ -1,5 +1,6 @@
 -- The accesses of Alpha code, and what the step of a word is by what the word does.
-use Rattle.std.specs.Prelude.{◌≡◌, ℕ, ◌<◌, ◌*◌, ◌^◌, ◌⊎◌, ◌%◌, true, IsSome, List, length, slice_index}
+use Rattle.std.specs.Prelude.{◌≡◌, ℕ, ◌<◌, ◌*◌, ◌^◌, ◌%◌, true, IsSome, List, length, slice_index}
+use Rattle.vt_words.specs.Quad.{IsCount}
 use Rattle.alpha_machine.specs.declared.cpu.AlphaStep.{AlphaStep}
 use Rattle.alpha_machine.specs.declared.cpu.AlphaStep.TheVariants.{Local, Want, Pal}
 use Rattle.alpha_machine.specs.declared.cpu.Cpu.{Cpu}
@@ -23,9 +24,9 @@ use Rattle.tie_switch.specs.declared.place.Wanted.{Wanted}
 use Rattle.tie_switch.specs.declared.place.Wanted.TheVariants as wanted
 use Rattle.tie_switch.specs.Seen.{finished_by}
 
--- a longword or a quadword
+-- 1, 2, 4 or 8 bytes
 pub record IsAccess (a : AlphaAccess) : Type 0 where
-  pub bytes : (a.bytes ≡ 4) ⊎ (a.bytes ≡ 8)
+  pub bytes : IsCount a.bytes
   pub value : a.value < 2 ^ (8 * a.bytes)
 
 -- the word decodes

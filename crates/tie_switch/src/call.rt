@@ -50,6 +50,18 @@ pub(crate) fn call_of(number: u8) -> PalCall
     }
 }
 
+/// How many bytes a probe checks: the point's count, or where it is 0 the low word of R21.
+#[tactic(auto, unfolding(alpha_meaning::specs::State::regs_of))]
+fn probe_count(point: &Point, cpu: &Cpu) -> u16
+    ensures { result ≡ probe_count point.now (state_of cpu.now).regs }
+{
+    if point.count == 0 {
+        (cpu.r[21] % (1 << 16)) as u16
+    } else {
+        u16::from(point.count)
+    }
+}
+
 /// R0 and the handler are exchanged.
 fn exchanged(state: &VaxState) -> VaxState
     ensures { result ≡ exchanged state.now }
@@ -73,7 +85,7 @@ impl Processor {
     {
         let address = (cpu.r[27] % (1 << 32)) as u32;
         let write = point.write;
-        match first_bad(setting.pages, address, point.count, write) {
+        match first_bad(setting.pages, address, probe_count(&point, &cpu), write) {
             None => self.place_next(setting, cpu),
             Some(address) => {
                 Place::Leaves(Last::Fault(Exception::AccessViolation { address, write }))

@@ -5,7 +5,7 @@ ghost use Rattle.vax_form.specs.Pages.{first_bad};
 use vax_form::Pages;
 
 /// The first of the bytes from an address on that may not be used.
-pub(crate) fn first_bad(pages: &Pages, address: u32, count: u8, write: bool) -> Option<u32>
+pub(crate) fn first_bad(pages: &Pages, address: u32, count: u16, write: bool) -> Option<u32>
     ensures { result ≡ first_bad pages.now write address count }
 {
     let mut place = address;

@@ -33,13 +33,10 @@ fn change_of(access: AlphaAccess) -> Change
         return Change::Nothing;
     }
     let at = (access.address % 8) as u32;
-    let mask = match (access.bytes, at) {
-        (8, _) => 0xFF,
-        (_, 0) => 0x0F,
-        _ => 0xF0,
-    };
+    let bytes = (1u32 << access.bytes) - 1;
+    let mask = bytes << at;
     Change::Bytes {
-        mask,
+        mask: mask as u8,
         value: access.value << (8 * at),
     }
 }

@@ -4,6 +4,7 @@ use Rattle.std.specs.Prelude.{IfSome}
 use Rattle.alpha_machine.specs.Step.{state_of, current, wrapped}
 use Rattle.alpha_meaning.specs.Act.{finished}
 use Rattle.alpha_meaning.specs.State.{Alpha}
+use Rattle.alpha_meaning.proofs.Rows.{count_some, count_within}
 use Rattle.block_law.specs.Translations.{Code, fetch_of}
 use Rattle.vt_words.specs.Quad.{field_of}
 use Rattle.system_model.specs.Processors.{moment_of}
@@ -12,6 +13,12 @@ use Rattle.tie_switch.specs.Processors.{processor_of}
 use Rattle.tie_switch.specs.Seen.{setting_of, finished_by}
 use Rattle.tie_switch.proofs.Steps.{is_finished}
 use Rattle.tie_switch.proofs.processor.Processor.place_finished.Goals as goal
+
+pub field-value-requires-clause-some : goal.field-value-requires-clause-some
+field-value-requires-clause-some c = rw c.from.ensures (count_some c.requires.fits.0.bytes)
+
+pub field-value-requires-clause-within : goal.field-value-requires-clause-within
+field-value-requires-clause-within c = rw c.from.ensures (count_within c.requires.fits.0.bytes c.args.access.address c.requires.fits.1)
 
 pub returns : goal.returns
 returns c =
