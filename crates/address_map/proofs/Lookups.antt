@@ -10,16 +10,12 @@ use Rattle.std.proofs.lemmas.Bool.{eq-eqb, ne_eqb}
 use Rattle.std.proofs.lemmas.Bool.Decides.{nat_tests}
 use Rattle.std.proofs.lemmas.Cmp.{ranked}
 use Rattle.std.specs.Option.{option_map}
-use Rattle.address_map.specs.Pairs.{AllRise, Pair, address_at, word_at}
+use Rattle.address_map.specs.Pairs.{AllRise, KeysRise, Pair, address_at, word_at}
 
 -- of a list of anything that has such a number
 module _ {A : Type 0} (key : A → ℕ) where
-  -- the number rises from each pair to the next
-  abbrev pub KeysRise : List A → Type 0
-  KeysRise ps = AllAdjacentBelow (λ p q. key p < key q) ps (length ps)
-
   -- a pair further on has a higher number
-  pub below_later : (ps : List A) (i j : ℕ) (d : A) → KeysRise ps → i < j → j < length ps → key (get_or ps i d) < key (get_or ps j d)
+  pub below_later : (ps : List A) (i j : ℕ) (d : A) → KeysRise key ps → i < j → j < length ps → key (get_or ps i d) < key (get_or ps j d)
   below_later ps i zero d rise lt within = absurd (omega arith)
   below_later ps i (suc j) d rise lt within = go (nat_lt i j) refl (λ h. below_later ps i j d rise h (omega arith))
     where
@@ -33,11 +29,11 @@ module _ {A : Type 0} (key : A → ℕ) where
           let same : i ≡ j = omega arith in
           rw same step
 
-  tail_rises : (p : A) (ps : List A) → KeysRise (p ∷ ps) → KeysRise ps
+  tail_rises : (p : A) (ps : List A) → KeysRise key (p ∷ ps) → KeysRise key ps
   tail_rises p ps rise = λ k d h. rw add-one (rw add-one at (rise (suc k) d (omega arith)))
 
   -- the pair that has the number is found
-  pub find_at : (ps : List A) (i x : ℕ) (d : A) → KeysRise ps → i < length ps → key (get_or ps i d) ≡ x → find (λ p. eqb (key p) x) ps ≡ Some (get_or ps i d)
+  pub find_at : (ps : List A) (i x : ℕ) (d : A) → KeysRise key ps → i < length ps → key (get_or ps i d) ≡ x → find (λ p. eqb (key p) x) ps ≡ Some (get_or ps i d)
   find_at [] i x d rise within e = absurd (omega arith)
   find_at (p ∷ ps) zero x d rise within e = let here : eqb (key p) x ≡ true = eq-eqb (key p) x e in rw here refl
   find_at (p ∷ ps) (suc i) x d rise within e =
@@ -52,7 +48,7 @@ module _ {A : Type 0} (key : A → ℕ) where
       let here : eqb (key p) x ≡ false = ne_eqb (key p) x (other 0 p (omega arith)) in
       rw here (find_none ps x (λ k d h. other (suc k) d (omega arith)))
 
-  not_falling : (ps : List A) (x : ℕ) → KeysRise ps → IsNonDecreasingBy (λ p. ordering_index (nat_cmp (key p) x)) ps
+  not_falling : (ps : List A) (x : ℕ) → KeysRise key ps → IsNonDecreasingBy (λ p. ordering_index (nat_cmp (key p) x)) ps
   not_falling ps x rise i j d le within = go (nat_lt i j) refl
     where
       order : (a b : ℕ) → a ≤ b → ordering_index (nat_cmp a x) ≤ ordering_index (nat_cmp b x)
@@ -79,10 +75,10 @@ module _ {A : Type 0} (key : A → ℕ) where
           omega arith
 
   -- what a binary search answers, in terms of the list
-  pub searched_at : (ps : List A) (x i : ℕ) → KeysRise ps → i < length ps → IsBinarySearchResult (λ p. nat_cmp (key p) x) ps (Ok i) → (d : A) → find (λ p. eqb (key p) x) ps ≡ Some (get_or ps i d)
+  pub searched_at : (ps : List A) (x i : ℕ) → KeysRise key ps → i < length ps → IsBinarySearchResult (λ p. nat_cmp (key p) x) ps (Ok i) → (d : A) → find (λ p. eqb (key p) x) ps ≡ Some (get_or ps i d)
   searched_at ps x i rise within found d = find_at ps i x d rise within (ranked _ x _ (sym (found d)))
 
-  pub searched_none : (ps : List A) (x i : ℕ) → KeysRise ps → IsBinarySearchResult (λ p. nat_cmp (key p) x) ps (Err i) → find (λ p. eqb (key p) x) ps ≡ None
+  pub searched_none : (ps : List A) (x i : ℕ) → KeysRise key ps → IsBinarySearchResult (λ p. nat_cmp (key p) x) ps (Err i) → find (λ p. eqb (key p) x) ps ≡ None
   searched_none ps x i rise parts = find_none ps x (apart ps x i (parts (not_falling ps x rise)))
 
 pub addresses_rise : (ps : List Pair) → AllRise ps → KeysRise (λ (p : Pair). p.0) ps

@@ -1,2 +1,4 @@
 pub mod Pairs
 pub mod Refusal
+pub mod Tables
+pub mod Sound

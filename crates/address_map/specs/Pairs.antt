@@ -7,6 +7,10 @@ use Rattle.std.specs.Option.{option_map}
 abbrev pub Pair : Type 0
 Pair = ℕ × ℕ
 
+-- with the Alpha word in front
+abbrev pub swap : Pair → Pair
+swap p = (p.1, p.0)
+
 -- the second pair is above the first in both numbers
 abbrev pub Rises : Pair → Pair → Type 0
 Rises p q = (p.0 < q.0) × (p.1 < q.1)
@@ -14,6 +18,10 @@ Rises p q = (p.0 < q.0) × (p.1 < q.1)
 -- each pair is above its predecessor in both numbers
 abbrev pub AllRise : List Pair → Type 0
 AllRise pairs = AllAdjacentBelow Rises pairs (length pairs)
+
+-- a number rises from each item to the next
+abbrev pub KeysRise : {A : Type 0} → (A → ℕ) → List A → Type 0
+KeysRise key items = AllAdjacentBelow (λ p q. key p < key q) items (length items)
 
 -- the Alpha word beside a VAX address
 abbrev pub word_at : List Pair → ℕ → Option ℕ

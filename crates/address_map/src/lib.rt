@@ -3,10 +3,13 @@
 //! It is made from a list of pairs that rise in both numbers. Contracts see it as that list.
 #![tactic(auto)]
 
-ghost use Rattle.std.specs.Prelude.{◌≡◌, IfErr, IfOk, OnOk};
+mod tables;
 
-use std::alloc::Global;
+ghost use Rattle.std.specs.Prelude.{◌≡◌, IfErr, IfOk, OnOk, map};
+
+use std::alloc::{AllocError, Global};
 use std::marker::Model;
+pub use tables::Tables;
 
 /// Why a list of pairs is refused.
 #[derive(Clone, Copy, Debug, PartialEq, Eq)]
@@ -39,48 +42,62 @@ impl MapRefusal {
 #[derive(Debug, Drop)]
 pub struct AddressMap {
     pairs: Vec<(u32, u32)>,
+    by_address: Tables,
+    by_word: Tables,
 }
 
 impl Model for AddressMap {
     ghost use Rattle.std.specs.Prelude.{List, ℕ};
-    ghost use Rattle.address_map.specs.Pairs.{AllRise};
+    ghost use Rattle.address_map.specs.Sound.{IsSound};
 
     ghost Value = { List (ℕ × ℕ) };
 
     ghost view = { λ m. m.pairs.items };
 
-    ghost invariant = { λ m. AllRise m.pairs.items };
+    ghost invariant = { λ m. IsSound m };
 }
 
 impl AddressMap {
+    ghost use Rattle.std.specs.Prelude.{◌+◌, ◌/◌, ◌<◌, ◌*◌, ℕ, true, Some, length, slice_get, slice_index};
     ghost use Rattle.address_map.specs.Pairs.{AllRise, address_at, word_at};
+    ghost use Rattle.address_map.specs.Tables.{has_page, first_page, end_page, page_span, table_number, upper_word, lower_place};
 
     /// The Alpha word number of a VAX address; None where no pair has the address.
     pub fn look_up(&self, vax_pc: u32) -> Option<u32>
         ensures { result ≡ word_at self.now vax_pc }
     {
-        let found = self
-            .pairs
-            .as_slice()
-            .binary_search_by_key(&vax_pc, |pair| pair.0);
-        match found {
-            Ok(place) => Some(self.pairs[place].1),
-            Err(_) => None,
-        }
+        self.by_address.find(vax_pc)
     }
 
     /// The VAX address of an Alpha word number; None where no pair has the word number, as behind a block's first word.
     pub fn vax_of(&self, alpha: u32) -> Option<u32>
         ensures { result ≡ address_at self.now alpha }
     {
-        let found = self
-            .pairs
-            .as_slice()
-            .binary_search_by_key(&alpha, |pair| pair.1);
-        match found {
-            Ok(place) => Some(self.pairs[place].0),
-            Err(_) => None,
-        }
+        self.by_word.find(alpha)
+    }
+
+    /// The page of 512 addresses that has the lowest mapped address; 0 for an empty map.
+    pub fn first_page(&self) -> u32
+        ensures { result ≡ first_page self.now }
+    {
+        self.by_address.first_page()
+    }
+
+    /// A word for each page from the lowest mapped address's to the highest's: 0 where the page has no mapped address,
+    /// else one more than the number of its lower table.
+    pub fn upper(&self) -> &[u32]
+        ensures pages { length result.now ≡ page_span self.now }
+        ensures words { (page : ℕ) → page < page_span self.now → slice_index result.now page ≡ upper_word self.now (first_page self.now + page) }
+    {
+        self.by_address.upper()
+    }
+
+    /// The lower tables, of 512 places each: place `512 * number + address % 512` is `look_up(address)`.
+    pub fn lower(&self) -> &[Option<u32>]
+        ensures tables { length result.now ≡ 512 * table_number self.now (end_page self.now) }
+        ensures places { (address : ℕ) → has_page self.now (address / 512) ≡ true → slice_get result.now (lower_place self.now address) ≡ Some (word_at self.now address) }
+    {
+        self.by_address.lower()
     }
 
     /// The pairs, VAX address first, in rising order.
@@ -92,7 +109,7 @@ impl AddressMap {
     }
 }
 
-ghost use Rattle.address_map.specs.Pairs.{AllRise};
+ghost use Rattle.address_map.specs.Pairs.{AllRise, swap};
 ghost use Rattle.address_map.specs.Refusal.{HasFlaw};
 
 // Looks at each pair beside its predecessor.
@@ -125,8 +142,24 @@ pub fn build(alloc: Global, pairs: &[(u32, u32)]) -> Result<AddressMap, MapRefus
     ensures refused { IfErr result (HasFlaw pairs.now) }
 {
     check_order(pairs)?;
-    match pairs.to_vec(alloc) {
-        Ok(pairs) => Ok(AddressMap { pairs }),
-        Err(_) => Err(MapRefusal::WantOfMemory),
-    }
+    map_of(alloc, pairs).map_err(|_| MapRefusal::WantOfMemory)
+}
+
+fn map_of(alloc: Global, pairs: &[(u32, u32)]) -> Result<AddressMap, AllocError>
+    requires { AllRise pairs.now }
+    ensures { IfOk result (λ m. m ≡ pairs.now) }
+{
+    let by_word = swapped(alloc, pairs)?;
+    Ok(AddressMap {
+        pairs: pairs.to_vec(alloc)?,
+        by_address: Tables::new(alloc, pairs)?,
+        by_word: Tables::new(alloc, &by_word)?,
+    })
+}
+
+// The pairs, with the word in front.
+fn swapped(alloc: Global, pairs: &[(u32, u32)]) -> Result<Vec<(u32, u32)>, AllocError>
+    ensures { IfOk result (λ v. v.items ≡ map swap pairs.now) }
+{
+    pairs.iter().map(|pair| (pair.1, pair.0)).collect(alloc)
 }

@@ -1,21 +1,4 @@
-use Rattle.std.proofs.Common.{◌∙◌, ◌<◌, Option, Some, ap, arith, sym, length, rules}
-use Rattle.std.specs.Option.{option_map}
-use Rattle.std.proofs.lemmas.List.Sorted.{answers_always}
-use Rattle.address_map.specs.Pairs.{Pair}
-use Rattle.address_map.proofs.Lookups.{addresses_rise, searched_at, searched_none}
 use Rattle.address_map.proofs.AddressMap.look_up.Goals as goal
 
-pub returns-in-Ok : goal.returns-in-Ok
-returns-in-Ok c =
-    let ps = c.self.inside.pairs.items in
-    let within : c.in-Ok.place < length ps = omega (arith, c.in-Ok.ensures.bound) in
-    let result = rw c.as_slice.ensures.value at (c.in-Ok.ensures.position (λ (p : Pair). p.0) (answers_always _ _ _ (λ f a r q k. search rules))) in
-    let found = searched_at (λ (p : Pair). p.0) ps c.args.vax_pc c.in-Ok.place (addresses_rise ps c.self.invariant) within result c.index.result.now in
-    rw (← c.self.view_is) (sym (ap (λ (o : Option Pair). option_map (λ (p : Pair). p.1) o) (found ∙ ap Some (sym c.index.ensures))))
-
-pub returns-in-Err : goal.returns-in-Err
-returns-in-Err c =
-    let ps = c.self.inside.pairs.items in
-    let result = rw c.as_slice.ensures.value at (c.in-Err.ensures.position (λ (p : Pair). p.0) (answers_always _ _ _ (λ f a r q k. search rules))) in
-    let none = searched_none (λ (p : Pair). p.0) ps c.args.vax_pc c.in-Err.field-0 (addresses_rise ps c.self.invariant) result in
-    rw (← c.self.view_is) (sym (ap (λ (o : Option Pair). option_map (λ (p : Pair). p.1) o) none))
+pub returns : goal.returns
+returns c = rw (← c.self.view_is) (c.find.ensures c.self.inside.pairs.items c.self.invariant.by_address)
