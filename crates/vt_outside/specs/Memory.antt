@@ -1,5 +1,5 @@
 -- The objects in memory, as contracts see them, and what their calls answer.
-use Rattle.std.specs.Prelude.{◌≡◌, ◌<◌, HoldsAt, ℕ, ◌-◌, min, List, [], ◌∷◌, ◌++◌, length, take, drop, Bool, if◌then◌else◌, Option, None, Some, bytes_eq, string_bytes, map, ◌==◌, String, Vec, vec_len, vec_capacity}
+use Rattle.std.specs.Prelude.{◌≡◌, ◌<◌, HoldsAt, ℕ, ◌-◌, min, List, [], ◌∷◌, ◌++◌, length, take, drop, Bool, if◌then◌else◌, Option, None, Some, unwrap_or, bytes_eq, string_bytes, map, ◌==◌, String, Vec, vec_len, vec_capacity}
 use Rattle.std.specs.List.{list_any}
 use Rattle.std.specs.declared.alloc.Global.{Global}
 use Rattle.vt_outside.specs.Causes.{one_more}
@@ -87,10 +87,11 @@ source_after (Bytes n) source = record source { left = drop n source.left; calls
 source_after End source = record source { calls = called source.calls }
 source_after Failed source = record source { calls = called source.calls; faults = one_more source.faults }
 
--- the bytes taken, the spare room of their vector, and the count of faults
+-- the bytes taken, the spare room of their vector, the most bytes of one call, and the count of faults
 pub record MemorySinkValue : Type 0 where
   pub taken : List ℕ
   pub room : ℕ
+  pub most : Option ℕ
   pub calls : CallsValue
   pub faults : ℕ
 
@@ -98,16 +99,21 @@ abbrev pub fresh_sink : Vec ℕ Global → List ℕ → MemorySinkValue
 fresh_sink contents fails = record {
   taken = contents.items;
   room = vec_capacity contents - vec_len contents;
+  most = None;
   calls = record { fails = fails; next = 0 };
   faults = 0;
 }
+
+-- the same, where one call takes at most so many bytes
+abbrev pub slow_sink : Vec ℕ Global → List ℕ → ℕ → MemorySinkValue
+slow_sink contents fails most = record (fresh_sink contents fails) { most = Some most }
 
 -- what `write` answers to so many bytes
 abbrev pub sink_answer : MemorySinkValue → ℕ → Put
 sink_answer sink count =
     if is_failing sink.calls then SinkFailed
     else if sink.room == 0 then SinkFailed
-    else Took (min count sink.room)
+    else Took (min (min count (unwrap_or sink.most count)) sink.room)
 
 -- after a write of these bytes with this answer
 abbrev pub sink_after : Put → MemorySinkValue → List ℕ → MemorySinkValue

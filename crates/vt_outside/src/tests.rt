@@ -140,6 +140,16 @@ fn a_memory_sink_fails_at_its_calls(rt: HostRuntime) -> Result<(), Fail> {
         assert_eq!(rt; send(&mut sink, bytes), Some(want));
     }
     assert_eq!(rt; sink.bytes(), b"bce".as_slice());
+    let mut sink = MemorySink::slow(Vec::with_capacity(alloc, 3)?, [2].to_vec(alloc)?, 2);
+    for (bytes, want) in [
+        (b"abc".as_slice(), Put::Took(2)),
+        (b"c".as_slice(), Put::Took(1)),
+        (b"d".as_slice(), Put::Failed),
+        (b"d".as_slice(), Put::Failed),
+    ] {
+        assert_eq!(rt; send(&mut sink, bytes), Some(want));
+    }
+    assert_eq!(rt; sink.bytes(), b"abc".as_slice());
     Ok(())
 }
 

@@ -14,23 +14,25 @@ use std::marker::Model;
 pub struct MemorySink {
     taken: Vec<u8>,
     room: usize,
+    most: Option<usize>,
     calls: Calls,
     faults: u64,
 }
 
 impl Model for MemorySink {
     ghost use Rattle.std.specs.Prelude.{◌+◌, ◌≤◌, vec_len, vec_capacity};
+    ghost use Rattle.std.specs.Option.{ForSome};
     ghost use Rattle.vt_outside.specs.Memory.{MemorySinkValue};
 
     ghost Value = { MemorySinkValue };
 
-    ghost view = { λ s. record { taken = s.taken.items; room = s.room; calls = s.calls; faults = s.faults } };
+    ghost view = { λ s. record { taken = s.taken.items; room = s.room; most = s.most; calls = s.calls; faults = s.faults } };
 
-    ghost invariant = { λ s. vec_len s.taken + s.room ≤ vec_capacity s.taken };
+    ghost invariant = { λ s. (vec_len s.taken + s.room ≤ vec_capacity s.taken) × ForSome s.most (λ most. 1 ≤ most) };
 }
 
 impl MemorySink {
-    ghost use Rattle.vt_outside.specs.Memory.{fresh_sink};
+    ghost use Rattle.vt_outside.specs.Memory.{fresh_sink, slow_sink};
 
     /// It has taken `contents`, and has their vector's spare room. `fails` has the numbers of the calls that
     /// are to fail, from 0 and below `u64::MAX`.
@@ -41,8 +43,20 @@ impl MemorySink {
         MemorySink {
             taken: contents,
             room,
+            most: None,
             calls: Calls::new(fails),
             faults: 0,
+        }
+    }
+
+    /// The same, where a call takes at most `most` bytes.
+    pub fn slow(contents: Vec<u8>, fails: Vec<u64>, most: usize) -> Self
+        requires { 1 ≤ most }
+        ensures { result ≡ slow_sink contents fails.items most }
+    {
+        MemorySink {
+            most: Some(most),
+            ..MemorySink::new(contents, fails)
         }
     }
 
@@ -75,7 +89,8 @@ impl Sink for MemorySink {
             count_up(&mut self.faults);
             return Put::Failed;
         }
-        let count = bytes.len().min(self.room);
+        let most = self.most.unwrap_or(bytes.len());
+        let count = bytes.len().min(most).min(self.room);
         self.taken.extend_from_slice(&bytes[..count]).unwrap();
         self.room -= count;
         Put::Took(count)
