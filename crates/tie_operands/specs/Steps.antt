@@ -1,7 +1,9 @@
 -- What a step of an interpreted instruction shows, and for what an interpreted instruction stands.
-use Rattle.std.specs.Prelude.{◌≡◌, ℕ, List, ◌++◌}
-use Rattle.vax_form.specs.Tree.{Tree, Check, Ask, Fault, Ends, Answer, Wants, Fails, Comes, answer, feed, outcome, head_outcome}
+use Rattle.std.specs.Prelude.{◌≡◌, ℕ, List, Result, Ok, Err}
+use Rattle.vax_form.specs.Tree.{Tree, Check, Ask, Fault, Ends, Answer, Wants, Fails, Comes, answer, feed, outcome, head_outcome, stop_outcome, ending, ending_outcome}
 use Rattle.vax_form.specs.declared.pages.Pages.{Pages}
+use Rattle.vax_form.specs.declared.script.End.{End}
+use Rattle.vax_form.specs.declared.script.Stop.{Stop}
 use Rattle.vax_form.specs.declared.state.Exception.{Exception}
 use Rattle.vax_form.specs.declared.state.Outcome.{Outcome}
 use Rattle.vax_form.specs.declared.state.Outcome.TheVariants as outcomes
@@ -35,6 +37,18 @@ FaultsAtHead (Ends e) = Unit {0}
 pub record Shows (before : VaxState) (tree : Tree) (step : TieStep) : Type 0 where
   pub head : step ≡ step_of (head_outcome before tree)
   pub faults : FaultsAtHead tree
+
+-- going through a script to its end shows the head of its tree
+abbrev pub Passes : VaxState → Tree → Result End Stop → VaxState → Type 0
+Passes before tree (Ok end) after = Shows before tree (step_of (ending_outcome (ending end after)))
+Passes before tree (Err stop) after = Shows before tree (step_of (stop_outcome before stop))
+
+-- a tree that wants a reference first
+abbrev pub IsAsking : Tree → Type 0
+IsAsking (Check address count write tree) = IsAsking tree
+IsAsking (Ask reference on) = Unit {0}
+IsAsking (Fault exception) = ⊥
+IsAsking (Ends e) = ⊥
 
 -- what failed did so by a fault: an arithmetic exception is a trap
 abbrev pub FailsByFault : Answer → Type 0

@@ -22,11 +22,15 @@ pub use calls::{
 pub use index::indexed;
 pub use instructions::{long_body_run, long_operation_of, long_operation_run};
 pub use meaning::next_long;
-pub use moving::{beginning, characters_moved, characters_moved_filled, set_moved};
+pub use moving::{
+    beginning, bytes_filled, bytes_moved, characters_moved, characters_moved_filled, set_moved,
+};
 pub use pending::{exception_pushed, frame_is_allowed, next_pending, resumed, settle};
 pub use registers::{
     is_in_mask, longword_popped, longword_pushed, longword_taken, popped_by_mask, push_allowed,
     pushed_by_mask, register_popped, registers_allowed,
 };
-pub use searching::{characters_compared, characters_scanned, stops_at};
+pub use searching::{
+    bytes_compared, bytes_scanned, characters_compared, characters_scanned, stops_at,
+};
 pub use standing::laws_of_tree_at;

@@ -1,0 +1,4 @@
+pub mod Replying
+pub mod MoveTakes
+pub mod CompareTakes
+pub mod ScanTakes

@@ -1,0 +1,123 @@
+ghost use Rattle.std.specs.Prelude.{◌≡◌, ◌==◌, ◌∷◌, []};
+ghost use Rattle.vax_meaning.specs.Play.{Plays, Uses};
+
+use vax_form::{End, Stop, Width};
+use vax_long::{beside, beyond, byte_fetched, bytes_compared};
+use vax_meaning::{Cursor, gone_to, set_compared, set_register_of};
+
+/// How far the next two bytes are.
+#[derive(Clone, Copy, Debug, PartialEq, Eq)]
+pub(crate) enum Pair {
+    /// The first is read next.
+    First,
+    /// The second is read next; this is the first.
+    Second(u8),
+    /// They differ.
+    Differs(u8, u8),
+}
+
+/// Two strings as they were begun, and the PC behind their comparison.
+#[derive(Clone, Copy, Debug, PartialEq, Eq)]
+pub(crate) struct Compared {
+    pub(crate) count: u16,
+    pub(crate) first: u32,
+    pub(crate) second: u32,
+    pub(crate) after: u32,
+}
+
+/// Two strings that are being compared.
+#[derive(Clone, Copy, Debug, PartialEq, Eq)]
+pub(crate) struct Comparing {
+    /// How many bytes are left, and where the next two are read.
+    pub(crate) left: u16,
+    pub(crate) first: u32,
+    pub(crate) second: u32,
+    pub(crate) pair: Pair,
+    pub(crate) compared: Compared,
+}
+
+fn is_same(one: u8, other: u8) -> bool
+    ensures { result ≡ (one == other) }
+{
+    one == other
+}
+
+impl Comparing {
+    ghost use Rattle.vax_form.specs.Tree.{feed, instruction_tree};
+    ghost use Rattle.vax_form.specs.declared.pages.Pages.{Pages};
+    ghost use Rattle.vax_form.specs.declared.state.VaxState.{VaxState};
+    ghost use Rattle.tie_operands.specs.Steps.{IsAsking};
+    ghost use Rattle.tie_strings.specs.Compares.{compare_on, comparing_script};
+
+    /// Compares what is left, and gives the number of bytes left.
+    #[tactic(auto, unfolding(crate::specs::Compares::compare_on))]
+    fn bytes_compared_on(&self, cursor: &mut Cursor) -> Result<u16, Stop>
+        ensures plays { Plays (compare_on self.now.pair self.now.left self.now.first self.now.second) cursor.old result cursor.new }
+        ensures few { Uses 131071 cursor.old result cursor.new }
+    {
+        match self.pair {
+            Pair::First => bytes_compared(cursor, self.left, self.first, self.second),
+            Pair::Second(one) => {
+                let other = byte_fetched(cursor, self.second)?;
+                if one == other {
+                    bytes_compared(
+                        cursor,
+                        self.left.saturating_sub(1),
+                        beside(false, self.first),
+                        beside(false, self.second),
+                    )
+                } else {
+                    set_compared(cursor, Width::Byte, one as u64, other as u64);
+                    Ok(self.left)
+                }
+            }
+            Pair::Differs(one, other) => {
+                set_compared(cursor, Width::Byte, one as u64, other as u64);
+                Ok(self.left)
+            }
+        }
+    }
+
+    /// Goes through what is left of the instruction.
+    #[tactic(auto, unfolding(crate::specs::Compares::comparing_script))]
+    pub(crate) fn run(&self, cursor: &mut Cursor) -> Result<End, Stop>
+        ensures plays { Plays (comparing_script self.now.pair self.now.left self.now.first self.now.second self.now.compared) cursor.old result cursor.new }
+        ensures few { Uses 131071 cursor.old result cursor.new }
+    {
+        let left = self.bytes_compared_on(cursor)?;
+        let done = self.compared.count.saturating_sub(left);
+        set_register_of(cursor, 0, left as u32);
+        set_register_of(cursor, 1, beyond(self.compared.first, done));
+        set_register_of(cursor, 2, left as u32);
+        set_register_of(cursor, 3, beyond(self.compared.second, done));
+        gone_to(cursor, self.compared.after)
+    }
+
+    /// Takes the reply to the reference that is wanted.
+    pub(crate) fn take(&mut self, reply: u64)
+        ensures { (pages : Pages) (state : VaxState)
+            → IsAsking (feed pages (instruction_tree pages (comparing_script self.old.pair self.old.left self.old.first self.old.second self.old.compared) state) [])
+            → feed pages (instruction_tree pages (comparing_script self.old.pair self.old.left self.old.first self.old.second self.old.compared) state) (reply ∷ [])
+            ≡ feed pages (instruction_tree pages (comparing_script self.new.pair self.new.left self.new.first self.new.second self.new.compared) state) [] }
+    {
+        let byte = (reply % 256) as u8;
+        match self.pair {
+            Pair::First => {
+                if self.left > 0 {
+                    self.pair = Pair::Second(byte);
+                }
+            }
+            Pair::Second(one) => {
+                if is_same(one, byte) {
+                    self.pair = Pair::First;
+                    self.left = self.left.saturating_sub(1);
+                    self.first = beside(false, self.first);
+                    self.second = beside(false, self.second);
+                } else {
+                    self.pair = Pair::Differs(one, byte);
+                }
+            }
+            Pair::Differs(_, _) => {}
+        }
+    }
+}

@@ -1,0 +1,6 @@
+//! x
+#![tactic(auto)]
+
+mod comparing;
+mod moving;
+mod scanning;
