@@ -6,16 +6,16 @@ use Rattle.std.proofs.lemmas.Bool.Decides.{nat_tests}
 use Rattle.std.proofs.lemmas.Nat.{pow_pos, pow-add}
 use Rattle.std.proofs.Math.Nat.{mod-lt, mul-lt-mul_of_pos_right}
 use Rattle.std.proofs.Math.Pow.{pow_mono, pow-sub-lt}
-use Rattle.vt_words.specs.Quad.{IsCount, one, two, four, eight}
+use Rattle.vt_words.specs.Quad.{IsCount}
 use Rattle.alpha_encode.specs.declared.instr.AlphaInstr.{AlphaInstr}
 use Rattle.alpha_encode.specs.declared.instr.AlphaInstr.TheVariants.{Memory, Branch, Operate, Jump, Pal}
 use Rattle.alpha_encode.specs.declared.instr.MemoryOp.{MemoryOp}
-use Rattle.alpha_encode.specs.declared.instr.MemoryOp.TheVariants as row
 use Rattle.alpha_meaning.specs.Act.{Does, Goes, Calls, act, memory_act_by}
 use Rattle.alpha_meaning.specs.Act as acts
 use Rattle.alpha_meaning.specs.Memory.{bytes_of, kind_of, address_of, access_of, stores}
 use Rattle.alpha_meaning.specs.Pieces.{quad_of}
 use Rattle.alpha_meaning.specs.State.{Alpha}
+use Rattle.alpha_meaning.proofs.Rows.{bytes_count, count_within}
 use Rattle.alpha_meaning.specs.declared.access.AlphaAccess.{AlphaAccess}
 use Rattle.alpha_meaning.specs.declared.access.AlphaKind.{AlphaKind}
 use Rattle.alpha_meaning.specs.declared.access.AlphaKind.TheVariants as alpha
@@ -124,27 +124,6 @@ pub references_can_be_made : ReferencesCanBeMade
 references_can_be_made set_up thread retired reference fits = can_by reference.kind set_up thread retired reference.address reference.count fits
 
 -- ---- accesses of Alpha code
-
--- an access has 1, 2, 4 or 8 bytes
-bytes_count : (op : MemoryOp) → IsCount (bytes_of op)
-bytes_count row.Ldl = four
-bytes_count row.LdlL = four
-bytes_count row.Stl = four
-bytes_count row.StlC = four
-bytes_count row.Lda = eight
-bytes_count row.Ldah = eight
-bytes_count row.LdqU = eight
-bytes_count row.Ldq = eight
-bytes_count row.LdqL = eight
-bytes_count row.Stq = eight
-bytes_count row.StqC = eight
-
--- so many bytes at a multiple of their number stand in one quadword
-count_within : {count : ℕ} → IsCount count → (address : ℕ) → address % count ≡ 0 → address % 8 + count ≤ 8
-count_within one address aligned = omega (arith, aligned)
-count_within two address aligned = omega (arith, aligned)
-count_within four address aligned = omega (arith, aligned)
-count_within eight address aligned = omega (arith, aligned)
 
 record FitsBytes (a : AlphaAccess) : Type 0 where
   count : IsCount a.bytes
