@@ -11,13 +11,13 @@ use Rattle.vax_form.specs.Made.{Made, replies_to}
 use Rattle.vax_driven.specs.Threads.{thread_run}
 use Rattle.vax_driven.specs.declared.thread.ThreadRun.{ThreadRun}
 use Rattle.system_model.specs.Counted.{order}
-use Rattle.vest_core.specs.OneHistory.{world_of}
+use Rattle.legal_history.specs.OneHistory.{world_of}
 use Rattle.system_model.specs.Laws.{BeginningsAreLegal, begun_from}
 use Rattle.system_model.specs.Legal.{starts, IsLegal}
 use Rattle.system_model.specs.Processors.{Processor, Lost, begun, turn}
 use Rattle.system_model.specs.Settings.{Setting}
 use Rattle.system_model.specs.Interpreted.{threads_of}
-use Rattle.vest_core.specs.Law.{HasHeadline, IsRun, LegalHasHeadline}
+use Rattle.legal_history.specs.Law.{HasHeadline, IsRun, LegalHasHeadline}
 use Rattle.vax_form.specs.declared.instr.Instr.{Instr}
 use Rattle.vax_form.specs.declared.pages.Pages.{Pages}
 use Rattle.vax_form.specs.GrammarLaws.{AreBytes}
@@ -31,7 +31,7 @@ use Rattle.tie_switch.specs.Processors.{Kept as ProcessorValue, processor_of}
 use Rattle.tie_switch.specs.Turns.{IsTurn, has_ended}
 use Rattle.tie_switch.specs.declared.turn.Turn.{Turn}
 use Rattle.tie_switch.specs.declared.turn.Turn.TheVariants.{Went, Ended}
-use Rattle.vest_core.specs.Closed.{ClosedNeverInterprets}
+use Rattle.legal_history.specs.Closed.{ClosedNeverInterprets}
 use Rattle.image_meaning.specs.Laws.{VaxMeaningIsSound}
 use Rattle.block_law.specs.Sound.{IsSound}
 use Rattle.vest_cli.specs.Driving.{AreDriven, Builds, IsUnderWay, HasTurned, setting_of}

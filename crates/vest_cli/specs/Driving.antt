@@ -19,7 +19,7 @@ use Rattle.tie_switch.specs.Turns.{has_ended}
 use Rattle.tie_switch.specs.declared.turn.Turn.{Turn}
 use Rattle.tie_switch.specs.declared.turn.Turn.TheVariants.{Went, Ended}
 use Rattle.vax_form.specs.Made.{output_after}
-use Rattle.vest_core.specs.Law.{HasHeadline}
+use Rattle.legal_history.specs.Law.{HasHeadline}
 use Rattle.vest_cli.specs.Built.{walk_of}
 use Rattle.vest_cli.specs.Report.{is_spent}
 use Rattle.vest_cli.specs.declared.run.TheConstants.{BUDGET}

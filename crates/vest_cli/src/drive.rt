@@ -3,7 +3,7 @@ ghost use Rattle.std.specs.Prelude.{◌≡◌};
 ghost use Rattle.image_file.specs.Whole.{IsWhole};
 ghost use Rattle.memory_core.specs.Contents.{fresh};
 ghost use Rattle.vax_form.specs.GrammarLaws.{AreBytes};
-ghost use Rattle.vest_core.specs.Law.{IsRun};
+ghost use Rattle.legal_history.specs.Law.{IsRun};
 ghost use Rattle.vest_cli.specs.Driving.{Builds, IsUnderWay, HasRun, HasTurned};
 
 use crate::run::{BUDGET, LIMIT, MISS};
@@ -14,7 +14,7 @@ use system_model::Translation;
 use system_model::laws::beginnings_are_legal;
 use tie_switch::laws::turns_stay_legal;
 use tie_switch::{Processor, Turn};
-use vest_core::laws::{closed_never_interprets, images_are_runs, legal_has_headline};
+use legal_history::laws::{closed_never_interprets, images_are_runs, legal_has_headline};
 
 // One turn more than the budget has steps, in which it ends.
 const TURNS: u64 = BUDGET + 1;

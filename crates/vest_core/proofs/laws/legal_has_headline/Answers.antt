@@ -1,5 +1,0 @@
-use Rattle.vest_core.proofs.Headlines.{legal_has_headline}
-use Rattle.vest_core.proofs.laws.legal_has_headline.Goals as goal
-
-pub returns : goal.returns
-returns c = λ setting set_up budget entries processors sound meets run legal. legal_has_headline setting set_up budget entries processors sound meets run legal
