@@ -81,9 +81,10 @@ Walk pages write down (suc count) address = (is_allowed pages address write ≡ 
 pub walk_up : (pages : Pages) (write : Bool) (address count : ℕ) → Allows pages write address count
     → (left done : ℕ) → done + left ≤ count → Walk pages write false left ((address + done) % 2 ^ 32)
 walk_up pages write address count all zero done fits = tt
-walk_up pages write address count all (suc left) done fits =
-    (all done (omega arith),
-    subst (λ (at : ℕ). Walk pages write false left at) (up_one address done) (walk_up pages write address count all left (done + 1) (omega arith)))
+walk_up pages write address count all (suc left) done fits = (
+  all done (omega arith),
+  subst (λ (at : ℕ). Walk pages write false left at) (up_one address done) (walk_up pages write address count all left (done + 1) (omega arith)),
+)
   where
     up_one : (address done : ℕ) → (address + (done + 1)) % 2 ^ 32 ≡ ((address + done) % 2 ^ 32 + 1) % 2 ^ 32
     up_one address done = omega arith
@@ -92,12 +93,14 @@ walk_up pages write address count all (suc left) done fits =
 pub walk_down : (pages : Pages) (write : Bool) (address count : ℕ) → Allows pages write address count
     → (left : ℕ) → left ≤ count → Walk pages write true left (((address + left) % 2 ^ 32 + (2 ^ 32 - 1)) % 2 ^ 32)
 walk_down pages write address count all zero fits = tt
-walk_down pages write address count all (suc left) fits =
-    (subst (λ (at : ℕ). is_allowed pages at write ≡ true) (last_one address left) (all left (omega arith)),
-    subst (λ (at : ℕ). Walk pages write true left at) (down_one address left) (walk_down pages write address count all left (omega arith)))
+walk_down pages write address count all (suc left) fits = (
+  subst (λ (at : ℕ). is_allowed pages at write ≡ true) (last_one address left) (all left (omega arith)),
+  subst (λ (at : ℕ). Walk pages write true left at) (down_one address left) (walk_down pages write address count all left (omega arith)),
+)
   where
     last_one : (address left : ℕ) → (address + left) % 2 ^ 32 ≡ ((address + suc left) % 2 ^ 32 + (2 ^ 32 - 1)) % 2 ^ 32
     last_one address left = omega arith
+
     down_one : (address left : ℕ) → ((address + left) % 2 ^ 32 + (2 ^ 32 - 1)) % 2 ^ 32 ≡ (((address + suc left) % 2 ^ 32 + (2 ^ 32 - 1)) % 2 ^ 32 + (2 ^ 32 - 1)) % 2 ^ 32
     down_one address left = omega arith
 

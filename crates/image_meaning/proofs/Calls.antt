@@ -47,8 +47,8 @@ check_frame_checks mask top =
 -- the pushes of a call frame, from the aligned top on
 frame_pushes : {pages : Pages} {w : Bool} (pc status mask top : ℕ) (values : VaxState) → CanPushFrame pages mask top
     → Pushes pages w top (below (below (below (below (below (lowered 12 mask top))))))
-      (bind (push_registers 12 mask values) (λ _. bind (push_checked pc) (λ _. bind (push_checked (register 13 values)) (λ _.
-      bind (push_checked (register 12 values)) (λ _. bind (push_checked status) (λ _. push_checked 0))))))
+    (bind (push_registers 12 mask values) (λ _. bind (push_checked pc) (λ _. bind (push_checked (register 13 values)) (λ _.
+    bind (push_checked (register 12 values)) (λ _. bind (push_checked status) (λ _. push_checked 0))))))
 unfolding CanPushFrame
 frame_pushes pc status mask top values can =
     let saved = lowered 12 mask top in

@@ -55,6 +55,7 @@ room_from pages w count value state rest is few room onward =
   where
     last_place : (top count : ℕ) → count ≤ 16 → ((top + (2 ^ 32 - (count + 4))) % 2 ^ 32 + count) % 2 ^ 32 ≡ below top
     last_place top count few = omega arith
+
     others_place : (top count : ℕ) → count ≤ 16 → ((top + (2 ^ 32 - (count + 4))) % 2 ^ 32 + 0) % 2 ^ 32 ≡ (below top + (2 ^ 32 - count)) % 2 ^ 32
     others_place top count few = omega arith
 

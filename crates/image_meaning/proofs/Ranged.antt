@@ -50,9 +50,11 @@ behind_write false w pages t writes ranged = absurd cc
 
 pub is_in_range : (w : Bool) (pages : Pages) (t : Tree) → Ranged pages w t → IsInRange pages t
 is_in_range w pages (Check address count write tree) ranged = λ holds. is_in_range w pages tree (ranged.1 holds)
-is_in_range w pages (Ask reference on) ranged =
-    (ranged.0, λ reply answers. is_in_range (is_write reference.kind || w) pages (on reply) (ranged.1 reply answers),
-    λ writes reply answers. checks_no_write pages (on reply) (behind_write (is_write reference.kind) w pages (on reply) writes (ranged.1 reply answers)))
+is_in_range w pages (Ask reference on) ranged = (
+  ranged.0,
+  λ reply answers. is_in_range (is_write reference.kind || w) pages (on reply) (ranged.1 reply answers),
+  λ writes reply answers. checks_no_write pages (on reply) (behind_write (is_write reference.kind) w pages (on reply) writes (ranged.1 reply answers)),
+)
 is_in_range w pages (Fault exception) ranged = tt
 is_in_range w pages (Ends e) ranged = ranged
 

@@ -81,6 +81,7 @@ own_reverse thread (e ∷ entries) none =
     by : (b : Bool) → (if b then e ∷ own thread entries else own thread entries) ≡ [] → (if b then e ∷ [] else []) ≡ []
     by true none = absurd (cc none)
     by false none = refl
+
     after : (b : Bool) → (if b then e ∷ own thread entries else own thread entries) ≡ [] → own thread entries ≡ []
     after true none = absurd (cc none)
     after false none = none

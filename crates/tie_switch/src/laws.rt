@@ -2,8 +2,8 @@
 ghost use Rattle.tie_switch.specs.Laws.{TurnsKeepReached, TurnsStayLegal};
 
 use system_model::laws::{
-    accesses_keep_reached, ends_keep_reached, others_keep_reached, reached_are_legal, requests_are_own,
-    steps_keep_reached,
+    accesses_keep_reached, ends_keep_reached, others_keep_reached, reached_are_legal,
+    requests_are_own, steps_keep_reached,
 };
 
 /// A turn over any memory, with entries of others before its own, keeps a processor reached by its own entries of what was
