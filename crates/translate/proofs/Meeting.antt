@@ -22,7 +22,7 @@ use Rattle.branch_layout.specs.Layouts.{Placed, IsLayout}
 use Rattle.branch_layout.proofs.Filling.{has_each, All_at, some_same}
 use Rattle.branch_layout.proofs.Places.{placed_of}
 use Rattle.translate.specs.Compiled.{AreFound, AreCompiled, IsCompiled}
-use Rattle.translate.proofs.Tidied.{like_tidy}
+use Rattle.translate.proofs.Tidied.{like_alike, like_tidy}
 use Rattle.translate.proofs.Zipped.{instr_of}
 
 means_vax : (pages : Pages) → MeansVax (image_meaning pages)
@@ -96,7 +96,10 @@ module _ (pages : Pages) (instrs : List Instr) (blocks : List Placed) (code : Co
       let it = get_or stands.words word idle in
       let here : slice_get stands.words word ≡ Some it = slice_get-get_or stands.words word idle lt in
       let there = has_each (fetch_of code.words) of.laid.first stands.words stands.stand word it here in
-      (own.its, own.done ∙ ap done_at (sym (stands.like.same word own.no_exit) ∙ here ∙ sym there))
+      let before = get_or of.block.1.words word idle in
+      let was : slice_get of.block.1.words word ≡ Some before = slice_get-get_or of.block.1.words word idle own.within in
+      let alike = like_alike of.instr.at of.block.1 stands.words of.compiled.shape stands.like word it before here was in
+      (own.its, own.done ∙ ap done_at was ∙ sym alike.done ∙ ap done_at (sym there))
 
   block_at : (address first : ℕ) (of : IsOf address first) → IsBlock (image_meaning pages) code of.instr.at of.laid.first
   block_at address first of =

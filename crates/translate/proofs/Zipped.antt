@@ -1,5 +1,5 @@
 -- Instructions beside their blocks.
-use Rattle.std.proofs.Common.{◌≡◌, ℕ, zero, suc, ◌+◌, ◌-◌, ◌<◌, ◌++◌, refl, sym, ap, subst, arith, List, [], ◌∷◌, length, map, take, get_or, Some}
+use Rattle.std.proofs.Common.{◌≡◌, ℕ, zero, suc, ◌+◌, ◌-◌, ◌<◌, ◌++◌, refl, sym, ap, subst, arith, false, List, [], ◌∷◌, length, map, take, get_or, Some}
 use Rattle.std.specs.Prelude.{slice_get}
 use Rattle.std.proofs.lemmas.List.{take_more}
 use Rattle.std.proofs.lemmas.Option.{slice_get-get_or, slice_get_within, get_or_from_slice_get}
@@ -9,7 +9,7 @@ use Rattle.exception_records.specs.Points.{Entry, WordsRise, HasFlaw}
 use Rattle.exception_records.specs.declared.points.PointRefusal.{PointRefusal}
 use Rattle.exception_records.specs.declared.points.PointRefusal.TheVariants.{OutOfOrder}
 use Rattle.block_law.specs.Blocks.{IsBlockOf}
-use Rattle.branch_layout.specs.Layouts.{Placed, AddressesRise, AreBlocks, places}
+use Rattle.branch_layout.specs.Layouts.{Placed, AddressesRise, IsPlaced, AreBlocks, places}
 use Rattle.branch_layout.proofs.Filling.{All_by}
 use Rattle.branch_layout.proofs.Places.{size}
 use Rattle.translate.specs.Compiled.{InOrder, IsCompiled, AreCompiled, addresses}
@@ -58,8 +58,8 @@ zip_length (i ∷ instrs) (b ∷ blocks) h = ap suc (zip_length instrs blocks h.
 -- what a layout asks of blocks
 pub are_blocks : (instrs : List Instr) (blocks : List Placed) → AreCompiled instrs blocks → AreBlocks blocks
 are_blocks instrs blocks h =
-    All_by (λ block. IsBlockOf block.0 block.1) blocks
-    (λ k block e. let r = instr_of instrs blocks k block h e in subst (λ n. IsBlockOf n block.1) (sym r.compiled.address) r.compiled.shape)
+    All_by IsPlaced blocks
+    (λ k block e. let r = instr_of instrs blocks k block h e in (false, subst (λ n. IsBlockOf false n block.1) (sym r.compiled.address) r.compiled.shape))
 
 pub blocks_rise : (instrs : List Instr) (blocks : List Placed) → AreCompiled instrs blocks → InOrder instrs → AddressesRise blocks
 blocks_rise instrs blocks h order k d lt =

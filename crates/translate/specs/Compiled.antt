@@ -29,7 +29,7 @@ GoOn instrs = All (λ instr. ends_thread instr ≡ false → Contains (addresses
 -- an instruction with its block
 pub record IsCompiled (instr : Instr) (block : Placed) : Type 0 where
   pub address : block.0 ≡ instr.at
-  pub shape : IsBlockOf instr.at block.1
+  pub shape : IsBlockOf false instr.at block.1
   pub exits : All (λ exit. exit.1 ≡ instr.after) block.1.exits
   pub rules : All (λ entry. entry.1.rules ≡ all_ready) block.1.points
   pub means : Compiles instr block.1
