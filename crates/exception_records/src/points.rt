@@ -1,8 +1,10 @@
 ghost use Rattle.std.specs.Prelude.{◌≡◌, IfErr, IfOk, OnOk};
 
 use crate::rules::Rules;
+use address_map::Tables;
+use std::alloc::{AllocError, Global};
 use std::marker::Model;
-use vax_form::Exception;
+use vax_form::{Exception, WantOfMemory};
 
 /// What is known of a word: the first of a block, or one that calls the PALcode.
 #[derive(Clone, Copy, Debug, PartialEq, Eq)]
@@ -62,36 +64,93 @@ impl PointRefusal {
 #[derive(Debug, Drop)]
 pub struct Points {
     points: Vec<(u32, Point)>,
+    // The place of each word's point, once that was prepared.
+    places: Option<Tables>,
 }
 
 impl Model for Points {
     ghost use Rattle.std.specs.Prelude.{List};
-    ghost use Rattle.exception_records.specs.Points.{Entry, WordsRise};
+    ghost use Rattle.std.specs.Option.{ForSome};
+    ghost use Rattle.address_map.specs.Tables.{AreTablesOf};
+    ghost use Rattle.exception_records.specs.Points.{Entry, WordsRise, numbered};
 
     ghost Value = { List Entry };
 
     ghost view = { λ p. p.points.items };
 
-    ghost invariant = { λ p. WordsRise p.points.items };
+    ghost invariant = { λ p. WordsRise p.points.items × ForSome p.places (λ tables. AreTablesOf tables (numbered p.points.items)) };
 }
 
 impl Points {
     ghost use Rattle.std.specs.Prelude.{option_copied};
     ghost use Rattle.exception_records.specs.Points.{point_at};
 
+    /// Prepares that points are found at one look; else they are searched for. It changes nothing else, nor anything
+    /// where memory runs out.
+    pub fn prepare(&mut self, alloc: Global) -> Result<(), WantOfMemory>
+        ensures { self.new ≡ self.old }
+    {
+        match places_of(alloc, &self.points) {
+            Ok(places) => self.places = Some(places),
+            Err(_) => return Err(WantOfMemory),
+        }
+        Ok(())
+    }
+
     /// The point of a word; None where the word has none.
     pub fn find(&self, alpha: u32) -> Option<&Point>
         ensures { option_copied result ≡ point_at self.now alpha }
     {
-        let found = self
-            .points
-            .as_slice()
-            .binary_search_by_key(&alpha, |point| point.0);
-        match found {
-            Ok(place) => Some(&self.points[place].1),
-            Err(_) => None,
+        match &self.places {
+            Some(places) => point_by(places, &self.points, alpha),
+            None => point_in(&self.points, alpha),
         }
     }
+}
+
+ghost use Rattle.std.specs.Prelude.{◌<◌, length, option_copied, slice_get};
+ghost use Rattle.address_map.specs.Tables.{AreTablesOf};
+ghost use Rattle.exception_records.specs.Points.{Entry, point_at, numbered};
+
+// By the places of the points.
+fn point_by<'a>(places: &Tables, points: &'a [(u32, Point)], alpha: u32) -> Option<&'a Point>
+    requires { AreTablesOf places.now (numbered points.now) }
+    ensures { option_copied result ≡ point_at points.now alpha }
+{
+    match places.find(alpha) {
+        Some(place) => Some(&points[place as usize].1),
+        None => None,
+    }
+}
+
+// By a search.
+fn point_in(points: &[(u32, Point)], alpha: u32) -> Option<&Point>
+    requires { WordsRise points.now }
+    ensures { option_copied result ≡ point_at points.now alpha }
+{
+    match points.binary_search_by_key(&alpha, |point| point.0) {
+        Ok(place) => Some(&points[place].1),
+        Err(_) => None,
+    }
+}
+
+fn word_of(points: &[(u32, Point)], place: usize) -> u32
+    requires { place < length points.now }
+    ensures { (point : Entry) → slice_get points.now place ≡ Some point → result ≡ point.0 }
+{
+    points[place].0
+}
+
+fn places_of(alloc: Global, points: &[(u32, Point)]) -> Result<Tables, AllocError>
+    requires { WordsRise points.now }
+    ensures { IfOk result (λ tables. AreTablesOf tables (numbered points.now)) }
+{
+    let mut pairs = Vec::new(alloc);
+    for place in 0..points.len() {
+        let word = word_of(points, place);
+        pairs.push((word, place as u32))?;
+    }
+    Tables::new(alloc, &pairs)
 }
 
 ghost use Rattle.exception_records.specs.Points.{WordsRise, HasFlaw};
@@ -117,5 +176,8 @@ pub fn build(points: Vec<(u32, Point)>) -> Result<Points, PointRefusal>
     ensures refused { IfErr result (HasFlaw points.items) }
 {
     check_order(&points)?;
-    Ok(Points { points })
+    Ok(Points {
+        points,
+        places: None,
+    })
 }
