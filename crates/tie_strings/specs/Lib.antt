@@ -1,3 +1,5 @@
 pub mod Moves
 pub mod Compares
 pub mod Scans
+pub mod Strings
+pub mod Bodies

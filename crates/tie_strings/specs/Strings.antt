@@ -1,0 +1,32 @@
+-- An instruction with strings that is under way.
+use Rattle.std.specs.Prelude.{◌≡◌, ℕ, List, []}
+use Rattle.vax_form.specs.Script.{Script}
+use Rattle.vax_form.specs.Tree.{Tree, feed, instruction_tree}
+use Rattle.vax_form.specs.declared.pages.Pages.{Pages}
+use Rattle.vax_form.specs.declared.script.End.{End}
+use Rattle.vax_form.specs.declared.state.VaxState.{VaxState}
+use Rattle.tie_operands.specs.Steps.{Shows, IfWant}
+use Rattle.tie_operands.specs.declared.step.TieStep.{TieStep}
+use Rattle.tie_strings.specs.Moves.{moving_script}
+use Rattle.tie_strings.specs.Compares.{comparing_script}
+use Rattle.tie_strings.specs.Scans.{scanning_script}
+use Rattle.tie_strings.specs.declared.string.Strings.{Strings}
+use Rattle.tie_strings.specs.declared.string.Strings.TheVariants.{Moves, Compares, Scans}
+use Rattle.tie_strings.specs.declared.string.StringLoop.{StringLoop}
+
+-- what is left of it
+abbrev pub strings_script : Strings → Script End
+strings_script (Moves m) = moving_script m.byte m.down m.left m.from m.to m.fill m.moved
+strings_script (Compares m) = comparing_script m.pair m.left m.first m.second m.compared
+strings_script (Scans m) = scanning_script m.stopped m.left m.address m.scanned
+
+abbrev pub strings_tree : Pages → Strings → VaxState → Tree
+strings_tree pages strings state = instruction_tree pages (strings_script strings) state
+
+abbrev pub loop_tree : Pages → StringLoop → Tree
+loop_tree pages under_way = strings_tree pages under_way.strings under_way.state
+
+-- a step shows a tree with some replies, and where it wants another, what is left is what is left of that tree
+pub record StandsAt (pages : Pages) (before : VaxState) (tree : Tree) (replies : List ℕ) (under_way : StringLoop) (step : TieStep) : Type 0 where
+  pub shown : Shows before (feed pages tree replies) step
+  pub rest : IfWant step (feed pages (loop_tree pages under_way) [] ≡ feed pages tree replies)

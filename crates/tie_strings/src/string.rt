@@ -1,0 +1,111 @@
+ghost use Rattle.std.specs.Prelude.{◌≡◌, ◌∷◌, []};
+ghost use Rattle.vax_meaning.specs.Play.{Plays, Uses};
+
+use crate::comparing::Comparing;
+use crate::moving::Moving;
+use crate::scanning::Scanning;
+use tie_operands::TieStep;
+use vax_form::{End, Pages, Stop, VaxState};
+use vax_meaning::Cursor;
+
+/// What is left of an instruction with strings.
+#[derive(Clone, Copy, Debug, PartialEq, Eq)]
+pub(crate) enum Strings {
+    Moves(Moving),
+    Compares(Comparing),
+    Scans(Scanning),
+}
+
+impl Strings {
+    ghost use Rattle.vax_form.specs.Tree.{feed};
+    ghost use Rattle.vax_form.specs.declared.pages.Pages.{Pages};
+    ghost use Rattle.vax_form.specs.declared.state.VaxState.{VaxState};
+    ghost use Rattle.tie_operands.specs.Steps.{IsAsking};
+    ghost use Rattle.tie_strings.specs.Strings.{strings_script, strings_tree};
+
+    /// Goes through it.
+    fn run(&self, cursor: &mut Cursor) -> Result<End, Stop>
+        ensures plays { Plays (strings_script self.now) cursor.old result cursor.new }
+        ensures few { Uses 196607 cursor.old result cursor.new }
+    {
+        match self {
+            Strings::Moves(moving) => moving.run(cursor),
+            Strings::Compares(comparing) => comparing.run(cursor),
+            Strings::Scans(scanning) => scanning.run(cursor),
+        }
+    }
+
+    /// Takes the reply to the reference that is wanted.
+    fn take(&mut self, reply: u64)
+        ensures { (pages : Pages) (state : VaxState) → IsAsking (feed pages (strings_tree pages self.old state) [])
+            → feed pages (strings_tree pages self.old state) (reply ∷ []) ≡ feed pages (strings_tree pages self.new state) [] }
+    {
+        match self {
+            Strings::Moves(moving) => moving.take(reply),
+            Strings::Compares(comparing) => comparing.take(reply),
+            Strings::Scans(scanning) => scanning.take(reply),
+        }
+    }
+}
+
+/// An instruction with strings that is under way, and the state behind its operands.
+#[derive(Clone, Copy, Debug, PartialEq, Eq)]
+pub(crate) struct StringLoop {
+    pub(crate) state: VaxState,
+    pub(crate) strings: Strings,
+}
+
+impl StringLoop {
+    ghost use Rattle.vax_form.specs.Tree.{feed};
+    ghost use Rattle.std.specs.Prelude.{ℕ, List, ◌++◌};
+    ghost use Rattle.vax_form.specs.Tree.{Tree};
+    ghost use Rattle.tie_operands.specs.Steps.{Shows, Passes};
+    ghost use Rattle.tie_strings.specs.Strings.{strings_tree, loop_tree, StandsAt};
+
+    /// Goes through what is left.
+    fn run(&self, cursor: &mut Cursor, before: &VaxState) -> Result<End, Stop>
+        ensures { Passes before.now (feed cursor.old.pages.now (strings_tree cursor.old.pages.now self.now.strings cursor.old.state) cursor.old.replies.now) result cursor.new.state }
+    {
+        self.strings.run(cursor)
+    }
+
+    /// The next reference, or the end.
+    fn show(&self, pages: &Pages, before: &VaxState) -> TieStep
+        ensures { Shows before.now (feed pages.now (loop_tree pages.now self.now) []) result }
+    {
+        let mut cursor = Cursor {
+            state: self.state,
+            pages,
+            replies: &[],
+        };
+        match self.run(&mut cursor, before) {
+            Ok(end) => TieStep::ended(end, &cursor.state),
+            Err(stop) => TieStep::stopped(stop, before),
+        }
+    }
+
+    /// Takes one reply more, where a step wants one.
+    fn advance(&mut self, pages: &Pages, before: &VaxState, step: TieStep, reply: u64) -> TieStep
+        ensures { (tree : Tree) (replies : List ℕ) → StandsAt pages.now before.now tree replies self.old step
+            → StandsAt pages.now before.now tree (replies ++ reply ∷ []) self.new result }
+    {
+        match step {
+            TieStep::Want(_) => {
+                self.strings.take(reply);
+                self.show(pages, before)
+            }
+            _ => step,
+        }
+    }
+
+    /// Takes the replies that there are, one after the other, and comes to the next reference or to the end.
+    pub(crate) fn go_on(&mut self, pages: &Pages, before: &VaxState, replies: &[u64]) -> TieStep
+        ensures { StandsAt pages.now before.now (loop_tree pages.now self.old) replies.now self.new result }
+    {
+        let mut step = self.show(pages, before);
+        for reply in replies {
+            step = self.advance(pages, before, step, *reply);
+        }
+        step
+    }
+}
