@@ -6,3 +6,5 @@ pub mod Parsed
 pub mod Getters
 pub mod Readings
 pub mod Ranges
+pub mod Worked
+pub mod Obeyed

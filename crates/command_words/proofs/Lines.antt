@@ -125,7 +125,7 @@ module _ (program : Text) (forms : List Form) where
       go true e = refl
       go false e = e
 
-  found_title : (fs : List Form) (word : Text) (f : Form) → form_of fs word ≡ Some f → bytes_eq f.title word ≡ true
+  pub found_title : (fs : List Form) (word : Text) (f : Form) → form_of fs word ≡ Some f → bytes_eq f.title word ≡ true
   found_title [] word f e = absurd (true≢false (ap (λ (c : Option Form). not (is_some c)) e))
   found_title (x ∷ xs) word f e = go (bytes_eq x.title word) refl e (found_title xs word f)
     where

@@ -6,6 +6,7 @@ use Rattle.command_words.specs.declared.commands.Command.TheVariants as command
 use Rattle.command_words.specs.declared.WordsFault.{WordsFault}
 use Rattle.command_words.specs.declared.WordsFault.TheVariants.{Usage}
 
+-- the command with its names as texts
 abbrev pub command_value : Command → CommandValue
 command_value (command.Run name limits ranges) = run name.now limits ranges.items
 command_value (command.Translate image out) = translate image.now out.now

@@ -15,25 +15,32 @@ use Rattle.command_words.specs.Commands.{forms}
 abbrev pub names_id : Text
 names_id = codes "names"
 
+-- the positional that takes all names
 abbrev pub names_arg : Rule
 names_arg = record (new_rule names_id) { action = Some Append }
 
+-- an option that stands at most once
 abbrev pub option_arg : Text → Rule
 option_arg label = record (new_rule label) { long = Some label }
 
+-- an option that may stand again
 abbrev pub repeated_arg : Text → Rule
 repeated_arg label = record (option_arg label) { action = Some Append }
 
+-- a command without options
 abbrev pub plain_app : Text → App
 plain_app title = with_rule (new_app title) names_arg
 
+-- `run` with the options that stand at most once
 abbrev pub limited_app : App
 limited_app = with_rule (with_rule (with_rule (plain_app (codes "run"))
     (option_arg (codes "budget"))) (option_arg (codes "events"))) (option_arg (codes "miss"))
 
+-- `run` with all its options
 abbrev pub run_app : App
 run_app = with_rule limited_app (repeated_arg (codes "interpret"))
 
+-- a command is wanted first, and nothing is told of help
 abbrev pub top_app : App
 top_app = on_top (λ s. record s {
   no_binary_name = true;
@@ -42,6 +49,7 @@ top_app = on_top (λ s. record s {
   subcommand_required = true;
 }) (new_app (codes "vest"))
 
+-- all commands
 abbrev pub vest_app : App
 vest_app = with_subcommand (with_subcommand (with_subcommand
     (with_subcommand top_app run_app.top) (plain_app (codes "translate")).top)

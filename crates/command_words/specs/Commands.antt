@@ -16,15 +16,19 @@ pub data CommandValue : Type 0 where
   list : (name : Text) → CommandValue
   generate : (number : ℕ) → CommandValue
 
+-- an option that stands at most once
 abbrev pub once : Text → Choice
 once label = record { label = label; repeats = false }
 
+-- an option that may stand again
 abbrev pub often : Text → Choice
 often label = record { label = label; repeats = true }
 
+-- a command without options
 abbrev pub plain_form : Text → Form
 plain_form title = record { title = title; choices = [] }
 
+-- `run`
 abbrev pub run_form : Form
 run_form = record {
   title = codes "run";
@@ -35,18 +39,20 @@ run_form = record {
 abbrev pub forms : List Form
 forms = run_form ∷ plain_form (codes "translate") ∷ plain_form (codes "list") ∷ plain_form (codes "generate") ∷ []
 
--- the number that an option gives, or its default
+-- the number that a value writes, or the default where there is none
 abbrev pub number_or : ℕ → Option Text → Option ℕ
 number_or default None = Some default
 number_or default (Some text) = number_in text
 
+-- the number that an option gives by its first value, or its default
 abbrev pub number_of : Text → ℕ → List Part → Option ℕ
 number_of label default parts = number_or default (first_of (values_in label parts))
 
--- a store conditional never misses by the rule, or each so many times; to miss each time is left out
+-- 0, by which no store conditional misses, or from 2 to the greatest miss number
 abbrev pub is_miss : ℕ → Bool
 is_miss n = n == 0 || (nat_le 2 n && nat_le n MOST_MISS)
 
+-- the limits of a run, by `--budget`, `--events` and `--miss`
 abbrev pub limits_of : List Part → Option Limits
 limits_of parts = do
   budget ← within (λ n. nat_le n MOST_BUDGET) (number_of (codes "budget") BUDGET parts)
@@ -54,6 +60,7 @@ limits_of parts = do
   miss ← within is_miss (number_of (codes "miss") MISS parts)
   Some (record { budget = budget; events = events; miss = miss })
 
+-- `run NAME`, with ranges by `--interpret`
 abbrev pub run_of : List Part → Option CommandValue
 run_of parts = do
   name ← only_name (names_in parts)
@@ -61,22 +68,26 @@ run_of parts = do
   ranges ← few_ranges (values_in (codes "interpret") parts)
   Some (run name limits ranges)
 
+-- `translate IMAGE OUT`
 abbrev pub translate_of : List Part → Option CommandValue
 translate_of parts = do
   names ← two_names (names_in parts)
   Some (translate names.0 names.1)
 
+-- `list NAME`
 abbrev pub list_of : List Part → Option CommandValue
 list_of parts = do
   name ← only_name (names_in parts)
   Some (list name)
 
+-- `generate N`
 abbrev pub generate_of : List Part → Option CommandValue
 generate_of parts = do
   name ← only_name (names_in parts)
   number ← within (λ n. nat_le 1 n && nat_le n MOST_GENERATED) (number_in name)
   Some (generate number)
 
+-- the command with the title, by its names and options
 abbrev pub command_of : Form × List Part → Option CommandValue
 command_of (form, parts) =
     if bytes_eq form.title (codes "run") then run_of parts

@@ -9,9 +9,11 @@ pub record Form : Type 0 where
   pub title : Text
   pub choices : List Choice
 
+-- the form with the title
 abbrev pub form_of : List Form → Text → Option Form
 form_of forms word = find (λ f. bytes_eq f.title word) forms
 
+-- the form with its parts, where no option stands too often
 abbrev pub form_line : Form → Option (List Part) → Option (Form × List Part)
 form_line f None = None
 form_line f (Some parts) = if list_all (stands_once parts) f.choices then Some (f, parts) else None

@@ -4,3 +4,4 @@ pub mod Numbers
 pub mod Commands
 pub mod App
 pub mod Answers
+pub mod Obeyed

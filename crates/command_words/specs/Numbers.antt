@@ -8,10 +8,12 @@ use Rattle.command_words.specs.declared.numbers.Range.{Range}
 use Rattle.command_words.specs.declared.numbers.TheConstants.{ADDRESS_DIGITS, MOST_RANGES, THREADS, THREAD_DIGITS}
 use Rattle.command_words.specs.Parts.{Text}
 
+-- the first, then what it goes on to
 infixl 10 ◌>>=◌
 abbrev pub ◌>>=◌ : {A B : Type 0} → Option A → (A → Option B) → Option B
 o >>= f = option_and_then f o
 
+-- at least one digit, and all are of the radix
 abbrev pub are_digits : ℕ → Text → Bool
 are_digits radix text = nat_lt 0 (length text) && list_all (λ d. nat_lt (digit_value d) radix) text
 
@@ -38,6 +40,7 @@ split_at mark text =
     if nat_lt (position_or_len (λ b. b == mark) text) (length text)
     then Some (before_first (λ b. b == mark) text, after_first (λ b. b == mark) text) else None
 
+-- the range, where the thread and the addresses fit
 abbrev pub range_of : ℕ → ℕ → ℕ → Option Range
 range_of thread first last = if nat_lt thread THREADS && nat_le first last
     then Some (record { thread = thread; first = first; last = last }) else None

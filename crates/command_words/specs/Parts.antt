@@ -18,6 +18,7 @@ pub data Part : Type 0 where
   named : Text → Part
   chosen : Text → Text → Part
 
+-- the text has a byte
 abbrev pub is_filled : Text → Bool
 is_filled [] = false
 is_filled (x ∷ rest) = true
@@ -43,10 +44,11 @@ label_and_value text = (
 abbrev pub option_word : Text → Option (Text × Option Text)
 option_word word = option_map label_and_value (behind_hyphens word)
 
--- options aren't shortened
+-- the option with the whole label
 abbrev pub choice_of : List Choice → Text → Option Choice
 choice_of choices label = find (λ o. bytes_eq o.label label) choices
 
+-- the part before the others, where these are parts
 abbrev pub with_part : Part → Option (List Part) → Option (List Part)
 with_part part rest = option_map (λ parts. part ∷ parts) rest
 
@@ -76,6 +78,7 @@ parts_of choices (word ∷ rest) None =
     if bytes_eq word (45 ∷ 45 ∷ []) then Some (map named rest)
     else word_parts choices word (option_word word) (parts_of choices rest)
 
+-- the names, in order
 abbrev pub names_in : List Part → List Text
 names_in [] = []
 names_in (named word ∷ rest) = word ∷ names_in rest
@@ -92,14 +95,17 @@ values_in label (chosen other value ∷ rest) =
 abbrev pub stands_once : List Part → Choice → Bool
 stands_once parts o = o.repeats || nat_lt (length (values_in o.label parts)) 2
 
+-- the name, where it is the only one
 abbrev pub only_name : List Text → Option Text
 only_name (name ∷ []) = Some name
 only_name _ = None
 
+-- the names, where there are two
 abbrev pub two_names : List Text → Option (Text × Text)
 two_names (first ∷ second ∷ []) = Some (first, second)
 two_names _ = None
 
+-- the first value, if there is one
 abbrev pub first_of : List Text → Option Text
 first_of [] = None
 first_of (value ∷ rest) = Some value
