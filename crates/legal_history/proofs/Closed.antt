@@ -245,7 +245,7 @@ closed_never_interprets setting set_up budget entries processors sound meets clo
     let h : starts set_up.image thread ≡ Some (start_state s.0) = ap (option_map start_state) s.1 in
     let range = run.starts thread s.0 s.1 in
     let r = legal.each thread (start_state s.0) p h at in
-    let home = stays setting sound meets closed none (starts set_up.image) thread range.0 (start_state s.0) h (start_is s.0 range.1 range.2) (mapped thread (start_state s.0) h)
+    let home = stays setting sound meets closed none (starts set_up.image) thread range.0 (start_state s.0) h (start_is s.0 range.1) (mapped thread (start_state s.0) h)
     r.was.steps (own thread entries) r.was r.reaches (all_fair set_up run.bytes entries legal.order thread) in
     let was = not_interpreting (mode_of setting r.was r.was.mode) r.was.boundary home in
     ⊎_elim (λ e. subst (λ (x : Processor). interprets_next setting x ≡ false) (sym e) was) (λ e. subst (λ (x : Processor). interprets_next setting x ≡ false) (sym e.is) refl) r.now

@@ -1,10 +1,13 @@
 -- A legal history has the headline.
 use Rattle.std.proofs.Common.{◌≡◌, ◌≢◌, ℕ, zero, suc, ◌<◌, ◌≤◌, ◌+◌, ◌-◌, ◌^◌, false, if◌then◌else◌, List, [], ◌∷◌, ◌++◌, length, Option, Some, None, refl, sym, ap, ◌∙◌, subst, arith, lit<, ⊎_elim, All}
 use Rattle.block_law.specs.Rounds.{block_steps}
-use Rattle.std.specs.Prelude.{map, option_map, slice_get, replicate}
+use Rattle.std.specs.Prelude.{map, option_map, slice_get}
+use Rattle.std.specs.List.{AllByRecursion}
+use Rattle.std.proofs.lemmas.List.{length-append}
 use Rattle.std.proofs.lemmas.List.Elements.{All-nil, All-cons}
 use Rattle.alpha_meaning.specs.State.{Alpha, Regs, at_place}
 use Rattle.image_file.specs.Start.{start_state}
+use Rattle.image_file.specs.Whole.{StartFits}
 use Rattle.image_file.specs.declared.image.Start.{Start}
 use Rattle.memory_core.specs.declared.entry.Entry.{Entry}
 use Rattle.memory_core.specs.declared.entry.SetUp.{SetUp}
@@ -61,12 +64,18 @@ there_is (x ∷ xs) zero h = (x, refl)
 there_is (x ∷ xs) (suc n) h = there_is xs n (omega arith)
 
 -- ---- starts
-padded : (n sp : ℕ) → sp < 2 ^ 32 → All (λ value. value < 2 ^ 32) (replicate n 0 ++ sp ∷ [])
-padded zero sp h = All-cons (λ value. value < 2 ^ 32) sp [] h (All-nil (λ value. value < 2 ^ 32))
-padded (suc n) sp h = All-cons (λ value. value < 2 ^ 32) 0 (replicate n 0 ++ sp ∷ []) (lit< tt) (padded n sp h)
+with_last : (first : List ℕ) (sp : ℕ) → AllByRecursion (λ (value : ℕ). value < 2 ^ 32) first → sp < 2 ^ 32 → All (λ value. value < 2 ^ 32) (first ++ sp ∷ [])
+with_last [] sp all h = All-cons (λ value. value < 2 ^ 32) sp [] h (All-nil (λ value. value < 2 ^ 32))
+with_last (value ∷ first) sp all h = All-cons (λ value. value < 2 ^ 32) value (first ++ sp ∷ []) all.0 (with_last first sp all.1 h)
 
-pub start_is : (s : Start) → s.pc < 2 ^ 32 → s.sp < 2 ^ 32 → IsState (start_state s)
-start_is s pc sp = record { registers = refl; longwords = padded 14 s.sp sp; pc = pc; psw = lit< tt; handler = lit< tt }
+pub start_is : (s : Start) → StartFits s → IsState (start_state s)
+start_is s fits = record {
+  registers = omega (arith, fits.count, length-append s.first (s.sp ∷ []));
+  longwords = with_last s.first s.sp fits.first fits.sp;
+  pc = fits.pc;
+  psw = lit< tt;
+  handler = lit< tt;
+}
 
 -- ---- ends
 spent_claims : (m : Mode) (run : ThreadRun) → IsGoing m → Claims m run → run.exited ≡ false
@@ -128,7 +137,7 @@ module _ (setting : Setting) (set_up : SetUp) (entries : List Entry) (sound : Is
   started thread start h =
       let found = option_map-some start_state (slice_get set_up.image.threads thread) start h in
       let range = run.starts thread found.0 found.1 in
-      (subst IsState found.2 (start_is found.0 range.1 range.2), range.0)
+      (subst IsState found.2 (start_is found.0 range.1), range.0)
 
   was_facts : (thread : ℕ) (start : VaxState) (was : Processor) → starts set_up.image thread ≡ Some start → Reaches setting (begun thread start) was.steps (own thread entries) was → Facts setting (starts set_up.image) thread (own thread entries) was
   was_facts thread start was h reached_was =

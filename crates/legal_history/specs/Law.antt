@@ -1,6 +1,7 @@
 -- A legal history has the headline. Lists of entries are newest first.
 use Rattle.std.specs.Prelude.{◌≡◌, ◌≢◌, ◌<◌, ◌≤◌, ◌+◌, ◌*◌, ◌^◌, ℕ, All, List, Some, length, map, slice_get}
 use Rattle.image_file.specs.Memory.{byte_in}
+use Rattle.image_file.specs.Whole.{StartFits}
 use Rattle.image_file.specs.declared.image.Start.{Start}
 use Rattle.memory_core.specs.declared.entry.Entry.{Entry}
 use Rattle.memory_core.specs.declared.entry.SetUp.{SetUp}
@@ -26,10 +27,11 @@ pub record HasBytes (set_up : SetUp) : Type 0 where
   pub image : (address : ℕ) → byte_in set_up.image address < 256
   pub input : All (λ byte. byte < 256) set_up.input
 
--- the numbers of an image and of an input are in range: bytes, and of each thread its number, PC and SP
+-- the numbers of an image and of an input are in range: bytes, and of each thread its number, and the PC, SP and first
+-- registers with which it starts
 pub record IsRun (set_up : SetUp) : Type 0 where
   pub bytes : HasBytes set_up
-  pub starts : (thread : ℕ) (start : Start) → slice_get set_up.image.threads thread ≡ Some start → (thread < 2 ^ 8) × (start.pc < 2 ^ 32) × (start.sp < 2 ^ 32)
+  pub starts : (thread : ℕ) (start : Start) → slice_get set_up.image.threads thread ≡ Some start → (thread < 2 ^ 8) × StartFits start
 
 -- what holds of one thread and its processor, of a history whose references these are
 pub record IsKept (setting : Setting) (set_up : SetUp) (entries : List Entry) (thread : ℕ) (replies : List ℕ) (run : ThreadRun) (p : Processor) : Type 0 where
