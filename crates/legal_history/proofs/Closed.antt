@@ -25,7 +25,7 @@ use Rattle.system_model.specs.Quadwords.{reply_from}
 use Rattle.vax_form.specs.Finishes.{IfFinish, AllFinish}
 use Rattle.system_model.specs.Closed.{IsInCode, IsClosed, is_interpreting, interprets_next}
 use Rattle.system_model.specs.Legal.{starts}
-use Rattle.system_model.specs.Processors.{Mode, New, Runs, Interprets, Ended, Processor, all_held, registers_of, mode_by, begun, stepped, left, placed, Turn, Went, Asks, Over, Lost, alpha_turn, turn_in, mode_of, turn, entry_by, Reaches, Begins, Steps, Takes}
+use Rattle.system_model.specs.Processors.{Mode, New, Runs, Interprets, Ended, Processor, registers_of, mode_by, begun, stepped, left, placed, Turn, Went, Asks, Over, Lost, alpha_turn, turn_in, mode_of, turn, entry_by, Reaches, Begins, Steps, Takes}
 use Rattle.system_model.specs.Ranges.{covers, word_for}
 use Rattle.system_model.specs.Settings.{Setting, goes_on, unless_pending}
 use Rattle.system_model.specs.Steps.{Last, Comes, Fails, Place, Inside, Lands, Leaves, Next, Moves, Wants, Stuck, next, settled_last}

@@ -1,5 +1,5 @@
 -- Blocks follow the instruction alone; its thread does it with the handler.
-use Rattle.std.proofs.Common.{◌≡◌, ℕ, ◌<◌, ◌≤◌, ◌-◌, ◌+◌, Bool, true, false, if◌then◌else◌, List, [], ◌∷◌, Option, Some, None, refl, sym, ap, ◌∙◌, subst}
+use Rattle.std.proofs.Common.{◌≡◌, ℕ, ◌<◌, ◌≤◌, ◌-◌, ◌+◌, Bool, true, false, if◌then◌else◌, List, [], Option, Some, None, refl, sym, ap, ◌∙◌, subst}
 use Rattle.legal_history.specs.Kinds.{IsAlpha}
 use Rattle.alpha_meaning.specs.Pieces.{Kinds}
 use Rattle.block_law.specs.Rounds.{block_steps}
@@ -7,7 +7,6 @@ use Rattle.std.specs.Prelude.{MatchBool}
 use Rattle.alpha_meaning.specs.State.{Alpha, Regs}
 use Rattle.memory_core.specs.declared.entry.Entry.{Entry}
 use Rattle.memory_core.specs.declared.entry.Kind.{Kind}
-use Rattle.memory_core.specs.declared.entry.Request.{Request}
 use Rattle.vax_form.specs.Pages.{first_bad}
 use Rattle.vax_form.specs.Moments.{delivering, has_handler, handled_ending, handled_fault, handled}
 use Rattle.vax_form.specs.Tree.{Tree, Check, Ask, Fault, Ends, Ending, Finish, Answer, answer, unless_bad}
@@ -24,7 +23,7 @@ use Rattle.system_model.specs.Processors.{entry_by}
 use Rattle.system_model.specs.Quadwords.{reply_from}
 use Rattle.legal_history.specs.Entries.{Lock, lock_by}
 use Rattle.legal_history.proofs.Judged.{MadeBy, head_of, for_nothing}
-use Rattle.legal_history.proofs.Owed.{answer_by, more_by, OwedPlace, OwedBehind, OwedAccess, OwedNext}
+use Rattle.legal_history.proofs.Owed.{answer_by, more_by, OwedPlace, OwedBehind, OwedNext}
 use Rattle.legal_history.proofs.Paths.{Path, Here, Passes, Takes}
 
 -- ---- answers

@@ -1,5 +1,5 @@
 -- The replies to references are in range, and those to interpreted references are their accesses'.
-use Rattle.std.proofs.Common.{◌≡◌, ℕ, ◌+◌, Bool, true, false, Option, None, refl, sym, ap, subst}
+use Rattle.std.proofs.Common.{◌≡◌, ℕ, ◌+◌, Bool, true, Option, None, refl, sym, ap, subst}
 use Rattle.block_law.specs.Rounds.{block_steps}
 use Rattle.memory_core.specs.declared.entry.Entry.{Entry}
 use Rattle.memory_core.specs.declared.entry.Request.{Request}

@@ -1,5 +1,5 @@
 -- Memory can make what a processor asks: the access of a reference that fits its page, and that of a step of Alpha code.
-use Rattle.std.proofs.Common.{◌≡◌, ℕ, ◌+◌, ◌-◌, ◌*◌, ◌/◌, ◌%◌, ◌^◌, ◌<◌, ◌≤◌, ◌==◌, ◌&&◌, ◌||◌, not, Bool, true, false, if◌then◌else◌, Option, Some, None, refl, sym, ap, ◌∙◌, subst, arith, lit<}
+use Rattle.std.proofs.Common.{◌≡◌, ℕ, ◌+◌, ◌-◌, ◌*◌, ◌/◌, ◌%◌, ◌^◌, ◌<◌, ◌≤◌, ◌==◌, ◌&&◌, ◌||◌, not, Bool, true, false, if◌then◌else◌, Option, Some, None, refl, ap, ◌∙◌, subst, arith, lit<}
 use Rattle.std.specs.List.{list_any}
 use Rattle.std.specs.Prelude.{ℤ}
 use Rattle.std.proofs.lemmas.Bool.Decides.{nat_tests}
@@ -12,7 +12,7 @@ use Rattle.alpha_encode.specs.declared.instr.AlphaInstr.TheVariants.{Memory, Bra
 use Rattle.alpha_encode.specs.declared.instr.MemoryOp.{MemoryOp}
 use Rattle.alpha_meaning.specs.Act.{Does, Goes, Calls, act, memory_act_by}
 use Rattle.alpha_meaning.specs.Act as acts
-use Rattle.alpha_meaning.specs.Memory.{bytes_of, kind_of, address_of, access_of, stores}
+use Rattle.alpha_meaning.specs.Memory.{bytes_of, kind_of, stores}
 use Rattle.alpha_meaning.specs.Pieces.{quad_of}
 use Rattle.alpha_meaning.specs.State.{Alpha}
 use Rattle.alpha_meaning.proofs.Rows.{bytes_count, count_within}
@@ -25,7 +25,7 @@ use Rattle.block_law.specs.Translations.{fetch_of}
 use Rattle.exception_records.specs.Points.{point_at, raised_at}
 use Rattle.exception_records.specs.declared.points.Point.{Point}
 use Rattle.exception_records.specs.declared.rules.Rules.{Rules}
-use Rattle.memory_core.specs.Changes.{IsInRange, Allows}
+use Rattle.memory_core.specs.Changes.{IsInRange}
 use Rattle.memory_core.specs.Requests.{CanMake}
 use Rattle.memory_core.specs.declared.entry.Change.TheVariants.{Nothing, Byte}
 use Rattle.memory_core.specs.declared.entry.Kind.TheVariants as kinds
@@ -40,7 +40,6 @@ use Rattle.vax_form.specs.declared.pages.PageRange.{PageRange}
 use Rattle.vax_form.specs.declared.pages.Pages.{Pages}
 use Rattle.vax_form.specs.declared.state.Exception.{Exception}
 use Rattle.vax_form.specs.declared.state.Pending.TheVariants.{Resume}
-use Rattle.vax_form.specs.declared.state.Reference.{Reference}
 use Rattle.vax_form.specs.declared.state.RefKind.{RefKind}
 use Rattle.vax_form.specs.declared.state.RefKind.TheVariants.{Read, Write, Add, SetBit, ClearBit, Put, Get}
 use Rattle.system_model.specs.Laws.{ReferencesCanBeMade, StepsCanBeMade}

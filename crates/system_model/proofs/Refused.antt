@@ -1,9 +1,9 @@
 -- What no processor that is reached may be.
-use Rattle.std.proofs.Common.{◌≡◌, ◌≢◌, ℕ, suc, ◌<◌, List, [], ◌∷◌, length, refl, sym, ◌∙◌, subst, arith, ⊎_elim}
+use Rattle.std.proofs.Common.{◌≡◌, ◌≢◌, ℕ, ◌<◌, List, ◌∷◌, length, ◌∙◌, subst, arith, ⊎_elim}
 use Rattle.memory_core.specs.declared.entry.Entry.{Entry}
 use Rattle.vax_form.specs.declared.state.VaxState.{VaxState}
 use Rattle.system_model.specs.Legal.{IsSpent}
-use Rattle.system_model.specs.Processors.{Processor, Asks, begun, Reaches, Begins, Steps, Takes}
+use Rattle.system_model.specs.Processors.{Processor, begun, Reaches, Steps, Takes}
 use Rattle.system_model.specs.Settings.{Setting}
 use Rattle.system_model.proofs.Requests.{Makes, makes}
 use Rattle.system_model.proofs.Turns.{reached_thread}

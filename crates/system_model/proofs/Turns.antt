@@ -1,20 +1,17 @@
 -- What keeps a processor reached by its own entries, and makes a history legal.
-use Rattle.std.proofs.Common.{◌≡◌, ◌≢◌, ℕ, zero, suc, ◌+◌, ◌<◌, ◌≤◌, ◌==◌, Bool, true, false, if◌then◌else◌, List, [], ◌∷◌, ◌++◌, length, Some, refl, sym, ap, ◌∙◌, subst, arith, ◌⊎◌, inl, inr, ⊎_elim}
-use Rattle.std.specs.Prelude.{option_map, slice_get, slice_set}
-use Rattle.std.specs.List.{AllByRecursion}
+use Rattle.std.proofs.Common.{◌≡◌, ℕ, zero, suc, ◌+◌, ◌≤◌, ◌==◌, Bool, true, if◌then◌else◌, List, [], ◌∷◌, ◌++◌, length, Some, refl, sym, ap, ◌∙◌, subst, arith, ◌⊎◌, inl, inr, ⊎_elim}
+use Rattle.std.specs.Prelude.{option_map, slice_get}
 use Rattle.std.proofs.lemmas.Bool.Decides.{nat_tests}
 use Rattle.std.proofs.lemmas.List.{length-append}
 use Rattle.std.proofs.lemmas.List.Elements.{filter-append}
 use Rattle.image_file.specs.Start.{start_state}
 use Rattle.image_file.specs.declared.image.Start.{Start}
 use Rattle.memory_core.specs.declared.entry.Entry.{Entry}
-use Rattle.memory_core.specs.declared.entry.Request.{Request}
-use Rattle.memory_core.specs.declared.entry.SetUp.{SetUp}
-use Rattle.memory_core.specs.Order.{own, Meets}
+use Rattle.memory_core.specs.Order.{own}
 use Rattle.vax_form.specs.declared.state.VaxState.{VaxState}
 use Rattle.system_model.specs.Settings.{Setting}
-use Rattle.system_model.specs.Processors.{Processor, Went, Asks, begun, turn, entry_by, Reaches, Begins, Steps, Takes}
-use Rattle.system_model.specs.Legal.{starts, spent, IsGoing, IsAsking, IsSpent, IsReached, IsLegal}
+use Rattle.system_model.specs.Processors.{Processor, begun, entry_by, Reaches, Begins, Steps, Takes}
+use Rattle.system_model.specs.Legal.{IsGoing, IsSpent, IsReached}
 use Rattle.system_model.specs.Laws.{begun_from, BeginningsAreLegal, StepsKeepReached, AccessesKeepReached, EndsKeepReached, OthersKeepReached, RequestsAreOwn, ReachedAreLegal}
 use Rattle.system_model.proofs.Requests.{IsStep, Makes, makes}
 
