@@ -1,5 +1,5 @@
 -- Procedure calls.
-use Rattle.std.proofs.Common.{◌≡◌, ℕ, ◌+◌, ◌*◌, ◌/◌, ◌%◌, ◌<◌, ◌^◌, Bool, true, false, arith, List, subst, sym, refl}
+use Rattle.std.proofs.Common.{◌≡◌, ℕ, ◌+◌, ◌*◌, ◌/◌, ◌%◌, ◌<◌, ◌^◌, Bool, true, false, arith, List, subst, sym}
 use Rattle.std.proofs.lemmas.Bool.{eqb-true}
 use Rattle.vax_form.specs.Script.{Script, bind, change}
 use Rattle.vax_form.specs.State.{IsState, register, with_register}
@@ -14,7 +14,7 @@ use Rattle.vax_meaning.specs.Evaluation.{value_of_place}
 use Rattle.vax_long.specs.Registers.{is_in_mask, below, push_checked, push_registers}
 use Rattle.vax_long.specs.Calls.{aligned, entry_mask, check_frame, frame_status, push_frame, entry_psw, enter, call_general, call_stack, with_released, release_arguments, leave, return_from_procedure}
 use Rattle.vax_form.specs.declared.pages.Pages.{Pages}
-use Rattle.image_meaning.proofs.Keeping.{Keeps, Any, keep_pure, keep_bind, keep_then, keep_choice, keep_either, keep_get, keep_change, keep_fail}
+use Rattle.image_meaning.proofs.Keeping.{Keeps, Any, keep_pure, keep_bind, keep_then, keep_choice, keep_either, keep_change, keep_fail}
 use Rattle.image_meaning.proofs.States.{IsLongword, low_longword, register_is, with_register_is, with_psw_is}
 use Rattle.image_meaning.proofs.Memory.{keep_fetch, keep_code_word}
 use Rattle.image_meaning.proofs.Operands.{keep_get_register, keep_set_register}

@@ -17,8 +17,8 @@ use Rattle.vax_meaning.specs.Branches.{pc_after}
 use Rattle.vax_meaning.specs.Fields.{with_bits, field_address, field_bytes, is_outside, field_value, extended, extract_field, put_bytes, put_field, insert_field, leave_bit, byte_found, bit_found, branch_on_bit}
 use Rattle.vax_meaning.proofs.Bits.{with_bits_below}
 use Rattle.vax_form.specs.declared.pages.Pages.{Pages}
-use Rattle.image_meaning.proofs.Keeping.{Keeps, Any, keep_pure, keep_bind, keep_then, keep_choice, keep_either, keep_fail, keep_written, kept, stay_check_write}
-use Rattle.image_meaning.proofs.Allowed.{Allows, first_allowed, read_allowed}
+use Rattle.image_meaning.proofs.Keeping.{Keeps, Any, keep_pure, keep_bind, keep_then, keep_choice, keep_fail, keep_written, kept, stay_check_write}
+use Rattle.image_meaning.proofs.Allowed.{first_allowed, read_allowed}
 use Rattle.image_meaning.proofs.States.{IsLongword, low_longword}
 use Rattle.image_meaning.proofs.Memory.{keep_read, keep_write, keep_fetch, keep_lock}
 use Rattle.image_meaning.proofs.Operands.{FitsLocation, low_fits, keep_put}

@@ -1,5 +1,5 @@
 -- References to operands in memory: each part of what was checked.
-use Rattle.std.proofs.Common.{◌≡◌, ℕ, ◌+◌, ◌-◌, ◌*◌, ◌/◌, ◌%◌, ◌^◌, ◌<◌, ◌≤◌, Bool, true, false, arith}
+use Rattle.std.proofs.Common.{◌≡◌, ℕ, ◌+◌, ◌-◌, ◌*◌, ◌%◌, ◌^◌, ◌<◌, ◌≤◌, Bool, true, false, arith}
 use Rattle.std.specs.Prelude.{nat_lt, ◌||◌}
 use Rattle.std.proofs.lemmas.Bool.{ltb-true}
 use Rattle.std.proofs.lemmas.Nat.{pow_pos}
@@ -9,7 +9,7 @@ use Rattle.vax_form.specs.Ranges.{is_write, FitsPage}
 use Rattle.vax_form.specs.declared.pages.Pages.{Pages}
 use Rattle.vax_form.specs.declared.state.RefKind.{RefKind}
 use Rattle.vax_meaning.specs.Memory.{low_bytes, front_count, next_part, read_part, read, write_part, write, fetch, lock, code_word}
-use Rattle.image_meaning.proofs.Keeping.{Keeps, Stays, Any, kept, stay_pure, stay_bind, stay_choice, stay_ask, stay_check_read, stay_code, stay_written}
+use Rattle.image_meaning.proofs.Keeping.{Keeps, Stays, Any, kept, stay_pure, stay_bind, stay_choice, stay_ask, stay_check_read, stay_code}
 use Rattle.image_meaning.proofs.Allowed.{Allows, first_allowed}
 use Rattle.image_meaning.proofs.States.{IsLongword, low_longword}
 

@@ -18,14 +18,14 @@ use Rattle.vax_form.proofs.Moments.{handled_stays_in_range}
 use Rattle.vax_long.specs.Instructions.{tree_at}
 use Rattle.vax_long.specs.Registers.{below, push_checked, pop_checked}
 use Rattle.vax_long.specs.Pending.{frame_address, frame_bytes, go_on, push_exception, is_user_psl, resume, moment_of, moment_at}
-use Rattle.vax_form.specs.Script.{◌>>=◌, ◌>>◌, fail, when◌then◌else◌}
+use Rattle.vax_form.specs.Script.{fail, when◌then◌else◌}
 use Rattle.image_meaning.specs.Laws.{MomentsStayInRange}
 use Rattle.image_meaning.proofs.Ranged.{Ranged, is_in_range}
 use Rattle.image_meaning.proofs.Allowed.{Allows, all_allowed, part_allowed}
 use Rattle.image_meaning.proofs.Keeping.{Keeps, Any, keep_then, keep_either, keep_change, keep_fail, keeps_tree, stay_check_read}
 use Rattle.image_meaning.proofs.States.{IsLongword, low_longword, register_is, with_psw_is, with_pending_is}
 use Rattle.image_meaning.proofs.Codes.{keep_go_to}
-use Rattle.image_meaning.proofs.Registers.{CanPush, push_from, pop_from}
+use Rattle.image_meaning.proofs.Registers.{push_from, pop_from}
 use Rattle.image_meaning.proofs.TreesAt.{tree_at_stays_in_range}
 
 keep_go_on : {pages : Pages} {w : Bool} (pc psw : ℕ) → IsLongword pc → psw < 256 → Keeps pages w w Any (go_on pc psw)

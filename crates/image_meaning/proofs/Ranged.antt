@@ -6,7 +6,6 @@ use Rattle.vax_form.specs.State.{IsState, Answers}
 use Rattle.vax_form.specs.Ranges.{ending_state, is_write, FitsPage, ChecksNoWrite, IsInRange, IsFault, FailsByFaults}
 use Rattle.vax_form.specs.Tree.{Tree, Check, Ask, Fault, Ends}
 use Rattle.vax_form.specs.declared.pages.Pages.{Pages}
-use Rattle.vax_form.specs.declared.state.Reference.{Reference}
 
 -- a tree in range that fails by faults; where something was written before it, it checks nothing with write intent
 abbrev pub Ranged : Pages → (wrote : Bool) → Tree → Type 0

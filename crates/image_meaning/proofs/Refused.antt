@@ -1,16 +1,15 @@
 -- What no instruction may do that stays in range.
-use Rattle.std.proofs.Common.{◌≡◌, ℕ, ◌+◌, ◌%◌, ◌<◌, Bool, true, false, List, [], ◌∷◌, None, refl, arith}
+use Rattle.std.proofs.Common.{◌≡◌, ℕ, ◌%◌, true, false, [], ◌∷◌, refl, arith}
 use Rattle.vax_form.specs.Pages.{is_allowed}
 use Rattle.vax_form.specs.Ranges.{IsInRange}
 use Rattle.vax_form.specs.Script.{Script, ◌>>=◌, ◌>>◌, pure}
 use Rattle.vax_form.specs.Tree.{instruction_tree}
-use Rattle.vax_form.specs.declared.pages.PageRange.{PageRange}
 use Rattle.vax_form.specs.declared.pages.Pages.{Pages}
 use Rattle.vax_form.specs.declared.script.End.{End}
 use Rattle.vax_form.specs.declared.script.End.TheVariants.{Done}
 use Rattle.vax_form.specs.declared.state.RefKind.TheVariants.{Add}
 use Rattle.vax_form.specs.declared.state.VaxState.{VaxState}
-use Rattle.vax_meaning.specs.Memory.{check, read_part, write_part, lock}
+use Rattle.vax_meaning.specs.Memory.{check, write_part, lock}
 use Rattle.vax_long.specs.Registers.{below}
 
 -- page 1 is read-only and page 2 may be written

@@ -18,7 +18,7 @@ use Rattle.image_meaning.proofs.Allowed.{Allows}
 use Rattle.image_meaning.proofs.Keeping.{Keeps, Any, keep_pure, keep_bind, keep_then, keep_either, stay_check_read, stay_check_write}
 use Rattle.image_meaning.proofs.States.{IsLongword, low_longword, register_is, with_register_is}
 use Rattle.image_meaning.proofs.Memory.{stay_read, stay_write}
-use Rattle.image_meaning.proofs.Operands.{keep_get_register, keep_set_register}
+use Rattle.image_meaning.proofs.Operands.{keep_set_register}
 use Rattle.image_meaning.proofs.Codes.{FitsInstr, keep_go_to}
 
 pub below_is : (top : ℕ) → IsLongword (below top)

@@ -1,5 +1,5 @@
 -- What the VAX instructions of a page table mean, for processors that run them.
-use Rattle.std.specs.Prelude.{ℕ, Bool, true, Option, Some, None}
+use Rattle.std.specs.Prelude.{ℕ, true, Option, Some, None}
 use Rattle.vax_form.specs.Grammar.{Found, instruction, reserved_instruction, reserved_mode, past}
 use Rattle.vax_form.specs.GrammarFound.{found}
 use Rattle.vax_form.specs.Operation.{operation_at}
