@@ -11,3 +11,4 @@ pub mod WriteLaws
 pub mod Found
 pub mod Prefixes
 pub mod PageLaws
+pub mod Versions

@@ -26,7 +26,7 @@ pub record IsLegal (set_up : SetUp) (history : List Entry) : Type 0 where
   pub room : length history ≤ set_up.limit
 
 abbrev pub nothing : Contents
-nothing = fresh (record { threads = []; sections = []; entries = []; pages = record { ranges = []; code = [] } }) [] 0 0 0
+nothing = fresh (record { version = 1; threads = []; sections = []; entries = []; pages = record { ranges = []; code = [] } }) [] 0 0 0
 
 abbrev pub keeper_of : Contents → View
 keeper_of start = record { start = start; lives = false; number = 0; keeps = true; turn = 0; found = []; seen = []; own = []; chosen = 0; given = []; ended = [] }

@@ -50,7 +50,7 @@ fn run(
     order: &[Pick],
     counts: &[u64],
 ) -> Result<Option<DrivenRun>, AllocError>
-    requires threads { length image.now.threads ≤ 16 }
+    requires threads { length image.now.threads ≤ 255 }
     requires counts { length counts.now ≡ length image.now.threads }
     ensures { IfOk result (λ run. run ≡ driven_value image.now input.now order.now counts.now) }
 {

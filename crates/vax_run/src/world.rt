@@ -78,7 +78,7 @@ impl World {
         image: &Image,
         counts: &[u64],
     ) -> Result<Option<Vec<ThreadRun>>, AllocError>
-        requires threads { length image.now.threads ≤ 16 }
+        requires threads { length image.now.threads ≤ 255 }
         requires counts { length counts.now ≡ length image.now.threads }
         requires left { (made : List Made) × IsLeft image.now made self.now }
         ensures { IfOk result (λ runs. (made : List Made) → IsLeft image.now made self.now → option_map (λ runs. runs.items) runs ≡ runs_from (threads_of image.now) made 0 counts.now) }
