@@ -3,3 +3,7 @@ pub mod MoveTakes
 pub mod CompareTakes
 pub mod ScanTakes
 pub mod Advancing
+pub mod Beginnings
+pub mod BegunMoves
+pub mod BegunStrings
+pub mod LongOperations

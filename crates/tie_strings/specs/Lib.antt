@@ -3,3 +3,5 @@ pub mod Compares
 pub mod Scans
 pub mod Strings
 pub mod Bodies
+pub mod Begins
+pub mod Whole

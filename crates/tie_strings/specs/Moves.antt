@@ -1,10 +1,10 @@
 -- A string that is being moved.
-use Rattle.std.specs.Prelude.{ℕ, ◌-◌, Bool, true, false, Option, Some, None}
+use Rattle.std.specs.Prelude.{ℕ, ◌-◌, Bool, Option, Some, None}
 use Rattle.vax_form.specs.Script.{Script, ◌>>◌, change}
 use Rattle.vax_form.specs.declared.instr.Width.TheVariants.{Word}
 use Rattle.vax_form.specs.declared.script.End.{End}
 use Rattle.vax_meaning.specs.Codes.{go_to}
-use Rattle.vax_meaning.specs.Memory.{check, write_part}
+use Rattle.vax_meaning.specs.Memory.{write_part}
 use Rattle.vax_meaning.specs.Moves.{with_comparison}
 use Rattle.vax_long.specs.Strings.{beside, move_bytes, fill_bytes, with_moved}
 use Rattle.tie_strings.specs.declared.moving.Fill.{Fill}
@@ -25,9 +25,3 @@ moving_script byte down left from to fill moved = do
   change (with_moved moved.left moved.source moved.destination)
   change (with_comparison Word moved.length moved.room)
   go_to moved.after
-
--- both strings are checked before the first reference
-unfoldable pub check_strings : (source count destination room : ℕ) → Script (Unit {0})
-check_strings source count destination room = do
-  check source count false
-  check destination room true

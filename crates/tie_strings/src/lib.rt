@@ -1,8 +1,18 @@
-//! x
+//! Interprets a long VAX instruction one reference at a time. A `LongTie` keeps the state before the instruction, its
+//! place and the values of its operands; a call, a list of registers and INDEX keep the replies of their body too, at most
+//! 36, and go through it anew, and a string keeps its place and at most one byte. Memory stays with the caller.
+//!
+//! `body` is what comes behind the operands of an instruction without a string, `moving`, `comparing` and `scanning` are
+//! strings under way, `string` goes through any of them, and `tie` is the whole instruction.
 #![tactic(auto)]
 
+mod begun;
 mod body;
 mod comparing;
 mod moving;
 mod scanning;
 mod string;
+mod tie;
+
+pub use tie::LongTie;
+pub use tie_operands::TieStep;
