@@ -1,5 +1,6 @@
 // One instruction, from its bytes to its end.
 use crate::case::Case;
+use crate::interpreted::Interpreted;
 use crate::memory::Memory;
 use anyhow::{Result, bail};
 use std::alloc::{AllocError, Global};
@@ -102,8 +103,13 @@ pub fn ending_of(alloc: Global, case: &Case) -> Result<Ending> {
         writable_pages(alloc)?
     };
     let mut replies = Vec::new(alloc);
+    let mut interpreted = Interpreted::begin(&case.before, instr);
     for _ in 0..REFERENCES {
-        let (raised, state) = match outcome(&case.before, &instr, &pages, &replies) {
+        let outcome = outcome(&case.before, &instr, &pages, &replies);
+        if !interpreted.agrees(&pages, replies.last().copied(), outcome) {
+            bail!("one reference at a time it does not come to {outcome:?}");
+        }
+        let (raised, state) = match outcome {
             Outcome::Wants(reference) => {
                 replies.push(memory.make(reference)?)?;
                 continue;

@@ -1,13 +1,15 @@
 //! Runs the instructions of data/instructions.txt through the decoder and the meaning of the VAX instructions, and says
 //! for each family how many of them end as in that file, where a simulator's answers stand.
 //!
-//! `case` reads a line, `memory` answers references, `ending` runs one instruction, and `difference` compares. `stacks` has
+//! `case` reads a line, `memory` answers references, `ending` runs one instruction, and `difference` compares. Beside it
+//! `interpreted` goes one reference at a time, and comes to the same references in order and the same end. `stacks` has
 //! instructions that push and pop at the ends of a page, worked from the manual.
 #![tactic(auto)]
 
 mod case;
 mod difference;
 mod ending;
+mod interpreted;
 mod memory;
 mod stacks;
 

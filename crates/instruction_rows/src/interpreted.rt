@@ -1,0 +1,42 @@
+// An instruction one reference at a time.
+use tie_interpreter::{Tie, TieStep};
+use tie_strings::LongTie;
+use vax_decode::Decoded;
+use vax_form::{Instr, Outcome, Pages, VaxState, is_long};
+
+#[derive(Drop)]
+pub enum Interpreted {
+    Short(Tie),
+    Long(LongTie),
+}
+
+impl Interpreted {
+    /// Begins the instruction.
+    pub fn begin(state: &VaxState, instr: Instr) -> Interpreted {
+        let decoded = Decoded::Instr(instr);
+        if is_long(instr.opcode) {
+            Interpreted::Long(LongTie::begin_decoded(state, &decoded, 0))
+        } else {
+            Interpreted::Short(Tie::begin_decoded(state, &decoded, 0))
+        }
+    }
+
+    /// Goes on with the reply to the last reference wanted, if there was one.
+    fn step(&mut self, pages: &Pages, reply: Option<u64>) -> TieStep {
+        match self {
+            Interpreted::Short(tie) => tie.step(pages, reply),
+            Interpreted::Long(tie) => tie.step(pages, reply),
+        }
+    }
+
+    /// Whether the next step comes to an outcome.
+    pub fn agrees(&mut self, pages: &Pages, reply: Option<u64>, outcome: Outcome) -> bool {
+        let wanted = match outcome {
+            Outcome::Wants(reference) => TieStep::Want(reference),
+            Outcome::Done(state) => TieStep::Retired(state),
+            Outcome::Exits(state) => TieStep::Exited(state),
+            Outcome::Raises(exception, state) => TieStep::Raised(exception, state),
+        };
+        self.step(pages, reply) == wanted
+    }
+}
