@@ -92,9 +92,11 @@ module _ (p : Placement) (made : Option Round) where
   goes need c d i t at acts way inside rest (suc n) spare round fits =
       let low = at.low in
       stepping n spare round c t i (Goes d) at acts (spare_some need spare round fits)
-      (subst (λ o. Lands o (p.points d.pc) Plain t p d.regs (MayGo p.bonus p.first Plain round c.pc d.pc × Follows p n Plain (spare - 1) (round_after Plain round c.pc d.pc) d t)) (sym inside)
-      ((omega arith, λ back. absurd (omega arith)), rest n (spare - 1) (round_after Plain round c.pc d.pc)
-      (subst (Fits p.bonus made need (spare - 1)) (sym (forth_stepped Plain p.first c.pc d.pc round way)) (one_less need spare round fits))))
+      (subst (λ o. Lands o (p.points d.pc) Plain t p d.regs (MayGo p.bonus p.first Plain round c.pc d.pc × Follows p n Plain (spare - 1) (round_after Plain round c.pc d.pc) d t)) (sym inside) (
+        (omega arith, λ back. absurd (omega arith)),
+        rest n (spare - 1) (round_after Plain round c.pc d.pc)
+            (subst (Fits p.bonus made need (spare - 1)) (sym (forth_stepped Plain p.first c.pc d.pc round way)) (one_less need spare round fits)),
+      ))
 
   -- a branch that is not taken
   pub passes : (need : ℕ) (c : Alpha) (op : BranchOp) (ra : ℕ) (disp : ℤ) (t : Tree) → IsAt p c.pc (Branch op ra disp) → taken op (c.regs ra) ≡ false → p.stops (c.pc + 1) ≡ None
@@ -194,10 +196,11 @@ comes_back p made need c d i t at acts low back inside some enough reads writes 
     let all_made : made_in round ≡ 2 = rw (fits.refs.reads, fits.refs.writes, fits.refs.others, reads, writes, others) refl in
     let gained : block_steps + retry_steps * round.failed + p.bonus * 2 ≤ spare + round.steps = rw all_made at room in
     stepping p (Some made) n spare round c t i (Goes d) at acts (omega arith)
-    (subst (λ o. Lands o (p.points d.pc) Plain t p d.regs (MayGo p.bonus p.first Plain round c.pc d.pc × Follows p n Plain (spare - 1) (round_after Plain round c.pc d.pc) d t)) (sym inside)
-    ((low, λ _. (some, record { reads = fits.refs.reads ∙ reads; writes = fits.refs.writes ∙ writes; others = fits.refs.others ∙ others; steps = omega arith })),
-    subst (λ next. Follows p n Plain (spare - 1) next d t) (sym (begins_round c.pc d.pc back))
-    (rest n (spare - 1) new_round (record { refs = record { reads = refl; writes = refl; others = refl }; within = omega arith; earned = omega arith }))))
+    (subst (λ o. Lands o (p.points d.pc) Plain t p d.regs (MayGo p.bonus p.first Plain round c.pc d.pc × Follows p n Plain (spare - 1) (round_after Plain round c.pc d.pc) d t)) (sym inside) (
+      (low, λ _. (some, record { reads = fits.refs.reads ∙ reads; writes = fits.refs.writes ∙ writes; others = fits.refs.others ∙ others; steps = omega arith })),
+      subst (λ next. Follows p n Plain (spare - 1) next d t) (sym (begins_round c.pc d.pc back))
+          (rest n (spare - 1) new_round (record { refs = record { reads = refl; writes = refl; others = refl }; within = omega arith; earned = omega arith })),
+    ))
   where
     begins_round : (pc pc' : ℕ) → pc' ≤ pc → round_after Plain round pc pc' ≡ new_round
     begins_round pc pc' le = rw (not_less pc pc' le) refl

@@ -58,10 +58,10 @@ differs_over one other pages state compared pair left first second reply at = rw
 abbrev looked_at : Pages → VaxState → Compared → (same : Bool) → (one other left first second : ℕ) → Tree
 looked_at pages state compared same one other left first second = tree_of pages
     (when same
-        then compare_bytes (left - 1) (beside false first) (beside false second)
-        else (do
-          change (with_comparison Byte one other)
-          pure left))
+    then compare_bytes (left - 1) (beside false first) (beside false second)
+    else (do
+      change (with_comparison Byte one other)
+      pure left))
     state (ending pages compared)
 
 second_taken : (pages : Pages) (state : VaxState) (compared : Compared) (pair : Pair) (one left first second reply : ℕ) → pair ≡ Second one

@@ -126,14 +126,7 @@ pub(crate) fn filled_move_begun(
     let room = value_at(values, 3, Size::Word) as u16;
     let destination = value_at(values, 4, Size::Long) as u32;
     match strings_checked(cursor, source, length.min(room), destination, room) {
-        Ok(()) => Ok(filled_move_of(
-            length,
-            source,
-            fill,
-            room,
-            destination,
-            instr.after,
-        )),
+        Ok(()) => Ok(filled_move_of(length, source, fill, room, destination, instr.after)),
         Err(stop) => Err(stop),
     }
 }

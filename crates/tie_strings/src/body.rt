@@ -29,12 +29,7 @@ impl Plain {
 
     /// Does what it does once its operands are evaluated.
     #[tactic(auto, unfolding(vax_long::specs::Instructions::long_body))]
-    fn run(
-        self,
-        cursor: &mut Cursor,
-        instr: &Instr,
-        values: &[Evaluated; 6],
-    ) -> Result<End, Stop>
+    fn run(self, cursor: &mut Cursor, instr: &Instr, values: &[Evaluated; 6]) -> Result<End, Stop>
         ensures plays { Plays (long_body (long_of self) instr.now values.now) cursor.old result cursor.new }
         ensures few { Uses 36 cursor.old result cursor.new }
     {

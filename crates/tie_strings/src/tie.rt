@@ -143,12 +143,7 @@ impl LongTie {
     }
 
     /// MOVC3 behind its operands.
-    fn moved(
-        &mut self,
-        instr: &Instr,
-        values: &[Evaluated; 6],
-        cursor: &mut Cursor,
-    ) -> TieStep
+    fn moved(&mut self, instr: &Instr, values: &[Evaluated; 6], cursor: &mut Cursor) -> TieStep
         ensures shows { Shows (before_of self.old) (closed_at MoveCharacters instr.now values.now cursor.old) result }
         ensures rest { IfWant result (rest_of cursor.old.pages.now self.new ≡ closed_at MoveCharacters instr.now values.now cursor.old) }
         ensures before { before_of self.new ≡ before_of self.old }
@@ -177,12 +172,7 @@ impl LongTie {
     }
 
     /// CMPC3 behind its operands.
-    fn compared(
-        &mut self,
-        instr: &Instr,
-        values: &[Evaluated; 6],
-        cursor: &mut Cursor,
-    ) -> TieStep
+    fn compared(&mut self, instr: &Instr, values: &[Evaluated; 6], cursor: &mut Cursor) -> TieStep
         ensures shows { Shows (before_of self.old) (closed_at CompareCharacters instr.now values.now cursor.old) result }
         ensures rest { IfWant result (rest_of cursor.old.pages.now self.new ≡ closed_at CompareCharacters instr.now values.now cursor.old) }
         ensures before { before_of self.new ≡ before_of self.old }
@@ -191,12 +181,7 @@ impl LongTie {
     }
 
     /// LOCC behind its operands.
-    fn located(
-        &mut self,
-        instr: &Instr,
-        values: &[Evaluated; 6],
-        cursor: &mut Cursor,
-    ) -> TieStep
+    fn located(&mut self, instr: &Instr, values: &[Evaluated; 6], cursor: &mut Cursor) -> TieStep
         ensures shows { Shows (before_of self.old) (closed_at LocateCharacter instr.now values.now cursor.old) result }
         ensures rest { IfWant result (rest_of cursor.old.pages.now self.new ≡ closed_at LocateCharacter instr.now values.now cursor.old) }
         ensures before { before_of self.new ≡ before_of self.old }
@@ -205,12 +190,7 @@ impl LongTie {
     }
 
     /// SKPC behind its operands.
-    fn skipped(
-        &mut self,
-        instr: &Instr,
-        values: &[Evaluated; 6],
-        cursor: &mut Cursor,
-    ) -> TieStep
+    fn skipped(&mut self, instr: &Instr, values: &[Evaluated; 6], cursor: &mut Cursor) -> TieStep
         ensures shows { Shows (before_of self.old) (closed_at SkipCharacter instr.now values.now cursor.old) result }
         ensures rest { IfWant result (rest_of cursor.old.pages.now self.new ≡ closed_at SkipCharacter instr.now values.now cursor.old) }
         ensures before { before_of self.new ≡ before_of self.old }

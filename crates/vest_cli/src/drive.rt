@@ -9,12 +9,12 @@ ghost use Rattle.vest_cli.specs.Driving.{Builds, IsUnderWay, HasRun, HasTurned};
 use crate::run::{BUDGET, LIMIT, MISS};
 use image_file::Image;
 use image_meaning::laws::{page_table_has_bytes, vax_meaning_is_sound};
+use legal_history::laws::{closed_never_interprets, images_are_runs, legal_has_headline};
 use memory_core::MemState;
 use system_model::Translation;
 use system_model::laws::beginnings_are_legal;
 use tie_switch::laws::turns_stay_legal;
 use tie_switch::{Processor, Turn};
-use legal_history::laws::{closed_never_interprets, images_are_runs, legal_has_headline};
 
 // One turn more than the budget has steps, in which it ends.
 const TURNS: u64 = BUDGET + 1;

@@ -31,7 +31,12 @@ fn words_of(alloc: Global, line: &str) -> Result<Vec<String>> {
     Ok(words)
 }
 
-fn run_text(alloc: Global, name: &str, limits: Limits, ranges: &[Range]) -> Result<String, AllocError> {
+fn run_text(
+    alloc: Global,
+    name: &str,
+    limits: Limits,
+    ranges: &[Range],
+) -> Result<String, AllocError> {
     let Limits {
         budget,
         events,
