@@ -11,7 +11,7 @@ use Rattle.vax_form.specs.declared.state.VaxState.{VaxState}
 use Rattle.system_model.specs.Legal.{spent, IsGoing}
 use Rattle.system_model.specs.Processors.{Mode, New, Runs, Interprets, Ended, Processor, Turn, Went, Asks, Over, Lost, alpha_turn, left, mode_by, mode_of, moment_of, placed, stepped, tie_turn, tied, turn, turn_in}
 use Rattle.system_model.specs.Settings.{Setting, goes_on}
-use Rattle.system_model.specs.Steps.{Last, Comes, Fails, Place, Inside, Lands, Leaves, Next, Moves, Wants, Stuck, next}
+use Rattle.system_model.specs.Steps.{Last, Comes, Fails, Place, Inside, Lands, Leaves, Next, Moves, Wants, Stuck, next, settled_last}
 use Rattle.tie_switch.specs.Turns.{IsStill, Makes, IsTurn, has_ended, is_out}
 use Rattle.tie_switch.specs.Turns as turns
 use Rattle.vest_cli.specs.Driving.{SpentHasCause}
@@ -31,15 +31,15 @@ module _ (setting : Setting) (p : Processor) where
   unspent_by (Some word) state regs = refl
 
   unspent_left : (q : Processor) (last : Last) → is_spent (left setting q last).mode ≡ false
-  unspent_left q (Comes (Finish state)) = unspent_by (goes_on setting q.thread state.pc) state _
+  unspent_left q (Comes (Finish state)) = unspent_by (goes_on setting q.thread state) state _
   unspent_left q (Comes (Exit state)) = refl
   unspent_left q (Comes (Trap kind state)) = refl
   unspent_left q (Fails exception) = refl
 
   unspent_placed : (q : Processor) (place : Place) → is_spent (placed setting q place).mode ≡ false
   unspent_placed q (Inside alpha) = refl
-  unspent_placed q (Lands state held regs) = unspent_by (goes_on setting q.thread state.pc) state regs
-  unspent_placed q (Leaves last) = unspent_left q last
+  unspent_placed q (Lands state held regs) = unspent_by (goes_on setting q.thread state) state regs
+  unspent_placed q (Leaves last) = unspent_left q (settled_last q.boundary last)
 
   -- a processor that goes on makes a step or asks, and isn't spent then
   abbrev GoesOn : Turn → Type 0
@@ -61,7 +61,7 @@ module _ (setting : Setting) (p : Processor) where
   goes_in : (mode : Mode) → IsGoing mode → GoesOn (turn_in setting p mode)
   goes_in New g = tt
   goes_in (Runs alpha) g = goes_alpha (next setting (moment_of p) alpha)
-  goes_in (Interprets state replies) g = goes_tie state replies (answer setting.meaning.pages (setting.meaning.tree p.thread state) replies)
+  goes_in (Interprets state replies) g = goes_tie state replies (answer setting.meaning.pages (setting.meaning.moment p.thread state) replies)
   goes_in (Ended end) g = absurd g
 
   going_by : (word : Option ℕ) (state : VaxState) (regs : Regs) → IsGoing (mode_by word state regs)
@@ -69,7 +69,7 @@ module _ (setting : Setting) (p : Processor) where
   going_by (Some word) state regs = tt
 
   going_of : (mode : Mode) → IsGoing mode → IsGoing (mode_of setting p mode)
-  going_of New g = going_by (goes_on setting p.thread p.boundary.pc) p.boundary _
+  going_of New g = going_by (goes_on setting p.thread p.boundary) p.boundary _
   going_of (Runs alpha) g = tt
   going_of (Interprets state replies) g = tt
   going_of (Ended end) g = absurd g
