@@ -1,0 +1,127 @@
+-- A block with a loop: it copies a string upward, byte by byte, and leaves the codes.
+-- VAX Architecture Reference Manual, "Character String Instructions": the registers are those of MOVC3.
+use Rattle.std.specs.Prelude.{ℕ, Bool, zero, suc, pos, negsuc, ◌+◌, ◌%◌, ◌^◌, ◌≤◌, true, false, List, [], ◌∷◌, ◌++◌, length}
+use Rattle.vax_form.specs.Moments.{handled}
+use Rattle.vax_form.specs.State.{IsState, register, with_register, with_pc}
+use Rattle.vax_form.specs.Tree.{Tree, Check, Ask, Ends, Finish}
+use Rattle.vax_form.specs.declared.pages.Pages.{Pages}
+use Rattle.vax_form.specs.declared.state.Flags.{Flags}
+use Rattle.vax_form.specs.declared.state.RefKind.{RefKind}
+use Rattle.vax_form.specs.declared.state.RefKind.TheVariants.{Read, Write}
+use Rattle.vax_form.specs.declared.state.VaxState.{VaxState}
+use Rattle.alpha_encode.specs.declared.instr.AlphaInstr.{AlphaInstr}
+use Rattle.alpha_encode.specs.declared.instr.AlphaInstr.TheVariants.{Memory, Branch, Operate, Pal}
+use Rattle.alpha_encode.specs.declared.instr.BranchOp.TheVariants.{Br, Beq}
+use Rattle.alpha_encode.specs.declared.instr.MemoryOp.TheVariants.{LdqU, LdqL, StqC}
+use Rattle.alpha_encode.specs.declared.instr.OperateOp.TheVariants.{Addq, Addl, Subl, Extwl, Extll, Extbl, Bic, Mskbl, Insbl, Bis}
+use Rattle.alpha_encode.specs.declared.instr.Second.TheVariants.{Register, Literal}
+use Rattle.alpha_meaning.specs.declared.access.AlphaKind.TheVariants.{Load, LoadLocked, StoreConditional}
+use Rattle.alpha_meaning.specs.Pieces.{Kinds, Plain}
+use Rattle.alpha_meaning.specs.State.{Regs, at_place}
+use Rattle.exception_records.specs.Blocks.{BlockValue}
+use Rattle.exception_records.specs.Codes.{all_ready}
+use Rattle.exception_records.specs.Shown.{Shows}
+use Rattle.exception_records.specs.declared.points.Point.{Point}
+use Rattle.block_law.specs.Blocks.{Stands, ExitsLead}
+use Rattle.block_law.specs.Follows.{Follows}
+use Rattle.block_law.specs.Placements.{InForm}
+use Rattle.block_law.specs.Rounds.{block_steps, new_round}
+use Rattle.block_law.specs.Services.{service}
+use Rattle.block_law.specs.Translations.{Meaning, Code, placed, most_words}
+
+-- ---- what it means
+-- R0 has the bytes that are left, R1 and R3 the addresses behind those that were copied
+abbrev pub behind : (left source target : ℕ) → VaxState → VaxState
+behind left source target state = with_register 3 target (with_register 1 source (with_register 0 left state))
+
+-- each byte is read and written before the next
+abbrev pub copied : (left source target : ℕ) → VaxState → Tree
+copied zero source target state = Ends (Finish (behind 0 source target state))
+copied (suc left) source target state =
+    Ask (record { address = source; count = 1; kind = Read })
+    (λ byte. Ask (record { address = target; count = 1; kind = Write byte })
+    (λ done. copied left ((source + 1) % 2 ^ 32) ((target + 1) % 2 ^ 32) state))
+
+-- as many bytes as the low word of R0 says, from the address in R1 to that in R3
+abbrev pub copy_tree : (after : ℕ) → VaxState → Tree
+copy_tree after state =
+    Check (register 1 state) (register 0 state % 2 ^ 16) false
+    (Check (register 3 state) (register 0 state % 2 ^ 16) true
+    (copied (register 0 state % 2 ^ 16) (register 1 state) (register 3 state) (with_pc after state)))
+
+-- a byte is read by a load, and written by a load-locked access and a store conditional of its quadword
+abbrev pub copy_kinds : RefKind → Kinds
+copy_kinds Read Load bytes = true
+copy_kinds (Write value) LoadLocked bytes = true
+copy_kinds (Write value) StoreConditional bytes = true
+copy_kinds other kind bytes = false
+
+-- each access that counts allows as many steps more as a block may take
+abbrev pub copy_meaning : Pages → (after : ℕ) → Meaning
+copy_meaning pages after = record {
+  pages = pages;
+  tree = λ thread state. copy_tree after state;
+  moment = λ thread state. handled pages state (copy_tree after state);
+  serve = service;
+  written = λ address. record { n = false; z = false; v = false; c = false };
+  kinds = λ address reference. copy_kinds reference.kind;
+  bonus = λ address. block_steps;
+}
+
+-- ---- its words
+-- of a probe that takes its count from R21
+abbrev pub point_of : (address : ℕ) → (write : Bool) → Point
+point_of address write = record { vax_pc = address; done = 0; count = 0; write = write; raises = 0; rules = all_ready }
+
+abbrev pub idle : AlphaInstr
+idle = Operate Bis 31 (Register 31) 31
+
+-- R21 gets the count and R27 an address to be probed; then R0 has the bytes that are left
+abbrev pub probe_words : List AlphaInstr
+probe_words =
+    Operate Addq 31 (Register 0) 21
+    ∷ Operate Addq 31 (Register 1) 27
+    ∷ Pal 0x80
+    ∷ Operate Addq 31 (Register 3) 27
+    ∷ Pal 0x80
+    ∷ Operate Extwl 21 (Literal 0) 0
+    ∷ []
+
+-- R22 and R24 get the addresses as numbers below 2^32, R23 the byte
+abbrev pub turn_words : List AlphaInstr
+turn_words =
+    Branch Beq 0 (pos 15)
+    ∷ Operate Extll 1 (Literal 0) 22
+    ∷ Memory LdqU 25 22 (pos 0)
+    ∷ Operate Extbl 25 (Register 22) 23
+    ∷ Operate Extll 3 (Literal 0) 24
+    ∷ Operate Bic 24 (Literal 7) 27
+    ∷ Memory LdqL 25 27 (pos 0)
+    ∷ Operate Mskbl 25 (Register 24) 25
+    ∷ Operate Insbl 23 (Register 24) 26
+    ∷ Operate Bis 25 (Register 26) 25
+    ∷ Memory StqC 25 27 (pos 0)
+    ∷ Branch Beq 25 (negsuc 5)
+    ∷ Operate Addl 1 (Literal 1) 1
+    ∷ Operate Addl 3 (Literal 1) 3
+    ∷ Operate Subl 0 (Literal 1) 0
+    ∷ Branch Br 31 (negsuc 15)
+    ∷ []
+
+abbrev pub copy_words : List AlphaInstr
+copy_words = probe_words ++ turn_words ++ idle ∷ idle ∷ idle ∷ []
+
+-- with an exit behind them
+abbrev pub copy_value : (address after : ℕ) → BlockValue
+copy_value address after = record {
+  words = copy_words;
+  exits = (22, after) ∷ [];
+  points = (0, point_of address false) ∷ (2, point_of address false) ∷ (4, point_of address true) ∷ [];
+}
+
+-- wherever the block stands, it follows the tree, if its exit leads behind the instruction
+abbrev pub Copies : (address after : ℕ) → BlockValue → Type 0
+Copies address after block = (pages : Pages) (code : Code) (first thread n : ℕ) (state : VaxState) (held : Flags) (regs : Regs)
+    → length code.words ≤ most_words → Stands code block first → IsState state → InForm regs → Shows regs address all_ready held state
+    → ExitsLead (placed (copy_meaning pages after) code thread state held first) block.exits first all_ready
+    → Follows (placed (copy_meaning pages after) code thread state held first) n Plain block_steps new_round (at_place regs first) (copy_tree after state)

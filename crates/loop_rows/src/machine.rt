@@ -1,0 +1,98 @@
+// An Alpha processor that runs the block over a memory of its own.
+use alpha_encode::decode;
+use alpha_machine::{AlphaStep, Cpu, finish, step};
+use alpha_meaning::{AlphaAccess, AlphaKind};
+
+/// The address of the first quadword.
+pub const BASE: u64 = 0x1000;
+
+/// The word at which the block's exit begins.
+const EXIT: u32 = 22;
+
+/// The most steps of a run.
+const MOST_STEPS: u32 = 4_000_000;
+
+/// Quadwords from `BASE` on, and of store conditionals each `miss`-th fails, or none where `miss` is 0.
+#[derive(Drop)]
+pub struct Memory {
+    pub quads: Vec<u64>,
+    pub miss: u32,
+    pub stores: u32,
+    /// The accesses that count.
+    pub counted: u32,
+}
+
+/// What a run took.
+#[derive(Clone, Copy)]
+pub struct Run {
+    pub cpu: Cpu,
+    pub steps: u32,
+}
+
+impl Memory {
+    /// The byte at an address; 0 outside.
+    pub fn byte(&self, address: u64) -> u8 {
+        let at = address.wrapping_sub(BASE);
+        match self.quads.get((at / 8) as usize) {
+            Some(quad) => ((*quad >> (8 * (at % 8))) % 256) as u8,
+            None => 0,
+        }
+    }
+
+    /// The quadword that was found, and whether the access was made; None where it is none of a quadword here.
+    fn access(&mut self, access: AlphaAccess) -> Option<(u64, bool)> {
+        let at = access.address.wrapping_sub(BASE);
+        if access.bytes != 8 || at % 8 != 0 {
+            return None;
+        }
+        let quad = self.quads.get_mut((at / 8) as usize)?;
+        let found = *quad;
+        match access.kind {
+            AlphaKind::Load => {}
+            AlphaKind::LoadLocked => return Some((found, true)),
+            AlphaKind::Store => *quad = access.value,
+            AlphaKind::StoreConditional => {
+                self.stores = self.stores.saturating_add(1);
+                if self.miss != 0 && self.stores % self.miss == 0 {
+                    return Some((found, false));
+                }
+                *quad = access.value;
+            }
+        }
+        self.counted = self.counted.saturating_add(1);
+        Some((found, true))
+    }
+
+    /// Whether the bytes of a probe are here.
+    fn has(&self, address: u64, count: u64) -> bool {
+        let end = (self.quads.len() as u64).saturating_mul(8);
+        let at = address.wrapping_sub(BASE);
+        at <= end && count <= end - at
+    }
+
+    /// Runs the block to its exit; None where it asks for what is not here.
+    pub fn run(&mut self, code: &[u32], begun: Cpu) -> Option<Run> {
+        let mut cpu = begun;
+        for steps in 0..MOST_STEPS {
+            if cpu.pc == EXIT {
+                return Some(Run { cpu, steps });
+            }
+            decode(*code.get(cpu.pc as usize)?)?;
+            match step(&mut cpu, code) {
+                AlphaStep::Local => {}
+                AlphaStep::Want(access) => {
+                    let (value, success) = self.access(access)?;
+                    finish(&mut cpu, code, value, success);
+                }
+                AlphaStep::Pal(0x80) => {
+                    if !self.has(cpu.r[27] % (1 << 32), cpu.r[21] % (1 << 16)) {
+                        return None;
+                    }
+                    cpu.pc = cpu.pc.wrapping_add(1);
+                }
+                AlphaStep::Pal(_) => return None,
+            }
+        }
+        None
+    }
+}
