@@ -121,7 +121,7 @@ fn is_translated(setting: Setting<'_>, p: &Processor) -> bool
     ensures { result ≡ true → interprets_next (setting_of setting.entry) (processor_of p.now) ≡ false }
 {
     match p.mode {
-        Mode::New => goes_on(setting, p.thread, p.boundary.pc).is_some(),
+        Mode::New => goes_on(setting, p.thread, &p.boundary).is_some(),
         Mode::Interprets => false,
         Mode::Runs(_) | Mode::Ended(_) => true,
     }

@@ -140,6 +140,13 @@ fn a_memory_sink_fails_at_its_calls(rt: HostRuntime) -> Result<(), Fail> {
         assert_eq!(rt; send(&mut sink, bytes), Some(want));
     }
     assert_eq!(rt; sink.bytes(), b"bce".as_slice());
+    Ok(())
+}
+
+// A call takes at most two bytes.
+#[test]
+fn a_slow_sink_takes_few_bytes(rt: HostRuntime) -> Result<(), Fail> {
+    let alloc = rt.alloc();
     let mut sink = MemorySink::slow(Vec::with_capacity(alloc, 3)?, [2].to_vec(alloc)?, 2);
     for (bytes, want) in [
         (b"abc".as_slice(), Put::Took(2)),
