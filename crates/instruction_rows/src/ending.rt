@@ -29,7 +29,7 @@ const CODE_BYTES: usize = 5120;
 const ALL_PAGES: u32 = 4_194_304;
 
 /// More references than any instruction of the cases makes.
-const REFERENCES: u32 = 1000;
+pub const REFERENCES: u32 = 1000;
 
 /// Pages that have the code from address 0 on, and may be written behind it.
 fn code_pages(alloc: Global, memory: &Memory) -> Result<Pages, AllocError> {

@@ -1,4 +1,7 @@
 // An instruction one reference at a time.
+use crate::ending::REFERENCES;
+use crate::memory::Memory;
+use anyhow::Result;
 use tie_interpreter::{Tie, TieStep};
 use tie_strings::LongTie;
 use vax_decode::Decoded;
@@ -27,6 +30,25 @@ impl Interpreted {
             Interpreted::Short(tie) => tie.step(pages, reply),
             Interpreted::Long(tie) => tie.step(pages, reply),
         }
+    }
+
+    /// Goes on to its end, with the replies of a memory, and counts its references.
+    pub fn end(
+        &mut self,
+        pages: &Pages,
+        memory: &mut Memory,
+        references: &mut u32,
+    ) -> Result<TieStep> {
+        let mut step = self.step(pages, None);
+        for _ in 0..REFERENCES {
+            let TieStep::Want(reference) = step else {
+                break;
+            };
+            let reply = memory.make(reference)?;
+            *references = references.saturating_add(1);
+            step = self.step(pages, Some(reply));
+        }
+        Ok(step)
     }
 
     /// Whether the next step comes to an outcome.

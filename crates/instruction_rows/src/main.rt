@@ -3,7 +3,7 @@
 //!
 //! `case` reads a line, `memory` answers references, `ending` runs one instruction, and `difference` compares. Beside it
 //! `interpreted` goes one reference at a time, and comes to the same references in order and the same end. `stacks` has
-//! instructions that push and pop at the ends of a page, worked from the manual.
+//! instructions that push and pop at the ends of a page, worked from the manual, and `programs` short programs.
 #![tactic(auto)]
 
 mod case;
@@ -11,11 +11,13 @@ mod difference;
 mod ending;
 mod interpreted;
 mod memory;
+mod programs;
 mod stacks;
 
 use crate::case::Case;
 use crate::difference::difference;
 use crate::ending::ending_of;
+use crate::programs::check_programs;
 use crate::stacks::check_stacks;
 use anyhow::{Context, Result};
 use row_tally::{Families, Tally, rows};
@@ -48,5 +50,6 @@ fn run(rt: &(impl Print + AllocGlobal), table: &str) -> Result<Tally> {
 fn main(rt: HostRuntime) -> Result<()> {
     let text = fs::read_to_string(&rt, "instructions.txt").context("instructions.txt")?;
     run(&rt, text.as_str())?.verdict()?;
-    check_stacks(&rt)
+    check_stacks(&rt)?;
+    check_programs(&rt)
 }
