@@ -303,10 +303,12 @@ fn programs_by_hand(rt: HostRuntime) -> Result<(), Fail> {
 #[test]
 fn services(rt: HostRuntime) -> Result<(), Fail> {
     let pages = pages(rt.alloc())?;
-    let mut row = Row::empty(rt.alloc());
-    row.before.set_register(0, 0x1241);
-    row.before.handler = 0x300;
-    row.behind.pc = 0x202;
+    let row = Row::empty(rt.alloc());
+    let mut before = row.before;
+    before.set_register(0, 0x1241);
+    before.handler = 0x300;
+    let mut behind = row.behind;
+    behind.pc = 0x202;
     for (code, replies, reference, r0) in SERVICES {
         let mut operands = [Operand::Unused; 6];
         operands[0] = Operand::Value(code);
@@ -317,9 +319,9 @@ fn services(rt: HostRuntime) -> Result<(), Fail> {
             operands,
             after: 0x202,
         };
-        row.behind.set_register(0, r0);
-        row.behind.handler = if code == 5 { 0x1241 } else { 0x300 };
-        row.behind.pending = if code == 6 {
+        behind.set_register(0, r0);
+        behind.handler = if code == 5 { 0x1241 } else { 0x300 };
+        behind.pending = if code == 6 {
             Pending::Resume
         } else {
             Pending::Nothing
@@ -330,11 +332,11 @@ fn services(rt: HostRuntime) -> Result<(), Fail> {
                 count: 0,
                 kind,
             }),
-            None if code == 1 => Outcome::Exits(row.behind),
-            None => Outcome::Done(row.behind),
+            None if code == 1 => Outcome::Exits(behind),
+            None => Outcome::Done(behind),
         };
         assert_eq!(rt;
-            outcome_of(&row.before, &instr, &pages, 7, replies)?,
+            outcome_of(&before, &instr, &pages, 7, replies)?,
             wanted,
             "{code}"
         );
