@@ -23,6 +23,7 @@ use alpha_meaning::{AlphaAccess, stores};
 use exception_records::Point;
 use image_file::{Image, read_image};
 use memory_core::MemState;
+use std::alloc::Global;
 use std::process::Abort;
 use std::test::Fail;
 use system_model::Translation;
@@ -167,51 +168,105 @@ fn point(vax_pc: u32, count: u8) -> Point {
     }
 }
 
+// What a run of the code with this first word comes to: the shown PC and the entries of the history stand last.
+#[derive(Clone, Copy)]
+struct Case {
+    first: u32,
+    budget: u64,
+    limit: u32,
+    steps: u64,
+    retired: u64,
+    end: End,
+    pc: u32,
+    entries: usize,
+}
+
+fn translation(alloc: Global, first: u32) -> Result<Translation, Fail> {
+    let mut words = Vec::from_slice(alloc, &CODE)?;
+    if let Some(word) = words.first_mut() {
+        *word = first;
+    }
+    let map = build(alloc, &[(0x200, 0), (0x207, 5), (0x20a, 10)])?;
+    let list = vec![in alloc;
+        (1, point(0x200, 4)),
+        (8, point(0x207, 0)),
+        (12, point(0x20a, 0)),
+    ]?;
+    let points = exception_records::build(list)?;
+    Ok(Translation { words, map, points })
+}
+
+fn expect_turns(
+    rt: &impl Abort,
+    image: &Image,
+    code: &Translation,
+    memory: &mut MemState,
+    row: Case,
+)
+    requires image { memory.old.set_up.image ≡ image.now }
+    requires thread { 0 < memory.old.processors }
+{
+    let Some(start) = image.threads.first() else {
+        return;
+    };
+    let mut p = Processor::new(0, start, row.budget);
+    assert!(rt; code.words.len() <= CODE.len());
+    run(rt, image, code, memory, &mut p);
+    assert_eq!(rt;
+        (p.steps(), p.retired(), p.tie_steps()),
+        (row.steps, row.retired, 0)
+    );
+    assert_eq!(rt; (p.end(), p.shown().pc), (Some(row.end), row.pc));
+}
+
+fn expect_row(rt: &impl Abort, alloc: Global, image: &Image, row: Case) -> Result<(), Fail> {
+    let code = translation(alloc, row.first)?;
+    let mut memory = MemState::new(alloc, image, Vec::new(alloc), 1, row.limit, 0)?;
+    expect_turns(rt, image, &code, &mut memory, row);
+    assert_eq!(rt; memory.history().len(), row.entries);
+    if row.retired == 3 {
+        assert_eq!(rt; memory.output(), [0x42].as_slice());
+        assert_eq!(rt; memory.byte(0x1000), Some(0x41));
+    }
+    Ok(())
+}
+
+fn wanted(
+    first: u32,
+    limits: (u64, u32),
+    counts: (u64, u64),
+    end: End,
+    pc: u32,
+    entries: usize,
+) -> Case {
+    Case {
+        first,
+        budget: limits.0,
+        limit: limits.1,
+        steps: counts.0,
+        retired: counts.1,
+        end,
+        pc,
+        entries,
+    }
+}
+
 #[test]
 fn turns(rt: HostRuntime) -> Result<(), Fail> {
     let image = read_image(rt.alloc(), &IMAGE)?;
-    let [start] = image.threads.as_slice() else {
-        return Ok(());
-    };
     let violation = End::Raised(Exception::AccessViolation {
         address: 0x200,
         write: true,
     });
-    // The first word, the budget and the limit of entries; then the steps, the retired instructions, the end, the PC that
-    // is shown, and the entries.
     let rows = [
-        (AT_1000, 100, 10, 13, 3, End::Exit(0x42), 0x20d, 2),
-        (AT_1000, 4, 10, 4, 0, End::Spent, 0x200, 1),
-        (AT_1000, 100, 1, 8, 1, End::Spent, 0x207, 1),
-        (AT_1000, 100, 0, 3, 0, End::Spent, 0x200, 0),
-        (AT_200, 100, 10, 2, 0, violation, 0x200, 0),
+        wanted(AT_1000, (100, 10), (13, 3), End::Exit(0x42), 0x20d, 2),
+        wanted(AT_1000, (4, 10), (4, 0), End::Spent, 0x200, 1),
+        wanted(AT_1000, (100, 1), (8, 1), End::Spent, 0x207, 1),
+        wanted(AT_1000, (100, 0), (3, 0), End::Spent, 0x200, 0),
+        wanted(AT_200, (100, 10), (2, 0), violation, 0x200, 0),
     ];
-    for (first, budget, limit, steps, retired, end, pc, entries) in rows {
-        let mut words = Vec::from_slice(rt.alloc(), &CODE)?;
-        assert_eq!(rt; words.len(), 13);
-        words[0] = first;
-        let map = build(rt.alloc(), &[(0x200, 0), (0x207, 5), (0x20a, 10)])?;
-        let list = vec![in rt.alloc();
-            (1, point(0x200, 4)),
-            (8, point(0x207, 0)),
-            (12, point(0x20a, 0)),
-        ]?;
-        let points = exception_records::build(list)?;
-        let code = Translation { words, map, points };
-        let input = Vec::new(rt.alloc());
-        let mut memory = MemState::new(rt.alloc(), &image, input, 1, limit, 0)?;
-        let mut p = Processor::new(0, start, budget);
-        run(&rt, &image, &code, &mut memory, &mut p);
-        assert_eq!(rt;
-            (p.steps(), p.retired(), p.tie_steps()),
-            (steps, retired, 0)
-        );
-        assert_eq!(rt; (p.end(), p.shown().pc), (Some(end), pc));
-        assert_eq!(rt; memory.history().len(), entries);
-        if retired == 3 {
-            assert_eq!(rt; memory.output(), [0x42].as_slice());
-            assert_eq!(rt; memory.byte(0x1000), Some(0x41));
-        }
+    for row in rows {
+        expect_row(&rt, rt.alloc(), &image, row)?;
     }
     Ok(())
 }
