@@ -4,6 +4,7 @@ ghost use Rattle.alpha_machine.specs.Step.{state_of};
 ghost use Rattle.block_law.specs.Follows as follows;
 ghost use Rattle.block_law.specs.Translations.{most_words};
 ghost use Rattle.exception_records.specs.Points.{point_at};
+ghost use Rattle.image_file.specs.Whole.{IsWhole};
 ghost use Rattle.system_model.specs.Closed.{interprets_next};
 ghost use Rattle.system_model.specs.Processors.{Lost};
 ghost use Rattle.system_model.specs.Processors as model;
@@ -219,7 +220,9 @@ fn expect_turns(
     assert_eq!(rt; (p.end(), p.shown().pc), (Some(row.end), row.pc));
 }
 
-fn expect_row(rt: &impl Abort, alloc: Global, image: &Image, row: Case) -> Result<(), Fail> {
+fn expect_row(rt: &impl Abort, alloc: Global, image: &Image, row: Case) -> Result<(), Fail>
+    requires { IsWhole image.now }
+{
     let code = translation(alloc, row.first)?;
     let mut memory = MemState::new(alloc, image, Vec::new(alloc), 1, row.limit, 0)?;
     expect_turns(rt, image, &code, &mut memory, row);
