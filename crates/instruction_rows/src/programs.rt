@@ -10,6 +10,7 @@ use vax_form::{Exception, PageRange, Pages, Pending, VaxState};
 
 /// Where the code stands, and the page that may be written.
 const CODE: u32 = 0x200;
+
 const DATA: u32 = 0x1000;
 
 /// More instructions than a program has.
