@@ -2,6 +2,7 @@
 use Rattle.std.specs.Prelude.{◌≡◌, ◌⊎◌, ℕ, true, List, [], Some, map, reverse}
 use Rattle.std.specs.List.{AllByRecursion}
 use Rattle.vt_outside.specs.Desk.{DeskMeaning}
+use Rattle.vt_outside.specs.Sink.{SinkMeaning}
 use Rattle.vt_outside.specs.Source.{SourceMeaning}
 use Rattle.image_file.specs.Values.{ImageValue}
 use Rattle.memory_core.specs.Contents.{output_of}
@@ -44,6 +45,22 @@ processors_of kept = map processor_of kept.processors
 -- what they ran
 abbrev pub setting_of : ImageValue → Code → KeptValue → Setting
 setting_of image code kept = image_setting image.pages code kept.ranges
+
+-- a run of a translated image on that input, by the default numbers: its history and its processors are legal and what
+-- the VAX threads do, all threads have ended, and it was delivered
+pub record HasKept (result : Status) (image : ImageValue) (code : Code) (taken : List ℕ) (out out' report report' : SinkMeaning) (kept : KeptValue) : Type 0 where
+  pub kept_image : kept.image ≡ Some image
+  pub kept_code : kept.translation ≡ Some code
+  pub ranges : kept.ranges ≡ []
+  pub input : kept.input ≡ taken
+  pub budget : kept.budget ≡ BUDGET
+  pub limit : kept.limit ≡ LIMIT
+  pub miss : kept.miss ≡ MISS
+  pub legal : IsLegal (setting_of image code kept) (set_up_of image kept) kept.budget (reverse kept.history) (processors_of kept)
+  pub ended : AllByRecursion (λ (p : Processor). has_ended p.mode ≡ true) (processors_of kept)
+  pub spent : AllByRecursion (SpentHasCause kept.budget kept.limit kept.history) (processors_of kept)
+  pub driven : AreDriven (setting_of image code kept) (set_up_of image kept) kept.history (processors_of kept)
+  pub delivered : Delivers result (output_of kept.history) (processors_of kept) out out' report report'
 
 -- `run` made its run: of the file's image, translated, on all the input, by the default numbers
 pub record Runs (result : Status) (name : List ℕ) (old new : Lent) (kept : KeptValue) : Type 0 where
