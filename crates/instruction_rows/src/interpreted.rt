@@ -7,7 +7,7 @@ use tie_strings::LongTie;
 use vax_decode::Decoded;
 use vax_form::{Instr, Outcome, Pages, VaxState, is_long};
 
-#[derive(Drop)]
+#[derive(Clone, Copy)]
 pub enum Interpreted {
     Short(Tie),
     Long(LongTie),
@@ -26,9 +26,19 @@ impl Interpreted {
 
     /// Goes on with the reply to the last reference wanted, if there was one.
     fn step(&mut self, pages: &Pages, reply: Option<u64>) -> TieStep {
-        match self {
-            Interpreted::Short(tie) => tie.step(pages, reply),
-            Interpreted::Long(tie) => tie.step(pages, reply),
+        match *self {
+            Interpreted::Short(mut tie) => {
+                let step = tie.step(pages, reply);
+                let stepped = Interpreted::Short(tie);
+                *self = stepped;
+                step
+            }
+            Interpreted::Long(mut tie) => {
+                let step = tie.step(pages, reply);
+                let stepped = Interpreted::Long(tie);
+                *self = stepped;
+                step
+            }
         }
     }
 

@@ -16,6 +16,7 @@ const DATA: u32 = 0x1000;
 /// More instructions than a program has.
 const INSTRUCTIONS: u32 = 20;
 
+#[derive(Clone, Copy)]
 struct Program {
     name: &'static str,
     code: &'static [u8],
@@ -25,7 +26,7 @@ struct Program {
 }
 
 /// How a program ends: what it raises, the PC, the PSW, R0 and R1, its references, and the bytes.
-#[derive(Debug, PartialEq, Eq)]
+#[derive(Clone, Copy, Debug, PartialEq, Eq)]
 struct Seen {
     raised: Option<Exception>,
     pc: u32,
@@ -94,8 +95,10 @@ impl Program {
                 TieStep::Want(_) => bail!("no end"),
             };
             let mut stored = [0; 5];
-            for (place, byte) in (DATA..).zip(stored.iter_mut()) {
-                *byte = memory.byte(place);
+            let mut address = DATA;
+            for byte in &mut stored {
+                *byte = memory.byte(address);
+                address = address.wrapping_add(1);
             }
             return Ok(Seen {
                 raised,
@@ -128,7 +131,7 @@ static MOVE: [u8; 17] = [
 ];
 
 /// A division by zero traps behind it, a call on an unaligned stack keeps its low bits, and a move that overlaps goes down.
-pub fn check_programs(rt: &(impl Print + AllocGlobal)) -> Result<()> {
+pub fn check_programs(rt: &(impl Print + AllocGlobal)) -> Result<Tally> {
     let mut tally = Tally::NONE;
     let division = Program {
         name: "division by zero",
@@ -179,5 +182,5 @@ pub fn check_programs(rt: &(impl Print + AllocGlobal)) -> Result<()> {
     };
     tally.check(rt, moved.name, &moved.seen(rt.alloc())?, &wanted)?;
     tally.print(rt, "programs")?;
-    tally.verdict()
+    Ok(tally)
 }

@@ -271,9 +271,9 @@ impl Row {
 /// The stack stands at each longword round the begin of the page, and round its end.
 fn check_row(rt: &(impl Print + AllocGlobal), tally: &mut Tally, row: &Row) -> Result<()> {
     let pages = row.pages(rt.alloc())?;
-    for first in [0xFE0, 0x11A0] {
+    for first in [0xFE0_u32, 0x11A0] {
         for step in 0..34 {
-            let stack = first + 4 * step;
+            let stack = first.wrapping_add(4 * step);
             let seen = row.seen(rt.alloc(), &pages, stack)?;
             tally.check(rt, row.name, &seen, &row.wanted(stack))?;
         }
@@ -282,7 +282,7 @@ fn check_row(rt: &(impl Print + AllocGlobal), tally: &mut Tally, row: &Row) -> R
 }
 
 /// Stacks that end within an instruction, or just don't.
-pub fn check_stacks(rt: &(impl Print + AllocGlobal)) -> Result<()> {
+pub fn check_stacks(rt: &(impl Print + AllocGlobal)) -> Result<Tally> {
     let mut tally = Tally::NONE;
     for (name, code, uses, longwords, mask) in ROWS {
         let row = Row {
@@ -294,5 +294,6 @@ pub fn check_stacks(rt: &(impl Print + AllocGlobal)) -> Result<()> {
         };
         check_row(rt, &mut tally, &row)?;
     }
-    tally.print(rt, "stacks round a page")
+    tally.print(rt, "stacks round a page")?;
+    Ok(tally)
 }
