@@ -1,10 +1,8 @@
 // The read-only page that instructions stand in.
-ghost use Rattle.std.specs.Prelude.{◌≡◌, IfSome, true};
+ghost use Rattle.std.specs.Prelude.{◌≡◌, IfOk};
 ghost use Rattle.vax_form.specs.Grammar.{instruction};
 ghost use Rattle.vax_form.specs.GrammarFound.{found};
-ghost use Rattle.alpha_codegen.specs.HasBlock.{has_block};
 
-use alpha_codegen::has_block;
 use anyhow::{Context, Result, bail};
 use row_tally::{longword, pieces};
 use std::alloc::{AllocError, Global};
@@ -56,22 +54,13 @@ impl Page {
 }
 
 /// The instruction at an address.
-pub fn instruction_at(pages: &Pages, at: u32) -> Result<Instr> {
+pub fn instruction_at(pages: &Pages, at: u32) -> Result<Instr>
+    ensures found { IfOk result (λ instr. found pages.now at ≡ instruction instr) }
+    ensures address { IfOk result (λ instr. instr.at ≡ at) }
+{
     match decode_at(pages, at) {
         Decoded::Instr(instr) => Ok(instr),
         _ => bail!("no instruction"),
-    }
-}
-
-/// The instruction at an address, where it has a block.
-pub fn built_at(pages: &Pages, at: u32) -> Option<Instr>
-    ensures found { IfSome result (λ instr. found pages.now at ≡ instruction instr) }
-    ensures address { IfSome result (λ instr. instr.at ≡ at) }
-    ensures block { IfSome result (λ instr. has_block instr ≡ true) }
-{
-    match decode_at(pages, at) {
-        Decoded::Instr(instr) => { if has_block(&instr) { Some(instr) } else { None } }
-        _ => None,
     }
 }
 
