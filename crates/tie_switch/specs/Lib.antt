@@ -3,4 +3,5 @@ pub mod Seen
 pub mod Processors
 pub mod Accesses
 pub mod Turns
+pub mod Interpreted
 pub mod Laws

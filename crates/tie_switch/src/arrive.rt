@@ -27,7 +27,7 @@ pub(crate) fn mode_at(setting: Setting<'_>, thread: u8, state: &VaxState, r: [u6
 }
 
 /// Where the thread has a handler, it takes the exception: a fault with the state before the instruction.
-fn settled(before: &VaxState, last: Last) -> Last
+pub(crate) fn settled(before: &VaxState, last: Last) -> Last
     ensures { seen.last_of result ≡ settled_last before.now (seen.last_of last) }
 {
     match last {

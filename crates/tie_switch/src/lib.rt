@@ -8,8 +8,10 @@
 mod arrive;
 mod call;
 mod first_bad;
+mod interpreted;
 pub mod laws;
 mod next;
+mod pending;
 mod place;
 mod processor;
 mod registers;

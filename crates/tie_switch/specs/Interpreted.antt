@@ -1,0 +1,63 @@
+-- What a thread does at a state, interpreted a reference at a time.
+use Rattle.std.specs.Prelude.{◌≡◌, ◌≢◌, ◌<◌, ℕ, List, [], length}
+use Rattle.vax_form.specs.Moments.{handled_ending, handled_failure}
+use Rattle.vax_form.specs.Tree.{Answer, Wants, Fails, Comes, Finish, Exit, Trap}
+use Rattle.vax_form.specs.declared.pages.Pages.{Pages}
+use Rattle.vax_form.specs.declared.state.Exception.{Exception}
+use Rattle.vax_form.specs.declared.state.Exception.TheVariants.{Arithmetic}
+use Rattle.vax_form.specs.declared.state.Pending.TheVariants.{Nothing}
+use Rattle.vax_form.specs.declared.state.VaxState.{VaxState}
+use Rattle.vax_long.specs.Instructions.{tree_at}
+use Rattle.tie_operands.specs.Replies.{replies_of}
+use Rattle.tie_operands.specs.declared.step.TieStep.{TieStep}
+use Rattle.tie_operands.specs.declared.step.TieStep.TheVariants as ties
+use Rattle.tie_interpreter.specs.Whole as short
+use Rattle.tie_strings.specs.Whole as long
+use Rattle.tie_switch.specs.declared.place.Last.{Last}
+use Rattle.tie_switch.specs.declared.place.Last.TheVariants as lasts
+use Rattle.tie_switch.specs.declared.interpreted.Interpreted.{Interpreted}
+use Rattle.tie_switch.specs.declared.interpreted.Interpreted.TheVariants.{Short, Long, Awaits}
+use Rattle.tie_switch.specs.declared.interpreted.Step.{Step}
+use Rattle.tie_switch.specs.declared.interpreted.Step.TheVariants as steps
+
+-- a delivery and a resumption make so many references at most
+abbrev pub replies_of_pending : ℕ
+replies_of_pending = 10
+
+-- an answer of a tree as a step
+abbrev pub step_of : Answer → Step
+step_of (Wants reference) = steps.Wants reference
+step_of (Fails exception) = steps.Leaves (lasts.Fault exception)
+step_of (Comes (Finish state) left) = steps.Leaves (lasts.Finish state)
+step_of (Comes (Exit state) left) = steps.Leaves (lasts.Exit state)
+step_of (Comes (Trap kind state) left) = steps.Leaves (lasts.Trap kind state)
+
+-- it stands for what the thread does at that state, with these replies made
+abbrev pub Stands : Pages → (thread : ℕ) → Interpreted → VaxState → (replies : List ℕ) → Type 0
+Stands pages thread (Short tie) state replies = (state.pending ≡ Nothing) × short.Stands pages tie state (tree_at pages thread state) replies
+Stands pages thread (Long tie) state replies = (state.pending ≡ Nothing) × long.Stands pages tie state (tree_at pages thread state) replies
+Stands pages thread (Awaits tie) state replies = (state.pending ≢ Nothing) × (tie.before ≡ state) × (replies_of tie.kept ≡ replies) × (length replies < replies_of_pending)
+
+-- a fact where a step wants a reply
+abbrev pub IfWants : Step → Type 0 → Type 0
+IfWants (steps.Wants reference) P = P
+IfWants (steps.Leaves last) P = Unit {0}
+
+-- ---- the handler
+-- an instruction's answer where the handler takes its exceptions
+abbrev pub handled_answer : (before : VaxState) → Answer → Answer
+handled_answer before (Wants reference) = Wants reference
+handled_answer before (Fails exception) = handled_failure before exception []
+handled_answer before (Comes e left) = Comes (handled_ending e) left
+
+-- an arithmetic exception of an instruction is a trap, and every other a fault
+abbrev pub raised_last : Exception → VaxState → Last
+raised_last (Arithmetic kind) state = lasts.Trap kind state
+raised_last exception state = lasts.Fault exception
+
+-- a step of an instruction wants a reply
+abbrev pub IsWant : TieStep → Type 0
+IsWant (ties.Want reference) = Unit {0}
+IsWant (ties.Retired state) = ⊥
+IsWant (ties.Exited state) = ⊥
+IsWant (ties.Raised exception state) = ⊥
