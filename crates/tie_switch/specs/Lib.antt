@@ -1,7 +1,7 @@
 pub mod Settings
+pub mod Interpreted
 pub mod Seen
 pub mod Processors
 pub mod Accesses
 pub mod Turns
-pub mod Interpreted
 pub mod Laws

@@ -1,15 +1,30 @@
--- What contracts see of a processor.
-use Rattle.std.specs.Prelude.{ℕ, ◌≤◌, Option, Some, None}
-use Rattle.system_model.specs.Processors.{Processor}
-use Rattle.system_model.specs.Processors as processors
+-- What contracts see of a processor, and for which processors of the model it stands.
+use Rattle.std.specs.Prelude.{◌≡◌, ◌≢◌, ◌≤◌, ◌++◌, ℕ, Bool, List, Option, Some, None}
+use Rattle.memory_core.specs.Requests.{CanMake}
+use Rattle.memory_core.specs.declared.entry.Entry.{Entry}
+use Rattle.memory_core.specs.declared.entry.Request.{Request}
+use Rattle.memory_core.specs.declared.entry.SetUp.{SetUp}
+use Rattle.alpha_machine.specs.Step.{state_of}
+use Rattle.system_model.specs.Processors.{Processor, Asks, Lost, request_of, turn}
+use Rattle.system_model.specs.Processors as model
+use Rattle.system_model.specs.Settings.{Setting}
 use Rattle.system_model.specs.declared.translation.End.{End}
+use Rattle.vax_form.specs.declared.pages.Pages.{Pages}
 use Rattle.vax_form.specs.declared.state.Flags.{Flags}
+use Rattle.vax_form.specs.Tree.{Wants, answer}
+use Rattle.vax_form.specs.declared.state.Reference.{Reference}
 use Rattle.vax_form.specs.declared.state.VaxState.{VaxState}
+use Rattle.vax_long.specs.Pending.{moment_at}
+use Rattle.tie_operands.specs.Replies.{list_of}
+use Rattle.tie_switch.specs.Interpreted.{Stands}
+use Rattle.tie_switch.specs.declared.interpreted.Interpreted.{Interpreted}
 use Rattle.tie_switch.specs.declared.processor.Mode.{Mode}
+use Rattle.tie_switch.specs.declared.processor.Mode.TheVariants as modes
 use Rattle.tie_switch.specs.declared.processor.Processor.TheInside.{Inside}
 use Rattle.tie_switch.specs.Seen.{mode_of}
+use Rattle.tie_switch.specs.Turns.{IsTurn, Makes}
 
--- a processor with its registers as a list, and the most steps that it may make
+-- a processor, and the most steps that it may make
 pub record Kept : Type 0 where
   pub thread : ℕ
   pub mode : Mode
@@ -32,11 +47,11 @@ kept_of p = record {
   budget = p.budget;
 }
 
--- the processor of the model
-abbrev pub processor_of : Kept → Processor
-processor_of k = record {
+-- the processor of the model in that mode
+abbrev pub in_mode : Kept → model.Mode → Processor
+in_mode k mode = record {
   thread = k.thread;
-  mode = mode_of k.mode k.boundary;
+  mode = mode;
   boundary = k.boundary;
   held = k.held;
   retired = k.retired;
@@ -44,13 +59,84 @@ processor_of k = record {
   ties = k.ties;
 }
 
+-- the processor of the model, where no interpreted instruction is under way
+abbrev pub processor_of : Kept → Processor
+processor_of k = in_mode k (mode_of k.mode k.boundary)
+
 -- each instruction takes a step
 pub record IsCounted (p : Inside) : Type 0 where
   pub retired : p.retired ≤ p.steps
+  pub ties : p.ties ≤ p.steps
   pub steps : p.steps ≤ p.budget
 
-abbrev pub end_of : processors.Mode → Option End
-end_of processors.New = None
-end_of (processors.Runs alpha) = None
-end_of (processors.Interprets state replies) = None
-end_of (processors.Ended end) = Some end
+abbrev pub end_of : model.Mode → Option End
+end_of model.New = None
+end_of (model.Runs alpha) = None
+end_of (model.Interprets state replies) = None
+end_of (model.Ended end) = Some end
+
+-- ---- the processors of the model for which it stands
+-- at an interpreted instruction with its replies so far, the last of which the instruction was not given yet
+pub record IsUnderWay (pages : Pages) (thread : ℕ) (boundary : VaxState) (interpreted : Interpreted) (reply : Option ℕ) (mode : model.Mode) : Type 0 where
+  pub replies : List ℕ
+  pub stands : Stands pages thread interpreted boundary replies
+  pub is : mode ≡ model.Interprets boundary (replies ++ list_of reply)
+
+abbrev pub IsMode : Pages → (thread : ℕ) → (boundary : VaxState) → Mode → model.Mode → Type 0
+IsMode pages thread boundary modes.New mode = mode ≡ model.New
+IsMode pages thread boundary (modes.Runs cpu) mode = mode ≡ model.Runs (state_of cpu)
+IsMode pages thread boundary (modes.Interprets interpreted reply) mode = IsUnderWay pages thread boundary interpreted reply mode
+IsMode pages thread boundary (modes.Ended end) mode = mode ≡ model.Ended end
+
+-- at its first turn, or behind it
+abbrev pub IsStarted : Mode → Type 0
+IsStarted modes.New = ⊥
+IsStarted _ = Unit {0}
+
+-- at an interpreted instruction
+abbrev pub IsInterpreting : Mode → Type 0
+IsInterpreting modes.New = ⊥
+IsInterpreting (modes.Runs cpu) = ⊥
+IsInterpreting (modes.Interprets interpreted reply) = Unit {0}
+IsInterpreting (modes.Ended end) = ⊥
+
+-- which was given the reply to its last reference
+abbrev pub IsGiven : Mode → Type 0
+IsGiven (modes.Interprets interpreted None) = Unit {0}
+IsGiven _ = ⊥
+
+-- it is the processor of the model, but for how the replies to an interpreted instruction are kept
+pub record StandsFor (pages : Pages) (k : Kept) (p : Processor) : Type 0 where
+  pub same : p ≡ in_mode k p.mode
+  pub mode : IsMode pages k.thread k.boundary k.mode p.mode
+
+-- ---- its turns
+-- the processor has a step, and memory can make what it asks for
+pub record CanStep (setting : Setting) (set_up : SetUp) (p : Processor) : Type 0 where
+  pub goes_on : turn setting p ≢ Lost
+  pub asks : (request : Request) (on : ℕ → Bool → Processor) → turn setting p ≡ Asks request on → CanMake set_up request
+
+-- it stands for a processor that has a step
+pub record HasStep (setting : Setting) (set_up : SetUp) (k : Kept) : Type 0 where
+  pub processor : Processor
+  pub stands : StandsFor setting.meaning.pages k processor
+  pub can : CanStep setting set_up processor
+
+-- an interpreted instruction goes on, and memory can make what it asks for
+pub record CanInterpret (pages : Pages) (set_up : SetUp) (k : Kept) : Type 0 where
+  pub state : VaxState
+  pub replies : List ℕ
+  pub mode : IsMode pages k.thread k.boundary k.mode (model.Interprets state replies)
+  pub asks : (reference : Reference) → answer pages (moment_at pages k.thread state) replies ≡ Wants reference → CanMake set_up (request_of k.thread k.retired reference)
+
+-- it stands for the processor that a turn of the model gives
+pub record HasTurned (setting : Setting) (set_up : SetUp) (may_come : List Entry → Type 0) (budget : ℕ) (p : Processor) (k : Kept) (old new : List Entry) : Type 0 where
+  pub processor : Processor
+  pub stands : StandsFor setting.meaning.pages k processor
+  pub turned : IsTurn setting set_up may_come budget p processor old new
+
+-- the same of what is done in a turn
+pub record HasMade (setting : Setting) (set_up : SetUp) (may_come : List Entry → Type 0) (turn : model.Turn) (p : Processor) (k : Kept) (old new : List Entry) : Type 0 where
+  pub processor : Processor
+  pub stands : StandsFor setting.meaning.pages k processor
+  pub makes : Makes turn set_up may_come p processor old new

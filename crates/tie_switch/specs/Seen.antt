@@ -67,9 +67,9 @@ call_of pals.Arithmetic = calls.Arithmetic
 call_of pals.Switch = calls.Switch
 call_of pals.Other = calls.Other
 
--- a processor at an interpreted instruction stands at its boundary
+-- the mode of the model, where no interpreted instruction is under way
 abbrev pub mode_of : Mode → (boundary : VaxState) → processors.Mode
 mode_of modes.New boundary = processors.New
 mode_of (modes.Runs cpu) boundary = processors.Runs (state_of cpu)
-mode_of modes.Interprets boundary = processors.Interprets boundary []
+mode_of (modes.Interprets interpreted reply) boundary = processors.Interprets boundary []
 mode_of (modes.Ended end) boundary = processors.Ended end

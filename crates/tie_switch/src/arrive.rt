@@ -1,13 +1,18 @@
 // Where a step leaves its processor.
-ghost use Rattle.std.specs.Prelude.{◌≡◌, ◌<◌, ◌+◌, suc};
+ghost use Rattle.std.specs.Prelude.{◌≡◌, ◌<◌, ◌+◌, suc, true, []};
 ghost use Rattle.alpha_machine.specs.Step.{state_of};
 ghost use Rattle.alpha_meaning.specs.State.{regs_of};
-ghost use Rattle.system_model.specs.Processors.{Ended, mode_at, stepped, arrived, left, placed};
+ghost use Rattle.system_model.specs.Processors.{mode_at, stepped, left, placed, registers_of};
+ghost use Rattle.system_model.specs.Processors as model;
 ghost use Rattle.system_model.specs.Legal.{spent};
 ghost use Rattle.system_model.specs.Steps.{settled_last};
+ghost use Rattle.tie_switch.specs.Processors.{IsMode};
 ghost use Rattle.tie_switch.specs.Seen as seen;
 ghost use Rattle.tie_switch.specs.Seen.{setting_of};
+ghost use Rattle.tie_switch.specs.Turns.{has_ended};
+ghost use Rattle.vax_form.specs.declared.pages.Pages.{Pages};
 
+use crate::interpreted::Interpreted;
 use crate::place::{Last, Place};
 use crate::processor::{ALL_HELD, Mode, Processor};
 use crate::registers::registers_of;
@@ -16,13 +21,33 @@ use alpha_machine::Cpu;
 use system_model::End;
 use vax_form::{Exception, Flags, VaxState};
 
+/// Interprets what the thread does at a state.
+fn interprets(setting: Setting<'_>, thread: u8, state: &VaxState) -> Mode
+    ensures { IsMode setting.entry.pages.now thread state.now result (model.Interprets state.now []) }
+{
+    Mode::Interprets(Interpreted::begin(state, setting.pages, thread), None)
+}
+
 /// The mode at a boundary, with these registers in Alpha code.
-pub(crate) fn mode_at(setting: Setting<'_>, thread: u8, state: &VaxState, r: [u64; 32]) -> Mode
-    ensures { seen.mode_of result state.now ≡ mode_at (setting_of setting.entry) thread state.now (regs_of r) }
+fn mode_with(setting: Setting<'_>, thread: u8, state: &VaxState, r: [u64; 32]) -> Mode
+    ensures { IsMode setting.entry.pages.now thread state.now result (mode_at (setting_of setting.entry) thread state.now (regs_of r)) }
 {
     match goes_on(setting, thread, state) {
         Some(pc) => Mode::Runs(Cpu { r, pc }),
-        None => Mode::Interprets,
+        None => interprets(setting, thread, state),
+    }
+}
+
+/// The mode at a boundary, with the registers of its state in Alpha code.
+pub(crate) fn mode_at(setting: Setting<'_>, thread: u8, state: &VaxState) -> Mode
+    ensures { IsMode setting.entry.pages.now thread state.now result (mode_at (setting_of setting.entry) thread state.now (registers_of state.now)) }
+{
+    match goes_on(setting, thread, state) {
+        Some(pc) => Mode::Runs(Cpu {
+            r: registers_of(state),
+            pc,
+        }),
+        None => interprets(setting, thread, state),
     }
 }
 
@@ -50,26 +75,28 @@ pub(crate) fn settled(before: &VaxState, last: Last) -> Last
 }
 
 impl Processor {
-    ghost use Rattle.tie_switch.specs.Processors.{processor_of};
+    ghost use Rattle.tie_switch.specs.Processors.{in_mode, processor_of, IsMode, StandsFor};
 
     /// It makes no more steps.
     pub(crate) fn spend(&mut self)
-        ensures is { processor_of self.new ≡ spent (processor_of self.old) }
+        ensures stands { (pages : Pages) (mode : model.Mode) → StandsFor pages self.new (spent (in_mode self.old mode)) }
+        ensures ended { has_ended (processor_of self.new).mode ≡ true }
         ensures budget { self.new.budget ≡ self.old.budget }
         ensures thread { self.new.thread ≡ self.old.thread }
     {
         self.mode = Mode::Ended(End::Spent);
     }
 
-    // It retires its instruction and arrives at a boundary.
-    fn arrive(&mut self, setting: Setting<'_>, state: VaxState, held: Flags, r: [u64; 32])
+    // It retires its instruction and arrives at a boundary, in that mode.
+    fn arrive(&mut self, mode: Mode, state: VaxState, held: Flags)
         requires { self.old.retired < self.old.steps }
-        ensures is { processor_of self.new ≡ arrived (setting_of setting.entry) (processor_of self.old) state held (regs_of r) }
+        ensures stands { (pages : Pages) (before after : model.Mode) → IsMode pages self.old.thread state mode after
+            → StandsFor pages self.new (record (in_mode self.old before) { mode = after; boundary = state; held = held; retired = suc self.old.retired }) }
         ensures budget { self.new.budget ≡ self.old.budget }
         ensures thread { self.new.thread ≡ self.old.thread }
         ensures steps { self.new.steps ≡ self.old.steps }
     {
-        self.mode = mode_at(setting, self.thread, &state, r);
+        self.mode = mode;
         self.boundary = state;
         self.held = held;
         self.retired += 1;
@@ -78,7 +105,7 @@ impl Processor {
     // It retires its instruction and ends.
     fn retire_and_end(&mut self, state: VaxState, end: End)
         requires { self.old.retired < self.old.steps }
-        ensures is { processor_of self.new ≡ record (processor_of self.old) { mode = Ended end; boundary = state; retired = suc (processor_of self.old).retired } }
+        ensures stands { (pages : Pages) (before : model.Mode) → StandsFor pages self.new (record (in_mode self.old before) { mode = model.Ended end; boundary = state; retired = suc self.old.retired }) }
         ensures budget { self.new.budget ≡ self.old.budget }
         ensures thread { self.new.thread ≡ self.old.thread }
         ensures steps { self.new.steps ≡ self.old.steps }
@@ -88,16 +115,19 @@ impl Processor {
         self.retired += 1;
     }
 
-    // Its instruction ended: it goes on, or it ends. A fault retires nothing and leaves the boundary.
-    fn leave(&mut self, setting: Setting<'_>, last: Last)
+    /// Its instruction ended: it goes on, or it ends. A fault retires nothing and leaves the boundary.
+    pub(crate) fn leave(&mut self, setting: Setting<'_>, last: Last)
         requires { self.old.retired < self.old.steps }
-        ensures is { processor_of self.new ≡ left (setting_of setting.entry) (processor_of self.old) (seen.last_of last) }
+        ensures stands { (mode : model.Mode) → StandsFor setting.entry.pages.now self.new (left (setting_of setting.entry) (in_mode self.old mode) (seen.last_of last)) }
         ensures budget { self.new.budget ≡ self.old.budget }
         ensures thread { self.new.thread ≡ self.old.thread }
         ensures steps { self.new.steps ≡ self.old.steps }
     {
         match last {
-            Last::Finish(state) => self.arrive(setting, state, ALL_HELD, registers_of(&state)),
+            Last::Finish(state) => {
+                let mode = mode_at(setting, self.thread, &state);
+                self.arrive(mode, state, ALL_HELD);
+            }
             Last::Exit(state) => self.retire_and_end(state, End::Exit(state.register(0))),
             Last::Trap(kind, state) => {
                 self.retire_and_end(state, End::Raised(Exception::Arithmetic(kind)));
@@ -106,10 +136,10 @@ impl Processor {
         }
     }
 
-    /// Goes where a step leads, which it counts.
+    /// Goes where a step of Alpha code leads, which it counts.
     pub(crate) fn go_to(&mut self, setting: Setting<'_>, place: Place)
         requires { self.old.steps < self.old.budget }
-        ensures is { processor_of self.new ≡ placed (setting_of setting.entry) (stepped (processor_of self.old)) (seen.place_of place) }
+        ensures stands { (mode : model.Mode) → StandsFor setting.entry.pages.now self.new (placed (setting_of setting.entry) (stepped (in_mode self.old mode)) (seen.place_of place)) }
         ensures budget { self.new.budget ≡ self.old.budget }
         ensures thread { self.new.thread ≡ self.old.thread }
         ensures steps { self.new.steps ≡ self.old.steps + 1 }
@@ -117,7 +147,10 @@ impl Processor {
         self.steps += 1;
         match place {
             Place::Inside(cpu) => self.mode = Mode::Runs(cpu),
-            Place::Lands { state, held, cpu } => self.arrive(setting, state, held, cpu.r),
+            Place::Lands { state, held, cpu } => {
+                let mode = mode_with(setting, self.thread, &state, cpu.r);
+                self.arrive(mode, state, held);
+            }
             Place::Leaves(last) => {
                 let before = self.boundary;
                 self.leave(setting, settled(&before, last));

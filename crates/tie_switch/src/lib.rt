@@ -1,8 +1,8 @@
-//! A processor and its turn: one step of one thread, in translated code.
+//! A processor and its turn: one step of one thread, in translated code or interpreted.
 //!
 //! `processor` keeps a thread between its turns, `next` gives what the word at which it stands does, `call` has the
-//! PALcode calls, `request` the accesses to memory, `registers` what Alpha registers show of a VAX state, and `turn` makes
-//! one step over any memory.
+//! PALcode calls, `request` and `reference` the accesses to memory, `registers` what Alpha registers show of a VAX state,
+//! `interpreted` what a thread does at a state a reference at a time, and `turn` makes one step over any memory.
 #![tactic(auto)]
 
 mod arrive;
@@ -14,11 +14,11 @@ mod next;
 mod pending;
 mod place;
 mod processor;
+mod reference;
 mod registers;
 mod request;
 mod setting;
-#[cfg(test)]
-mod tests;
+mod tie;
 mod turn;
 
 pub use processor::Processor;

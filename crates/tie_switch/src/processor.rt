@@ -1,9 +1,10 @@
 // A thread between its turns.
 ghost use Rattle.std.specs.Prelude.{◌≡◌, ◌<◌, suc};
 ghost use Rattle.image_file.specs.Start.{start_state};
-ghost use Rattle.system_model.specs.Closed.{is_interpreting};
+ghost use Rattle.vax_form.specs.declared.pages.Pages.{Pages};
 ghost use Rattle.system_model.specs.Processors.{begun};
 
+use crate::interpreted::Interpreted;
 use alpha_machine::Cpu;
 use image_file::Start;
 use std::marker::Model;
@@ -16,8 +17,8 @@ pub(crate) enum Mode {
     New,
     /// In translated code.
     Runs(Cpu),
-    /// At an interpreted instruction.
-    Interprets,
+    /// At what is interpreted, with the reply to its last reference.
+    Interprets(Interpreted, Option<u64>),
     Ended(End),
 }
 
@@ -54,11 +55,11 @@ pub(crate) const ALL_HELD: Flags = Flags {
 };
 
 impl Processor {
-    ghost use Rattle.tie_switch.specs.Processors.{processor_of, end_of};
+    ghost use Rattle.tie_switch.specs.Processors.{processor_of, StandsFor, end_of};
 
     /// A processor before its first turn, which may make so many steps.
     pub fn new(thread: u8, start: &Start, budget: u64) -> Processor
-        ensures is { processor_of result ≡ begun thread (start_state start.now) }
+        ensures stands { (pages : Pages) → StandsFor pages result (begun thread (start_state start.now)) }
         ensures budget { result.budget ≡ budget }
     {
         Processor {
@@ -105,7 +106,7 @@ impl Processor {
     {
         match self.mode {
             Mode::Ended(end) => Some(end),
-            Mode::New | Mode::Runs(_) | Mode::Interprets => None,
+            Mode::New | Mode::Runs(_) | Mode::Interprets(..) => None,
         }
     }
 
@@ -114,12 +115,5 @@ impl Processor {
         ensures { result ≡ self.now.boundary }
     {
         self.boundary
-    }
-
-    /// Whether it stands at an instruction that is interpreted.
-    pub fn is_interpreting(&self) -> bool
-        ensures { result ≡ is_interpreting (processor_of self.now).mode }
-    {
-        matches!(self.mode, Mode::Interprets)
     }
 }

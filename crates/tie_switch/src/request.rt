@@ -1,6 +1,7 @@
 // The requests of Alpha code's accesses.
-ghost use Rattle.std.specs.Prelude.{◌≡◌, ◌+◌, ◌≤◌, ◌%◌, true};
+ghost use Rattle.std.specs.Prelude.{◌≡◌, ◌+◌, ◌*◌, ◌≤◌, ◌<◌, ◌%◌, ◌^◌, true};
 ghost use Rattle.system_model.specs.Processors.{moment_of};
+ghost use Rattle.system_model.specs.Quadwords.{stored};
 ghost use Rattle.system_model.specs.Steps.{kind_of, change_of, is_defined, request_for};
 ghost use Rattle.tie_switch.specs.Accesses.{IsAccess, CanAsk};
 ghost use Rattle.tie_switch.specs.Seen.{setting_of};
@@ -22,6 +23,21 @@ fn kind_of(kind: AlphaKind) -> Kind
     }
 }
 
+/// So many bytes of a value from that byte of a quadword on.
+pub(crate) fn stored(place: u8, count: u8, value: u64) -> Change
+    requires place { place < 8 }
+    requires within { place + count ≤ 8 }
+    requires value { value * 2 ^ (8 * place) < 2 ^ 64 }
+    ensures change { result ≡ stored place count value }
+    ensures range { IsInRange result }
+{
+    let mask = (1u32 << (place + count)) - (1u32 << place);
+    Change::Bytes {
+        mask: mask as u8,
+        value: value << (8 * place),
+    }
+}
+
 /// A store changes its bytes of the quadword.
 fn change_of(access: AlphaAccess) -> Change
     requires access { IsAccess access }
@@ -29,15 +45,10 @@ fn change_of(access: AlphaAccess) -> Change
     ensures change { result ≡ change_of access }
     ensures range { IsInRange result }
 {
-    if !stores(access.kind) {
-        return Change::Nothing;
-    }
-    let at = (access.address % 8) as u32;
-    let bytes = (1u32 << access.bytes) - 1;
-    let mask = bytes << at;
-    Change::Bytes {
-        mask: mask as u8,
-        value: access.value << (8 * at),
+    if stores(access.kind) {
+        stored((access.address % 8) as u8, access.bytes, access.value)
+    } else {
+        Change::Nothing
     }
 }
 

@@ -1,20 +1,18 @@
 // One turn of a processor.
-ghost use Rattle.std.specs.Prelude.{◌≡◌, ◌≢◌, ◌≤◌, ◌<◌, ◌+◌, ◌↔◌, ◌⊎◌, ℕ, false, true, length, MatchOption};
+ghost use Rattle.std.specs.Prelude.{◌≡◌, ◌≢◌, ◌≤◌, ◌<◌, ◌+◌, ◌↔◌, ◌⊎◌, ℕ, false, true, length};
 ghost use Rattle.alpha_machine.specs.Step.{state_of};
 ghost use Rattle.block_law.specs.Translations.{most_words};
-ghost use Rattle.memory_core.specs.Seen.{IsNext, IsOver};
-ghost use Rattle.system_model.specs.Closed.{interprets_next};
-ghost use Rattle.tie_switch.specs.Settings.{image_setting};
-ghost use Rattle.system_model.specs.Processors.{Runs, Lost, mode_of, alpha_turn, moment_of};
+ghost use Rattle.system_model.specs.Processors.{mode_of, alpha_turn, moment_of};
 ghost use Rattle.system_model.specs.Processors as model;
 ghost use Rattle.system_model.specs.Steps.{Stuck, next};
+ghost use Rattle.tie_switch.specs.Processors.{HasMade, HasStep, HasTurned, IsMode, IsStarted};
 ghost use Rattle.tie_switch.specs.Seen.{setting_of};
-ghost use Rattle.tie_switch.specs.Turns.{IsTurn, Makes, has_ended};
+ghost use Rattle.tie_switch.specs.Settings.{image_setting};
+ghost use Rattle.tie_switch.specs.Turns.{has_ended};
 
 use crate::arrive::mode_at;
 use crate::place::Next;
 use crate::processor::{Mode, Processor};
-use crate::registers::registers_of;
 use crate::setting::Setting;
 use alpha_machine::Cpu;
 use image_file::Image;
@@ -29,31 +27,25 @@ pub enum Turn {
 }
 
 impl Processor {
-    ghost use Rattle.tie_switch.specs.Processors.{processor_of};
+    ghost use Rattle.tie_switch.specs.Processors.{in_mode, processor_of, StandsFor};
 
-    /// Where it stands in Alpha code; None where it has ended.
-    pub(crate) fn cpu(&self, setting: Setting<'_>) -> Option<Cpu>
-        requires { interprets_next (setting_of setting) (processor_of self.now) ≡ false }
-        ensures { MatchOption result (has_ended (processor_of self.now).mode ≡ true)
-            (λ cpu. (has_ended (processor_of self.now).mode ≡ false) × (mode_of (setting_of setting.entry) (processor_of self.now) (processor_of self.now).mode ≡ Runs (state_of cpu))) }
+    // At its first turn it stands at its first boundary.
+    fn start(&mut self, setting: Setting<'_>)
+        ensures starts { (mode : model.Mode) → IsMode setting.entry.pages.now self.old.thread self.old.boundary self.old.mode mode
+            → IsMode setting.entry.pages.now self.old.thread self.old.boundary self.new.mode (mode_of (setting_of setting.entry) (in_mode self.old mode) mode) }
+        ensures started { IsStarted self.new.mode }
+        ensures same { (mode : model.Mode) → in_mode self.new mode ≡ in_mode self.old mode }
+        ensures thread { self.new.thread ≡ self.old.thread }
+        ensures steps { self.new.steps ≡ self.old.steps }
+        ensures budget { self.new.budget ≡ self.old.budget }
     {
-        let mode = match self.mode {
-            Mode::New => mode_at(
-                setting,
-                self.thread,
-                &self.boundary,
-                registers_of(&self.boundary),
-            ),
-            mode => mode,
-        };
-        match mode {
-            Mode::Runs(cpu) => Some(cpu),
-            Mode::New | Mode::Interprets | Mode::Ended(_) => None,
+        if let Mode::New = self.mode {
+            self.mode = mode_at(setting, self.thread, &self.boundary);
         }
     }
 
     // Makes one step in Alpha code, with at most one access.
-    fn step_once<M: Memory>(&mut self, setting: Setting<'_>, cpu: Cpu, memory: &mut M)
+    fn alpha_step<M: Memory>(&mut self, setting: Setting<'_>, cpu: Cpu, memory: &mut M)
         requires few { length setting.code.now.words ≤ most_words }
         requires pages { (M.set_up memory.old).image.pages ≡ setting.pages.now }
         requires serves { M.serves memory.old self.old.thread }
@@ -65,8 +57,9 @@ impl Processor {
         ensures budget { self.new.budget ≡ self.old.budget }
         ensures thread { self.new.thread ≡ self.old.thread }
         ensures steps { has_ended (processor_of self.new).mode ≡ false → self.new.steps ≡ self.old.steps + 1 }
-        ensures turned { Makes (alpha_turn (setting_of setting.entry) (processor_of self.old) (next (setting_of setting.entry) (moment_of (processor_of self.old)) (state_of cpu)))
-            (M.set_up memory.old) (M.between memory.old) (processor_of self.old) (processor_of self.new) (M.seen memory.old) (M.seen memory.new) }
+        ensures turned { (mode : model.Mode) → HasMade (setting_of setting.entry) (M.set_up memory.old) (M.between memory.old)
+            (alpha_turn (setting_of setting.entry) (in_mode self.old mode) (next (setting_of setting.entry) (moment_of (in_mode self.old mode)) (state_of cpu)))
+            (in_mode self.old mode) self.new (M.seen memory.old) (M.seen memory.new) }
     {
         match self.next(setting, cpu) {
             Next::Moves(place) => self.go_to(setting, place),
@@ -80,8 +73,59 @@ impl Processor {
         }
     }
 
-    /// One turn of the processor: one step of its Alpha code, with at most one access. One that has ended stays as it is.
-    /// It ends as spent where its steps equal its budget, and where the history is full.
+    // Makes the step that it has.
+    fn make_step<M: Memory>(&mut self, setting: Setting<'_>, memory: &mut M)
+        requires few { length setting.code.now.words ≤ most_words }
+        requires pages { (M.set_up memory.old).image.pages ≡ setting.pages.now }
+        requires serves { M.serves memory.old self.old.thread }
+        requires steps { self.old.steps < self.old.budget }
+        requires going { has_ended (processor_of self.old).mode ≡ false }
+        requires has_step { HasStep (setting_of setting) (M.set_up memory.old) self.old }
+        ensures set_up { M.set_up memory.new ≡ M.set_up memory.old }
+        ensures place { (memory.new ≡ memory.old) ⊎ M.same memory.old memory.new }
+        ensures serves { (thread : ℕ) → M.serves memory.old thread ↔ M.serves memory.new thread }
+        ensures budget { self.new.budget ≡ self.old.budget }
+        ensures thread { self.new.thread ≡ self.old.thread }
+        ensures steps { has_ended (processor_of self.new).mode ≡ false → self.new.steps ≡ self.old.steps + 1 }
+        ensures turned { (p : model.Processor) → StandsFor setting.entry.pages.now self.old p
+            → HasMade (setting_of setting.entry) (M.set_up memory.old) (M.between memory.old) (model.turn (setting_of setting.entry) p) p self.new (M.seen memory.old) (M.seen memory.new) }
+    {
+        self.start(setting);
+        match self.mode {
+            Mode::Runs(cpu) => self.alpha_step(setting, cpu, memory),
+            Mode::Interprets(..) => self.tie_step(setting, memory),
+            Mode::New | Mode::Ended(_) => unreachable!(),
+        }
+    }
+
+    // Takes its turn, if it has not ended.
+    fn take_turn<M: Memory>(&mut self, setting: Setting<'_>, memory: &mut M)
+        requires few { length setting.code.now.words ≤ most_words }
+        requires pages { (M.set_up memory.old).image.pages ≡ setting.pages.now }
+        requires serves { M.serves memory.old self.old.thread }
+        requires has_step { HasStep (setting_of setting) (M.set_up memory.old) self.old }
+        ensures set_up { M.set_up memory.new ≡ M.set_up memory.old }
+        ensures place { (memory.new ≡ memory.old) ⊎ M.same memory.old memory.new }
+        ensures serves { (thread : ℕ) → M.serves memory.old thread ↔ M.serves memory.new thread }
+        ensures budget { self.new.budget ≡ self.old.budget }
+        ensures thread { self.new.thread ≡ self.old.thread }
+        ensures steps { has_ended (processor_of self.new).mode ≡ false → self.new.steps ≡ self.old.steps + 1 }
+        ensures turned { (p : model.Processor) → StandsFor setting.entry.pages.now self.old p
+            → HasTurned (setting_of setting.entry) (M.set_up memory.old) (M.between memory.old) self.old.budget p self.new (M.seen memory.old) (M.seen memory.new) }
+    {
+        if self.end().is_some() {
+            return;
+        }
+        if self.steps == self.budget {
+            self.spend();
+            return;
+        }
+        self.make_step(setting, memory);
+    }
+
+    /// One turn of the processor: one step, in Alpha code or interpreted, with at most one access. One that has ended stays
+    /// as it is. It ends as spent where its steps equal its budget, and where the history is full. Each processor of the
+    /// model for which it stands makes that turn, and it stands for what that becomes.
     pub fn turn<M: Memory>(
         &mut self,
         image: &Image,
@@ -92,8 +136,7 @@ impl Processor {
         requires few { length translation.now.words ≤ most_words }
         requires pages { (M.set_up memory.old).image.pages ≡ image.now.pages }
         requires serves { M.serves memory.old self.old.thread }
-        requires translated { interprets_next (image_setting image.now.pages translation.now ranges.now) (processor_of self.old) ≡ false }
-        requires goes_on { model.turn (image_setting image.now.pages translation.now ranges.now) (processor_of self.old) ≢ Lost }
+        requires has_step { HasStep (image_setting image.now.pages translation.now ranges.now) (M.set_up memory.old) self.old }
         ensures set_up { M.set_up memory.new ≡ M.set_up memory.old }
         ensures place { (memory.new ≡ memory.old) ⊎ M.same memory.old memory.new }
         ensures serves { (thread : ℕ) → M.serves memory.old thread ↔ M.serves memory.new thread }
@@ -101,8 +144,8 @@ impl Processor {
         ensures thread { self.new.thread ≡ self.old.thread }
         ensures steps { result ≡ Turn.Went → self.new.steps ≡ self.old.steps + 1 }
         ensures few_steps { self.new.steps ≤ self.new.budget }
-        ensures turned { IsTurn (image_setting image.now.pages translation.now ranges.now) (M.set_up memory.old) (M.between memory.old) self.old.budget
-            (processor_of self.old) (processor_of self.new) (M.seen memory.old) (M.seen memory.new) }
+        ensures turned { (p : model.Processor) → StandsFor image.now.pages self.old p
+            → HasTurned (image_setting image.now.pages translation.now ranges.now) (M.set_up memory.old) (M.between memory.old) self.old.budget p self.new (M.seen memory.old) (M.seen memory.new) }
         ensures ended { (result ≡ Turn.Ended) ↔ (has_ended (processor_of self.new).mode ≡ true) }
     {
         let setting = Setting {
@@ -110,13 +153,8 @@ impl Processor {
             code: translation,
             ranges,
         };
-        if let Some(cpu) = self.cpu(setting) {
-            if self.steps == self.budget {
-                self.spend();
-            } else {
-                self.step_once(setting, cpu, memory);
-            }
-        }
+        self.take_turn(setting, memory);
+        let _ = &self.steps;
         if self.end().is_some() {
             Turn::Ended
         } else {

@@ -1,0 +1,88 @@
+-- An interpreted step is a turn of the model.
+use Rattle.std.proofs.Common.{◌≡◌, ℕ, [], ◌∷◌, ◌++◌, inl, inr, refl, sym, ap, ◌∙◌, subst}
+use Rattle.memory_core.specs.Seen.{IsNext, IsOver}
+use Rattle.memory_core.specs.declared.entry.Request.{Request}
+use Rattle.system_model.specs.Legal.{spent}
+use Rattle.system_model.specs.Processors.{Interprets, Mode, Processor, Turn, left, request_of, tie_turn, tied}
+use Rattle.system_model.specs.Quadwords.{reply_found}
+use Rattle.vax_form.specs.Tree.{Answer}
+use Rattle.vax_form.specs.declared.state.VaxState.{VaxState}
+use Rattle.tie_switch.specs.Interpreted.{IfWants}
+use Rattle.tie_switch.specs.Processors.{HasMade, IsMode, StandsFor, in_mode}
+use Rattle.tie_switch.specs.Seen.{last_of, setting_of}
+use Rattle.tie_switch.specs.declared.interpreted.Step.{Step}
+use Rattle.tie_switch.proofs.Standing.{wants_is, leaves_is}
+use Rattle.tie_switch.proofs.processor.Processor.tie_step.Goals as goal
+
+pub returns-in-Made-clause-turned : goal.returns-in-Made-clause-turned
+returns-in-Made-clause-turned g c before state replies h =
+    let setting = setting_of c.args.setting in
+    let pages = c.args.setting.pages.now in
+    let old = c.args.self.now in
+    let p = in_mode old before in
+    let reference = c.in-Wants.reference in
+    let set_up = g.M.Memory.set_up c.args.memory.now in
+    let between = g.M.Memory.between c.args.memory.now in
+    let seen = g.M.Memory.seen c.args.memory.now in
+    let seen' = g.M.Memory.seen c.access.new.self in
+    let reply = reply_found reference c.in-Made.before in
+    let wants = wants_is _ reference (sym (c.interpret.ensures.answers state replies h) ∙ c.in-Wants.is) in
+    let there = subst (λ (s : Step). IfWants s (IsMode pages old.thread old.boundary c.interpret.new.self.mode (Interprets state replies))) c.in-Wants.is (c.interpret.ensures.stands state replies h) in
+    let same : (mode : Mode) → in_mode c.interpret.new.self mode ≡ in_mode old mode = c.interpret.ensures.same in
+    let thread : c.interpret.new.self.thread ≡ old.thread = ap (λ (x : Processor). x.thread) (same before) in
+    let retired : c.interpret.new.self.retired ≡ old.retired = ap (λ (x : Processor). x.retired) (same before) in
+    let boundary : c.interpret.new.self.boundary ≡ old.boundary = ap (λ (x : Processor). x.boundary) (same before) in
+    let request : c.reference_request-request.result ≡ request_of old.thread old.retired reference =
+    c.reference_request-request.ensures ∙ ap (λ t. request_of t c.interpret.new.self.retired reference) thread ∙ ap (λ r. request_of old.thread r reference) retired in
+    let entry = subst (λ (r : Request). IsNext set_up between r c.in-Made.before c.in-Made.success seen seen') request c.in-Made.ensures.reply in
+    let here = subst (λ t. IsMode pages t c.interpret.new.self.boundary c.interpret.new.self.mode (Interprets state replies)) (sym thread)
+    (subst (λ (b : VaxState). IsMode pages old.thread b c.interpret.new.self.mode (Interprets state replies)) (sym boundary) there) in
+    let next : ℕ → Processor → Processor = λ n x. record (tied x) { mode = Interprets state (replies ++ n ∷ []) } in
+    let stands = subst (λ (x : Processor). StandsFor pages c.take_reply.new.self (next c.reply_found.result x)) (same before) (c.take_reply.ensures.stands pages before state replies here) in
+    subst (λ (a : Answer). HasMade setting set_up between (tie_turn setting p state replies a) p c.take_reply.new.self seen seen') (sym wants)
+    (record {
+      processor = next reply p;
+      stands = subst (λ n. StandsFor pages c.take_reply.new.self (next n p)) c.reply_found.ensures stands;
+      makes = inl (record { before = c.in-Made.before; success = c.in-Made.success; entry = entry; goes = refl });
+    })
+
+pub returns-in-Full-clause-turned : goal.returns-in-Full-clause-turned
+returns-in-Full-clause-turned g c before state replies h =
+    let setting = setting_of c.args.setting in
+    let pages = c.args.setting.pages.now in
+    let old = c.args.self.now in
+    let p = in_mode old before in
+    let reference = c.in-Wants.reference in
+    let set_up = g.M.Memory.set_up c.args.memory.now in
+    let between = g.M.Memory.between c.args.memory.now in
+    let seen = g.M.Memory.seen c.args.memory.now in
+    let seen' = g.M.Memory.seen c.access.new.self in
+    let wants = wants_is _ reference (sym (c.interpret.ensures.answers state replies h) ∙ c.in-Wants.is) in
+    let same : (mode : Mode) → in_mode c.interpret.new.self mode ≡ in_mode old mode = c.interpret.ensures.same in
+    let thread : c.interpret.new.self.thread ≡ old.thread = ap (λ (x : Processor). x.thread) (same before) in
+    let processor : c.reference_request-request.result.processor ≡ old.thread = ap (λ (r : Request). r.processor) c.reference_request-request.ensures ∙ thread in
+    subst (λ (a : Answer). HasMade setting set_up between (tie_turn setting p state replies a) p c.spend.new.self seen seen') (sym wants)
+    (record {
+      processor = spent p;
+      stands = subst (λ (x : Processor). StandsFor pages c.spend.new.self (spent x)) (same before) (c.spend.ensures.stands pages before);
+      makes = inr (record { over = subst (λ t. IsOver set_up between t seen seen') processor c.in-Full.ensures.reply; goes = refl });
+    })
+
+pub returns-in-Leaves-clause-turned : goal.returns-in-Leaves-clause-turned
+returns-in-Leaves-clause-turned g c before state replies h =
+    let setting = setting_of c.args.setting in
+    let pages = c.args.setting.pages.now in
+    let old = c.args.self.now in
+    let p = in_mode old before in
+    let set_up = g.M.Memory.set_up c.args.memory.now in
+    let between = g.M.Memory.between c.args.memory.now in
+    let seen = g.M.Memory.seen c.args.memory.now in
+    let last = c.in-Leaves.last in
+    let leaves = leaves_is setting p state replies _ last (sym (c.interpret.ensures.answers state replies h) ∙ c.in-Leaves.is) in
+    let counted : in_mode c.count_tie.new.self before ≡ tied p = c.count_tie.ensures.tied before ∙ ap tied (c.interpret.ensures.same before) in
+    subst (λ (t : Turn). HasMade setting set_up between t p c.leave.new.self seen seen) (sym leaves)
+    (record {
+      processor = left setting (tied p) (last_of last);
+      stands = subst (λ (x : Processor). StandsFor pages c.leave.new.self (left setting x (last_of last))) counted (c.leave.ensures.stands before);
+      makes = record { processor = refl; seen = refl };
+    })

@@ -1,0 +1,107 @@
+// Interpreted steps.
+ghost use Rattle.std.specs.Prelude.{◌≡◌, ◌≤◌, ◌<◌, ◌+◌, ◌++◌, ◌∷◌, ◌↔◌, ◌⊎◌, [], ℕ, List, false};
+ghost use Rattle.system_model.specs.Processors.{Interprets, tied, turn_in};
+ghost use Rattle.system_model.specs.Processors as model;
+ghost use Rattle.tie_switch.specs.Interpreted.{IfWants, step_of};
+ghost use Rattle.tie_switch.specs.Processors.{CanInterpret, HasMade, IsGiven, IsInterpreting, IsMode};
+ghost use Rattle.tie_switch.specs.Seen.{setting_of};
+ghost use Rattle.tie_switch.specs.Turns.{has_ended};
+ghost use Rattle.vax_form.specs.Tree.{answer};
+ghost use Rattle.vax_form.specs.declared.pages.Pages.{Pages};
+ghost use Rattle.vax_form.specs.declared.state.VaxState.{VaxState};
+ghost use Rattle.vax_long.specs.Pending.{moment_at};
+
+use crate::interpreted::Step;
+use crate::processor::{Mode, Processor};
+use crate::reference::reply_found;
+use crate::setting::Setting;
+use memory_core::{Memory, Reply};
+
+impl Processor {
+    ghost use Rattle.tie_switch.specs.Processors.{in_mode, processor_of, StandsFor};
+
+    // Goes on in what is interpreted, to its next reference or its end.
+    fn interpret(&mut self, pages: &vax_form::Pages) -> Step
+        requires interprets { IsInterpreting self.old.mode }
+        ensures answers { (state : VaxState) (replies : List ℕ) → IsMode pages.now self.old.thread self.old.boundary self.old.mode (Interprets state replies)
+            → result ≡ step_of (answer pages.now (moment_at pages.now self.old.thread state) replies) }
+        ensures stands { (state : VaxState) (replies : List ℕ) → IsMode pages.now self.old.thread self.old.boundary self.old.mode (Interprets state replies)
+            → IfWants result (IsMode pages.now self.old.thread self.old.boundary self.new.mode (Interprets state replies)) }
+        ensures given { IsGiven self.new.mode }
+        ensures same { (mode : model.Mode) → in_mode self.new mode ≡ in_mode self.old mode }
+        ensures thread { self.new.thread ≡ self.old.thread }
+        ensures steps { self.new.steps ≡ self.old.steps }
+        ensures budget { self.new.budget ≡ self.old.budget }
+    {
+        match &mut self.mode {
+            Mode::Interprets(interpreted, reply) => interpreted.step(pages, reply.take()),
+            Mode::New | Mode::Runs(_) | Mode::Ended(_) => unreachable!(),
+        }
+    }
+
+    // Counts an interpreted step.
+    fn count_tie(&mut self)
+        requires { self.old.steps < self.old.budget }
+        ensures tied { (mode : model.Mode) → in_mode self.new mode ≡ tied (in_mode self.old mode) }
+        ensures mode { self.new.mode ≡ self.old.mode }
+        ensures budget { self.new.budget ≡ self.old.budget }
+        ensures thread { self.new.thread ≡ self.old.thread }
+        ensures boundary { self.new.boundary ≡ self.old.boundary }
+        ensures steps { self.new.steps ≡ self.old.steps + 1 }
+        ensures retired { self.new.retired < self.new.steps }
+    {
+        self.steps += 1;
+        self.ties += 1;
+    }
+
+    // Takes the reply to the reference.
+    fn take_reply(&mut self, reply: u64)
+        requires steps { self.old.steps < self.old.budget }
+        requires given { IsGiven self.old.mode }
+        ensures stands { (pages : Pages) (before : model.Mode) (state : VaxState) (replies : List ℕ) → IsMode pages self.old.thread self.old.boundary self.old.mode (Interprets state replies)
+            → StandsFor pages self.new (record (tied (in_mode self.old before)) { mode = Interprets state (replies ++ reply ∷ []) }) }
+        ensures budget { self.new.budget ≡ self.old.budget }
+        ensures thread { self.new.thread ≡ self.old.thread }
+        ensures steps { self.new.steps ≡ self.old.steps + 1 }
+    {
+        self.count_tie();
+        match &mut self.mode {
+            Mode::Interprets(_, last) => *last = Some(reply),
+            Mode::New | Mode::Runs(_) | Mode::Ended(_) => unreachable!(),
+        }
+    }
+
+    /// Makes one interpreted step, with at most one access.
+    pub(crate) fn tie_step<M: Memory>(&mut self, setting: Setting<'_>, memory: &mut M)
+        requires interprets { IsInterpreting self.old.mode }
+        requires pages { (M.set_up memory.old).image.pages ≡ setting.pages.now }
+        requires serves { M.serves memory.old self.old.thread }
+        requires steps { self.old.steps < self.old.budget }
+        requires can { CanInterpret setting.pages.now (M.set_up memory.old) self.old }
+        ensures set_up { M.set_up memory.new ≡ M.set_up memory.old }
+        ensures place { (memory.new ≡ memory.old) ⊎ M.same memory.old memory.new }
+        ensures serves { (thread : ℕ) → M.serves memory.old thread ↔ M.serves memory.new thread }
+        ensures budget { self.new.budget ≡ self.old.budget }
+        ensures thread { self.new.thread ≡ self.old.thread }
+        ensures steps { has_ended (processor_of self.new).mode ≡ false → self.new.steps ≡ self.old.steps + 1 }
+        ensures turned { (before : model.Mode) (state : VaxState) (replies : List ℕ) → IsMode setting.entry.pages.now self.old.thread self.old.boundary self.old.mode (Interprets state replies)
+            → HasMade (setting_of setting.entry) (M.set_up memory.old) (M.between memory.old) (turn_in (setting_of setting.entry) (in_mode self.old before) (Interprets state replies))
+            (in_mode self.old before) self.new (M.seen memory.old) (M.seen memory.new) }
+    {
+        match self.interpret(setting.pages) {
+            Step::Wants(reference) => {
+                let request = self.reference_request(&reference);
+                match memory.access(&request) {
+                    Reply::Made { before, success: _ } => {
+                        self.take_reply(reply_found(&reference, before));
+                    }
+                    Reply::Full => self.spend(),
+                }
+            }
+            Step::Leaves(last) => {
+                self.count_tie();
+                self.leave(setting, last);
+            }
+        }
+    }
+}
