@@ -1,0 +1,140 @@
+// What a local instruction does to the registers, told by a small value.
+ghost use Rattle.std.specs.Prelude.{◌≡◌, ◌<◌, ◌+◌, ◌^◌, option_map, slice_index, IfSome};
+ghost use Rattle.alpha_encode.specs.Words.{IsEncodable, IsSecond};
+ghost use Rattle.alpha_machine.specs.Step.{state_of};
+ghost use Rattle.alpha_meaning.specs.Act.{act, second_value, link_of};
+ghost use Rattle.alpha_meaning.specs.State.{regs_of};
+ghost use Rattle.prepared_code.specs.Effects.{behind, local};
+
+use alpha_encode::{AlphaInstr, BranchOp, MemoryOp, Second};
+use alpha_machine::Cpu;
+use alpha_meaning::{address_of, is_taken, kind_of, links, result};
+
+/// The register that is written (31: none), its value, and the next word.
+#[derive(Clone, Copy)]
+pub(crate) struct Effect {
+    pub register: u8,
+    pub value: u64,
+    pub next: u32,
+}
+
+#[tactic(auto, unfolding(alpha_meaning::specs::State::regs_of))]
+#[inline]
+fn register(cpu: &Cpu, n: u8) -> u64
+    requires within { n < 32 }
+    requires zero { slice_index cpu.now.r 31 ≡ 0 }
+    ensures { result ≡ regs_of cpu.now.r n }
+{
+    cpu.r[n as usize]
+}
+
+#[inline]
+fn second_value(cpu: &Cpu, second: Second) -> u64
+    requires second { IsSecond second }
+    requires zero { slice_index cpu.now.r 31 ≡ 0 }
+    ensures { result ≡ second_value second (state_of cpu.now).regs }
+{
+    match second {
+        Second::Register(n) => register(cpu, n),
+        Second::Literal(n) => u64::from(n),
+    }
+}
+
+// The address of the next word, in bytes.
+#[inline]
+fn link(cpu: &Cpu) -> u64
+    ensures { result ≡ link_of cpu.now.pc }
+{
+    4 * u64::from(cpu.pc.wrapping_add(1))
+}
+
+#[inline]
+fn memory_effect(cpu: &Cpu, op: MemoryOp, ra: u8, rb: u8, disp: i16) -> Option<Effect>
+    requires ra { ra < 32 }
+    requires rb { rb < 32 }
+    requires zero { slice_index cpu.now.r 31 ≡ 0 }
+    requires more { cpu.now.pc + 1 < 2 ^ 32 }
+    ensures effect { local (act (AlphaInstr.Memory op ra rb disp) (state_of cpu.now)) ≡ option_map (behind (state_of cpu.now)) result }
+    ensures register { IfSome result (λ e. e.register < 32) }
+{
+    match kind_of(op) {
+        Some(_) => None,
+        None => Some(Effect {
+            register: ra,
+            value: address_of(op, register(cpu, rb), disp),
+            next: cpu.pc + 1,
+        }),
+    }
+}
+
+#[inline]
+fn branch_effect(cpu: &Cpu, op: BranchOp, ra: u8, disp: i32) -> Effect
+    requires ra { ra < 32 }
+    requires zero { slice_index cpu.now.r 31 ≡ 0 }
+    requires more { cpu.now.pc + 1 < 2 ^ 32 }
+    ensures effect { local (act (AlphaInstr.Branch op ra disp) (state_of cpu.now)) ≡ Some (behind (state_of cpu.now) result) }
+    ensures register { result.register < 32 }
+{
+    let next = cpu.pc + 1;
+    Effect {
+        register: if links(op) { ra } else { 31 },
+        value: link(cpu),
+        next: if is_taken(op, register(cpu, ra)) {
+            next.wrapping_add(disp.cast_unsigned())
+        } else {
+            next
+        },
+    }
+}
+
+/// What an instruction does to the registers; None for an access and a PALcode call.
+#[inline]
+pub(crate) fn effect_of(cpu: &Cpu, instr: AlphaInstr) -> Option<Effect>
+    requires encodable { IsEncodable instr }
+    requires zero { slice_index cpu.now.r 31 ≡ 0 }
+    requires more { cpu.now.pc + 1 < 2 ^ 32 }
+    ensures effect { local (act instr (state_of cpu.now)) ≡ option_map (behind (state_of cpu.now)) result }
+    ensures register { IfSome result (λ e. e.register < 32) }
+{
+    match instr {
+        AlphaInstr::Memory { op, ra, rb, disp } => memory_effect(cpu, op, ra, rb, disp),
+        AlphaInstr::Branch { op, ra, disp } => Some(branch_effect(cpu, op, ra, disp)),
+        AlphaInstr::Operate { op, ra, rb, rc } => {
+            let (a, b) = (register(cpu, ra), second_value(cpu, rb));
+            Some(Effect {
+                register: rc,
+                value: result(op, a, b, register(cpu, rc)),
+                next: cpu.pc + 1,
+            })
+        }
+        AlphaInstr::Jump { ra, rb } => Some(Effect {
+            register: ra,
+            value: link(cpu),
+            next: (register(cpu, rb) / 4 % (1 << 32)) as u32,
+        }),
+        AlphaInstr::Pal(_) => None,
+    }
+}
+
+/// Leaves it so.
+#[tactic(auto, unfolding(alpha_meaning::specs::State::regs_of))]
+#[inline]
+pub(crate) fn commit(cpu: &mut Cpu, effect: Effect)
+    requires { effect.register < 32 }
+    ensures is { state_of cpu.new ≡ behind (state_of cpu.old) effect }
+    ensures zero { slice_index cpu.new.r 31 ≡ 0 }
+{
+    cpu.r[effect.register as usize] = effect.value;
+    cpu.r[31] = 0;
+    cpu.pc = effect.next;
+}
+
+/// Register 31 stands as it reads.
+#[tactic(auto, unfolding(alpha_meaning::specs::State::regs_of))]
+#[inline]
+pub(crate) fn clear_31(cpu: &mut Cpu)
+    ensures is { state_of cpu.new ≡ state_of cpu.old }
+    ensures zero { slice_index cpu.new.r 31 ≡ 0 }
+{
+    cpu.r[31] = 0;
+}
