@@ -1,11 +1,13 @@
--- Steps that stay inside a block, by the code alone.
-use Rattle.std.specs.Prelude.{ℕ, zero, suc, Option, Some, None, option_and_then}
+-- Local steps that stay inside a block, and those that arrive at one, by the code alone.
+use Rattle.std.specs.Prelude.{ℕ, zero, suc, Option, Some, None, option_and_then, option_map}
 use Rattle.address_map.specs.Pairs.{address_at}
 use Rattle.alpha_encode.specs.declared.instr.AlphaInstr.{AlphaInstr}
 use Rattle.alpha_meaning.specs.Act.{act}
 use Rattle.alpha_meaning.specs.State.{Alpha}
 use Rattle.block_law.specs.Translations.{Code, fetch_of}
 use Rattle.prepared_code.specs.Effects.{local}
+use Rattle.prepared_code.specs.Sources.{Source, block_at}
+use Rattle.prepared_code.specs.declared.blocks.Block.{Block}
 
 abbrev pub local_by : Option AlphaInstr → Alpha → Option Alpha
 local_by None c = None
@@ -27,3 +29,11 @@ step_in code c = option_and_then (λ d. unless_begun (address_at code.map d.pc) 
 abbrev pub steps_in : Code → Alpha → ℕ → Option Alpha
 steps_in code c zero = Some c
 steps_in code c (suc n) = option_and_then (step_in code) (steps_in code c n)
+
+-- the processor at the first word of a block
+abbrev pub landed : Alpha → Block → Alpha × Block
+landed c block = (c, block)
+
+-- the local step of the word there, where a block begins at the next
+abbrev pub landing : Source → Alpha → Option (Alpha × Block)
+landing source c = option_and_then (λ d. option_map (landed d) (block_at source d.pc)) (local_at source.code c)

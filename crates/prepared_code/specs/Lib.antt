@@ -1,3 +1,4 @@
 pub mod Effects
+pub mod Sources
 pub mod Inside
 pub mod Prepared

@@ -116,19 +116,6 @@ pub(crate) fn effect_of(cpu: &Cpu, instr: AlphaInstr) -> Option<Effect>
     }
 }
 
-/// Leaves it so.
-#[tactic(auto, unfolding(alpha_meaning::specs::State::regs_of))]
-#[inline]
-pub(crate) fn commit(cpu: &mut Cpu, effect: Effect)
-    requires { effect.register < 32 }
-    ensures is { state_of cpu.new ≡ behind (state_of cpu.old) effect }
-    ensures zero { slice_index cpu.new.r 31 ≡ 0 }
-{
-    cpu.r[effect.register as usize] = effect.value;
-    cpu.r[31] = 0;
-    cpu.pc = effect.next;
-}
-
 /// Register 31 stands as it reads.
 #[tactic(auto, unfolding(alpha_meaning::specs::State::regs_of))]
 #[inline]
@@ -137,4 +124,17 @@ pub(crate) fn clear_31(cpu: &mut Cpu)
     ensures zero { slice_index cpu.new.r 31 ≡ 0 }
 {
     cpu.r[31] = 0;
+}
+
+/// Leaves what an effect says.
+#[tactic(auto, unfolding(alpha_meaning::specs::State::regs_of))]
+#[inline]
+pub(crate) fn commit(cpu: &mut Cpu, effect: Effect)
+    requires { effect.register < 32 }
+    ensures is { state_of cpu.new ≡ behind (state_of cpu.old) effect }
+    ensures zero { slice_index cpu.new.r 31 ≡ 0 }
+{
+    cpu.r[effect.register as usize] = effect.value;
+    cpu.pc = effect.next;
+    clear_31(cpu);
 }

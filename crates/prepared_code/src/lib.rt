@@ -1,9 +1,11 @@
-//! Code made ready to be run: each word's instruction, decoded before, and whether a block begins there; and many steps
-//! inside a block at once, with the registers in place.
+//! Code made ready to be run: each word's instruction, decoded before, and what is known of the block that begins there;
+//! many steps inside a block at once, with the registers in place, and the step that arrives at the next block.
 #![tactic(auto)]
 
+mod blocks;
 mod effect;
 mod prepared;
 mod run;
 
+pub use blocks::Block;
 pub use prepared::{Prepared, prepare};

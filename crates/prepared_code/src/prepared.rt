@@ -1,121 +1,209 @@
 // Code made ready.
-ghost use Rattle.std.specs.Prelude.{◌≡◌, ◌<◌, ◌≤◌, length, IfOk, IfSome};
-ghost use Rattle.address_map.specs.Pairs.{address_at};
+ghost use Rattle.std.specs.Prelude.{◌≡◌, ◌<◌, ◌≤◌, ◌+◌, ◌==◌, length, if◌then◌else◌, IfOk, IfSome, MatchOption, is_some};
+ghost use Rattle.address_map.specs.Pairs.{AllRise, address_at};
 ghost use Rattle.alpha_encode.specs.Words.{IsEncodable};
 ghost use Rattle.block_law.specs.Translations.{fetch_of, most_words};
+ghost use Rattle.prepared_code.specs.Prepared.{AreReady, IsNext, IsNumber, IsReady, begun};
+ghost use Rattle.prepared_code.specs.Sources.{block_at, source_of};
+ghost use Rattle.prepared_code.specs.declared.blocks.Block.{Block};
 
+use crate::blocks::{Block, block_by, blocks_of};
 use address_map::AddressMap;
 use alpha_encode::{AlphaInstr, decode};
 use exception_records::Points;
 use std::alloc::{AllocError, Global};
 use std::marker::Model;
-use vax_form::WantOfMemory;
+use vax_form::{Pages, WantOfMemory};
 
-/// A word's instruction, and the VAX address of the block that begins there.
+/// A word's instruction, and one more than the place of the block that begins there; 0 where none begins.
 #[derive(Clone, Copy, Debug, PartialEq, Eq)]
 pub(crate) struct Word {
     pub instr: Option<AlphaInstr>,
-    pub begins: Option<u32>,
+    pub block: u32,
 }
 
-/// A code made ready to be run. Contracts see the code.
+/// A code made ready to be run. Contracts see what it was made of.
 #[derive(Debug, Drop)]
 pub struct Prepared<'a> {
     words: &'a [u32],
     map: &'a AddressMap,
     points: &'a Points,
+    pages: &'a Pages,
+    blocks: Vec<Block>,
     ready: Vec<Word>,
 }
 
 impl<'a> Model for Prepared<'a> {
-    ghost use Rattle.block_law.specs.Translations.{Code};
-    ghost use Rattle.std.specs.Prelude.{length};
-    ghost use Rattle.prepared_code.specs.Prepared.{ArePrepared, code_of};
+    ghost use Rattle.prepared_code.specs.Prepared.{IsPrepared};
+    ghost use Rattle.prepared_code.specs.Sources.{Source, source_of};
 
-    ghost Value = { Code };
+    ghost Value = { Source };
 
-    ghost view = { λ p. code_of p.words.now p.map.now p.points.now };
+    ghost view = { λ p. source_of p.words.now p.map.now p.points.now p.pages.now };
 
-    ghost invariant = { λ p. ArePrepared (code_of p.words.now p.map.now p.points.now) p.ready.items (length p.words.now) };
+    ghost invariant = { λ p. IsPrepared (source_of p.words.now p.map.now p.points.now p.pages.now) p.blocks.items p.ready.items };
 }
 
-ghost use Rattle.prepared_code.specs.Prepared.{ArePrepared, code_of, word_at};
-ghost use Rattle.exception_records.specs.Points.{Entry};
-ghost use Rattle.std.specs.Prelude.{List};
-
-fn word_at(words: &[u32], map: &AddressMap, place: usize) -> Word
-    requires few { length words.now ≤ most_words }
-    requires within { place < length words.now }
-    ensures is { (points : List Entry) → result ≡ word_at (code_of words.now map.now points) place }
-    ensures encodable { IfSome result.instr IsEncodable }
+// The number of the block at a place, which is that of the next pair if of any.
+fn number_at(pairs: &[(u32, u32)], next: usize, place: usize) -> u32
+    requires rise { AllRise pairs.now }
+    requires next { IsNext pairs.now next place }
+    requires few { place < most_words }
+    ensures number { IsNumber pairs.now place result }
+    ensures next { IsNext pairs.now (if result == 0 then next else next + 1) (place + 1) }
 {
-    Word {
-        instr: decode(words[place]),
-        begins: map.vax_of(place as u32),
+    if next < pairs.len() && pairs[next].1 as usize == place {
+        next as u32 + 1
+    } else {
+        0
     }
 }
 
-fn words_of(
-    alloc: Global,
-    words: &[u32],
-    map: &AddressMap,
-    points: &Points,
-) -> Result<Vec<Word>, AllocError>
+fn word_at(words: &[u32], place: usize, block: u32) -> Word
+    requires { place < length words.now }
+    ensures instr { result.instr ≡ fetch_of words.now place }
+    ensures encodable { IfSome result.instr IsEncodable }
+    ensures block { result.block ≡ block }
+{
+    Word {
+        instr: decode(words[place]),
+        block,
+    }
+}
+
+// The words, beside the pairs of their map.
+fn words_of(alloc: Global, words: &[u32], pairs: &[(u32, u32)]) -> Result<Vec<Word>, AllocError>
     requires few { length words.now ≤ most_words }
-    ensures { IfOk result (λ v. ArePrepared (code_of words.now map.now points.now) v.items (length words.now)) }
+    requires rise { AllRise pairs.now }
+    ensures { IfOk result (λ v. AreReady words.now pairs.now v.items (length words.now)) }
 {
     let mut ready = Vec::new(alloc);
+    let mut next = 0;
     for place in 0..words.len() {
-        ready.push(word_at(words, map, place))?;
+        let block = number_at(pairs, next, place);
+        if block != 0 {
+            next += 1;
+        }
+        ready.push(word_at(words, place, block))?;
     }
     Ok(ready)
 }
 
-/// Makes a code ready.
+/// Makes a code ready, of an image with these pages.
 pub fn prepare<'a>(
     alloc: Global,
     words: &'a [u32],
     map: &'a AddressMap,
     points: &'a Points,
+    pages: &'a Pages,
 ) -> Result<Prepared<'a>, WantOfMemory>
     requires few { length words.now ≤ most_words }
-    ensures { IfOk result (λ p. p ≡ code_of words.now map.now points.now) }
+    ensures { IfOk result (λ p. p ≡ source_of words.now map.now points.now pages.now) }
 {
-    match words_of(alloc, words, map, points) {
-        Ok(ready) => Ok(Prepared {
-            words,
-            map,
-            points,
-            ready,
-        }),
+    match prepared_by(alloc, words, map, points, pages) {
+        Ok(prepared) => Ok(prepared),
         Err(_) => Err(WantOfMemory),
     }
 }
 
+fn prepared_by<'a>(
+    alloc: Global,
+    words: &'a [u32],
+    map: &'a AddressMap,
+    points: &'a Points,
+    pages: &'a Pages,
+) -> Result<Prepared<'a>, AllocError>
+    requires few { length words.now ≤ most_words }
+    ensures { IfOk result (λ p. p ≡ source_of words.now map.now points.now pages.now) }
+{
+    let pairs = map.pairs();
+    Ok(Prepared {
+        words,
+        map,
+        points,
+        pages,
+        blocks: blocks_of(alloc, pairs, points, pages)?,
+        ready: words_of(alloc, words, pairs)?,
+    })
+}
+
+// The block with that number.
+#[inline]
+fn begun(blocks: &[Block], number: u32) -> Option<Block>
+    ensures { result ≡ begun blocks.now number }
+{
+    if number == 0 {
+        return None;
+    }
+    match blocks.get(number as usize - 1) {
+        Some(block) => Some(*block),
+        None => None,
+    }
+}
+
 impl<'a> Prepared<'a> {
-    /// The instruction at a word.
+    /// The words of the code.
+    pub fn words(&self) -> &'a [u32]
+        ensures { result.now ≡ self.now.code.words }
+    {
+        self.words
+    }
+
     #[inline]
-    pub(crate) fn instr_at(&self, word: u32) -> Option<AlphaInstr>
-        ensures is { result ≡ fetch_of self.now.words word }
-        ensures encodable { IfSome result IsEncodable }
+    fn word(&self, word: u32) -> Option<Word>
+        ensures { MatchOption result (length self.now.code.words ≤ word) (λ w. IsReady self.now.code.words self.now.code.map word w) }
     {
         match self.ready.get(word as usize) {
+            Some(word) => Some(*word),
+            None => None,
+        }
+    }
+
+    /// The instruction at a word; None where it spells none or stands behind the words.
+    #[inline]
+    pub fn instr_at(&self, word: u32) -> Option<AlphaInstr>
+        ensures is { result ≡ fetch_of self.now.code.words word }
+        ensures encodable { IfSome result IsEncodable }
+    {
+        match self.word(word) {
             Some(word) => word.instr,
             None => None,
         }
     }
 
-    /// The address whose block begins at a word.
+    /// Whether a block begins at a word.
     #[inline]
-    pub(crate) fn begins_at(&self, word: u32) -> Option<u32>
-        ensures { result ≡ address_at self.now.map word }
+    pub(crate) fn begins(&self, word: u32) -> bool
+        ensures { result ≡ is_some (address_at self.now.code.map word) }
     {
-        match self.ready.get(word as usize) {
-            Some(word) => word.begins,
+        match self.word(word) {
+            Some(word) => word.block != 0,
             None => {
                 let map = self.map;
-                map.vax_of(word)
+                map.vax_of(word).is_some()
             }
+        }
+    }
+
+    /// The block that begins at a word.
+    #[inline]
+    pub fn block_at(&self, word: u32) -> Option<Block>
+        ensures { result ≡ block_at self.now word }
+    {
+        match self.word(word) {
+            Some(word) => begun(&self.blocks, word.block),
+            None => self.block_behind(word),
+        }
+    }
+
+    // The same behind the words.
+    fn block_behind(&self, word: u32) -> Option<Block>
+        ensures { result ≡ block_at self.now word }
+    {
+        let map = self.map;
+        match map.vax_of(word) {
+            Some(address) => Some(block_by(self.points, self.pages, address, word)),
+            None => None,
         }
     }
 }

@@ -7,5 +7,5 @@ use Rattle.prepared_code.proofs.prepared.Prepared.steps_in.Given as goal
 abbrev pub invariant-loop-made : goal.invariant-loop-made
 invariant-loop-made l = record {
   zero : slice_index l.cpu.r 31 ≡ 0;
-  ran : steps_in l.self (state_of l.initial.cpu) l.made ≡ Some (state_of l.cpu);
+  ran : steps_in l.self.code (state_of l.initial.cpu) l.made ≡ Some (state_of l.cpu);
 }
