@@ -2,3 +2,4 @@ pub mod Effects
 pub mod Sources
 pub mod Inside
 pub mod Prepared
+pub mod Landings

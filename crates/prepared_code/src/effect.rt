@@ -10,9 +10,9 @@ use alpha_encode::{AlphaInstr, BranchOp, MemoryOp, Second};
 use alpha_machine::Cpu;
 use alpha_meaning::{address_of, is_taken, kind_of, links, result};
 
-/// The register that is written (31: none), its value, and the next word.
-#[derive(Clone, Copy)]
-pub(crate) struct Effect {
+/// What a local instruction does: the register that is written (31: none), its value, and the next word.
+#[derive(Clone, Copy, Debug, PartialEq, Eq)]
+pub struct Effect {
     pub register: u8,
     pub value: u64,
     pub next: u32,

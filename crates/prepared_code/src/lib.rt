@@ -4,8 +4,11 @@
 
 mod blocks;
 mod effect;
+mod landing;
 mod prepared;
 mod run;
 
 pub use blocks::Block;
+pub use effect::Effect;
+pub use landing::Landing;
 pub use prepared::{Prepared, prepare};

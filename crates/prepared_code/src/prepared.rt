@@ -149,6 +149,20 @@ impl<'a> Prepared<'a> {
         self.words
     }
 
+    /// Its map.
+    pub fn map(&self) -> &'a AddressMap
+        ensures { result.now ≡ self.now.code.map }
+    {
+        self.map
+    }
+
+    /// The pages of its image.
+    pub fn pages(&self) -> &'a Pages
+        ensures { result.now ≡ self.now.pages }
+    {
+        self.pages
+    }
+
     #[inline]
     fn word(&self, word: u32) -> Option<Word>
         ensures { MatchOption result (length self.now.code.words ≤ word) (λ w. IsReady self.now.code.words self.now.code.map word w) }

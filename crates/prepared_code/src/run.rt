@@ -3,10 +3,8 @@ ghost use Rattle.std.specs.Prelude.{◌≡◌, ◌<◌, ◌≤◌, length, slice
 ghost use Rattle.alpha_machine.specs.Step.{state_of};
 ghost use Rattle.block_law.specs.Translations.{most_words};
 ghost use Rattle.prepared_code.specs.Effects.{behind};
-ghost use Rattle.prepared_code.specs.Inside.{landed, landing, local_at, step_in, steps_in};
-ghost use Rattle.prepared_code.specs.Sources.{block_at};
+ghost use Rattle.prepared_code.specs.Inside.{local_at, step_in, steps_in};
 
-use crate::blocks::Block;
 use crate::effect::{Effect, clear_31, commit, effect_of};
 use crate::prepared::Prepared;
 use alpha_machine::Cpu;
@@ -14,7 +12,7 @@ use alpha_machine::Cpu;
 impl<'a> Prepared<'a> {
     // What the next step does, where it is local.
     #[inline]
-    fn effect_at(&self, cpu: &Cpu) -> Option<Effect>
+    pub(crate) fn effect_at(&self, cpu: &Cpu) -> Option<Effect>
         requires few { length self.now.code.words ≤ most_words }
         requires zero { slice_index cpu.now.r 31 ≡ 0 }
         ensures is { option_map (behind (state_of cpu.now)) result ≡ local_at self.now.code (state_of cpu.now) }
@@ -49,6 +47,7 @@ impl<'a> Prepared<'a> {
     fn steps_in(&self, cpu: &mut Cpu, most: u64) -> u64
         requires few { length self.now.code.words ≤ most_words }
         requires zero { slice_index cpu.old.r 31 ≡ 0 }
+        ensures zero { slice_index cpu.new.r 31 ≡ 0 }
         ensures most { result ≤ most }
         ensures ran { steps_in self.now.code (state_of cpu.old) result ≡ Some (state_of cpu.new) }
         ensures stops { result < most → step_in self.now.code (state_of cpu.new) ≡ None }
@@ -64,39 +63,15 @@ impl<'a> Prepared<'a> {
 
     /// Makes local steps, each of which goes on inside a block, but at most so many, and tells how many it made. Fewer are
     /// made only where the next is none.
+    /// Register 31 stands as it reads.
     pub fn run_inside(&self, cpu: &mut Cpu, most: u64) -> u64
         requires few { length self.now.code.words ≤ most_words }
+        ensures zero { slice_index cpu.new.r 31 ≡ 0 }
         ensures most { result ≤ most }
         ensures ran { steps_in self.now.code (state_of cpu.old) result ≡ Some (state_of cpu.new) }
         ensures stops { result < most → step_in self.now.code (state_of cpu.new) ≡ None }
     {
         clear_31(cpu);
         self.steps_in(cpu, most)
-    }
-
-    /// Makes the local step that arrives at a block's first word, and tells of the block. Any other step is left to be made.
-    pub fn land(&self, cpu: &mut Cpu) -> Option<Block>
-        requires few { length self.now.code.words ≤ most_words }
-        ensures lands { landing self.now (state_of cpu.old) ≡ option_map (landed (state_of cpu.new)) result }
-        ensures stays { result ≡ None → state_of cpu.new ≡ state_of cpu.old }
-    {
-        clear_31(cpu);
-        match self.effect_at(cpu) {
-            Some(effect) => self.land_by(cpu, effect),
-            None => None,
-        }
-    }
-
-    #[inline]
-    fn land_by(&self, cpu: &mut Cpu, effect: Effect) -> Option<Block>
-        requires few { length self.now.code.words ≤ most_words }
-        requires zero { slice_index cpu.old.r 31 ≡ 0 }
-        requires register { effect.register < 32 }
-        ensures lands { option_map (landed (behind (state_of cpu.old) effect)) (block_at self.now effect.next) ≡ option_map (landed (state_of cpu.new)) result }
-        ensures stays { result ≡ None → state_of cpu.new ≡ state_of cpu.old }
-    {
-        let block = self.block_at(effect.next)?;
-        commit(cpu, effect);
-        Some(block)
     }
 }

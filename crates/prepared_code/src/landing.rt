@@ -1,0 +1,59 @@
+// The step that arrives at a block.
+ghost use Rattle.std.specs.Prelude.{◌≡◌, ◌<◌, ◌≤◌, length, slice_index, IfSome, option_map};
+ghost use Rattle.alpha_machine.specs.Step.{state_of};
+ghost use Rattle.block_law.specs.Translations.{most_words};
+ghost use Rattle.prepared_code.specs.Effects.{behind};
+ghost use Rattle.prepared_code.specs.Inside.{landed, landing};
+ghost use Rattle.prepared_code.specs.Sources.{block_at};
+ghost use Rattle.alpha_meaning.specs.State.{Alpha};
+ghost use Rattle.prepared_code.specs.Landings.{landed_by};
+
+use crate::blocks::Block;
+use crate::effect::{Effect, commit};
+use crate::prepared::Prepared;
+use alpha_machine::Cpu;
+
+/// A local step that arrives at the first word of a block, still to be made.
+#[derive(Clone, Copy, Debug, PartialEq, Eq)]
+pub struct Landing {
+    pub effect: Effect,
+    pub block: Block,
+}
+
+impl Landing {
+    /// Makes the step.
+    #[inline]
+    pub fn make(&self, cpu: &mut Cpu)
+        requires { self.now.effect.register < 32 }
+        ensures is { state_of cpu.new ≡ behind (state_of cpu.old) self.now.effect }
+        ensures zero { slice_index cpu.new.r 31 ≡ 0 }
+    {
+        commit(cpu, self.effect);
+    }
+}
+
+impl<'a> Prepared<'a> {
+    /// The step of the word there, where it is local and arrives at a block. Register 31 has to stand as it reads.
+    pub fn landing(&self, cpu: &Cpu) -> Option<Landing>
+        requires few { length self.now.code.words ≤ most_words }
+        requires zero { slice_index cpu.now.r 31 ≡ 0 }
+        ensures lands { landing self.now (state_of cpu.now) ≡ option_map (landed_by (state_of cpu.now)) result }
+        ensures register { IfSome result (λ l. l.effect.register < 32) }
+    {
+        match self.effect_at(cpu) {
+            Some(effect) => self.landing_by(effect),
+            None => None,
+        }
+    }
+
+    #[inline]
+    fn landing_by(&self, effect: Effect) -> Option<Landing>
+        ensures is { (c : Alpha) → option_map (landed (behind c effect)) (block_at self.now effect.next) ≡ option_map (landed_by c) result }
+        ensures effect { IfSome result (λ l. l.effect ≡ effect) }
+    {
+        match self.block_at(effect.next) {
+            Some(block) => Some(Landing { effect, block }),
+            None => None,
+        }
+    }
+}
