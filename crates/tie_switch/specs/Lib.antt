@@ -4,4 +4,5 @@ pub mod Seen
 pub mod Processors
 pub mod Accesses
 pub mod Turns
+pub mod Inside
 pub mod Laws

@@ -1,4 +1,5 @@
 //! What a turn keeps, for the proofs of the crates above. Its functions do nothing.
+ghost use Rattle.tie_switch.specs.Inside.{LandingsAreTurns, StepsAreTurns};
 ghost use Rattle.tie_switch.specs.Laws.{TurnsKeepReached, TurnsStayLegal};
 
 use system_model::laws::{
@@ -27,3 +28,15 @@ pub fn turns_stay_legal()
     requests_are_own();
     reached_are_legal();
 }
+
+/// Local steps inside a block are turns, which change the registers and the count of steps alone.
+#[tactic(auto, using(crate::proofs::Inside::steps_are_turns))]
+pub fn steps_are_turns()
+    ensures { StepsAreTurns }
+{}
+
+/// A local step that arrives at a block is a turn that arrives at its boundary.
+#[tactic(auto, using(crate::proofs::Inside::landings_are_turns))]
+pub fn landings_are_turns()
+    ensures { LandingsAreTurns }
+{}

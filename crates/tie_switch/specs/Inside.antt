@@ -1,0 +1,55 @@
+-- Turns that ask nothing: what the local steps of a processor are, told by the code alone.
+use Rattle.std.specs.Prelude.{◌≡◌, ℕ, zero, suc, ◌+◌, Option, Some, None, option_and_then}
+use Rattle.alpha_meaning.specs.State.{Alpha}
+use Rattle.exception_records.specs.Codes.{all_ready}
+use Rattle.exception_records.specs.declared.rules.Rules.{Rules}
+use Rattle.vax_form.specs.declared.pages.Pages.{Pages}
+use Rattle.vax_form.specs.declared.state.Flags.{Flags}
+use Rattle.vax_form.specs.declared.state.VaxState.{VaxState}
+use Rattle.prepared_code.specs.Inside.{steps_in, landing, landed}
+use Rattle.prepared_code.specs.Sources.{Source}
+use Rattle.prepared_code.specs.declared.blocks.Block.{Block}
+use Rattle.system_model.specs.Processors.{Runs, Processor, Turn, Went, Asks, Over, Lost, turn, moment_of, stepped, arrived}
+use Rattle.system_model.specs.Settings.{Setting}
+use Rattle.system_model.specs.Steps.{state_at, held_behind}
+
+-- the processor behind a turn that asks nothing
+abbrev pub went_by : Turn → Option Processor
+went_by (Went p) = Some p
+went_by (Asks request on) = None
+went_by Over = None
+went_by Lost = None
+
+-- the processor after so many turns, none of which asks
+abbrev pub went : Setting → Processor → ℕ → Option Processor
+went setting p zero = Some p
+went setting p (suc n) = option_and_then (λ q. went_by (turn setting q)) (went setting p n)
+
+-- in Alpha code there, with so many steps more
+abbrev pub ran : Processor → Alpha → ℕ → Processor
+ran p c n = record p { mode = Runs c; steps = p.steps + n }
+
+-- steps inside a block are turns, which change the registers and the count of steps alone
+abbrev pub StepsAreTurns : Type 0
+StepsAreTurns = (setting : Setting) (p : Processor) (c d : Alpha) (n : ℕ) → p.mode ≡ Runs c
+    → steps_in setting.code c n ≡ Some d → went setting p n ≡ Some (ran p d n)
+
+-- ---- a step that lands
+-- the rules of a block, without which all codes stand in their registers
+abbrev pub block_rules : Option Rules → Rules
+block_rules None = all_ready
+block_rules (Some rules) = rules
+
+-- the state at a block's first word, and all else as it was at the boundary
+abbrev pub state_there : (boundary : VaxState) → Alpha → Block → (held : Flags) → VaxState
+state_there boundary c block held = state_at boundary c.regs block.address (block_rules block.rules) held
+
+abbrev pub source_in : Setting → Pages → Source
+source_in setting pages = record { code = setting.code; pages = pages }
+
+-- a step that lands is a turn that arrives at the block
+abbrev pub LandingsAreTurns : Type 0
+LandingsAreTurns = (setting : Setting) (pages : Pages) (p : Processor) (c d : Alpha) (block : Block) → p.mode ≡ Runs c
+    → landing (source_in setting pages) c ≡ Some (landed d block)
+    → turn setting p
+    ≡ Went (arrived setting (stepped p) (state_there p.boundary d block (held_behind setting (moment_of p))) (held_behind setting (moment_of p)) d.regs)
