@@ -5,4 +5,5 @@ pub mod Processors
 pub mod Accesses
 pub mod Turns
 pub mod Inside
+pub mod Courses
 pub mod Laws

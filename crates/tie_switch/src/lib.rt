@@ -7,6 +7,7 @@
 
 mod arrive;
 mod call;
+mod course;
 mod first_bad;
 mod interpreted;
 pub mod laws;

@@ -1,0 +1,94 @@
+-- Local steps of a processor whose boundary is not worked out.
+use Rattle.std.proofs.Common.{◌≡◌, ℕ, zero, suc, ◌+◌, Option, Some, None, refl, sym, ap, ◌∙◌, arith}
+use Rattle.std.specs.Prelude.{option_and_then}
+use Rattle.alpha_machine.specs.Step.{state_of}
+use Rattle.alpha_machine.specs.declared.cpu.Cpu.{Cpu}
+use Rattle.alpha_meaning.specs.State.{Alpha, at_place}
+use Rattle.exception_records.specs.Shown.{still_held}
+use Rattle.vax_form.specs.declared.pages.Pages.{Pages}
+use Rattle.vax_form.specs.declared.state.Flags.{Flags}
+use Rattle.vax_form.specs.declared.state.Pending.{Pending}
+use Rattle.vax_form.specs.declared.state.Pending.TheVariants.{Nothing}
+use Rattle.vax_form.specs.declared.state.VaxState.{VaxState}
+use Rattle.prepared_code.specs.Inside.{steps_in, landing, landed}
+use Rattle.prepared_code.specs.declared.blocks.Block.{Block}
+use Rattle.system_model.specs.Processors.{Mode, Runs, Processor, Turn, mode_at, mode_by, turn}
+use Rattle.system_model.specs.Ranges.{word_for}
+use Rattle.system_model.specs.Settings.{Setting, unless_pending}
+use Rattle.tie_switch.specs.Courses.{boundary_by, course_of, Goes}
+use Rattle.tie_switch.specs.Inside.{went, went_by, state_there, source_in, StepsAreTurns, LandingsAreTurns}
+use Rattle.tie_switch.specs.declared.course.Course.{Course}
+use Rattle.tie_switch.specs.declared.course.Landed.{Landed}
+
+-- ---- one behind the other
+went_more : (s : Setting) (p q r : Processor) (a b : ℕ) → went s p a ≡ Some q → went s q b ≡ Some r → went s p (a + b) ≡ Some r
+went_more s p q r a zero e h = ap (went s p) (none a) ∙ e ∙ h
+  where
+    none : (n : ℕ) → n + 0 ≡ n
+    none n = omega arith
+went_more s p q r a (suc b) e h = last (went s q b) (λ x k. went_more s p q x a b e k) h
+  where
+    after : (m n : ℕ) → m + suc n ≡ suc (m + n)
+    after m n = omega arith
+
+    last : (o : Option Processor) → ((x : Processor) → o ≡ Some x → went s p (a + b) ≡ Some x) → option_and_then (λ x. went_by (turn s x)) o ≡ Some r → went s p (a + suc b) ≡ Some r
+    last None f k = absurd (cc k)
+    last (Some x) f k = ap (went s p) (after a b) ∙ ap (option_and_then (λ x. went_by (turn s x))) (f x refl) ∙ k
+
+pub goes_more : (s : Setting) (thread : ℕ) (before : VaxState) (old mid new : Course) (m n : ℕ) → Goes s thread before old mid m → Goes s thread before mid new n
+    → Goes s thread before old new (m + n)
+goes_more s thread before old mid new m n g h = λ ties steps.
+    went_more s (course_of thread before ties old steps) (course_of thread before ties mid (steps + m)) (course_of thread before ties new (steps + m + n)) m n (g ties steps) (h ties (steps + m))
+    ∙ ap (λ k. Some (course_of thread before ties new k)) (joined steps m n)
+  where
+    joined : (k m n : ℕ) → k + m + n ≡ k + (m + n)
+    joined k m n = omega arith
+
+pub goes_nowhere : (s : Setting) (thread : ℕ) (before : VaxState) (course : Course) → Goes s thread before course course 0
+goes_nowhere s thread before course = λ ties steps. ap (λ k. Some (course_of thread before ties course k)) (none steps)
+  where
+    none : (n : ℕ) → n ≡ n + 0
+    none n = omega arith
+
+-- ---- inside a block
+pub goes_inside : (s : Setting) (thread : ℕ) (before : VaxState) (old : Course) (cpu : Cpu) (n : ℕ) → StepsAreTurns → steps_in s.code (state_of old.cpu) n ≡ Some (state_of cpu)
+    → Goes s thread before old (record old { cpu = cpu }) n
+goes_inside s thread before old cpu n law h = λ ties steps. law s (course_of thread before ties old steps) (state_of old.cpu) (state_of cpu) n refl h
+
+-- ---- to the next block
+-- the state there is the same, whatever was not worked out
+over : (before : VaxState) (held : Flags) (l : Option Landed) (d : Alpha) (block : Block) (h : Flags) → state_there (boundary_by before held l) d block h ≡ state_there before d block h
+over before held None d block h = refl
+over before held (Some l) d block h = refl
+
+made : (thread ties : ℕ) → Mode → VaxState → Flags → (retired steps : ℕ) → Processor
+made thread ties mode boundary held retired steps = record { thread = thread; mode = mode; boundary = boundary; held = held; retired = retired; steps = steps; ties = ties }
+
+pub goes_there : (s : Setting) (thread : ℕ) (before : VaxState) (old new : Course) (pages : Pages) (d : Alpha) (block : Block) (word : ℕ) → LandingsAreTurns
+    → before.pending ≡ Nothing
+    → landing (source_in s pages) (state_of old.cpu) ≡ Some (landed d block)
+    → word_for s.code.map s.ranges thread block.address ≡ Some word
+    → state_of new.cpu ≡ at_place d.regs word
+    → new.landed ≡ Some (record { cpu = new.cpu; block = block })
+    → new.held ≡ still_held old.held (s.meaning.written (boundary_by before old.held old.landed).pc)
+    → new.retired ≡ old.retired + 1
+    → Goes s thread before old new 1
+unfolding made
+goes_there s thread before old new pages d block word law nothing there goes cpu at held retired = λ ties steps.
+    let kept = still_held old.held (s.meaning.written (boundary_by before old.held old.landed).pc) in
+    let state = state_there before d block kept in
+    let one_more : suc old.retired ≡ new.retired = omega (arith, retired) in
+    let next : suc steps ≡ steps + 1 = omega arith in
+    let mode : mode_at s thread state d.regs ≡ Runs (state_of new.cpu) =
+    ap (λ (pending : Pending). mode_by (unless_pending pending (word_for s.code.map s.ranges thread block.address)) state d.regs) nothing
+    ∙ ap (λ o. mode_by o state d.regs) goes
+    ∙ ap Runs (sym cpu) in
+    ap went_by (law s pages (course_of thread before ties old steps) (state_of old.cpu) d block refl there)
+    ∙ ap Some
+    (ap (λ (x : VaxState). made thread ties (mode_at s thread x d.regs) x kept (suc old.retired) (suc steps)) (over before old.held old.landed d block kept)
+    ∙ ap (λ (m : Mode). made thread ties m state kept (suc old.retired) (suc steps)) mode
+    ∙ ap (λ (x : Alpha). made thread ties (Runs (state_of new.cpu)) (state_there before x block kept) kept (suc old.retired) (suc steps)) (sym cpu)
+    ∙ ap (λ (h : Flags). made thread ties (Runs (state_of new.cpu)) (state_there before (state_of new.cpu) block h) h (suc old.retired) (suc steps)) (sym held)
+    ∙ ap (λ n. made thread ties (Runs (state_of new.cpu)) (state_there before (state_of new.cpu) block new.held) new.held n (suc steps)) one_more
+    ∙ ap (λ n. made thread ties (Runs (state_of new.cpu)) (state_there before (state_of new.cpu) block new.held) new.held new.retired n) next
+    ∙ ap (λ (l : Option Landed). made thread ties (Runs (state_of new.cpu)) (boundary_by before new.held l) new.held new.retired (steps + 1)) (sym at))

@@ -1,0 +1,32 @@
+-- What contracts see of a processor in Alpha code whose boundary is not worked out.
+use Rattle.std.specs.Prelude.{◌≡◌, ℕ, ◌+◌, Option, Some, None}
+use Rattle.alpha_machine.specs.Step.{state_of}
+use Rattle.vax_form.specs.declared.state.Flags.{Flags}
+use Rattle.vax_form.specs.declared.state.VaxState.{VaxState}
+use Rattle.system_model.specs.Processors.{Runs, Processor}
+use Rattle.system_model.specs.Settings.{Setting}
+use Rattle.tie_switch.specs.Inside.{state_there, went}
+use Rattle.tie_switch.specs.declared.course.Course.{Course}
+use Rattle.tie_switch.specs.declared.course.Landed.{Landed}
+
+-- the boundary behind its latest landing, if it landed since the boundary before
+abbrev pub boundary_by : (before : VaxState) → (held : Flags) → Option Landed → VaxState
+boundary_by before held None = before
+boundary_by before held (Some l) = state_there before (state_of l.cpu) l.block held
+
+-- the processor of the model
+abbrev pub course_of : (thread : ℕ) → (before : VaxState) → (ties : ℕ) → Course → (steps : ℕ) → Processor
+course_of thread before ties course steps = record {
+  thread = thread;
+  mode = Runs (state_of course.cpu);
+  boundary = boundary_by before course.held course.landed;
+  held = course.held;
+  retired = course.retired;
+  steps = steps;
+  ties = ties;
+}
+
+-- it makes so many turns, none of which asks
+abbrev pub Goes : Setting → (thread : ℕ) → (before : VaxState) → (old new : Course) → ℕ → Type 0
+Goes setting thread before old new n =
+    (ties steps : ℕ) → went setting (course_of thread before ties old steps) n ≡ Some (course_of thread before ties new (steps + n))

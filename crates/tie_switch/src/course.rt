@@ -1,0 +1,200 @@
+// Local steps, one after the other.
+ghost use Rattle.std.specs.Prelude.{◌≡◌, ◌<◌, ◌≤◌, ◌+◌, ◌^◌, length, slice_index, true, false, Some};
+ghost use Rattle.alpha_machine.specs.Step.{state_of};
+ghost use Rattle.alpha_meaning.specs.State.{at_place};
+ghost use Rattle.prepared_code.specs.Effects.{behind};
+ghost use Rattle.block_law.specs.Translations.{most_words};
+ghost use Rattle.exception_records.specs.Shown.{still_held};
+ghost use Rattle.image_meaning.specs.Meant.{codes_written};
+ghost use Rattle.tie_switch.specs.Courses.{Goes, boundary_by};
+ghost use Rattle.tie_switch.specs.Inside.{block_rules};
+ghost use Rattle.tie_switch.specs.Settings.{image_setting};
+ghost use Rattle.vax_form.specs.declared.state.Pending.TheVariants.{Nothing};
+
+use crate::laws::{landings_are_turns, steps_are_turns};
+use crate::setting::{READY, codes_written};
+use alpha_machine::Cpu;
+use exception_records::Rules;
+use prepared_code::{Block, Landing, Prepared};
+use system_model::{Range, shown, word_for};
+use vax_form::{Flags, Pages, VaxState};
+
+/// Where the processor landed: its registers there, and the block.
+#[derive(Clone, Copy)]
+pub(crate) struct Landed {
+    pub cpu: Cpu,
+    pub block: Block,
+}
+
+/// A processor in Alpha code. Its boundary is where it landed last, and is worked out when it is asked for.
+#[derive(Clone, Copy)]
+pub(crate) struct Course {
+    pub cpu: Cpu,
+    pub landed: Option<Landed>,
+    pub held: Flags,
+    pub retired: u64,
+}
+
+fn still_held(held: &Flags, written: &Flags) -> Flags
+    ensures { result ≡ still_held held.now written.now }
+{
+    Flags {
+        n: held.n && !written.n,
+        z: held.z && !written.z,
+        v: held.v && !written.v,
+        c: held.c && !written.c,
+    }
+}
+
+fn block_rules(block: &Block) -> Rules
+    ensures { result ≡ block_rules block.now.rules }
+{
+    match block.rules {
+        Some(rules) => rules,
+        None => READY,
+    }
+}
+
+impl Course {
+    /// The boundary, and all else as it was before.
+    pub(crate) fn boundary(&self, before: &VaxState) -> VaxState
+        ensures { result ≡ boundary_by before.now self.now.held self.now.landed }
+    {
+        match &self.landed {
+            None => *before,
+            Some(landed) => VaxState {
+                pending: before.pending,
+                ..shown(
+                    &landed.cpu,
+                    landed.block.address,
+                    &block_rules(&landed.block),
+                    &self.held,
+                    before.handler,
+                )
+            },
+        }
+    }
+
+    // The address of its instruction.
+    fn address(&self, before: &VaxState) -> u32
+        ensures { result ≡ (boundary_by before.now self.now.held self.now.landed).pc }
+    {
+        match &self.landed {
+            None => before.pc,
+            Some(landed) => landed.block.address,
+        }
+    }
+
+    // The codes that are still held behind its instruction, which is looked at where any is.
+    fn held_behind(&self, pages: &Pages, before: &VaxState) -> Flags
+        ensures { result ≡ still_held self.now.held (codes_written pages.now (boundary_by before.now self.now.held self.now.landed).pc) }
+    {
+        let held = self.held;
+        if held.n || held.z || held.v || held.c {
+            still_held(&held, &codes_written(pages, self.address(before)))
+        } else {
+            held
+        }
+    }
+
+    // Makes that step, which goes on in Alpha code at that word.
+    fn arrive(&mut self, landing: &Landing, word: u32, held: Flags)
+        requires register { landing.now.effect.register < 32 }
+        requires room { self.old.retired + 1 < 2 ^ 64 }
+        ensures cpu { state_of self.new.cpu ≡ at_place (behind (state_of self.old.cpu) landing.now.effect).regs word }
+        ensures landed { self.new.landed ≡ Some (record { cpu = self.new.cpu; block = landing.now.block }) }
+        ensures held { self.new.held ≡ held }
+        ensures retired { self.new.retired ≡ self.old.retired + 1 }
+    {
+        landing.make(&mut self.cpu);
+        self.cpu.pc = word;
+        self.landed = Some(Landed {
+            cpu: self.cpu,
+            block: landing.block,
+        });
+        self.held = held;
+        self.retired += 1;
+    }
+
+    // Makes the step that arrives at a block where the thread goes on in Alpha code. Any other step is left to be made.
+    fn land(
+        &mut self,
+        prepared: &Prepared<'_>,
+        ranges: &[Range],
+        thread: u8,
+        before: &VaxState,
+    ) -> bool
+        requires few { length prepared.now.code.words ≤ most_words }
+        requires zero { slice_index self.old.cpu.r 31 ≡ 0 }
+        requires nothing { before.now.pending ≡ Nothing }
+        requires room { self.old.retired + 1 < 2 ^ 64 }
+        ensures lands { result ≡ true → Goes (image_setting prepared.now.pages prepared.now.code ranges.now) thread before.now self.old self.new 1 }
+        ensures retired { result ≡ true → self.new.retired ≡ self.old.retired + 1 }
+        ensures stays { result ≡ false → self.new ≡ self.old }
+    {
+        landings_are_turns();
+        let Some(landing) = prepared.landing(&self.cpu) else {
+            return false;
+        };
+        let Some(word) = word_for(prepared.map(), ranges, thread, landing.block.address) else {
+            return false;
+        };
+        let held = self.held_behind(prepared.pages(), before);
+        self.arrive(&landing, word, held);
+        true
+    }
+
+    // Makes steps inside a block and the one that leads to the next. Tells how many, and whether it landed.
+    fn cross(
+        &mut self,
+        prepared: &Prepared<'_>,
+        ranges: &[Range],
+        thread: u8,
+        before: &VaxState,
+        most: u64,
+    ) -> (u64, bool)
+        requires few { length prepared.now.code.words ≤ most_words }
+        requires nothing { before.now.pending ≡ Nothing }
+        requires room { self.old.retired + most < 2 ^ 64 }
+        ensures most { result.0 ≤ most }
+        ensures some { result.1 ≡ true → 0 < result.0 }
+        ensures goes { Goes (image_setting prepared.now.pages prepared.now.code ranges.now) thread before.now self.old self.new result.0 }
+        ensures retired { self.new.retired ≤ self.old.retired + result.0 }
+    {
+        steps_are_turns();
+        let inside = prepared.run_inside(&mut self.cpu, most);
+        if inside < most && self.land(prepared, ranges, thread, before) {
+            (inside + 1, true)
+        } else {
+            (inside, false)
+        }
+    }
+
+    /// Makes local steps, inside blocks and from block to block, and tells how many: at most so many, and only those behind
+    /// which the thread goes on in Alpha code.
+    pub(crate) fn run(
+        &mut self,
+        prepared: &Prepared<'_>,
+        ranges: &[Range],
+        thread: u8,
+        before: &VaxState,
+        most: u64,
+    ) -> u64
+        requires few { length prepared.now.code.words ≤ most_words }
+        requires nothing { before.now.pending ≡ Nothing }
+        requires room { self.old.retired + most < 2 ^ 64 }
+        ensures most { result ≤ most }
+        ensures goes { Goes (image_setting prepared.now.pages prepared.now.code ranges.now) thread before.now self.old self.new result }
+        ensures retired { self.new.retired ≤ self.old.retired + result }
+    {
+        let mut made = 0;
+        while made < most {
+            let (steps, landed) = self.cross(prepared, ranges, thread, before, most - made);
+            made += steps;
+            if !landed {
+                return made;
+            }
+        }
+        made
+    }
+}
