@@ -11,6 +11,7 @@ mod course;
 mod first_bad;
 mod interpreted;
 pub mod laws;
+mod many;
 mod next;
 mod pending;
 mod place;

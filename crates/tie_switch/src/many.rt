@@ -1,0 +1,70 @@
+// Many turns of a processor.
+ghost use Rattle.std.specs.Prelude.{◌≡◌, ◌≤◌, ◌+◌, Some, length, IfSome};
+ghost use Rattle.block_law.specs.Translations.{most_words};
+ghost use Rattle.tie_switch.specs.Courses.{course_of};
+ghost use Rattle.tie_switch.specs.Inside.{went};
+ghost use Rattle.tie_switch.specs.Settings.{image_setting};
+ghost use Rattle.vax_form.specs.declared.state.Pending.TheVariants.{Nothing};
+
+use crate::course::Course;
+use crate::processor::{Mode, Processor};
+use prepared_code::Prepared;
+use system_model::Range;
+use vax_form::Pending;
+
+impl Processor {
+    ghost use Rattle.tie_switch.specs.Processors.{processor_of};
+
+    // Where it stands in Alpha code with nothing pending.
+    fn course(&self) -> Option<Course>
+        ensures is { IfSome result (λ course. processor_of self.now ≡ course_of self.now.thread self.now.boundary self.now.ties course self.now.steps) }
+        ensures nothing { IfSome result (λ course. self.now.boundary.pending ≡ Nothing) }
+        ensures retired { IfSome result (λ course. course.retired ≡ self.now.retired) }
+    {
+        match (&self.mode, self.boundary.pending) {
+            (Mode::Runs(cpu), Pending::Nothing) => Some(Course {
+                cpu: *cpu,
+                landed: None,
+                held: self.held,
+                retired: self.retired,
+            }),
+            _ => None,
+        }
+    }
+
+    // Stands where a course came to with so many steps.
+    fn settle(&mut self, course: &Course, made: u64)
+        requires retired { course.now.retired ≤ self.old.retired + made }
+        requires steps { self.old.steps + made ≤ self.old.budget }
+        ensures is { processor_of self.new ≡ course_of self.old.thread self.old.boundary self.old.ties course.now (self.old.steps + made) }
+        ensures budget { self.new.budget ≡ self.old.budget }
+        ensures thread { self.new.thread ≡ self.old.thread }
+        ensures steps { self.new.steps ≡ self.old.steps + made }
+    {
+        self.boundary = course.boundary(&self.boundary);
+        self.mode = Mode::Runs(course.cpu);
+        self.held = course.held;
+        self.retired = course.retired;
+        self.steps += made;
+    }
+
+    /// Makes turns that ask nothing, with the registers in place, and tells how many: local steps inside blocks and from block
+    /// to block, at most so many and within the budget, while the thread goes on in Alpha code.
+    pub fn run_local(&mut self, prepared: &Prepared<'_>, ranges: &[Range], most: u64) -> u64
+        requires few { length prepared.now.code.words ≤ most_words }
+        ensures most { result ≤ most }
+        ensures budget { self.new.budget ≡ self.old.budget }
+        ensures thread { self.new.thread ≡ self.old.thread }
+        ensures steps { self.new.steps ≡ self.old.steps + result }
+        ensures few_steps { self.new.steps ≤ self.new.budget }
+        ensures went { went (image_setting prepared.now.pages prepared.now.code ranges.now) (processor_of self.old) result ≡ Some (processor_of self.new) }
+    {
+        let Some(mut course) = self.course() else {
+            return 0;
+        };
+        let most = most.min(self.budget - self.steps);
+        let made = course.run(prepared, ranges, self.thread, &self.boundary, most);
+        self.settle(&course, made);
+        made
+    }
+}
