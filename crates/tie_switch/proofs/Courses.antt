@@ -12,10 +12,12 @@ use Rattle.vax_form.specs.declared.state.Pending.TheVariants.{Nothing}
 use Rattle.vax_form.specs.declared.state.VaxState.{VaxState}
 use Rattle.prepared_code.specs.Inside.{steps_in, landing, landed}
 use Rattle.prepared_code.specs.declared.blocks.Block.{Block}
-use Rattle.system_model.specs.Processors.{Mode, Runs, Processor, Turn, mode_at, mode_by, turn}
+use Rattle.system_model.specs.Processors.{Mode, Runs, Processor, mode_at, mode_by, mode_of, moment_of, stepped, placed, left, alpha_turn, turn, turn_in}
 use Rattle.system_model.specs.Ranges.{word_for}
 use Rattle.system_model.specs.Settings.{Setting, unless_pending}
-use Rattle.tie_switch.specs.Courses.{boundary_by, course_of, Goes}
+use Rattle.system_model.specs.Steps.{Last, Comes, Fails, Place, Inside, Lands, Leaves, Next, Moves, Wants, Stuck, next, settled_last}
+use Rattle.vax_form.specs.Tree.{Finish, Exit, Trap}
+use Rattle.tie_switch.specs.Courses.{Begins, boundary_by, course_of, Goes}
 use Rattle.tie_switch.specs.Inside.{went, went_by, state_there, source_in, StepsAreTurns, LandingsAreTurns}
 use Rattle.tie_switch.specs.declared.course.Course.{Course}
 use Rattle.tie_switch.specs.declared.course.Landed.{Landed}
@@ -92,3 +94,25 @@ goes_there s thread before old new pages d block word law nothing there goes cpu
     ∙ ap (λ n. made thread ties (Runs (state_of new.cpu)) (state_there before (state_of new.cpu) block new.held) new.held n (suc steps)) one_more
     ∙ ap (λ n. made thread ties (Runs (state_of new.cpu)) (state_there before (state_of new.cpu) block new.held) new.held new.retired n) next
     ∙ ap (λ (l : Option Landed). made thread ties (Runs (state_of new.cpu)) (boundary_by before new.held l) new.held new.retired (steps + 1)) (sym at))
+
+-- ---- the first turn of a new processor
+same_left : (s : Setting) (p : Processor) (m : Mode) (last : Last) → left s (record p { mode = m }) last ≡ left s p last
+same_left s p m (Comes (Finish state)) = refl
+same_left s p m (Comes (Exit state)) = refl
+same_left s p m (Comes (Trap kind state)) = refl
+same_left s p m (Fails exception) = refl
+
+same_placed : (s : Setting) (p : Processor) (m : Mode) (place : Place) → placed s (record p { mode = m }) place ≡ placed s p place
+same_placed s p m (Inside alpha) = refl
+same_placed s p m (Lands state held regs) = refl
+same_placed s p m (Leaves last) = same_left s p m (settled_last p.boundary last)
+
+same_turn : (s : Setting) (p : Processor) (m : Mode) (n : Next) → went_by (alpha_turn s (record p { mode = m }) n) ≡ went_by (alpha_turn s p n)
+same_turn s p m (Moves place) = ap Some (same_placed s (stepped p) m place)
+same_turn s p m (Wants request on) = refl
+same_turn s p m Stuck = refl
+
+pub begins_there : (s : Setting) (p : Processor) (a : Alpha) → mode_of s p p.mode ≡ Runs a → Begins s p (record p { mode = Runs a })
+begins_there s p a e zero =
+    ap (λ (m : Mode). went_by (turn_in s p m)) e ∙ sym (same_turn s p (Runs a) (next s (moment_of p) a))
+begins_there s p a e (suc n) = ap (option_and_then (λ q. went_by (turn s q))) (begins_there s p a e n)

@@ -1,5 +1,5 @@
 -- What contracts see of a processor in Alpha code whose boundary is not worked out.
-use Rattle.std.specs.Prelude.{◌≡◌, ℕ, ◌+◌, Option, Some, None}
+use Rattle.std.specs.Prelude.{◌≡◌, ℕ, suc, ◌+◌, Option, Some, None}
 use Rattle.alpha_machine.specs.Step.{state_of}
 use Rattle.vax_form.specs.declared.state.Flags.{Flags}
 use Rattle.vax_form.specs.declared.state.VaxState.{VaxState}
@@ -30,3 +30,7 @@ course_of thread before ties course steps = record {
 abbrev pub Goes : Setting → (thread : ℕ) → (before : VaxState) → (old new : Course) → ℕ → Type 0
 Goes setting thread before old new n =
     (ties steps : ℕ) → went setting (course_of thread before ties old steps) n ≡ Some (course_of thread before ties new (steps + n))
+
+-- the turns of the one are those of the other
+abbrev pub Begins : Setting → (p q : Processor) → Type 0
+Begins setting p q = (n : ℕ) → went setting p (suc n) ≡ went setting q (suc n)

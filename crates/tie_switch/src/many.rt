@@ -1,34 +1,62 @@
 // Many turns of a processor.
 ghost use Rattle.std.specs.Prelude.{◌≡◌, ◌≤◌, ◌+◌, Some, length, IfSome};
 ghost use Rattle.block_law.specs.Translations.{most_words};
-ghost use Rattle.tie_switch.specs.Courses.{course_of};
+ghost use Rattle.alpha_machine.specs.Step.{state_of};
+ghost use Rattle.system_model.specs.Processors.{Runs, mode_of};
+ghost use Rattle.tie_switch.specs.Courses.{Begins, course_of};
 ghost use Rattle.tie_switch.specs.Inside.{went};
 ghost use Rattle.tie_switch.specs.Settings.{image_setting};
 ghost use Rattle.vax_form.specs.declared.state.Pending.TheVariants.{Nothing};
 
 use crate::course::Course;
 use crate::processor::{Mode, Processor};
+use crate::registers::registers_of;
+use alpha_machine::Cpu;
 use prepared_code::Prepared;
-use system_model::Range;
+use system_model::{Range, word_for};
 use vax_form::Pending;
 
 impl Processor {
     ghost use Rattle.tie_switch.specs.Processors.{processor_of};
 
-    // Where it stands in Alpha code with nothing pending.
-    fn course(&self) -> Option<Course>
-        ensures is { IfSome result (λ course. processor_of self.now ≡ course_of self.now.thread self.now.boundary self.now.ties course self.now.steps) }
+    // Where it stands in Alpha code with nothing pending; a new processor at its first boundary.
+    fn cpu_at(&self, prepared: &Prepared<'_>, ranges: &[Range]) -> Option<Cpu>
+        requires nothing { self.now.boundary.pending ≡ Nothing }
+        ensures { IfSome result (λ cpu. mode_of (image_setting prepared.now.pages prepared.now.code ranges.now) (processor_of self.now) (processor_of self.now).mode ≡ Runs (state_of cpu)) }
+    {
+        match self.mode {
+            Mode::New => {
+                match word_for(prepared.map(), ranges, self.thread, self.boundary.pc) {
+                    Some(pc) => Some(Cpu {
+                        r: registers_of(&self.boundary),
+                        pc,
+                    }),
+                    None => None,
+                }
+            }
+            Mode::Runs(cpu) => Some(cpu),
+            _ => None,
+        }
+    }
+
+    // Its course from there.
+    fn course(&self, prepared: &Prepared<'_>, ranges: &[Range]) -> Option<Course>
+        ensures begins { IfSome result (λ course. Begins (image_setting prepared.now.pages prepared.now.code ranges.now) (processor_of self.now)
+            (course_of self.now.thread self.now.boundary self.now.ties course self.now.steps)) }
         ensures nothing { IfSome result (λ course. self.now.boundary.pending ≡ Nothing) }
         ensures retired { IfSome result (λ course. course.retired ≡ self.now.retired) }
     {
-        match (&self.mode, self.boundary.pending) {
-            (Mode::Runs(cpu), Pending::Nothing) => Some(Course {
-                cpu: *cpu,
-                landed: None,
-                held: self.held,
-                retired: self.retired,
-            }),
-            _ => None,
+        match self.boundary.pending {
+            Pending::Nothing => match self.cpu_at(prepared, ranges) {
+                Some(cpu) => Some(Course {
+                    cpu,
+                    landed: None,
+                    held: self.held,
+                    retired: self.retired,
+                }),
+                None => None,
+            },
+            Pending::Deliver(_) | Pending::Resume => None,
         }
     }
 
@@ -59,12 +87,14 @@ impl Processor {
         ensures few_steps { self.new.steps ≤ self.new.budget }
         ensures went { went (image_setting prepared.now.pages prepared.now.code ranges.now) (processor_of self.old) result ≡ Some (processor_of self.new) }
     {
-        let Some(mut course) = self.course() else {
+        let Some(mut course) = self.course(prepared, ranges) else {
             return 0;
         };
         let most = most.min(self.budget - self.steps);
         let made = course.run(prepared, ranges, self.thread, &self.boundary, most);
-        self.settle(&course, made);
+        if made > 0 {
+            self.settle(&course, made);
+        }
         made
     }
 }
