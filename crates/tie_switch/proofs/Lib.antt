@@ -6,6 +6,5 @@ pub mod Handled
 pub mod Awaited
 pub mod Found
 pub mod Standing
-pub mod Defined
 pub mod Inside
 pub mod Courses
