@@ -2,7 +2,7 @@
 use Rattle.std.specs.Prelude.{◌≡◌, ℕ, zero, suc, ◌<◌, ◌≤◌, ◌-◌, ◌==◌, if◌then◌else◌, List, map, length, get_or, slice_get, Option, Some, None, IfSome}
 use Rattle.address_map.specs.Pairs.{Pair, AllRise, address_at}
 use Rattle.alpha_encode.specs.Words.{IsEncodable}
-use Rattle.block_law.specs.Translations.{fetch_of}
+use Rattle.block_law.specs.Translations.{fetch_of, most_words}
 use Rattle.prepared_code.specs.Sources.{Source, block_of}
 use Rattle.prepared_code.specs.declared.blocks.Block.{Block}
 use Rattle.prepared_code.specs.declared.prepared.Word.{Word}
@@ -35,6 +35,7 @@ abbrev pub begun : List Block → (number : ℕ) → Option Block
 begun blocks number = if number == 0 then None else slice_get blocks (number - 1)
 
 pub record IsPrepared (source : Source) (made : List Block) (ready : List Word) : Type 0 where
+  pub few : length source.code.words ≤ most_words
   pub rise : AllRise source.code.map
   pub words : AreReady source.code.words source.code.map ready (length source.code.words)
   pub blocks : made ≡ map (block_of source.code.points source.pages) source.code.map

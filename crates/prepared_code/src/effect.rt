@@ -19,7 +19,7 @@ pub struct Effect {
 }
 
 #[tactic(auto, unfolding(alpha_meaning::specs::State::regs_of))]
-#[inline]
+#[inline(always)]
 fn register(cpu: &Cpu, n: u8) -> u64
     requires within { n < 32 }
     requires zero { slice_index cpu.now.r 31 ≡ 0 }
@@ -28,7 +28,7 @@ fn register(cpu: &Cpu, n: u8) -> u64
     cpu.r[n as usize]
 }
 
-#[inline]
+#[inline(always)]
 fn second_value(cpu: &Cpu, second: Second) -> u64
     requires second { IsSecond second }
     requires zero { slice_index cpu.now.r 31 ≡ 0 }
@@ -41,14 +41,14 @@ fn second_value(cpu: &Cpu, second: Second) -> u64
 }
 
 // The address of the next word, in bytes.
-#[inline]
+#[inline(always)]
 fn link(cpu: &Cpu) -> u64
     ensures { result ≡ link_of cpu.now.pc }
 {
     4 * u64::from(cpu.pc.wrapping_add(1))
 }
 
-#[inline]
+#[inline(always)]
 fn memory_effect(cpu: &Cpu, op: MemoryOp, ra: u8, rb: u8, disp: i16) -> Option<Effect>
     requires ra { ra < 32 }
     requires rb { rb < 32 }
@@ -67,7 +67,7 @@ fn memory_effect(cpu: &Cpu, op: MemoryOp, ra: u8, rb: u8, disp: i16) -> Option<E
     }
 }
 
-#[inline]
+#[inline(always)]
 fn branch_effect(cpu: &Cpu, op: BranchOp, ra: u8, disp: i32) -> Effect
     requires ra { ra < 32 }
     requires zero { slice_index cpu.now.r 31 ≡ 0 }
@@ -88,7 +88,7 @@ fn branch_effect(cpu: &Cpu, op: BranchOp, ra: u8, disp: i32) -> Effect
 }
 
 /// What an instruction does to the registers; None for an access and a PALcode call.
-#[inline]
+#[inline(always)]
 pub(crate) fn effect_of(cpu: &Cpu, instr: AlphaInstr) -> Option<Effect>
     requires encodable { IsEncodable instr }
     requires zero { slice_index cpu.now.r 31 ≡ 0 }
@@ -118,7 +118,7 @@ pub(crate) fn effect_of(cpu: &Cpu, instr: AlphaInstr) -> Option<Effect>
 
 /// Register 31 stands as it reads.
 #[tactic(auto, unfolding(alpha_meaning::specs::State::regs_of))]
-#[inline]
+#[inline(always)]
 pub(crate) fn clear_31(cpu: &mut Cpu)
     ensures is { state_of cpu.new ≡ state_of cpu.old }
     ensures zero { slice_index cpu.new.r 31 ≡ 0 }
@@ -128,7 +128,7 @@ pub(crate) fn clear_31(cpu: &mut Cpu)
 
 /// Leaves what an effect says.
 #[tactic(auto, unfolding(alpha_meaning::specs::State::regs_of))]
-#[inline]
+#[inline(always)]
 pub(crate) fn commit(cpu: &mut Cpu, effect: Effect)
     requires { effect.register < 32 }
     ensures is { state_of cpu.new ≡ behind (state_of cpu.old) effect }

@@ -1,12 +1,11 @@
 // The step that arrives at a block.
-ghost use Rattle.std.specs.Prelude.{◌≡◌, ◌<◌, ◌≤◌, length, slice_index, IfSome, option_map};
+ghost use Rattle.std.specs.Prelude.{◌≡◌, ◌<◌, slice_index, IfSome, option_map};
 ghost use Rattle.alpha_machine.specs.Step.{state_of};
-ghost use Rattle.block_law.specs.Translations.{most_words};
+ghost use Rattle.alpha_meaning.specs.State.{Alpha};
 ghost use Rattle.prepared_code.specs.Effects.{behind};
 ghost use Rattle.prepared_code.specs.Inside.{landed, landing};
-ghost use Rattle.prepared_code.specs.Sources.{block_at};
-ghost use Rattle.alpha_meaning.specs.State.{Alpha};
 ghost use Rattle.prepared_code.specs.Landings.{landed_by};
+ghost use Rattle.prepared_code.specs.Sources.{block_at};
 
 use crate::blocks::Block;
 use crate::effect::{Effect, commit};
@@ -22,7 +21,7 @@ pub struct Landing {
 
 impl Landing {
     /// Makes the step.
-    #[inline]
+    #[inline(always)]
     pub fn make(&self, cpu: &mut Cpu)
         requires { self.now.effect.register < 32 }
         ensures is { state_of cpu.new ≡ behind (state_of cpu.old) self.now.effect }
@@ -35,7 +34,6 @@ impl Landing {
 impl<'a> Prepared<'a> {
     /// The step of the word there, where it is local and arrives at a block. Register 31 has to stand as it reads.
     pub fn landing(&self, cpu: &Cpu) -> Option<Landing>
-        requires few { length self.now.code.words ≤ most_words }
         requires zero { slice_index cpu.now.r 31 ≡ 0 }
         ensures lands { landing self.now (state_of cpu.now) ≡ option_map (landed_by (state_of cpu.now)) result }
         ensures register { IfSome result (λ l. l.effect.register < 32) }
@@ -46,7 +44,7 @@ impl<'a> Prepared<'a> {
         }
     }
 
-    #[inline]
+    #[inline(always)]
     fn landing_by(&self, effect: Effect) -> Option<Landing>
         ensures is { (c : Alpha) → option_map (landed (behind c effect)) (block_at self.now effect.next) ≡ option_map (landed_by c) result }
         ensures effect { IfSome result (λ l. l.effect ≡ effect) }

@@ -128,7 +128,7 @@ fn prepared_by<'a>(
 }
 
 // The block with that number.
-#[inline]
+#[inline(always)]
 fn begun(blocks: &[Block], number: u32) -> Option<Block>
     ensures { result ≡ begun blocks.now number }
 {
@@ -163,9 +163,10 @@ impl<'a> Prepared<'a> {
         self.pages
     }
 
-    #[inline]
+    #[inline(always)]
     fn word(&self, word: u32) -> Option<Word>
-        ensures { MatchOption result (length self.now.code.words ≤ word) (λ w. IsReady self.now.code.words self.now.code.map word w) }
+        ensures ready { MatchOption result (length self.now.code.words ≤ word) (λ w. IsReady self.now.code.words self.now.code.map word w) }
+        ensures few { IfSome result (λ w. word < most_words) }
     {
         match self.ready.get(word as usize) {
             Some(word) => Some(*word),
@@ -174,10 +175,11 @@ impl<'a> Prepared<'a> {
     }
 
     /// The instruction at a word; None where it spells none or stands behind the words.
-    #[inline]
+    #[inline(always)]
     pub fn instr_at(&self, word: u32) -> Option<AlphaInstr>
         ensures is { result ≡ fetch_of self.now.code.words word }
         ensures encodable { IfSome result IsEncodable }
+        ensures few { IfSome result (λ i. word < most_words) }
     {
         match self.word(word) {
             Some(word) => word.instr,
@@ -186,7 +188,7 @@ impl<'a> Prepared<'a> {
     }
 
     /// Whether a block begins at a word.
-    #[inline]
+    #[inline(always)]
     pub(crate) fn begins(&self, word: u32) -> bool
         ensures { result ≡ is_some (address_at self.now.code.map word) }
     {
@@ -200,7 +202,7 @@ impl<'a> Prepared<'a> {
     }
 
     /// The block that begins at a word.
-    #[inline]
+    #[inline(always)]
     pub fn block_at(&self, word: u32) -> Option<Block>
         ensures { result ≡ block_at self.now word }
     {

@@ -1,7 +1,6 @@
 // Many steps inside a block.
-ghost use Rattle.std.specs.Prelude.{◌≡◌, ◌<◌, ◌≤◌, length, slice_index, Some, None, IfSome, option_map};
+ghost use Rattle.std.specs.Prelude.{◌≡◌, ◌<◌, ◌≤◌, slice_index, Some, None, IfSome, option_map};
 ghost use Rattle.alpha_machine.specs.Step.{state_of};
-ghost use Rattle.block_law.specs.Translations.{most_words};
 ghost use Rattle.prepared_code.specs.Effects.{behind};
 ghost use Rattle.prepared_code.specs.Inside.{local_at, step_in, steps_in};
 
@@ -11,9 +10,8 @@ use alpha_machine::Cpu;
 
 impl<'a> Prepared<'a> {
     // What the next step does, where it is local.
-    #[inline]
+    #[inline(always)]
     pub(crate) fn effect_at(&self, cpu: &Cpu) -> Option<Effect>
-        requires few { length self.now.code.words ≤ most_words }
         requires zero { slice_index cpu.now.r 31 ≡ 0 }
         ensures is { option_map (behind (state_of cpu.now)) result ≡ local_at self.now.code (state_of cpu.now) }
         ensures register { IfSome result (λ e. e.register < 32) }
@@ -25,9 +23,8 @@ impl<'a> Prepared<'a> {
     }
 
     // The same, where it goes on inside a block.
-    #[inline]
+    #[inline(always)]
     fn effect_inside(&self, cpu: &Cpu) -> Option<Effect>
-        requires few { length self.now.code.words ≤ most_words }
         requires zero { slice_index cpu.now.r 31 ≡ 0 }
         ensures is { option_map (behind (state_of cpu.now)) result ≡ step_in self.now.code (state_of cpu.now) }
         ensures register { IfSome result (λ e. e.register < 32) }
@@ -45,7 +42,6 @@ impl<'a> Prepared<'a> {
     }
 
     fn steps_in(&self, cpu: &mut Cpu, most: u64) -> u64
-        requires few { length self.now.code.words ≤ most_words }
         requires zero { slice_index cpu.old.r 31 ≡ 0 }
         ensures zero { slice_index cpu.new.r 31 ≡ 0 }
         ensures most { result ≤ most }
@@ -65,7 +61,6 @@ impl<'a> Prepared<'a> {
     /// made only where the next is none.
     /// Register 31 stands as it reads.
     pub fn run_inside(&self, cpu: &mut Cpu, most: u64) -> u64
-        requires few { length self.now.code.words ≤ most_words }
         ensures zero { slice_index cpu.new.r 31 ≡ 0 }
         ensures most { result ≤ most }
         ensures ran { steps_in self.now.code (state_of cpu.old) result ≡ Some (state_of cpu.new) }

@@ -12,4 +12,4 @@ returns-in-Some c =
     c.begun.ensures
     ∙ ap (λ (blocks : List Block). begun blocks number) (c.deref.ensures.value ∙ c.self.invariant.blocks)
     ∙ ap (λ (s : Source). begun (map (block_of s.code.points s.pages) s.code.map) number) c.self.view_is
-    ∙ begun_is c.args.self.now c.args.word number c.in-Some.ensures.block
+    ∙ begun_is c.args.self.now c.args.word number c.in-Some.ensures.ready.block

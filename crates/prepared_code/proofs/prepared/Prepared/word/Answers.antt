@@ -6,8 +6,8 @@ use Rattle.prepared_code.specs.declared.prepared.Word.{Word}
 use Rattle.prepared_code.proofs.Words.{ready_at}
 use Rattle.prepared_code.proofs.prepared.Prepared.word.Goals as goal
 
-pub returns-in-Some : goal.returns-in-Some
-returns-in-Some c =
+pub returns-in-Some-clause-ready : goal.returns-in-Some-clause-ready
+returns-in-Some-clause-ready c =
     let found = c.in-Some.ensures.lookup.3 in
     let p = c.self.inside in
     let are : AreReady p.words.now p.map.now c.deref.result.now (length p.words.now) =
