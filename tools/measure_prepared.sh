@@ -1,18 +1,24 @@
 #!/usr/bin/env bash
-# Prints how long a step takes in a loop of seven ADDL on seven registers and a BR, through prepared code and by alpha_machine::step alone.
-# Processor time counts, so that other work on the machine weighs less.
+# Prints how long a step takes in a loop of seven ADDL, each on a register of its own, and a BR: through prepared code
+# inside a block, through a processor that lands at each turn of the loop, and by alpha_machine::step alone. Processor time
+# counts, so that other work on the machine weighs less.
 set -euo pipefail
 . "$(dirname "$0")/scratch.sh"
-scratch "prepared_code vax_form address_map exception_records alpha_machine alpha_meaning alpha_encode anyhow" <<'PROGRAM'
+scratch "tie_switch prepared_code image_file vax_form address_map exception_records alpha_machine alpha_meaning alpha_encode anyhow" <<'PROGRAM'
 #![tactic(auto)]
 
 ghost use Rattle.std.specs.Prelude.{ℕ, ◌<◌, length, slice_index, IsSome};
 ghost use Rattle.alpha_encode.specs.Words.{instr_at};
 
+use address_map::AddressMap;
 use alpha_machine::{AlphaStep, Cpu, step};
 use anyhow::{Context, Result};
-use prepared_code::prepare;
-use vax_form::Pages;
+use exception_records::Points;
+use image_file::Start;
+use prepared_code::{Prepared, prepare};
+use std::alloc::Global;
+use tie_switch::Processor;
+use vax_form::{PageRange, Pages};
 
 const STEPS: u64 = 400_000_000;
 
@@ -27,6 +33,10 @@ const CODE: [u32; 8] = [
     0x40e0_3007,
     0xc3ff_fff8,
 ];
+
+/// Where the block begins, and ADDL2 R1,R2, which writes all codes.
+const ADDRESS: u32 = 0x200;
+const ADD: [u8; 3] = [0xc0, 0x51, 0x52];
 
 /// Steps until the program counter leaves the code, or a step isn't local.
 #[inline(never)]
@@ -45,21 +55,61 @@ fn run(cpu: &mut Cpu, code: &[u32], most: u64) -> u64
     most
 }
 
-fn main(rt: HostRuntime) -> Result<()> {
-    let map = address_map::build(rt.alloc(), &[]).ok().context("no map")?;
-    let points = exception_records::build(Vec::new(rt.alloc())).ok().context("no points")?;
-    let pages = Pages {
-        ranges: Vec::new(rt.alloc()),
-        code: Vec::new(rt.alloc()),
-    };
-    let prepared = prepare(rt.alloc(), &CODE, &map, &points, &pages).ok().context("no memory")?;
+fn pages(alloc: Global) -> Result<Pages> {
+    let mut code = vec![in alloc; 0; 512]?;
+    for place in 0..ADD.len() {
+        code[place] = ADD[place];
+    }
+    let mut ranges = Vec::new(alloc);
+    ranges.push(PageRange {
+        first: ADDRESS / 512,
+        count: 1,
+        writable: false,
+        place: 0,
+    })?;
+    Ok(Pages { ranges, code })
+}
+
+fn prepared<'a>(alloc: Global, map: &'a AddressMap, points: &'a Points, pages: &'a Pages) -> Result<Prepared<'a>> {
+    prepare(alloc, &CODE, map, points, pages).ok().context("no memory")
+}
+
+// Each answers how many steps were made, and R1.
+fn inside(alloc: Global, points: &Points, pages: &Pages) -> Result<(u64, u64)> {
+    let map = address_map::build(alloc, &[]).ok().context("no map")?;
+    let prepared = prepared(alloc, &map, points, pages)?;
     let mut cpu = Cpu { r: [0; 32], pc: 0 };
-    let steps = if std::env::args(&rt)?.count() > 1 {
-        run(&mut cpu, &CODE, STEPS)
-    } else {
-        prepared.run_inside(&mut cpu, STEPS)
+    let steps = prepared.run_inside(&mut cpu, STEPS);
+    Ok((steps, cpu.r[1]))
+}
+
+fn landing(alloc: Global, points: &Points, pages: &Pages) -> Result<(u64, u64)> {
+    let map = address_map::build(alloc, &[(ADDRESS, 0)]).ok().context("no map")?;
+    let prepared = prepared(alloc, &map, points, pages)?;
+    let start = Start {
+        pc: ADDRESS,
+        sp: 0,
+        first: [0; 14],
     };
-    let sum = cpu.r[1];
+    let mut processor = Processor::new(0, &start, STEPS);
+    let steps = processor.run_local(&prepared, &[], STEPS);
+    Ok((steps, u64::from(processor.shown().r[1])))
+}
+
+fn alone() -> (u64, u64) {
+    let mut cpu = Cpu { r: [0; 32], pc: 0 };
+    let steps = run(&mut cpu, &CODE, STEPS);
+    (steps, cpu.r[1])
+}
+
+fn main(rt: HostRuntime) -> Result<()> {
+    let points = exception_records::build(Vec::new(rt.alloc())).ok().context("no points")?;
+    let pages = pages(rt.alloc())?;
+    let (steps, sum) = match std::env::args(&rt)?.count() {
+        1 => inside(rt.alloc(), &points, &pages)?,
+        2 => landing(rt.alloc(), &points, &pages)?,
+        _ => alone(),
+    };
     println!(rt; "{steps} {sum}")?;
     Ok(())
 }
@@ -74,6 +124,7 @@ measure() {
     awk -v name="$name" -v seconds="$seconds" '{ printf "%s: %d steps in %s s: %.1f ns a step\n", name, $1, seconds, seconds / $1 * 1e9 }' "$room/steps"
 }
 for turn in 1 2 3; do
-    measure "prepared code"
-    measure "alpha_machine::step" one
+    measure "inside a block"
+    measure "with landings" landing
+    measure "alpha_machine::step" alone alone
 done

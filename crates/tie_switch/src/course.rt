@@ -1,9 +1,8 @@
 // Local steps, one after the other.
-ghost use Rattle.std.specs.Prelude.{◌≡◌, ◌<◌, ◌≤◌, ◌+◌, ◌^◌, length, slice_index, true, false, Some};
+ghost use Rattle.std.specs.Prelude.{◌≡◌, ◌<◌, ◌≤◌, ◌+◌, ◌^◌, slice_index, true, false, Some};
 ghost use Rattle.alpha_machine.specs.Step.{state_of};
 ghost use Rattle.alpha_meaning.specs.State.{at_place};
 ghost use Rattle.prepared_code.specs.Effects.{behind};
-ghost use Rattle.block_law.specs.Translations.{most_words};
 ghost use Rattle.exception_records.specs.Shown.{still_held};
 ghost use Rattle.image_meaning.specs.Meant.{codes_written};
 ghost use Rattle.tie_switch.specs.Courses.{Goes, boundary_by};
@@ -124,7 +123,6 @@ impl Course {
         thread: u8,
         before: &VaxState,
     ) -> bool
-        requires few { length prepared.now.code.words ≤ most_words }
         requires zero { slice_index self.old.cpu.r 31 ≡ 0 }
         requires nothing { before.now.pending ≡ Nothing }
         requires room { self.old.retired + 1 < 2 ^ 64 }
@@ -153,7 +151,6 @@ impl Course {
         before: &VaxState,
         most: u64,
     ) -> (u64, bool)
-        requires few { length prepared.now.code.words ≤ most_words }
         requires nothing { before.now.pending ≡ Nothing }
         requires room { self.old.retired + most < 2 ^ 64 }
         ensures most { result.0 ≤ most }
@@ -180,7 +177,6 @@ impl Course {
         before: &VaxState,
         most: u64,
     ) -> u64
-        requires few { length prepared.now.code.words ≤ most_words }
         requires nothing { before.now.pending ≡ Nothing }
         requires room { self.old.retired + most < 2 ^ 64 }
         ensures most { result ≤ most }

@@ -1,6 +1,5 @@
 // Many turns of a processor.
-ghost use Rattle.std.specs.Prelude.{◌≡◌, ◌≤◌, ◌+◌, Some, length, IfSome};
-ghost use Rattle.block_law.specs.Translations.{most_words};
+ghost use Rattle.std.specs.Prelude.{◌≡◌, ◌≤◌, ◌+◌, Some, IfSome};
 ghost use Rattle.alpha_machine.specs.Step.{state_of};
 ghost use Rattle.system_model.specs.Processors.{Runs, mode_of};
 ghost use Rattle.tie_switch.specs.Courses.{Begins, course_of};
@@ -79,7 +78,6 @@ impl Processor {
     /// Makes turns that ask nothing, with the registers in place, and tells how many: local steps inside blocks and from block
     /// to block, at most so many and within the budget, while the thread goes on in Alpha code.
     pub fn run_local(&mut self, prepared: &Prepared<'_>, ranges: &[Range], most: u64) -> u64
-        requires few { length prepared.now.code.words ≤ most_words }
         ensures most { result ≤ most }
         ensures budget { self.new.budget ≡ self.old.budget }
         ensures thread { self.new.thread ≡ self.old.thread }
