@@ -1,0 +1,9 @@
+pub mod Comparing
+pub mod Laws
+pub mod Limits
+pub mod Reading
+pub mod Refusal
+pub mod Spelling
+pub mod Steps
+pub mod Values
+pub mod Whole

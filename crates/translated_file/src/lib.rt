@@ -1,0 +1,19 @@
+//! The file format of translated images: reading the parts of a file, comparing them with a translation, and writing.
+#![tactic(auto)]
+
+mod comparing;
+mod fields;
+mod header;
+mod lengths;
+mod limits;
+mod parts;
+mod reading;
+mod refusal;
+mod writing;
+
+pub use comparing::compare;
+pub use limits::{MOST_HINTS, MOST_PAIRS, MOST_WORDS, VERSION};
+pub use parts::Parts;
+pub use reading::read_parts;
+pub use refusal::{Numbers, TranslatedRefusal};
+pub use writing::write_translated;

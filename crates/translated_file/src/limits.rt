@@ -1,0 +1,26 @@
+//! The numbers of the format, and its limits.
+ghost use Rattle.std.specs.Prelude.{◌≡◌};
+ghost use Rattle.translated_file.specs.Limits.{is_version};
+
+/// The version that is written.
+pub const VERSION: u32 = 1;
+/// The most hints of a file.
+pub const MOST_HINTS: u32 = 32_768;
+/// The most Alpha words of a translation.
+pub const MOST_WORDS: usize = 8_388_608;
+/// The most pairs of a translation's map.
+pub const MOST_PAIRS: usize = 32_768;
+
+/// The bytes `VXTR`, the lowest first.
+pub const MAGIC: u32 = 0x5254_5856;
+/// The bytes of the header.
+pub const HEADER: usize = 16;
+/// The bytes of a hint and of a word of the tail.
+pub const WORD_BYTES: usize = 4;
+
+/// Whether the format has a version of that number.
+pub fn is_version(number: u32) -> bool
+    ensures { result ≡ is_version number }
+{
+    number == VERSION
+}
