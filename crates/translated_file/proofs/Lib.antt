@@ -1,0 +1,6 @@
+pub mod LengthLaws
+pub mod FallLaws
+pub mod Differences
+pub mod PartsLaws
+pub mod BothWays
+pub mod Prefixes
