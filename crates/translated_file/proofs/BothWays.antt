@@ -20,7 +20,7 @@ use Rattle.translated_file.specs.Spelling.{word_bytes, header_bytes, front_bytes
 use Rattle.translated_file.specs.Steps.{Gives, refuse_if, refuse_at}
 use Rattle.translated_file.specs.Reading.{hints_at, tail_at, header_in, header_of, image_bytes_in, hints_in, first_fall, parts_in, parts_of}
 use Rattle.translated_file.specs.Comparing.{whole_words, first_difference, refusal_at, length_compared, tail_compared, tail_place, compared}
-use Rattle.translated_file.specs.Whole.{IsLong, AreHints, AreWhole, IsTranslation}
+use Rattle.translated_file.specs.Whole.{IsLong, IsLongPair, AreHints, AreWhole, IsTranslation}
 use Rattle.translated_file.specs.Laws.{WrittenIsAccepted, AreBytes, AcceptedIsWritten}
 use Rattle.translated_file.specs.declared.refusal.TranslatedRefusal.{TranslatedRefusal}
 use Rattle.translated_file.specs.declared.refusal.TranslatedRefusal.TheVariants.{Truncated, Trailing}
@@ -77,7 +77,7 @@ words_again words fit =
     let count : length bytes / 4 ≡ length words = omega (arith, long) in
     (λ i. table_in 4 word (count i) (sym (append-nil bytes) i)) ∙ table_again IsLong 4 word (to_le_bytes w32) word_again (λ x f. refl) words [] fit
 
-tail_agrees : (at : ℕ) (words : List ℕ) → AllByRecursion IsLong words → tail_compared at (word_bytes words) words ≡ Ok tt
+pub tail_agrees : (at : ℕ) (words : List ℕ) → AllByRecursion IsLong words → tail_compared at (word_bytes words) words ≡ Ok tt
 unfolding tail_compared
 tail_agrees at words fit =
     let long : length (word_bytes words) ≡ 4 * length words = length-written IsLong 4 (to_le_bytes w32) (λ x f. refl) words fit in
@@ -86,11 +86,11 @@ tail_agrees at words fit =
     let long_test : nat_lt (4 * length words) (length (word_bytes words)) ≡ false = le-ltb _ _ (omega (arith, long)) in
     rw (same, short_test, long_test) refl
 
-all_append : (a b : List ℕ) → AllByRecursion IsLong a → AllByRecursion IsLong b → AllByRecursion IsLong (a ++ b)
+pub all_append : (a b : List ℕ) → AllByRecursion IsLong a → AllByRecursion IsLong b → AllByRecursion IsLong (a ++ b)
 all_append [] b fit rest = rest
 all_append (x ∷ xs) b fit rest = (fit.0, all_append xs b fit.1 rest)
 
-pairs_fit : (pairs : List Pair) → AllByRecursion (λ (p : Pair). IsLong p.0 × IsLong p.1) pairs → AllByRecursion IsLong (flat_map pair_words pairs)
+pub pairs_fit : (pairs : List Pair) → AllByRecursion IsLongPair pairs → AllByRecursion IsLong (flat_map pair_words pairs)
 pairs_fit [] fit = tt
 pairs_fit (p ∷ ps) fit = (fit.0.0, (fit.0.1, pairs_fit ps fit.1))
 

@@ -176,11 +176,11 @@ four_parts words pairs tail =
     let next : 1 + length words + 1 ≡ 2 + length words = omega arith in
     two_lists 0 (length words ∷ []) (words ++ m ∷ flat) tail
     ∙ ap (or_else (count_part words tail)) (
-      two_lists 1 words (m ∷ flat) tail
-      ∙ ap (or_else (words_part words tail)) (
-        two_lists (1 + length words) (m ∷ []) flat tail
-        ∙ ap (λ n. or_else (pair_count_part words pairs tail) (from_place n flat tail)) next
-      )
+    two_lists 1 words (m ∷ flat) tail
+    ∙ ap (or_else (words_part words tail)) (
+    two_lists (1 + length words) (m ∷ []) flat tail
+    ∙ ap (λ n. or_else (pair_count_part words pairs tail) (from_place n flat tail)) next
+    )
     )
 
 -- the difference of whole tails

@@ -10,6 +10,9 @@ use Rattle.translated_file.specs.Values.{PartsValue}
 abbrev pub IsLong : ℕ → Type 0
 IsLong number = number < 2 ^ 32
 
+abbrev pub IsLongPair : Pair → Type 0
+IsLongPair p = IsLong p.0 × IsLong p.1
+
 -- each is above its predecessor
 abbrev pub Rise : List ℕ → Type 0
 Rise numbers = AllAdjacentBelow (λ (before n : ℕ). before < n) numbers (length numbers)
@@ -31,4 +34,4 @@ pub record IsTranslation (words : List ℕ) (pairs : List Pair) : Type 0 where
   pub few_words : length words ≤ MOST_WORDS
   pub few_pairs : length pairs ≤ MOST_PAIRS
   pub words_fit : AllByRecursion IsLong words
-  pub pairs_fit : AllByRecursion (λ (p : Pair). IsLong p.0 × IsLong p.1) pairs
+  pub pairs_fit : AllByRecursion IsLongPair pairs

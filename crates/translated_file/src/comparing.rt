@@ -48,11 +48,7 @@ fn check_pairs(tail: &[u8], place: usize, pairs: &[(u32, u32)]) -> Result<(), Tr
 }
 
 /// The same of all words that the translation's tail has.
-fn check_tail(
-    tail: &[u8],
-    words: &[u32],
-    pairs: &[(u32, u32)],
-) -> Result<(), TranslatedRefusal>
+fn check_tail(tail: &[u8], words: &[u32], pairs: &[(u32, u32)]) -> Result<(), TranslatedRefusal>
     requires words { length words.now ≤ MOST_WORDS }
     requires pairs { length pairs.now ≤ MOST_PAIRS }
     ensures { result ≡ refuse_at (first_difference 0 (tail_words words.now pairs.now) (whole_words tail.now)) refusal_at }
@@ -94,11 +90,7 @@ fn check_length(parts: &Parts, words: usize) -> Result<(), TranslatedRefusal>
 
 /// Compares the tail with that of a translation, whose words and map these are. The places in the refusals are those of
 /// the whole file.
-pub fn compare(
-    parts: &Parts,
-    words: &[u32],
-    map: &AddressMap,
-) -> Result<(), TranslatedRefusal>
+pub fn compare(parts: &Parts, words: &[u32], map: &AddressMap) -> Result<(), TranslatedRefusal>
     requires parts { AreWhole parts.now }
     requires words { length words.now ≤ MOST_WORDS }
     requires pairs { length map.now ≤ MOST_PAIRS }

@@ -4,6 +4,7 @@
 mod comparing;
 mod fields;
 mod header;
+pub mod laws;
 mod lengths;
 mod limits;
 mod parts;

@@ -1,11 +1,11 @@
 //! The bytes of a translated file from its parts.
 ghost use Rattle.std.specs.Prelude.{◌≡◌, ◌≤◌, ◌<◌, ◌^◌, ◌++◌, length, IfOk, OnOk, Ok};
-ghost use Rattle.std.specs.List.{flat_map};
+ghost use Rattle.std.specs.List.{flat_map, AllByRecursion};
 ghost use Rattle.image_file.specs.Whole.{IsWhole};
 ghost use Rattle.translated_file.specs.Spelling.{word_bytes, header_bytes, pair_words, tail_words, written_parts, spelling};
 ghost use Rattle.translated_file.specs.Reading.{parts_of};
 ghost use Rattle.translated_file.specs.Comparing.{accepted};
-ghost use Rattle.translated_file.specs.Whole.{Rise};
+ghost use Rattle.translated_file.specs.Whole.{IsLong, Rise};
 
 use crate::limits::*;
 use address_map::AddressMap;
@@ -14,7 +14,8 @@ use std::alloc::{AllocError, Global};
 use vax_form::WantOfMemory;
 
 fn put_words(out: &mut Vec<u8>, words: &[u32]) -> Result<(), AllocError>
-    ensures { OnOk result (out.new.items ≡ out.old.items ++ word_bytes words.now) }
+    ensures bytes { OnOk result (out.new.items ≡ out.old.items ++ word_bytes words.now) }
+    ensures fit { OnOk result (AllByRecursion IsLong words.now) }
 {
     for word in words {
         out.extend_from_slice(&word.to_le_bytes())?;
@@ -23,7 +24,8 @@ fn put_words(out: &mut Vec<u8>, words: &[u32]) -> Result<(), AllocError>
 }
 
 fn put_pairs(out: &mut Vec<u8>, pairs: &[(u32, u32)]) -> Result<(), AllocError>
-    ensures { OnOk result (out.new.items ≡ out.old.items ++ word_bytes (flat_map pair_words pairs.now)) }
+    ensures bytes { OnOk result (out.new.items ≡ out.old.items ++ word_bytes (flat_map pair_words pairs.now)) }
+    ensures fit { OnOk result (AllByRecursion IsLong (flat_map pair_words pairs.now)) }
 {
     for pair in pairs {
         put_words(out, &[pair.0, pair.1])?;
@@ -42,14 +44,11 @@ fn put_header(
     put_words(out, &[MAGIC, version, image_bytes, hints])
 }
 
-fn put_tail(
-    out: &mut Vec<u8>,
-    words: &[u32],
-    pairs: &[(u32, u32)],
-) -> Result<(), AllocError>
+fn put_tail(out: &mut Vec<u8>, words: &[u32], pairs: &[(u32, u32)]) -> Result<(), AllocError>
     requires words { length words.now ≤ MOST_WORDS }
     requires pairs { length pairs.now ≤ MOST_PAIRS }
-    ensures { OnOk result (out.new.items ≡ out.old.items ++ word_bytes (tail_words words.now pairs.now)) }
+    ensures bytes { OnOk result (out.new.items ≡ out.old.items ++ word_bytes (tail_words words.now pairs.now)) }
+    ensures fit { OnOk result (AllByRecursion IsLong (tail_words words.now pairs.now)) }
 {
     put_words(out, &[words.len() as u32])?;
     put_words(out, words)?;
@@ -70,7 +69,8 @@ fn spelled(
     requires hints { length hints.now ≤ MOST_HINTS }
     requires words { length words.now ≤ MOST_WORDS }
     requires pairs { length pairs.now ≤ MOST_PAIRS }
-    ensures { IfOk result (λ v. v.items ≡ header_bytes version (length image.now) (length hints.now) ++ image.now ++ word_bytes hints.now ++ word_bytes (tail_words words.now pairs.now)) }
+    ensures fit { OnOk result (AllByRecursion IsLong (tail_words words.now pairs.now)) }
+    ensures bytes { IfOk result (λ v. v.items ≡ header_bytes version (length image.now) (length hints.now) ++ image.now ++ word_bytes hints.now ++ word_bytes (tail_words words.now pairs.now)) }
 {
     let mut out = Vec::new(alloc);
     put_header(&mut out, version, image.len() as u32, hints.len() as u32)?;
