@@ -2,6 +2,7 @@
 use Rattle.std.proofs.Common.{◌≡◌, ◌≢◌, ℕ, zero, suc, ◌+◌, ◌*◌, ◌/◌, ◌<◌, ◌≤◌, Bool, true, false, cond, List, [], ◌∷◌, ◌++◌, Option, Some, None, Result, Ok, Err, length, get_or, take, drop, refl, sym, ap, ◌∙◌, arith, add-one}
 use Rattle.std.specs.Prelude.{◌==◌}
 use Rattle.std.specs.List.{flat_map}
+use Rattle.std.specs.Result.{result_and}
 use Rattle.std.proofs.Math.Seq.{drop-cons}
 use Rattle.std.proofs.lemmas.Bool.{eq-eqb, ne_eqb}
 use Rattle.std.proofs.lemmas.List.{drop_all, drop-drop, length-append}
@@ -166,22 +167,15 @@ abbrev pub pair_count_part : List ℕ → List Pair → List ℕ → Option Diff
 pair_count_part words pairs tail = from_place (1 + length words) (length pairs ∷ []) tail
 
 abbrev pub pairs_part : List ℕ → List Pair → List ℕ → Option Difference
-pairs_part words pairs tail = from_place (2 + length words) (flat_map pair_words pairs) tail
+pairs_part words pairs tail = from_place (1 + length words + 1) (flat_map pair_words pairs) tail
 
 four_parts : (words : List ℕ) (pairs : List Pair) (tail : List ℕ)
     → first_difference 0 (tail_words words pairs) (whole_words tail) ≡ or_else (count_part words tail) (or_else (words_part words tail) (or_else (pair_count_part words pairs tail) (pairs_part words pairs tail)))
 four_parts words pairs tail =
     let m = length pairs in
     let flat = flat_map pair_words pairs in
-    let next : 1 + length words + 1 ≡ 2 + length words = omega arith in
     two_lists 0 (length words ∷ []) (words ++ m ∷ flat) tail
-    ∙ ap (or_else (count_part words tail)) (
-    two_lists 1 words (m ∷ flat) tail
-    ∙ ap (or_else (words_part words tail)) (
-    two_lists (1 + length words) (m ∷ []) flat tail
-    ∙ ap (λ n. or_else (pair_count_part words pairs tail) (from_place n flat tail)) next
-    )
-    )
+    ∙ ap (or_else (count_part words tail)) (two_lists 1 words (m ∷ flat) tail ∙ ap (or_else (words_part words tail)) (two_lists (1 + length words) (m ∷ []) flat tail))
 
 -- the difference of whole tails
 abbrev pub whole_part : List ℕ → List Pair → List ℕ → Option Difference
@@ -208,13 +202,11 @@ last_decides words pairs tail u v w r a b c d = d ∙ sym (goes_on (pair_count_p
 
 -- ---- the length behind the words
 
-pub tail_refuses : (at : ℕ) (tail wanted : List ℕ) (e : TranslatedRefusal) → Err e ≡ refused (first_difference 0 wanted (whole_words tail)) → Err e ≡ tail_compared at tail wanted
+pub tail_decides : (at : ℕ) (tail wanted : List ℕ) (difference length_is : Result (Unit {0}) TranslatedRefusal) → difference ≡ refused (first_difference 0 wanted (whole_words tail)) → length_is ≡ length_compared at (length tail) (4 * length wanted)
+    → result_and difference length_is ≡ tail_compared at tail wanted
 unfolding tail_compared
-tail_refuses at tail wanted e differs = rw (← differs) refl
-
-pub tail_passes : (at : ℕ) (tail wanted : List ℕ) (u : Unit {0}) → Ok u ≡ refused (first_difference 0 wanted (whole_words tail)) → length_compared at (length tail) (4 * length wanted) ≡ tail_compared at tail wanted
-unfolding tail_compared
-tail_passes at tail wanted u same = rw (← same) refl
+tail_decides at tail wanted (Ok u) length_is same is = rw (← same) is
+tail_decides at tail wanted (Err e) length_is differs is = rw (← differs) refl
 
 pub tail_count : (words : List ℕ) (pairs : List Pair) → length (tail_words words pairs) ≡ 2 + length words + 2 * length pairs
 tail_count words pairs =

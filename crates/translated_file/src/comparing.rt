@@ -35,28 +35,29 @@ fn check_words(tail: &[u8], place: usize, wanted: &[u32]) -> Result<(), Translat
     Ok(())
 }
 
-/// The same of the words of pairs.
+/// Whether the tail has the words of these pairs from a place on, as far as its words go.
 fn check_pairs(tail: &[u8], place: usize, pairs: &[(u32, u32)]) -> Result<(), TranslatedRefusal>
     requires place { place < 2 ^ 31 }
     requires few { length pairs.now ≤ MOST_PAIRS }
     ensures { result ≡ refuse_at (first_difference place (flat_map pair_words pairs.now) (drop place (whole_words tail.now))) refusal_at }
 {
     for (number, pair) in pairs.iter().enumerate() {
-        check_words(tail, place + 2 * number, &[pair.0, pair.1])?;
+        check_words(tail, place + PAIR_WORDS * number, &[pair.0, pair.1])?;
     }
     Ok(())
 }
 
-/// The same of all words that the translation's tail has.
+/// Whether the tail has the words of this translation's, as far as its words go.
 fn check_tail(tail: &[u8], words: &[u32], pairs: &[(u32, u32)]) -> Result<(), TranslatedRefusal>
     requires words { length words.now ≤ MOST_WORDS }
     requires pairs { length pairs.now ≤ MOST_PAIRS }
     ensures { result ≡ refuse_at (first_difference 0 (tail_words words.now pairs.now) (whole_words tail.now)) refusal_at }
 {
+    let pairs_at = 1 + words.len();
     check_words(tail, 0, &[words.len() as u32])?;
     check_words(tail, 1, words)?;
-    check_words(tail, 1 + words.len(), &[pairs.len() as u32])?;
-    check_pairs(tail, 2 + words.len(), pairs)
+    check_words(tail, pairs_at, &[pairs.len() as u32])?;
+    check_pairs(tail, pairs_at + 1, pairs)
 }
 
 /// Where the tail stands in the file.
@@ -97,6 +98,6 @@ pub fn compare(parts: &Parts, words: &[u32], map: &AddressMap) -> Result<(), Tra
     ensures { result ≡ compared parts.now words.now map.now }
 {
     let pairs = map.pairs();
-    check_tail(&parts.tail, words, pairs)?;
-    check_length(parts, 2 + words.len() + 2 * pairs.len())
+    let count = 2 + words.len() + PAIR_WORDS * pairs.len();
+    check_tail(&parts.tail, words, pairs).and(check_length(parts, count))
 }

@@ -10,6 +10,8 @@ use image_file::{Image, Section};
 /// The bytes of an image's header, and of a row of each of its tables.
 const IMAGE_HEADER: usize = 12;
 
+const VERSION_1: u16 = 1;
+
 const START_BYTES_1: usize = 8;
 
 const START_BYTES_2: usize = 64;
@@ -23,7 +25,7 @@ fn start_width(version: u16) -> usize
     ensures value { result ≡ start_width version }
     ensures bound { result ≤ 64 }
 {
-    if version == 1 {
+    if version == VERSION_1 {
         START_BYTES_1
     } else {
         START_BYTES_2

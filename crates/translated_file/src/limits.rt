@@ -17,6 +17,8 @@ pub const MAGIC: u32 = 0x5254_5856;
 pub const HEADER: usize = 16;
 /// The bytes of a hint and of a word of the tail.
 pub const WORD_BYTES: usize = 4;
+/// The words of a pair in the tail.
+pub const PAIR_WORDS: usize = 2;
 
 /// Whether the format has a version of that number.
 pub fn is_version(number: u32) -> bool
