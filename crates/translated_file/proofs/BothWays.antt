@@ -1,5 +1,5 @@
 -- What is written reads as it was written, and what reads was so written.
-use Rattle.std.proofs.Common.{◌≡◌, ℕ, zero, suc, ◌+◌, ◌*◌, ◌/◌, ◌^◌, ◌<◌, ◌≤◌, Bool, true, false, cond, List, [], ◌∷◌, ◌++◌, length, take, drop, refl, sym, ap, subst, ◌∙◌, arith, append_assoc, Some, None, Result, Ok, Err, nat_lt}
+use Rattle.std.proofs.Common.{◌≡◌, ℕ, ◌+◌, ◌*◌, ◌/◌, ◌^◌, ◌<◌, true, false, cond, List, [], ◌∷◌, ◌++◌, length, take, drop, refl, sym, ap, subst, ◌∙◌, arith, append_assoc, Some, None, Result, Ok, Err, nat_lt}
 use Rattle.std.specs.Prelude.{◌==◌, codes, IfOk}
 use Rattle.std.specs.List.{flat_map, AllByRecursion}
 use Rattle.std.specs.Int.{w32, to_le_bytes}
@@ -9,7 +9,6 @@ use Rattle.std.proofs.lemmas.Nat.{from_le_bytes-to_le_bytes_4}
 use Rattle.address_map.specs.Pairs.{Pair}
 use Rattle.image_file.specs.Values.{ImageValue}
 use Rattle.image_file.specs.Spelling as Image
-use Rattle.image_file.specs.Whole.{IsWhole}
 use Rattle.image_file.specs.Reading.{word, table_in, image_of}
 use Rattle.image_file.proofs.FieldLaws.{IsBytes, IsBytes-drop, IsBytes-take, take_join, word_back, word_fits, word_again, length-table, table_back, table_all, table_again, length-written}
 use Rattle.image_file.proofs.AgainLaws as ImageAgain
@@ -19,14 +18,14 @@ use Rattle.translated_file.specs.Values.{PartsValue}
 use Rattle.translated_file.specs.Spelling.{word_bytes, header_bytes, front_bytes, parts_bytes, pair_words, tail_words, written_parts}
 use Rattle.translated_file.specs.Steps.{Gives, refuse_if, refuse_at}
 use Rattle.translated_file.specs.Reading.{hints_at, tail_at, header_in, header_of, image_bytes_in, hints_in, first_fall, parts_in, parts_of}
-use Rattle.translated_file.specs.Comparing.{whole_words, first_difference, refusal_at, length_compared, tail_compared, tail_place, compared}
+use Rattle.translated_file.specs.Comparing.{whole_words, first_difference, refusal_at, tail_compared, tail_place}
 use Rattle.translated_file.specs.Whole.{IsLong, IsLongPair, AreHints, AreWhole, IsTranslation}
 use Rattle.translated_file.specs.Laws.{WrittenIsAccepted, AreBytes, AcceptedIsWritten}
 use Rattle.translated_file.specs.declared.refusal.TranslatedRefusal.{TranslatedRefusal}
-use Rattle.translated_file.specs.declared.refusal.TranslatedRefusal.TheVariants.{Truncated, Trailing}
+use Rattle.translated_file.specs.declared.refusal.TranslatedRefusal.TheVariants.{Truncated}
 use Rattle.translated_file.proofs.LengthLaws.{whole_length, whole_small}
 use Rattle.translated_file.proofs.FallLaws.{none_falls, rises}
-use Rattle.translated_file.proofs.PartsLaws.{bind_ok, passed, passed_at, done, IsHeader, header_ok, header_pass, IsRead, parts_ok, parts_pass}
+use Rattle.translated_file.proofs.PartsLaws.{bind_ok, passed, passed_at, done, IsHeader, header_ok, header_pass, parts_ok, parts_pass}
 
 -- ---- what is written, read again
 

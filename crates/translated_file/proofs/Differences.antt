@@ -1,5 +1,5 @@
 -- Comparing words one after the other.
-use Rattle.std.proofs.Common.{◌≡◌, ◌≢◌, ℕ, zero, suc, ◌+◌, ◌*◌, ◌/◌, ◌<◌, ◌≤◌, Bool, true, false, cond, List, [], ◌∷◌, ◌++◌, Option, Some, None, Result, Ok, Err, length, get_or, take, drop, refl, sym, ap, ◌∙◌, arith, add-one}
+use Rattle.std.proofs.Common.{◌≡◌, ◌≢◌, ℕ, zero, suc, ◌+◌, ◌*◌, ◌/◌, ◌<◌, ◌≤◌, true, false, cond, List, [], ◌∷◌, ◌++◌, Option, Some, None, Result, Ok, Err, length, get_or, drop, refl, sym, ap, ◌∙◌, arith, add-one}
 use Rattle.std.specs.Prelude.{◌==◌}
 use Rattle.std.specs.List.{flat_map}
 use Rattle.std.specs.Result.{result_and}
@@ -76,9 +76,6 @@ nothing_found place (w ∷ ws) = refl
 pub words_end : (place number : ℕ) (wanted tail : List ℕ) → length tail < 4 * (place + number) + 4 → from_word place number wanted tail ≡ from_word place 0 wanted tail → from_word place 0 wanted tail ≡ None
 words_end place number wanted tail short so_far = sym so_far ∙ ap (first_difference (place + number) (drop number wanted)) (no_word tail (place + number) short) ∙ nothing_found (place + number) (drop number wanted)
 
-pub all_agree : (place number : ℕ) (wanted tail : List ℕ) → length wanted ≤ number → from_word place number wanted tail ≡ from_word place 0 wanted tail → from_word place 0 wanted tail ≡ None
-all_agree place number wanted tail all so_far = sym so_far ∙ ap (λ ws. first_difference (place + number) ws (drop (place + number) (whole_words tail))) (drop_all number wanted all)
-
 -- the comparison of all these words, from the place on
 abbrev pub from_place : ℕ → List ℕ → List ℕ → Option Difference
 from_place place wanted tail = first_difference place wanted (drop place (whole_words tail))
@@ -149,12 +146,6 @@ pub pair_agrees : (place number : ℕ) (pairs : List Pair) (tail : List ℕ) (u 
     → from_pair place number pairs tail ≡ from_place place (flat_map pair_words pairs) tail → from_pair place (number + 1) pairs tail ≡ from_place place (flat_map pair_words pairs) tail
 pair_agrees place number pairs tail u within passes so_far =
     sym (at_pair place number pairs tail within ∙ none_then (from_place (place + 2 * number) (pair_words (pair_at pairs number)) tail) (from_pair place (number + 1) pairs tail) u passes) ∙ so_far
-
-pub pair_differs : (place number : ℕ) (pairs : List Pair) (tail : List ℕ) (e : TranslatedRefusal) → number < length pairs → Err e ≡ refused (from_place (place + 2 * number) (pair_words (pair_at pairs number)) tail)
-    → from_pair place number pairs tail ≡ from_place place (flat_map pair_words pairs) tail → Err e ≡ refused (from_place place (flat_map pair_words pairs) tail)
-pair_differs place number pairs tail e within refuses so_far =
-    stops (from_place (place + 2 * number) (pair_words (pair_at pairs number)) tail) (from_pair place (number + 1) pairs tail) e refuses
-    ∙ ap refused (sym (at_pair place number pairs tail within) ∙ so_far)
 
 -- the four lists of a tail, one behind another
 abbrev pub count_part : List ℕ → List ℕ → Option Difference

@@ -1,34 +1,8 @@
--- The first number that isn't above its predecessor, one number after the other.
-use Rattle.std.proofs.Common.{◌≡◌, ℕ, zero, suc, ◌+◌, ◌-◌, ◌<◌, ◌≤◌, Bool, true, false, cond, List, [], ◌∷◌, Option, Some, None, length, get_or, drop, refl, sym, ap, subst, ◌∙◌, arith, add-one, nat_lt}
-use Rattle.std.proofs.Math.Seq.{drop-cons}
-use Rattle.std.proofs.lemmas.Bool.{lt-ltb, le-ltb, ltb-true}
-use Rattle.std.proofs.lemmas.List.{drop_all}
+-- No number falls exactly where all rise.
+use Rattle.std.proofs.Common.{◌≡◌, ℕ, zero, suc, ◌+◌, ◌<◌, true, false, cond, List, [], ◌∷◌, Some, None, length, get_or, refl, ap, subst, ◌∙◌, arith, nat_lt}
+use Rattle.std.proofs.lemmas.Bool.{lt-ltb, ltb-true}
 use Rattle.translated_file.specs.Reading.{fall_behind, first_fall}
 use Rattle.translated_file.specs.Whole.{Rise}
-
--- ---- looking for it
-
-pub fall_begins : (xs : List ℕ) → first_fall xs ≡ fall_behind (get_or xs 0 0) 1 (drop 1 xs)
-fall_begins [] = refl
-fall_begins (x ∷ xs) = refl
-
-fall_at : (xs : List ℕ) (k : ℕ) → k < length xs → first_fall xs ≡ fall_behind (get_or xs (k - 1) 0) k (drop k xs)
-    → first_fall xs ≡ cond (nat_lt (get_or xs (k - 1) 0) (get_or xs k 0)) (fall_behind (get_or xs k 0) (k + 1) (drop (k + 1) xs)) (Some k)
-fall_at xs k within so_far = so_far ∙ ap (fall_behind (get_or xs (k - 1) 0) k) (drop-cons xs k 0 within ∙ ap (λ n. get_or xs k 0 ∷ drop n xs) (sym (add-one k)))
-
-pub fall_here : (xs : List ℕ) (k : ℕ) → k < length xs → get_or xs k 0 ≤ get_or xs (k - 1) 0 → first_fall xs ≡ fall_behind (get_or xs (k - 1) 0) k (drop k xs) → first_fall xs ≡ Some k
-fall_here xs k within falls so_far = fall_at xs k within so_far ∙ ap (λ b. cond b (fall_behind (get_or xs k 0) (k + 1) (drop (k + 1) xs)) (Some k)) (le-ltb _ _ falls)
-
-pub fall_later : (xs : List ℕ) (k : ℕ) → k < length xs → get_or xs (k - 1) 0 < get_or xs k 0 → first_fall xs ≡ fall_behind (get_or xs (k - 1) 0) k (drop k xs)
-    → first_fall xs ≡ fall_behind (get_or xs (k + 1 - 1) 0) (k + 1) (drop (k + 1) xs)
-fall_later xs k within rises so_far =
-    let back : k ≡ k + 1 - 1 = omega arith in
-    fall_at xs k within so_far ∙ ap (λ b. cond b (fall_behind (get_or xs k 0) (k + 1) (drop (k + 1) xs)) (Some k)) (lt-ltb _ _ rises) ∙ ap (λ n. fall_behind (get_or xs n 0) (k + 1) (drop (k + 1) xs)) back
-
-pub fall_nowhere : (xs : List ℕ) (k : ℕ) → length xs ≤ k → first_fall xs ≡ fall_behind (get_or xs (k - 1) 0) k (drop k xs) → first_fall xs ≡ None
-fall_nowhere xs k all so_far = so_far ∙ ap (fall_behind (get_or xs (k - 1) 0) k) (drop_all k xs all)
-
--- ---- there is none exactly where the numbers rise
 
 rise_tail : (x : ℕ) (xs : List ℕ) → Rise (x ∷ xs) → Rise xs
 rise_tail x xs rise = λ k d within.

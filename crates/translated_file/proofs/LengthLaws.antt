@@ -1,14 +1,13 @@
 -- The length of an image's file, by its tables.
-use Rattle.std.proofs.Common.{◌≡◌, ℕ, zero, suc, ◌+◌, ◌*◌, ◌^◌, ◌<◌, ◌≤◌, Bool, true, false, cond, ◌&&◌, List, [], ◌∷◌, ◌++◌, length, get_or, drop, refl, sym, ap, ◌∙◌, arith, add-one, map, replicate, Ok, nat_lt, nat_le}
+use Rattle.std.proofs.Common.{◌≡◌, ℕ, zero, suc, ◌+◌, ◌*◌, ◌^◌, ◌<◌, ◌≤◌, Bool, true, false, cond, ◌&&◌, List, [], ◌∷◌, ◌++◌, length, drop, refl, sym, ap, ◌∙◌, arith, map, replicate, Ok, nat_lt, nat_le}
 use Rattle.std.specs.Prelude.{◌==◌, ◌%◌}
-use Rattle.std.specs.List.{flat_map, list_all, AllByRecursion}
+use Rattle.std.specs.List.{flat_map, AllByRecursion}
 use Rattle.std.specs.Int.{w32, to_le_bytes}
-use Rattle.std.proofs.Math.Seq.{drop-cons}
 use Rattle.std.proofs.lemmas.Bool.{leb-true}
 use Rattle.std.proofs.lemmas.List.{length-append, length-drop, length-map}
 use Rattle.image_file.specs.declared.image.Start.{Start}
 use Rattle.image_file.specs.declared.rows.Row.{Row}
-use Rattle.image_file.specs.Limits.{most_threads, most_bytes, start_width}
+use Rattle.image_file.specs.Limits.{most_bytes, start_width}
 use Rattle.image_file.specs.Values.{SectionValue, ImageValue}
 use Rattle.image_file.specs.Rows.{is_sound, page_bytes, total_bytes, stored_bytes}
 use Rattle.image_file.specs.Spelling.{first_bytes, start_bytes, row_bytes, row_of, header_bytes, spelling}
@@ -125,12 +124,3 @@ read_length bytes image read_so =
     let sum : length (spelling made) ≡ table_sum made = spelled_length made (read_starts counts.version counts.threads (drop 12 bytes)) in
     let tables : table_sum made ≡ tables_end counts + stored_bytes (rows_in counts bytes) = λ i. 12 + start_width counts.version * threads i + 16 * sections i + 4 * entries i + stored i in
     ap (λ (made : ImageValue). length (spelling made)) (sym read.is) ∙ sum ∙ tables ∙ sym read.ended
-
--- ---- the sum over the sections
-
-pub stored_more : (ss : List SectionValue) (k bytes : ℕ) (s : SectionValue) → k < length ss → s ≡ get_or ss k s → bytes + stored_bytes (map row_of (drop k ss)) ≡ stored_bytes (map row_of ss)
-    → bytes + length s.stored + stored_bytes (map row_of (drop (k + 1) ss)) ≡ stored_bytes (map row_of ss)
-stored_more ss k bytes s within is so_far =
-    let here : drop k ss ≡ s ∷ drop (k + 1) ss = drop-cons ss k s within ∙ (λ i. sym is i ∷ drop (sym (add-one k) i) ss) in
-    let more : stored_bytes (map row_of (drop k ss)) ≡ length s.stored + stored_bytes (map row_of (drop (k + 1) ss)) = ap (λ (xs : List SectionValue). stored_bytes (map row_of xs)) here in
-    omega (arith, more, so_far)

@@ -1,12 +1,11 @@
 -- A file that is cut: what stands in front of the cut, and the refusal.
-use Rattle.std.proofs.Common.{◌≡◌, ℕ, zero, suc, ◌+◌, ◌-◌, ◌*◌, ◌/◌, ◌<◌, ◌≤◌, Bool, true, false, cond, List, [], ◌∷◌, length, take, drop, refl, sym, ap, ◌∙◌, arith, inl, inr, Some, None, Result, Ok, Err, nat_lt}
+use Rattle.std.proofs.Common.{◌≡◌, ℕ, zero, suc, ◌+◌, ◌-◌, ◌*◌, ◌/◌, ◌<◌, ◌≤◌, true, false, cond, List, [], ◌∷◌, length, take, drop, refl, ap, ◌∙◌, arith, inl, inr, Some, None, Ok, Err, nat_lt}
 use Rattle.std.specs.Prelude.{◌==◌}
 use Rattle.std.specs.Int.{w32, from_le_bytes}
 use Rattle.std.proofs.lemmas.Bool.{cases_lt, lt-ltb, le-ltb}
 use Rattle.std.proofs.lemmas.List.{length-take, length-drop, take-take, drop-take}
 use Rattle.address_map.specs.Pairs.{Pair}
 use Rattle.image_file.specs.Spelling as Image
-use Rattle.image_file.specs.Values.{ImageValue}
 use Rattle.image_file.specs.Reading.{word, table_in, image_of}
 use Rattle.image_file.proofs.FieldLaws.{length-table}
 use Rattle.translated_file.specs.declared.header.Header.{Header}
@@ -20,7 +19,7 @@ use Rattle.translated_file.specs.Reading.{hints_at, tail_at, header_in, header_o
 use Rattle.translated_file.specs.Comparing.{whole_words, first_difference, tail_compared, tail_place, compared, accepted}
 use Rattle.translated_file.specs.Laws.{PrefixesAreRefused}
 use Rattle.translated_file.proofs.LengthLaws.{read_length}
-use Rattle.translated_file.proofs.PartsLaws.{bind_ok, IsHeader, header_ok, header_pass, IsRead, parts_ok, parts_pass}
+use Rattle.translated_file.proofs.PartsLaws.{bind_ok, header_ok, header_pass, IsRead, parts_ok, parts_pass}
 use Rattle.translated_file.proofs.BothWays.{Agrees, tail_ok}
 
 -- ---- what stands in front of the cut

@@ -12,7 +12,7 @@ use Rattle.image_file.specs.Whole.{IsWhole}
 use Rattle.translated_file.specs.Spelling.{word_bytes, header_bytes, front_bytes, pair_words, tail_words, written_parts, spelling}
 use Rattle.translated_file.specs.Reading.{parts_of}
 use Rattle.translated_file.specs.Comparing.{tail_place, accepted}
-use Rattle.translated_file.specs.Whole.{IsLong, Rise, AreHints}
+use Rattle.translated_file.specs.Whole.{IsLong, AreHints}
 use Rattle.translated_file.proofs.LengthLaws.{whole_length, whole_small}
 use Rattle.translated_file.proofs.Differences.{pair_at}
 use Rattle.translated_file.proofs.BothWays.{read_again, tail_agrees, all_append}
@@ -20,9 +20,6 @@ use Rattle.translated_file.proofs.BothWays.{read_again, tail_agrees, all_append}
 pub all_long : (numbers : List ℕ) → ((k : ℕ) → get_or numbers k 0 < 2 ^ 32) → AllByRecursion IsLong numbers
 all_long [] each = tt
 all_long (n ∷ ns) each = (each 0, all_long ns (λ k. each (suc k)))
-
-pub tail_long : (words : List ℕ) (pairs : List Pair) → IsLong (length words) → IsLong (length pairs) → AllByRecursion IsLong words → AllByRecursion IsLong (flat_map pair_words pairs) → AllByRecursion IsLong (tail_words words pairs)
-tail_long words pairs count pair_count fit pairs_fit = (count, all_append words (length pairs ∷ flat_map pair_words pairs) fit (pair_count, pairs_fit))
 
 pub pair_fits : (pairs : List Pair) (k : ℕ) → k < length pairs → AllByRecursion IsLong (flat_map pair_words (take k pairs)) → AllByRecursion IsLong (pair_words (pair_at pairs k)) → AllByRecursion IsLong (flat_map pair_words (take (k + 1) pairs))
 pair_fits pairs k within before here =

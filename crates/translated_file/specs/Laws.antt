@@ -1,5 +1,5 @@
 -- What holds of all translated files.
-use Rattle.std.specs.Prelude.{◌≡◌, ◌<◌, ◌^◌, ℕ, true, List, length, take, Ok, Err, slice_index}
+use Rattle.std.specs.Prelude.{◌≡◌, ◌<◌, ℕ, true, List, length, take, Ok, Err, slice_index}
 use Rattle.address_map.specs.Pairs.{Pair}
 use Rattle.image_file.specs.Values.{ImageValue}
 use Rattle.image_file.specs.Whole.{IsWhole}

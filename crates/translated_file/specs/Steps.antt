@@ -1,7 +1,7 @@
 -- Checks one after the other, of which the first that fails refuses.
 use Rattle.std.specs.Prelude.{◌≡◌, Bool, Option, Some, None, Result, Ok, Err, if◌then◌else◌}
 use Rattle.translated_file.specs.declared.refusal.TranslatedRefusal.{TranslatedRefusal}
-use Rattle.translated_file.specs.declared.refusal.TranslatedRefusal.TheVariants.{Truncated, BadMagic, BadVersion, Inner, NotTheTranslation, Trailing, BadHint, WantOfMemory}
+use Rattle.translated_file.specs.declared.refusal.TranslatedRefusal.TheVariants.{WantOfMemory}
 
 infixl 10 ◌>>=◌
 abbrev pub ◌>>=◌ : {A B : Type 0} → Result A TranslatedRefusal → (A → Result B TranslatedRefusal) → Result B TranslatedRefusal

@@ -1,4 +1,4 @@
-use Rattle.std.proofs.Common.{sym, ap, ◌∙◌, refl, arith, get_or}
+use Rattle.std.proofs.Common.{sym, ap, ◌∙◌, refl, get_or}
 use Rattle.translated_file.proofs.Differences.{refused, from_begin, words_end, word_differs, word_agrees}
 use Rattle.translated_file.proofs.comparing.check_words.Goals as goal
 

@@ -1,4 +1,4 @@
-use Rattle.std.proofs.Common.{◌≡◌, ◌-◌, ◌∙◌, sym, ap, arith, length, take, drop}
+use Rattle.std.proofs.Common.{◌-◌, ◌∙◌, ap, arith, length, take, drop}
 use Rattle.std.proofs.lemmas.Result.{err_from_is_err_and}
 use Rattle.image_file.specs.Reading.{word}
 use Rattle.image_file.proofs.FieldLaws.{length-table}

@@ -1,4 +1,4 @@
-use Rattle.std.proofs.Common.{arith, rules}
+use Rattle.std.proofs.Common.{arith}
 use Rattle.std.proofs.lemmas.Grind.{common_steps}
 use Rattle.translated_file.proofs.WriteLaws.{pair_fits}
 use Rattle.translated_file.proofs.writing.put_pairs.Goals as goal
