@@ -1,0 +1,76 @@
+-- The words of constants.
+use Rattle.std.proofs.Common.{◌≡◌, ℕ, ◌+◌, ◌/◌, ◌%◌, ◌^◌, ◌<◌, ◌≤◌, refl, sym, ap, ◌∙◌, arith, List, [], ◌∷◌, Bool, true, false, eqb, ne_eqb, rules, lit<, lit≤}
+use Rattle.std.specs.Prelude.{◌||◌, FitsSigned}
+use Rattle.std.specs.Int.{cast_signed, cast_unsigned, w16, w64}
+use Rattle.vax_form.specs.declared.instr.Size.{Size}
+use Rattle.vax_form.specs.declared.instr.Size.TheVariants.{Byte, Word, Long, Quad}
+use Rattle.vt_words.specs.Quad.{left}
+use Rattle.alpha_encode.specs.Halves.{high_half, low_half}
+use Rattle.alpha_encode.specs.Words.{IsEncodable}
+use Rattle.alpha_meaning.specs.State.{Regs, put}
+use Rattle.alpha_meaning.specs.Result.{plus, times}
+use Rattle.micro_ops.specs.Values.{low}
+use Rattle.compute_sequences.specs.Registers.{IsTarget, may_change}
+use Rattle.compute_sequences.specs.Constants.{high_long, low_long, constant_code}
+use Rattle.compute_sequences.specs.Promises.{LeavesConstant, HasLow}
+use Rattle.compute_sequences.proofs.Straight.{eqb_self, Fine, Each, afters, straight}
+use Rattle.compute_sequences.proofs.Halves.{with_halves, short_low, long_low, quad_is}
+
+-- where `to` is a register of its own
+module _ (to : ℕ) (real : eqb to 31 ≡ false) (f : Regs) (zero : f 31 ≡ 0) where
+  abbrev behind : (value : ℕ) → Size → ℕ
+  behind value size = afters (constant_code value size to) f to
+
+  short_is : (value : ℕ) → behind value Byte ≡ plus 0 (times (cast_unsigned w64 (low_half (low_long value))) 1)
+  short_is value = rw (real, eqb_self to, zero) refl
+
+  long_is : (value : ℕ) → behind value Long ≡ with_halves 0 (low_long value)
+  long_is value = rw (real, eqb_self to, zero) refl
+
+  quad_of : (value : ℕ) → behind value Quad ≡ with_halves (left (with_halves 0 (high_long value)) 32) (low_long value)
+  quad_of value = rw (real, eqb_self to, zero) refl
+
+  pub constant_low : (value : ℕ) → value < 2 ^ 64 → (size : Size) → HasLow size value (behind value size)
+  constant_low value lt Byte = let e = short_is value in let h = short_low (low_long value) in ap (λ x. x % 2 ^ 8) e ∙ omega arith
+  constant_low value lt Word = let e = short_is value in let h = short_low (low_long value) in ap (λ x. x % 2 ^ 16) e ∙ omega arith
+  constant_low value lt Long = ap (λ x. x % 2 ^ 32) (long_is value) ∙ (long_low (low_long value) (omega arith))
+  constant_low value lt Quad = ap (λ x. x % 2 ^ 64) (quad_of value ∙ quad_is value lt)
+
+half_fits : (n : ℕ) → FitsSigned w16 (cast_signed w16 (n % 2 ^ 16))
+half_fits n = search rules
+
+module _ (may : ℕ → Bool) (to : ℕ) (register : to < 32) (target : may to ≡ true) where
+  pub constant_fine : (value : ℕ) (size : Size) → Each (Fine may) (constant_code value size to)
+  constant_fine value Byte = (record { local = refl; target = target; encodable = (register, lit< tt, half_fits (low_long value)) }, tt)
+  constant_fine value Word = (record { local = refl; target = target; encodable = (register, lit< tt, half_fits (low_long value)) }, tt)
+  constant_fine value Long = (
+    record { local = refl; target = target; encodable = (register, lit< tt, half_fits ((low_long value + 2 ^ 15) / 2 ^ 16)) },
+    (record { local = refl; target = target; encodable = (register, register, half_fits (low_long value)) }, tt),
+  )
+  constant_fine value Quad = (
+    record { local = refl; target = target; encodable = (register, lit< tt, half_fits ((high_long value + 2 ^ 15) / 2 ^ 16)) },
+    (
+      record { local = refl; target = target; encodable = (register, register, half_fits (high_long value)) },
+      (
+        record { local = refl; target = target; encodable = (register, lit< tt, register) },
+        (
+          record { local = refl; target = target; encodable = (register, register, half_fits ((low_long value + 2 ^ 15) / 2 ^ 16)) },
+          (record { local = refl; target = target; encodable = (register, register, half_fits (low_long value)) }, tt),
+        ),
+      ),
+    ),
+  )
+
+pub target_real : (to : ℕ) → IsTarget to → eqb to 31 ≡ false
+target_real to is = let high = is.high in ne_eqb to 31 (λ (e : to ≡ 31). absurd (omega arith))
+
+pub target_fits : (to : ℕ) → IsTarget to → to < 32
+target_fits to is = let high = is.high in omega arith
+
+pub may_target : (to : ℕ) → may_change to to ≡ true
+may_target to = rw (eqb_self to) refl
+
+pub leaves_constant : (value : ℕ) (size : Size) (to : ℕ) → value < 2 ^ 64 → IsTarget to → LeavesConstant value size to (constant_code value size to)
+leaves_constant value size to lt is f zero =
+    straight (HasLow size value) to (constant_code value size to) f (constant_fine (may_change to) to (target_fits to is) (may_target to) value size)
+    (constant_low to (target_real to is) f zero value lt size)

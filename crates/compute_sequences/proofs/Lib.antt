@@ -1,0 +1,4 @@
+pub mod Forms
+pub mod Straight
+pub mod Halves
+pub mod ConstantLaws

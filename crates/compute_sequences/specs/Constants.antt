@@ -1,0 +1,45 @@
+-- Constants in registers.
+-- Alpha Architecture Reference Manual, 4.2 "Load Address": displacements are signed, so a part above a negative one has a
+-- borrow added.
+use Rattle.std.specs.Prelude.{ℕ, ◌+◌, ◌/◌, ◌%◌, ◌^◌, List, [], ◌∷◌}
+use Rattle.vax_form.specs.declared.instr.Size.{Size}
+use Rattle.vax_form.specs.declared.instr.Size.TheVariants.{Byte, Word, Long, Quad}
+use Rattle.alpha_encode.specs.declared.instr.MemoryOp.TheVariants.{Lda, Ldah}
+use Rattle.alpha_encode.specs.declared.instr.OperateOp.TheVariants.{Sll}
+use Rattle.alpha_encode.specs.declared.instr.Second.TheVariants.{Literal}
+use Rattle.alpha_encode.specs.declared.instr.AlphaInstr.{AlphaInstr}
+use Rattle.alpha_encode.specs.declared.instr.AlphaInstr.TheVariants.{Memory, Operate}
+use Rattle.alpha_encode.specs.Halves.{low_half, high_half, load_high, load_low}
+
+-- the high longword with the borrow of the low one added: its two halves together are negative from 7FFF8000 on
+abbrev pub high_long : (value : ℕ) → ℕ
+high_long value = (value + 0x80008000) / 2 ^ 32 % 2 ^ 32
+
+abbrev pub low_long : (value : ℕ) → ℕ
+low_long value = value % 2 ^ 32
+
+-- the low 16 bits, with their sign
+abbrev pub load_short : (register value : ℕ) → AlphaInstr
+load_short register value = Memory Lda register 31 (low_half value)
+
+-- the high half of a longword is added
+abbrev pub add_high : (register value : ℕ) → AlphaInstr
+add_high register value = Memory Ldah register register (high_half value)
+
+abbrev pub load_long : (register value : ℕ) → List AlphaInstr
+load_long register value = load_high register value ∷ load_low register value ∷ []
+
+abbrev pub load_quad : (register value : ℕ) → List AlphaInstr
+load_quad register value =
+    load_high register (high_long value)
+    ∷ load_low register (high_long value)
+    ∷ Operate Sll register (Literal 32) register
+    ∷ add_high register (low_long value)
+    ∷ load_low register (low_long value)
+    ∷ []
+
+abbrev pub constant_code : (value : ℕ) → Size → (to : ℕ) → List AlphaInstr
+constant_code value Byte to = load_short to (low_long value) ∷ []
+constant_code value Word to = load_short to (low_long value) ∷ []
+constant_code value Long to = load_long to (low_long value)
+constant_code value Quad to = load_quad to value

@@ -1,0 +1,4 @@
+pub mod Registers
+pub mod Constants
+pub mod Words
+pub mod Promises

@@ -1,0 +1,8 @@
+//! The Alpha words of a micro program's computations: constants, operations on numbers of every size, and overflow. They
+//! make no access, and change only the register of the result and R27.
+#![tactic(auto)]
+
+mod constants;
+mod instructions;
+
+pub use constants::constant_words;
