@@ -1,4 +1,4 @@
-pub mod Forms
+pub mod Outcomes
 pub mod Straight
 pub mod Halves
 pub mod ConstantLaws

@@ -13,7 +13,7 @@ use micro_ops::Arg;
 use std::alloc::{AllocError, Global};
 use vax_form::{Size, WantOfMemory};
 
-const ZERO: u8 = 31;
+pub(crate) const ZERO: u8 = 31;
 
 fn low_long(value: u64) -> u32
     ensures { result ≡ low_long value }
@@ -77,6 +77,17 @@ pub(crate) fn push_constant(
         ])?,
     }
     Ok(())
+}
+
+/// How many words that are.
+pub(crate) fn constant_length(size: Size) -> u8
+    ensures { (value to : ℕ) → result ≡ length (constant_code value size to) }
+{
+    match size {
+        Size::Byte | Size::Word => 1,
+        Size::Long => 2,
+        Size::Quad => 5,
+    }
 }
 
 fn constant_code(

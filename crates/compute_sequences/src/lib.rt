@@ -2,7 +2,12 @@
 //! make no access, and change only the register of the result and R27.
 #![tactic(auto)]
 
+mod arguments;
+mod compute;
 mod constants;
+mod forms;
 mod instructions;
+mod parts;
 
+pub use compute::compute_words;
 pub use constants::constant_words;

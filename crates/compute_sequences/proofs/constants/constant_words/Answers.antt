@@ -1,7 +1,7 @@
 use Rattle.std.proofs.Common.{◌≡◌, sym, subst, rules}
 use Rattle.compute_sequences.specs.Constants.{constant_code}
 use Rattle.compute_sequences.specs.Promises.{LeavesConstant}
-use Rattle.compute_sequences.proofs.Forms.{if_ok_then}
+use Rattle.compute_sequences.proofs.Outcomes.{if_ok_then}
 use Rattle.compute_sequences.proofs.ConstantLaws.{leaves_constant}
 use Rattle.compute_sequences.proofs.constants.constant_words.Goals as goal
 
