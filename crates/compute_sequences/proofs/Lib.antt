@@ -6,3 +6,5 @@ pub mod Numbers
 pub mod Comparing
 pub mod Shifting
 pub mod FormLaws
+pub mod FineLaws
+pub mod Choosing
