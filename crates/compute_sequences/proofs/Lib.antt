@@ -8,3 +8,4 @@ pub mod Shifting
 pub mod FormLaws
 pub mod FineLaws
 pub mod Choosing
+pub mod Placing
