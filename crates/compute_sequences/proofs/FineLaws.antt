@@ -121,7 +121,7 @@ module _ (to y : ℕ) (is : IsTarget to) where
   abbrev other : ℕ
   other = other_of y to
 
-  scratch_may : may_change to 27 ≡ true
+  pub scratch_may : may_change to 27 ≡ true
   scratch_may = by (eqb 27 to)
     where
       by : (b : Bool) → (b || true) ≡ true

@@ -9,3 +9,4 @@ pub mod FormLaws
 pub mod FineLaws
 pub mod Choosing
 pub mod Placing
+pub mod ComputeLaws

@@ -22,6 +22,12 @@ low_kept Word n = and_mask n 16
 low_kept Long n = and_mask n 32
 low_kept Quad n = and_mask n 64
 
+pub zapped : (size : Size) (n held : ℕ) → result_of row.Zapnot n (mask_of size) held ≡ low size n
+zapped Byte n held = low_kept Byte n
+zapped Word n held = low_kept Word n
+zapped Long n held = low_kept Long n
+zapped Quad n held = low_kept Quad n
+
 pub low_below : (size : Size) (n : ℕ) → low size n < limit_of size
 low_below Byte n = omega arith
 low_below Word n = omega arith

@@ -127,18 +127,18 @@ value_kept f g (Flag flag) is only = by (nat_lt flag 4)
 value_kept f g (Const value) is only = refl
 
 -- ---- both arguments
+pub not_27 : (to : ℕ) → IsTarget to → eqb 27 to ≡ false
+not_27 to is = let high = is.high in ne_eqb 27 to (λ (e : 27 ≡ to). absurd (omega (arith, high, e)))
+
+pub to_not_27 : (to : ℕ) → IsTarget to → eqb to 27 ≡ false
+to_not_27 to is = let high = is.high in ne_eqb to 27 (λ (e : to ≡ 27). absurd (omega (arith, high, e)))
+
 module _ (size : Size) (a b : Arg) (to : ℕ) (is : IsTarget to) (f : Regs) (zero : f 31 ≡ 0) where
   abbrev behind_a : Regs
   behind_a = afters (load_code size a 27) f
 
   abbrev x : ℕ
   x = first_register size a
-
-  not_27 : eqb 27 to ≡ false
-  not_27 = let high = is.high in ne_eqb 27 to (λ (e : 27 ≡ to). absurd (omega (arith, high, e)))
-
-  to_not_27 : eqb to 27 ≡ false
-  to_not_27 = let high = is.high in ne_eqb to 27 (λ (e : to ≡ 27). absurd (omega (arith, high, e)))
 
   module _ (a_is : IsArgument a) (a_fits : f (register_at a) < 2 ^ 64) where
     pub only_first : Only (λ n. n == 27) f behind_a
@@ -202,7 +202,7 @@ module _ (size : Size) (a b : Arg) (to : ℕ) (is : IsTarget to) (f : Regs) (zer
       first_apart = by (is_loaded size a)
         where
           by : (k : Bool) → eqb (if k then 27 else register_at a) (if k then to else 27) ≡ false
-          by true = not_27
+          by true = not_27 to is
           by false = not_scratch a a_is
 
       pub first_stays : Holds size (value_at f a) (behind_b x)

@@ -169,6 +169,10 @@ extended_is Word a = refl
 extended_is Long a = refl
 extended_is Quad a = refl
 
+-- by the low bytes alone
+pub signs_by_low : (size : Size) (m n : ℕ) → low size m ≡ low size n → sign_extended m (bits_of size) ≡ sign_extended n (bits_of size)
+signs_by_low size m n e = extended_is size m ∙ (ap (λ l. with_sign (nat_lt l (limit_of size / 2)) size l) e ∙ sym (extended_is size n))
+
 pub signs_quad : (a : ℕ) → a < 2 ^ 64 → sign_extended a 64 ≡ a
 signs_quad a lt = by (nat_lt (a % 2 ^ 64) (2 ^ 63))
   where
