@@ -67,5 +67,5 @@ module _ (Is : ℕ → Type 0) (to x : ℕ) (before middle behind : List AlphaIn
       let size : length whole ≡ length before + (1 + length middle + length behind) = length-append before (branch ∷ (middle ++ behind)) ∙ (ap (λ m. length before + suc m) (length-append middle behind) ∙ omega arith) in
       let place = first + length before in
       let run = locals p (Leaves Is to f) n (1 + length middle + length behind) (may_change to) before f first (Over tt) (has_front fetch first before (branch ∷ (middle ++ behind)) has) fine_before (omega arith) (omega (arith, size))
-          (chosen_by p n place (has_back fetch first before (branch ∷ (middle ++ behind)) has) (omega arith) (omega (arith, size)) low (reached x == 0) refl skipped taken) in
+      (chosen_by p n place (has_back fetch first before (branch ∷ (middle ++ behind)) has) (omega arith) (omega (arith, size)) low (reached x == 0) refl skipped taken) in
       run n (length whole) (omega arith) (omega (arith, size))

@@ -109,8 +109,10 @@ module _ (may : ℕ → Bool) where
     high_fine Quad = (fine_two row.Umulh x y to x_fits y_fits to_fits may_to, tt)
     high_fine size = (
       fine_narrow size x free x_fits free_fits may_free,
-      (fine_narrow size y other y_fits other_fits may_other,
-      (fine_two row.Mulq free other to free_fits other_fits to_fits may_to, (fine_by row.Srl to (bits_of size) to to_fits (bits_fit size) to_fits may_to, tt))),
+      (
+        fine_narrow size y other y_fits other_fits may_other,
+        (fine_two row.Mulq free other to free_fits other_fits to_fits may_to, (fine_by row.Srl to (bits_of size) to to_fits (bits_fit size) to_fits may_to, tt)),
+      ),
     )
 
 -- ---- R27 and the register of the result

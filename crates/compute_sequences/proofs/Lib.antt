@@ -10,3 +10,5 @@ pub mod FineLaws
 pub mod Choosing
 pub mod Placing
 pub mod ComputeLaws
+pub mod SelectLaws
+pub mod WholeLaws

@@ -85,7 +85,7 @@ each_map P Q f (i ∷ is) h = (f i h.0, each_map P Q f is h.1)
 pub each_encodable : (may : ℕ → Bool) (is : List AlphaInstr) → Each (Fine may) is → Each IsEncodable is
 each_encodable may is h = each_map (Fine may) IsEncodable (λ i fine. fine.encodable) is h
 
-fine_writes : (may : ℕ → Bool) (i : AlphaInstr) → is_local i ≡ true → may (target_of i) ≡ true → writes_only may i ≡ true
+pub fine_writes : (may : ℕ → Bool) (i : AlphaInstr) → is_local i ≡ true → may (target_of i) ≡ true → writes_only may i ≡ true
 fine_writes may (Operate op ra rb rc) h t = t
 fine_writes may (Memory row.Lda ra rb disp) h t = t
 fine_writes may (Memory row.Ldah ra rb disp) h t = t
