@@ -12,3 +12,5 @@ pub mod Placing
 pub mod ComputeLaws
 pub mod SelectLaws
 pub mod WholeLaws
+pub mod Overflowing
+pub mod OverflowLaws

@@ -2,3 +2,4 @@ pub mod Registers
 pub mod Constants
 pub mod Words
 pub mod Promises
+pub mod Overflow

@@ -7,7 +7,9 @@ mod compute;
 mod constants;
 mod forms;
 mod instructions;
+mod overflow;
 mod parts;
 
 pub use compute::compute_words;
 pub use constants::constant_words;
+pub use overflow::{Arithmetic, overflow_words};
