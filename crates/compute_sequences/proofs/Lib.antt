@@ -14,3 +14,4 @@ pub mod SelectLaws
 pub mod WholeLaws
 pub mod Overflowing
 pub mod OverflowLaws
+pub mod Bounded

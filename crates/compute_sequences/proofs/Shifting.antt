@@ -146,7 +146,7 @@ limit_most Word = lit≤ tt
 limit_most Long = lit≤ tt
 limit_most Quad = lit≤ tt
 
-limit_some : (size : Size) → 2 ≤ limit_of size
+pub limit_some : (size : Size) → 2 ≤ limit_of size
 limit_some Byte = lit≤ tt
 limit_some Word = lit≤ tt
 limit_some Long = lit≤ tt
@@ -163,7 +163,7 @@ low_top Quad q lt = omega arith
 abbrev with_sign : (positive : Bool) → Size → (n : ℕ) → ℕ
 with_sign positive size n = if positive then n else n + (2 ^ 64 - limit_of size)
 
-extended_is : (size : Size) (a : ℕ) → sign_extended a (bits_of size) ≡ with_sign (nat_lt (low size a) (limit_of size / 2)) size (low size a)
+pub extended_is : (size : Size) (a : ℕ) → sign_extended a (bits_of size) ≡ with_sign (nat_lt (low size a) (limit_of size / 2)) size (low size a)
 extended_is Byte a = refl
 extended_is Word a = refl
 extended_is Long a = refl
@@ -201,7 +201,7 @@ module _ (size : Size) (n : ℕ) (lt : n < limit_of size) where
   negative : nat_lt n half ≡ false → nat_lt (with_sign false size n) (2 ^ 63) ≡ false
   negative e = let many = not_below n half e in let most = limit_most size in let some = limit_some size in grind (arith, nat_tests, many, most, some)
 
-  quad_fits : (b : Bool) → nat_lt n half ≡ b → with_sign b size n < 2 ^ 64
+  pub quad_fits : (b : Bool) → nat_lt n half ≡ b → with_sign b size n < 2 ^ 64
   quad_fits true e = let most = limit_most size in omega (arith, lt, most)
   quad_fits false e = let most = limit_most size in omega (arith, lt, most)
 

@@ -3,3 +3,4 @@ pub mod Constants
 pub mod Words
 pub mod Promises
 pub mod Overflow
+pub mod Bounds

@@ -7,9 +7,11 @@ mod compute;
 mod constants;
 mod forms;
 mod instructions;
+mod laws;
 mod overflow;
 mod parts;
 
 pub use compute::compute_words;
 pub use constants::constant_words;
+pub use laws::compute_laws;
 pub use overflow::{Arithmetic, overflow_words};
