@@ -93,8 +93,8 @@ module _ (place from to : ℕ) (f : Regs) (a_place : IsArgument place) (a_from :
     };
   }
 
-  add_is : f place % 2 ≡ 0 → IsMiddle (word_added place from to) (λ x. with_field_of x (f place % 8) 2 (field_of x (f place % 8) 2 + f from)) (λ x. field_of x (f place % 8) 2)
-  add_is even = record {
+  add_is : f place % 8 + 2 ≤ 8 → IsMiddle (word_added place from to) (λ x. with_field_of x (f place % 8) 2 (field_of x (f place % 8) 2 + f from)) (λ x. field_of x (f place % 8) 2)
+  add_is inside = record {
     operate = refl;
     fine_all = rw (may_to, may 26 refl, may 25 refl) refl;
     short = omega arith;

@@ -42,9 +42,9 @@ pub record MayWrite (stored : (address count : ℕ) → Option ℕ) (terms : Ter
   pub readable : (quad : ℕ) → terms.allowed true quad ≡ true → terms.allowed false quad ≡ true
   pub stores : MayStore terms (stored address count)
 
--- a word lies at an even address, and a byte has the bits 0 to 7
+-- a word stands in one quadword, and a byte has the bits 0 to 7
 abbrev pub IsLockable : LockedOp → (address from : ℕ) → Type 0
-IsLockable AddWord address from = address % 2 ≡ 0
+IsLockable AddWord address from = address % 8 + 2 ≤ 8
 IsLockable SetBit address from = from < 8
 IsLockable ClearBit address from = from < 8
 
