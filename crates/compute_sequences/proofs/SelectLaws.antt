@@ -19,7 +19,7 @@ use Rattle.micro_ops.specs.Values.{low, value_from, computed}
 use Rattle.micro_ops.specs.WordCounts.{argument_words}
 use Rattle.compute_sequences.specs.Registers.{IsTarget, IsArgument, register_at, value_at, is_loaded, may_change}
 use Rattle.compute_sequences.specs.Words.{mask_of, narrow, load_code, first_register, chosen, select_code}
-use Rattle.compute_sequences.specs.Promises.{LeavesAt, IsComputed, writes_only}
+use Rattle.compute_sequences.specs.Promises.{LeavesAt, IsComputed, changes_only}
 use Rattle.compute_sequences.proofs.Straight.{eqb_self, Fine, Each, each_append, each_encodable, each_writes, afters, afters_append, straight}
 use Rattle.compute_sequences.proofs.Numbers.{zapped, low_below, low_quad}
 use Rattle.compute_sequences.proofs.ConstantLaws.{target_real, target_fits, may_target}
@@ -179,10 +179,10 @@ module _ (size : Size) (a b : Arg) (to : ℕ) (is : IsTarget to) (a_is : IsArgum
       by true = ((fits, (few (length second) argument_most).0, (few (length second) argument_most).1), each_encodable (may_change to) second second_is_fine)
       by false = ((fits, argument_fits b b_is, target_fits to is), tt)
 
-  pub chosen_writes : (r : ℕ) → Each (λ i. writes_only (may_change to) i ≡ true) (chosen size r b to)
+  pub chosen_writes : (r : ℕ) → Each (λ i. changes_only (may_change to) i ≡ true) (chosen size r b to)
   chosen_writes r = by (is_loaded size b)
     where
-      by : (l : Bool) → Each (λ i. writes_only (may_change to) i ≡ true) (if l then over r ∷ second else move r ∷ [])
+      by : (l : Bool) → Each (λ i. changes_only (may_change to) i ≡ true) (if l then over r ∷ second else move r ∷ [])
       by true = (refl, each_writes (may_change to) second second_is_fine)
       by false = (may_target to, tt)
 

@@ -18,7 +18,7 @@ use Rattle.alpha_meaning.specs.Result.{result_of}
 use Rattle.alpha_meaning.specs.Pieces.{Plan, Over, Plain, Piece, HasAt, piece, Only}
 use Rattle.alpha_meaning.proofs.Rules.{Always, done, goes, put_only, only_then}
 use Rattle.compute_sequences.specs.Registers.{IsTarget, may_change}
-use Rattle.compute_sequences.specs.Promises.{Leaves, LeavesAt, writes_only}
+use Rattle.compute_sequences.specs.Promises.{Leaves, LeavesAt, changes_only}
 
 -- ---- registers
 pub eqb_self : (n : ℕ) → eqb n n ≡ true
@@ -85,7 +85,7 @@ each_map P Q f (i ∷ is) h = (f i h.0, each_map P Q f is h.1)
 pub each_encodable : (may : ℕ → Bool) (is : List AlphaInstr) → Each (Fine may) is → Each IsEncodable is
 each_encodable may is h = each_map (Fine may) IsEncodable (λ i fine. fine.encodable) is h
 
-pub fine_writes : (may : ℕ → Bool) (i : AlphaInstr) → is_local i ≡ true → may (target_of i) ≡ true → writes_only may i ≡ true
+pub fine_writes : (may : ℕ → Bool) (i : AlphaInstr) → is_local i ≡ true → may (target_of i) ≡ true → changes_only may i ≡ true
 fine_writes may (Operate op ra rb rc) h t = t
 fine_writes may (Memory row.Lda ra rb disp) h t = t
 fine_writes may (Memory row.Ldah ra rb disp) h t = t
@@ -94,10 +94,10 @@ fine_writes may (Branch op ra disp) h t = cc
 fine_writes may (Jump ra rb) h t = cc
 fine_writes may (Pal n) h t = cc
 
-pub each_writes : (may : ℕ → Bool) (is : List AlphaInstr) → Each (Fine may) is → Each (λ i. writes_only may i ≡ true) is
-each_writes may is h = each_map (Fine may) (λ i. writes_only may i ≡ true) (λ i fine. fine_writes may i fine.local fine.target) is h
+pub each_writes : (may : ℕ → Bool) (is : List AlphaInstr) → Each (Fine may) is → Each (λ i. changes_only may i ≡ true) is
+each_writes may is h = each_map (Fine may) (λ i. changes_only may i ≡ true) (λ i fine. fine_writes may i fine.local fine.target) is h
 
-pub all_writes : (may : ℕ → Bool) (is : List AlphaInstr) → Each (λ i. writes_only may i ≡ true) is → list_all (writes_only may) is ≡ true
+pub all_writes : (may : ℕ → Bool) (is : List AlphaInstr) → Each (λ i. changes_only may i ≡ true) is → list_all (changes_only may) is ≡ true
 all_writes may [] h = refl
 all_writes may (i ∷ is) h = let head = h.0 in rw head (all_writes may is h.1)
 

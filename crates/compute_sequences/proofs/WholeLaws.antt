@@ -21,7 +21,7 @@ use Rattle.micro_ops.specs.Values.{value_from}
 use Rattle.micro_ops.specs.WordCounts.{operation_words, argument_words, words_of}
 use Rattle.compute_sequences.specs.Registers.{IsTarget, IsArgument, register_at, is_loaded, may_change}
 use Rattle.compute_sequences.specs.Words.{narrow, load_code, first_register, second_target, second_register, unary_code, binary_code, chosen, select_code, behind_first, compute_code}
-use Rattle.compute_sequences.specs.Promises.{LeavesAt, MayCompute, IsComputed, LeavesComputed, writes_only}
+use Rattle.compute_sequences.specs.Promises.{LeavesAt, MayCompute, IsComputed, LeavesComputed, changes_only}
 use Rattle.compute_sequences.proofs.Straight.{Fine, Each, each_append, each_map, all_of, all_writes, fine_writes, straight}
 use Rattle.compute_sequences.proofs.ConstantLaws.{target_fits, may_target}
 use Rattle.compute_sequences.proofs.FineLaws.{fine_narrow, load_length, unary_length, binary_length, scratch_may}
@@ -106,6 +106,6 @@ module _ (a b : Arg) (to : ℕ) (a_is : IsArgument a) (is : IsTarget to) where
   computed_encodable op size b_is =
       all_of IsEncodable (compute_code op size a b to) (computed_each IsEncodable (λ i fine. fine.encodable) (λ is_b size r fits. chosen_encodable size a b to is a_is is_b r fits) op size b_is)
 
-  pub computed_writes : (op : MicroOp) (size : Size) → (is_unary op ≡ false → IsArgument b) → list_all (writes_only (may_change to)) (compute_code op size a b to) ≡ true
+  pub computed_writes : (op : MicroOp) (size : Size) → (is_unary op ≡ false → IsArgument b) → list_all (changes_only (may_change to)) (compute_code op size a b to) ≡ true
   computed_writes op size b_is =
-      all_writes (may_change to) (compute_code op size a b to) (computed_each (λ i. writes_only (may_change to) i ≡ true) (λ i fine. fine_writes (may_change to) i fine.local fine.target) (λ is_b size r fits. chosen_writes size a b to is a_is is_b r) op size b_is)
+      all_writes (may_change to) (compute_code op size a b to) (computed_each (λ i. changes_only (may_change to) i ≡ true) (λ i fine. fine_writes (may_change to) i fine.local fine.target) (λ is_b size r fits. chosen_writes size a b to is a_is is_b r) op size b_is)

@@ -28,15 +28,15 @@ LeavesAt Is to words regs =
     (fetch : Fetch) (terms : Terms) (first n : ℕ) → first + length words ≤ code_words → HasAt fetch first words
     → Runs (piece fetch terms first (first + length words)) (Leaves Is to regs) n Plain (length words) (at_place regs first) (Over tt)
 
--- an instruction of the operate format, LDA, LDAH or a branch that writes no register but those that the test allows
-abbrev pub writes_only : (may : ℕ → Bool) → AlphaInstr → Bool
-writes_only may (Memory Lda ra rb disp) = may ra
-writes_only may (Memory Ldah ra rb disp) = may ra
-writes_only may (Memory op ra rb disp) = false
-writes_only may (Branch op ra disp) = not (links op)
-writes_only may (Operate op ra rb rc) = may rc
-writes_only may (Jump ra rb) = false
-writes_only may (Pal n) = false
+-- an instruction that makes no access, and writes no register but those that the test allows
+abbrev pub changes_only : (may : ℕ → Bool) → AlphaInstr → Bool
+changes_only may (Memory Lda ra rb disp) = may ra
+changes_only may (Memory Ldah ra rb disp) = may ra
+changes_only may (Memory op ra rb disp) = false
+changes_only may (Branch op ra disp) = not (links op)
+changes_only may (Operate op ra rb rc) = may rc
+changes_only may (Jump ra rb) = false
+changes_only may (Pal n) = false
 
 -- a number with the low bytes of the value
 abbrev pub HasLow : Size → (value : ℕ) → ℕ → Type 0

@@ -6,7 +6,7 @@ ghost use Rattle.micro_ops.specs.Uses.{is_unary, is_select};
 ghost use Rattle.micro_ops.specs.WordCounts.{words_of};
 ghost use Rattle.compute_sequences.specs.Registers.{IsTarget, IsArgument, may_change};
 ghost use Rattle.compute_sequences.specs.Words.{chosen, select_code, binary_code, behind_first, compute_code};
-ghost use Rattle.compute_sequences.specs.Promises.{LeavesComputed, writes_only};
+ghost use Rattle.compute_sequences.specs.Promises.{LeavesComputed, changes_only};
 
 use crate::arguments::{
     SCRATCH, first_register, free_of, is_loaded, load_words, other_of, push_load, register_at,
@@ -172,7 +172,7 @@ pub fn compute_words(
     ensures leaves { IfOk result (λ words. LeavesComputed op size a b to words.items) }
     ensures short { IfOk result (λ words. length words.items ≤ words_of (Micro.Compute to op size a b)) }
     ensures encodable { IfOk result (λ words. All IsEncodable words.items) }
-    ensures writes { IfOk result (λ words. list_all (writes_only (may_change to)) words.items ≡ true) }
+    ensures writes { IfOk result (λ words. list_all (changes_only (may_change to)) words.items ≡ true) }
     ensures words { IfOk result (λ words. words.items ≡ compute_code op size a b to) }
 {
     compute_code(alloc, op, size, a, b, to).map_err(|_| WantOfMemory)

@@ -5,7 +5,7 @@ ghost use Rattle.alpha_encode.specs.Words.{IsEncodable};
 ghost use Rattle.micro_ops.specs.WordCounts.{argument_words};
 ghost use Rattle.compute_sequences.specs.Registers.{IsTarget, may_change};
 ghost use Rattle.compute_sequences.specs.Constants.{low_long, high_long, load_short, add_high, constant_code};
-ghost use Rattle.compute_sequences.specs.Promises.{LeavesConstant, writes_only};
+ghost use Rattle.compute_sequences.specs.Promises.{LeavesConstant, changes_only};
 
 use crate::instructions::operate_by;
 use alpha_encode::{AlphaInstr, MemoryOp, OperateOp, load_high, load_low};
@@ -116,7 +116,7 @@ pub fn constant_words(
     ensures leaves { IfOk result (λ words. LeavesConstant value size to words.items) }
     ensures short { IfOk result (λ words. length words.items ≤ argument_words (Arg.Const value) size) }
     ensures encodable { IfOk result (λ words. All IsEncodable words.items) }
-    ensures writes { IfOk result (λ words. list_all (writes_only (may_change to)) words.items ≡ true) }
+    ensures writes { IfOk result (λ words. list_all (changes_only (may_change to)) words.items ≡ true) }
     ensures words { IfOk result (λ words. words.items ≡ constant_code value size to) }
 {
     constant_code(alloc, value, size, to).map_err(|_| WantOfMemory)

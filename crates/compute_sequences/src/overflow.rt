@@ -3,7 +3,7 @@ ghost use Rattle.std.specs.Prelude.{◌≡◌, ◌≢◌, ◌≤◌, ◌<◌, �
 ghost use Rattle.std.specs.List.{list_all};
 ghost use Rattle.alpha_encode.specs.Words.{IsEncodable};
 ghost use Rattle.compute_sequences.specs.Registers.{IsTarget, may_change};
-ghost use Rattle.compute_sequences.specs.Promises.{writes_only};
+ghost use Rattle.compute_sequences.specs.Promises.{changes_only};
 ghost use Rattle.compute_sequences.specs.Overflow.{quad_operation, overflow_code, LeavesOverflow, most_overflow_words};
 
 use crate::arguments::SCRATCH;
@@ -71,7 +71,7 @@ pub fn overflow_words(
     ensures leaves { IfOk result (λ words. LeavesOverflow arithmetic width x y to words.items) }
     ensures short { IfOk result (λ words. length words.items ≤ most_overflow_words width) }
     ensures encodable { IfOk result (λ words. All IsEncodable words.items) }
-    ensures writes { IfOk result (λ words. list_all (writes_only (may_change to)) words.items ≡ true) }
+    ensures writes { IfOk result (λ words. list_all (changes_only (may_change to)) words.items ≡ true) }
     ensures words { IfOk result (λ words. words.items ≡ overflow_code arithmetic width x y to) }
 {
     overflow_code(alloc, arithmetic, width, x, y, to).map_err(|_| WantOfMemory)

@@ -6,7 +6,7 @@ use Rattle.micro_ops.specs.declared.program.Micro.TheVariants.{Compute}
 use Rattle.micro_ops.specs.WordCounts.{words_of}
 use Rattle.compute_sequences.specs.Registers.{may_change}
 use Rattle.compute_sequences.specs.Words.{compute_code}
-use Rattle.compute_sequences.specs.Promises.{LeavesComputed, writes_only}
+use Rattle.compute_sequences.specs.Promises.{LeavesComputed, changes_only}
 use Rattle.compute_sequences.proofs.Outcomes.{if_ok_then}
 use Rattle.compute_sequences.proofs.WholeLaws.{leaves_computed, computed_length, computed_encodable, computed_writes}
 use Rattle.compute_sequences.proofs.compute.compute_words.Goals as goal
@@ -32,5 +32,5 @@ returns-clause-encodable c =
 pub returns-clause-writes : goal.returns-clause-writes
 returns-clause-writes c =
     let a = c.args in
-    if_ok_then c.map_err.result (λ w. w.items ≡ compute_code a.op a.size a.a a.b a.to) (λ w. list_all (writes_only (may_change a.to)) w.items ≡ true)
-    (λ w e. subst (λ xs. list_all (writes_only (may_change a.to)) xs ≡ true) (sym e) (computed_writes a.a a.b a.to c.requires.a c.requires.to a.op a.size c.requires.b)) (search rules)
+    if_ok_then c.map_err.result (λ w. w.items ≡ compute_code a.op a.size a.a a.b a.to) (λ w. list_all (changes_only (may_change a.to)) w.items ≡ true)
+    (λ w e. subst (λ xs. list_all (changes_only (may_change a.to)) xs ≡ true) (sym e) (computed_writes a.a a.b a.to c.requires.a c.requires.to a.op a.size c.requires.b)) (search rules)
