@@ -1,14 +1,13 @@
 -- Computed numbers fit their size.
-use Rattle.std.proofs.Common.{◌≡◌, ℕ, suc, ◌+◌, ◌-◌, ◌*◌, ◌/◌, ◌%◌, ◌^◌, ◌<◌, ◌≤◌, refl, sym, ap, ◌∙◌, subst, arith, Bool, true, false, lit<, lit≤}
-use Rattle.std.specs.Prelude.{nat_lt, ◌==◌, int_lt, bit_and, bit_or, bit_xor, if◌then◌else◌}
-use Rattle.std.proofs.lemmas.Nat.{and_le_l, or_lt, xor_lt, mod_below, mul-lt, div_below, shr_le, pow_pos}
+use Rattle.std.proofs.Common.{ℕ, ◌+◌, ◌-◌, ◌*◌, ◌/◌, ◌%◌, ◌^◌, ◌<◌, refl, sym, subst, arith, Bool, true, false}
+use Rattle.std.specs.Prelude.{nat_lt, ◌==◌, int_lt, bit_or, bit_xor, if◌then◌else◌}
+use Rattle.std.proofs.lemmas.Nat.{and_le_l, or_lt, xor_lt, mod_below, mul-lt, div_below, shr_le}
 use Rattle.vax_form.specs.declared.instr.Size.{Size}
 use Rattle.vax_form.specs.declared.instr.Size.TheVariants.{Byte, Word, Long, Quad}
 use Rattle.vt_words.specs.Values.{bit}
-use Rattle.vt_words.specs.Quad.{sign_extended}
 use Rattle.micro_ops.specs.declared.program.MicroOp.{MicroOp}
 use Rattle.micro_ops.specs.declared.program.MicroOp.TheVariants.{Move, Add, Sub, Mul, And, Or, Xor, AndNot, ShiftLeft, ShiftRight, ShiftSigned, SignExtend, ZeroExtend, Equal, Less, LessUnsigned, SelectNonzero, MulHigh}
-use Rattle.micro_ops.specs.Values.{bits_of, limit_of, low, signed, sign_of, signed_right, value_from, computed}
+use Rattle.micro_ops.specs.Values.{bits_of, limit_of, low, signed, sign_of, signed_right, value_from}
 use Rattle.compute_sequences.specs.Bounds.{computed_limit, ComputedFits}
 use Rattle.compute_sequences.proofs.Numbers.{low_below}
 use Rattle.compute_sequences.proofs.Shifting.{limit_some, signed_right_is, quad_fits, extended_is}

@@ -1,7 +1,6 @@
 -- Words with one branch forward, which passes over some of them.
-use Rattle.std.proofs.Common.{◌≡◌, ℕ, suc, ◌+◌, ◌*◌, ◌/◌, ◌%◌, ◌^◌, ◌<◌, ◌≤◌, refl, sym, ap, ◌∙◌, subst, arith, List, [], ◌∷◌, ◌++◌, length, Bool, true, false, not, Some}
+use Rattle.std.proofs.Common.{◌≡◌, ℕ, suc, ◌+◌, ◌^◌, ◌<◌, ◌≤◌, refl, ap, ◌∙◌, subst, arith, List, ◌∷◌, ◌++◌, length, Bool, true, false}
 use Rattle.std.specs.Prelude.{pos, ◌==◌}
-use Rattle.std.specs.Int.{cast_unsigned, w32}
 use Rattle.std.proofs.lemmas.List.{length-append}
 use Rattle.alpha_encode.specs.declared.instr.BranchOp.TheVariants.{Beq}
 use Rattle.alpha_encode.specs.declared.instr.AlphaInstr.{AlphaInstr}

@@ -1,20 +1,18 @@
 -- Numbers compare as the quadwords whose highest bytes they are.
-use Rattle.std.proofs.Common.{◌≡◌, ℕ, ◌+◌, ◌-◌, ◌*◌, ◌/◌, ◌%◌, ◌^◌, ◌<◌, ◌≤◌, refl, sym, ap, ◌∙◌, arith, Bool, true, false, cond}
-use Rattle.std.specs.Prelude.{nat_lt, ◌==◌, int_lt, pos, ◌-ℤ◌, if◌then◌else◌}
-use Rattle.std.specs.Int.{cast_signed, w64}
+use Rattle.std.proofs.Common.{◌≡◌, ℕ, ◌-◌, ◌*◌, ◌%◌, ◌^◌, ◌<◌, ap, ◌∙◌, arith}
+use Rattle.std.specs.Prelude.{nat_lt, ◌==◌, int_lt}
 use Rattle.std.proofs.lemmas.Bool.Decides.{nat_tests}
 use Rattle.std.proofs.lemmas.Int.{ints}
 use Rattle.vax_form.specs.declared.instr.Size.{Size}
 use Rattle.vax_form.specs.declared.instr.Size.TheVariants.{Byte, Word, Long, Quad}
 use Rattle.vt_words.specs.Quad.{left}
-use Rattle.vt_words.specs.Values.{bit, signed_value}
 use Rattle.alpha_encode.specs.declared.instr.OperateOp.{OperateOp}
 use Rattle.alpha_encode.specs.declared.instr.OperateOp.TheVariants as row
 use Rattle.alpha_meaning.specs.Result.{one_if, result_of, signed as signed_quad}
 use Rattle.micro_ops.specs.declared.program.MicroOp.{MicroOp}
 use Rattle.micro_ops.specs.declared.program.MicroOp.TheVariants as ops
 use Rattle.micro_ops.specs.Values.{bits_of, limit_of, low, signed, value_from}
-use Rattle.compute_sequences.proofs.Numbers.{low_below, low_quad}
+use Rattle.compute_sequences.proofs.Numbers.{low_below}
 
 -- the low bytes as the highest ones
 abbrev pub raised : Size → ℕ → ℕ

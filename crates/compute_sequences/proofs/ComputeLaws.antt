@@ -1,29 +1,28 @@
 -- What the words of a computation leave.
-use Rattle.std.proofs.Common.{◌≡◌, ℕ, ◌+◌, ◌-◌, ◌/◌, ◌%◌, ◌^◌, ◌<◌, ◌≤◌, refl, sym, ap, ◌∙◌, subst, arith, List, [], ◌∷◌, ◌++◌, append_assoc, length, Bool, true, false, eqb, eqb-true, lit<, lit≤, cond}
-use Rattle.std.specs.Prelude.{pos, ◌||◌, ◌==◌, nat_lt, if◌then◌else◌}
+use Rattle.std.proofs.Common.{◌≡◌, ℕ, ◌^◌, ◌<◌, refl, sym, ap, ◌∙◌, subst, List, [], ◌∷◌, ◌++◌, Bool, true, false, eqb, eqb-true, lit<}
+use Rattle.std.specs.Prelude.{◌||◌, if◌then◌else◌}
 use Rattle.std.proofs.Math.Nat.{mod-eq_of_lt}
 use Rattle.vax_form.specs.declared.instr.Size.{Size}
-use Rattle.vax_form.specs.declared.instr.Size.TheVariants.{Byte, Word, Long, Quad}
-use Rattle.vt_words.specs.Quad.{kept, sign_extended}
+use Rattle.vt_words.specs.Quad.{sign_extended}
 use Rattle.alpha_encode.specs.declared.instr.AlphaInstr.{AlphaInstr}
 use Rattle.alpha_encode.specs.declared.instr.OperateOp.TheVariants as row
-use Rattle.alpha_meaning.specs.State.{Regs, put}
+use Rattle.alpha_meaning.specs.State.{Regs}
 use Rattle.micro_ops.specs.declared.program.Arg.{Arg}
 use Rattle.micro_ops.specs.declared.program.MicroOp.{MicroOp}
-use Rattle.micro_ops.specs.declared.program.MicroOp.TheVariants.{Move, Add, Sub, Mul, And, Or, Xor, AndNot, ShiftLeft, ShiftRight, ShiftSigned, SignExtend, ZeroExtend, Equal, Less, LessUnsigned, SelectNonzero, MulHigh}
+use Rattle.micro_ops.specs.declared.program.MicroOp.TheVariants.{Add, Sub, Mul, And, Or, Xor, AndNot, ShiftLeft, ShiftRight, ShiftSigned, SignExtend, Equal, Less, LessUnsigned, MulHigh}
 use Rattle.micro_ops.specs.Uses.{is_unary, is_select}
-use Rattle.micro_ops.specs.Values.{low, bits_of, limit_of, value_from, computed}
+use Rattle.micro_ops.specs.Values.{low, bits_of, value_from}
 use Rattle.compute_sequences.specs.Registers.{IsTarget, IsArgument, register_at, value_at, is_loaded, may_change}
-use Rattle.compute_sequences.specs.Words.{mask_of, narrow, load_code, first_register, second_target, second_register, free_of, other_of, unary_code, binary_code}
-use Rattle.compute_sequences.specs.Promises.{LeavesAt, MayCompute, IsComputed}
+use Rattle.compute_sequences.specs.Words.{narrow, load_code, first_register, second_target, second_register, free_of, other_of, unary_code, binary_code}
+use Rattle.compute_sequences.specs.Promises.{LeavesAt, IsComputed}
 use Rattle.compute_sequences.proofs.Straight.{eqb_self, Fine, Each, each_append, afters, afters_append, straight}
-use Rattle.compute_sequences.proofs.Numbers.{zapped, low_below, low_quad, adds, subtracts, multiplies, ands, ors, xors, clears}
+use Rattle.compute_sequences.proofs.Numbers.{zapped, low_below, adds, subtracts, multiplies, ands, ors, xors, clears}
 use Rattle.compute_sequences.proofs.Comparing.{equals, orders, signed_orders}
 use Rattle.compute_sequences.proofs.Shifting.{signs_by_low}
 use Rattle.compute_sequences.proofs.ConstantLaws.{target_real, target_fits, may_target}
 use Rattle.compute_sequences.proofs.FormLaws.{Roles, lowered_is, compared_is, left_shift_is, right_shift_is, signed_shift_is, high_product_is, extended_is}
 use Rattle.compute_sequences.proofs.FineLaws.{load_fine, unary_fine, binary_fine, scratch_may}
-use Rattle.compute_sequences.proofs.Placing.{Holds, first_placed, first_fits, second_fits, second_placed, first_stays, not_27, to_not_27}
+use Rattle.compute_sequences.proofs.Placing.{first_placed, first_fits, second_fits, second_placed, first_stays, not_27, to_not_27}
 
 -- ---- operations on two registers
 pub roles_of : (y to : ℕ) → IsTarget to → Roles y (free_of y to) (other_of y to) to

@@ -1,15 +1,13 @@
 -- The words of constants.
-use Rattle.std.proofs.Common.{◌≡◌, ℕ, ◌+◌, ◌/◌, ◌%◌, ◌^◌, ◌<◌, ◌≤◌, refl, sym, ap, ◌∙◌, arith, List, [], ◌∷◌, Bool, true, false, eqb, ne_eqb, rules, lit<, lit≤}
-use Rattle.std.specs.Prelude.{◌||◌, FitsSigned}
+use Rattle.std.proofs.Common.{◌≡◌, ℕ, ◌+◌, ◌/◌, ◌%◌, ◌^◌, ◌<◌, refl, ap, ◌∙◌, arith, Bool, true, false, eqb, ne_eqb, rules, lit<}
+use Rattle.std.specs.Prelude.{FitsSigned}
 use Rattle.std.specs.Int.{cast_signed, cast_unsigned, w16, w64}
 use Rattle.vax_form.specs.declared.instr.Size.{Size}
 use Rattle.vax_form.specs.declared.instr.Size.TheVariants.{Byte, Word, Long, Quad}
 use Rattle.vt_words.specs.Quad.{left}
-use Rattle.alpha_encode.specs.Halves.{high_half, low_half}
-use Rattle.alpha_encode.specs.Words.{IsEncodable}
-use Rattle.alpha_meaning.specs.State.{Regs, put}
+use Rattle.alpha_encode.specs.Halves.{low_half}
+use Rattle.alpha_meaning.specs.State.{Regs}
 use Rattle.alpha_meaning.specs.Result.{plus, times}
-use Rattle.micro_ops.specs.Values.{low}
 use Rattle.compute_sequences.specs.Registers.{IsTarget, may_change}
 use Rattle.compute_sequences.specs.Constants.{high_long, low_long, constant_code}
 use Rattle.compute_sequences.specs.Promises.{LeavesConstant, HasLow}

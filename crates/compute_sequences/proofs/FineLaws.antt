@@ -1,22 +1,20 @@
 -- The words of each form run one after another, write what they may, have encodings, and are as many as counted.
-use Rattle.std.proofs.Common.{◌≡◌, ℕ, ◌+◌, ◌-◌, ◌<◌, ◌≤◌, refl, sym, ap, ◌∙◌, subst, arith, List, [], ◌∷◌, ◌++◌, length, Bool, true, false, eqb, ne_eqb, eqb-true, lit<, lit≤, cond}
+use Rattle.std.proofs.Common.{◌≡◌, ℕ, ◌<◌, ◌≤◌, refl, arith, [], ◌∷◌, ◌++◌, length, Bool, true, false, eqb, lit<, lit≤}
 use Rattle.std.specs.Prelude.{◌||◌, nat_lt, if◌then◌else◌}
-use Rattle.std.proofs.lemmas.Bool.Decides.{nat_tests}
 use Rattle.vax_form.specs.declared.instr.Size.{Size}
 use Rattle.vax_form.specs.declared.instr.Size.TheVariants.{Byte, Word, Long, Quad}
 use Rattle.alpha_encode.specs.declared.instr.OperateOp.{OperateOp}
 use Rattle.alpha_encode.specs.declared.instr.OperateOp.TheVariants as row
 use Rattle.alpha_encode.specs.declared.instr.Second.TheVariants.{Register, Literal}
-use Rattle.alpha_encode.specs.declared.instr.AlphaInstr.{AlphaInstr}
 use Rattle.alpha_encode.specs.declared.instr.AlphaInstr.TheVariants.{Operate}
 use Rattle.micro_ops.specs.declared.program.Arg.{Arg}
 use Rattle.micro_ops.specs.declared.program.Arg.TheVariants as arguments
 use Rattle.micro_ops.specs.declared.program.MicroOp.{MicroOp}
-use Rattle.micro_ops.specs.declared.program.MicroOp.TheVariants.{Move, Add, Sub, Mul, And, Or, Xor, AndNot, ShiftLeft, ShiftRight, ShiftSigned, SignExtend, ZeroExtend, Equal, Less, LessUnsigned, SelectNonzero, MulHigh}
+use Rattle.micro_ops.specs.declared.program.MicroOp.TheVariants.{Move, Add, Sub, Mul, And, Or, Xor, AndNot, ShiftLeft, ShiftRight, ShiftSigned, SignExtend, ZeroExtend, Equal, Less, LessUnsigned, MulHigh}
 use Rattle.micro_ops.specs.Values.{bits_of}
 use Rattle.micro_ops.specs.WordCounts.{operation_words, argument_words}
-use Rattle.compute_sequences.specs.Registers.{IsTarget, IsArgument, register_at, is_loaded, may_change}
-use Rattle.compute_sequences.specs.Words.{mask_of, narrow, raise, extend, load_code, free_of, other_of, lowered, compared, counted, within_size, left_shift, right_shift, signed_start, signed_rest, signed_shift, high_product, unary_code, binary_code}
+use Rattle.compute_sequences.specs.Registers.{IsTarget, IsArgument, may_change}
+use Rattle.compute_sequences.specs.Words.{narrow, raise, extend, load_code, free_of, other_of, lowered, compared, counted, within_size, left_shift, right_shift, signed_start, signed_rest, signed_shift, high_product, unary_code, binary_code}
 use Rattle.compute_sequences.proofs.Straight.{eqb_self, Fine, Each, each_append}
 use Rattle.compute_sequences.proofs.ConstantLaws.{constant_fine}
 

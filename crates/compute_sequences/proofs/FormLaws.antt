@@ -1,6 +1,6 @@
 -- What is in `to` behind the words of each form.
-use Rattle.std.proofs.Common.{◌≡◌, ℕ, ◌+◌, ◌-◌, ◌*◌, ◌/◌, ◌%◌, ◌^◌, ◌<◌, ◌≤◌, refl, sym, ap, ◌∙◌, subst, arith, List, [], ◌∷◌, ◌++◌, Bool, true, false, eqb, cond, lit<, lit≤}
-use Rattle.std.specs.Prelude.{nat_lt, ◌==◌, if◌then◌else◌}
+use Rattle.std.proofs.Common.{◌≡◌, ℕ, ◌*◌, ◌/◌, ◌%◌, ◌^◌, ◌<◌, ◌≤◌, refl, sym, ap, ◌∙◌, arith, true, false, eqb, lit≤}
+use Rattle.std.specs.Prelude.{nat_lt, if◌then◌else◌}
 use Rattle.std.proofs.lemmas.Nat.{mul-lt}
 use Rattle.std.proofs.Math.Nat.{mod-eq_of_lt}
 use Rattle.vax_form.specs.declared.instr.Size.{Size}
@@ -8,12 +8,12 @@ use Rattle.vax_form.specs.declared.instr.Size.TheVariants.{Byte, Word, Long, Qua
 use Rattle.vt_words.specs.Quad.{kept, left, right, sign_extended}
 use Rattle.alpha_encode.specs.declared.instr.OperateOp.{OperateOp}
 use Rattle.alpha_encode.specs.declared.instr.OperateOp.TheVariants as row
-use Rattle.alpha_meaning.specs.State.{Regs, put}
+use Rattle.alpha_meaning.specs.State.{Regs}
 use Rattle.alpha_meaning.specs.Result.{one_if, minus, result_of}
 use Rattle.micro_ops.specs.declared.program.MicroOp.{MicroOp}
 use Rattle.micro_ops.specs.declared.program.MicroOp.TheVariants as ops
 use Rattle.micro_ops.specs.Values.{bits_of, limit_of, low, signed_right, sign_of, value_from}
-use Rattle.compute_sequences.specs.Words.{mask_of, narrow, extend, lowered, compared, left_shift, right_shift, signed_shift, high_product}
+use Rattle.compute_sequences.specs.Words.{mask_of, extend, lowered, compared, left_shift, right_shift, signed_shift, high_product}
 use Rattle.compute_sequences.proofs.Straight.{eqb_self, afters}
 use Rattle.compute_sequences.proofs.Numbers.{low_kept, low_quad, low_below, Lowers}
 use Rattle.compute_sequences.proofs.Comparing.{raised, Compares}

@@ -1,7 +1,7 @@
 -- Quadwords and their low bytes.
-use Rattle.std.proofs.Common.{◌≡◌, ℕ, ◌+◌, ◌-◌, ◌*◌, ◌/◌, ◌%◌, ◌^◌, ◌<◌, ◌≤◌, refl, sym, ap, ◌∙◌, subst, arith, Bool, true, false, eqb, cond, lit<, lit≤}
-use Rattle.std.specs.Prelude.{nat_lt, ◌==◌, int_lt, bit_and, bit_or, bit_xor, if◌then◌else◌}
-use Rattle.std.proofs.lemmas.Nat.{and_mask, and_mod, or_mod, xor_mod, and_le_l, or_lt, xor_lt, mul-mod, mod_below, pow_pos}
+use Rattle.std.proofs.Common.{◌≡◌, ℕ, ◌+◌, ◌-◌, ◌*◌, ◌%◌, ◌^◌, ◌<◌, ap, ◌∙◌, arith}
+use Rattle.std.specs.Prelude.{bit_and, bit_or, bit_xor}
+use Rattle.std.proofs.lemmas.Nat.{and_mask, and_mod, or_mod, xor_mod, and_le_l, or_lt, xor_lt, mul-mod}
 use Rattle.std.proofs.Math.Nat.{mod-eq_of_lt}
 use Rattle.vax_form.specs.declared.instr.Size.{Size}
 use Rattle.vax_form.specs.declared.instr.Size.TheVariants.{Byte, Word, Long, Quad}

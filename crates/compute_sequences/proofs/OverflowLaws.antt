@@ -1,8 +1,8 @@
 -- What the words of an overflow leave.
-use Rattle.std.proofs.Common.{◌≡◌, ◌≢◌, ℕ, ◌+◌, ◌-◌, ◌<◌, ◌≤◌, ◌^◌, refl, sym, ap, ◌∙◌, subst, arith, List, [], ◌∷◌, ◌++◌, Bool, true, false, eqb, ne_eqb, lit<, lit≤}
-use Rattle.std.specs.Prelude.{not, ◌==◌, bit_xor, if◌then◌else◌}
+use Rattle.std.proofs.Common.{◌≡◌, ◌≢◌, ℕ, ◌<◌, refl, sym, ap, ◌∙◌, List, [], ◌∷◌, ◌++◌, Bool, true, false, eqb, ne_eqb, lit<}
+use Rattle.std.specs.Prelude.{not, ◌==◌, bit_xor}
 use Rattle.std.proofs.Math.Nat.{mod-eq_of_lt}
-use Rattle.vax_form.specs.Size.{size_of, bytes_of}
+use Rattle.vax_form.specs.Size.{size_of}
 use Rattle.vax_form.specs.declared.instr.Size.{Size}
 use Rattle.vax_form.specs.declared.instr.Width.{Width}
 use Rattle.vax_form.specs.declared.instr.Width.TheVariants.{Byte, Word, Long}
@@ -14,8 +14,7 @@ use Rattle.alpha_encode.specs.declared.instr.OperateOp.TheVariants as row
 use Rattle.alpha_encode.specs.declared.instr.Second.TheVariants.{Register, Literal}
 use Rattle.alpha_meaning.specs.State.{Regs, put}
 use Rattle.alpha_meaning.specs.Result.{one_if, result_of}
-use Rattle.alpha_meaning.specs.Pieces.{Only}
-use Rattle.micro_ops.specs.Values.{low, bits_of, limit_of}
+use Rattle.micro_ops.specs.Values.{low, bits_of}
 use Rattle.compute_sequences.specs.declared.overflow.Arithmetic.{Arithmetic}
 use Rattle.compute_sequences.specs.declared.overflow.Arithmetic.TheVariants.{Sum, Difference}
 use Rattle.compute_sequences.specs.Registers.{IsTarget, may_change}

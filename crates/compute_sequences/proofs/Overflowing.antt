@@ -1,16 +1,15 @@
 -- V from the operands with their signs.
-use Rattle.std.proofs.Common.{◌≡◌, ℕ, ◌+◌, ◌-◌, ◌*◌, ◌/◌, ◌%◌, ◌^◌, ◌<◌, ◌≤◌, ◌==◌, refl, sym, ap, ◌∙◌, arith, Bool, true, false}
-use Rattle.std.specs.Prelude.{ℤ, pos, negsuc, ◌+ℤ◌, ◌-ℤ◌, nat_lt, nat_le, int_lt, int_le, ◌&&◌, not, if◌then◌else◌}
+use Rattle.std.proofs.Common.{◌≡◌, ℕ, ◌<◌, ◌==◌, arith}
+use Rattle.std.specs.Prelude.{not}
 use Rattle.std.proofs.lemmas.Bool.Decides.{nat_tests}
 use Rattle.std.proofs.lemmas.Int.{ints}
-use Rattle.vax_form.specs.Size.{size_of, bytes_of}
+use Rattle.vax_form.specs.Size.{size_of}
 use Rattle.vax_form.specs.declared.instr.Width.{Width}
 use Rattle.vax_form.specs.declared.instr.Width.TheVariants.{Byte, Word, Long}
-use Rattle.vt_words.specs.Values.{modulus, signed_value, value_of, fits, bit}
 use Rattle.vt_words.specs.Arithmetic.{sum_of, difference_of}
 use Rattle.vt_words.specs.Quad.{sign_extended}
-use Rattle.alpha_meaning.specs.Result.{plus, minus, one_if, result_of}
-use Rattle.micro_ops.specs.Values.{low, bits_of, limit_of}
+use Rattle.alpha_meaning.specs.Result.{result_of}
+use Rattle.micro_ops.specs.Values.{bits_of, limit_of}
 use Rattle.compute_sequences.specs.declared.overflow.Arithmetic.{Arithmetic}
 use Rattle.compute_sequences.specs.declared.overflow.Arithmetic.TheVariants.{Sum, Difference}
 use Rattle.compute_sequences.specs.Overflow.{quad_operation, overflows}

@@ -1,7 +1,6 @@
 -- Where the arguments stand behind their words.
-use Rattle.std.proofs.Common.{◌≡◌, ◌≢◌, ℕ, ◌+◌, ◌*◌, ◌/◌, ◌%◌, ◌^◌, ◌<◌, ◌≤◌, refl, sym, ap, ◌∙◌, subst, arith, List, [], ◌∷◌, ◌++◌, Bool, true, false, not, eqb, ne_eqb, lit<, lit≤, cond}
-use Rattle.std.specs.Prelude.{nat_lt, ◌||◌, ◌==◌, bit_and, if◌then◌else◌}
-use Rattle.std.proofs.lemmas.Bool.Decides.{nat_tests}
+use Rattle.std.proofs.Common.{◌≡◌, ℕ, ◌+◌, ◌/◌, ◌%◌, ◌^◌, ◌<◌, refl, sym, ap, ◌∙◌, subst, arith, List, [], ◌∷◌, Bool, true, false, not, eqb, ne_eqb, lit<}
+use Rattle.std.specs.Prelude.{nat_lt, ◌==◌, bit_and, if◌then◌else◌}
 use Rattle.std.proofs.lemmas.Nat.{and_mask}
 use Rattle.vax_form.specs.declared.instr.Size.{Size}
 use Rattle.vax_form.specs.declared.instr.Size.TheVariants.{Byte, Word, Long, Quad}
@@ -10,16 +9,16 @@ use Rattle.alpha_encode.specs.declared.instr.OperateOp.TheVariants as row
 use Rattle.alpha_encode.specs.declared.instr.Second.TheVariants.{Literal}
 use Rattle.alpha_encode.specs.declared.instr.AlphaInstr.{AlphaInstr}
 use Rattle.alpha_encode.specs.declared.instr.AlphaInstr.TheVariants.{Operate}
-use Rattle.alpha_meaning.specs.State.{Regs, put}
+use Rattle.alpha_meaning.specs.State.{Regs}
 use Rattle.alpha_meaning.specs.Pieces.{Only}
 use Rattle.micro_ops.specs.declared.program.Arg.{Arg}
 use Rattle.micro_ops.specs.declared.program.Arg.TheVariants.{Temp, Register, Flag, Const}
-use Rattle.micro_ops.specs.Values.{low, limit_of}
+use Rattle.micro_ops.specs.Values.{low}
 use Rattle.compute_sequences.specs.Registers.{IsTarget, IsArgument, register_at, value_at, is_loaded}
 use Rattle.compute_sequences.specs.Constants.{constant_code}
 use Rattle.compute_sequences.specs.Words.{load_code, first_register, second_target, second_register}
-use Rattle.compute_sequences.proofs.Straight.{eqb_self, Fine, Each, afters, afters_only, same}
-use Rattle.compute_sequences.proofs.Numbers.{low_kept, low_quad}
+use Rattle.compute_sequences.proofs.Straight.{eqb_self, afters, afters_only, same}
+use Rattle.compute_sequences.proofs.Numbers.{low_kept}
 use Rattle.compute_sequences.proofs.ConstantLaws.{constant_low, target_fits, target_real}
 use Rattle.compute_sequences.proofs.FineLaws.{load_fine}
 

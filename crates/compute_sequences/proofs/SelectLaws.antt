@@ -1,6 +1,6 @@
 -- A choice: what its words leave, with and without words of the second argument.
-use Rattle.std.proofs.Common.{◌≡◌, ℕ, ◌+◌, ◌-◌, ◌/◌, ◌%◌, ◌^◌, ◌<◌, ◌≤◌, refl, sym, ap, ◌∙◌, subst, arith, List, [], ◌∷◌, ◌++◌, append_assoc, length, Bool, true, false, eqb, lit<, lit≤, cond, rules}
-use Rattle.std.specs.Prelude.{pos, ◌||◌, ◌==◌, nat_lt, if◌then◌else◌, negsuc, ◌≤ℤ◌, ◌<ℤ◌}
+use Rattle.std.proofs.Common.{◌≡◌, ℕ, ◌-◌, ◌^◌, ◌<◌, ◌≤◌, refl, sym, ap, ◌∙◌, subst, arith, List, [], ◌∷◌, ◌++◌, append_assoc, length, Bool, true, false, eqb, lit<, lit≤, rules}
+use Rattle.std.specs.Prelude.{pos, ◌==◌, nat_lt, if◌then◌else◌, negsuc, ◌≤ℤ◌, ◌<ℤ◌}
 use Rattle.std.proofs.lemmas.List.{append-nil}
 use Rattle.vax_form.specs.declared.instr.Size.{Size}
 use Rattle.vax_form.specs.declared.instr.Size.TheVariants.{Byte, Word, Long, Quad}
@@ -14,18 +14,17 @@ use Rattle.alpha_meaning.specs.State.{Regs, put}
 use Rattle.alpha_meaning.specs.Result.{result_of}
 use Rattle.micro_ops.specs.declared.program.Arg.{Arg}
 use Rattle.micro_ops.specs.declared.program.Arg.TheVariants as arguments
-use Rattle.micro_ops.specs.declared.program.MicroOp.TheVariants.{SelectNonzero}
-use Rattle.micro_ops.specs.Values.{low, value_from, computed}
+use Rattle.micro_ops.specs.Values.{low}
 use Rattle.micro_ops.specs.WordCounts.{argument_words}
 use Rattle.compute_sequences.specs.Registers.{IsTarget, IsArgument, register_at, value_at, is_loaded, may_change}
-use Rattle.compute_sequences.specs.Words.{mask_of, narrow, load_code, first_register, chosen, select_code}
-use Rattle.compute_sequences.specs.Promises.{LeavesAt, IsComputed, changes_only}
+use Rattle.compute_sequences.specs.Words.{mask_of, narrow, load_code, first_register, chosen}
+use Rattle.compute_sequences.specs.Promises.{LeavesAt, changes_only}
 use Rattle.compute_sequences.proofs.Straight.{eqb_self, Fine, Each, each_append, each_encodable, each_writes, afters, afters_append, straight}
-use Rattle.compute_sequences.proofs.Numbers.{zapped, low_below, low_quad}
+use Rattle.compute_sequences.proofs.Numbers.{zapped, low_quad}
 use Rattle.compute_sequences.proofs.ConstantLaws.{target_real, target_fits, may_target}
 use Rattle.compute_sequences.proofs.FineLaws.{fine_two, fine_narrow, load_fine, load_length, scratch_may}
 use Rattle.compute_sequences.proofs.Choosing.{branched}
-use Rattle.compute_sequences.proofs.Placing.{Holds, only_first, load_only, first_placed, first_fits, argument_fits, not_scratch, value_kept, loaded, in_place, not_27, to_not_27}
+use Rattle.compute_sequences.proofs.Placing.{Holds, only_first, first_placed, first_fits, argument_fits, not_scratch, value_kept, loaded, in_place, to_not_27}
 use Rattle.compute_sequences.proofs.ComputeLaws.{first_fine}
 
 most_words : (b : Arg) (size : Size) → argument_words b size ≤ 5

@@ -1,7 +1,7 @@
 -- Shifts of the low bytes, by counts of any number.
-use Rattle.std.proofs.Common.{◌≡◌, ℕ, suc, ◌+◌, ◌-◌, ◌*◌, ◌/◌, ◌%◌, ◌^◌, ◌<◌, ◌≤◌, refl, sym, ap, ◌∙◌, subst, arith, Bool, true, false, cond, lit<, lit≤, rules}
-use Rattle.std.specs.Prelude.{ℤ, pos, negsuc, ◌-ℤ◌, nat_lt, ◌==◌, unsigned_abs, if◌then◌else◌}
-use Rattle.std.specs.Int.{cast_signed, cast_unsigned, int_div_euclid, int_rem_euclid, w64}
+use Rattle.std.proofs.Common.{◌≡◌, ℕ, suc, ◌+◌, ◌-◌, ◌*◌, ◌/◌, ◌%◌, ◌^◌, ◌<◌, ◌≤◌, refl, sym, ap, ◌∙◌, subst, arith, Bool, true, false, lit<, lit≤}
+use Rattle.std.specs.Prelude.{pos, negsuc, nat_lt, if◌then◌else◌}
+use Rattle.std.specs.Int.{cast_signed, cast_unsigned, int_div_euclid, w64}
 use Rattle.std.proofs.lemmas.Bool.Decides.{nat_tests}
 use Rattle.std.proofs.lemmas.Int.{ints, to_z_pos}
 use Rattle.std.proofs.Math.Facts.{to_z-neg}
@@ -11,11 +11,11 @@ use Rattle.vax_form.specs.Size.{bytes_of}
 use Rattle.vax_form.specs.declared.instr.Size.{Size}
 use Rattle.vax_form.specs.declared.instr.Size.TheVariants.{Byte, Word, Long, Quad}
 use Rattle.vt_words.specs.Quad.{left, right, sign_extended}
-use Rattle.vt_words.specs.Values.{value_of, signed_value}
+use Rattle.vt_words.specs.Values.{value_of}
 use Rattle.alpha_encode.specs.declared.instr.OperateOp.TheVariants as row
 use Rattle.alpha_meaning.specs.Result.{one_if, plus, minus, long, result_of, arithmetic_right, signed as signed_quad}
 use Rattle.micro_ops.specs.Values.{bits_of, limit_of, low, signed, sign_of, signed_right}
-use Rattle.compute_sequences.proofs.Numbers.{low_below, low_quad, low_of_quad}
+use Rattle.compute_sequences.proofs.Numbers.{low_below, low_of_quad}
 
 -- ---- counts
 -- a shift counts modulo 64, which a count below the size's bits is

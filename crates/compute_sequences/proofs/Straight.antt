@@ -1,23 +1,20 @@
 -- Words that run one after another: instructions of the operate format, LDA and LDAH.
-use Rattle.std.proofs.Common.{◌≡◌, ℕ, suc, ◌+◌, ◌<◌, ◌≤◌, refl, sym, ap, ◌∙◌, subst, arith, List, [], ◌∷◌, ◌++◌, length, Bool, true, false, eqb, cond, ne_eqb, eq-eqb, eqb-true}
-use Rattle.std.specs.Prelude.{◌&&◌, ◌||◌, All}
+use Rattle.std.proofs.Common.{◌≡◌, ℕ, suc, ◌+◌, ◌≤◌, refl, subst, arith, List, [], ◌∷◌, ◌++◌, length, Bool, true, false, eqb, cond, eq-eqb}
+use Rattle.std.specs.Prelude.{All}
 use Rattle.std.specs.List.{list_all}
 use Rattle.std.proofs.lemmas.List.Elements.{All-cons, All-nil}
-use Rattle.alpha_encode.specs.declared.instr.MemoryOp.{MemoryOp}
 use Rattle.alpha_encode.specs.declared.instr.MemoryOp.TheVariants as row
 use Rattle.alpha_encode.specs.declared.instr.MemoryOp.TheVariants.{Lda, Ldah}
-use Rattle.alpha_encode.specs.declared.instr.OperateOp.{OperateOp}
-use Rattle.alpha_encode.specs.declared.instr.Second.TheVariants as seconds
 use Rattle.alpha_encode.specs.declared.instr.AlphaInstr.{AlphaInstr}
 use Rattle.alpha_encode.specs.declared.instr.AlphaInstr.TheVariants.{Memory, Branch, Operate, Jump, Pal}
 use Rattle.alpha_encode.specs.Words.{IsEncodable}
 use Rattle.alpha_meaning.specs.State.{Regs, put, at_place}
-use Rattle.alpha_meaning.specs.Act.{Goes, act, second_value, writes}
+use Rattle.alpha_meaning.specs.Act.{Goes, act, second_value}
 use Rattle.alpha_meaning.specs.Memory.{address_of}
 use Rattle.alpha_meaning.specs.Result.{result_of}
 use Rattle.alpha_meaning.specs.Pieces.{Plan, Over, Plain, Piece, HasAt, piece, Only}
-use Rattle.alpha_meaning.proofs.Rules.{Always, done, goes, put_only, only_then}
-use Rattle.compute_sequences.specs.Registers.{IsTarget, may_change}
+use Rattle.alpha_meaning.proofs.Rules.{Always, done, goes, put_only}
+use Rattle.compute_sequences.specs.Registers.{may_change}
 use Rattle.compute_sequences.specs.Promises.{Leaves, LeavesAt, changes_only}
 
 -- ---- registers

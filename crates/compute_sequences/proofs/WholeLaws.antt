@@ -1,6 +1,6 @@
 -- Computations as a whole: what their words leave, how many they are, and their encodings.
-use Rattle.std.proofs.Common.{◌≡◌, ◌≢◌, ℕ, suc, ◌+◌, ◌<◌, ◌≤◌, ◌^◌, refl, sym, ap, ◌∙◌, subst, arith, List, [], ◌∷◌, ◌++◌, length, Bool, true, false, lit<, lit≤}
-use Rattle.std.specs.Prelude.{pos, All, ◌||◌, if◌then◌else◌}
+use Rattle.std.proofs.Common.{◌≡◌, ℕ, ◌+◌, ◌<◌, ◌≤◌, refl, arith, [], ◌∷◌, ◌++◌, length, Bool, true, false, lit<}
+use Rattle.std.specs.Prelude.{pos, All, if◌then◌else◌}
 use Rattle.std.specs.List.{list_all}
 use Rattle.std.proofs.lemmas.List.{length-append}
 use Rattle.vax_form.specs.declared.instr.Size.{Size}
@@ -11,17 +11,16 @@ use Rattle.alpha_encode.specs.declared.instr.BranchOp.TheVariants.{Beq}
 use Rattle.alpha_encode.specs.declared.instr.OperateOp.TheVariants as row
 use Rattle.alpha_encode.specs.declared.instr.Second.TheVariants.{Register}
 use Rattle.alpha_encode.specs.Words.{IsEncodable}
-use Rattle.alpha_meaning.specs.State.{Regs}
 use Rattle.micro_ops.specs.declared.program.Arg.{Arg}
 use Rattle.micro_ops.specs.declared.program.Micro.TheVariants.{Compute}
 use Rattle.micro_ops.specs.declared.program.MicroOp.{MicroOp}
 use Rattle.micro_ops.specs.declared.program.MicroOp.TheVariants.{Move, SignExtend, ZeroExtend, SelectNonzero}
-use Rattle.micro_ops.specs.Uses.{is_unary, is_select}
+use Rattle.micro_ops.specs.Uses.{is_unary}
 use Rattle.micro_ops.specs.Values.{value_from}
 use Rattle.micro_ops.specs.WordCounts.{operation_words, argument_words, words_of}
 use Rattle.compute_sequences.specs.Registers.{IsTarget, IsArgument, register_at, is_loaded, may_change}
-use Rattle.compute_sequences.specs.Words.{narrow, load_code, first_register, second_target, second_register, unary_code, binary_code, chosen, select_code, behind_first, compute_code}
-use Rattle.compute_sequences.specs.Promises.{LeavesAt, MayCompute, IsComputed, LeavesComputed, changes_only}
+use Rattle.compute_sequences.specs.Words.{narrow, load_code, first_register, second_target, second_register, binary_code, chosen, select_code, behind_first, compute_code}
+use Rattle.compute_sequences.specs.Promises.{IsComputed, LeavesComputed, changes_only}
 use Rattle.compute_sequences.proofs.Straight.{Fine, Each, each_append, each_map, all_of, all_writes, fine_writes, straight}
 use Rattle.compute_sequences.proofs.ConstantLaws.{target_fits, may_target}
 use Rattle.compute_sequences.proofs.FineLaws.{fine_narrow, load_length, unary_length, binary_length, scratch_may}

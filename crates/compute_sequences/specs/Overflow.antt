@@ -1,7 +1,7 @@
 -- V of a sum and of a difference.
 -- VAX Architecture Reference Manual, "Integer Arithmetic and Logical Instructions", ADD and SUB: V says that the true result
 -- is no two's complement number of the operands' length.
-use Rattle.std.specs.Prelude.{ℕ, ◌≡◌, ◌-◌, ◌*◌, Bool, false, List, [], ◌∷◌, ◌++◌}
+use Rattle.std.specs.Prelude.{ℕ, ◌≡◌, Bool, false, List, [], ◌∷◌, ◌++◌}
 use Rattle.vax_form.specs.Size.{size_of, bytes_of}
 use Rattle.vax_form.specs.declared.instr.Width.{Width}
 use Rattle.vax_form.specs.declared.instr.Width.TheVariants.{Byte, Word, Long}
