@@ -15,3 +15,4 @@ pub mod WholeLaws
 pub mod Overflowing
 pub mod OverflowLaws
 pub mod Bounded
+pub mod Refused
