@@ -153,6 +153,9 @@ fn interlocked_changes(rt: HostRuntime) -> Result<(), WantOfMemory> {
     // The word A7A6 and FFFF, the word A1A0 and 6000.
     locks(&rt, &add, 6, 0xffff, 2, 0xa7a5);
     locks(&rt, &add, 0, 0x6000, 2, 0x01a0);
+    // At odd addresses in one quadword, the word A6A5 and FFFF, the word A2A1 and 6000.
+    locks(&rt, &add, 5, 0xffff, 2, 0xa6a4);
+    locks(&rt, &add, 1, 0x6000, 2, 0x02a1);
     // Bits of the bytes A7 and A5.
     locks(&rt, &set, 7, 4, 1, 0xb7);
     locks(&rt, &set, 7, 5, 1, 0xa7);
