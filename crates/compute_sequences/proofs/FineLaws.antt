@@ -16,7 +16,7 @@ use Rattle.micro_ops.specs.WordCounts.{operation_words, argument_words}
 use Rattle.compute_sequences.specs.Registers.{IsTarget, IsArgument, may_change}
 use Rattle.compute_sequences.specs.Words.{narrow, raise, extend, load_code, free_of, other_of, lowered, compared, counted, within_size, left_shift, right_shift, signed_start, signed_rest, signed_shift, high_product, unary_code, binary_code}
 use Rattle.compute_sequences.proofs.Straight.{eqb_self, Fine, Each, each_append}
-use Rattle.compute_sequences.proofs.ConstantLaws.{constant_fine}
+use Rattle.compute_sequences.proofs.ConstantLaws.{constant_fine, constant_length}
 
 module _ (may : ℕ → Bool) where
   pub fine_two : (op : OperateOp) (ra rb rc : ℕ) → ra < 32 → rb < 32 → rc < 32 → may rc ≡ true → Fine may (Operate op ra (Register rb) rc)
@@ -191,10 +191,7 @@ load_length size (arguments.Flag flag) to = by (nat_lt flag 4)
     by : (b : Bool) → length (if b then [] else Operate row.Srl 20 (Literal flag) to ∷ Operate row.And to (Literal 1) to ∷ []) ≤ (if b then 0 else 2)
     by true = lit≤ tt
     by false = lit≤ tt
-load_length Byte (arguments.Const value) to = lit≤ tt
-load_length Word (arguments.Const value) to = lit≤ tt
-load_length Long (arguments.Const value) to = lit≤ tt
-load_length Quad (arguments.Const value) to = lit≤ tt
+load_length size (arguments.Const value) to = constant_length value size to
 
 pub unary_length : (op : MicroOp) (size : Size) (x to : ℕ) → length (unary_code op size x to) ≤ operation_words op size
 unary_length SignExtend Byte x to = lit≤ tt

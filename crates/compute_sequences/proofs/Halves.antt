@@ -59,6 +59,13 @@ short_low v = by (half (v % 2 ^ 16) (omega arith))
     by (inl a) = let e = a.1 in omega arith
     by (inr a) = let e = a.1 in omega arith
 
+pub short_exact : (v value : ℕ) → v ≡ value → value < 2 ^ 15 → plus 0 (times (cast_unsigned w64 (low_half v)) 1) ≡ value
+short_exact v value same lt = by (half (v % 2 ^ 16) (omega arith))
+  where
+    by : Half (v % 2 ^ 16) (cast_unsigned w64 (low_half v)) → plus 0 (times (cast_unsigned w64 (low_half v)) 1) ≡ value
+    by (inl a) = let e = a.1 in omega arith
+    by (inr a) = let e = a.0 in absurd (omega (arith, e, same, lt))
+
 by_sign : (v : ℕ) (P : Type 0) → (v < 0x7fff8000 → P) → (0x7fff8000 ≤ v → P) → P
 by_sign v P below above = by (nat_lt v 0x7fff8000) refl
   where

@@ -19,7 +19,7 @@ use Rattle.compute_sequences.specs.Constants.{constant_code}
 use Rattle.compute_sequences.specs.Words.{load_code, first_register, second_target, second_register}
 use Rattle.compute_sequences.proofs.Straight.{eqb_self, afters, afters_only, same}
 use Rattle.compute_sequences.proofs.Numbers.{low_kept}
-use Rattle.compute_sequences.proofs.ConstantLaws.{constant_low, target_fits, target_real}
+use Rattle.compute_sequences.proofs.ConstantLaws.{constant_low, constant_below, target_fits, target_real}
 use Rattle.compute_sequences.proofs.FineLaws.{load_fine}
 
 -- a register holds a quadword with the low bytes of the value
@@ -43,13 +43,7 @@ module _ (to : ℕ) (real : eqb to 31 ≡ false) (f : Regs) (zero : f 31 ≡ 0) 
       record { low_bytes = ap (low size) e; fits = subst (λ x. x < 2 ^ 64) (sym e) (omega arith) }
 
   constant_placed : (size : Size) (value : ℕ) → value < 2 ^ 64 → Holds size value (afters (constant_code value size to) f to)
-  constant_placed size value lt = record { low_bytes = constant_low to real f zero value lt size; fits = constant_below size }
-    where
-      constant_below : (size : Size) → afters (constant_code value size to) f to < 2 ^ 64
-      constant_below Byte = rw (real, eqb_self to) (omega arith)
-      constant_below Word = rw (real, eqb_self to) (omega arith)
-      constant_below Long = rw (real, eqb_self to) (omega arith)
-      constant_below Quad = rw (real, eqb_self to) (omega arith)
+  constant_placed size value lt = record { low_bytes = constant_low to real f zero value lt size; fits = constant_below to real f zero value size }
 
   pub loaded : (size : Size) (arg : Arg) → IsArgument arg → is_loaded size arg ≡ true → Holds size (value_at f arg) (afters (load_code size arg to) f to)
   loaded size (Temp temp) is e = cc

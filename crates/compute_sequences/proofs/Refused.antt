@@ -1,5 +1,5 @@
 -- Words that the promises refuse.
-use Rattle.std.proofs.Common.{◌≡◌, ℕ, ◌^◌, ◌-◌, refl, arith, List, [], ◌∷◌, false, lit<, lit≤}
+use Rattle.std.proofs.Common.{ℕ, ◌^◌, ◌-◌, refl, arith, List, [], ◌∷◌, false, lit<, lit≤}
 use Rattle.std.specs.Prelude.{◌==◌, if◌then◌else◌, slice_get, pos}
 use Rattle.vax_form.specs.declared.instr.Size.TheVariants.{Byte, Long, Quad}
 use Rattle.vax_form.specs.declared.instr.Width.TheVariants as widths

@@ -1,7 +1,7 @@
 -- Constants in registers.
 -- Alpha Architecture Reference Manual, 4.2 "Load Address": displacements are signed, so a part above a negative one has a
 -- borrow added.
-use Rattle.std.specs.Prelude.{ℕ, ◌+◌, ◌/◌, ◌%◌, ◌^◌, List, [], ◌∷◌}
+use Rattle.std.specs.Prelude.{ℕ, ◌+◌, ◌/◌, ◌%◌, ◌^◌, nat_lt, if◌then◌else◌, List, [], ◌∷◌}
 use Rattle.vax_form.specs.declared.instr.Size.{Size}
 use Rattle.vax_form.specs.declared.instr.Size.TheVariants.{Byte, Word, Long, Quad}
 use Rattle.alpha_encode.specs.declared.instr.MemoryOp.TheVariants.{Lda, Ldah}
@@ -38,8 +38,15 @@ load_quad register value =
     ∷ load_low register (low_long value)
     ∷ []
 
+abbrev pub code_of_size : (value : ℕ) → Size → (to : ℕ) → List AlphaInstr
+code_of_size value Byte to = load_short to (low_long value) ∷ []
+code_of_size value Word to = load_short to (low_long value) ∷ []
+code_of_size value Long to = load_long to (low_long value)
+code_of_size value Quad to = load_quad to value
+
+-- a number below 2^15 is one displacement, whatever the size
+abbrev pub least_size : (value : ℕ) → Size → Size
+least_size value size = if nat_lt value (2 ^ 15) then Word else size
+
 abbrev pub constant_code : (value : ℕ) → Size → (to : ℕ) → List AlphaInstr
-constant_code value Byte to = load_short to (low_long value) ∷ []
-constant_code value Word to = load_short to (low_long value) ∷ []
-constant_code value Long to = load_long to (low_long value)
-constant_code value Quad to = load_quad to value
+constant_code value size to = code_of_size value (least_size value size) to

@@ -83,7 +83,7 @@ pub(crate) fn load_words(size: Size, arg: Arg) -> u8
         Arg::Temp(_) => 0,
         Arg::Register(_) => 1,
         Arg::Flag(_) => 2,
-        Arg::Const(_) => constant_length(size),
+        Arg::Const(value) => constant_length(value, size),
     }
 }
 

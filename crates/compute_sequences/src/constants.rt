@@ -4,7 +4,7 @@ ghost use Rattle.std.specs.List.{list_all};
 ghost use Rattle.alpha_encode.specs.Words.{IsEncodable};
 ghost use Rattle.micro_ops.specs.WordCounts.{argument_words};
 ghost use Rattle.compute_sequences.specs.Registers.{IsTarget, may_change};
-ghost use Rattle.compute_sequences.specs.Constants.{low_long, high_long, load_short, add_high, constant_code};
+ghost use Rattle.compute_sequences.specs.Constants.{low_long, high_long, load_short, add_high, least_size, constant_code};
 ghost use Rattle.compute_sequences.specs.Promises.{LeavesConstant, changes_only};
 
 use crate::instructions::operate_by;
@@ -55,6 +55,13 @@ fn add_high(to: u8, value: u32) -> AlphaInstr
     based_on(load_high(to, value), to)
 }
 
+/// A number below 2^15 is one displacement, whatever the size.
+fn least_size(value: u64, size: Size) -> Size
+    ensures { result ≡ least_size value size }
+{
+    if value < 1 << 15 { Size::Word } else { size }
+}
+
 /// The words behind which a register has the low bytes of a value.
 pub(crate) fn push_constant(
     words: &mut Vec<AlphaInstr>,
@@ -65,7 +72,7 @@ pub(crate) fn push_constant(
     ensures { OnOk result (words.new.items ≡ words.old.items ++ constant_code value size to) }
 {
     let (high, low) = (high_long(value), low_long(value));
-    match size {
+    match least_size(value, size) {
         Size::Byte | Size::Word => words.push(load_short(to, low))?,
         Size::Long => words.extend_from_slice(&[load_high(to, low), load_low(to, low)])?,
         Size::Quad => words.extend_from_slice(&[
@@ -80,10 +87,10 @@ pub(crate) fn push_constant(
 }
 
 /// How many words that are.
-pub(crate) fn constant_length(size: Size) -> u8
-    ensures { (value to : ℕ) → result ≡ length (constant_code value size to) }
+pub(crate) fn constant_length(value: u64, size: Size) -> u8
+    ensures { (to : ℕ) → result ≡ length (constant_code value size to) }
 {
-    match size {
+    match least_size(value, size) {
         Size::Byte | Size::Word => 1,
         Size::Long => 2,
         Size::Quad => 5,
