@@ -121,10 +121,12 @@ high_product size x y free other to =
     ∷ []
 
 -- ---- operations
+-- with one argument: it is zero-extended, or has its sign
 abbrev pub unary_code : MicroOp → Size → (x to : ℕ) → List AlphaInstr
 unary_code SignExtend size x to = extend size x to
 unary_code op size x to = narrow size x to ∷ []
 
+-- with two; the others have no words here
 abbrev pub binary_code : MicroOp → Size → (x y to : ℕ) → List AlphaInstr
 binary_code Add size x y to = lowered row.Addq size x y to
 binary_code Sub size x y to = lowered row.Subq size x y to
@@ -142,7 +144,7 @@ binary_code LessUnsigned size x y to = compared row.Cmpult size x y (free_of y t
 binary_code MulHigh size x y to = high_product size x y (free_of y to) (other_of y to) to
 binary_code op size x y to = []
 
--- `to` becomes the second argument where R27 is not 0; its words are passed over where it is
+-- `to` becomes the second argument where `x` is not 0; its words, if it has some, are passed over where it is
 abbrev pub chosen : Size → (x : ℕ) → Arg → (to : ℕ) → List AlphaInstr
 chosen size x b to =
     if is_loaded size b
