@@ -1,10 +1,11 @@
 -- For which processors of the model a processor stands, step by step.
-use Rattle.std.proofs.Common.{◌≡◌, ◌≢◌, ℕ, suc, ◌+◌, ◌==◌, ◌&&◌, List, [], ◌∷◌, ◌++◌, true, Option, Some, None, ap, ◌∙◌, subst, arith}
+use Rattle.std.proofs.Common.{◌≡◌, ◌≢◌, ℕ, suc, ◌+◌, ◌==◌, ◌&&◌, List, [], ◌∷◌, ◌++◌, true, Option, Some, None, ap, ◌∙◌, subst, arith, refl}
 use Rattle.std.proofs.lemmas.List.{append-nil}
 use Rattle.alpha_meaning.specs.State.{Alpha}
 use Rattle.memory_core.specs.Requests.{CanMake}
 use Rattle.memory_core.specs.declared.entry.SetUp.{SetUp}
-use Rattle.system_model.specs.Processors.{Mode, Runs, Interprets, Processor, Went, Lost, alpha_turn, left, mode_of, moment_of, request_of, stepped, tie_turn, tied, turn, turn_in}
+use Rattle.alpha_machine.specs.Step.{state_of}
+use Rattle.system_model.specs.Processors.{Mode, New, Runs, Interprets, Processor, Went, Lost, alpha_turn, left, mode_of, moment_of, request_of, stepped, tie_turn, tied, turn, turn_in}
 use Rattle.system_model.specs.Quadwords.{reply_found}
 use Rattle.system_model.specs.Settings.{Setting}
 use Rattle.system_model.specs.Steps.{Stuck, next}
@@ -13,10 +14,10 @@ use Rattle.vax_form.specs.declared.pages.Pages.{Pages}
 use Rattle.vax_form.specs.declared.state.Reference.{Reference}
 use Rattle.vax_form.specs.declared.state.VaxState.{VaxState}
 use Rattle.tie_switch.specs.Interpreted.{step_of}
-use Rattle.tie_switch.specs.Processors.{Kept, CanStep, IsGiven, IsMode, StandsFor, end_of, in_mode, processor_of}
+use Rattle.tie_switch.specs.Processors.{Kept, CanStep, IsGiven, IsMode, IsPlain, StandsFor, end_of, in_mode, processor_of}
 use Rattle.tie_switch.specs.Seen as seen
 use Rattle.tie_switch.specs.Seen.{last_of}
-use Rattle.tie_switch.specs.Turns.{goes_on, is_out}
+use Rattle.tie_switch.specs.Turns.{goes_on, has_ended, is_out}
 use Rattle.tie_switch.specs.declared.interpreted.Interpreted.{Interpreted}
 use Rattle.tie_switch.specs.declared.interpreted.Step.TheVariants as steps
 use Rattle.tie_switch.specs.declared.place.Last.{Last}
@@ -114,3 +115,32 @@ pub out_is : (pages : Pages) (k : Kept) (p : Processor) (budget : ℕ) → Stand
 out_is pages k p budget stands none =
     ap (λ b. b && (p.steps == budget)) (going pages k.thread k.boundary k.mode p.mode stands.mode none)
     ∙ ap (λ (x : Processor). x.steps == budget) stands.same
+
+-- ---- in Alpha code it stands for just one
+plain_mode : (pages : Pages) (thread : ℕ) (boundary : VaxState) (kind : Kind) (mode : Mode) → IsPlain kind → IsMode pages thread boundary kind mode → mode ≡ seen.mode_of kind boundary
+plain_mode pages thread boundary modes.New mode plain is = is
+plain_mode pages thread boundary (modes.Runs cpu) mode plain is = is
+plain_mode pages thread boundary (modes.Interprets interpreted reply) mode plain is = absurd plain
+plain_mode pages thread boundary (modes.Ended end) mode plain is = absurd plain
+
+pub plain_is : (pages : Pages) (k : Kept) (p : Processor) → IsPlain k.mode → StandsFor pages k p → p ≡ processor_of k
+plain_is pages k p plain stands = stands.same ∙ ap (in_mode k) (plain_mode pages k.thread k.boundary k.mode p.mode plain stands.mode)
+
+is_plain : (pages : Pages) (thread : ℕ) (boundary : VaxState) (kind : Kind) → IsPlain kind → IsMode pages thread boundary kind (seen.mode_of kind boundary)
+is_plain pages thread boundary modes.New plain = refl
+is_plain pages thread boundary (modes.Runs cpu) plain = refl
+is_plain pages thread boundary (modes.Interprets interpreted reply) plain = absurd plain
+is_plain pages thread boundary (modes.Ended end) plain = absurd plain
+
+pub plain_stands : (pages : Pages) (k : Kept) → IsPlain k.mode → StandsFor pages k (processor_of k)
+plain_stands pages k plain = record { same = refl; mode = is_plain pages k.thread k.boundary k.mode plain }
+
+-- an ended one, too
+ended_mode : (pages : Pages) (thread : ℕ) (boundary : VaxState) (kind : Kind) (mode : Mode) → has_ended (seen.mode_of kind boundary) ≡ true → IsMode pages thread boundary kind mode → mode ≡ seen.mode_of kind boundary
+ended_mode pages thread boundary modes.New mode e is = absurd (cc e)
+ended_mode pages thread boundary (modes.Runs cpu) mode e is = absurd (cc e)
+ended_mode pages thread boundary (modes.Interprets interpreted reply) mode e is = absurd (cc e)
+ended_mode pages thread boundary (modes.Ended end) mode e is = is
+
+pub ended_is : (pages : Pages) (k : Kept) (p : Processor) → has_ended (processor_of k).mode ≡ true → StandsFor pages k p → p ≡ processor_of k
+ended_is pages k p e stands = stands.same ∙ ap (in_mode k) (ended_mode pages k.thread k.boundary k.mode p.mode e stands.mode)

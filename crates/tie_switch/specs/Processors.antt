@@ -16,6 +16,7 @@ use Rattle.vax_form.specs.declared.state.Reference.{Reference}
 use Rattle.vax_form.specs.declared.state.VaxState.{VaxState}
 use Rattle.vax_long.specs.Pending.{moment_at}
 use Rattle.tie_operands.specs.Replies.{list_of}
+use Rattle.tie_switch.specs.Inside.{went}
 use Rattle.tie_switch.specs.Interpreted.{Stands}
 use Rattle.tie_switch.specs.declared.interpreted.Interpreted.{Interpreted}
 use Rattle.tie_switch.specs.declared.processor.Mode.{Mode}
@@ -93,6 +94,12 @@ abbrev pub IsStarted : Mode → Type 0
 IsStarted modes.New = ⊥
 IsStarted _ = Unit {0}
 
+-- before its first turn, or in Alpha code
+abbrev pub IsPlain : Mode → Type 0
+IsPlain modes.New = Unit {0}
+IsPlain (modes.Runs cpu) = Unit {0}
+IsPlain _ = ⊥
+
 -- at an interpreted instruction
 abbrev pub IsInterpreting : Mode → Type 0
 IsInterpreting modes.New = ⊥
@@ -140,3 +147,9 @@ pub record HasMade (setting : Setting) (set_up : SetUp) (may_come : List Entry �
   pub processor : Processor
   pub stands : StandsFor setting.meaning.pages k processor
   pub makes : Makes turn set_up may_come p processor old new
+
+-- it stands for the processor after so many turns, none of which asks
+pub record HasGone (setting : Setting) (p : Processor) (n : ℕ) (k : Kept) : Type 0 where
+  pub processor : Processor
+  pub stands : StandsFor setting.meaning.pages k processor
+  pub went : went setting p n ≡ Some processor

@@ -13,4 +13,4 @@ returns-in-Some-clause-begins c =
     let s = image_setting p.pages p.code c.args.ranges.now in
     let k = c.args.self.now in
     subst (λ (j : Kept). Begins s (processor_of k) (course_of k.thread k.boundary k.ties (record { cpu = c.in-Some.cpu; landed = None; held = j.held; retired = j.retired }) k.steps)) (sym c.self.view_is)
-    (begins_there s (processor_of k) (state_of c.in-Some.cpu) c.in-Some.ensures)
+    (begins_there s (processor_of k) (state_of c.in-Some.cpu) c.in-Some.ensures.there)
