@@ -8,3 +8,4 @@ pub mod Found
 pub mod Standing
 pub mod Inside
 pub mod Courses
+pub mod ManyTurns

@@ -6,4 +6,5 @@ pub mod Accesses
 pub mod Turns
 pub mod Inside
 pub mod Courses
+pub mod ManyTurns
 pub mod Laws
