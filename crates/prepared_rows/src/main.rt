@@ -2,12 +2,15 @@
 //! known of the block at which it arrives.
 #![tactic(auto)]
 
-use address_map::build;
+ghost use Rattle.std.specs.Prelude.{◌≤◌, length};
+ghost use Rattle.block_law.specs.Translations.{most_words};
+
+use address_map::AddressMap;
 use alpha_machine::Cpu;
 use anyhow::{Context, Result, bail};
-use exception_records::{CodeRule, Point, Rules};
+use exception_records::{CodeRule, Point, Points, Rules};
 use prepared_code::{Block, Prepared, prepare};
-use row_tally::{Families, fields, longword, pieces, rows};
+use row_tally::{Families, Tally, fields, longword, pieces, rows};
 use std::alloc::Global;
 use std::fs;
 use vax_form::{PageRange, Pages};
@@ -15,13 +18,22 @@ use vax_form::{PageRange, Pages};
 /// What each register holds before, the place of R31 too.
 const HELD: u64 = 3;
 
-/// The rules of the one point.
-const RULES: Rules = Rules {
-    n: CodeRule::Zero,
-    z: CodeRule::Ready,
-    v: CodeRule::Ready,
-    c: CodeRule::Ready,
+const POINT: Point = Point {
+    vax_pc: 0,
+    done: 0,
+    count: 0,
+    write: false,
+    raises: 0,
+    rules: Rules {
+        n: CodeRule::Zero,
+        z: CodeRule::Ready,
+        v: CodeRule::Ready,
+        c: CodeRule::Ready,
+    },
 };
+
+/// More words than a row has.
+const MANY_WORDS: usize = 1000;
 
 /// One read-only page, in which each byte is the low byte of its address.
 fn pages(alloc: Global) -> Result<Pages> {
@@ -57,21 +69,24 @@ fn pairs_of(alloc: Global, text: &str) -> Result<Vec<(u32, u32)>> {
     Ok(pairs)
 }
 
+fn map_of(alloc: Global, text: &str) -> Result<AddressMap> {
+    let pairs = pairs_of(alloc, text)?;
+    match address_map::build(alloc, &pairs) {
+        Ok(map) => Ok(map),
+        Err(_) => bail!("no map: {text}"),
+    }
+}
+
 /// A point at that word, or none.
-fn points_of(alloc: Global, text: &str) -> Result<Vec<(u32, Point)>> {
+fn points_of(alloc: Global, text: &str) -> Result<Points> {
     let mut points = Vec::new(alloc);
     if text != "-" {
-        let point = Point {
-            vax_pc: 0,
-            done: 0,
-            count: 0,
-            write: false,
-            raises: 0,
-            rules: RULES,
-        };
-        points.push((longword(text)?, point))?;
+        points.push((longword(text)?, POINT))?;
     }
-    Ok(points)
+    match exception_records::build(points) {
+        Ok(points) => Ok(points),
+        Err(_) => bail!("no point: {text}"),
+    }
 }
 
 fn block_text(alloc: Global, block: Block) -> Result<String> {
@@ -106,40 +121,51 @@ fn run(alloc: Global, prepared: &Prepared<'_>, from: u32, most: u64) -> Result<S
     Ok(text)
 }
 
+fn with_code(
+    alloc: Global,
+    words: &[u32],
+    map: &AddressMap,
+    points: &Points,
+    from: u32,
+    most: u64,
+) -> Result<String>
+    requires { length words.now ≤ most_words }
+{
+    let pages = pages(alloc)?;
+    match prepare(alloc, words, map, points, &pages) {
+        Ok(prepared) => run(alloc, &prepared, from, most),
+        Err(_) => bail!("want of memory"),
+    }
+}
+
+fn with_words(alloc: Global, words: &[u32], parts: &[&str]) -> Result<String>
+    requires { length words.now ≤ most_words }
+{
+    let [_, pairs, point, from, most] = parts else {
+        bail!("other fields");
+    };
+    let (from, most) = (longword(from)?, longword(most)?);
+    let map = map_of(alloc, pairs)?;
+    let points = points_of(alloc, point)?;
+    with_code(alloc, words, &map, &points, from, u64::from(most))
+}
+
 /// Answers a row.
 fn answer(alloc: Global, question: &str) -> Result<String> {
     let parts = fields(alloc, question, 5)?;
-    let [words, pairs, point, from, most] = parts.as_slice() else {
-        bail!("five fields: {question}");
-    };
-    let words = words_of(alloc, words)?;
-    let map = build(alloc, pairs_of(alloc, pairs)?.as_slice())
-        .ok()
-        .context("pairs that rise")?;
-    let points = exception_records::build(points_of(alloc, point)?)
-        .ok()
-        .context("points that rise")?;
-    let pages = pages(alloc)?;
-    if words.len() > 1000 {
-        bail!("many words");
+    let words = words_of(alloc, parts[0])?;
+    if words.len() > MANY_WORDS {
+        bail!("too many words");
     }
-    let prepared = prepare(alloc, &words, &map, &points, &pages)
-        .ok()
-        .context("memory")?;
-    run(
-        alloc,
-        &prepared,
-        longword(from)?,
-        u64::from(longword(most)?),
-    )
+    with_words(alloc, &words, &parts)
 }
 
-fn main(rt: HostRuntime) -> Result<()> {
-    let table = fs::read_to_string(&rt, "runs.txt").context("runs.txt")?;
+/// Answers the rows of a table.
+fn answer_all(rt: &(impl Print + AllocGlobal), table: &str) -> Result<Tally> {
     let mut families = Families::NONE;
-    for row in &rows(rt.alloc(), table.as_str())? {
+    for row in &rows(rt.alloc(), table)? {
         if let Some(name) = row.strip_prefix("family ") {
-            families.begin(&rt, name)?;
+            families.begin(rt, name)?;
             continue;
         }
         let (question, wanted) = row.split_once(": ").context("an answer")?;
@@ -150,7 +176,13 @@ fn main(rt: HostRuntime) -> Result<()> {
         }
         families.count(agrees);
     }
-    families.begin(&rt, "")?;
-    families.before.print(&rt, "all")?;
-    families.before.verdict()
+    families.begin(rt, "")?;
+    Ok(families.before)
+}
+
+fn main(rt: HostRuntime) -> Result<()> {
+    let table = fs::read_to_string(&rt, "runs.txt").context("runs.txt")?;
+    let all = answer_all(&rt, table.as_str())?;
+    all.print(&rt, "all")?;
+    all.verdict()
 }
