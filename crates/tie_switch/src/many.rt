@@ -3,6 +3,13 @@ ghost use Rattle.std.specs.Prelude.{◌≡◌, ◌≤◌, ◌+◌, Some, IfSome,
 ghost use Rattle.alpha_machine.specs.Step.{state_of};
 ghost use Rattle.system_model.specs.Processors.{Runs, mode_of};
 ghost use Rattle.system_model.specs.Processors as model;
+ghost use Rattle.std.specs.Prelude.{◌≡◌, ◌≢◌, ◌<◌, ◌≤◌, ◌+◌, ◌⊎◌, ◌↔◌, ℕ, Some, IfSome, false, length};
+ghost use Rattle.block_law.specs.Translations.{most_words};
+ghost use Rattle.system_model.specs.Closed.{interprets_next};
+ghost use Rattle.system_model.specs.Processors as model;
+ghost use Rattle.tie_switch.specs.ManyTurns.{IsTurns};
+ghost use Rattle.alpha_machine.specs.Step.{state_of};
+ghost use Rattle.system_model.specs.Processors.{Lost, Runs, mode_of};
 ghost use Rattle.tie_switch.specs.Courses.{Begins, course_of};
 ghost use Rattle.tie_switch.specs.Inside.{went};
 ghost use Rattle.tie_switch.specs.Processors.{HasGone, IsPlain};
@@ -13,8 +20,10 @@ use crate::course::Course;
 use crate::processor::{Mode, Processor};
 use crate::registers::registers_of;
 use alpha_machine::Cpu;
+use image_file::Image;
+use memory_core::Memory;
 use prepared_code::Prepared;
-use system_model::{Range, word_for};
+use system_model::{Range, Translation, word_for};
 use vax_form::Pending;
 
 impl Processor {
@@ -115,5 +124,39 @@ impl Processor {
             → HasGone (image_setting prepared.now.pages prepared.now.code ranges.now) p result self.new }
     {
         self.local_steps(prepared, ranges, most)
+    /// Makes local steps in place and then one more turn, at most so many turns in all, and tells how many: at least one.
+    pub fn advance<M: Memory>(
+        &mut self,
+        image: &Image,
+        translation: &Translation,
+        prepared: &Prepared<'_>,
+        ranges: &[Range],
+        memory: &mut M,
+        most: u64,
+    ) -> u64
+        requires some { 0 < most }
+        requires few { length translation.now.words ≤ most_words }
+        requires code { prepared.now.code ≡ translation.now }
+        requires image { prepared.now.pages ≡ image.now.pages }
+        requires pages { (M.set_up memory.old).image.pages ≡ image.now.pages }
+        requires serves { M.serves memory.old self.old.thread }
+        requires translated { (n : ℕ) (q : model.Processor) → went (image_setting image.now.pages translation.now ranges.now) (processor_of self.old) n ≡ Some q
+            → interprets_next (image_setting image.now.pages translation.now ranges.now) q ≡ false }
+        requires goes_on { (n : ℕ) (q : model.Processor) → went (image_setting image.now.pages translation.now ranges.now) (processor_of self.old) n ≡ Some q
+            → model.turn (image_setting image.now.pages translation.now ranges.now) q ≢ Lost }
+        ensures some { 0 < result }
+        ensures most { result ≤ most }
+        ensures set_up { M.set_up memory.new ≡ M.set_up memory.old }
+        ensures place { (memory.new ≡ memory.old) ⊎ M.same memory.old memory.new }
+        ensures serves { (thread : ℕ) → M.serves memory.old thread ↔ M.serves memory.new thread }
+        ensures budget { self.new.budget ≡ self.old.budget }
+        ensures thread { self.new.thread ≡ self.old.thread }
+        ensures few_steps { self.new.steps ≤ self.new.budget }
+        ensures turned { IsTurns (image_setting image.now.pages translation.now ranges.now) (M.set_up memory.old) (M.between memory.old) self.old.budget
+            (processor_of self.old) (M.seen memory.old) result (processor_of self.new) (M.seen memory.new) }
+    {
+        let made = self.run_local(prepared, ranges, most - 1);
+        self.turn(image, translation, ranges, memory);
+        made + 1
     }
 }
