@@ -1,5 +1,5 @@
 -- Inside a block, and to the next.
-use Rattle.std.proofs.Common.{◌≡◌, Some, sym, ap, ◌∙◌, subst}
+use Rattle.std.proofs.Common.{◌≡◌, sym, ◌∙◌, subst}
 use Rattle.tie_switch.specs.Courses.{Goes}
 use Rattle.tie_switch.specs.Settings.{image_setting}
 use Rattle.tie_switch.specs.declared.course.Course.{Course}

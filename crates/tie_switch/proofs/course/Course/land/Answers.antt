@@ -1,5 +1,5 @@
 -- It lands there.
-use Rattle.std.proofs.Common.{◌≡◌, List, Some, sym, ap, ◌∙◌}
+use Rattle.std.proofs.Common.{List, sym, ap, ◌∙◌}
 use Rattle.address_map.specs.Pairs.{Pair}
 use Rattle.alpha_machine.specs.Step.{state_of}
 use Rattle.prepared_code.specs.Effects.{behind}

@@ -1,5 +1,5 @@
 -- One round behind the others.
-use Rattle.std.proofs.Common.{◌+◌, arith}
+use Rattle.std.proofs.Common.{arith}
 use Rattle.tie_switch.specs.Settings.{image_setting}
 use Rattle.tie_switch.proofs.Courses.{goes_more, goes_nowhere}
 use Rattle.tie_switch.proofs.course.Course.run.Goals as goal

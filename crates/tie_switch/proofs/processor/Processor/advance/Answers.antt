@@ -21,10 +21,10 @@ returns-clause-turned g c =
     let seen = g.M.Memory.seen c.args.memory.now in
     let within : old.steps + made ≤ old.budget = omega (arith, c.run_local-made.ensures.steps, c.run_local-made.ensures.few_steps, c.run_local-made.ensures.budget) in
     let there : went s (processor_of old) made ≡ Some (processor_of mid) =
-        subst (λ (code : Code). went (image_setting c.args.image.now.pages code c.args.ranges.now) (processor_of old) made ≡ Some (processor_of mid)) c.requires.code
-        (subst (λ (pages : Pages). went (image_setting pages c.args.prepared.now.code c.args.ranges.now) (processor_of old) made ≡ Some (processor_of mid)) c.requires.image c.run_local-made.ensures.went) in
+    subst (λ (code : Code). went (image_setting c.args.image.now.pages code c.args.ranges.now) (processor_of old) made ≡ Some (processor_of mid)) c.requires.code
+    (subst (λ (pages : Pages). went (image_setting pages c.args.prepared.now.code c.args.ranges.now) (processor_of old) made ≡ Some (processor_of mid)) c.requires.image c.run_local-made.ensures.went) in
     let last : IsTurn s set_up between old.budget (processor_of mid) (processor_of c.turn.new.self) seen (g.M.Memory.seen c.turn.new.memory) =
-        subst (λ (budget : ℕ). IsTurn s set_up between budget (processor_of mid) (processor_of c.turn.new.self) seen (g.M.Memory.seen c.turn.new.memory)) c.run_local-made.ensures.budget c.turn.ensures.turned in
+    subst (λ (budget : ℕ). IsTurn s set_up between budget (processor_of mid) (processor_of c.turn.new.self) seen (g.M.Memory.seen c.turn.new.memory)) c.run_local-made.ensures.budget c.turn.ensures.turned in
     let next : suc made ≡ made + 1 = omega arith in
     subst (λ n. IsTurns s set_up between old.budget (processor_of old) seen n (processor_of c.turn.new.self) (g.M.Memory.seen c.turn.new.memory)) next
     (Turns (went_are_turns s set_up between old.budget seen (processor_of old) (processor_of mid) made there within) last)
