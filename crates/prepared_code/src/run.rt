@@ -58,8 +58,7 @@ impl<'a> Prepared<'a> {
     }
 
     /// Makes local steps, each of which goes on inside a block, but at most so many, and tells how many it made. Fewer are
-    /// made only where the next is none.
-    /// Register 31 stands as it reads.
+    /// made only where the next is none. Register 31 stands as it reads then.
     pub fn run_inside(&self, cpu: &mut Cpu, most: u64) -> u64
         ensures zero { slice_index cpu.new.r 31 ≡ 0 }
         ensures most { result ≤ most }

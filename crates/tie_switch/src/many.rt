@@ -4,15 +4,15 @@ ghost use Rattle.alpha_machine.specs.Step.{state_of};
 ghost use Rattle.system_model.specs.Processors.{Runs, mode_of};
 ghost use Rattle.system_model.specs.Processors as model;
 ghost use Rattle.std.specs.Prelude.{◌≡◌, ◌≢◌, ◌<◌, ◌≤◌, ◌+◌, ◌⊎◌, ◌↔◌, ℕ, Some, IfSome, false, length};
+ghost use Rattle.alpha_machine.specs.Step.{state_of};
 ghost use Rattle.block_law.specs.Translations.{most_words};
 ghost use Rattle.system_model.specs.Closed.{interprets_next};
 ghost use Rattle.system_model.specs.Processors as model;
-ghost use Rattle.tie_switch.specs.ManyTurns.{IsTurns};
-ghost use Rattle.alpha_machine.specs.Step.{state_of};
 ghost use Rattle.system_model.specs.Processors.{Lost, Runs, mode_of};
 ghost use Rattle.tie_switch.specs.Courses.{Begins, course_of};
 ghost use Rattle.tie_switch.specs.Inside.{went};
 ghost use Rattle.tie_switch.specs.Processors.{HasGone, IsPlain};
+ghost use Rattle.tie_switch.specs.ManyTurns.{IsTurns};
 ghost use Rattle.tie_switch.specs.Settings.{image_setting};
 ghost use Rattle.vax_form.specs.declared.state.Pending.TheVariants.{Nothing};
 
