@@ -4,8 +4,7 @@ use Rattle.std.proofs.lemmas.List.{append-nil}
 use Rattle.alpha_meaning.specs.State.{Alpha}
 use Rattle.memory_core.specs.Requests.{CanMake}
 use Rattle.memory_core.specs.declared.entry.SetUp.{SetUp}
-use Rattle.alpha_machine.specs.Step.{state_of}
-use Rattle.system_model.specs.Processors.{Mode, New, Runs, Interprets, Processor, Went, Lost, alpha_turn, left, mode_of, moment_of, request_of, stepped, tie_turn, tied, turn, turn_in}
+use Rattle.system_model.specs.Processors.{Mode, Runs, Interprets, Processor, Went, Lost, alpha_turn, left, mode_of, moment_of, request_of, stepped, tie_turn, tied, turn, turn_in}
 use Rattle.system_model.specs.Quadwords.{reply_found}
 use Rattle.system_model.specs.Settings.{Setting}
 use Rattle.system_model.specs.Steps.{Stuck, next}

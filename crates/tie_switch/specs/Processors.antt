@@ -22,6 +22,7 @@ use Rattle.tie_switch.specs.declared.interpreted.Interpreted.{Interpreted}
 use Rattle.tie_switch.specs.declared.processor.Mode.{Mode}
 use Rattle.tie_switch.specs.declared.processor.Mode.TheVariants as modes
 use Rattle.tie_switch.specs.declared.processor.Processor.TheInside.{Inside}
+use Rattle.tie_switch.specs.ManyTurns.{IsTurns}
 use Rattle.tie_switch.specs.Seen.{mode_of}
 use Rattle.tie_switch.specs.Turns.{IsTurn, Makes}
 
@@ -153,3 +154,15 @@ pub record HasGone (setting : Setting) (p : Processor) (n : ℕ) (k : Kept) : Ty
   pub processor : Processor
   pub stands : StandsFor setting.meaning.pages k processor
   pub went : went setting p n ≡ Some processor
+
+-- it stands for a processor that has a step behind each number of turns that ask nothing
+pub record HasSteps (setting : Setting) (set_up : SetUp) (k : Kept) : Type 0 where
+  pub processor : Processor
+  pub stands : StandsFor setting.meaning.pages k processor
+  pub can : (n : ℕ) (q : Processor) → went setting processor n ≡ Some q → CanStep setting set_up q
+
+-- it stands for the processor after so many turns of the model
+pub record HasAdvanced (setting : Setting) (set_up : SetUp) (may_come : List Entry → Type 0) (budget : ℕ) (p : Processor) (n : ℕ) (k : Kept) (old new : List Entry) : Type 0 where
+  pub processor : Processor
+  pub stands : StandsFor setting.meaning.pages k processor
+  pub turned : IsTurns setting set_up may_come budget p old n processor new

@@ -1,18 +1,12 @@
 // Many turns of a processor.
-ghost use Rattle.std.specs.Prelude.{◌≡◌, ◌≤◌, ◌+◌, Some, IfSome, ◌<◌};
-ghost use Rattle.alpha_machine.specs.Step.{state_of};
-ghost use Rattle.system_model.specs.Processors.{Runs, mode_of};
-ghost use Rattle.system_model.specs.Processors as model;
-ghost use Rattle.std.specs.Prelude.{◌≡◌, ◌≢◌, ◌<◌, ◌≤◌, ◌+◌, ◌⊎◌, ◌↔◌, ℕ, Some, IfSome, false, length};
+ghost use Rattle.std.specs.Prelude.{◌≡◌, ◌<◌, ◌≤◌, ◌+◌, ◌⊎◌, ◌↔◌, ℕ, Some, IfSome, length};
 ghost use Rattle.alpha_machine.specs.Step.{state_of};
 ghost use Rattle.block_law.specs.Translations.{most_words};
-ghost use Rattle.system_model.specs.Closed.{interprets_next};
 ghost use Rattle.system_model.specs.Processors as model;
-ghost use Rattle.system_model.specs.Processors.{Lost, Runs, mode_of};
+ghost use Rattle.system_model.specs.Processors.{Runs, mode_of};
 ghost use Rattle.tie_switch.specs.Courses.{Begins, course_of};
 ghost use Rattle.tie_switch.specs.Inside.{went};
-ghost use Rattle.tie_switch.specs.Processors.{HasGone, IsPlain};
-ghost use Rattle.tie_switch.specs.ManyTurns.{IsTurns};
+ghost use Rattle.tie_switch.specs.Processors.{HasAdvanced, HasGone, HasSteps, IsPlain};
 ghost use Rattle.tie_switch.specs.Settings.{image_setting};
 ghost use Rattle.vax_form.specs.declared.state.Pending.TheVariants.{Nothing};
 
@@ -124,6 +118,8 @@ impl Processor {
             → HasGone (image_setting prepared.now.pages prepared.now.code ranges.now) p result self.new }
     {
         self.local_steps(prepared, ranges, most)
+    }
+
     /// Makes local steps in place and then one more turn, at most so many turns in all, and tells how many: at least one.
     pub fn advance<M: Memory>(
         &mut self,
@@ -140,10 +136,7 @@ impl Processor {
         requires image { prepared.now.pages ≡ image.now.pages }
         requires pages { (M.set_up memory.old).image.pages ≡ image.now.pages }
         requires serves { M.serves memory.old self.old.thread }
-        requires translated { (n : ℕ) (q : model.Processor) → went (image_setting image.now.pages translation.now ranges.now) (processor_of self.old) n ≡ Some q
-            → interprets_next (image_setting image.now.pages translation.now ranges.now) q ≡ false }
-        requires goes_on { (n : ℕ) (q : model.Processor) → went (image_setting image.now.pages translation.now ranges.now) (processor_of self.old) n ≡ Some q
-            → model.turn (image_setting image.now.pages translation.now ranges.now) q ≢ Lost }
+        requires has_steps { HasSteps (image_setting image.now.pages translation.now ranges.now) (M.set_up memory.old) self.old }
         ensures some { 0 < result }
         ensures most { result ≤ most }
         ensures set_up { M.set_up memory.new ≡ M.set_up memory.old }
@@ -152,8 +145,8 @@ impl Processor {
         ensures budget { self.new.budget ≡ self.old.budget }
         ensures thread { self.new.thread ≡ self.old.thread }
         ensures few_steps { self.new.steps ≤ self.new.budget }
-        ensures turned { IsTurns (image_setting image.now.pages translation.now ranges.now) (M.set_up memory.old) (M.between memory.old) self.old.budget
-            (processor_of self.old) (M.seen memory.old) result (processor_of self.new) (M.seen memory.new) }
+        ensures turned { (p : model.Processor) → StandsFor image.now.pages self.old p
+            → HasAdvanced (image_setting image.now.pages translation.now ranges.now) (M.set_up memory.old) (M.between memory.old) self.old.budget p result self.new (M.seen memory.old) (M.seen memory.new) }
     {
         let made = self.run_local(prepared, ranges, most - 1);
         self.turn(image, translation, ranges, memory);
