@@ -1,0 +1,141 @@
+-- The history behind the last pass that is joined is legal for the processors.
+use Rattle.std.proofs.Common.{◌≡◌, ℕ, ◌<◌, ◌≤◌, ◌==◌, ◌⊎◌, inl, inr, Bool, true, false, if◌then◌else◌, List, [], ◌∷◌, ◌++◌, Some, length, get_or, reverse, take, refl, sym, ap, ◌∙◌, subst, arith, length-append}
+use Rattle.std.specs.Prelude.{map, slice_get}
+use Rattle.std.specs.List.{AllByRecursion}
+use Rattle.std.proofs.lemmas.Bool.{cases_lt}
+use Rattle.std.proofs.lemmas.Bool.Decides.{nat_tests}
+use Rattle.std.proofs.lemmas.List.{reverse-append, length-map, length-reverse, nil_from_length}
+use Rattle.std.proofs.lemmas.List.Elements.{filter-append}
+use Rattle.std.proofs.Math.Seq.{take-append_seam}
+use Rattle.memory_core.specs.Contents.{Contents}
+use Rattle.memory_core.specs.Order.{own}
+use Rattle.memory_core.specs.declared.entry.Entry.{Entry}
+use Rattle.vax_form.specs.declared.state.VaxState.{VaxState}
+use Rattle.shared_memory.specs.declared.pass.Pass.{Pass}
+use Rattle.shared_memory.specs.declared.shared.SharedMemory.{SharedMemory}
+use Rattle.shared_memory.specs.declared.view.View.{View}
+use Rattle.shared_memory.specs.Lists.{times}
+use Rattle.shared_memory.specs.Passes.{set_up_of, start_of, view_of, number_of, seen_of, given_of}
+use Rattle.shared_memory.specs.Rule.{ended_as}
+use Rattle.shared_memory.specs.Views.{IsClosed}
+use Rattle.system_model.specs.Laws.{OthersKeepReached, ReachedAreLegal}
+use Rattle.system_model.specs.Legal.{starts, IsReached, IsLegal}
+use Rattle.system_model.specs.Processors.{Processor}
+use Rattle.system_model.specs.Settings.{Setting}
+use Rattle.tie_switch.specs.Processors.{Kept, processor_of}
+use Rattle.tie_switch.specs.Turns.{has_ended}
+use Rattle.run_threads.specs.declared.job.Job.{Job}
+use Rattle.run_threads.specs.Jobs.{IsDone, IsJoined, HasSplit, HasJoined}
+use Rattle.run_threads.proofs.Places.{first_of, some-is, mapped_at, all_mapped}
+
+-- ---- entries of one thread
+-- where none is the thread's, none is told the other way round
+own_reverse : (thread : ℕ) (entries : List Entry) → own thread entries ≡ [] → own thread (reverse entries) ≡ []
+own_reverse thread [] none = refl
+own_reverse thread (e ∷ entries) none =
+    ap (own thread) (reverse-append (e ∷ []) entries)
+    ∙ filter-append (λ (x : Entry). x.processor == thread) (reverse entries) (e ∷ [])
+    ∙ ap (λ mine. mine ++ own thread (e ∷ [])) (own_reverse thread entries (after (e.processor == thread) none))
+    ∙ here (e.processor == thread) none
+  where
+    here : (b : Bool) → (if b then e ∷ own thread entries else own thread entries) ≡ [] → (if b then e ∷ [] else []) ≡ []
+    here true none = absurd (cc none)
+    here false none = refl
+
+    after : (b : Bool) → (if b then e ∷ own thread entries else own thread entries) ≡ [] → own thread entries ≡ []
+    after true none = absurd (cc none)
+    after false none = none
+
+-- where no thread from n on has any, all are of threads below
+all_below : (n : ℕ) (entries : List Entry) → ((p : ℕ) → n ≤ p → own p entries ≡ []) → AllByRecursion (λ (e : Entry). e.processor < n) entries
+all_below n [] none = tt
+all_below n (e ∷ entries) none = (here (cases_lt e.processor n), all_below n entries (λ p above. after p (e.processor == p) (none p above)))
+  where
+    here : ((e.processor < n) ⊎ (n ≤ e.processor)) → e.processor < n
+    here (inl below) = below
+    here (inr above) = absurd (let there = none e.processor above in grind (arith, nat_tests))
+
+    after : (p : ℕ) (b : Bool) → (if b then e ∷ own p entries else own p entries) ≡ [] → own p entries ≡ []
+    after p true none = absurd (cc none)
+    after p false none = none
+
+-- entries behind what has them all are others'
+later_are_others : (thread : ℕ) (seen later : List Entry) → own thread (seen ++ later) ≡ own thread seen → own thread later ≡ []
+later_are_others thread seen later same =
+    let parts = filter-append (λ (x : Entry). x.processor == thread) seen later in
+    nil_from_length (own thread later) (omega (arith, ap length (sym parts ∙ same), length-append (own thread seen) (own thread later)))
+
+-- ---- one thread
+module _ (others_law : OthersKeepReached) (setting : Setting) (memory : SharedMemory) (budget : ℕ) (v : View) (m : Contents) (closed : IsClosed (start_of memory) v m) where
+  -- its processor is reached by the whole history
+  pub reached_by_all : (thread : ℕ) (job : Job) (k : Kept) → IsDone setting memory budget thread job → IsJoined v job k
+      → (start : VaxState) → starts (set_up_of memory).image thread ≡ Some start → IsReached setting budget (set_up_of memory).limit (reverse v.seen) thread start (processor_of k)
+  reached_by_all thread job k done joined start begins =
+      let same : done.pass ≡ joined.pass = some-is done.pass joined.pass (sym done.has.there ∙ joined.there) in
+      let number : number_of joined.pass ≡ thread = ap number_of (sym same) ∙ done.has.of_it.is.number_is in
+      let fits = closed.ended joined.place (ended_as (view_of joined.pass)) joined.at in
+      let later = fits.seen.0 in
+      let seen = seen_of joined.pass in
+      let own_seen : own thread v.seen ≡ own thread seen = subst (λ (t : ℕ). own t v.seen ≡ own t seen) number (fits.own ∙ joined.own_is) in
+      let none : own thread later ≡ [] = later_are_others thread seen later (ap (own thread) fits.seen.1 ∙ own_seen) in
+      let turned : reverse v.seen ≡ reverse later ++ reverse seen = ap reverse (sym fits.seen.1) ∙ reverse-append seen later in
+      let few : length (reverse later ++ reverse seen) ≤ (set_up_of memory).limit = omega (arith, closed.legal.room, ap length turned, length-reverse v.seen) in
+      let ended = done.ended in
+      let start_is : ended.start ≡ start = some-is ended.start start (sym ended.starts_so ∙ (ap (starts (set_up_of memory).image) done.has.thread_is ∙ begins)) in
+      let by_seen : IsReached setting job.processor.budget (set_up_of memory).limit (reverse seen) job.processor.thread ended.start (processor_of job.processor) =
+      subst (λ (p : Pass). IsReached setting job.processor.budget (set_up_of memory).limit (reverse (seen_of p)) job.processor.thread ended.start (processor_of job.processor)) same ended.reached in
+      let with_budget : IsReached setting budget (set_up_of memory).limit (reverse seen) job.processor.thread ended.start (processor_of job.processor) =
+      subst (λ (b : ℕ). IsReached setting b (set_up_of memory).limit (reverse seen) job.processor.thread ended.start (processor_of job.processor)) done.budget_is by_seen in
+      let with_thread : IsReached setting budget (set_up_of memory).limit (reverse seen) thread ended.start (processor_of job.processor) =
+      subst (λ (t : ℕ). IsReached setting budget (set_up_of memory).limit (reverse seen) t ended.start (processor_of job.processor)) done.has.thread_is with_budget in
+      let with_start : IsReached setting budget (set_up_of memory).limit (reverse seen) thread start (processor_of job.processor) =
+      subst (λ (s : VaxState). IsReached setting budget (set_up_of memory).limit (reverse seen) thread s (processor_of job.processor)) start_is with_thread in
+      subst (λ (x : Kept). IsReached setting budget (set_up_of memory).limit (reverse v.seen) thread start (processor_of x)) (sym joined.processor)
+      (subst (λ (entries : List Entry). IsReached setting budget (set_up_of memory).limit entries thread start (processor_of job.processor)) (sym turned)
+      (others_law setting budget (set_up_of memory).limit (reverse later) (reverse seen) thread start (processor_of job.processor) with_start (own_reverse thread later none) few))
+
+-- ---- all threads
+module _ (others_law : OthersKeepReached) (legal_law : ReachedAreLegal) (setting : Setting) (memory : SharedMemory) (budget : ℕ) (keeper next : Pass)
+    (before jobs : List Job) (ended : List Kept) (m : Contents) (pages : setting.meaning.pages ≡ (set_up_of memory).image.pages)
+    (split : HasSplit memory keeper budget before (length (set_up_of memory).image.threads)) (same : length jobs ≡ length before)
+    (ran : (j : ℕ) (d : Job) → j < length before → IsDone setting memory (get_or before j d).processor.budget j (get_or jobs j d))
+    (joined : HasJoined memory (given_of keeper) next jobs ended (length jobs)) (closed : IsClosed (start_of memory) (view_of next) m) where
+  done : (j : ℕ) (d : Job) → j < length jobs → IsDone setting memory budget j (get_or jobs j d)
+  done j d inside = subst (λ (b : ℕ). IsDone setting memory b j (get_or jobs j d)) (split.budgets j d (omega (arith, inside, same))) (ran j d (omega (arith, inside, same)))
+
+  many : length ended ≡ length (set_up_of memory).image.threads
+  many = joined.many ∙ (same ∙ split.many)
+
+  count : length (map processor_of ended) ≡ length ended
+  count = length-map ended processor_of
+
+  none_above : (p : ℕ) → length ended ≤ p → own p (reverse (seen_of next)) ≡ []
+  none_above p above = own_reverse p (seen_of next) (closed.others p (ap (times p) joined.same ∙ split.fresh p (omega (arith, above, many))))
+
+  each : (thread : ℕ) (start : VaxState) (p : Processor) → starts (set_up_of memory).image thread ≡ Some start
+      → slice_get (map processor_of ended) thread ≡ Some p → IsReached setting budget (set_up_of memory).limit (reverse (seen_of next)) thread start p
+  each thread start p begins at =
+      let mapped = mapped_at processor_of ended thread p at in
+      let inside : thread < length jobs = omega (arith, mapped.inside, joined.many) in
+      let job = first_of jobs (omega (arith, inside)) in
+      subst (λ (x : Processor). IsReached setting budget (set_up_of memory).limit (reverse (seen_of next)) thread start x) (ap processor_of mapped.at ∙ sym mapped.is)
+      (reached_by_all others_law setting memory budget (view_of next) m closed thread (get_or jobs thread job) (get_or ended thread mapped.of)
+      (done thread job inside) (joined.each thread job mapped.of inside) start begins)
+
+  pub is_legal : IsLegal setting (set_up_of memory) budget (reverse (seen_of next)) (map processor_of ended)
+  is_legal =
+      legal_law setting (set_up_of memory) budget (reverse (seen_of next)) (map processor_of ended) pages closed.legal.order
+      (omega (arith, closed.legal.room, length-reverse (seen_of next))) (count ∙ many)
+      (subst (λ (n : ℕ). AllByRecursion (λ (e : Entry). e.processor < n) (reverse (seen_of next))) (sym count)
+      (all_below (length ended) (reverse (seen_of next)) none_above))
+      each
+
+  pub all_ended : AllByRecursion (λ (p : Processor). has_ended p.mode ≡ true) (map processor_of ended)
+  all_ended = all_mapped (λ (p : Processor). has_ended p.mode ≡ true) processor_of ended (λ j k below.
+      let inside : j < length jobs = omega (arith, below, joined.many) in
+      let job = first_of jobs (omega (arith, inside)) in
+      subst (λ (x : Kept). has_ended (processor_of x).mode ≡ true) (sym (joined.each j job k inside).processor) (done j job inside).ended.ended)
+
+-- ---- a slice that was lent comes back whole
+pub lent_back : (n : ℕ) (new rest : List Job) → n ≡ length new → take n (new ++ rest) ≡ new
+lent_back n new rest is = ap (λ (k : ℕ). take k (new ++ rest)) is ∙ take-append_seam new rest

@@ -1,0 +1,6 @@
+pub mod Steps
+pub mod Crossing
+pub mod Places
+pub mod Splitting
+pub mod Joining
+pub mod Closing

@@ -1,0 +1,4 @@
+pub mod Programs
+pub mod Processors
+pub mod Jobs
+pub mod Runs

@@ -1,0 +1,127 @@
+// Running threads.
+ghost use Rattle.std.specs.Prelude.{◌≡◌, ◌≤◌, [], true, map, reverse, IfOk, vec_capacity};
+ghost use Rattle.std.specs.List.{AllByRecursion};
+ghost use Rattle.image_file.specs.Whole.{IsWhole};
+ghost use Rattle.block_law.specs.Translations.{Meets};
+ghost use Rattle.image_meaning.specs.Meant.{image_meaning};
+ghost use Rattle.system_model.specs.Legal.{IsLegal};
+ghost use Rattle.tie_switch.specs.Processors.{processor_of};
+ghost use Rattle.tie_switch.specs.Settings.{image_setting};
+ghost use Rattle.tie_switch.specs.Turns.{has_ended};
+
+use crate::job::Job;
+use crate::passes::{join_all, split_all};
+use crate::program::Program;
+use crate::turns::run_all;
+use image_file::Image;
+use image_meaning::laws::{page_table_has_bytes, vax_meaning_is_sound};
+use legal_history::laws::images_are_runs;
+use memory_core::MemState;
+use shared_memory::{Pass, SharedMemory};
+use std::alloc::Global;
+use std::marker::Model;
+use std::sync::Wait;
+use std::thread::Threads;
+use system_model::Translation;
+use system_model::laws::{others_keep_reached, reached_are_legal};
+use tie_switch::{Processor, Range};
+use vax_form::WantOfMemory;
+use vt_outside::Gate;
+
+/// A memory, its keeper, and a processor for each thread that is to run.
+pub struct Running {
+    memory: SharedMemory,
+    keeper: Pass,
+    budget: u64,
+    jobs: Vec<Job>,
+    ended: Vec<Processor>,
+}
+
+impl Model for Running {
+    ghost use Rattle.shared_memory.specs.Passes.{set_up_of};
+    ghost use Rattle.run_threads.specs.Runs.{RunningValue, IsRunning};
+
+    ghost Value = { RunningValue };
+
+    ghost view = { λ r. record { set_up = set_up_of r.memory; budget = r.budget } };
+
+    ghost invariant = { λ r. IsRunning r.memory r.keeper r.budget r.jobs.items r.ended };
+}
+
+// An empty list with room for so many.
+fn room_for<T>(alloc: Global, count: u8) -> Result<Vec<T>, WantOfMemory>
+    ensures empty { IfOk result (λ list. list.items ≡ []) }
+    ensures room { IfOk result (λ list. count ≤ vec_capacity list) }
+{
+    Vec::with_capacity(alloc, usize::from(count)).map_err(|_| WantOfMemory)
+}
+
+impl Running {
+    ghost use Rattle.run_threads.specs.Runs.{RunningValue};
+
+    /// Takes all memory of a run: the image's memory, the passes, a processor beside its pass for each thread, and the
+    /// list for the answer. `limit` is the greatest number of entries, `budget` the most steps of each processor.
+    pub fn new(
+        alloc: Global,
+        image: &Image,
+        input: Vec<u8>,
+        budget: u64,
+        limit: u32,
+        miss: u16,
+    ) -> Result<Running, WantOfMemory>
+        requires whole { IsWhole image.now }
+        ensures { IfOk result (λ r. r ≡ record { set_up = record { image = image.now; input = input.items; limit = limit; miss = miss }; budget = budget }) }
+    {
+        images_are_runs(image, &input);
+        let count = image.threads.len() as u8;
+        let jobs = room_for(alloc, count)?;
+        let ended = room_for(alloc, count)?;
+        let state = MemState::new(alloc, image, input, count, limit, miss)?;
+        let (memory, mut keeper) = SharedMemory::new(alloc, state)?;
+        let jobs = split_all(&memory, &mut keeper, image, count, budget, jobs);
+        Ok(Running {
+            memory,
+            keeper,
+            budget,
+            jobs,
+            ended,
+        })
+    }
+
+    /// Runs every processor to its end, in a thread of its own. It may wait, and takes no memory. The processors stand in
+    /// the order of the threads.
+    pub fn go<R: Threads + Wait + Sync, G: Gate + Sync>(
+        self,
+        rt: &R,
+        image: &Image,
+        translation: &Translation,
+        ranges: &[Range],
+        gate: &G,
+    ) -> (MemState, Vec<Processor>)
+        requires image { self.set_up.image ≡ image.now }
+        requires meets { Meets (image_meaning image.now.pages) translation.now }
+        ensures set_up { result.0.set_up ≡ self.set_up }
+        ensures legal { IsLegal (image_setting image.now.pages translation.now ranges.now) self.set_up self.budget (reverse result.0.history) (map processor_of result.1.items) }
+        ensures ended { AllByRecursion (λ p. has_ended p.mode ≡ true) (map processor_of result.1.items) }
+    {
+        let Running {
+            memory,
+            mut keeper,
+            budget: _,
+            mut jobs,
+            mut ended,
+        } = self;
+        vax_meaning_is_sound();
+        page_table_has_bytes(&image.pages);
+        let program = Program {
+            image,
+            translation,
+            ranges,
+        };
+        run_all(rt, &memory, gate, program, jobs.as_mut_slice());
+        join_all(&memory, &mut keeper, jobs, &mut ended);
+        others_keep_reached();
+        reached_are_legal();
+        (memory.close(keeper), ended)
+    }
+}
