@@ -1,4 +1,4 @@
 pub mod Zipped
 pub mod Tidied
 pub mod Meeting
-pub mod Closing
+pub mod Reached

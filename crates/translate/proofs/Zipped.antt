@@ -26,15 +26,10 @@ pub compiled_more : (instrs : List Instr) (count : ℕ) (d : Instr) (blocks bloc
 compiled_more instrs count d blocks blocks' block within is h one =
     rw (is, take_more instrs count d within) (zip_push (take count instrs) blocks (get_or instrs count d) block h one)
 
--- the instruction of a block, and the block of an instruction
+-- the instruction of a block
 pub record HasInstr (instrs : List Instr) (place : ℕ) (block : Placed) : Type 0 where
   pub instr : Instr
   pub at : slice_get instrs place ≡ Some instr
-  pub compiled : IsCompiled instr block
-
-pub record HasBlock (blocks : List Placed) (place : ℕ) (instr : Instr) : Type 0 where
-  pub block : Placed
-  pub at : slice_get blocks place ≡ Some block
   pub compiled : IsCompiled instr block
 
 pub instr_of : (instrs : List Instr) (blocks : List Placed) (place : ℕ) (block : Placed) → AreCompiled instrs blocks → slice_get blocks place ≡ Some block → HasInstr instrs place block
@@ -42,12 +37,6 @@ instr_of instrs [] place block h e = cc
 instr_of [] (b ∷ blocks) place block h e = absurd h
 instr_of (i ∷ instrs) (b ∷ blocks) zero block h e = let same : b ≡ block = cc in record { instr = i; at = refl; compiled = subst (IsCompiled i) same h.0 }
 instr_of (i ∷ instrs) (b ∷ blocks) (suc place) block h e = let r = instr_of instrs blocks place block h.1 e in record { instr = r.instr; at = r.at; compiled = r.compiled }
-
-pub block_of : (instrs : List Instr) (blocks : List Placed) (place : ℕ) (instr : Instr) → AreCompiled instrs blocks → slice_get instrs place ≡ Some instr → HasBlock blocks place instr
-block_of [] blocks place instr h e = cc
-block_of (i ∷ instrs) [] place instr h e = absurd h
-block_of (i ∷ instrs) (b ∷ blocks) zero instr h e = let same : i ≡ instr = cc in record { block = b; at = refl; compiled = subst (λ (x : Instr). IsCompiled x b) same h.0 }
-block_of (i ∷ instrs) (b ∷ blocks) (suc place) instr h e = let r = block_of instrs blocks place instr h.1 e in record { block = r.block; at = r.at; compiled = r.compiled }
 
 pub zip_length : (instrs : List Instr) (blocks : List Placed) → AreCompiled instrs blocks → length blocks ≡ length instrs
 zip_length [] [] h = refl

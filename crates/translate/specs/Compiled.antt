@@ -1,5 +1,5 @@
 -- The blocks of a list of instructions.
-use Rattle.std.specs.Prelude.{◌≡◌, ℕ, ◌<◌, false, All, Contains, List, length, map}
+use Rattle.std.specs.Prelude.{◌≡◌, ℕ, ◌<◌, false, All, List, length, map}
 use Rattle.std.specs.List.{AllAdjacentBelow, AllZip}
 use Rattle.vax_form.specs.Grammar.{instruction}
 use Rattle.vax_form.specs.GrammarFound.{found}
@@ -7,7 +7,6 @@ use Rattle.vax_form.specs.declared.instr.Instr.{Instr}
 use Rattle.vax_form.specs.declared.pages.Pages.{Pages}
 use Rattle.exception_records.specs.Codes.{all_ready}
 use Rattle.block_law.specs.Blocks.{IsBlockOf}
-use Rattle.alpha_codegen.specs.HasBlock.{ends_thread}
 use Rattle.alpha_codegen.specs.Promises.{Compiles}
 use Rattle.branch_layout.specs.Layouts.{Placed}
 
@@ -21,10 +20,6 @@ AreFound pages instrs = All (λ instr. found pages instr.at ≡ instruction inst
 
 abbrev pub addresses : List Instr → List ℕ
 addresses instrs = map (λ (instr : Instr). instr.at) instrs
-
--- each goes on at one of them, or ends its thread
-abbrev pub GoOn : List Instr → Type 0
-GoOn instrs = All (λ instr. ends_thread instr ≡ false → Contains (addresses instrs) instr.after) instrs
 
 -- an instruction with its block
 pub record IsCompiled (instr : Instr) (block : Placed) : Type 0 where

@@ -1,19 +1,27 @@
-//! The translator: a list of VAX instructions becomes Alpha code that does what they mean.
+//! The translator: the instructions of an image that can be reached, as far as they have blocks, become Alpha code that
+//! does what they mean.
 //!
 //! Each instruction is compiled into a block of its own, and the blocks are laid out in the order of their addresses.
 #![tactic(auto)]
 
-ghost use Rattle.std.specs.Prelude.{◌≡◌, ◌≤◌, All, IfOk, length, map, true};
+mod refusal;
+
+ghost use Rattle.std.specs.Prelude.{◌≡◌, ◌≤◌, All, IfErr, IfOk, length, map, true};
+ghost use Rattle.std.specs.List.{filter};
+ghost use Rattle.flow_discovery.specs.Starts.{starts};
 ghost use Rattle.block_law.specs.Translations.{Meets};
-ghost use Rattle.system_model.specs.Closed.{IsClosed};
 ghost use Rattle.image_meaning.specs.Meant.{image_meaning};
 ghost use Rattle.alpha_codegen.specs.HasBlock.{has_block};
-ghost use Rattle.translate.specs.Compiled.{AreCompiled, AreFound, GoOn, InOrder, addresses};
+ghost use Rattle.translate.specs.Compiled.{AreCompiled, AreFound, InOrder, addresses};
+ghost use Rattle.translate.specs.Mapped.{HasMapped};
+ghost use Rattle.translate.specs.Refusal.{IsRefused};
 
-use alpha_codegen::block;
-use alpha_codegen::laws::ends_at_after;
+use alpha_codegen::{block, has_block};
 use branch_layout::lay_out;
 use exception_records::Block;
+use flow_discovery::reach;
+use image_file::Image;
+pub use refusal::{Numbers, TranslateRefusal};
 use std::alloc::Global;
 use system_model::Translation;
 use vax_form::{Instr, Pages, WantOfMemory};
@@ -32,7 +40,7 @@ fn compiled(alloc: Global, instrs: &[Instr]) -> Result<Vec<(u32, Block)>, WantOf
 }
 
 /// The translation of instructions of an image, in the order of their addresses, of which each has a block.
-pub fn translate_instrs(
+fn translate_instrs(
     alloc: Global,
     pages: &Pages,
     instrs: &[Instr],
@@ -41,11 +49,8 @@ pub fn translate_instrs(
     requires rising { InOrder instrs.now }
     requires found { AreFound pages.now instrs.now }
     requires built { All (λ instr. has_block instr ≡ true) instrs.now }
-    // Each mapped instruction has its block, which does what the instruction means.
     ensures meets { IfOk result (Meets (image_meaning pages.now)) }
     ensures mapped { IfOk result (λ code. map (λ pair. pair.0) code.map ≡ addresses instrs.now) }
-    // No instruction is left out to which another of them goes on.
-    ensures closed { IfOk result (λ code. GoOn instrs.now → IsClosed (image_meaning pages.now) code) }
 {
     let blocks = compiled(alloc, instrs)?;
     let (words, map, points) = lay_out(alloc, &blocks)?;
@@ -55,7 +60,31 @@ pub fn translate_instrs(
     let Ok(map) = address_map::build(alloc, &map) else {
         return Err(WantOfMemory);
     };
-    // Where the instructions end, for the proof.
-    ends_at_after();
     Ok(Translation { words, map, points })
+}
+
+// Drops those that have no block.
+fn keep_built(instrs: &mut Vec<Instr>)
+    ensures { instrs.new.items ≡ filter has_block instrs.old.items }
+{
+    instrs.retain(|instr| has_block(instr));
+}
+
+/// The translation of an image, as far as its instructions can be reached from its threads, its entries and these hints,
+/// and have blocks.
+pub fn translate(
+    alloc: Global,
+    image: &Image,
+    hints: &[u32],
+) -> Result<Translation, TranslateRefusal>
+    // Each mapped instruction has its block, which does what the instruction means.
+    ensures meets { IfOk result (Meets (image_meaning image.now.pages)) }
+    // Mapped are just those of the reached instructions that have a block.
+    ensures mapped { IfOk result (HasMapped image.now.pages (starts image.now hints.now)) }
+    // An image is refused only where too many instructions can be reached.
+    ensures refused { IfErr result (IsRefused image.now.pages (starts image.now hints.now)) }
+{
+    let mut instrs = reach(alloc, image, hints)?;
+    keep_built(&mut instrs);
+    Ok(translate_instrs(alloc, &image.pages, &instrs)?)
 }

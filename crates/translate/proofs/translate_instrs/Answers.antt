@@ -4,7 +4,6 @@ use Rattle.block_law.specs.Translations.{Code}
 use Rattle.branch_layout.specs.Layouts.{IsLayout}
 use Rattle.translate.proofs.Zipped.{zip_length, are_blocks, blocks_rise, map_addresses, no_flaw}
 use Rattle.translate.proofs.Meeting.{meets}
-use Rattle.translate.proofs.Closing.{closed}
 use Rattle.translate.proofs.translate_instrs.Goals as goal
 
 pub lay_out-requires-clause-few : goal.lay_out-requires-clause-few
@@ -31,5 +30,4 @@ returns c =
     record {
       meets = meets c.args.pages.now instrs blocks code are layout c.requires.found;
       mapped = ap (map (λ (pair : Pair). pair.0)) layout.places ∙ map_addresses 0 instrs blocks are;
-      closed = closed c.ends_at_after.ensures.behind c.ends_at_after.ensures.exit c.ends_at_after.ensures.handler c.args.pages.now instrs blocks code are layout c.requires.found c.requires.built;
     }

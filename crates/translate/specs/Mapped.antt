@@ -1,0 +1,21 @@
+-- Which addresses of an image are mapped.
+use Rattle.std.specs.Prelude.{◌≡◌, ◌↔◌, ℕ, Bool, true, false, IsSome, List}
+use Rattle.std.specs.Option.{option_map_or}
+use Rattle.vax_form.specs.declared.pages.Pages.{Pages}
+use Rattle.address_map.specs.Pairs.{word_at}
+use Rattle.block_law.specs.Translations.{Code}
+use Rattle.alpha_codegen.specs.HasBlock.{has_block}
+use Rattle.flow_discovery.specs.Reach.{Member, instruction_at}
+
+-- an instruction stands at the address, and has a block
+abbrev pub has_block_at : Pages → ℕ → Bool
+has_block_at pages address = option_map_or has_block (instruction_at pages address) false
+
+-- the instruction at the address can be reached, and has a block
+pub record Mapped (pages : Pages) (starts : List ℕ) (address : ℕ) : Type 0 where
+  pub member : Member pages starts address
+  pub built : has_block_at pages address ≡ true
+
+-- the code's map has the mapped addresses, and no others
+abbrev pub HasMapped : Pages → (starts : List ℕ) → Code → Type 0
+HasMapped pages starts code = (address : ℕ) → IsSome (word_at code.map address) ↔ Mapped pages starts address
