@@ -19,6 +19,7 @@ use Rattle.vax_form.specs.GrammarFound.{found}
 use Rattle.vax_form.specs.declared.instr.Instr.{Instr}
 use Rattle.vax_form.specs.declared.pages.Pages.{Pages}
 use Rattle.translate.specs.Compiled.{AreFound, InOrder, addresses}
+use Rattle.translate.specs.Refusal.{AreFew}
 use Rattle.translate.specs.Mapped.{HasMapped, has_block_at}
 
 -- ---- numbers in lists
@@ -85,6 +86,11 @@ module _ (pages : Pages) where
         let count : length kept ≡ count_by has_block instrs = ap length is ∙ length-filter has_block instrs in
         let within : count_by has_block instrs ≤ length instrs = count_by-le-length has_block instrs in
         omega (arith, count, within, few)
+
+    pub reached_few : length instrs ≤ most → AreFew pages starts
+    reached_few few =
+        let count = length-map instrs (λ (i : Instr). i.at) in
+        record { addresses = addresses instrs; reached = reach.reached; few = omega (arith, count, few) }
 
     pub kept_found : AreFound pages kept
     kept_found = subst (λ (xs : List Instr). AreFound pages xs) (sym is)

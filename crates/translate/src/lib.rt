@@ -14,7 +14,7 @@ ghost use Rattle.image_meaning.specs.Meant.{image_meaning};
 ghost use Rattle.alpha_codegen.specs.HasBlock.{has_block};
 ghost use Rattle.translate.specs.Compiled.{AreCompiled, AreFound, InOrder, addresses};
 ghost use Rattle.translate.specs.Mapped.{HasMapped};
-ghost use Rattle.translate.specs.Refusal.{IsRefused};
+ghost use Rattle.translate.specs.Refusal.{AreFew, IsRefused};
 
 use alpha_codegen::{block, has_block};
 use branch_layout::lay_out;
@@ -81,7 +81,8 @@ pub fn translate(
     ensures meets { IfOk result (Meets (image_meaning image.now.pages)) }
     // Mapped are just those of the reached instructions that have a block.
     ensures mapped { IfOk result (HasMapped image.now.pages (starts image.now hints.now)) }
-    // An image is refused only where too many instructions can be reached.
+    // An image is refused exactly where too many instructions can be reached.
+    ensures few { IfOk result (λ _. AreFew image.now.pages (starts image.now hints.now)) }
     ensures refused { IfErr result (IsRefused image.now.pages (starts image.now hints.now)) }
 {
     let mut instrs = reach(alloc, image, hints)?;

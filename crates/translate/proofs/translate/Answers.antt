@@ -2,7 +2,7 @@ use Rattle.std.proofs.Common.{sym, ap, ◌∙◌, subst}
 use Rattle.vax_form.specs.declared.pages.Pages.{Pages}
 use Rattle.flow_discovery.specs.Starts.{starts}
 use Rattle.translate.specs.Compiled.{AreFound}
-use Rattle.translate.proofs.Reached.{kept_few, kept_found, kept_rise, kept_built, kept_mapped}
+use Rattle.translate.proofs.Reached.{reached_few, kept_few, kept_found, kept_rise, kept_built, kept_mapped}
 use Rattle.translate.proofs.translate.Goals as goal
 
 pub translate_instrs-requires-clause-few : goal.translate_instrs-requires-clause-few
@@ -26,3 +26,7 @@ pub returns-clause-mapped : goal.returns-clause-mapped
 returns-clause-mapped c =
     kept_mapped c.args.image.now.pages (starts c.args.image.now c.args.hints.now) c.in_ok-instrs.instrs.items c.deref.result.now c.in_ok-instrs.ensures.reached (c.deref.ensures.value ∙ c.keep_built.ensures)
     c.in_ok-translate_instrs.field-0 c.in_ok-translate_instrs.ensures.mapped
+
+pub returns-clause-few : goal.returns-clause-few
+returns-clause-few c =
+    reached_few c.args.image.now.pages (starts c.args.image.now c.args.hints.now) c.in_ok-instrs.instrs.items c.deref.result.now c.in_ok-instrs.ensures.reached (c.deref.ensures.value ∙ c.keep_built.ensures) c.in_ok-instrs.ensures.few
