@@ -1,10 +1,10 @@
-mod Building
+mod Delivering
 mod Digits
-mod Driving
 mod Exactly
 mod Hexadecimal
 mod Lines
-mod Progress
-mod Turns
+mod Members
 mod Outputs
-mod Walks
+mod Progress
+mod Refusals
+mod Spent

@@ -1,12 +1,12 @@
--- The status that the words, the files and the input decide, with the checks in their order.
-use Rattle.std.specs.Prelude.{◌≡◌, ℕ, List, length, nat_lt, if◌then◌else◌, Option, None, Some, Result, Ok, Err}
+-- What the words, the files and the input decide on the status, with the checks in their order.
+use Rattle.std.specs.Prelude.{◌≡◌, ℕ, List, [], length, nat_lt, if◌then◌else◌, MatchBool, Option, None, Some, Result, Ok, Err}
 use Rattle.vt_outside.specs.Desk.{Files}
 use Rattle.image_file.specs.Values.{ImageValue}
 use Rattle.image_file.specs.Reading.{image_of}
 use Rattle.image_file.specs.declared.refusal.ImageRefusal.{ImageRefusal}
 use Rattle.vest_cli.specs.Words.{CommandValue, run}
-use Rattle.vest_cli.specs.Built.{walk_of}
-use Rattle.vax_form.specs.declared.instr.Instr.{Instr}
+use Rattle.flow_discovery.specs.Reach.{AreReached, most}
+use Rattle.flow_discovery.specs.Starts.{starts}
 use Rattle.vest_cli.specs.declared.stages.TheConstants.{FILE_LIMIT, INPUT_LIMIT}
 use Rattle.vest_cli.specs.declared.status.Status.{Status}
 use Rattle.vest_cli.specs.declared.status.Status.TheVariants as status
@@ -16,34 +16,34 @@ pub data Decision : Type 0 where
   stops : Status → Decision
   runs : Decision
 
--- None: what would decide isn't told
-
--- an image, and then what comes behind it
-abbrev pub with_image : Result ImageValue ImageRefusal → (ImageValue → Option Decision) → Option Decision
-with_image (Err refusal) behind = Some (stops status.Refused)
-with_image (Ok image) behind = behind image
-
--- a file, its image, and then what comes behind it
-abbrev pub with_file : Option (List ℕ) → (ImageValue → Option Decision) → Option Decision
-with_file None behind = Some (stops status.Absent)
-with_file (Some bytes) behind =
-    if nat_lt FILE_LIMIT (length bytes) then Some (stops status.TooLong) else with_image (image_of bytes) behind
-
--- the walk of an image, and then what comes behind it
-abbrev pub with_walk : Option (List Instr) → Option Decision → Option Decision
-with_walk None behind = Some (stops status.Refused)
-with_walk (Some walk) behind = behind
+-- what is not told decides nothing
 
 -- the input, and then the run
-abbrev pub with_input : Option (List ℕ) → Option Decision
-with_input None = None
-with_input (Some input) = Some (if nat_lt INPUT_LIMIT (length input) then stops status.TooLong else runs)
+abbrev pub DecidesInput : Option (List ℕ) → Decision → Type 0
+DecidesInput None decision = ⊥
+DecidesInput (Some input) decision = decision ≡ (if nat_lt INPUT_LIMIT (length input) then stops status.TooLong else runs)
 
-abbrev pub decided : Option CommandValue → Option Files → (input : Option (List ℕ)) → Option Decision
-decided None files input = Some (stops status.Usage)
-decided (Some (run name)) None input = None
-decided (Some (run name)) (Some files) input =
-    with_file (files name) (λ image. with_walk (walk_of image) (with_input input))
+-- the instructions that can be reached, and then the input
+pub record DecidesFlow (image : ImageValue) (input : Option (List ℕ)) (decision : Decision) : Type 0 where
+  pub addresses : List ℕ
+  pub reached : AreReached image.pages (starts image []) addresses
+  pub decides : MatchBool (nat_lt most (length addresses)) (decision ≡ stops status.Refused) (DecidesInput input decision)
+
+-- the image, and then its flow
+abbrev pub DecidesImage : Result ImageValue ImageRefusal → Option (List ℕ) → Decision → Type 0
+DecidesImage (Err refusal) input decision = decision ≡ stops status.Refused
+DecidesImage (Ok image) input decision = DecidesFlow image input decision
+
+-- the file, and then its image
+abbrev pub DecidesFile : Option (List ℕ) → Option (List ℕ) → Decision → Type 0
+DecidesFile None input decision = decision ≡ stops status.Absent
+DecidesFile (Some bytes) input decision =
+    MatchBool (nat_lt FILE_LIMIT (length bytes)) (decision ≡ stops status.TooLong) (DecidesImage (image_of bytes) input decision)
+
+abbrev pub Decides : Option CommandValue → Option Files → (input : Option (List ℕ)) → Decision → Type 0
+Decides None files input decision = decision ≡ stops status.Usage
+Decides (Some (run name)) None input decision = ⊥
+Decides (Some (run name)) (Some files) input decision = DecidesFile (files name) input decision
 
 -- behind a run: all threads exited, some raised an exception, or some was spent
 abbrev pub EndsARun : Status → Type 0

@@ -4,9 +4,7 @@ pub mod Kept
 pub mod Digits
 pub mod Line
 pub mod Stopping
-pub mod Built
-pub mod Walks
-pub mod Driving
+pub mod Threads
 pub mod Stages
 pub mod Report
 pub mod Delivery

@@ -1,7 +1,7 @@
 -- The report of a run: how each thread ended, and the registers of one that did not exit.
 -- VAX Architecture Reference Manual, "Exceptions and Interrupts": the vector offset of each exception, and the processor
 -- status longword of user mode.
-use Rattle.std.specs.Prelude.{ℕ, ◌+◌, Bool, true, false, List, [], ◌∷◌, ◌++◌, codes, decimal, if◌then◌else◌}
+use Rattle.std.specs.Prelude.{ℕ, Bool, true, false, List, [], ◌∷◌, ◌++◌, codes, decimal, if◌then◌else◌}
 use Rattle.std.specs.List.{list_any}
 use Rattle.vax_form.specs.Exceptions.{vector_of}
 use Rattle.vax_form.specs.State.{psl_of}

@@ -1,32 +1,46 @@
 // What came of a run goes out. It takes no memory.
-ghost use Rattle.std.specs.Prelude.{◌≡◌, ◌∷◌, []};
+ghost use Rattle.std.specs.Prelude.{◌≡◌, map, OnErr, OnOk};
+ghost use Rattle.std.specs.List.{list_any};
+ghost use Rattle.system_model.specs.Interpreted.{has_raised};
 ghost use Rattle.tie_switch.specs.Processors.{processor_of};
+ghost use Rattle.vt_outside.specs.Taking.{TookAll, TookSome};
 ghost use Rattle.vest_cli.specs.Delivery.{Delivers};
-ghost use Rattle.vest_cli.specs.Report.{lines_of, status_of_ends};
+ghost use Rattle.vest_cli.specs.Report.{is_spent, lines_of, report_of, status_of_ends};
 
 use crate::line::Line;
 use crate::report::thread_lines;
 use crate::status::Status;
 use tie_switch::{End, Processor};
-use vt_outside::{Sink, write_all};
+use vt_outside::{Failed, Sink, write_all};
 
-/// Writes the output, and then the report of the one processor, which has ended.
+/// Writes the output, and then the report of the processors, which have ended, in their order.
 pub fn deliver<K: Sink, E: Sink>(
     output: &[u8],
-    processor: &Processor,
+    processors: &[Processor],
     out: &mut K,
     report: &mut E,
 ) -> Status
-    ensures { Delivers result output.now (processor_of processor.now ∷ []) (K.meaning out.old) (K.meaning out.new)
+    ensures { Delivers result output.now (map processor_of processors.now) (K.meaning out.old) (K.meaning out.new)
         (E.meaning report.old) (E.meaning report.new) }
 {
     if write_all(out, output).is_err() {
         return Status::WriteFault;
     }
-    if write_all(report, lines_of(processor).as_slice()).is_err() {
+    if write_report(processors, report).is_err() {
         return Status::WriteFault;
     }
-    status_of_end(processor)
+    status_of_ends(processors)
+}
+
+// The lines of each end.
+fn write_report<E: Sink>(processors: &[Processor], report: &mut E) -> Result<(), Failed>
+    ensures ok { OnOk result (TookAll (E.meaning report.old) (E.meaning report.new) (report_of (map processor_of processors.now))) }
+    ensures err { OnErr result (TookSome (E.meaning report.old) (E.meaning report.new) (report_of (map processor_of processors.now))) }
+{
+    for processor in processors {
+        write_all(report, lines_of(processor).as_slice())?;
+    }
+    Ok(())
 }
 
 // The lines of its end.
@@ -44,12 +58,28 @@ fn lines_of(processor: &Processor) -> Line
     }
 }
 
-fn status_of_end(processor: &Processor) -> Status
-    ensures { result ≡ status_of_ends (processor_of processor.now ∷ []) }
+fn status_of_ends(processors: &[Processor]) -> Status
+    ensures { result ≡ status_of_ends (map processor_of processors.now) }
 {
-    match processor.end() {
-        Some(End::Raised(_)) => Status::Exception,
-        Some(End::Spent) => Status::Spent,
-        Some(End::Exit(_)) | None => Status::Ok,
+    if any_raised(processors) {
+        Status::Exception
+    } else if any_spent(processors) {
+        Status::Spent
+    } else {
+        Status::Ok
     }
+}
+
+fn any_raised(processors: &[Processor]) -> bool
+    ensures { result ≡ list_any (λ p. has_raised (processor_of p).mode) processors.now }
+{
+    processors.iter().any(|processor| matches!(processor.end(), Some(End::Raised(_))))
+}
+
+fn any_spent(processors: &[Processor]) -> bool
+    ensures { result ≡ list_any (λ p. is_spent (processor_of p).mode) processors.now }
+{
+    processors
+        .iter()
+        .any(|processor| matches!(processor.end(), Some(End::Spent)))
 }

@@ -1,112 +1,104 @@
 // The command `run`.
-ghost use Rattle.std.specs.Prelude.{◌≡◌, ◌<◌, [], IfOk, IfErr, vec_capacity};
+ghost use Rattle.std.specs.Prelude.{◌≡◌, [], IfOk, IfErr};
 ghost use Rattle.image_file.specs.Whole.{IsWhole};
-ghost use Rattle.memory_core.specs.Contents.{fresh};
-ghost use Rattle.vest_cli.specs.Driving.{Builds};
+ghost use Rattle.block_law.specs.Translations.{Meets};
+ghost use Rattle.image_meaning.specs.Meant.{image_meaning};
 ghost use Rattle.vest_cli.specs.Kept.{nothing_kept};
 ghost use Rattle.vest_cli.specs.Lent.{lent};
 ghost use Rattle.vest_cli.specs.Stopping.{LeavesAll};
-ghost use Rattle.vest_cli.specs.Run.{HasKept, Runs, StopsRun};
+ghost use Rattle.vest_cli.specs.Run.{HasKept, Runs, StopsRun, running_of};
 
 use crate::deliver::deliver;
-use crate::drive::drive;
 use crate::kept::Kept;
-use crate::stages::{build, load, read_input};
+use crate::numbers::{BUDGET, LIMIT, MISS, Numbers};
+use crate::stages::{load, read_input, translated};
 use crate::status::Status;
 use crate::stop::Stop;
+use crate::threads::run_all;
 use image_file::Image;
-use memory_core::MemState;
+use run_threads::Running;
 use std::alloc::Global;
-use system_model::Translation;
-use tie_switch::Processor;
+use std::sync::Wait;
+use std::thread::Threads;
+use system_model::{Range, Translation};
 use vt_outside::{Desk, Gate, Sink, Source};
 
-/// The most steps of a processor.
-pub const BUDGET: u64 = 100_000_000;
+const DEFAULTS: Numbers = Numbers {
+    budget: BUDGET,
+    limit: LIMIT,
+    miss: MISS,
+};
 
-/// The most entries of a history.
-pub const LIMIT: u32 = 4_194_304;
-
-/// No store conditional fails by the miss rule.
-pub const MISS: u16 = 0;
-
-// The memory of an image with this input, for one processor.
-fn memory_of(alloc: Global, image: &Image, input: &[u8]) -> Result<MemState, Stop>
+// All that a run takes before its first step.
+fn set_up(alloc: Global, image: &Image, input: &[u8], numbers: Numbers) -> Result<Running, Stop>
     requires { IsWhole image.now }
-    ensures ok { IfOk result (λ memory. memory ≡ fresh image.now input.now 1 LIMIT MISS) }
+    ensures ok { IfOk result (λ running. running ≡ running_of image.now input.now numbers) }
     ensures err { IfErr result (λ stop. stop ≡ Stop.WantOfMemory) }
 {
     let input = input.to_vec(alloc)?;
-    match MemState::new(alloc, image, input, 1, LIMIT, MISS) {
-        Ok(memory) => Ok(memory),
+    let Numbers {
+        budget,
+        limit,
+        miss,
+    } = numbers;
+    match Running::new(alloc, image, input, budget, limit, miss) {
+        Ok(running) => Ok(running),
         Err(_) => Err(Stop::WantOfMemory),
     }
 }
 
-// Room for the one processor.
-fn room_for_one(alloc: Global) -> Result<Vec<Processor>, Stop>
-    ensures empty { IfOk result (λ room. room.items ≡ []) }
-    ensures room { IfOk result (λ room. 0 < vec_capacity room) }
-    ensures err { IfErr result (λ stop. stop ≡ Stop.WantOfMemory) }
-{
-    Ok(Vec::with_capacity(alloc, 1)?)
-}
-
-// All that a run takes before its first step: the memory, and room for the one processor.
-fn set_up(alloc: Global, image: &Image, input: &[u8]) -> Result<(MemState, Vec<Processor>), Stop>
-    requires { IsWhole image.now }
-    ensures memory { IfOk result (λ made. made.0 ≡ fresh image.now input.now 1 LIMIT MISS) }
-    ensures empty { IfOk result (λ made. made.1.items ≡ []) }
-    ensures room { IfOk result (λ made. 0 < vec_capacity made.1) }
-    ensures err { IfErr result (λ stop. stop ≡ Stop.WantOfMemory) }
-{
-    let memory = memory_of(alloc, image, input)?;
-    let room = room_for_one(alloc)?;
-    Ok((memory, room))
-}
-
 // The run itself, which takes no memory.
-fn execute<K: Sink, E: Sink>(
+fn execute<R: Threads + Wait + Sync, K: Sink, E: Sink, G: Gate + Sync>(
+    rt: &R,
     image: Image,
     taken: Vec<u8>,
     translation: Translation,
-    mut memory: MemState,
-    mut processors: Vec<Processor>,
+    numbers: Numbers,
+    ranges: Vec<Range>,
+    running: Running,
     out: &mut K,
     report: &mut E,
+    gate: &G,
     kept: &mut Kept,
 ) -> Status
     requires whole { IsWhole image }
-    requires builds { Builds image translation }
-    requires new { memory ≡ fresh image taken.items 1 LIMIT MISS }
-    requires empty { processors.items ≡ [] }
-    requires room { 0 < vec_capacity processors }
+    requires meets { Meets (image_meaning image.pages) translation }
+    requires running { running ≡ running_of image taken.items numbers }
     requires nothing { kept.old ≡ nothing_kept }
-    ensures { HasKept result image translation taken.items (K.meaning out.old) (K.meaning out.new) (E.meaning report.old) (E.meaning report.new) kept.new }
+    ensures { HasKept result image translation taken.items numbers ranges.items (K.meaning out.old) (K.meaning out.new) (E.meaning report.old) (E.meaning report.new) kept.new }
 {
-    let processor = drive(&image, &taken, &translation, &mut memory);
-    let status = deliver(memory.output(), &processor, out, report);
-    processors.push_reserved(processor);
+    let (mut memory, processors) = run_all(
+        rt,
+        running,
+        &image,
+        &taken,
+        &translation,
+        &ranges,
+        gate,
+    );
+    let status = deliver(memory.output(), &processors, out, report);
     kept.image = Some(image);
     kept.input = taken;
     kept.history = memory.take_history();
     kept.processors = processors;
-    kept.budget = BUDGET;
-    kept.limit = LIMIT;
-    kept.miss = MISS;
+    kept.budget = numbers.budget;
+    kept.limit = numbers.limit;
+    kept.miss = numbers.miss;
     kept.translation = Some(translation);
+    kept.ranges = ranges;
     status
 }
 
-/// Runs the image of a file on all the input. From `drive` on it takes no memory.
-pub fn run<D: Desk, I: Source, K: Sink, E: Sink, G: Gate>(
+/// Runs the image of a file on all the input. From the first step on it takes no memory.
+pub fn run<R: Threads + Wait + Sync, D: Desk, I: Source, K: Sink, E: Sink, G: Gate + Sync>(
+    rt: &R,
     alloc: Global,
     name: &str,
     desk: &mut D,
     input: &mut I,
     out: &mut K,
     report: &mut E,
-    _gate: &G,
+    gate: &G,
     kept: &mut Kept,
 ) -> Result<Status, Stop>
     requires { kept.old ≡ nothing_kept }
@@ -122,8 +114,21 @@ pub fn run<D: Desk, I: Source, K: Sink, E: Sink, G: Gate>(
         kept.new) }
 {
     let image = load(alloc, desk, name)?;
-    let translation = build(alloc, &image)?;
+    let translation = translated(alloc, &image)?;
     let taken = read_input(alloc, input)?;
-    let (memory, room) = set_up(alloc, &image, &taken)?;
-    Ok(execute(image, taken, translation, memory, room, out, report, kept))
+    let running = set_up(alloc, &image, &taken, DEFAULTS)?;
+    let ranges = Vec::new(alloc);
+    Ok(execute(
+        rt,
+        image,
+        taken,
+        translation,
+        DEFAULTS,
+        ranges,
+        running,
+        out,
+        report,
+        gate,
+        kept,
+    ))
 }

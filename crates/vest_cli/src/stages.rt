@@ -1,15 +1,13 @@
 // The stages before a run: the image of a file, its translation, and the input.
-ghost use Rattle.std.specs.Prelude.{◌≡◌, Some, IfOk, IfErr};
-ghost use Rattle.vest_cli.specs.Driving.{Builds};
+ghost use Rattle.std.specs.Prelude.{IfOk, IfErr};
 ghost use Rattle.vest_cli.specs.Lent.{SameFiles};
-ghost use Rattle.vest_cli.specs.Stages.{Accepts, ReadsAll, StopsAtBuild, StopsAtInput, StopsAtLoad};
+ghost use Rattle.vest_cli.specs.Stages.{Accepts, IsTranslated, ReadsAll, StopsAtInput, StopsAtLoad, StopsAtTranslation};
 
-use crate::built::walk_of;
-use crate::stop::{NotBuilt, Refusal, Stop};
+use crate::stop::{Refusal, Stop};
 use image_file::{Image, ImageRefusal, read_image};
 use std::alloc::Global;
 use system_model::Translation;
-use translate::translate_instrs;
+use translate::{TranslateRefusal, translate};
 use vt_outside::{Desk, DeskRead, Got, Source};
 
 /// The most bytes of a file.
@@ -41,17 +39,15 @@ pub fn load<D: Desk>(alloc: Global, desk: &mut D, name: &str) -> Result<Image, S
     }
 }
 
-/// The translation of an image that is built.
-pub fn build(alloc: Global, image: &Image) -> Result<Translation, Stop>
-    ensures ok { IfOk result (Builds image.now) }
-    ensures err { IfErr result (λ stop. StopsAtBuild stop image.now) }
+/// The translation of an image, as far as its threads and its entries show what can be reached.
+pub fn translated(alloc: Global, image: &Image) -> Result<Translation, Stop>
+    ensures ok { IfOk result (IsTranslated image.now) }
+    ensures err { IfErr result (λ stop. StopsAtTranslation stop image.now) }
 {
-    let Some(walk) = walk_of(alloc, image)? else {
-        return Err(Stop::Refused(Refusal::NotBuilt(NotBuilt)));
-    };
-    match translate_instrs(alloc, &image.pages, &walk) {
+    match translate(alloc, image, &[]) {
         Ok(translation) => Ok(translation),
-        Err(_) => Err(Stop::WantOfMemory),
+        Err(TranslateRefusal::WantOfMemory) => Err(Stop::WantOfMemory),
+        Err(refusal) => Err(Stop::Refused(Refusal::Flow(refusal))),
     }
 }
 

@@ -1,6 +1,6 @@
 // Why a call stops before its run, and the line that says so.
 ghost use Rattle.std.specs.Prelude.{◌≡◌, ◌⊎◌, ◌<◌, ◌≤◌, ◌++◌, [], length};
-ghost use Rattle.vest_cli.specs.Line.{line_of, text_of, number_of, refusal_text};
+ghost use Rattle.vest_cli.specs.Line.{line_of, text_of, spaced};
 ghost use Rattle.vt_outside.specs.Taking.{TookAll, TookSome};
 ghost use Rattle.vest_cli.specs.Stopping.{status_of};
 ghost use Rattle.vest_cli.specs.declared.stop.Stop.TheVariants.{WantOfMemory};
@@ -9,19 +9,14 @@ use crate::line::{LINE_ROOM, Line};
 use crate::status::Status;
 use image_file::ImageRefusal;
 use std::alloc::AllocError;
+use translate::TranslateRefusal;
 use vt_outside::{Sink, write_all};
 
-/// An image was accepted, and can't be run yet: it has several threads, or its walk from the thread's PC meets something
-/// else than MOVL and CLRL, of short literals, immediates, registers and absolute longwords at a multiple of 4, and CHMK
-/// with the short literal 1 or 2.
-#[derive(Clone, Copy, Debug, PartialEq, Eq)]
-pub struct NotBuilt;
-
-/// Why a file is refused.
+/// What is refused, and why: a file that is no image, or an image with too many instructions.
 #[derive(Clone, Copy)]
 pub enum Refusal {
     Image(ImageRefusal),
-    NotBuilt(NotBuilt),
+    Flow(TranslateRefusal),
 }
 
 #[derive(Clone, Copy)]
@@ -95,40 +90,27 @@ fn push_refusal(line: &mut Line, refusal: Refusal)
     ensures text { line.new ≡ text_of (Stop.Refused refusal) }
     ensures room { length line.new < LINE_ROOM }
 {
-    line.push_text(b"refused image");
+    line.push_text(b"refused ");
     match refusal {
-        Refusal::Image(refusal) => push_image_refusal(line, refusal),
-        Refusal::NotBuilt(_) => line.push_spaced(0),
+        Refusal::Image(refusal) => {
+            line.push_text(b"image");
+            push_numbers(line, refusal.numbers().as_slice());
+        }
+        Refusal::Flow(refusal) => {
+            line.push_text(b"flow");
+            push_numbers(line, refusal.numbers().as_slice());
+        }
     }
 }
 
-// The number of the refusal, and the refusal's own numbers.
-fn push_image_refusal(line: &mut Line, refusal: ImageRefusal)
-    requires { length line.old ≤ 13 }
-    ensures text { line.new ≡ line.old ++ refusal_text refusal }
+// Each with a blank before it.
+fn push_numbers(line: &mut Line, numbers: &[u64])
+    requires few { length numbers.now ≤ 3 }
+    requires room { length line.old ≤ 13 }
+    ensures text { line.new ≡ line.old ++ spaced numbers.now }
     ensures room { length line.new < LINE_ROOM }
 {
-    line.push_spaced(number_of(refusal));
-    match refusal {
-        ImageRefusal::Truncated { at } | ImageRefusal::Trailing { at } => line.push_spaced(at),
-        ImageRefusal::BadVersion { found } => line.push_spaced(found as u64),
-        ImageRefusal::TooManyThreads { count }
-        | ImageRefusal::TooManySections { count }
-        | ImageRefusal::TooManyEntries { count } => line.push_spaced(count as u64),
-        ImageRefusal::BadSection { place } | ImageRefusal::BadEntry { place } => {
-            line.push_spaced(place as u64)
-        }
-        ImageRefusal::Overlap { low, high } => {
-            line.push_spaced(low as u64);
-            line.push_spaced(high as u64);
-        }
-        ImageRefusal::TooLarge { total } => line.push_spaced(total),
-        ImageRefusal::BadMagic | ImageRefusal::NoThread | ImageRefusal::WantOfMemory => {}
+    for number in numbers {
+        line.push_spaced(*number);
     }
-}
-
-fn number_of(refusal: ImageRefusal) -> u64
-    ensures { result ≡ number_of refusal }
-{
-    refusal.number().unwrap_or(0) as u64
 }

@@ -1,10 +1,10 @@
 // The top call.
-ghost use Rattle.std.specs.Prelude.{◌≡◌, ◌↔◌, IfOk, IfErr, IfSome};
+ghost use Rattle.std.specs.Prelude.{◌≡◌, ◌↔◌, IfOk, IfErr};
 ghost use Rattle.vest_cli.specs.Words.{spelled};
 ghost use Rattle.vest_cli.specs.Lent.{lent};
 ghost use Rattle.vest_cli.specs.Kept.{nothing_kept};
 ghost use Rattle.vest_cli.specs.Stopping.{LeavesAll};
-ghost use Rattle.vest_cli.specs.Decided.{decided, IsOrFault};
+ghost use Rattle.vest_cli.specs.Decided.{Decides, Decision, IsOrFault};
 ghost use Rattle.vest_cli.specs.Vest.{Does, Ends, Stops};
 
 use crate::kept::Kept;
@@ -13,10 +13,13 @@ use crate::status::Status;
 use crate::stop::{Stop, refuse};
 use crate::words::{Command, command_of};
 use std::alloc::Global;
+use std::sync::Wait;
+use std::thread::Threads;
 use vt_outside::{Desk, Gate, Sink, Source};
 
-/// Obeys one command line. `words` are the words after the program's name.
-pub fn vest<D: Desk, I: Source, K: Sink, E: Sink, G: Gate + Sync>(
+/// Obeys one command line. `words` are the words after the program's name. It may wait, where the image has several threads.
+pub fn vest<R: Threads + Wait + Sync, D: Desk, I: Source, K: Sink, E: Sink, G: Gate + Sync>(
+    rt: &R,
     alloc: Global,
     words: &[String],
     desk: &mut D,
@@ -33,18 +36,19 @@ pub fn vest<D: Desk, I: Source, K: Sink, E: Sink, G: Gate + Sync>(
 
     // What that says of the status.
     ensures usage { (result ≡ Status.Usage) ↔ (spelled words.now ≡ None) }
-    ensures decided { IfSome (decided (spelled words.now) (D.meaning desk.old).files (I.meaning input.old).left)
-        (IsOrFault result) }
+    ensures decided { (decision : Decision) → Decides (spelled words.now) (D.meaning desk.old).files (I.meaning input.old).left decision
+        → IsOrFault result decision }
 {
     *kept = Kept::empty(alloc);
-    match obey(alloc, words, desk, input, out, report, gate, kept) {
+    match obey(rt, alloc, words, desk, input, out, report, gate, kept) {
         Ok(status) => status,
         Err(stop) => refuse(stop, report),
     }
 }
 
 // What the command does, or why it stops before it has written anything.
-fn obey<D: Desk, I: Source, K: Sink, E: Sink, G: Gate>(
+fn obey<R: Threads + Wait + Sync, D: Desk, I: Source, K: Sink, E: Sink, G: Gate + Sync>(
+    rt: &R,
     alloc: Global,
     words: &[String],
     desk: &mut D,
@@ -68,6 +72,6 @@ fn obey<D: Desk, I: Source, K: Sink, E: Sink, G: Gate>(
 {
     match command_of(words) {
         None => Err(Stop::Usage),
-        Some(Command::Run(name)) => run(alloc, name, desk, input, out, report, gate, kept),
+        Some(Command::Run(name)) => run(rt, alloc, name, desk, input, out, report, gate, kept),
     }
 }

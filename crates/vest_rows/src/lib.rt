@@ -3,4 +3,10 @@
 #![tactic(auto)]
 
 #[cfg(test)]
+mod call;
+#[cfg(test)]
+mod interpreted;
+#[cfg(test)]
 mod rows;
+#[cfg(test)]
+mod several;

@@ -1,141 +1,8 @@
+// Stops, and runs whose instructions are all translated.
+use crate::call::{FIRST_IMAGE, File, Outside, call, is_left, run_one};
 use memory_core::{Entry, Kind};
-use std::alloc::{AllocError, Global};
 use std::test::Fail;
-use vest_cli::{Kept, Status, vest};
-use vt_outside::{MemoryDesk, MemorySink, MemorySource, OpenGate};
-
-// One thread that moves 5 to R0, writes it out and exits; a writable section behind its code.
-static FIRST: [u8; 59] = [
-    0x56, 0x58, 0x49, 0x4d, 0x01, 0x00, 0x01, 0x00, 0x02, 0x00, 0x00, 0x00, // header
-    0x00, 0x02, 0x00, 0x00, 0x00, 0x12, 0x00, 0x00, // thread
-    0x00, 0x02, 0x00, 0x00, 0x00, 0x02, 0x00, 0x00, 0x07, 0x00, 0x00, 0x00, 0x00, 0x00, 0x00, 0x00, // code
-    0x00, 0x10, 0x00, 0x00, 0x00, 0x02, 0x00, 0x00, 0x00, 0x00, 0x00, 0x00, 0x01, 0x00, 0x00, 0x00, // data
-    0xd0, 0x05, 0x50, 0xbc, 0x02, 0xbc, 0x01,
-];
-
-// A file on the desk: that many bytes of the first image, some of them changed; the first image with this code and these
-// stored bytes of its writable section, fewer than 256 each; or none.
-#[derive(Clone, Copy)]
-enum File<'a> {
-    Changed(usize, &'a [(usize, u8)]),
-    Of { code: &'a [u8], data: &'a [u8] },
-    Absent,
-}
-
-const FIRST_IMAGE: File<'static> = File::Changed(59, &[]);
-
-// What fails outside, and how many bytes the input has.
-#[derive(Clone, Copy)]
-enum Outside {
-    Sound,
-    DeskFails,
-    OutFails,
-    Input(usize),
-}
-
-// What a call left.
-#[derive(Drop)]
-struct Left {
-    status: Status,
-    out: MemorySink,
-    report: MemorySink,
-    history: Vec<Entry>,
-}
-
-fn words_of(alloc: Global, line: &str) -> Result<Vec<String>, AllocError> {
-    let mut words = Vec::new(alloc);
-    for word in line.split_whitespace() {
-        words.push(String::from_str(alloc, word)?)?;
-    }
-    Ok(words)
-}
-
-fn change(bytes: &mut [u8], changes: &[(usize, u8)]) {
-    for (at, byte) in changes {
-        if let Some(place) = bytes.get_mut(*at) {
-            *place = *byte;
-        }
-    }
-}
-
-// The bytes of the file; None: there is none.
-fn bytes_of(alloc: Global, file: File) -> Result<Option<Vec<u8>>, AllocError> {
-    let mut bytes = FIRST.to_vec(alloc)?;
-    match file {
-        File::Absent => return Ok(None),
-        File::Changed(length, changes) => {
-            bytes.resize(length, 0)?;
-            change(&mut bytes, changes);
-        }
-        File::Of { code, data } => {
-            bytes.truncate(52);
-            change(&mut bytes, &[(28, low(code.len())), (44, low(data.len()))]);
-            bytes.extend_from_slice(code)?;
-            bytes.extend_from_slice(data)?;
-        }
-    }
-    Ok(Some(bytes))
-}
-
-fn low(number: usize) -> u8 {
-    (number % 256) as u8
-}
-
-fn desk_of(alloc: Global, file: File, fails: Vec<u64>) -> Result<MemoryDesk, AllocError> {
-    let mut files = Vec::new(alloc);
-    if let Some(bytes) = bytes_of(alloc, file)? {
-        files.push((String::from_str(alloc, "x")?, bytes))?;
-    }
-    Ok(MemoryDesk::new(files, fails))
-}
-
-fn sink(alloc: Global, fails: Vec<u64>) -> Result<MemorySink, AllocError> {
-    Ok(MemorySink::new(Vec::with_capacity(alloc, 4096)?, fails))
-}
-
-// The first call alone, where it is to fail.
-fn fails(alloc: Global, first: bool) -> Result<Vec<u64>, AllocError> {
-    vec![in alloc; 0u64; usize::from(first)]
-}
-
-// Calls `vest` with the words of a line, over a desk that has this file under the name x.
-fn call(alloc: Global, line: &str, file: File, outside: Outside) -> Result<Left, AllocError> {
-    let words = words_of(alloc, line)?;
-    let mut desk = desk_of(
-        alloc,
-        file,
-        fails(alloc, matches!(outside, Outside::DeskFails))?,
-    )?;
-    let length = match outside {
-        Outside::Input(length) => length,
-        _ => 0,
-    };
-    let mut input = MemorySource::new(vec![in alloc; 7u8; length]?, Vec::new(alloc), 4096);
-    let mut out = sink(alloc, fails(alloc, matches!(outside, Outside::OutFails))?)?;
-    let mut report = sink(alloc, Vec::new(alloc))?;
-    let mut kept = Kept::empty(alloc);
-    let status = vest(
-        alloc,
-        &words,
-        &mut desk,
-        &mut input,
-        &mut out,
-        &mut report,
-        &OpenGate,
-        &mut kept,
-    );
-    Ok(Left {
-        status,
-        out,
-        report,
-        history: kept.history,
-    })
-}
-
-// Whether a call left this status, these bytes and this report.
-fn is_left(left: &Left, status: Status, out: &[u8], report: &str) -> bool {
-    left.status == status && left.out.bytes() == out && left.report.bytes() == report.as_bytes()
-}
+use vest_cli::Status;
 
 #[test]
 fn runs(rt: HostRuntime) -> Result<(), Fail> {
@@ -145,7 +12,7 @@ fn runs(rt: HostRuntime) -> Result<(), Fail> {
         (exit, &[], 0, "thread 0 exit 00000000\n"),
     ];
     for (file, out, entries, report) in rows {
-        let left = call(rt.alloc(), "run x", file, Outside::Sound)?;
+        let left = call(&rt, "run x", file, Outside::Sound)?;
         assert!(rt; is_left(&left, Status::Ok, out, report), "{report}");
         assert_eq!(rt; left.history.len(), entries);
     }
@@ -167,13 +34,10 @@ fn entry(retired: u64, kind: Kind, before: u64, after: u64) -> Entry {
 
 #[test]
 fn reads_and_writes_longwords(rt: HostRuntime) -> Result<(), Fail> {
-    let file = File::Of {
-        code: &[
-            0xd0, 0x9f, 0, 0x10, 0, 0, 0x50, 0xd0, 0x50, 0x9f, 4, 0x10, 0, 0, 0xbc, 1,
-        ],
-        data: &[0x11, 0x22, 0x33, 0x44],
-    };
-    let left = call(rt.alloc(), "run x", file, Outside::Sound)?;
+    let code = [
+        0xd0, 0x9f, 0, 0x10, 0, 0, 0x50, 0xd0, 0x50, 0x9f, 4, 0x10, 0, 0, 0xbc, 1,
+    ];
+    let left = run_one(&rt, &code, 0x1200, &[0x11, 0x22, 0x33, 0x44])?;
     assert!(rt; is_left(&left, Status::Ok, &[], "thread 0 exit 44332211\n"));
     let history = [
         entry(0, Kind::Load, 0x4433_2211, 0x4433_2211),
@@ -198,8 +62,7 @@ fn raises(rt: HostRuntime) -> Result<(), Fail> {
         ),
     ];
     for (code, report) in rows {
-        let file = File::Of { code, data: &[] };
-        let left = call(rt.alloc(), "run x", file, Outside::Sound)?;
+        let left = run_one(&rt, code, 0x1200, &[])?;
         assert!(rt; is_left(&left, Status::Exception, &[], report), "{report}");
         assert_eq!(rt; left.history.len(), 0);
     }
@@ -226,11 +89,9 @@ fn refuses(rt: HostRuntime) -> Result<(), Fail> {
         (File::Changed(59, &[(6, 0)]), "refused image 4\n"),
         (overlap, "refused image 8 0 1\n"),
         (File::Changed(36, &sizes), "refused image 9 1049088\n"),
-        // The thread starts at 400, where nothing stands.
-        (File::Changed(59, &[(13, 4)]), "refused image 0\n"),
     ];
     for (file, report) in rows {
-        let left = call(rt.alloc(), "run x", file, Outside::Sound)?;
+        let left = call(&rt, "run x", file, Outside::Sound)?;
         assert!(rt; is_left(&left, Status::Refused, &[], report), "{report}");
     }
     Ok(())
@@ -266,13 +127,13 @@ fn stops(rt: HostRuntime) -> Result<(), Fail> {
         (
             "run x",
             first,
-            Outside::Input(65_537),
+            Outside::Long(65_537),
             Status::TooLong,
             "too long\n",
         ),
     ];
     for (line, file, outside, status, report) in rows {
-        let left = call(rt.alloc(), line, file, outside)?;
+        let left = call(&rt, line, file, outside)?;
         assert!(rt; is_left(&left, status, &[], report), "{report}");
     }
     Ok(())
