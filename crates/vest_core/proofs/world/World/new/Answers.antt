@@ -1,0 +1,19 @@
+use Rattle.std.proofs.Common.{sym, ap, ◌∙◌}
+use Rattle.image_file.specs.Values.{ImageValue}
+use Rattle.vest_core.proofs.Worlds.{begins, is_manned}
+use Rattle.vest_core.proofs.world.World.new.Goals as goal
+
+pub invariant_of-result : goal.invariant_of-result
+invariant_of-result c =
+    let image = c.args.image.now in
+    let threads = c.as_slice-threads.ensures.value ∙ ap (λ (i : ImageValue). i.threads) c.image.view_is in
+    is_manned image c.args.input.items c.args.budget c.args.limit c.args.miss c.as_slice-threads.result.now threads c.in_ok-memory.memory c.in_ok-memory.ensures
+    c.in-Ok.processors.items (c.in-Ok.ensures.stand) (c.in-Ok.ensures.own)
+    (λ set_up is_image is_input. c.images_are_runs.ensures set_up is_image (is_input ∙ sym c.deref.ensures.value))
+
+pub returns-clause-legal : goal.returns-clause-legal
+returns-clause-legal c = λ setting pages.
+    let image = c.args.image.now in
+    let threads = c.as_slice-threads.ensures.value ∙ ap (λ (i : ImageValue). i.threads) c.image.view_is in
+    begins image c.args.input.items c.args.budget c.args.limit c.args.miss c.as_slice-threads.result.now threads
+    c.in_ok-memory.memory c.in_ok-memory.ensures c.in-Ok.processors.items c.beginnings_are_legal.ensures setting pages (c.in-Ok.ensures.stand setting.meaning.pages)
