@@ -4,7 +4,7 @@ use std::alloc::{AllocError, Global};
 use std::sync::Wait;
 use std::thread::Threads;
 use vest_cli::{Kept, Status, vest};
-use vt_outside::{MemoryDesk, MemorySink, MemorySource, OpenGate};
+use vt_outside::{Gate, MemoryDesk, MemorySink, MemorySource, OpenGate};
 
 // One thread that moves 5 to R0, writes it out and exits; a writable section behind its code.
 static FIRST: [u8; 59] = [
@@ -15,18 +15,19 @@ static FIRST: [u8; 59] = [
     0xd0, 0x05, 0x50, 0xbc, 0x02, 0xbc, 0x01,
 ];
 
-/// A file on the desk: that many bytes of the first image, some of them changed; an image; or none.
+/// A file on the desk: that many bytes of the first image, some of them changed; an image; these bytes; or none.
 #[derive(Clone, Copy)]
 pub enum File<'a> {
     Changed(usize, &'a [(usize, u8)]),
     Of(Image<'a>),
+    Bytes(&'a [u8]),
     Absent,
 }
 
 pub const FIRST_IMAGE: File<'static> = File::Changed(59, &[]);
 
-/// An image: threads with their PC and SP, the code at 200 of a section of one page, and a writable section, with its
-/// address, its size and its stored bytes.
+/// An image: threads with their PC and SP, a section at 200 of one page, or of more where its stored code is longer, and a
+/// writable section, with its address, its size and its stored bytes.
 #[derive(Clone, Copy)]
 pub struct Image<'a> {
     pub threads: &'a [(u32, u32)],
@@ -80,7 +81,8 @@ fn change(bytes: &mut [u8], changes: &[(usize, u8)]) {
     }
 }
 
-fn push_longwords(bytes: &mut Vec<u8>, longwords: &[u32]) -> Result<(), AllocError> {
+/// Appends longwords.
+pub fn push_longwords(bytes: &mut Vec<u8>, longwords: &[u32]) -> Result<(), AllocError> {
     for longword in longwords {
         bytes.extend_from_slice(&longword.to_le_bytes())?;
     }
@@ -96,7 +98,15 @@ fn file_of(alloc: Global, image: Image) -> Result<Vec<u8>, AllocError> {
     for (pc, sp) in image.threads {
         push_longwords(&mut bytes, &[*pc, *sp])?;
     }
-    push_longwords(&mut bytes, &[0x200, 512, low(image.code.len()), 0])?;
+    push_longwords(
+        &mut bytes,
+        &[
+            0x200,
+            low(image.code.len().max(512)),
+            low(image.code.len()),
+            0,
+        ],
+    )?;
     push_longwords(
         &mut bytes,
         &[image.at, image.size, low(image.data.len()), 1],
@@ -117,6 +127,7 @@ fn bytes_of(alloc: Global, file: File) -> Result<Option<Vec<u8>>, AllocError> {
             Ok(Some(bytes))
         }
         File::Of(image) => Ok(Some(file_of(alloc, image)?)),
+        File::Bytes(bytes) => Ok(Some(bytes.to_vec(alloc)?)),
     }
 }
 
@@ -156,6 +167,17 @@ pub fn call<R: Threads + Wait + Sync + AllocGlobal>(
     file: File,
     outside: Outside,
 ) -> Result<Left, AllocError> {
+    call_through(rt, line, file, outside, &OpenGate)
+}
+
+/// The same, with a gate before the memory.
+pub fn call_through<R: Threads + Wait + Sync + AllocGlobal, G: Gate + Sync>(
+    rt: &R,
+    line: &str,
+    file: File,
+    outside: Outside,
+    gate: &G,
+) -> Result<Left, AllocError> {
     let alloc = rt.alloc();
     let words = words_of(alloc, line)?;
     let mut desk = desk_of(
@@ -175,7 +197,7 @@ pub fn call<R: Threads + Wait + Sync + AllocGlobal>(
         &mut input,
         &mut out,
         &mut report,
-        &OpenGate,
+        gate,
         &mut kept,
     );
     Ok(Left {

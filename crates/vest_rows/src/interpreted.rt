@@ -1,7 +1,12 @@
 // Runs whose instructions are interpreted, in part or whole: one thread.
-use crate::call::{File, Image, ONE_THREAD, Outside, call, is_left, lines_of, run_one};
+use crate::call::{
+    File, Image, Left, ONE_THREAD, Outside, call, is_left, lines_of, push_longwords, run_one,
+};
 use memory_core::Kind;
+use std::alloc::AllocError;
+use std::sync::Wait;
 use std::test::Fail;
+use std::thread::Threads;
 use vest_cli::Status;
 
 #[test]
@@ -14,7 +19,7 @@ fn exits(rt: HostRuntime) -> Result<(), Fail> {
             ],
             0x37,
         ),
-        // MOVAB @#220,R0; JMP (R0); at 209 ADDL.. over two NOPs, MOVL #3,R0; and at 220 a BRB back to 20D
+        // MOVAB @#220,R1; a BEQL that isn't taken; JMP (R1); and at 220 a BRB back to MOVL #3,R0 at 20D
         (
             &[
                 0x9e, 0x9f, 0x20, 2, 0, 0, 0x51, 0x13, 4, 0x17, 0x61, 1, 1, 0xd0, 3, 0x50, 0xbc, 1,
@@ -162,7 +167,7 @@ fn raises(rt: HostRuntime) -> Result<(), Fail> {
             "thread 0 exception 20 address 00001200 intent 1 pc 0000020C psl 03C00000",
             &[(0, 0xeedd), (1, 0x11ff), (14, 0x1200)],
         ),
-        // BRB to itself can't be tried so: this one goes to a page that the image lacks
+        // JMP to a page that the image lacks
         (
             &[0x17, 0x9f, 0, 4, 0, 0],
             0x1200,
@@ -238,7 +243,7 @@ fn copies_input(rt: HostRuntime) -> Result<(), Fail> {
     Ok(())
 }
 
-// The last byte below 80000000, and the first above it: MOVW R0 to 7FFFFFFF.
+// MOVW R0 to 7FFFFFFF, the last address: the byte behind it is never allowed.
 #[test]
 fn raises_at_the_highest_page(rt: HostRuntime) -> Result<(), Fail> {
     let image = Image {
@@ -250,5 +255,45 @@ fn raises_at_the_highest_page(rt: HostRuntime) -> Result<(), Fail> {
     let line = "thread 0 exception 20 address 80000000 intent 1 pc 00000200 psl 03C00000";
     let report = lines_of(rt.alloc(), line, &[(14, 0x1200)])?;
     assert!(rt; is_left(&left, Status::Exception, &[], report.as_str()));
+    Ok(())
+}
+
+// So many NOPs, from 200 to the end of their section.
+fn run_nops<R: Threads + Wait + Sync + AllocGlobal>(
+    rt: &R,
+    count: usize,
+) -> Result<Left, AllocError> {
+    let code = vec![in rt.alloc(); 1u8; count]?;
+    let image = Image {
+        code: &code,
+        at: 0x10000,
+        ..ONE_THREAD
+    };
+    call(rt, "run x", File::Of(image), Outside::Sound)
+}
+
+#[test]
+fn refuses_a_long_flow(rt: HostRuntime) -> Result<(), Fail> {
+    let left = run_nops(&rt, 32_769)?;
+    assert!(rt; is_left(&left, Status::Refused, &[], "refused flow 1 32769\n"));
+    let left = run_nops(&rt, 32_768)?;
+    let line = "thread 0 exception 20 address 00008200 intent 0 pc 00008200 psl 03C00000";
+    let report = lines_of(rt.alloc(), line, &[(14, 0x1200)])?;
+    assert!(rt; is_left(&left, Status::Exception, &[], report.as_str()));
+    Ok(())
+}
+
+// An image of version 2, whose thread starts with 41 in R0: PUT and EXIT.
+#[test]
+fn starts_with_registers(rt: HostRuntime) -> Result<(), Fail> {
+    let mut file = b"VXIM".to_vec(rt.alloc())?;
+    file.extend_from_slice(&[2, 0, 1, 0, 2, 0, 0, 0])?;
+    push_longwords(&mut file, &[0x200, 0x1200, 0x41])?;
+    push_longwords(&mut file, &[0; 13])?;
+    push_longwords(&mut file, &[0x200, 512, 4, 0, 0x1000, 512, 0, 1])?;
+    file.extend_from_slice(&[0xbc, 2, 0xbc, 1])?;
+    assert_eq!(rt; file.len(), 112);
+    let left = call(&rt, "run x", File::Bytes(&file), Outside::Sound)?;
+    assert!(rt; is_left(&left, Status::Ok, &[0x41], "thread 0 exit 00000041\n"));
     Ok(())
 }

@@ -1,8 +1,10 @@
 // Images of several threads.
-use crate::call::{File, Image, ONE_THREAD, Outside, call, is_left};
+use crate::call::{File, Image, ONE_THREAD, Outside, call, call_through, is_left};
 use memory_core::{Entry, Kind};
+use std::sync::atomic::{AtomicBool, Ordering};
 use std::test::Fail;
 use vest_cli::Status;
+use vt_outside::Gate;
 
 // Two threads that each add 1 to the word at 1000 a hundred times: MOVL #64,R2; ADAWI #1,@#1000; SOBGTR R2 to the ADAWI.
 #[test]
@@ -94,5 +96,77 @@ fn reports_all_threads(rt: HostRuntime) -> Result<(), Fail> {
     let report =
         "thread 0 exit 00000000\nthread 1 exception 10 pc 00000200 psl 03C00000\nregisters 00000000 00000000 00000000 00000000 00000000 00000000 00000000 00000000 00000000 00000000 00000000 00000000 00000000 00000000 00001180\nthread 2 exit 00000002\n";
     assert!(rt; is_left(&left, Status::Exception, &[], report));
+    Ok(())
+}
+
+// A hold of one processor's access until another comes to one of its own, each told by its number.
+#[derive(Drop)]
+struct Hold {
+    held: (u8, u64),
+    until: (u8, u64),
+    came: AtomicBool,
+    released: AtomicBool,
+}
+
+// The most turns of a hold.
+const MOST_TURNS: u32 = 100_000_000;
+
+impl Hold {
+    fn new(held: (u8, u64), until: (u8, u64)) -> Hold {
+        Hold {
+            held,
+            until,
+            came: AtomicBool::new(false),
+            released: AtomicBool::new(false),
+        }
+    }
+
+    fn before(&self, access: (u8, u64)) {
+        if access == self.until {
+            self.came.store(true, Ordering::SeqCst);
+        }
+        if access == self.held {
+            for _ in 0..MOST_TURNS {
+                if self.came.load(Ordering::SeqCst) {
+                    self.released.store(true, Ordering::SeqCst);
+                    return;
+                }
+            }
+        }
+    }
+}
+
+#[derive(Drop)]
+struct Holds([Hold; 2]);
+
+impl Gate for Holds {
+    fn before(&self, processor: u8, number: u64) {
+        for hold in &self.0 {
+            hold.before((processor, number));
+        }
+    }
+}
+
+// Each of two threads makes R0 32 times its number, and writes its low byte at 1000 + R0 and at 1010 + R0. The first access
+// of thread 0 waits for the second of thread 1, which waits for the second of thread 0: no order of whole threads, and no
+// single thread that makes all accesses, gets through both holds.
+#[test]
+fn runs_threads_at_once(rt: HostRuntime) -> Result<(), Fail> {
+    let image = Image {
+        threads: &[(0x200, 0x1200), (0x200, 0x1200)],
+        code: &[
+            0xbc, 4, 0xc4, 0x20, 0x50, 0x90, 0x50, 0xe0, 0, 0x10, 0, 0, 0x90, 0x50, 0xe0, 0x10,
+            0x10, 0, 0, 0xbc, 1,
+        ],
+        ..ONE_THREAD
+    };
+    let gate = Holds([Hold::new((0, 0), (1, 1)), Hold::new((1, 1), (0, 1))]);
+    let left = call_through(&rt, "run x", File::Of(image), Outside::Sound, &gate)?;
+    let report = "thread 0 exit 00000000\nthread 1 exit 00000020\n";
+    assert!(rt; is_left(&left, Status::Ok, &[], report));
+    for hold in &gate.0 {
+        assert!(rt; hold.released.load(Ordering::SeqCst));
+    }
+    assert_eq!(rt; (of(&left.history, 0), of(&left.history, 1)), (2, 2));
     Ok(())
 }
