@@ -1,10 +1,3 @@
-pub mod Agrees
-pub mod Accesses
-pub mod Stepped
-pub mod Places
-pub mod Reading
-pub mod Commits
-pub mod Writing
 pub mod Spelled
 pub mod Plain
 pub mod Covered

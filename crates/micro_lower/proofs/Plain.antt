@@ -18,12 +18,13 @@ use Rattle.micro_ops.specs.Values.{value_from}
 use Rattle.micro_ops.specs.declared.codes.CodeSources.{CodeSources}
 use Rattle.micro_ops.specs.declared.program.Micro.{Micro}
 use Rattle.micro_ops.specs.Sources.{sources_of}
-use Rattle.micro_lower.specs.Lowering.{service, Lowers}
+use Rattle.micro_lower.specs.Lowering.{Lowers}
+use Rattle.operand_programs.specs.Pieces.{service}
 use Rattle.micro_ops.specs.Leaving.{CodesComeFrom}
 use Rattle.micro_lower.specs.Programs.{no_operation_program, breakpoint_program, branch_program, branch_if_program, subroutine_program, return_program}
 use Rattle.micro_lower.proofs.Spelled.{with_operands}
-use Rattle.micro_lower.proofs.Agrees.{Agrees, agreed, held}
-use Rattle.micro_lower.proofs.Accesses.{reads_agree, writes_agree, register_below}
+use Rattle.operand_programs.proofs.Agrees.{Agrees, agreed, held}
+use Rattle.operand_programs.proofs.Accesses.{reads_agree, writes_agree, register_below}
 use Rattle.std.proofs.Math.Nat.{mod-eq_of_lt}
 use Rattle.std.proofs.lemmas.Bool.{cases_lt}
 use Rattle.std.proofs.lemmas.Nat.{mod_below}

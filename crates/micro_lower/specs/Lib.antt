@@ -1,4 +1,2 @@
 pub mod Lowering
 pub mod Programs
-pub mod Specifiers
-pub mod Pieces

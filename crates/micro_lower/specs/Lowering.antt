@@ -2,12 +2,11 @@
 -- come from where it leaves, and it fits a block.
 use Rattle.std.specs.Prelude.{◌≡◌, ℕ, true, List}
 use Rattle.vax_form.specs.State.{IsState}
-use Rattle.vax_form.specs.Tree.{Tree, instruction_tree, Same}
+use Rattle.vax_form.specs.Tree.{Same}
 use Rattle.vax_form.specs.declared.instr.Instr.{Instr}
 use Rattle.vax_form.specs.declared.operation.Operation.{Operation}
 use Rattle.vax_form.specs.declared.pages.Pages.{Pages}
 use Rattle.vax_form.specs.declared.state.VaxState.{VaxState}
-use Rattle.vax_meaning.specs.Control.{serve}
 use Rattle.vax_meaning.specs.Instructions.{tree_for}
 use Rattle.micro_ops.specs.Fits.{fits}
 use Rattle.micro_ops.specs.Leaving.{CodesAgree}
@@ -15,10 +14,7 @@ use Rattle.micro_ops.specs.Meaning.{program_tree}
 use Rattle.micro_ops.specs.Sources.{sources_of}
 use Rattle.micro_ops.specs.declared.codes.CodeSources.{CodeSources}
 use Rattle.micro_ops.specs.declared.program.Micro.{Micro}
-
--- what a service does
-abbrev pub service : Pages → (thread : ℕ) → (code : ℕ) → VaxState → Tree
-service pages thread code state = instruction_tree pages (serve code thread) state
+use Rattle.operand_programs.specs.Pieces.{service}
 
 -- the program does what the instruction does, from every state
 abbrev pub Means : Instr → List Micro → Type 0

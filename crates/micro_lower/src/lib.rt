@@ -3,10 +3,8 @@
 #![tactic(auto)]
 
 mod branches;
-mod specifiers;
 
 pub use branches::lower_operation;
-pub use specifiers::{Pointer, Steps, put_place, put_read, put_store};
 
 #[cfg(test)]
 mod tests;

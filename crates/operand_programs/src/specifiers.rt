@@ -1,7 +1,7 @@
 ghost use Rattle.std.specs.Prelude.{◌≡◌, ◌≤◌, ◌++◌, [], IfOk, OnOk, ◌*◌, length, slice_index, All, ◌<◌};
 ghost use Rattle.vax_form.specs.Size.{bytes_of};
-ghost use Rattle.micro_lower.specs.Specifiers.{with_step, steps_behind, pointer_of, sum_into, address_program, scaled, index_program, place_program, steps_behind_operand, upper_half_program, register_program, read_program, store_program};
-ghost use Rattle.micro_lower.specs.Pieces.{IsReadable, Evaluates, Stores};
+ghost use Rattle.operand_programs.specs.Specifiers.{with_step, steps_behind, pointer_of, sum_into, address_program, scaled, index_program, place_program, steps_behind_operand, upper_half_program, register_program, read_program, store_program};
+ghost use Rattle.operand_programs.specs.Pieces.{IsReadable, Evaluates, Stores};
 
 use micro_ops::{Arg, Micro, MicroOp};
 use std::alloc::AllocError;

@@ -2,7 +2,7 @@
 use Rattle.std.proofs.Common.{◌≡◌, ℕ, zero, suc, ◌+◌, ◌%◌, ◌^◌, List, [], ◌∷◌, length, get_or, set, refl, ap, ◌∙◌, arith}
 use Rattle.vax_form.specs.State.{register, with_register, with_core}
 use Rattle.vax_form.specs.declared.state.VaxState.{VaxState}
-use Rattle.micro_lower.specs.Specifiers.{stepped_registers, stepped, with_step}
+use Rattle.operand_programs.specs.Specifiers.{stepped_registers, stepped, with_step}
 
 pub register_of_stepped : (r steps : List ℕ) (number : ℕ) → length steps ≡ length r
     → get_or (stepped_registers r steps) number 0 ≡ (get_or r number 0 + get_or steps number 0) % 2 ^ 32

@@ -20,11 +20,11 @@ use Rattle.micro_ops.specs.declared.program.Micro.{Micro}
 use Rattle.micro_ops.specs.declared.program.Micro.TheVariants.{Compute, Probe, Read}
 use Rattle.micro_ops.specs.declared.program.MicroOp.TheVariants as ops
 use Rattle.micro_ops.specs.declared.program.Arg.TheVariants.{Temp}
-use Rattle.micro_lower.specs.Specifiers.{sum_into, address_program, scaled, index_program, place_program, pointer_of, steps_behind, stepped, with_step}
-pub use Rattle.micro_lower.specs.Pieces.{Kept, with_temps, IsLong}
-use Rattle.micro_lower.specs.Pieces.{Agrees}
-use Rattle.micro_lower.proofs.Accesses.{reads_agree}
-use Rattle.micro_lower.proofs.Stepped.{register_stepped, with_register_stepped, twice}
+use Rattle.operand_programs.specs.Specifiers.{sum_into, address_program, scaled, index_program, place_program, pointer_of, steps_behind, stepped, with_step}
+pub use Rattle.operand_programs.specs.Pieces.{Kept, with_temps, IsLong}
+use Rattle.operand_programs.specs.Pieces.{Agrees}
+use Rattle.operand_programs.proofs.Accesses.{reads_agree}
+use Rattle.operand_programs.proofs.Stepped.{register_stepped, with_register_stepped, twice}
 
 pub eqb_same : (n : ℕ) → eqb n n ≡ true
 eqb_same n = elim (eqb_tells n n) [ inl is ↦ is.0 | inr not ↦ absurd (not.1 refl) ]

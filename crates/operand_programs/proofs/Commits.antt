@@ -8,8 +8,8 @@ use Rattle.vax_form.specs.Tree.{Tree}
 use Rattle.micro_ops.specs.Meaning.{Left, Temps, Found, Standing, course_of}
 use Rattle.micro_ops.specs.Values.{value_from}
 use Rattle.micro_ops.specs.declared.program.Micro.{Micro}
-use Rattle.micro_lower.specs.Specifiers.{stepped_registers, commit_program}
-use Rattle.micro_lower.specs.Pieces.{Agrees}
+use Rattle.operand_programs.specs.Specifiers.{stepped_registers, commit_program}
+use Rattle.operand_programs.specs.Pieces.{Agrees}
 
 sum_wrapped : (value step : ℕ) → (value % 4294967296 + step % 4294967296) % 4294967296 % 4294967296 ≡ (value + step) % 4294967296
 sum_wrapped value step = omega arith

@@ -13,12 +13,12 @@ use Rattle.vax_meaning.specs.declared.operands.Location.{Location}
 use Rattle.vax_meaning.specs.declared.operands.Location.TheVariants.{InMemory, InRegister}
 use Rattle.micro_ops.specs.Meaning.{Left, Temps, Found, Standing, with_value, course_of}
 use Rattle.micro_ops.specs.declared.program.Micro.{Micro}
-use Rattle.micro_lower.specs.Specifiers.{stepped, steps_behind_operand, locate_program, modify_program, store_program}
-use Rattle.micro_lower.specs.Pieces.{Agrees, Stores, leaving}
+use Rattle.operand_programs.specs.Specifiers.{stepped, steps_behind_operand, locate_program, modify_program, store_program}
+use Rattle.operand_programs.specs.Pieces.{Agrees, Stores, leaving}
 use Rattle.micro_ops.specs.Leaving.{CodesComeFrom}
-use Rattle.micro_lower.proofs.Accesses.{reads_agree, writes_agree}
-use Rattle.micro_lower.proofs.Places.{Kept, with_temps, IsLong, place_agrees}
-use Rattle.micro_lower.proofs.Reading.{some_bytes}
+use Rattle.operand_programs.proofs.Accesses.{reads_agree, writes_agree}
+use Rattle.operand_programs.proofs.Places.{Kept, with_temps, IsLong, place_agrees}
+use Rattle.operand_programs.proofs.Reading.{some_bytes}
 
 -- an operand that has a place
 abbrev pub IsLocated : Operand → Type 0

@@ -21,12 +21,12 @@ use Rattle.micro_ops.specs.Meaning.{Left, Found, Standing, with_temp, with_value
 use Rattle.micro_ops.specs.Values.{value_from}
 use Rattle.micro_ops.specs.declared.program.Micro.{Micro}
 use Rattle.micro_ops.specs.declared.program.Micro.TheVariants.{Probe, Read}
-use Rattle.micro_lower.specs.Specifiers.{stepped, steps_behind_operand, read_program}
-use Rattle.micro_lower.specs.Pieces.{Agrees, IsReadable, GoesOnWith, Evaluates, leaving}
+use Rattle.operand_programs.specs.Specifiers.{stepped, steps_behind_operand, read_program}
+use Rattle.operand_programs.specs.Pieces.{Agrees, IsReadable, GoesOnWith, Evaluates, leaving}
 use Rattle.micro_ops.specs.Leaving.{CodesComeFrom}
-use Rattle.micro_lower.proofs.Accesses.{reads_agree}
-use Rattle.micro_lower.proofs.Stepped.{register_stepped}
-use Rattle.micro_lower.proofs.Places.{with_temps, eqb_same, sum_course, place_agrees}
+use Rattle.operand_programs.proofs.Accesses.{reads_agree}
+use Rattle.operand_programs.proofs.Stepped.{register_stepped}
+use Rattle.operand_programs.proofs.Places.{with_temps, eqb_same, sum_course, place_agrees}
 
 pub some_bytes : (size : Size) → 0 < bytes_of size
 some_bytes Byte = lit< tt

@@ -14,7 +14,7 @@ use Rattle.vax_form.specs.declared.pages.Pages.{Pages}
 use Rattle.vax_form.specs.declared.state.VaxState.{VaxState}
 use Rattle.vax_meaning.specs.Memory.{read, write}
 use Rattle.micro_ops.specs.Course.{Course, read_parts, write_parts}
-use Rattle.micro_lower.specs.Pieces.{Agrees}
+use Rattle.operand_programs.specs.Pieces.{Agrees}
 
 -- two parts together have no more bits than both have
 pub joined_below : (low high front count : ℕ) → front < count → low < 2 ^ (8 * front) → high < 2 ^ (8 * (count - front)) → low + high * 2 ^ (8 * front) < 2 ^ (8 * count)

@@ -2,7 +2,7 @@
 use Rattle.std.specs.Prelude.{◌≡◌, ℕ, ◌*◌, ◌^◌, ◌<◌, ◌==◌, false, List, ◌++◌, length}
 use Rattle.vax_form.specs.Size.{bytes_of}
 use Rattle.vax_form.specs.State.{Answers}
-use Rattle.vax_form.specs.Tree.{Tree, Same, tree_of}
+use Rattle.vax_form.specs.Tree.{Tree, Same, instruction_tree, tree_of}
 use Rattle.vax_form.specs.Tree as trees
 use Rattle.vax_form.specs.declared.instr.Access.TheVariants as accesses
 use Rattle.vax_form.specs.declared.instr.Base.{Base}
@@ -21,8 +21,8 @@ use Rattle.micro_ops.specs.Meaning.{Left, Temps, Found, Standing, course_of, dep
 use Rattle.micro_ops.specs.declared.codes.CodeSources.{CodeSources}
 use Rattle.micro_ops.specs.declared.program.Micro.{Micro}
 use Rattle.micro_ops.specs.Leaving.{CodesComeFrom}
-use Rattle.micro_lower.specs.Lowering.{service}
-use Rattle.micro_lower.specs.Specifiers.{stepped, steps_behind_operand}
+use Rattle.vax_meaning.specs.Control.{serve}
+use Rattle.operand_programs.specs.Specifiers.{stepped, steps_behind_operand}
 
 -- the course has the checks, references and ends of the tree, and the fact holds wherever it leaves
 abbrev pub Agrees : {A : Type 0} → (A → Type 0) → (A → Tree) → Course A → Tree → Type 0
@@ -57,6 +57,10 @@ IsReadable (operands.Target address) = ⊥
 abbrev pub GoesOnWith : (Left → Type 0) → (Left → Tree) → List Micro → Found → Standing → Size → (to place : ℕ) → (Evaluated → Tree) → Type 0
 GoesOnWith P end program found standing size to place rest = (value : ℕ) (temps : Temps) → value < 2 ^ (8 * bytes_of size) → temps to ≡ value → Kept to place standing.temps temps
     → Agrees P end (course_of program found (with_temps temps standing)) (rest (record { location = InMemory 0; value = value }))
+
+-- what a service does
+abbrev pub service : Pages → (thread : ℕ) → (code : ℕ) → VaxState → Tree
+service pages thread code state = instruction_tree pages (serve code thread) state
 
 -- how an instruction goes on where its program leaves
 abbrev pub leaving : Pages → (thread : ℕ) → Left → Tree

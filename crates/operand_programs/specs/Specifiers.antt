@@ -15,7 +15,7 @@ use Rattle.micro_ops.specs.declared.program.Arg.TheVariants.{Temp, Register, Con
 use Rattle.micro_ops.specs.declared.program.Micro.{Micro}
 use Rattle.micro_ops.specs.declared.program.Micro.TheVariants.{Compute, Probe, Read, Write, Commit}
 use Rattle.micro_ops.specs.declared.program.MicroOp.TheVariants as ops
-use Rattle.micro_lower.specs.declared.specifiers.Pointer.{Pointer}
+use Rattle.operand_programs.specs.declared.specifiers.Pointer.{Pointer}
 
 -- the registers, each with what was added to it
 abbrev pub stepped_registers : (r steps : List ℕ) → List ℕ

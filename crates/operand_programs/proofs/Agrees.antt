@@ -1,5 +1,5 @@
 -- A course does what a tree does, with a fact at each place where it leaves.
-pub use Rattle.micro_lower.specs.Pieces.{Agrees}
+pub use Rattle.operand_programs.specs.Pieces.{Agrees}
 use Rattle.vax_form.specs.Tree.{Tree, Same}
 use Rattle.vax_form.specs.Tree as trees
 use Rattle.micro_ops.specs.Course.{Course, Check, Ask, Fault, Leaves, continued, AtLeaves}

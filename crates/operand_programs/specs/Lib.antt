@@ -1,0 +1,2 @@
+pub mod Specifiers
+pub mod Pieces
