@@ -5,3 +5,5 @@ pub mod Places
 pub mod Reading
 pub mod Commits
 pub mod Writing
+pub mod Evaluating
+pub mod Finishing

@@ -15,15 +15,15 @@ use Rattle.vax_form.specs.declared.instr.Size.TheVariants.{Byte, Word, Long, Qua
 use Rattle.vax_form.specs.declared.pages.Pages.{Pages}
 use Rattle.vax_form.specs.declared.state.VaxState.{VaxState}
 use Rattle.vax_meaning.specs.Evaluation.{evaluate, find, obtain, read_found}
-use Rattle.vax_meaning.specs.Operands.{locate}
+use Rattle.vax_meaning.specs.Memory.{low_bytes}
+use Rattle.vax_meaning.specs.Operands.{locate, register_value}
 use Rattle.vax_meaning.specs.declared.evaluation.Evaluated.{Evaluated}
-use Rattle.micro_ops.specs.Meaning.{Left, Found, Standing, with_temp, with_value, course_of}
+use Rattle.micro_ops.specs.Meaning.{Left, Temps, Found, Standing, with_temp, with_value, course_of}
 use Rattle.micro_ops.specs.Values.{value_from}
 use Rattle.micro_ops.specs.declared.program.Micro.{Micro}
 use Rattle.micro_ops.specs.declared.program.Micro.TheVariants.{Probe, Read}
-use Rattle.operand_programs.specs.Specifiers.{stepped, steps_behind_operand, read_program}
-use Rattle.operand_programs.specs.Pieces.{Agrees, IsReadable, GoesOnWith, Evaluates, leaving}
-use Rattle.micro_ops.specs.Leaving.{CodesComeFrom}
+use Rattle.operand_programs.specs.Specifiers.{stepped, steps_behind_operand, register_program, read_program}
+use Rattle.operand_programs.specs.Pieces.{Agrees, IsReadable, GoesOnWith, Kept}
 use Rattle.operand_programs.proofs.Accesses.{reads_agree}
 use Rattle.operand_programs.proofs.Stepped.{register_stepped}
 use Rattle.operand_programs.proofs.Places.{with_temps, eqb_same, sum_course, place_agrees}
@@ -40,6 +40,42 @@ again value bytes = mod-eq_of_lt (mod_below value (2 ^ (8 * bytes)) (pow_pos (8 
 pair : (low high : ℕ) → (low % 18446744073709551616 + high % 18446744073709551616 * 4294967296 % 18446744073709551616 % 18446744073709551616) % 18446744073709551616 ≡ (low + high * 4294967296) % 18446744073709551616
 pair low high = omega arith
 
+-- what a register holds, at its size
+abbrev pub value_in : (number : ℕ) → Size → (steps : List ℕ) → VaxState → ℕ
+value_in n size steps state = low_bytes (bytes_of size) (register_value n (bytes_of size) (stepped steps state))
+
+pub value_in_below : (number : ℕ) (size : Size) (steps : List ℕ) (state : VaxState) → value_in number size steps state < 2 ^ (8 * bytes_of size)
+value_in_below n size steps state = mod_below _ (2 ^ (8 * bytes_of size)) (pow_pos (8 * bytes_of size))
+
+-- what goes on behind a register that was read
+abbrev pub GoesOnAfter : (Left → Type 0) → (Left → Tree) → List Micro → Found → Standing → (to place value : ℕ) → Tree → Type 0
+GoesOnAfter P end program found standing to place value tree = (temps : Temps) → temps to ≡ value → Kept to place standing.temps temps
+    → Agrees P end (course_of program found (with_temps temps standing)) tree
+
+pub register_agrees : (P : Left → Type 0) (end : Left → Tree) (program : List Micro) (found : Found) (standing : Standing) (to place n : ℕ) (size : Size) (steps : List ℕ) (tree : Tree)
+    → length steps ≡ length found.state.r → eqb to 4 ≡ false
+    → GoesOnAfter P end program found standing to place (value_in n size steps found.state) tree
+    → Agrees P end (course_of (register_program n size steps to ++ program) found standing) tree
+unfolding value_from
+register_agrees P end program found standing to place n Byte steps tree same other goes =
+    let v = (register n found.state + get_or steps n 0) % 2 ^ 32 in
+    rw (sum_course to (Some n) (get_or steps n 0) _ found standing)
+    (goes _ (rw (eqb_same to, register_stepped found.state steps n same, again v 1) refl) (λ temp a b c. rw a refl))
+register_agrees P end program found standing to place n Word steps tree same other goes =
+    let v = (register n found.state + get_or steps n 0) % 2 ^ 32 in
+    rw (sum_course to (Some n) (get_or steps n 0) _ found standing)
+    (goes _ (rw (eqb_same to, register_stepped found.state steps n same, again v 2) refl) (λ temp a b c. rw a refl))
+register_agrees P end program found standing to place n Long steps tree same other goes =
+    let v = (register n found.state + get_or steps n 0) % 2 ^ 32 in
+    rw (sum_course to (Some n) (get_or steps n 0) _ found standing)
+    (goes (with_temp to v standing.temps) (rw (eqb_same to, register_stepped found.state steps n same, again (register n found.state + get_or steps n 0) 4, again (register n found.state + get_or steps n 0) 4) refl) (λ temp a b c. rw a refl))
+register_agrees P end program found standing to place n Quad steps tree same other goes =
+    let m = min (n + 1) 255 in
+    let low = (register n found.state + get_or steps n 0) % 2 ^ 32 in
+    let high = (register m found.state + get_or steps m 0) % 2 ^ 32 in
+    rw (sum_course to (Some n) (get_or steps n 0) _ found standing, sum_course 4 (Some m) (get_or steps m 0) _ found (with_value to low standing))
+    (goes _ (rw (eqb_same to, other, register_stepped found.state steps n same, register_stepped found.state steps m same) (pair low high)) (λ temp a b c. rw (a, c) refl))
+
 pub read_agrees : (P : Left → Type 0) (end : Left → Tree) (pages : Pages) (program : List Micro) (found : Found) (standing : Standing) (to place : ℕ)
     (operand : Operand) (size : Size) (steps : List ℕ) (rest : Evaluated → VaxState → Tree)
     → length steps ≡ length found.state.r → IsReadable operand → eqb place 4 ≡ false → eqb to 4 ≡ false
@@ -49,24 +85,9 @@ pub read_agrees : (P : Left → Type 0) (end : Left → Tree) (pages : Pages) (p
 unfolding find obtain read_found locate value_from
 read_agrees P end pages program found standing to place (Value value) size steps rest same readable apart other goes =
     goes (value % 2 ^ (8 * bytes_of size)) (with_temp to (value % 2 ^ (8 * bytes_of size)) standing.temps) (mod_below value _ (pow_pos (8 * bytes_of size))) (rw (eqb_same to) refl) (λ temp a b c. rw a refl)
-read_agrees P end pages program found standing to place (Register n) Byte steps rest same readable apart other goes =
-    let v = (register n found.state + get_or steps n 0) % 2 ^ 32 in
-    rw (sum_course to (Some n) (get_or steps n 0) _ found standing, register_stepped found.state steps n same, again v 1)
-    (goes (v % 256) _ (mod_below v 256 (lit< tt)) (rw (eqb_same to) refl) (λ temp a b c. rw a refl))
-read_agrees P end pages program found standing to place (Register n) Word steps rest same readable apart other goes =
-    let v = (register n found.state + get_or steps n 0) % 2 ^ 32 in
-    rw (sum_course to (Some n) (get_or steps n 0) _ found standing, register_stepped found.state steps n same, again v 2)
-    (goes (v % 65536) _ (mod_below v 65536 (lit< tt)) (rw (eqb_same to) refl) (λ temp a b c. rw a refl))
-read_agrees P end pages program found standing to place (Register n) Long steps rest same readable apart other goes =
-    let v = (register n found.state + get_or steps n 0) % 2 ^ 32 in
-    rw (sum_course to (Some n) (get_or steps n 0) _ found standing, register_stepped found.state steps n same, again (register n found.state + get_or steps n 0) 4, again (register n found.state + get_or steps n 0) 4)
-    (goes v (with_temp to v standing.temps) (mod_below _ (2 ^ 32) (lit< tt)) (rw (eqb_same to) refl) (λ temp a b c. rw a refl))
-read_agrees P end pages program found standing to place (Register n) Quad steps rest same readable apart other goes =
-    let m = min (n + 1) 255 in
-    let low = (register n found.state + get_or steps n 0) % 2 ^ 32 in
-    let high = (register m found.state + get_or steps m 0) % 2 ^ 32 in
-    rw (sum_course to (Some n) (get_or steps n 0) _ found standing, sum_course 4 (Some m) (get_or steps m 0) _ found (with_value to low standing), register_stepped found.state steps n same, register_stepped found.state steps m same)
-    (goes ((low + high * 4294967296) % 2 ^ 64) _ (mod_below _ (2 ^ 64) (lit< tt)) (rw (eqb_same to, other) (pair low high)) (λ temp a b c. rw (a, c) refl))
+read_agrees P end pages program found standing to place (Register n) size steps rest same readable apart other goes =
+    register_agrees P end program found standing to place n size steps _ same other
+    (λ temps at kept. goes (value_in n size steps found.state) temps (value_in_below n size steps found.state) at kept)
 read_agrees P end pages program found standing to place (Place base index) size steps rest same readable apart other goes =
     rw append_assoc (place_agrees P end pages (Probe place (bytes_of size) false ∷ Read to place (bytes_of size) ∷ program) found standing place to base index size steps _ same readable apart
     (λ address temps below is kept. rw is (
@@ -79,10 +100,5 @@ read_agrees P end pages program found standing to place (Place base index) size 
 read_agrees P end pages program found standing to place Unused size steps rest same readable apart other goes = absurd readable
 read_agrees P end pages program found standing to place (Target address) size steps rest same readable apart other goes = absurd readable
 
-below_4 : (n : ℕ) → n < 4 → eqb n 4 ≡ false
+pub below_4 : (n : ℕ) → n < 4 → eqb n 4 ≡ false
 below_4 n lt = elim (eqb_tells n 4) [ inl is ↦ absurd (omega (arith, lt, is.1)) | inr not ↦ not.0 ]
-
-pub evaluates : (operand : Operand) (size : Size) (steps : List ℕ) (to place : ℕ) → IsReadable operand → to < 4 → place < 4
-    → Evaluates operand size steps to place (read_program operand size steps to place)
-evaluates operand size steps to place readable to_low place_low sources start pages thread program found standing rest same goes =
-    read_agrees (CodesComeFrom sources start) (leaving pages thread) pages program found standing to place operand size steps rest same readable (below_4 place place_low) (below_4 to to_low) goes

@@ -1,5 +1,7 @@
 -- What specifiers add to the registers.
-use Rattle.std.proofs.Common.{◌≡◌, ℕ, zero, suc, ◌+◌, ◌%◌, ◌^◌, List, [], ◌∷◌, length, get_or, set, refl, ap, ◌∙◌, arith}
+use Rattle.std.proofs.Common.{◌≡◌, ℕ, zero, suc, ◌+◌, ◌%◌, ◌^◌, List, [], ◌∷◌, length, get_or, set, refl, sym, ap, ◌∙◌, arith}
+use Rattle.std.specs.Prelude.{◌≢◌}
+use Rattle.std.proofs.lemmas.List.{set_comm}
 use Rattle.vax_form.specs.State.{register, with_register, with_core}
 use Rattle.vax_form.specs.declared.state.VaxState.{VaxState}
 use Rattle.operand_programs.specs.Specifiers.{stepped_registers, stepped, with_step}
@@ -33,3 +35,19 @@ pub with_register_stepped : (state : VaxState) (steps : List ℕ) (number addend
 with_register_stepped state steps number addend same =
     ap (λ r. with_core state r state.pc state.psw)
     (ap (λ v. set (stepped_registers state.r steps) number ((v + addend) % 2 ^ 32)) (register_of_stepped state.r steps number same) ∙ stepped_further state.r steps number addend same)
+
+-- a step of a register that takes another value is no matter
+pub stepped_set : (r steps : List ℕ) (number step value : ℕ) → set (stepped_registers r (set steps number step)) number value ≡ set (stepped_registers r steps) number value
+stepped_set [] steps number step value = refl
+stepped_set (old ∷ r) [] number step value = refl
+stepped_set (old ∷ r) (s ∷ steps) zero step value = refl
+stepped_set (old ∷ r) (s ∷ steps) (suc number) step value = ap (λ vs. (old + s) % 2 ^ 32 ∷ vs) (stepped_set r steps number step value)
+
+-- the same of two registers
+pub stepped_set_two : (r steps : List ℕ) (n m a b : ℕ) → n ≢ m
+    → set (set (stepped_registers r (set (set steps n 0) m 0)) n a) m b ≡ set (set (stepped_registers r steps) n a) m b
+stepped_set_two r steps n m a b other =
+    set_comm (stepped_registers r (set (set steps n 0) m 0)) n m a b other
+    ∙ ap (λ xs. set xs n a) (stepped_set r (set steps n 0) m 0 b)
+    ∙ sym (set_comm (stepped_registers r (set steps n 0)) n m a b other)
+    ∙ ap (λ xs. set xs m b) (stepped_set r steps n 0 a)

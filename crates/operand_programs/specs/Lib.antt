@@ -1,2 +1,5 @@
 pub mod Specifiers
 pub mod Pieces
+pub mod Operands
+pub mod InOrder
+pub mod Results

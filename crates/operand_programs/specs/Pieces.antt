@@ -1,10 +1,9 @@
 -- What a piece of a program does: with whatever comes behind it, the course is that of the instruction's script.
-use Rattle.std.specs.Prelude.{◌≡◌, ℕ, ◌*◌, ◌^◌, ◌<◌, ◌==◌, false, List, ◌++◌, length}
+use Rattle.std.specs.Prelude.{◌≡◌, ℕ, ◌*◌, ◌^◌, ◌<◌, ◌==◌, false, List}
 use Rattle.vax_form.specs.Size.{bytes_of}
 use Rattle.vax_form.specs.State.{Answers}
 use Rattle.vax_form.specs.Tree.{Tree, Same, instruction_tree, tree_of}
 use Rattle.vax_form.specs.Tree as trees
-use Rattle.vax_form.specs.declared.instr.Access.TheVariants as accesses
 use Rattle.vax_form.specs.declared.instr.Base.{Base}
 use Rattle.vax_form.specs.declared.instr.Base.TheVariants.{Fixed}
 use Rattle.vax_form.specs.declared.instr.Operand.{Operand}
@@ -12,17 +11,12 @@ use Rattle.vax_form.specs.declared.instr.Operand.TheVariants as operands
 use Rattle.vax_form.specs.declared.instr.Size.{Size}
 use Rattle.vax_form.specs.declared.pages.Pages.{Pages}
 use Rattle.vax_form.specs.declared.state.VaxState.{VaxState}
-use Rattle.vax_meaning.specs.Evaluation.{evaluate}
-use Rattle.vax_meaning.specs.Operands.{store}
 use Rattle.vax_meaning.specs.declared.evaluation.Evaluated.{Evaluated}
 use Rattle.vax_meaning.specs.declared.operands.Location.TheVariants.{InMemory}
 use Rattle.micro_ops.specs.Course.{Course, Check, Ask, Fault, Leaves}
 use Rattle.micro_ops.specs.Meaning.{Left, Temps, Found, Standing, course_of, departed}
-use Rattle.micro_ops.specs.declared.codes.CodeSources.{CodeSources}
 use Rattle.micro_ops.specs.declared.program.Micro.{Micro}
-use Rattle.micro_ops.specs.Leaving.{CodesComeFrom}
 use Rattle.vax_meaning.specs.Control.{serve}
-use Rattle.operand_programs.specs.Specifiers.{stepped, steps_behind_operand}
 
 -- the course has the checks, references and ends of the tree, and the fact holds wherever it leaves
 abbrev pub Agrees : {A : Type 0} → (A → Type 0) → (A → Tree) → Course A → Tree → Type 0
@@ -65,20 +59,3 @@ service pages thread code state = instruction_tree pages (serve code thread) sta
 -- how an instruction goes on where its program leaves
 abbrev pub leaving : Pages → (thread : ℕ) → Left → Tree
 leaving pages thread left = departed (service pages thread) left.departure
-
--- the piece checks and reads an operand as the instruction does, behind specifiers that added those steps
-abbrev pub Evaluates : Operand → Size → (steps : List ℕ) → (to place : ℕ) → List Micro → Type 0
-Evaluates operand size steps to place piece = (sources : CodeSources) (start : VaxState) (pages : Pages) (thread : ℕ) (program : List Micro) (found : Found) (standing : Standing)
-    (rest : Evaluated → VaxState → Tree)
-    → length steps ≡ length found.state.r
-    → GoesOnWith (CodesComeFrom sources start) (leaving pages thread) program found standing size to place (λ evaluated. rest evaluated (stepped (steps_behind_operand operand size steps) found.state))
-    → Agrees (CodesComeFrom sources start) (leaving pages thread) (course_of (piece ++ program) found standing)
-    (tree_of pages (evaluate accesses.Read size operand) (stepped steps found.state) rest)
-
--- the piece checks and writes an operand in memory as the instruction does
-abbrev pub Stores : Size → (place from : ℕ) → List Micro → Type 0
-Stores size place from piece = (sources : CodeSources) (start : VaxState) (pages : Pages) (thread : ℕ) (program : List Micro) (found : Found) (standing : Standing)
-    (state : VaxState) (rest : Unit {0} → VaxState → Tree)
-    → Agrees (CodesComeFrom sources start) (leaving pages thread) (course_of program found standing) (rest tt state)
-    → Agrees (CodesComeFrom sources start) (leaving pages thread) (course_of (piece ++ program) found standing)
-    (tree_of pages (store (InMemory (standing.temps place)) size (standing.temps from)) state rest)

@@ -101,13 +101,14 @@ read_program (operands.Place base index) size steps to place =
 read_program operands.Unused size steps to place = []
 read_program (operands.Target address) size steps to place = []
 
--- what the specifiers added goes into the registers, from that one on
+-- what the specifiers added to a register goes into it
+abbrev pub commit_one : (number step : ℕ) → List Micro
+commit_one number step = if step == 0 then [] else Compute 5 ops.Add Long (Register number) (Const step) ∷ Commit number 5 ∷ []
+
+-- the same of all registers, from that one on
 abbrev pub commit_program : (number : ℕ) → (steps : List ℕ) → List Micro
 commit_program number [] = []
-commit_program number (step ∷ steps) =
-    if step == 0
-    then commit_program (number + 1) steps
-    else Compute 5 ops.Add Long (Register number) (Const step) ∷ Commit number 5 ∷ commit_program (number + 1) steps
+commit_program number (step ∷ steps) = commit_one number step ++ commit_program (number + 1) steps
 
 -- the address of an operand that is written, modified or used as an address
 abbrev pub locate_program : Operand → Size → (steps : List ℕ) → (place spare : ℕ) → List Micro

@@ -1,9 +1,14 @@
-//! The operands of an instruction as parts of a micro program: read, located, modified, stored.
+//! The operands of an instruction as parts of a micro program: read, located, modified, given a result, pushed, and what
+//! their specifiers add to the registers.
 #![tactic(auto)]
 
+mod operands;
+mod results;
 mod specifiers;
 
-pub use specifiers::{Pointer, Steps, put_place, put_read, put_store};
+pub use operands::{Specifier, put_operand};
+pub use results::{put_finish, put_push, put_replacement, put_result, put_steps};
+pub use specifiers::{Pointer, Steps};
 
 #[cfg(test)]
 mod tests;

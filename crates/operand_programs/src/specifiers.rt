@@ -1,7 +1,6 @@
 ghost use Rattle.std.specs.Prelude.{◌≡◌, ◌≤◌, ◌++◌, [], IfOk, OnOk, ◌*◌, length, slice_index, All, ◌<◌};
 ghost use Rattle.vax_form.specs.Size.{bytes_of};
-ghost use Rattle.operand_programs.specs.Specifiers.{with_step, steps_behind, pointer_of, sum_into, address_program, scaled, index_program, place_program, steps_behind_operand, upper_half_program, register_program, read_program, store_program};
-ghost use Rattle.operand_programs.specs.Pieces.{IsReadable, Evaluates, Stores};
+ghost use Rattle.operand_programs.specs.Specifiers.{with_step, steps_behind, pointer_of, sum_into, address_program, scaled, index_program, place_program, steps_behind_operand, upper_half_program, register_program, read_program};
 
 use micro_ops::{Arg, Micro, MicroOp};
 use std::alloc::AllocError;
@@ -20,7 +19,7 @@ pub struct Pointer {
 pub type Steps = [u32; 15];
 
 /// What was added to a register.
-fn step(steps: &Steps, number: u8) -> u32
+pub(crate) fn step(steps: &Steps, number: u8) -> u32
     ensures { result ≡ slice_index steps.now number }
 {
     if number < 15 {
@@ -31,7 +30,7 @@ fn step(steps: &Steps, number: u8) -> u32
 }
 
 /// Adds to a register.
-fn add_step(steps: &mut Steps, number: u8, addend: u32)
+pub(crate) fn add_step(steps: &mut Steps, number: u8, addend: u32)
     ensures { steps.new ≡ with_step number addend steps.old }
 {
     if number < 15 {
@@ -86,7 +85,7 @@ fn pass(base: Base, bytes: u32, steps: &mut Steps)
 }
 
 /// A computation on longwords.
-fn long(to: u8, op: MicroOp, a: Arg, b: Arg) -> Micro
+pub(crate) fn long(to: u8, op: MicroOp, a: Arg, b: Arg) -> Micro
     ensures { result ≡ Micro.Compute to op Size.Long a b }
 {
     Micro::Compute {
@@ -99,7 +98,7 @@ fn long(to: u8, op: MicroOp, a: Arg, b: Arg) -> Micro
 }
 
 /// A register plus an offset, in a temporary.
-fn sum_into(to: u8, register: Option<u8>, offset: u32) -> Micro
+pub(crate) fn sum_into(to: u8, register: Option<u8>, offset: u32) -> Micro
     ensures { result ≡ sum_into to register offset }
 {
     let offset_arg = Arg::Const(u64::from(offset));
@@ -159,7 +158,7 @@ fn put_index(
 }
 
 /// The address of an operand in memory goes into the place. The spare temporary and temporary 4 change too.
-pub fn put_place(
+pub(crate) fn put_place(
     program: &mut Vec<Micro>,
     base: Base,
     index: Option<u8>,
@@ -177,7 +176,7 @@ pub fn put_place(
 }
 
 /// The value of a register, at its size.
-fn put_register(
+pub(crate) fn put_register(
     program: &mut Vec<Micro>,
     number: u8,
     size: Size,
@@ -228,8 +227,8 @@ fn put_upper_half(
     Ok(())
 }
 
-/// The program of an operand that is read.
-fn put_operand(
+/// The value of an operand that is read goes into a temporary; its address goes into the place.
+pub(crate) fn put_read(
     program: &mut Vec<Micro>,
     operand: Operand,
     size: Size,
@@ -261,46 +260,5 @@ fn put_operand(
         }
         Operand::Unused | Operand::Target(_) => {}
     }
-    Ok(())
-}
-
-/// The value of an operand that is read goes into a temporary. Its address goes into the place, and temporary 4 changes
-/// too.
-pub fn put_read(
-    program: &mut Vec<Micro>,
-    operand: Operand,
-    size: Size,
-    steps: &mut Steps,
-    to: u8,
-    place: u8,
-) -> Result<(), AllocError>
-    requires readable { IsReadable operand }
-    requires to { to < 4 }
-    requires place { place < 4 }
-    ensures evaluates { Evaluates operand size steps.old to place (read_program operand size steps.old to place) }
-    ensures program { OnOk result (program.new.items ≡ program.old.items ++ read_program operand size steps.old to place) }
-    ensures steps { OnOk result (steps.new ≡ steps_behind_operand operand size steps.old) }
-{
-    put_operand(program, operand, size, steps, to, place)
-}
-
-/// The operand at the place is checked with write intent and written.
-#[tactic(auto, using(crate::proofs::Writing::stores))]
-pub fn put_store(
-    program: &mut Vec<Micro>,
-    size: Size,
-    place: u8,
-    from: u8,
-) -> Result<(), AllocError>
-    ensures stores { Stores size place from (store_program size place from) }
-    ensures program { OnOk result (program.new.items ≡ program.old.items ++ store_program size place from) }
-{
-    let count = size.bytes() as u8;
-    program.push(Micro::Probe {
-        place,
-        count,
-        write: true,
-    })?;
-    program.push(Micro::Write { place, count, from })?;
     Ok(())
 }

@@ -1,0 +1,283 @@
+// A result goes to memory or to a register, and what the specifiers added goes into the registers.
+ghost use Rattle.std.specs.Prelude.{◌≡◌, ◌<◌, ◌==◌, false, ◌++◌, OnOk, slice_set};
+ghost use Rattle.operand_programs.specs.Specifiers.{commit_one, commit_program, store_program};
+ghost use Rattle.operand_programs.specs.Results.{result_program, replacement_program, StoresResult, ReplacesOperand, steps_left, low_program, pair_program, give_program, IsGivable, finish_program, Finishes, CommitsSteps, steps_behind_push, push_program, Pushes};
+
+use crate::specifiers::{Steps, add_step, long, step, sum_into};
+use micro_ops::{Arg, Micro, MicroOp};
+use std::alloc::AllocError;
+use vax_form::{Operand, Size, WantOfMemory};
+
+/// The stack pointer.
+const STACK: u8 = 14;
+/// What a push adds to it.
+const BELOW: u32 = 0xFFFF_FFFC;
+/// The bits above a byte, and above a word.
+const ABOVE_BYTE: u32 = 0xFFFF_FF00;
+
+const ABOVE_WORD: u32 = 0xFFFF_0000;
+
+/// The operand at the place is checked with write intent and written.
+fn put_store(program: &mut Vec<Micro>, size: Size, place: u8, from: u8) -> Result<(), AllocError>
+    ensures { OnOk result (program.new.items ≡ program.old.items ++ store_program size place from) }
+{
+    let count = size.bytes() as u8;
+    program.push(Micro::Probe {
+        place,
+        count,
+        write: true,
+    })?;
+    program.push(Micro::Write { place, count, from })?;
+    Ok(())
+}
+
+fn append_result(
+    program: &mut Vec<Micro>,
+    operand: Operand,
+    size: Size,
+    place: u8,
+    from: u8,
+) -> Result<(), AllocError>
+    ensures { OnOk result (program.new.items ≡ program.old.items ++ result_program operand size place from) }
+{
+    match operand {
+        Operand::Place { .. } => put_store(program, size, place, from),
+        Operand::Unused | Operand::Value(_) | Operand::Register(_) | Operand::Target(_) => Ok(()),
+    }
+}
+
+/// A result for an operand in memory is checked with write intent and written; one for a register waits for the end.
+#[tactic(auto, using(crate::proofs::Writing::stores_result))]
+pub fn put_result(
+    program: &mut Vec<Micro>,
+    operand: Operand,
+    size: Size,
+    place: u8,
+    from: u8,
+) -> Result<(), WantOfMemory>
+    ensures stores { StoresResult operand size place from (result_program operand size place from) }
+    ensures program { OnOk result (program.new.items ≡ program.old.items ++ result_program operand size place from) }
+{
+    append_result(program, operand, size, place, from).map_err(|_| WantOfMemory)
+}
+
+fn append_replacement(
+    program: &mut Vec<Micro>,
+    operand: Operand,
+    size: Size,
+    place: u8,
+    from: u8,
+) -> Result<(), AllocError>
+    ensures { OnOk result (program.new.items ≡ program.old.items ++ replacement_program operand size place from) }
+{
+    if let Operand::Place { .. } = operand {
+        let count = size.bytes() as u8;
+        program.push(Micro::Write { place, count, from })?;
+    }
+    Ok(())
+}
+
+/// The same of an operand that was modified, and so was checked before.
+#[tactic(auto, using(crate::proofs::Writing::replaces_operand))]
+pub fn put_replacement(
+    program: &mut Vec<Micro>,
+    operand: Operand,
+    size: Size,
+    place: u8,
+    from: u8,
+) -> Result<(), WantOfMemory>
+    ensures replaces { ReplacesOperand operand size place from (replacement_program operand size place from) }
+    ensures program { OnOk result (program.new.items ≡ program.old.items ++ replacement_program operand size place from) }
+{
+    append_replacement(program, operand, size, place, from).map_err(|_| WantOfMemory)
+}
+
+/// What was added to one register goes into it.
+fn put_commit(program: &mut Vec<Micro>, number: u8, addend: u32) -> Result<(), AllocError>
+    ensures { OnOk result (program.new.items ≡ program.old.items ++ commit_one number addend) }
+{
+    if addend != 0 {
+        let sum = Arg::Const(u64::from(addend));
+        program.push(long(5, MicroOp::Add, Arg::Register(number), sum))?;
+        program.push(Micro::Commit {
+            register: number,
+            from: 5,
+        })?;
+    }
+    Ok(())
+}
+
+/// What the specifiers added goes into the registers.
+fn put_commits(program: &mut Vec<Micro>, steps: &Steps) -> Result<(), AllocError>
+    ensures { OnOk result (program.new.items ≡ program.old.items ++ commit_program 0 steps.now) }
+{
+    for number in 0..15u8 {
+        put_commit(program, number, steps[number as usize])?;
+    }
+    Ok(())
+}
+
+/// What the specifiers added goes into the registers, each once.
+#[tactic(auto, using(crate::proofs::Finishing::commits_steps))]
+pub fn put_steps(program: &mut Vec<Micro>, steps: &Steps) -> Result<(), WantOfMemory>
+    ensures commits { CommitsSteps steps.now (commit_program 0 steps.now) }
+    ensures program { OnOk result (program.new.items ≡ program.old.items ++ commit_program 0 steps.now) }
+{
+    put_commits(program, steps).map_err(|_| WantOfMemory)
+}
+
+/// The low bits of a register are replaced.
+fn put_low(
+    program: &mut Vec<Micro>,
+    number: u8,
+    steps: &Steps,
+    upper: u32,
+    from: u8,
+) -> Result<(), AllocError>
+    ensures { OnOk result (program.new.items ≡ program.old.items ++ low_program number steps.now upper from) }
+{
+    let (kept, value) = (Arg::Const(u64::from(upper)), Arg::Temp(from));
+    program.push(sum_into(5, Some(number), step(steps, number)))?;
+    program.push(long(5, MicroOp::And, Arg::Temp(5), kept))?;
+    program.push(long(5, MicroOp::Add, Arg::Temp(5), value))?;
+    program.push(Micro::Commit {
+        register: number,
+        from: 5,
+    })?;
+    Ok(())
+}
+
+/// The halves of a quadword go into a register and the next one.
+fn put_pair(program: &mut Vec<Micro>, number: u8, from: u8) -> Result<(), AllocError>
+    ensures { OnOk result (program.new.items ≡ program.old.items ++ pair_program number from) }
+{
+    program.push(Micro::Commit {
+        register: number,
+        from,
+    })?;
+    program.push(Micro::Compute {
+        to: 5,
+        op: MicroOp::ShiftRight,
+        size: Size::Quad,
+        a: Arg::Temp(from),
+        b: Arg::Const(32),
+    })?;
+    program.push(Micro::Commit {
+        register: number.saturating_add(1),
+        from: 5,
+    })?;
+    Ok(())
+}
+
+/// The result goes into its register.
+fn put_give(
+    program: &mut Vec<Micro>,
+    operand: Operand,
+    size: Size,
+    steps: &Steps,
+    from: u8,
+) -> Result<(), AllocError>
+    ensures { OnOk result (program.new.items ≡ program.old.items ++ give_program operand size steps.now from) }
+{
+    match (operand, size) {
+        (Operand::Register(number), Size::Byte) => {
+            put_low(program, number, steps, ABOVE_BYTE, from)
+        }
+        (Operand::Register(number), Size::Word) => {
+            put_low(program, number, steps, ABOVE_WORD, from)
+        }
+        (Operand::Register(number), Size::Long) => {
+            program.push(Micro::Commit {
+                register: number,
+                from,
+            })?;
+            Ok(())
+        }
+        (Operand::Register(number), Size::Quad) => put_pair(program, number, from),
+        _ => Ok(()),
+    }
+}
+
+/// Takes back what was added to a register.
+fn clear_step(steps: &mut Steps, number: u8)
+    ensures { steps.new ≡ slice_set steps.old number 0 }
+{
+    if number < 15 {
+        steps[number as usize] = 0;
+    }
+}
+
+/// The steps of the registers that take no result.
+fn steps_left(operand: Operand, size: Size, steps: &Steps) -> Steps
+    ensures { result ≡ steps_left operand size steps.now }
+{
+    let mut left = *steps;
+    if let Operand::Register(number) = operand {
+        clear_step(&mut left, number);
+        if matches!(size, Size::Quad) {
+            clear_step(&mut left, number.saturating_add(1));
+        }
+    }
+    left
+}
+
+fn put_registers(
+    program: &mut Vec<Micro>,
+    operand: Operand,
+    size: Size,
+    steps: &Steps,
+    from: u8,
+) -> Result<(), AllocError>
+    ensures { OnOk result (program.new.items ≡ program.old.items ++ finish_program operand size steps.now from) }
+{
+    put_commits(program, &steps_left(operand, size, steps))?;
+    put_give(program, operand, size, steps, from)
+}
+
+/// What the specifiers added goes into the registers, and the result where its operand is a register: each register is
+/// committed once. Temporary 5 changes.
+#[tactic(auto, using(crate::proofs::Finishing::finishes))]
+pub fn put_finish(
+    program: &mut Vec<Micro>,
+    operand: Operand,
+    size: Size,
+    steps: &Steps,
+    from: u8,
+) -> Result<(), WantOfMemory>
+    requires from { from < 4 }
+    requires register { IsGivable operand size }
+    ensures finishes { Finishes operand size steps.now from (finish_program operand size steps.now from) }
+    ensures program { OnOk result (program.new.items ≡ program.old.items ++ finish_program operand size steps.now from) }
+{
+    put_registers(program, operand, size, steps, from).map_err(|_| WantOfMemory)
+}
+
+fn put_below(
+    program: &mut Vec<Micro>,
+    steps: &mut Steps,
+    place: u8,
+    from: u8,
+) -> Result<(), AllocError>
+    ensures program { OnOk result (program.new.items ≡ program.old.items ++ push_program steps.old place from) }
+    ensures steps { OnOk result (steps.new ≡ steps_behind_push steps.old) }
+{
+    add_step(steps, STACK, BELOW);
+    program.push(sum_into(place, Some(STACK), step(steps, STACK)))?;
+    put_store(program, Size::Long, place, from)
+}
+
+/// Pushes the longword in a temporary. Its address goes into the place.
+#[tactic(auto, using(crate::proofs::Writing::pushes))]
+pub fn put_push(
+    program: &mut Vec<Micro>,
+    steps: &mut Steps,
+    place: u8,
+    from: u8,
+) -> Result<(), WantOfMemory>
+    requires { (from == place) ≡ false }
+    ensures pushes { Pushes steps.old place from (push_program steps.old place from) }
+    ensures program { OnOk result (program.new.items ≡ program.old.items ++ push_program steps.old place from) }
+    ensures steps { OnOk result (steps.new ≡ steps_behind_push steps.old) }
+{
+    put_below(program, steps, place, from).map_err(|_| WantOfMemory)
+}
