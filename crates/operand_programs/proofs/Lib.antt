@@ -7,3 +7,4 @@ pub mod Commits
 pub mod Writing
 pub mod Evaluating
 pub mod Finishing
+pub mod Ordered

@@ -1,0 +1,79 @@
+-- Operands in order, each behind the earlier ones.
+use Rattle.std.proofs.Common.{◌≡◌, ℕ, ◌≤◌, ◌<◌, eqb, false, List, [], ◌∷◌, ◌++◌, length, refl, sym, ap, ◌∙◌, subst, append_assoc, arith}
+use Rattle.std.proofs.lemmas.List.{length-set}
+use Rattle.vax_form.specs.Row.{filled}
+use Rattle.vax_form.specs.Size.{bytes_of}
+use Rattle.vax_form.specs.Tree.{Tree, tree_of}
+use Rattle.vax_form.specs.declared.instr.Access.{Access}
+use Rattle.vax_form.specs.declared.instr.Access.TheVariants as accesses
+use Rattle.vax_form.specs.declared.instr.Instr.{Instr}
+use Rattle.vax_form.specs.declared.instr.Operand.{Operand}
+use Rattle.vax_form.specs.declared.instr.Operand.TheVariants.{Unused, Value, Register, Place, Target}
+use Rattle.vax_form.specs.declared.instr.Size.{Size}
+use Rattle.vax_form.specs.declared.pages.Pages.{Pages}
+use Rattle.vax_form.specs.declared.row.Row.{Row}
+use Rattle.vax_form.specs.declared.state.VaxState.{VaxState}
+use Rattle.vax_meaning.specs.Evaluation.{nothing, nothings, operands_from, find, obtain, read_found}
+use Rattle.vax_meaning.specs.Operands.{locate}
+use Rattle.vax_meaning.specs.declared.evaluation.Evaluated.{Evaluated}
+use Rattle.micro_ops.specs.Leaving.{CodesComeFrom}
+use Rattle.micro_ops.specs.Meaning.{Left, Temps, Found, Standing, course_of}
+use Rattle.micro_ops.specs.declared.program.Micro.{Micro}
+use Rattle.operand_programs.specs.Specifiers.{stepped, steps_behind_operand}
+use Rattle.operand_programs.specs.Pieces.{Agrees, leaving, with_temps}
+use Rattle.operand_programs.specs.Operands.{IsLeft, IsLeftAs, IsBase, IsPlaced, steps_behind_access, steps_behind_specifier}
+use Rattle.operand_programs.specs.InOrder.{evaluate_all, steps_behind_all, operands_program, IsOutside, Lasts, ArePlaced, AreLeft, KeptByAll, GoesOnBehindAll, EvaluatesAll, AreOperandsOf, InOrder, OfInstruction}
+use Rattle.operand_programs.specs.declared.operands.Specifier.{Specifier}
+use Rattle.operand_programs.proofs.Evaluating.{evaluates_one}
+use Rattle.operand_programs.proofs.Places.{steps_length}
+
+pub operand_steps_length : (operand : Operand) (size : Size) (steps : List ℕ) → length (steps_behind_operand operand size steps) ≡ length steps
+operand_steps_length (Place base index) size steps = steps_length base (bytes_of size) steps
+operand_steps_length (Register n) size steps = refl
+operand_steps_length Unused size steps = refl
+operand_steps_length (Value value) size steps = refl
+operand_steps_length (Target address) size steps = refl
+
+pub access_steps_length : (access : Access) (operand : Operand) (size : Size) (steps : List ℕ) → length (steps_behind_access access operand size steps) ≡ length steps
+access_steps_length accesses.Read operand size steps = operand_steps_length operand size steps
+access_steps_length accesses.Write operand size steps = operand_steps_length operand size steps
+access_steps_length accesses.Modify operand size steps = operand_steps_length operand size steps
+access_steps_length accesses.Address operand size steps = operand_steps_length operand size steps
+access_steps_length accesses.Field operand size steps = operand_steps_length operand size steps
+access_steps_length accesses.Branch operand size steps = refl
+
+-- what an operand left stays where its temporaries stay
+module _ (operand : Operand) (size : Size) (evaluated : Evaluated) (to place : ℕ) (later : List Specifier) (before after : Temps) (kept : KeptByAll later before after) where
+  stays_base : (operand : Operand) → IsOutside later to × IsOutside later place → IsBase operand evaluated (before to) (before place) → IsBase operand evaluated (after to) (after place)
+  stays_base operand outside left = rw (kept to outside.0, kept place outside.1) left
+
+  pub stays : (access : Access) → Lasts access to place later → IsLeftAs access operand size evaluated (before to) (before place) → IsLeftAs access operand size evaluated (after to) (after place)
+  stays accesses.Read outside left = rw (kept to outside) left
+  stays accesses.Write outside left = rw (kept place outside) left
+  stays accesses.Modify outside left = rw (kept to outside.0, kept place outside.1) left
+  stays accesses.Address outside left = rw (kept to outside) left
+  stays accesses.Field outside left = stays_base operand outside left
+  stays accesses.Branch outside left = left
+
+pub in_order : InOrder
+in_order [] steps placed sources start pages thread program found standing rest same goes = goes [] standing.temps refl (λ temp outside. refl)
+in_order (specifier ∷ specifiers) steps placed sources start pages thread program found standing rest same goes =
+    let behind = steps_behind_specifier specifier steps in
+    rw append_assoc (evaluates_one specifier steps placed.0 sources start pages thread (operands_program specifiers behind ++ program) found standing
+    (λ first after. tree_of pages (evaluate_all specifiers) after (λ others last. rest (first ∷ others) last)) same
+    (λ first temps left kept. in_order specifiers behind placed.2 sources start pages thread program found (with_temps temps standing) (λ others last. rest (first ∷ others) last)
+    (access_steps_length specifier.access specifier.operand specifier.size steps ∙ same)
+    (λ others temps' lefts kept'. goes (first ∷ others) temps'
+    (first, others, refl, stays specifier.operand specifier.size first specifier.to specifier.place specifiers temps temps' kept' specifier.access placed.1 left, lefts)
+    (λ temp outside. kept' temp outside.3 ∙ kept temp outside.0 outside.1 outside.2))))
+
+pub of_instruction : OfInstruction
+unfolding operands_from find obtain read_found locate
+of_instruction [] row instr pages state rest few are = rw (are.0, are.1) refl
+of_instruction (a ∷ []) row instr pages state rest few are = rw (are.0, are.1) refl
+of_instruction (a ∷ b ∷ []) row instr pages state rest few are = rw (are.0, are.1) refl
+of_instruction (a ∷ b ∷ c ∷ []) row instr pages state rest few are = rw (are.0, are.1) refl
+of_instruction (a ∷ b ∷ c ∷ d ∷ []) row instr pages state rest few are = rw (are.0, are.1) refl
+of_instruction (a ∷ b ∷ c ∷ d ∷ e ∷ []) row instr pages state rest few are = rw (are.0, are.1) refl
+of_instruction (a ∷ b ∷ c ∷ d ∷ e ∷ f ∷ []) row instr pages state rest few are = rw (are.0, are.1) refl
+of_instruction (a ∷ b ∷ c ∷ d ∷ e ∷ f ∷ g ∷ more) row instr pages state rest few are = absurd (omega (arith, few))
