@@ -8,3 +8,5 @@ pub mod Writing
 pub mod Evaluating
 pub mod Finishing
 pub mod Ordered
+pub mod Short
+pub mod Low

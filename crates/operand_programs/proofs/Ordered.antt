@@ -1,28 +1,20 @@
 -- Operands in order, each behind the earlier ones.
-use Rattle.std.proofs.Common.{◌≡◌, ℕ, ◌≤◌, ◌<◌, eqb, false, List, [], ◌∷◌, ◌++◌, length, refl, sym, ap, ◌∙◌, subst, append_assoc, arith}
-use Rattle.std.proofs.lemmas.List.{length-set}
-use Rattle.vax_form.specs.Row.{filled}
+use Rattle.std.proofs.Common.{◌≡◌, ℕ, List, [], ◌∷◌, ◌++◌, length, refl, ◌∙◌, append_assoc, arith}
 use Rattle.vax_form.specs.Size.{bytes_of}
-use Rattle.vax_form.specs.Tree.{Tree, tree_of}
+use Rattle.vax_form.specs.Tree.{tree_of}
 use Rattle.vax_form.specs.declared.instr.Access.{Access}
 use Rattle.vax_form.specs.declared.instr.Access.TheVariants as accesses
-use Rattle.vax_form.specs.declared.instr.Instr.{Instr}
 use Rattle.vax_form.specs.declared.instr.Operand.{Operand}
 use Rattle.vax_form.specs.declared.instr.Operand.TheVariants.{Unused, Value, Register, Place, Target}
 use Rattle.vax_form.specs.declared.instr.Size.{Size}
-use Rattle.vax_form.specs.declared.pages.Pages.{Pages}
-use Rattle.vax_form.specs.declared.row.Row.{Row}
-use Rattle.vax_form.specs.declared.state.VaxState.{VaxState}
-use Rattle.vax_meaning.specs.Evaluation.{nothing, nothings, operands_from, find, obtain, read_found}
+use Rattle.vax_meaning.specs.Evaluation.{operands_from, find, obtain, read_found}
 use Rattle.vax_meaning.specs.Operands.{locate}
 use Rattle.vax_meaning.specs.declared.evaluation.Evaluated.{Evaluated}
-use Rattle.micro_ops.specs.Leaving.{CodesComeFrom}
-use Rattle.micro_ops.specs.Meaning.{Left, Temps, Found, Standing, course_of}
-use Rattle.micro_ops.specs.declared.program.Micro.{Micro}
-use Rattle.operand_programs.specs.Specifiers.{stepped, steps_behind_operand}
-use Rattle.operand_programs.specs.Pieces.{Agrees, leaving, with_temps}
-use Rattle.operand_programs.specs.Operands.{IsLeft, IsLeftAs, IsBase, IsPlaced, steps_behind_access, steps_behind_specifier}
-use Rattle.operand_programs.specs.InOrder.{evaluate_all, steps_behind_all, operands_program, IsOutside, Lasts, ArePlaced, AreLeft, KeptByAll, GoesOnBehindAll, EvaluatesAll, AreOperandsOf, InOrder, OfInstruction}
+use Rattle.micro_ops.specs.Meaning.{Temps}
+use Rattle.operand_programs.specs.Specifiers.{steps_behind_operand}
+use Rattle.operand_programs.specs.Pieces.{with_temps}
+use Rattle.operand_programs.specs.Operands.{IsLeftAs, IsBase, steps_behind_access, steps_behind_specifier}
+use Rattle.operand_programs.specs.InOrder.{evaluate_all, operands_program, IsOutside, Lasts, KeptByAll, InOrder, OfInstruction}
 use Rattle.operand_programs.specs.declared.operands.Specifier.{Specifier}
 use Rattle.operand_programs.proofs.Evaluating.{evaluates_one}
 use Rattle.operand_programs.proofs.Places.{steps_length}

@@ -3,3 +3,4 @@ pub mod Pieces
 pub mod Operands
 pub mod InOrder
 pub mod Results
+pub mod Words

@@ -1,5 +1,6 @@
-// Laws of operands that are evaluated one after the other.
+// Laws of operands that are evaluated one after the other, and of how many words they count.
 ghost use Rattle.operand_programs.specs.InOrder.{InOrder, OfInstruction};
+ghost use Rattle.operand_programs.specs.Words.{OperandIsShort, OperandIsLow, FinishIsShort, FinishIsLow};
 
 /// Operands in order: each sees what the earlier ones added to the registers, and its value and address outlast the later
 /// ones. What is committed is the sum of the steps. These are the operands of an instruction.
@@ -7,4 +8,14 @@ ghost use Rattle.operand_programs.specs.InOrder.{InOrder, OfInstruction};
 pub fn operand_laws()
     ensures in_order { InOrder }
     ensures of_instruction { OfInstruction }
+{}
+
+/// What an operand counts at most, with the commit that it brings, and what the end counts; both name the temporaries 0 to
+/// 5 alone.
+#[tactic(auto, using(crate::proofs::Short::operand_is_short, crate::proofs::Low::operand_is_low, crate::proofs::Short::finish_is_short, crate::proofs::Low::finish_is_low))]
+pub fn word_laws()
+    ensures operand_short { OperandIsShort }
+    ensures operand_low { OperandIsLow }
+    ensures finish_short { FinishIsShort }
+    ensures finish_low { FinishIsLow }
 {}
