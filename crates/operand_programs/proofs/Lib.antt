@@ -10,3 +10,4 @@ pub mod Finishing
 pub mod Ordered
 pub mod Short
 pub mod Low
+pub mod More

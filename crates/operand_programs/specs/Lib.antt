@@ -4,3 +4,4 @@ pub mod Operands
 pub mod InOrder
 pub mod Results
 pub mod Words
+pub mod Knowing

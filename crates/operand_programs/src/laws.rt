@@ -1,5 +1,6 @@
-// Laws of operands that are evaluated one after the other, and of how many words they count.
+// Laws of operands that are evaluated one after the other, of how many words they count, and of what fits.
 ghost use Rattle.operand_programs.specs.InOrder.{InOrder, OfInstruction};
+ghost use Rattle.operand_programs.specs.Knowing.{FitsBehindMore};
 ghost use Rattle.operand_programs.specs.Words.{OperandIsShort, OperandIsLow, FinishIsShort, FinishIsLow};
 
 /// Operands in order: each sees what the earlier ones added to the registers, and its value and address outlast the later
@@ -18,4 +19,10 @@ pub fn word_laws()
     ensures operand_low { OperandIsLow }
     ensures finish_short { FinishIsShort }
     ensures finish_low { FinishIsLow }
+{}
+
+/// Operations that fit behind what is known also fit where more is known. So a program needs to be looked at for the least
+/// that its operands leave known.
+pub fn fitting_law()
+    ensures { FitsBehindMore }
 {}
