@@ -1,9 +1,12 @@
 -- What specifiers add to the registers.
-use Rattle.std.proofs.Common.{◌≡◌, ℕ, zero, suc, ◌+◌, ◌%◌, ◌^◌, List, [], ◌∷◌, length, get_or, set, refl, sym, ap, ◌∙◌, arith}
+use Rattle.std.proofs.Common.{◌≡◌, ℕ, zero, suc, ◌+◌, ◌%◌, ◌^◌, List, [], ◌∷◌, length, get_or, set, replicate, ◌<◌, add-zero, refl, sym, ap, ◌∙◌, arith}
 use Rattle.std.specs.Prelude.{◌≢◌}
 use Rattle.std.proofs.lemmas.List.{set_comm}
 use Rattle.vax_form.specs.State.{register, with_register, with_core}
 use Rattle.vax_form.specs.declared.state.VaxState.{VaxState}
+use Rattle.std.proofs.Math.Nat.{mod-eq_of_lt}
+use Rattle.operand_programs.specs.InOrder.{NothingAdded}
+use Rattle.operand_programs.proofs.Accesses.{register_below}
 use Rattle.operand_programs.specs.Specifiers.{stepped_registers, stepped, with_step}
 
 pub register_of_stepped : (r steps : List ℕ) (number : ℕ) → length steps ≡ length r
@@ -51,3 +54,13 @@ stepped_set_two r steps n m a b other =
     ∙ ap (λ xs. set xs n a) (stepped_set r (set steps n 0) m 0 b)
     ∙ sym (set_comm (stepped_registers r (set steps n 0)) n m a b other)
     ∙ ap (λ xs. set xs m b) (stepped_set r steps n 0 a)
+
+none_added : (r : List ℕ) → ((number : ℕ) → get_or r number 0 < 2 ^ 32) → stepped_registers r (replicate (length r) 0) ≡ r
+none_added [] small = refl
+none_added (value ∷ r) small =
+    ap (λ v. v ∷ stepped_registers r (replicate (length r) 0)) (ap (λ v. v % 2 ^ 32) (add-zero value) ∙ mod-eq_of_lt (small zero)) ∙ ap (λ vs. value ∷ vs) (none_added r (λ number. small (suc number)))
+
+pub nothing_added : NothingAdded
+nothing_added state ok =
+    ap (λ r. with_core state r state.pc state.psw)
+    (ap (λ n. stepped_registers state.r (replicate n 0)) (sym ok.registers) ∙ none_added state.r (register_below state ok))

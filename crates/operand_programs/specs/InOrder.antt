@@ -1,9 +1,10 @@
 -- Operands one after the other: each sees what the earlier ones added to the registers.
 -- VAX Architecture Reference Manual, "Operand Specifiers": operands are evaluated from left to right.
-use Rattle.std.specs.Prelude.{◌≡◌, ◌≤◌, ℕ, ◌==◌, false, List, [], ◌∷◌, ◌++◌, length, map}
+use Rattle.std.specs.Prelude.{◌≡◌, ◌≤◌, ℕ, ◌==◌, false, List, [], ◌∷◌, ◌++◌, length, map, replicate}
 use Rattle.vax_form.specs.Grammar.{padded}
 use Rattle.vax_form.specs.Row.{row_with, filled}
 use Rattle.vax_form.specs.Script.{Script, ◌>>=◌, pure}
+use Rattle.vax_form.specs.State.{IsState}
 use Rattle.vax_form.specs.Tree.{Tree, tree_of}
 use Rattle.vax_form.specs.declared.instr.Access.{Access}
 use Rattle.vax_form.specs.declared.instr.Access.TheVariants.{Read, Write, Modify, Address, Field, Branch}
@@ -95,3 +96,10 @@ abbrev pub OfInstruction : Type 0
 OfInstruction = (specifiers : List Specifier) (row : Row) (instr : Instr) (pages : Pages) (state : VaxState) (rest : List Evaluated → VaxState → Tree)
     → length specifiers ≤ 6 → AreOperandsOf specifiers row instr
     → tree_of pages (operands_from 6 row instr nothings) state rest ≡ tree_of pages (evaluate_all specifiers) state (λ values. rest (filled nothing 6 values))
+
+-- before the first operand nothing was added
+abbrev pub no_steps : List ℕ
+no_steps = replicate 15 0
+
+abbrev pub NothingAdded : Type 0
+NothingAdded = (state : VaxState) → IsState state → stepped no_steps state ≡ state
