@@ -1,5 +1,5 @@
 -- What the meaning of a call says of its status.
-use Rattle.std.proofs.Common.{◌≡◌, ◌≢◌, ◌<◌, ◌≤◌, ℕ, List, [], ◌++◌, length, true, false, nat_lt, Bool, if◌then◌else◌, Option, None, Some, Result, refl, sym, ap, ◌∙◌, subst, append-nil, inl, inr, arith}
+use Rattle.std.proofs.Common.{◌≡◌, ◌≢◌, ◌<◌, ◌≤◌, ◌⊎◌, ℕ, List, [], ◌++◌, length, true, false, nat_lt, Bool, if◌then◌else◌, Option, None, Some, Result, refl, sym, ap, ◌∙◌, subst, append-nil, inl, inr, arith}
 use Rattle.std.proofs.lemmas.Bool.Decides.{nat_tests}
 use Rattle.std.specs.List.{list_any}
 use Rattle.std.specs.Io.KnownBytes.{Consumes, IsAtEnd}
@@ -26,7 +26,9 @@ use Rattle.vest_cli.specs.Stages.{IsFile, Accepts, ReadsAll, StopsAtLoad, StopsA
 use Rattle.vest_cli.specs.Stopping.{status_of}
 use Rattle.vest_cli.specs.Vest.{Ends, stopped, done}
 use Rattle.vest_cli.proofs.Members.{as_few, as_many}
-use Rattle.vest_cli.specs.Words.{CommandValue, run}
+use Rattle.command_words.specs.Commands.{CommandValue, run, translate, list, generate}
+use Rattle.command_words.specs.declared.commands.Limits.{Limits}
+use Rattle.command_words.specs.declared.numbers.Range.{Range}
 use Rattle.vest_cli.specs.declared.stages.TheConstants.{FILE_LIMIT, INPUT_LIMIT}
 use Rattle.vest_cli.specs.declared.stop.Refusal.TheVariants.{Image, Flow}
 use Rattle.vest_cli.specs.declared.stop.Stop.{Stop}
@@ -171,8 +173,8 @@ module _ (f : Files) (r w : ℕ) (left : Option (List ℕ)) (n : ℕ) (out repor
   run_stops name stop d (inr (image, accepted, inr (few, unread))) e =
       input_meets stop left n new.input d unread (few_enough image left d few (accepted_file f name image left d accepted e))
 
-  runs_meet : (name : List ℕ) (result : Status) (d : Decision) → Runs result name told new kept → DecidesFile (f name) left d → IsOrFault result d
-  runs_meet name result d h e =
+  runs_meet : (name : List ℕ) (limits : Limits) (ranges : List Range) (result : Status) (d : Decision) → Runs result name limits ranges told new kept → DecidesFile (f name) left d → IsOrFault result d
+  runs_meet name limits ranges result d h e =
       input_fits left n new.input kept.input result d h.input (delivers_meets result _ _ _ _ _ _ h.has_kept.delivered)
       (few_enough h.image left d h.translated.few (accepted_file f name h.image left d h.accepted e))
 
@@ -180,13 +182,18 @@ ends_meet : (command : Option CommandValue) (result : Status) (files : Option Fi
     (out report : SinkMeaning) (new : Lent) (kept : KeptValue) (d : Decision)
     → Ends command result (record { desk = record { files = files; read_faults = r; write_faults = w }; input = record { left = left; faults = n }; out = out; report = report }) new kept
     → Decides command files left d → IsOrFault result d
-ends_meet None result files r w left n out report new kept d (stopped stop is why leaves) e = is_that result status.Usage d e (is ∙ ap status_of why)
+ends_meet None result files r w left n out report new kept d (stopped stop is (inl why) leaves) e = is_that result status.Usage d e (is ∙ ap status_of why)
+ends_meet None result files r w left n out report new kept d (stopped stop is (inr why) leaves) e =
+    subst (λ (s : Status). IsOrFault s d) (sym (is ∙ ap status_of why)) tt
 ends_meet None result files r w left n out report new kept d (done h) e = absurd h
-ends_meet (Some (run name)) result None r w left n out report new kept d h e = absurd e
-ends_meet (Some (run name)) result (Some f) r w left n out report new kept d (stopped stop is why leaves) e =
+ends_meet (Some (run name limits ranges)) result None r w left n out report new kept d h e = absurd e
+ends_meet (Some (run name limits ranges)) result (Some f) r w left n out report new kept d (stopped stop is why leaves) e =
     subst (λ (s : Status). IsOrFault s d) (sym is) (run_stops f r w left n out report new kept name stop d why e)
-ends_meet (Some (run name)) result (Some f) r w left n out report new kept d (done h) e =
-    runs_meet f r w left n out report new kept name result d h e
+ends_meet (Some (run name limits ranges)) result (Some f) r w left n out report new kept d (done h) e =
+    runs_meet f r w left n out report new kept name limits ranges result d h e
+ends_meet (Some (translate image to)) result files r w left n out report new kept d h e = absurd e
+ends_meet (Some (list name)) result files r w left n out report new kept d h e = absurd e
+ends_meet (Some (generate number)) result files r w left n out report new kept d h e = absurd e
 
 pub exactly : (command : Option CommandValue) (result : Status) (old new : Lent) (kept : KeptValue) → Ends command result old new kept
     → (d : Decision) → Decides command old.desk.files old.input.left d → IsOrFault result d
@@ -227,17 +234,24 @@ run_no_usage stop name desk desk' input input' (inr (image, accepted, inl refuse
 run_no_usage stop name desk desk' input input' (inr (image, accepted, inr (few, unread))) =
     input_no_usage stop input input' unread
 
--- the usage line comes exactly where the words spell no command
+-- the usage line comes only where the words spell no command, and there the status is that or want of memory
 pub usage_only : (command : Option CommandValue) (result : Status) (old new : Lent) (kept : KeptValue)
     → Ends command result old new kept → result ≡ status.Usage → command ≡ None
 usage_only None result old new kept h e = refl
-usage_only (Some (run name)) result old new kept (stopped stop is why leaves) e =
+usage_only (Some (run name limits ranges)) result old new kept (stopped stop is why leaves) e =
     absurd (run_no_usage stop name old.desk new.desk old.input new.input why (sym is ∙ e))
-usage_only (Some (run name)) result old new kept (done h) e =
+usage_only (Some (run name limits ranges)) result old new kept (done h) e =
     absurd (by_ends status.Usage (processors_of kept) (subst (λ s. Delivers s (output_of kept.history) (processors_of kept) old.out new.out old.report new.report) e h.has_kept.delivered).0)
+usage_only (Some (translate image to)) result old new kept (stopped stop is why leaves) e = absurd why
+usage_only (Some (translate image to)) result old new kept (done h) e = absurd h
+usage_only (Some (list name)) result old new kept (stopped stop is why leaves) e = absurd why
+usage_only (Some (list name)) result old new kept (done h) e = absurd h
+usage_only (Some (generate number)) result old new kept (stopped stop is why leaves) e = absurd why
+usage_only (Some (generate number)) result old new kept (done h) e = absurd h
 
 pub usage_there : (command : Option CommandValue) (result : Status) (old new : Lent) (kept : KeptValue)
-    → Ends command result old new kept → command ≡ None → result ≡ status.Usage
-usage_there None result old new kept (stopped stop is why leaves) e = is ∙ ap status_of why
+    → Ends command result old new kept → command ≡ None → (result ≡ status.Usage) ⊎ (result ≡ status.WantOfMemory)
+usage_there None result old new kept (stopped stop is (inl why) leaves) e = inl (is ∙ ap status_of why)
+usage_there None result old new kept (stopped stop is (inr why) leaves) e = inr (is ∙ ap status_of why)
 usage_there None result old new kept (done h) e = absurd h
 usage_there (Some command) result old new kept h e = absurd (cc e)

@@ -7,4 +7,5 @@ mod Members
 mod Outputs
 mod Progress
 mod Refusals
+mod Spelling
 mod Spent

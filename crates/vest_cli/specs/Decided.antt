@@ -1,10 +1,10 @@
 -- What the words, the files and the input decide on the status, with the checks in their order.
 use Rattle.std.specs.Prelude.{◌≡◌, ℕ, List, [], length, nat_lt, if◌then◌else◌, MatchBool, Option, None, Some, Result, Ok, Err}
+use Rattle.command_words.specs.Commands.{CommandValue, run}
 use Rattle.vt_outside.specs.Desk.{Files}
 use Rattle.image_file.specs.Values.{ImageValue}
 use Rattle.image_file.specs.Reading.{image_of}
 use Rattle.image_file.specs.declared.refusal.ImageRefusal.{ImageRefusal}
-use Rattle.vest_cli.specs.Words.{CommandValue, run}
 use Rattle.flow_discovery.specs.Reach.{AreReached, most}
 use Rattle.flow_discovery.specs.Starts.{starts}
 use Rattle.vest_cli.specs.declared.stages.TheConstants.{FILE_LIMIT, INPUT_LIMIT}
@@ -42,8 +42,8 @@ DecidesFile (Some bytes) input decision =
 
 abbrev pub Decides : Option CommandValue → Option Files → (input : Option (List ℕ)) → Decision → Type 0
 Decides None files input decision = decision ≡ stops status.Usage
-Decides (Some (run name)) None input decision = ⊥
-Decides (Some (run name)) (Some files) input decision = DecidesFile (files name) input decision
+Decides (Some (run name limits ranges)) (Some files) input decision = DecidesFile (files name) input decision
+Decides (Some command) files input decision = ⊥
 
 -- behind a run: all threads exited, some raised an exception, or some was spent
 abbrev pub EndsARun : Status → Type 0

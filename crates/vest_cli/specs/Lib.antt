@@ -1,4 +1,4 @@
-pub mod Words
+pub mod Obeyed
 pub mod Lent
 pub mod Kept
 pub mod Digits

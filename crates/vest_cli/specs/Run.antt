@@ -1,5 +1,7 @@
 -- The command `run`.
 use Rattle.std.specs.Prelude.{◌≡◌, ◌⊎◌, ℕ, List, [], Some, map}
+use Rattle.command_words.specs.declared.commands.Limits.{Limits}
+use Rattle.command_words.specs.declared.numbers.Range.{Range as WordRange}
 use Rattle.vt_outside.specs.Desk.{DeskMeaning}
 use Rattle.vt_outside.specs.Sink.{SinkMeaning}
 use Rattle.vt_outside.specs.Source.{SourceMeaning}
@@ -20,8 +22,6 @@ use Rattle.vest_cli.specs.Kept.{KeptValue}
 use Rattle.vest_cli.specs.Lent.{Lent, SameFiles}
 use Rattle.vest_cli.specs.Stages.{Accepts, IsTranslated, ReadsAll, StopsAtLoad, StopsAtTranslation, StopsAtInput}
 use Rattle.vest_cli.specs.Threads.{HasRun}
-use Rattle.vest_cli.specs.declared.numbers.Numbers.{Numbers}
-use Rattle.vest_cli.specs.declared.numbers.TheConstants.{BUDGET, LIMIT, MISS}
 use Rattle.vest_cli.specs.declared.stop.Stop.{Stop}
 use Rattle.vest_cli.specs.declared.status.Status.{Status}
 
@@ -33,13 +33,13 @@ StopsRun stop name desk desk' input input' =
     × (StopsAtTranslation stop image
     ⊎ (AreFew image.pages (starts image []) × StopsAtInput stop input input')))
 
--- the numbers that `run` takes
-abbrev pub defaults : Numbers
-defaults = record { budget = BUDGET; limit = LIMIT; miss = MISS }
+-- what a run starts with: its history has as many entries as the words allow
+abbrev pub running_of : ImageValue → (input : List ℕ) → Limits → RunningValue
+running_of image input limits = record { set_up = record { image = image; input = input; limit = limits.events; miss = limits.miss }; budget = limits.budget }
 
--- what a run starts with
-abbrev pub running_of : ImageValue → (input : List ℕ) → Numbers → RunningValue
-running_of image input numbers = record { set_up = record { image = image; input = input; limit = numbers.limit; miss = numbers.miss }; budget = numbers.budget }
+-- the addresses that a thread interprets, of the words
+abbrev pub range_of : WordRange → Range
+range_of range = record { thread = range.thread; first = range.first; last = range.last }
 
 -- the memory that the history is of
 abbrev pub set_up_of : ImageValue → KeptValue → SetUp
@@ -53,27 +53,26 @@ processors_of kept = map processor_of kept.processors
 abbrev pub setting_of : ImageValue → Code → KeptValue → Setting
 setting_of image code kept = image_setting image.pages code kept.ranges
 
--- a run of the image on that input, by these numbers, over that code, in which a thread interprets these addresses too; and
+-- a run of the image on that input, by these limits, over that code, in which a thread interprets these addresses too; and
 -- it was delivered
-pub record HasKept (result : Status) (image : ImageValue) (code : Code) (taken : List ℕ) (numbers : Numbers) (interpreted : List Range) (out out' report report' : SinkMeaning) (kept : KeptValue) : Type 0 where
+pub record HasKept (result : Status) (image : ImageValue) (code : Code) (taken : List ℕ) (limits : Limits) (interpreted : List Range) (out out' report report' : SinkMeaning) (kept : KeptValue) : Type 0 where
   pub kept_image : kept.image ≡ Some image
   pub kept_code : kept.translation ≡ Some code
   pub ranges : kept.ranges ≡ interpreted
   pub input : kept.input ≡ taken
-  pub budget : kept.budget ≡ numbers.budget
-  pub limit : kept.limit ≡ numbers.limit
-  pub miss : kept.miss ≡ numbers.miss
+  pub budget : kept.budget ≡ limits.budget
+  pub limit : kept.limit ≡ limits.events
+  pub miss : kept.miss ≡ limits.miss
   -- the history and the processors are a legal run, in which all threads have ended, and so what the VAX threads do
   pub has_run : HasRun (setting_of image code kept) (set_up_of image kept) kept.budget kept.history (processors_of kept)
   pub delivered : Delivers result (output_of kept.history) (processors_of kept) out out' report report'
 
--- `run` made its run: of the file's image, translated, on all the input, by the default numbers, and with no addresses that
--- are mapped and interpreted all the same
-pub record Runs (result : Status) (name : List ℕ) (old new : Lent) (kept : KeptValue) : Type 0 where
+-- `run` made its run: of the file's image, translated, on all the input, by the limits and the ranges of its words
+pub record Runs (result : Status) (name : List ℕ) (limits : Limits) (ranges : List WordRange) (old new : Lent) (kept : KeptValue) : Type 0 where
   pub image : ImageValue
   pub accepted : Accepts old.desk.files name image
   pub code : Code
   pub translated : IsTranslated image code
   pub input : ReadsAll old.input new.input kept.input
-  pub has_kept : HasKept result image code kept.input defaults [] old.out new.out old.report new.report kept
+  pub has_kept : HasKept result image code kept.input limits (map range_of ranges) old.out new.out old.report new.report kept
   pub desk : SameFiles old.desk new.desk

@@ -9,7 +9,6 @@
 mod deliver;
 mod kept;
 mod line;
-mod numbers;
 mod report;
 mod run;
 mod stages;
@@ -17,7 +16,6 @@ mod status;
 mod stop;
 mod threads;
 mod top;
-mod words;
 
 pub use kept::Kept;
 pub use status::Status;

@@ -1,47 +1,58 @@
 // The command `run`.
-ghost use Rattle.std.specs.Prelude.{◌≡◌, [], IfOk, IfErr};
+ghost use Rattle.std.specs.Prelude.{◌≡◌, IfOk, IfErr, map};
 ghost use Rattle.image_file.specs.Whole.{IsWhole};
 ghost use Rattle.block_law.specs.Translations.{Meets};
 ghost use Rattle.image_meaning.specs.Meant.{image_meaning};
 ghost use Rattle.vest_cli.specs.Kept.{nothing_kept};
 ghost use Rattle.vest_cli.specs.Lent.{lent};
 ghost use Rattle.vest_cli.specs.Stopping.{LeavesAll};
-ghost use Rattle.vest_cli.specs.Run.{HasKept, Runs, StopsRun, running_of};
+ghost use Rattle.vest_cli.specs.Run.{HasKept, Runs, StopsRun, range_of, running_of};
 
 use crate::deliver::deliver;
 use crate::kept::Kept;
-use crate::numbers::{BUDGET, LIMIT, MISS, Numbers};
 use crate::stages::{load, read_input, translated};
 use crate::status::Status;
 use crate::stop::Stop;
 use crate::threads::run_all;
+use command_words::Limits;
 use image_file::Image;
 use run_threads::Running;
-use std::alloc::Global;
+use std::alloc::{AllocError, Global};
 use std::sync::Wait;
 use std::thread::Threads;
 use system_model::{Range, Translation};
 use vt_outside::{Desk, Gate, Sink, Source};
 
-const DEFAULTS: Numbers = Numbers {
-    budget: BUDGET,
-    limit: LIMIT,
-    miss: MISS,
-};
+// The addresses that threads interpret, of the words.
+fn ranges_of(alloc: Global, ranges: &[command_words::Range]) -> Result<Vec<Range>, AllocError>
+    ensures { IfOk result (λ v. v.items ≡ map range_of ranges.now) }
+{
+    ranges.iter().map(|range| range_of(*range)).collect(alloc)
+}
+
+fn range_of(range: command_words::Range) -> Range
+    ensures { result ≡ range_of range }
+{
+    Range {
+        thread: range.thread,
+        first: range.first,
+        last: range.last,
+    }
+}
 
 // All that a run takes before its first step.
-fn set_up(alloc: Global, image: &Image, input: &[u8], numbers: Numbers) -> Result<Running, Stop>
+fn set_up(alloc: Global, image: &Image, input: &[u8], limits: Limits) -> Result<Running, Stop>
     requires { IsWhole image.now }
-    ensures ok { IfOk result (λ running. running ≡ running_of image.now input.now numbers) }
+    ensures ok { IfOk result (λ running. running ≡ running_of image.now input.now limits) }
     ensures err { IfErr result (λ stop. stop ≡ Stop.WantOfMemory) }
 {
     let input = input.to_vec(alloc)?;
-    let Numbers {
+    let Limits {
         budget,
-        limit,
+        events,
         miss,
-    } = numbers;
-    match Running::new(alloc, image, input, budget, limit, miss) {
+    } = limits;
+    match Running::new(alloc, image, input, budget, events, miss) {
         Ok(running) => Ok(running),
         Err(_) => Err(Stop::WantOfMemory),
     }
@@ -53,7 +64,7 @@ fn execute<R: Threads + Wait + Sync, K: Sink, E: Sink, G: Gate + Sync>(
     image: Image,
     taken: Vec<u8>,
     translation: Translation,
-    numbers: Numbers,
+    limits: Limits,
     ranges: Vec<Range>,
     running: Running,
     out: &mut K,
@@ -63,9 +74,9 @@ fn execute<R: Threads + Wait + Sync, K: Sink, E: Sink, G: Gate + Sync>(
 ) -> Status
     requires whole { IsWhole image }
     requires meets { Meets (image_meaning image.pages) translation }
-    requires running { running ≡ running_of image taken.items numbers }
+    requires running { running ≡ running_of image taken.items limits }
     requires nothing { kept.old ≡ nothing_kept }
-    ensures { HasKept result image translation taken.items numbers ranges.items (K.meaning out.old) (K.meaning out.new) (E.meaning report.old) (E.meaning report.new) kept.new }
+    ensures { HasKept result image translation taken.items limits ranges.items (K.meaning out.old) (K.meaning out.new) (E.meaning report.old) (E.meaning report.new) kept.new }
 {
     let (mut memory, processors) = run_all(
         rt,
@@ -81,19 +92,22 @@ fn execute<R: Threads + Wait + Sync, K: Sink, E: Sink, G: Gate + Sync>(
     kept.input = taken;
     kept.history = memory.take_history();
     kept.processors = processors;
-    kept.budget = numbers.budget;
-    kept.limit = numbers.limit;
-    kept.miss = numbers.miss;
+    kept.budget = limits.budget;
+    kept.limit = limits.events;
+    kept.miss = limits.miss;
     kept.translation = Some(translation);
     kept.ranges = ranges;
     status
 }
 
-/// Runs the image of a file on all the input. From the first step on it takes no memory.
+/// Runs the image of a file on all the input, within the limits; threads interpret the ranges of addresses. From the first
+/// step on it takes no memory.
 pub fn run<R: Threads + Wait + Sync, D: Desk, I: Source, K: Sink, E: Sink, G: Gate + Sync>(
     rt: &R,
     alloc: Global,
     name: &str,
+    limits: Limits,
+    ranges: &[command_words::Range],
     desk: &mut D,
     input: &mut I,
     out: &mut K,
@@ -102,7 +116,7 @@ pub fn run<R: Threads + Wait + Sync, D: Desk, I: Source, K: Sink, E: Sink, G: Ga
     kept: &mut Kept,
 ) -> Result<Status, Stop>
     requires { kept.old ≡ nothing_kept }
-    ensures runs { IfOk result (λ status. Runs status name.now
+    ensures runs { IfOk result (λ status. Runs status name.now limits ranges.now
         (lent (D.meaning desk.old) (I.meaning input.old) (K.meaning out.old) (E.meaning report.old))
         (lent (D.meaning desk.new) (I.meaning input.new) (K.meaning out.new) (E.meaning report.new))
         kept.new) }
@@ -116,14 +130,14 @@ pub fn run<R: Threads + Wait + Sync, D: Desk, I: Source, K: Sink, E: Sink, G: Ga
     let image = load(alloc, desk, name)?;
     let translation = translated(alloc, &image)?;
     let taken = read_input(alloc, input)?;
-    let running = set_up(alloc, &image, &taken, DEFAULTS)?;
-    let ranges = Vec::new(alloc);
+    let ranges = ranges_of(alloc, ranges)?;
+    let running = set_up(alloc, &image, &taken, limits)?;
     Ok(execute(
         rt,
         image,
         taken,
         translation,
-        DEFAULTS,
+        limits,
         ranges,
         running,
         out,

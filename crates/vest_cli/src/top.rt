@@ -1,6 +1,6 @@
 // The top call.
-ghost use Rattle.std.specs.Prelude.{◌≡◌, ◌↔◌, IfOk, IfErr};
-ghost use Rattle.vest_cli.specs.Words.{spelled};
+ghost use Rattle.std.specs.Prelude.{◌≡◌, ◌⊎◌, IfOk, IfErr, None};
+ghost use Rattle.vest_cli.specs.Obeyed.{spelled};
 ghost use Rattle.vest_cli.specs.Lent.{lent};
 ghost use Rattle.vest_cli.specs.Kept.{nothing_kept};
 ghost use Rattle.vest_cli.specs.Stopping.{LeavesAll};
@@ -11,7 +11,7 @@ use crate::kept::Kept;
 use crate::run::run;
 use crate::status::Status;
 use crate::stop::{Stop, refuse};
-use crate::words::{Command, command_of};
+use command_words::{Command, WordsFault, read_words};
 use std::alloc::Global;
 use std::sync::Wait;
 use std::thread::Threads;
@@ -35,7 +35,8 @@ pub fn vest<R: Threads + Wait + Sync, D: Desk, I: Source, K: Sink, E: Sink, G: G
         kept.new }
 
     // What that says of the status.
-    ensures usage { (result ≡ Status.Usage) ↔ (spelled words.now ≡ None) }
+    ensures usage { result ≡ Status.Usage → spelled words.now ≡ None }
+    ensures no_command { spelled words.now ≡ None → (result ≡ Status.Usage) ⊎ (result ≡ Status.WantOfMemory) }
     ensures decided { (decision : Decision) → Decides (spelled words.now) (D.meaning desk.old).files (I.meaning input.old).left decision
         → IsOrFault result decision }
 {
@@ -70,8 +71,17 @@ fn obey<R: Threads + Wait + Sync, D: Desk, I: Source, K: Sink, E: Sink, G: Gate 
         (lent (D.meaning desk.new) (I.meaning input.new) (K.meaning out.new) (E.meaning report.new))
         kept.new) }
 {
-    match command_of(words) {
-        None => Err(Stop::Usage),
-        Some(Command::Run(name)) => run(rt, alloc, name, desk, input, out, report, gate, kept),
+    match read_words(alloc, words) {
+        Ok(
+            Command::Run {
+                name,
+                limits,
+                ranges,
+            },
+        ) => run(
+            rt, alloc, name, limits, &ranges, desk, input, out, report, gate, kept,
+        ),
+        Ok(_) | Err(WordsFault::Usage) => Err(Stop::Usage),
+        Err(WordsFault::WantOfMemory) => Err(Stop::WantOfMemory),
     }
 }

@@ -14,7 +14,10 @@ returns-in-Err-clause-meaning g c =
 pub returns-in-Err-clause-usage : goal.returns-in-Err-clause-usage
 returns-in-Err-clause-usage g c =
     let meaning = returns-in-Err-clause-meaning g c in
-    (usage_only _ _ _ _ _ meaning, usage_there _ _ _ _ _ meaning)
+    usage_only _ _ _ _ _ meaning
+
+pub returns-in-Err-clause-no_command : goal.returns-in-Err-clause-no_command
+returns-in-Err-clause-no_command g c = usage_there _ _ _ _ _ (returns-in-Err-clause-meaning g c)
 
 pub returns-in-Err-clause-decided : goal.returns-in-Err-clause-decided
 returns-in-Err-clause-decided g c = exactly _ _ _ _ _ (returns-in-Err-clause-meaning g c)
@@ -22,7 +25,10 @@ returns-in-Err-clause-decided g c = exactly _ _ _ _ _ (returns-in-Err-clause-mea
 pub returns-in-Ok-clause-usage : goal.returns-in-Ok-clause-usage
 returns-in-Ok-clause-usage g c =
     let meaning = done c.in-Ok.ensures.does in
-    (usage_only _ _ _ _ _ meaning, usage_there _ _ _ _ _ meaning)
+    usage_only _ _ _ _ _ meaning
+
+pub returns-in-Ok-clause-no_command : goal.returns-in-Ok-clause-no_command
+returns-in-Ok-clause-no_command g c = usage_there _ _ _ _ _ (done c.in-Ok.ensures.does)
 
 pub returns-in-Ok-clause-decided : goal.returns-in-Ok-clause-decided
 returns-in-Ok-clause-decided g c = exactly _ _ _ _ _ (done c.in-Ok.ensures.does)

@@ -1,0 +1,15 @@
+-- The command that the words spell to a program that obeys `run` alone.
+use Rattle.std.specs.Prelude.{Bool, List, Option, String, codes, map}
+use Rattle.std.specs.String.{string_bytes}
+use Rattle.std.specs.Str.{bytes_eq}
+use Rattle.std.specs.declared.alloc.Global.{Global}
+use Rattle.command_words.specs.Commands.{CommandValue, forms, spells}
+use Rattle.command_words.specs.Obeyed.{obeyed}
+use Rattle.command_words.specs.Parts.{Text}
+
+-- the title of a command that is obeyed
+abbrev pub obeys : Text → Bool
+obeys title = bytes_eq title (codes "run")
+
+abbrev pub spelled : List (String Global) → Option CommandValue
+spelled words = spells (obeyed obeys forms) (map string_bytes words)
