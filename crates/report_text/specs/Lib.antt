@@ -1,0 +1,5 @@
+pub mod Digits
+pub mod Numbers
+pub mod Report
+pub mod Offer
+pub mod Refused
