@@ -3,3 +3,4 @@ pub mod Numbers
 pub mod Report
 pub mod Offer
 pub mod Refused
+pub mod Generating
