@@ -1,0 +1,123 @@
+// Every interleaving of the turns of two threads.
+ghost use Rattle.block_law.specs.Translations.{Meets};
+ghost use Rattle.image_file.specs.Whole.{IsWhole};
+ghost use Rattle.image_meaning.specs.Meant.{image_meaning};
+
+use crate::driven::check_driven;
+use crate::images::{image_of, pairs_of};
+use crate::shown::bytes_text;
+use crate::worlds::{Limits, nothing_translated, pick, world_of};
+use anyhow::{Context, Result};
+use image_file::Image;
+use row_tally::{bytes, fields, longword};
+use std::alloc::{AllocError, Global};
+use system_model::{End, Translation};
+use vest_core::World;
+
+/// The longest lists of picks.
+const MOST_PICKS: u32 = 12;
+
+/// Enough for the threads of the rows.
+const LIMITS: Limits = Limits {
+    budget: 100,
+    entries: 100,
+};
+
+/// The world behind a list of picks: thread 1 where a bit is set and thread 0 where it is not, from the lowest bit on.
+fn ran(
+    alloc: Global,
+    image: &Image,
+    translation: &Translation,
+    picks: u32,
+    turns: u32,
+) -> Result<World>
+    requires whole { IsWhole image.now }
+    requires meets { Meets (image_meaning image.now.pages) translation.now }
+{
+    let mut world = world_of(alloc, image, translation, Vec::new(alloc), LIMITS)?;
+    for turn in 0..turns.min(MOST_PICKS) {
+        let thread = u8::from(picks >> turn & 1 == 1);
+        pick(&mut world, image, translation, thread)?;
+    }
+    Ok(world)
+}
+
+/// The bytes that a row asks for.
+#[derive(Clone, Copy)]
+struct Shown {
+    first: u32,
+    count: u32,
+}
+
+/// What is left in the bytes that the row asks for, and the exit of each thread. None: one has not exited.
+fn left_text(alloc: Global, world: &World, shown: Shown) -> Result<Option<String>, AllocError> {
+    let mut text = bytes_text(alloc, world, shown.first, shown.count)?;
+    for processor in world.processors() {
+        match processor.end() {
+            Some(End::Exit(value)) => write!(text, " exit {value:08X}")?,
+            _ => return Ok(None),
+        }
+    }
+    Ok(Some(text))
+}
+
+/// What is left, and behind how many lists of picks.
+#[derive(Debug, Drop)]
+struct Outcome {
+    text: String,
+    lists: u32,
+}
+
+/// Counts one more list that leaves this.
+fn count(outcomes: &mut Vec<Outcome>, text: String) -> Result<(), AllocError> {
+    for outcome in outcomes.iter_mut() {
+        if outcome.text.as_str() == text.as_str() {
+            outcome.lists = outcome.lists.saturating_add(1);
+            return Ok(());
+        }
+    }
+    outcomes.push(Outcome { text, lists: 1 })?;
+    Ok(())
+}
+
+/// What is left behind every list of so many picks that ends both threads. Each list is compared with the driven threads.
+fn outcomes_of(alloc: Global, image: &Image, length: u32, shown: Shown) -> Result<Vec<Outcome>>
+    requires { IsWhole image.now }
+{
+    let translation = nothing_translated(alloc, image)?;
+    let mut outcomes = Vec::new(alloc);
+    for picks in 0..1u32 << length.min(MOST_PICKS) {
+        let world = ran(alloc, image, &translation, picks, length)?;
+        check_driven(alloc, image, &[], &world)?;
+        if let Some(text) = left_text(alloc, &world, shown)? {
+            count(&mut outcomes, text)?;
+        }
+    }
+    Ok(outcomes)
+}
+
+fn outcomes_text(alloc: Global, outcomes: &[Outcome]) -> Result<String, AllocError> {
+    let mut text = String::new(alloc);
+    for (place, outcome) in outcomes.iter().enumerate() {
+        if place > 0 {
+            text.push_str("; ")?;
+        }
+        write!(text, "{} {}", outcome.lists, outcome.text)?;
+    }
+    Ok(text)
+}
+
+/// How often what is left behind the lists of picks of a row, in the order in which they come: STARTS CODE LENGTH SHOWN.
+pub fn answer(alloc: Global, question: &str) -> Result<String> {
+    let fields = fields(alloc, question, 4)?;
+    let image = image_of(
+        alloc,
+        &pairs_of(alloc, fields[0])?,
+        &bytes(alloc, fields[1])?,
+        &[],
+    )?;
+    let pairs = pairs_of(alloc, fields[3])?;
+    let (first, count) = *pairs.first().context("bytes to show")?;
+    let outcomes = outcomes_of(alloc, &image, longword(fields[2])?, Shown { first, count })?;
+    Ok(outcomes_text(alloc, &outcomes)?)
+}

@@ -1,0 +1,94 @@
+// What is left of a world, in text.
+use crate::driven::order_in;
+use anyhow::Result;
+use std::alloc::{AllocError, Global};
+use system_model::End;
+use vax_form::Exception;
+use vest_core::{Processor, World};
+
+fn exception_text(alloc: Global, exception: Exception) -> Result<String, AllocError> {
+    let vector = exception.vector();
+    let parameter = exception.parameter();
+    match exception {
+        Exception::AccessViolation { .. } => {
+            let intent = exception.intent();
+            format!(in alloc; "exception {vector:02X} address {parameter:08X} intent {intent}")
+        }
+        Exception::Arithmetic(_) => format!(in alloc; "exception {vector:02X} type {parameter}"),
+        _ => format!(in alloc; "exception {vector:02X}"),
+    }
+}
+
+/// How a processor ended, and where it stands if that is no exit.
+fn end_text(alloc: Global, processor: &Processor) -> Result<String, AllocError> {
+    let mut text = match processor.end() {
+        Some(End::Exit(value)) => return format!(in alloc; "exit {value:08X}"),
+        Some(End::Raised(exception)) => exception_text(alloc, exception)?,
+        Some(End::Spent) => String::from_str(alloc, "spent")?,
+        None => String::from_str(alloc, "goes on")?,
+    };
+    let state = processor.shown();
+    let psl = state.psl();
+    write!(text, " pc {:08X} psl {psl:08X}", state.pc)?;
+    Ok(text)
+}
+
+/// How a processor stands: its end, what it retired, how many steps were interpreted, R0 and R1.
+fn processor_text(alloc: Global, processor: &Processor) -> Result<String, AllocError> {
+    let mut text = end_text(alloc, processor)?;
+    let (retired, ties) = (processor.retired(), processor.tie_steps());
+    let state = processor.shown();
+    let (r0, r1) = (state.register(0), state.register(1));
+    write!(
+        text,
+        " retired {retired} ties {ties} r0 {r0:08X} r1 {r1:08X}"
+    )?;
+    Ok(text)
+}
+
+/// The processors, with semicolons between.
+pub fn processors_text(alloc: Global, world: &World) -> Result<String, AllocError> {
+    let mut text = String::new(alloc);
+    for (thread, processor) in world.processors().iter().enumerate() {
+        if thread > 0 {
+            text.push_str("; ")?;
+        }
+        text.push_str(processor_text(alloc, processor)?.as_str())?;
+    }
+    Ok(text)
+}
+
+/// The references in order: a thread and how many instructions it had retired.
+pub fn order_text(alloc: Global, world: &World) -> Result<String> {
+    let mut text = String::from_str(alloc, "order")?;
+    for pick in &order_in(alloc, world)? {
+        write!(text, " {}:{}", pick.thread, pick.retired)?;
+    }
+    Ok(text)
+}
+
+/// The output, in pairs of digits.
+pub fn output_text(alloc: Global, world: &World) -> Result<String, AllocError> {
+    let mut text = String::from_str(alloc, "output ")?;
+    for byte in world.memory().output() {
+        write!(text, "{byte:02X}")?;
+    }
+    Ok(text)
+}
+
+/// So many bytes of memory from an address on, in pairs of digits.
+pub fn bytes_text(
+    alloc: Global,
+    world: &World,
+    first: u32,
+    count: u32,
+) -> Result<String, AllocError> {
+    let mut text = format!(in alloc; "bytes {first:X} ")?;
+    for place in 0..count {
+        match world.memory().byte(first.wrapping_add(place)) {
+            Some(byte) => write!(text, "{byte:02X}")?,
+            None => text.push_str("--")?,
+        }
+    }
+    Ok(text)
+}

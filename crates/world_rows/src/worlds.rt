@@ -1,0 +1,92 @@
+// Worlds of images, in which processors are picked.
+ghost use Rattle.std.specs.Prelude.{◌≡◌, IfOk};
+ghost use Rattle.block_law.specs.Translations.{Meets};
+ghost use Rattle.image_file.specs.Whole.{IsWhole};
+ghost use Rattle.image_meaning.specs.Meant.{image_meaning};
+ghost use Rattle.world_rows.specs.Empty.{IsEmpty};
+ghost use Rattle.world_rows.specs.Ready.{IsReady};
+
+use anyhow::{Result, bail};
+use image_file::Image;
+use std::alloc::Global;
+use system_model::Translation;
+use vest_core::{Turn, World};
+
+/// A translation of no instruction: everything is interpreted.
+#[tactic(auto, using(crate::proofs::EmptyCode::empty_meets))]
+pub fn nothing_translated(alloc: Global, image: &Image) -> Result<Translation>
+    ensures { IfOk result (Meets (image_meaning image.now.pages)) }
+{
+    let _ = image;
+    nothing(alloc)
+}
+
+fn nothing(alloc: Global) -> Result<Translation>
+    ensures { IfOk result IsEmpty }
+{
+    let Ok(map) = address_map::build(alloc, &[]) else {
+        bail!("no map");
+    };
+    let Ok(points) = exception_records::build(Vec::new(alloc)) else {
+        bail!("no points");
+    };
+    Ok(Translation {
+        words: Vec::new(alloc),
+        map,
+        points,
+    })
+}
+
+/// The most steps of a processor, and the most entries of the history.
+#[derive(Clone, Copy)]
+pub struct Limits {
+    pub budget: u64,
+    pub entries: u32,
+}
+
+/// A world before its first turn.
+pub fn world_of(
+    alloc: Global,
+    image: &Image,
+    translation: &Translation,
+    input: Vec<u8>,
+    limits: Limits,
+) -> Result<World>
+    requires whole { IsWhole image.now }
+    requires meets { Meets (image_meaning image.now.pages) translation.now }
+    ensures { IfOk result (IsReady image.now translation.now) }
+{
+    let _ = &translation.words;
+    match World::new(alloc, image, input, limits.budget, limits.entries, 0) {
+        Ok(world) => Ok(world),
+        Err(_) => bail!("want of memory"),
+    }
+}
+
+/// Gives a thread one turn.
+pub fn pick(world: &mut World, image: &Image, translation: &Translation, thread: u8) -> Result<Turn>
+    requires { IsReady image.now translation.now world.old }
+    ensures { IsReady image.now translation.now world.new }
+{
+    if usize::from(thread) >= world.processors().len() {
+        bail!("no such thread");
+    }
+    Ok(world.pick(image, translation, &[], thread))
+}
+
+/// Gives a thread so many turns.
+pub fn pick_often(
+    world: &mut World,
+    image: &Image,
+    translation: &Translation,
+    thread: u8,
+    turns: u32,
+) -> Result<()>
+    requires { IsReady image.now translation.now world.old }
+    ensures { IsReady image.now translation.now world.new }
+{
+    for _ in 0..turns {
+        pick(world, image, translation, thread)?;
+    }
+    Ok(())
+}
