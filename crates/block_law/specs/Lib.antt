@@ -2,6 +2,7 @@ pub mod References
 pub mod Placements
 pub mod Rounds
 pub mod Follows
+pub mod CodeWords
 pub mod Laws
 pub mod Tidy
 pub mod Services
