@@ -1,7 +1,7 @@
 -- What the words have to do that leave the condition codes of an instruction. In a block they stand behind its commits,
 -- where R21 to R26 hold the temporaries 0 to 5 of its micro program.
 -- VAX Architecture Reference Manual, "Processor Status Longword", the condition codes.
-use Rattle.std.specs.Prelude.{◌≡◌, ℕ, ◌<◌, ◌≤◌, ◌+◌, ◌^◌, ◌==◌, ◌&&◌, ◌||◌, not, Bool, true, false, List, length}
+use Rattle.std.specs.Prelude.{◌≡◌, ℕ, ◌<◌, ◌≤◌, ◌+◌, ◌==◌, ◌&&◌, ◌||◌, not, Bool, true, false, List, length}
 use Rattle.std.specs.List.{list_all}
 use Rattle.vax_form.specs.declared.state.Flags.{Flags}
 use Rattle.vax_form.specs.declared.state.VaxState.{VaxState}
@@ -49,11 +49,10 @@ may_be_written sources register =
     || (is_written sources.nzv && ((register == 16) || (register == 17) || (register == 18) || (register == 28) || (register == 29)))
     || (is_written sources.c && ((register == 19) || (register == 15) || (register == 30)))
 
--- R31 reads zero, registers hold quadwords, those of the codes 0 or 1, and they show the codes of a state by these rules,
--- of which some are held
+-- R31 reads zero, the registers of the codes hold 0 or 1, and the registers show the codes of a state by these rules, of
+-- which some are held
 pub record ShowCodes (regs : Regs) (rules : Rules) (held : Flags) (state : VaxState) : Type 0 where
   pub zero : regs 31 ≡ 0
-  pub quadwords : (n : ℕ) → regs n < 2 ^ 64
   pub hold : HoldCodes regs
   pub codes : codes_shown regs rules held ≡ codes_in state.psw
 
