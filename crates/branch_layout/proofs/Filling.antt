@@ -13,6 +13,7 @@ use Rattle.alpha_meaning.specs.Pieces.{Fetch, HasAt}
 use Rattle.address_map.specs.Pairs.{Pair, word_at}
 use Rattle.exception_records.specs.Blocks.{BlockValue}
 use Rattle.block_law.specs.Blocks.{Exit, exit_words, has_word, is_exit_word, IsExitOf, IsBlockOf, IsLike}
+use Rattle.block_law.proofs.Laid.{has_each}
 use Rattle.branch_layout.specs.Exits.{exit_code}
 use Rattle.branch_layout.proofs.ExitWords.{exit_length, exit_quiet, exit_encodable}
 
@@ -30,11 +31,6 @@ has_by fetch pc (i ∷ is) h =
       subst (λ x. fetch x ≡ Some i) here (h 0 i refl),
       has_by fetch (pc + 1) is (λ j k e. let there : pc + suc j ≡ pc + 1 + j = omega arith in subst (λ x. fetch x ≡ Some k) there (h (suc j) k e)),
     )
-
-pub has_each : (fetch : Fetch) (pc : ℕ) (is : List AlphaInstr) → HasAt fetch pc is → (j : ℕ) (i : AlphaInstr) → slice_get is j ≡ Some i → fetch (pc + j) ≡ Some i
-has_each fetch pc [] h j i e = cc
-has_each fetch pc (k ∷ is) h zero i e = let same : k ≡ i = cc in let here : pc ≡ pc + 0 = omega arith in subst (λ x. fetch x ≡ Some i) here (h.0 ∙ ap (λ (x : AlphaInstr). Some x) same)
-has_each fetch pc (k ∷ is) h (suc j) i e = let there : pc + 1 + j ≡ pc + suc j = omega arith in subst (λ x. fetch x ≡ Some i) there (has_each fetch (pc + 1) is h.1 j i e)
 
 -- the same words stand where another list of instructions has them
 pub has_same : (fetch fetch' : Fetch) (pc : ℕ) (is : List AlphaInstr) → ((k : ℕ) → pc ≤ k → k < pc + length is → fetch' k ≡ fetch k) → HasAt fetch pc is → HasAt fetch' pc is

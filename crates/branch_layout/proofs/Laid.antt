@@ -12,10 +12,11 @@ use Rattle.exception_records.specs.declared.rules.Rules.{Rules}
 use Rattle.block_law.specs.Blocks.{Exit, IsExitOf, Stands, RulesAt}
 use Rattle.block_law.specs.Follows.{LeadsTo}
 use Rattle.block_law.specs.Translations.{Meaning, Code, fetch_of, end_of, placed, most_words}
+use Rattle.block_law.proofs.Laid.{has_each}
 use Rattle.branch_layout.specs.Exits.{is_near, code_to, exit_code}
 use Rattle.branch_layout.specs.Layouts.{Placed, IsPlaced, AddressesRise, AreBlocks, IsLayout, places, words_of}
 use Rattle.branch_layout.proofs.Places.{size, places_rise, mapped, starts, placed_of, behind, alone, words_below, words_few}
-use Rattle.branch_layout.proofs.Filling.{has_by, has_each, All_at, some_same}
+use Rattle.branch_layout.proofs.Filling.{has_by, All_at, some_same}
 use Rattle.branch_layout.proofs.Built.{IsSet, AreBuilt}
 use Rattle.branch_layout.proofs.Leads.{near_leads, far_leads, none_leads}
 

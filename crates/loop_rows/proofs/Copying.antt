@@ -35,6 +35,7 @@ use Rattle.exception_records.specs.Codes.{all_ready}
 use Rattle.exception_records.specs.Points.{point_at}
 use Rattle.exception_records.specs.Shown.{Shows, registers_shown, psw_shown, still_held}
 use Rattle.exception_records.specs.declared.points.Point.{Point}
+use Rattle.block_law.proofs.Laid.{has_each}
 use Rattle.block_law.specs.Blocks.{is_exit_word}
 use Rattle.block_law.specs.Follows.{Follows, LeadsTo, probe_count}
 use Rattle.block_law.specs.Laws.{shows_psw}
@@ -129,13 +130,6 @@ has_by fetch pc (i ∷ is) h =
       has_by fetch (pc + 1) is (λ j k e. let there : pc + suc j ≡ pc + 1 + j = omega arith in subst (λ x. fetch x ≡ Some k) there (h (suc j) k e)),
     )
 
-has_each : (fetch : Fetch) (pc : ℕ) (is : List AlphaInstr) → HasAt fetch pc is → (j : ℕ) (i : AlphaInstr) → slice_get is j ≡ Some i → fetch (pc + j) ≡ Some i
-has_each fetch pc [] h j i e = absurd (cc e)
-has_each fetch pc (k ∷ is) h zero i e =
-    let same : k ≡ i = cc e in
-    let here : pc ≡ pc + 0 = omega arith in
-    subst (λ x. fetch x ≡ Some i) here (h.0 ∙ ap (λ (x : AlphaInstr). Some x) same)
-has_each fetch pc (k ∷ is) h (suc j) i e = let there : pc + 1 + j ≡ pc + suc j = omega arith in subst (λ x. fetch x ≡ Some i) there (has_each fetch (pc + 1) is h.1 j i e)
 
 -- the registers between the loop's
 abbrev is_free : (register : ℕ) → Bool

@@ -22,12 +22,12 @@ use Rattle.exception_records.specs.Blocks.{BlockValue}
 use Rattle.exception_records.specs.Codes.{all_ready}
 use Rattle.exception_records.specs.Shown.{Shows}
 use Rattle.exception_records.specs.declared.points.Point.{Point}
-use Rattle.block_law.specs.Blocks.{Stands, ExitsLead}
+use Rattle.block_law.specs.Blocks.{Stands, ExitsLead, RulesMeet, IsLaid}
 use Rattle.block_law.specs.Follows.{Follows}
 use Rattle.block_law.specs.Placements.{InForm}
 use Rattle.block_law.specs.Rounds.{block_steps, new_round}
 use Rattle.block_law.specs.Services.{service}
-use Rattle.block_law.specs.Translations.{Meaning, Code, placed, most_words}
+use Rattle.block_law.specs.Translations.{Meaning, Code, IsBlock, placed, most_words}
 
 -- ---- what it means
 -- R0 has the bytes that are left, R1 and R3 the addresses behind those that were copied
@@ -125,3 +125,8 @@ Copies address after block = (pages : Pages) (code : Code) (first thread n : ℕ
     → length code.words ≤ most_words → Stands code block first → IsState state → InForm regs → Shows regs address all_ready held state
     → ExitsLead (placed (copy_meaning pages after) code thread state held first) block.exits first all_ready
     → Follows (placed (copy_meaning pages after) code thread state held first) n Plain block_steps new_round (at_place regs first) (copy_tree after state)
+
+-- wherever it is laid out, where all rules are ready at its exit, it is all that a block has to be
+abbrev pub MeetsAll : (address after : ℕ) → BlockValue → Type 0
+MeetsAll address after block = (pages : Pages) (code : Code) (laid : IsLaid code address block)
+    → length code.words ≤ most_words → RulesMeet code block.exits all_ready → IsBlock (copy_meaning pages after) code address laid.first

@@ -1,7 +1,7 @@
 // The block that copies a string, written by hand.
 ghost use Rattle.std.specs.Prelude.{◌≡◌, IfOk, pos, true};
 ghost use Rattle.block_law.specs.Blocks.{IsBlockOf};
-ghost use Rattle.loop_rows.specs.Copying.{Copies, copy_words, point_of, probe_words, turn_words};
+ghost use Rattle.loop_rows.specs.Copying.{Copies, MeetsAll, copy_words, point_of, probe_words, turn_words};
 
 use alpha_encode::{AlphaInstr, BranchOp, MemoryOp, OperateOp, Second};
 use exception_records::{Block, CodeRule, Point, Rules};
@@ -110,6 +110,8 @@ pub fn copy_block(alloc: Global, address: u32, after: u32) -> Result<Block, Allo
     ensures shape { IfOk result (λ block. IsBlockOf true address block) }
     // Wherever it stands, it copies byte by byte.
     ensures means { IfOk result (λ block. Copies address after block) }
+    // It is all that a block has to be.
+    ensures meets { IfOk result (λ block. MeetsAll address after block) }
 {
     let point = point_of(address, false);
     Ok(Block {

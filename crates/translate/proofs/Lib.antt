@@ -1,4 +1,3 @@
 pub mod Zipped
-pub mod Tidied
 pub mod Meeting
 pub mod Reached

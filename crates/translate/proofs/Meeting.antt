@@ -15,14 +15,14 @@ use Rattle.exception_records.specs.declared.points.Point.{Point}
 use Rattle.exception_records.specs.declared.rules.Rules.{Rules}
 use Rattle.block_law.specs.Blocks.{Exit, RulesAt, RulesMeet, IsLaid}
 use Rattle.block_law.specs.Translations.{Code, IsBlock, Meets, fetch_of, end_of, done_at}
+use Rattle.block_law.proofs.Laid.{first_point, is_block}
 use Rattle.image_meaning.specs.Meant.{image_meaning}
 use Rattle.alpha_codegen.specs.Promises.{MeansVax}
 use Rattle.branch_layout.specs.Exits.{idle}
 use Rattle.branch_layout.specs.Layouts.{Placed, IsLayout}
-use Rattle.branch_layout.proofs.Filling.{has_each, All_at, some_same}
+use Rattle.branch_layout.proofs.Filling.{All_at, some_same}
 use Rattle.branch_layout.proofs.Places.{placed_of}
 use Rattle.translate.specs.Compiled.{AreFound, AreCompiled, IsCompiled}
-use Rattle.translate.proofs.Tidied.{like_alike, like_tidy}
 use Rattle.translate.proofs.Zipped.{instr_of}
 
 means_vax : (pages : Pages) → MeansVax (image_meaning pages)
@@ -69,13 +69,6 @@ module _ (pages : Pages) (instrs : List Instr) (blocks : List Placed) (code : Co
         first_is = some_same (sym laid.mapped ∙ ap (word_at code.map) its ∙ e);
       }
 
-  -- the point at the first word of a block
-  first_point : (address first : ℕ) (of : IsOf address first) → point_at code.points of.laid.first ≡ Some of.compiled.shape.first
-  first_point address first of =
-      let some = of.compiled.shape.tidy.some in
-      let count = of.laid.stands.like.count in
-      subst (λ w. point_at code.points w ≡ Some of.compiled.shape.first) (add-zero of.laid.first) (of.laid.stands.points 0 (omega arith) ∙ of.compiled.shape.has_first)
-
   -- where a block begins all codes are ready
   rules_meet : (exits : List Exit) → RulesMeet code exits all_ready
   rules_meet exits place exit at = by (word_at code.map exit.1) refl
@@ -85,49 +78,17 @@ module _ (pages : Pages) (instrs : List Instr) (blocks : List Placed) (code : Co
       by (Some first) e = λ point has.
           let of = is_of exit.1 first e in
           rules_ready of.instr of.block of.compiled 0 point
-          (of.compiled.shape.has_first ∙ sym (first_point exit.1 first of) ∙ subst (λ w. point_at code.points w ≡ Some point) (sym of.first_is) has)
-
-  -- the point of a word is the instruction's
-  its_point : (address first : ℕ) (of : IsOf address first) (word : ℕ) (point : Point) → word < length of.laid.stands.words → point_at code.points (of.laid.first + word) ≡ Some point
-      → (point.vax_pc ≡ of.instr.at) × (point.done ≡ done_at (fetch_of code.words (of.laid.first + word)))
-  its_point address first of word point lt has =
-      let stands = of.laid.stands in
-      let own = of.compiled.shape.points word point (sym (stands.points word lt) ∙ has) in
-      let it = get_or stands.words word idle in
-      let here : slice_get stands.words word ≡ Some it = slice_get-get_or stands.words word idle lt in
-      let there = has_each (fetch_of code.words) of.laid.first stands.words stands.stand word it here in
-      let before = get_or of.block.1.words word idle in
-      let was : slice_get of.block.1.words word ≡ Some before = slice_get-get_or of.block.1.words word idle own.within in
-      let alike = like_alike of.instr.at of.block.1 stands.words of.compiled.shape stands.like word it before here was in
-      (own.its, own.done ∙ ap done_at was ∙ sym alike.done ∙ ap done_at (sym there))
+          (of.compiled.shape.has_first ∙ sym (first_point (image_meaning pages) code of.instr.at of.block.1 of.compiled.shape of.laid) ∙ subst (λ w. point_at code.points w ≡ Some point) (sym of.first_is) has)
 
   block_at : (address first : ℕ) (of : IsOf address first) → IsBlock (image_meaning pages) code of.instr.at of.laid.first
   block_at address first of =
-      let stands = of.laid.stands in
       let shape = of.compiled.shape in
-      let end = stands.ends in
-      record {
-        point = shape.first;
-        has_point = first_point address first of;
-        its_points = λ word q low high has. inside word q low high has;
-        words = stands.words;
-        ends = stands.ends;
-        within = stands.within;
-        stand = stands.stand;
-        tidy = like_tidy of.instr.at of.block.1 stands.words shape stands.like;
-        follows = λ thread n state held regs lt is_state pc form shows.
-            of.compiled.means (image_meaning pages) (means_vax pages) code of.laid.first thread n state held regs (All_at (λ instr. found pages instr.at ≡ instruction instr) instrs of.place of.instr stand of.at)
-            stands lt is_state pc form
-            (subst (λ (rules : Rules). Shows regs of.instr.at rules held state) (rules_ready of.instr of.block of.compiled 0 shape.first shape.has_first) shows)
-            (of.laid.leads (image_meaning pages) thread state held all_ready (rules_meet of.block.1.exits));
-      }
-    where
-      inside : (word : ℕ) (q : Point) → of.laid.first ≤ word → word < end_of code of.laid.first → point_at code.points word ≡ Some q → (q.vax_pc ≡ of.instr.at) × (q.done ≡ done_at (fetch_of code.words word))
-      inside word q low high has =
-          let end = of.laid.stands.ends in
-          let there : of.laid.first + (word - of.laid.first) ≡ word = omega arith in
-          subst (λ w. (q.vax_pc ≡ of.instr.at) × (q.done ≡ done_at (fetch_of code.words w))) there
-          (its_point address first of (word - of.laid.first) q (omega arith) (subst (λ w. point_at code.points w ≡ Some q) (sym there) has))
+      is_block (image_meaning pages) code of.instr.at of.block.1 shape of.laid
+      (λ thread n state held regs lt is_state pc form shows.
+          of.compiled.means (image_meaning pages) (means_vax pages) code of.laid.first thread n state held regs (All_at (λ instr. found pages instr.at ≡ instruction instr) instrs of.place of.instr stand of.at)
+          of.laid.stands lt is_state pc form
+          (subst (λ (rules : Rules). Shows regs of.instr.at rules held state) (rules_ready of.instr of.block of.compiled 0 shape.first shape.has_first) shows)
+          (of.laid.leads (image_meaning pages) thread state held all_ready (rules_meet of.block.1.exits)))
 
   pub meets : Meets (image_meaning pages) code
   meets = record {
