@@ -4,6 +4,7 @@ pub mod Quads
 pub mod Neighbours
 pub mod Orders
 pub mod Rows
+mod Sizes
 pub mod Interpreted
 pub mod Handlers
 pub mod Making
