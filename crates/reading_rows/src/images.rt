@@ -51,9 +51,10 @@ fn sections_text(alloc: Global, image: &Image) -> Result<String, AllocError> {
     Ok(text)
 }
 
-/// The registers that are not 0 of the first thread's state, its PC and its PSW.
-fn state_text(alloc: Global, image: &Image) -> Result<String> {
-    let state = image.threads.first().context("a thread")?.state();
+/// The registers that are not 0 of a thread's first state, its PC and its PSW.
+fn state_text(alloc: Global, image: &Image, thread: u32) -> Result<String> {
+    let start = image.threads.get(thread as usize).context("a thread")?;
+    let state = start.state();
     let mut text = String::new(alloc);
     for (number, value) in state.r.iter().enumerate() {
         if *value != 0 {
@@ -75,6 +76,18 @@ fn yes_or_no(alloc: Global, yes: bool) -> Result<String, AllocError> {
     String::from_str(alloc, if yes { "yes" } else { "no" })
 }
 
+/// How many proper prefixes of the bytes are refused as truncated, each with its length.
+fn truncated_prefixes(alloc: Global, bytes: &[u8]) -> u32 {
+    let mut count = 0u32;
+    for length in 0..bytes.len() {
+        let truncated = ImageRefusal::Truncated { at: length as u64 };
+        if let Err(refusal) = read_image(alloc, &bytes[..length]) {
+            count = count.saturating_add(u32::from(refusal == truncated));
+        }
+    }
+    count
+}
+
 /// Answers a question about an image, whose file these bytes are.
 fn image_answer(alloc: Global, image: &Image, bytes: &[u8], question: &str) -> Result<String>
     requires { IsWhole image.now }
@@ -85,11 +98,12 @@ fn image_answer(alloc: Global, image: &Image, bytes: &[u8], question: &str) -> R
         "threads" => threads_text(alloc, image)?,
         "entries" => entries_text(alloc, image)?,
         "sections" => sections_text(alloc, image)?,
-        "state" => state_text(alloc, image)?,
+        "state" => state_text(alloc, image, longword(argument)?)?,
         "byte" => byte_text(alloc, image.byte(longword(argument)?))?,
         "code" => byte_text(alloc, image.pages.code_byte(longword(argument)?))?,
         "writable" => yes_or_no(alloc, image.pages.allowed(longword(argument)?, true))?,
         "code-bytes" => format!(in alloc; "{:X}", image.pages.code.len())?,
+        "prefixes" => format!(in alloc; "{:X}", truncated_prefixes(alloc, bytes))?,
         "written" => {
             let written = write_image(alloc, image).map_err(|want| anyhow!("{want:?}"))?;
             yes_or_no(alloc, written.as_slice() == bytes)?
