@@ -18,7 +18,7 @@ use Rattle.memory_core.specs.Contents.{output_of, entry_for}
 use Rattle.memory_core.specs.Fields.{IsKept, AreCurrent, stored_at}
 use Rattle.memory_core.specs.Kinds.{is_memory, is_put, is_get, writes}
 use Rattle.memory_core.specs.Order.{left_by, input_at, gets, succeeds, Fits, Meets}
-use Rattle.memory_core.specs.Places.{page_count, quad_place}
+use Rattle.memory_core.specs.Places.{quad_place}
 use Rattle.memory_core.specs.Requests.{CanMake}
 use Rattle.memory_core.specs.Reservations.{none, next_reservation}
 use Rattle.memory_core.specs.Sound.{set_up_of, IsSound}
@@ -53,21 +53,21 @@ tries_fit m p r s room lt e =
     subst (λ (v : Reservation). v.tries + 1 < 2 ^ 32) (sym e)
     (room_for_try (reverse m.history.items) p m.limit (slice_index_or m.reservations.items p none) (s.kept p lt) (omega (arith, room, length-reverse m.history.items)) s.small)
 
-within_at : (m : Inside) → IsSound m → (address : ℕ) (o : Option ℕ) → quad_place m.ranges.items address ≡ o → IfSome o (λ i. i < length m.quads.items)
+within_at : (m : Inside) → IsSound m → (address : ℕ) (o : Option ℕ) → quad_place m.index address ≡ o → IfSome o (λ i. i < length m.quads.items)
 within_at m s address None h = tt
-within_at m s address (Some i) h = (s.quads address i (ap (λ (rs : List PageRange). quad_place rs address) (sym s.ranges) ∙ h)).within
+within_at m s address (Some i) h = (s.quads address i (ap (λ (rs : List PageRange). quad_place rs address) (sym s.index) ∙ h)).within
 
-pub place_within : (m : Inside) → IsSound m → (address : ℕ) → IfSome (quad_place m.ranges.items address) (λ i. i < length m.quads.items)
-place_within m s address = within_at m s address (quad_place m.ranges.items address) refl
+pub place_within : (m : Inside) → IsSound m → (address : ℕ) → IfSome (quad_place m.index address) (λ i. i < length m.quads.items)
+place_within m s address = within_at m s address (quad_place m.index address) refl
 
 -- ---- the fields once the entry's quadword, byte or place in the input is noted
 
 pub record IsEntered (m n : Inside) (e : Entry) : Type 0 where
   pub set_up : set_up_of n ≡ set_up_of m
-  pub ranges : n.ranges.items ≡ m.ranges.items
+  pub index : n.index ≡ m.index
   pub reservations : n.reservations ≡ m.reservations
   pub history : n.history ≡ m.history
-  pub quads : n.quads.items ≡ after_entry m.ranges.items m.quads.items e
+  pub quads : n.quads.items ≡ after_entry m.index m.quads.items e
   pub taken : n.taken ≡ (if is_get e.kind then suc m.taken else m.taken)
   pub output : n.output.items ≡ m.output.items ++ (if is_put e.kind then e.after ∷ [] else [])
   pub output_room : m.limit ≤ vec_capacity n.output
@@ -88,7 +88,7 @@ module _ (m : Inside) (e : Entry) (s : IsSound m) where
   pub entered_put : (out : Vec ℕ Global) → e.kind ≡ Put → out.items ≡ m.output.items ++ e.after ∷ [] → vec_capacity out ≡ vec_capacity m.output → IsEntered m (record m { output = out }) e
   entered_put out is items room = record {
     set_up = refl;
-    ranges = refl;
+    index = refl;
     reservations = refl;
     history = refl;
     quads = rw is refl;
@@ -100,7 +100,7 @@ module _ (m : Inside) (e : Entry) (s : IsSound m) where
   pub entered_get : e.kind ≡ Get → IsEntered m (record m { taken = m.taken + 1 }) e
   entered_get is = record {
     set_up = refl;
-    ranges = refl;
+    index = refl;
     reservations = refl;
     history = refl;
     quads = rw is refl;
@@ -109,13 +109,13 @@ module _ (m : Inside) (e : Entry) (s : IsSound m) where
     output_room = s.output_room;
   }
 
-  pub entered_memory : (quads : Vec ℕ Global) → (e.kind ≡ Put → ⊥) → (e.kind ≡ Get → ⊥) → quads.items ≡ stored_at (quad_place m.ranges.items e.quad) e.after m.quads.items → IsEntered m (record m { quads = quads }) e
+  pub entered_memory : (quads : Vec ℕ Global) → (e.kind ≡ Put → ⊥) → (e.kind ≡ Get → ⊥) → quads.items ≡ stored_at (quad_place m.index e.quad) e.after m.quads.items → IsEntered m (record m { quads = quads }) e
   entered_memory quads p g items = record {
     set_up = refl;
-    ranges = refl;
+    index = refl;
     reservations = refl;
     history = refl;
-    quads = items ∙ ap (λ (b : Bool). if b then stored_at (quad_place m.ranges.items e.quad) e.after m.quads.items else m.quads.items) (sym (memory_kind e.kind p g));
+    quads = items ∙ ap (λ (b : Bool). if b then stored_at (quad_place m.index e.quad) e.after m.quads.items else m.quads.items) (sym (memory_kind e.kind p g));
     taken = ap (λ (b : Bool). if b then suc m.taken else m.taken) (sym (no_get e.kind g));
     output = append_nil m.output.items ∙ ap (λ (b : Bool). m.output.items ++ (if b then e.after ∷ [] else [])) (sym (no_put e.kind p));
     output_room = s.output_room;
@@ -124,7 +124,7 @@ module _ (m : Inside) (e : Entry) (s : IsSound m) where
 -- and once the entry is noted in reservations and history
 pub record IsNoted (m n o : Inside) (e : Entry) : Type 0 where
   pub set_up : set_up_of o ≡ set_up_of n
-  pub ranges : o.ranges.items ≡ n.ranges.items
+  pub index : o.index ≡ n.index
   pub quads : o.quads.items ≡ n.quads.items
   pub taken : o.taken ≡ n.taken
   pub output : o.output ≡ n.output
@@ -147,16 +147,16 @@ module _ (m n o : Inside) (e : Entry) (s : IsSound m) (f : Fits (set_up_of m) (r
   order_more : Meets (set_up_of o) (reverse o.history.items)
   order_more = subst (λ (h : List Entry). Meets (set_up_of o) h) (sym past) (subst (λ (k : SetUp). Meets k (e ∷ reverse m.history.items)) (sym same_set_up) (s.order, f))
 
-  current : AreCurrent (set_up_of m) (e ∷ reverse m.history.items) (after_entry m.ranges.items m.quads.items e)
+  current : AreCurrent (set_up_of m) (e ∷ reverse m.history.items) (after_entry m.index m.quads.items e)
   current =
-      subst (λ (rs : List PageRange). AreCurrent (set_up_of m) (e ∷ reverse m.history.items) (after_entry rs m.quads.items e)) (sym s.ranges)
+      subst (λ (rs : List PageRange). AreCurrent (set_up_of m) (e ∷ reverse m.history.items) (after_entry rs m.quads.items e)) (sym s.index)
       (current_more (set_up_of m) (reverse m.history.items) m.quads.items e aligned s.quads)
 
   quads_more : AreCurrent (set_up_of o) (reverse o.history.items) o.quads.items
   quads_more =
       subst (λ (q : List ℕ). AreCurrent (set_up_of o) (reverse o.history.items) q) (sym (j.quads ∙ i.quads))
-      (subst (λ (h : List Entry). AreCurrent (set_up_of o) h (after_entry m.ranges.items m.quads.items e)) (sym past)
-      (subst (λ (k : SetUp). AreCurrent k (e ∷ reverse m.history.items) (after_entry m.ranges.items m.quads.items e)) (sym same_set_up) current))
+      (subst (λ (h : List Entry). AreCurrent (set_up_of o) h (after_entry m.index m.quads.items e)) (sym past)
+      (subst (λ (k : SetUp). AreCurrent k (e ∷ reverse m.history.items) (after_entry m.index m.quads.items e)) (sym same_set_up) current))
 
   kept_all : (p : ℕ) → p < length o.reservations.items → IsKept (reverse o.history.items) p (slice_index_or o.reservations.items p none)
   kept_all p lt =
@@ -177,8 +177,7 @@ module _ (m n o : Inside) (e : Entry) (s : IsSound m) (f : Fits (set_up_of m) (r
     small = omega (arith, s.small, ap (λ (k : SetUp). k.limit) same_set_up);
     bound = omega (arith, room, ap length grown, length-append m.history.items (e ∷ []), ap (λ (k : SetUp). k.limit) same_set_up);
     room = omega (arith, s.room, j.room, ap (λ (h : Vec Entry Global). vec_capacity h) i.history, ap (λ (k : SetUp). k.limit) same_set_up);
-    ranges = j.ranges ∙ i.ranges ∙ s.ranges ∙ ap (λ (k : SetUp). k.image.pages.ranges) (sym same_set_up);
-    few = subst (λ (rs : List PageRange). page_count rs ≤ 4194304) (sym (j.ranges ∙ i.ranges)) s.few;
+    index = j.index ∙ i.index ∙ s.index ∙ ap (λ (k : SetUp). k.image.pages.ranges) (sym same_set_up);
     quads = quads_more;
     kept = kept_all;
     taken = j.taken ∙ i.taken ∙ gets_more (is_get e.kind) ∙ ap gets (sym past);

@@ -1,6 +1,7 @@
 pub mod Choices
 pub mod Filling
 pub mod Placing
+pub mod Indexing
 pub mod Keeping
 pub mod Reading
 pub mod Entering

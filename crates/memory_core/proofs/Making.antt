@@ -1,6 +1,5 @@
 -- A memory without entries.
 use Rattle.std.proofs.Common.{◌≡◌, ℕ, ◌<◌, ◌≤◌, ◌^◌, List, [], length, Option, Some, Vec, slice_index_or, reverse, vec_capacity, refl, sym, ap, ◌∙◌, subst, arith}
-use Rattle.vax_form.specs.PageTable.{AreRising}
 use Rattle.memory_core.specs.declared.entry.Entry.{Entry}
 use Rattle.memory_core.specs.declared.reservation.Reservation.{Reservation}
 use Rattle.memory_core.specs.declared.state.MemState.TheInside.{Inside}
@@ -10,12 +9,11 @@ use Rattle.memory_core.specs.Order.{gets, Meets}
 use Rattle.memory_core.specs.Places.{quad_place, quads_of}
 use Rattle.memory_core.specs.Reservations.{none}
 use Rattle.memory_core.specs.Sound.{set_up_of, IsSound}
-use Rattle.memory_core.proofs.Placing.{AreOpening, all_opening, rising_few}
+use Rattle.memory_core.proofs.Placing.{AreOpening, all_opening}
 
 pub record IsFresh (m : Inside) : Type 0 where
   pub small : m.limit < 2 ^ 32
-  pub ranges : m.ranges.items ≡ m.image.value.pages.ranges
-  pub rising : AreRising 0 m.ranges.items
+  pub index : m.index ≡ m.image.value.pages.ranges
   pub quads : m.quads.items ≡ quads_of m.image.value m.image.value.pages.ranges
   pub kept : (p : ℕ) → p < length m.reservations.items → slice_index_or m.reservations.items p none ≡ none
   pub taken : m.taken ≡ 0
@@ -42,8 +40,7 @@ module _ (m : Inside) (f : IsFresh m) where
     small = f.small;
     bound = omega (arith, ap length f.history);
     room = f.room;
-    ranges = f.ranges;
-    few = omega (arith, rising_few 0 m.ranges.items (omega arith) f.rising);
+    index = f.index;
     quads = subst (λ (h : List Entry). AreCurrent (set_up_of m) h m.quads.items) (sym past) (subst (AreCurrent (set_up_of m) []) (sym f.quads) current);
     kept = λ p l. subst (λ (h : List Entry). IsKept h p (slice_index_or m.reservations.items p none)) (sym past) (subst (IsKept [] p) (sym (f.kept p l)) (none_kept p));
     taken = f.taken ∙ ap gets (sym past);

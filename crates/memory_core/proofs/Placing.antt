@@ -9,9 +9,9 @@ use Rattle.vax_form.specs.PageTable.{has_page, AreRising}
 use Rattle.vax_form.specs.Pages.{allows}
 use Rattle.image_file.specs.Values.{ImageValue}
 use Rattle.memory_core.specs.Opening.{opening}
-use Rattle.memory_core.specs.Places.{page_count, page_place, quad_place, quads_from, quads_of}
+use Rattle.memory_core.specs.Places.{page_count, page_number, quad_place, quads_from, quads_of}
 
-has_page_tells : (page : ℕ) (r : PageRange) → has_page page r ≡ true → (r.first ≤ page) × (page < r.first + r.count)
+pub has_page_tells : (page : ℕ) (r : PageRange) → has_page page r ≡ true → (r.first ≤ page) × (page < r.first + r.count)
 has_page_tells page r h = grind (arith, nat_tests)
 
 -- ---- a page of the ranges has a place
@@ -24,16 +24,16 @@ some_step : (b : Bool) (any : Bool) (x count : ℕ) (o : Option ℕ) → any ≡
 some_step true any x count o h = refl
 some_step false any x count o h = h ∙ sym (is_some-map count o)
 
-pub any_is_some : (rs : List PageRange) (address : ℕ) → list_any (allows address false) rs ≡ is_some (page_place rs (address / 512))
+pub any_is_some : (rs : List PageRange) (address : ℕ) → list_any (allows address false) rs ≡ is_some (page_number rs (address / 512))
 any_is_some [] address = refl
-any_is_some (r ∷ rs) address = some_step (has_page (address / 512) r) (list_any (allows address false) rs) (address / 512 - r.first) r.count (page_place rs (address / 512)) (any_is_some rs address)
+any_is_some (r ∷ rs) address = some_step (has_page (address / 512) r) (list_any (allows address false) rs) (address / 512 - r.first) r.count (page_number rs (address / 512)) (any_is_some rs address)
 
 is_some-place : (address : ℕ) (o : Option ℕ) → is_some (option_map (λ n. 64 * n + address % 512 / 8) o) ≡ is_some o
 is_some-place address None = refl
 is_some-place address (Some n) = refl
 
 pub any_is_placed : (rs : List PageRange) (address : ℕ) → list_any (allows address false) rs ≡ is_some (quad_place rs address)
-any_is_placed rs address = any_is_some rs address ∙ sym (is_some-place address (page_place rs (address / 512)))
+any_is_placed rs address = any_is_some rs address ∙ sym (is_some-place address (page_number rs (address / 512)))
 
 -- a page that may be written may be read
 allows_step : (b w any any' : Bool) → (any ≡ true → any' ≡ true) → ((b && (not true || w)) || any) ≡ true → ((b && true) || any') ≡ true
@@ -48,7 +48,7 @@ any_written (r ∷ rs) address false h = h
 
 -- ---- different pages have different places
 
-abbrev placed : Bool → ℕ → ℕ → Option ℕ → Option ℕ
+abbrev pub placed : Bool → ℕ → ℕ → Option ℕ → Option ℕ
 placed b x count o = if b then Some x else option_map (λ n. count + n) o
 
 same_step : {P : Type 0} → (b b' : Bool) (x x' count n : ℕ) (o o' : Option ℕ) → (b ≡ true → x < count) → (b' ≡ true → x' < count)
@@ -75,17 +75,17 @@ same_step false false x x' count n (Some m) (Some m') l l' behind here e e' =
     let k : m' ≡ m = omega arith in
     behind m refl (ap (λ (v : ℕ). Some v) k)
 
-pub page_of_place : (rs : List PageRange) (page page' n : ℕ) → page_place rs page ≡ Some n → page_place rs page' ≡ Some n → page ≡ page'
+pub page_of_place : (rs : List PageRange) (page page' n : ℕ) → page_number rs page ≡ Some n → page_number rs page' ≡ Some n → page ≡ page'
 page_of_place [] page page' n e e' = absurd (cc e)
 page_of_place (r ∷ rs) page page' n e e' =
-    same_step (has_page page r) (has_page page' r) (page - r.first) (page' - r.first) r.count n (page_place rs page) (page_place rs page')
+    same_step (has_page page r) (has_page page' r) (page - r.first) (page' - r.first) r.count n (page_number rs page) (page_number rs page')
     (λ h. let t = has_page_tells page r h in omega arith)
     (λ h. let t = has_page_tells page' r h in omega arith)
     (page_of_place rs page page')
     (λ h h' i. let t = has_page_tells page r h in let t' = has_page_tells page' r h' in omega arith)
     e e'
 
-quad_of_place_at : (rs : List PageRange) (x y i : ℕ) (o o' : Option ℕ) → page_place rs (x / 512) ≡ o → page_place rs (y / 512) ≡ o'
+quad_of_place_at : (rs : List PageRange) (x y i : ℕ) (o o' : Option ℕ) → page_number rs (x / 512) ≡ o → page_number rs (y / 512) ≡ o'
     → option_map (λ n. 64 * n + x % 512 / 8) o ≡ Some i → option_map (λ n. 64 * n + y % 512 / 8) o' ≡ Some i → x - x % 8 ≡ y - y % 8
 quad_of_place_at rs x y i None o' p p' e e' = absurd (cc e)
 quad_of_place_at rs x y i (Some n) None p p' e e' = absurd (cc e')
@@ -97,7 +97,7 @@ quad_of_place_at rs x y i (Some n) (Some m) p p' e e' =
     omega arith
 
 pub quad_of_place : (rs : List PageRange) (x y i : ℕ) → quad_place rs x ≡ Some i → quad_place rs y ≡ Some i → x - x % 8 ≡ y - y % 8
-quad_of_place rs x y i e e' = quad_of_place_at rs x y i (page_place rs (x / 512)) (page_place rs (y / 512)) refl refl e e'
+quad_of_place rs x y i e e' = quad_of_place_at rs x y i (page_number rs (x / 512)) (page_number rs (y / 512)) refl refl e e'
 
 -- an address has the place of its quadword
 pub place_of_quad : (rs : List PageRange) (x : ℕ) → quad_place rs (x - x % 8) ≡ quad_place rs x
@@ -169,18 +169,18 @@ module _ (image : ImageValue) (address : ℕ) where
   opening_step r rest false None place is f e = absurd (cc e)
   opening_step r rest false (Some n) place is f e = opening_rest r.first r.count rest n place (f n refl) (cc e)
 
-  opening_pages : (rs : List PageRange) (n : ℕ) → page_place rs (address / 512) ≡ Some n → AreOpening image (quads_of image rs) address (64 * n + address % 512 / 8)
+  opening_pages : (rs : List PageRange) (n : ℕ) → page_number rs (address / 512) ≡ Some n → AreOpening image (quads_of image rs) address (64 * n + address % 512 / 8)
   opening_pages [] n e = absurd (cc e)
   opening_pages (r ∷ rs) n e =
-      opening_step r (quads_of image rs) (has_page (address / 512) r) (page_place rs (address / 512)) (64 * n + address % 512 / 8) refl
+      opening_step r (quads_of image rs) (has_page (address / 512) r) (page_number rs (address / 512)) (64 * n + address % 512 / 8) refl
       (λ m h. opening_pages rs m h) (ap (option_map (λ (v : ℕ). 64 * v + address % 512 / 8)) e)
 
-  opening_at : (rs : List PageRange) (o : Option ℕ) (place : ℕ) → page_place rs (address / 512) ≡ o → option_map (λ n. 64 * n + address % 512 / 8) o ≡ Some place → AreOpening image (quads_of image rs) address place
+  opening_at : (rs : List PageRange) (o : Option ℕ) (place : ℕ) → page_number rs (address / 512) ≡ o → option_map (λ n. 64 * n + address % 512 / 8) o ≡ Some place → AreOpening image (quads_of image rs) address place
   opening_at rs None place p e = absurd (cc e)
   opening_at rs (Some n) place p e = let i : 64 * n + address % 512 / 8 ≡ place = cc e in subst (AreOpening image (quads_of image rs) address) i (opening_pages rs n p)
 
   pub all_opening : (rs : List PageRange) (place : ℕ) → quad_place rs address ≡ Some place → AreOpening image (quads_of image rs) address place
-  all_opening rs place e = opening_at rs (page_place rs (address / 512)) place refl e
+  all_opening rs place e = opening_at rs (page_number rs (address / 512)) place refl e
 
 -- ---- a page table has few pages
 

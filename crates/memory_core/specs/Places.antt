@@ -1,6 +1,6 @@
 -- Where the quadwords of an image's pages stand in one list: range after range.
-use Rattle.std.specs.Prelude.{ℕ, zero, suc, ◌+◌, ◌-◌, ◌*◌, ◌/◌, ◌%◌, List, [], ◌∷◌, Option, Some, None, option_map, if◌then◌else◌}
-use Rattle.std.specs.List.{flat_map}
+use Rattle.std.specs.Prelude.{◌≡◌, ◌≤◌, ℕ, zero, suc, ◌+◌, ◌-◌, ◌*◌, ◌/◌, ◌%◌, Bool, List, [], ◌∷◌, Option, Some, None, option_map, slice_index, if◌then◌else◌}
+use Rattle.std.specs.List.{flat_map, list_any}
 use Rattle.vax_form.specs.declared.pages.PageRange.{PageRange}
 use Rattle.vax_form.specs.PageTable.{has_page}
 use Rattle.image_file.specs.Values.{ImageValue}
@@ -11,15 +11,35 @@ abbrev pub page_count : List PageRange → ℕ
 page_count [] = 0
 page_count (r ∷ rs) = r.count + page_count rs
 
+-- whether a range has the page
+abbrev pub is_page : List PageRange → ℕ → Bool
+is_page ranges page = list_any (has_page page) ranges
+
 -- the number of a page among the pages of the ranges
+abbrev pub page_number : List PageRange → ℕ → Option ℕ
+page_number [] page = None
+page_number (r ∷ rs) page =
+    if has_page page r then Some (page - r.first) else option_map (λ n. r.count + n) (page_number rs page)
+
+-- the number of a page's first quadword: a page has 64
 abbrev pub page_place : List PageRange → ℕ → Option ℕ
-page_place [] page = None
-page_place (r ∷ rs) page =
-    if has_page page r then Some (page - r.first) else option_map (λ n. r.count + n) (page_place rs page)
+page_place ranges page = option_map (λ n. 64 * n) (page_number ranges page)
 
 -- the number of the quadword at an address
 abbrev pub quad_place : List PageRange → ℕ → Option ℕ
-quad_place ranges address = option_map (λ n. 64 * n + address % 512 / 8) (page_place ranges (address / 512))
+quad_place ranges address = option_map (λ n. 64 * n + address % 512 / 8) (page_number ranges (address / 512))
+
+abbrev pub above : Option ℕ → ℕ
+above None = 0
+above (Some n) = suc n
+
+-- 0 where no range has the page, else one more than its number
+abbrev pub index_word : List PageRange → ℕ → ℕ
+index_word ranges page = above (page_number ranges page)
+
+-- the index of the ranges: a word for each page, which is 0 behind the last
+abbrev pub IsIndexOf : List ℕ → List PageRange → Type 0
+IsIndexOf words ranges = (page : ℕ) → slice_index words page ≡ index_word ranges page
 
 -- so many quadwords of the image, from an address on
 abbrev pub quads_from : ImageValue → (address count : ℕ) → List ℕ

@@ -5,7 +5,6 @@ use Rattle.memory_core.specs.declared.state.MemState.TheInside.{Inside}
 use Rattle.memory_core.specs.Contents.{Contents, output_of}
 use Rattle.memory_core.specs.Fields.{IsKept, AreCurrent}
 use Rattle.memory_core.specs.Order.{gets, Meets}
-use Rattle.memory_core.specs.Places.{page_count}
 use Rattle.memory_core.specs.Reservations.{none}
 
 abbrev pub set_up_of : Inside → SetUp
@@ -19,8 +18,7 @@ pub record IsSound (m : Inside) : Type 0 where
   pub small : m.limit < 2 ^ 32
   pub bound : length m.history.items ≤ m.limit
   pub room : m.limit ≤ vec_capacity m.history
-  pub ranges : m.ranges.items ≡ m.image.value.pages.ranges
-  pub few : page_count m.ranges.items ≤ 4194304
+  pub index : m.index ≡ m.image.value.pages.ranges
   pub quads : AreCurrent (set_up_of m) (reverse m.history.items) m.quads.items
   pub kept : (p : ℕ) → p < length m.reservations.items → IsKept (reverse m.history.items) p (slice_index_or m.reservations.items p none)
   pub taken : m.taken ≡ gets (reverse m.history.items)

@@ -5,6 +5,7 @@
 
 mod change;
 mod entry;
+mod index;
 pub mod laws;
 mod memory;
 mod page;

@@ -1,4 +1,4 @@
-// Where the quadwords of an image's pages stand, and what they are at first.
+// The quadwords of an image's pages: what they are at first, and how they are stored.
 ghost use Rattle.std.specs.Prelude.{◌≡◌, ◌≤◌, ◌<◌, ◌*◌, ◌%◌, ◌+◌, ◌++◌, length, slice_index, find, IfSome, IfOk, OnOk};
 ghost use Rattle.std.specs.Option.{option_copied};
 ghost use Rattle.image_file.specs.Memory.{has_address};
@@ -6,43 +6,19 @@ ghost use Rattle.image_file.specs.Whole.{IsWhole};
 ghost use Rattle.memory_core.specs.Fields.{stored_at};
 ghost use Rattle.memory_core.specs.Bytes.{quad_of};
 ghost use Rattle.memory_core.specs.Opening.{opening};
-ghost use Rattle.memory_core.specs.Places.{page_count, page_place, quad_place, quads_from, quads_of};
+ghost use Rattle.memory_core.specs.Places.{quad_place, quads_from, quads_of};
 
+use crate::index::PageIndex;
 use image_file::{Image, Section};
 use std::alloc::{AllocError, Global};
 use vax_form::PageRange;
 
-/// The number of a page among the pages of the ranges.
-fn page_place(ranges: &[PageRange], page: u32) -> Option<u32>
-    requires { page_count ranges.now ≤ 4194304 }
-    ensures { result ≡ page_place ranges.now page }
-{
-    let mut before = 0;
-    for range in ranges {
-        if range.first <= page && page - range.first < range.count {
-            return Some(before + (page - range.first));
-        }
-        before += range.count;
-    }
-    None
-}
-
-/// The number of the quadword at an address among the quadwords of the ranges.
-pub(crate) fn quad_place(ranges: &[PageRange], address: u32) -> Option<usize>
-    requires { page_count ranges.now ≤ 4194304 }
-    ensures { result ≡ quad_place ranges.now address }
-{
-    let page = page_place(ranges, address / 512)?;
-    Some(64 * page as usize + (address % 512 / 8) as usize)
-}
-
 /// Stores a quadword at the place of its address.
-pub(crate) fn store(ranges: &[PageRange], quads: &mut [u64], address: u32, value: u64)
-    requires few { page_count ranges.now ≤ 4194304 }
-    requires place { IfSome (quad_place ranges.now address) (λ i. i < length quads.old) }
-    ensures { quads.new ≡ stored_at (quad_place ranges.now address) value quads.old }
+pub(crate) fn store(index: &PageIndex, quads: &mut [u64], address: u32, value: u64)
+    requires { IfSome (quad_place index.now address) (λ i. i < length quads.old) }
+    ensures { quads.new ≡ stored_at (quad_place index.now address) value quads.old }
 {
-    if let Some(place) = quad_place(ranges, address) {
+    if let Some(place) = index.quad_place(address) {
         quads[place] = value;
     }
 }

@@ -1,20 +1,22 @@
-ghost use Rattle.std.specs.Prelude.{◌≡◌, ◌<◌, ◌≤◌, ◌++◌, ◌∷◌, [], ◌↔◌, ◌%◌, ◌-◌, true, false, length, reverse, IfOk};
+ghost use Rattle.std.specs.Prelude.{◌≡◌, ◌<◌, ◌≤◌, ◌++◌, ◌∷◌, [], ◌↔◌, ◌%◌, ◌-◌, ℕ, Some, true, false, is_some, length, reverse, IfOk, IfSome};
 ghost use Rattle.image_file.specs.Whole.{IsWhole};
 ghost use Rattle.vax_form.specs.Pages.{is_allowed};
 ghost use Rattle.memory_core.specs.Kinds.{is_memory};
 ghost use Rattle.memory_core.specs.Order.{found, succeeds, input_at, gets, Fits, Meets};
 ghost use Rattle.memory_core.specs.Contents.{fresh, entry_for, output_of, quad_left, byte_left, Appends};
+ghost use Rattle.memory_core.specs.Places.{is_page, page_place};
 ghost use Rattle.memory_core.specs.Requests.{CanMake, MatchReply};
 
 use crate::change::left;
 use crate::entry::{Entry, Kind, Reply, Request};
-use crate::page::{opening_quads, quad_place, store};
+use crate::index::PageIndex;
+use crate::page::{opening_quads, store};
 use crate::reservation::{Reservation, note, strikes};
 use image_file::Image;
 use std::alloc::{AllocError, Global};
 use std::marker::Model;
 use std::snapshot::Snapshot;
-use vax_form::{PageRange, WantOfMemory};
+use vax_form::WantOfMemory;
 
 /// The memory of an image's pages, its input and output, and the history of all accesses. Contracts see its set-up, the
 /// number of its processors and its history.
@@ -24,7 +26,7 @@ pub struct MemState {
     input: Vec<u8>,
     limit: u32,
     miss: u16,
-    ranges: Vec<PageRange>,
+    index: PageIndex,
     quads: Vec<u64>,
     reservations: Vec<Reservation>,
     taken: usize,
@@ -106,6 +108,17 @@ impl MemState {
         Some(quad.to_le_bytes()[address as usize % 8])
     }
 
+    /// The number of a page's first quadword among the memory's quadwords, a multiple of 64; None where the image doesn't
+    /// have the page. Each page has a place of its own.
+    pub fn page_place(&self, page: u32) -> Option<u32>
+        ensures place { result ≡ page_place self.now.set_up.image.pages.ranges page }
+        ensures pages { is_some result ≡ is_page self.now.set_up.image.pages.ranges page }
+        ensures multiple { IfSome result (λ place. place % 64 ≡ 0) }
+        ensures own { IfSome result (λ place. (other : ℕ) → page_place self.now.set_up.image.pages.ranges other ≡ Some place → other ≡ page) }
+    {
+        self.index.page_place(page)
+    }
+
     /// The entries in order, oldest first; the rest of the memory is let go.
     pub fn take_history(self) -> Vec<Entry>
         ensures value { result.items ≡ self.history }
@@ -127,8 +140,7 @@ impl MemState {
         requires { IsWhole image.now }
         ensures { IfOk result (λ m. m ≡ fresh image.now input.items processors limit miss) }
     {
-        let pages = &image.pages;
-        let ranges = Vec::from_slice(alloc, &pages.ranges)?;
+        let index = PageIndex::new(alloc, &image.pages)?;
         let quads = opening_quads(alloc, image)?;
         let reservations = vec![in alloc; Reservation::NONE; processors as usize]?;
         Ok(MemState {
@@ -136,7 +148,7 @@ impl MemState {
             input,
             limit,
             miss,
-            ranges,
+            index,
             quads,
             reservations,
             taken: 0,
@@ -149,7 +161,7 @@ impl MemState {
     fn quad(&self, address: u32) -> Option<u64>
         ensures { result ≡ quad_left self.now.set_up self.now.history address }
     {
-        let place = quad_place(&self.ranges, address)?;
+        let place = self.index.quad_place(address)?;
         Some(self.quads[place])
     }
 
@@ -224,7 +236,7 @@ impl MemState {
         match entry.kind {
             Kind::Put => self.output.push_reserved(entry.after.to_le_bytes()[0]),
             Kind::Get => self.taken += 1,
-            _ => store(&self.ranges, &mut self.quads, entry.quad, entry.after),
+            _ => store(&self.index, &mut self.quads, entry.quad, entry.after),
         }
         note(&mut self.reservations, &entry);
         self.history.push_reserved(entry);

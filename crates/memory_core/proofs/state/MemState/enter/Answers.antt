@@ -26,10 +26,7 @@ overflow_add-self c =
     omega arith
 
 pub store-requires : goal.store-requires
-store-requires c = record {
-  few = rw c.deref.ensures.value c.self.invariant.few;
-  place = rw (c.deref.ensures.value, c.deref_mut.ensures.value) (place_within c.self.inside c.self.invariant c.args.entry.quad);
-}
+store-requires c = rw c.deref_mut.ensures.value (place_within c.self.inside c.self.invariant c.args.entry.quad)
 
 pub note-requires-clause-room : goal.note-requires-clause-room
 note-requires-clause-room c =
@@ -62,13 +59,13 @@ invariant_of-self c =
       | in_default w ↦
           subst (λ (x : Inside). IsEntered m x e) (sym w.self-inside-is)
           (entered_memory m e s (with_items m.quads w.store.new.quads) w.in_default.not-Put w.in_default.not-Get
-          (with_items_is m.quads w.store.new.quads (omega (arith, w.store.auto.quads, w.deref_mut.ensures.len)) ∙ w.store.ensures ∙ rw (w.deref.ensures.value, w.deref_mut.ensures.value) refl))
+          (with_items_is m.quads w.store.new.quads (omega (arith, w.store.auto.quads, w.deref_mut.ensures.len)) ∙ w.store.ensures ∙ rw w.deref_mut.ensures.value refl))
     ] in
     let kept = with_items_is n.reservations c.note.new.reservations (omega (arith, c.note.auto.reservations, c.deref_mut-2.ensures.len)) in
     let o : Inside = record n { reservations = with_items n.reservations c.note.new.reservations; history = c.push_reserved-2.new.self } in
     let noted : IsNoted m n o e = record {
       set_up = refl;
-      ranges = refl;
+      index = refl;
       quads = refl;
       taken = refl;
       output = refl;

@@ -9,16 +9,14 @@ use Rattle.memory_core.specs.declared.reservation.Reservation.{Reservation}
 use Rattle.memory_core.proofs.Making.{IsFresh, fresh_sound}
 use Rattle.memory_core.proofs.state.MemState.reserve.Goals as goal
 
-pub invariant_of-result : goal.invariant_of-result
-invariant_of-result c =
-    let copied = c.in_ok-ranges.ensures.items ∙ c.deref.ensures.value in
-    let seen = ap (λ (t : PageTable). t.ranges) c.pages.view_is ∙ ap (λ (i : ImageValue). i.pages.ranges) c.image.view_is ∙ ap (λ (i : ImageValue). i.pages.ranges) (sym c.of.ensures) in
+pub invariant_of-result-2 : goal.invariant_of-result-2
+invariant_of-result-2 c =
+    let ranges = λ (i : ImageValue). i.pages.ranges in
     let none_all = c.in_ok-reservations.ensures.items_if_clones_equal (λ _ e. e) in
     let count = c.in_ok-reservations.ensures.len in
     fresh_sound _ (record {
       small = omega arith;
-      ranges = copied ∙ seen;
-      rising = subst (AreRising 0) (sym copied) c.pages.invariant.rising;
+      index = c.index.view_is ∙ c.in_ok-index.ensures ∙ ap ranges c.image.view_is ∙ ap ranges (sym c.of.ensures);
       quads = c.in_ok-quads.ensures ∙ ap (λ (i : ImageValue). quads_of i i.pages.ranges) (sym c.of.ensures);
       kept = λ p l. ap (λ (rs : List Reservation). slice_index_or rs p none) none_all ∙ get_or-replicate c.args.processors p none none (omega (arith, count));
       taken = refl;
