@@ -1,15 +1,14 @@
 -- A memory without entries.
-use Rattle.std.proofs.Common.{◌≡◌, ℕ, ◌<◌, ◌≤◌, ◌^◌, List, [], length, Option, Some, Vec, slice_index_or, reverse, vec_capacity, refl, sym, ap, ◌∙◌, subst, arith}
+use Rattle.std.proofs.Common.{◌≡◌, ℕ, ◌<◌, ◌≤◌, ◌^◌, List, [], length, slice_index_or, reverse, vec_capacity, refl, sym, ap, ◌∙◌, subst, arith}
 use Rattle.memory_core.specs.declared.entry.Entry.{Entry}
-use Rattle.memory_core.specs.declared.reservation.Reservation.{Reservation}
 use Rattle.memory_core.specs.declared.state.MemState.TheInside.{Inside}
 use Rattle.memory_core.specs.Contents.{output_of}
 use Rattle.memory_core.specs.Fields.{IsKept, AreCurrent}
 use Rattle.memory_core.specs.Order.{gets, Meets}
-use Rattle.memory_core.specs.Places.{quad_place, quads_of}
+use Rattle.memory_core.specs.Places.{quads_of}
 use Rattle.memory_core.specs.Reservations.{none}
 use Rattle.memory_core.specs.Sound.{set_up_of, IsSound}
-use Rattle.memory_core.proofs.Placing.{AreOpening, all_opening}
+use Rattle.memory_core.proofs.Placing.{all_opening}
 
 pub record IsFresh (m : Inside) : Type 0 where
   pub small : m.limit < 2 ^ 32

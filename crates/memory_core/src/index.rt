@@ -8,8 +8,13 @@ use std::marker::Model;
 use std::snapshot::Snapshot;
 use vax_form::{PageRange, Pages};
 
+/// The bytes of a page, and of a quadword.
+const PAGE: u32 = 512;
+
+const QUAD: u32 = 8;
+
 /// The quadwords of a page.
-const QUADS: u32 = 64;
+const QUADS: u32 = PAGE / QUAD;
 
 /// A word for each page up to the last of an image: 0 where the image doesn't have the page, else one more than the
 /// page's number among the image's pages. Contracts see it as the ranges of the image's pages.
@@ -64,7 +69,8 @@ impl PageIndex {
 
     /// The number of a page's first quadword among the quadwords of the image's pages.
     pub(crate) fn page_place(&self, page: u32) -> Option<u32>
-        ensures { result ≡ page_place self.now page }
+        ensures value { result ≡ page_place self.now page }
+        ensures low { IfSome result (λ place. place < 268435456) }
     {
         Some(QUADS * self.page_number(page)?)
     }
@@ -73,8 +79,8 @@ impl PageIndex {
     pub(crate) fn quad_place(&self, address: u32) -> Option<usize>
         ensures { result ≡ quad_place self.now address }
     {
-        let page = self.page_number(address / 512)?;
-        Some((QUADS * page + address % 512 / 8) as usize)
+        let page = self.page_place(address / PAGE)?;
+        Some((page + address % PAGE / QUAD) as usize)
     }
 }
 

@@ -1,4 +1,4 @@
-use Rattle.std.proofs.Common.{◌≡◌, ◌<◌, ◌≤◌, ◌+◌, ◌^◌, ◌∙◌, ℕ, [], ◌∷◌, ◌++◌, ap, sym, refl, subst, arith, length, reverse, slice_index_or, IfSome, Some, List, Vec}
+use Rattle.std.proofs.Common.{◌≡◌, ◌∙◌, ℕ, [], ◌∷◌, ◌++◌, ap, sym, refl, subst, arith, length, reverse, slice_index_or, List, Vec}
 use Rattle.std.proofs.lemmas.List.{with_items_is}
 use Rattle.std.specs.declared.alloc.Global.{Global}
 use Rattle.memory_core.specs.declared.reservation.Reservation.{Reservation}

@@ -9,12 +9,12 @@ pub returns-clause-pages : goal.returns-clause-pages
 returns-clause-pages c =
     let ranges = c.args.self.now.set_up.image.pages.ranges in
     let same = c.self.invariant.index ∙ ap (λ (v : Contents). v.set_up.image.pages.ranges) c.self.view_is in
-    let place : c.page_place.result ≡ page_place ranges c.args.page = c.page_place.ensures ∙ ap (λ (rs : List PageRange). page_place rs c.args.page) same in
+    let place : c.page_place.result ≡ page_place ranges c.args.page = c.page_place.ensures.value ∙ ap (λ (rs : List PageRange). page_place rs c.args.page) same in
     ap is_some place ∙ placed_exactly ranges c.args.page
 
 pub returns-clause-own : goal.returns-clause-own
 returns-clause-own c =
     let ranges = c.args.self.now.set_up.image.pages.ranges in
     let same = c.self.invariant.index ∙ ap (λ (v : Contents). v.set_up.image.pages.ranges) c.self.view_is in
-    let place : c.page_place.result ≡ page_place ranges c.args.page = c.page_place.ensures ∙ ap (λ (rs : List PageRange). page_place rs c.args.page) same in
+    let place : c.page_place.result ≡ page_place ranges c.args.page = c.page_place.ensures.value ∙ ap (λ (rs : List PageRange). page_place rs c.args.page) same in
     subst (λ (o : Option ℕ). IfSome o (λ p. (other : ℕ) → page_place ranges other ≡ Some p → other ≡ c.args.page)) (sym place) (place_own ranges c.args.page)

@@ -1,6 +1,5 @@
-use Rattle.std.proofs.Common.{◌≡◌, ◌∙◌, ap, sym, subst, arith, Some, None, slice_index_or, List}
+use Rattle.std.proofs.Common.{◌≡◌, ◌∙◌, ap, sym, arith, Some, None}
 use Rattle.std.proofs.lemmas.Grind.{get_or_default_zero}
-use Rattle.vax_form.specs.declared.pages.PageRange.{PageRange}
 use Rattle.memory_core.specs.Contents.{Contents, quad_left}
 use Rattle.memory_core.specs.Places.{quad_place}
 use Rattle.memory_core.specs.Sound.{set_up_of}

@@ -1,12 +1,10 @@
-use Rattle.std.proofs.Common.{◌≡◌, ◌<◌, ◌∙◌, ap, sym, subst, refl, arith, length, slice_index_or, List}
+use Rattle.std.proofs.Common.{◌∙◌, ap, sym, refl, arith, slice_index_or, List}
 use Rattle.std.proofs.lemmas.List.{get_or-replicate}
-use Rattle.vax_form.specs.PageTable.{PageTable, AreRising}
-use Rattle.vax_form.specs.declared.pages.PageRange.{PageRange}
 use Rattle.image_file.specs.Values.{ImageValue}
 use Rattle.memory_core.specs.Places.{quads_of}
 use Rattle.memory_core.specs.Reservations.{none}
 use Rattle.memory_core.specs.declared.reservation.Reservation.{Reservation}
-use Rattle.memory_core.proofs.Making.{IsFresh, fresh_sound}
+use Rattle.memory_core.proofs.Making.{fresh_sound}
 use Rattle.memory_core.proofs.state.MemState.reserve.Goals as goal
 
 pub invariant_of-result-2 : goal.invariant_of-result-2
