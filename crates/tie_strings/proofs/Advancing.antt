@@ -9,29 +9,23 @@ use Rattle.vax_form.specs.declared.state.VaxState.{VaxState}
 use Rattle.vax_form.proofs.Trees.{feeding_twice}
 use Rattle.tie_operands.specs.Steps.{Shows, IfWant, IsAsking, step_of}
 use Rattle.tie_operands.specs.declared.step.TieStep.{TieStep}
-use Rattle.tie_operands.specs.declared.step.TieStep.TheVariants.{Want, Retired, Exited, Raised}
+use Rattle.tie_operands.specs.declared.step.TieStep.TheVariants.{Want}
 use Rattle.tie_operands.proofs.Passing.{asking}
 use Rattle.tie_operands.proofs.Whole.{if_want}
 use Rattle.tie_strings.specs.Strings.{loop_tree, StandsAt}
 use Rattle.tie_strings.specs.declared.string.StringLoop.{StringLoop}
 
-any_step : {P : Type 0} (step : TieStep) → P → IfWant step P
-any_step (Want reference) given = given
-any_step (Retired state) given = tt
-any_step (Exited state) given = tt
-any_step (Raised exception state) given = tt
-
-pub advanced : (pages : Pages) (before : VaxState) (old new : StringLoop) (step result : TieStep) (reference : Reference) (reply : ℕ) (tree : Tree) (replies : List ℕ) → step ≡ Want reference
-    → (IsAsking (feed pages (loop_tree pages old) []) → feed pages (loop_tree pages old) (reply ∷ []) ≡ feed pages (loop_tree pages new) [])
-    → Shows before (feed pages (loop_tree pages new) []) result
+pub advanced : (pages : Pages) (before : VaxState) (old taken new : StringLoop) (step result : TieStep) (reference : Reference) (reply : ℕ) (tree : Tree) (replies : List ℕ) → step ≡ Want reference
+    → (IsAsking (feed pages (loop_tree pages old) []) → feed pages (loop_tree pages old) (reply ∷ []) ≡ feed pages (loop_tree pages taken) [])
+    → Shows before (feed pages (loop_tree pages taken) []) result → IfWant result (feed pages (loop_tree pages new) [] ≡ feed pages (loop_tree pages taken) [])
     → StandsAt pages before tree replies old step → StandsAt pages before tree (replies ++ reply ∷ []) new result
-advanced pages before old new step result reference reply tree replies wants takes shows stands =
+advanced pages before old taken new step result reference reply tree replies wants takes shows same stands =
     let given : IfWant (Want reference) (feed pages (loop_tree pages old) [] ≡ feed pages tree replies) = subst (λ s. IfWant s (feed pages (loop_tree pages old) [] ≡ feed pages tree replies)) wants stands.rest in
     let asks = asking before (feed pages tree replies) reference (sym wants ∙ stands.shown.head) in
-    let rest : feed pages (loop_tree pages new) [] ≡ feed pages tree (replies ++ reply ∷ []) =
+    let rest : feed pages (loop_tree pages taken) [] ≡ feed pages tree (replies ++ reply ∷ []) =
     sym (takes (subst IsAsking (sym given) asks)) ∙ sym (feeding_twice pages (loop_tree pages old) [] (reply ∷ []))
     ∙ ap (λ t. feed pages t (reply ∷ [])) given ∙ feeding_twice pages tree replies (reply ∷ []) in
-    record { shown = subst (λ t. Shows before t result) rest shows; rest = any_step result rest }
+    record { shown = subst (λ t. Shows before t result) rest shows; rest = if_want result (λ e. e ∙ rest) same }
 
 -- what does not want a reference is over
 abbrev IsOver : Tree → Type 0

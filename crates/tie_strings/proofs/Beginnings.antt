@@ -1,7 +1,6 @@
 -- A long instruction is its operands, and what its operation does; a move is its checks, and its loop.
-use Rattle.std.proofs.Common.{◌≡◌, ℕ, [], List, Option, Some, None, Result, Ok, Err, refl, ap, ◌∙◌}
-use Rattle.vax_form.specs.Script.{Script}
-use Rattle.vax_form.specs.Tree.{Tree, tree_of, feed, instruction_tree, stop_outcome}
+use Rattle.std.proofs.Common.{◌≡◌, [], ap, ◌∙◌}
+use Rattle.vax_form.specs.Tree.{tree_of, feed, instruction_tree}
 use Rattle.vax_form.specs.declared.instr.Instr.{Instr}
 use Rattle.vax_form.specs.declared.operation.LongOperation.{LongOperation}
 use Rattle.vax_form.specs.declared.operation.Operation.TheVariants as operations
@@ -10,7 +9,7 @@ use Rattle.vax_form.specs.declared.row.Row.{Row}
 use Rattle.vax_form.specs.declared.state.VaxState.{VaxState}
 use Rattle.vax_form.specs.Row.{row_of_operation}
 use Rattle.vax_meaning.specs.Evaluation.{operands_from, nothings}
-use Rattle.vax_long.specs.Instructions.{long_body, long_script}
+use Rattle.vax_long.specs.Instructions.{long_script}
 use Rattle.tie_operands.specs.Rest.{Behind, instr_of, operands_rest}
 use Rattle.tie_operands.specs.declared.operands.Operands.{Operands}
 use Rattle.tie_strings.specs.Bodies.{long_tree}

@@ -1,7 +1,7 @@
 -- A move is the checks of its strings, and its loop.
-use Rattle.std.proofs.Common.{◌≡◌, ℕ, ◌<◌, List, Result, Ok, Err, refl, ap, ◌∙◌, arith}
+use Rattle.std.proofs.Common.{◌≡◌, ℕ, List, Ok, Err, refl, ap, ◌∙◌, arith}
 use Rattle.std.specs.Prelude.{min}
-use Rattle.vax_form.specs.Tree.{Tree, tree_of, feed, head_outcome, stop_outcome}
+use Rattle.vax_form.specs.Tree.{tree_of, feed, head_outcome}
 use Rattle.vax_form.specs.declared.instr.Instr.{Instr}
 use Rattle.vax_form.specs.declared.instr.Size.TheVariants.{Byte, Word, Long}
 use Rattle.vax_form.specs.declared.operation.LongOperation.{LongOperation}

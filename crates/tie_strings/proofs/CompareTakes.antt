@@ -1,7 +1,7 @@
 -- What is left of a comparison behind a reply.
-use Rattle.std.proofs.Common.{◌≡◌, ℕ, zero, suc, ◌-◌, ◌%◌, ◌==◌, [], ◌∷◌, Bool, true, false, refl, ap, sym, ◌∙◌, arith, subst}
-use Rattle.vax_form.specs.Tree.{Tree, Check, Ask, feed, tree_of, ends_with, instruction_tree}
-use Rattle.vax_form.specs.Script.{Script, ◌>>=◌, ◌>>◌, change, pure, when◌then◌else◌}
+use Rattle.std.proofs.Common.{◌≡◌, ℕ, zero, suc, ◌<◌, ◌-◌, ◌%◌, ◌==◌, [], ◌∷◌, Bool, true, false, refl, ap, sym, ◌∙◌, arith, subst}
+use Rattle.vax_form.specs.Tree.{Tree, feed, tree_of, ends_with, instruction_tree}
+use Rattle.vax_form.specs.Script.{◌>>◌, change, pure, when◌then◌else◌}
 use Rattle.vax_form.specs.declared.instr.Width.TheVariants.{Byte}
 use Rattle.vax_form.specs.declared.pages.Pages.{Pages}
 use Rattle.vax_form.specs.declared.state.RefKind.TheVariants.{Read}
@@ -11,86 +11,127 @@ use Rattle.vax_meaning.specs.Memory.{low_bytes}
 use Rattle.vax_meaning.specs.Moves.{with_comparison}
 use Rattle.vax_long.specs.Strings.{beside, fetch_byte, compare_bytes}
 use Rattle.tie_operands.specs.Steps.{IsAsking}
+use Rattle.tie_strings.specs.Bytes.{next_byte}
 use Rattle.tie_strings.specs.Compares.{compare_second, compare_on, comparing_end, comparing_script}
 use Rattle.tie_strings.specs.declared.comparing.Pair.{Pair}
 use Rattle.tie_strings.specs.declared.comparing.Pair.TheVariants.{First, Second, Differs}
 use Rattle.tie_strings.specs.declared.comparing.Compared.{Compared}
-use Rattle.tie_strings.proofs.Replying.{checked_reply}
+use Rattle.tie_strings.proofs.Replying.{reading, read_reply, check_made}
+use Rattle.tie_strings.proofs.Unchecked.{some_left, compared_by, compared_from}
 
 abbrev reference : ℕ → Reference
 reference address = record { address = address; count = 1; kind = Read }
 
-abbrev tree : Pages → VaxState → Compared → Pair → (left first second : ℕ) → Tree
-tree pages state compared pair left first second = instruction_tree pages (comparing_script pair left first second compared) state
+abbrev tree : Pages → VaxState → Compared → (checked : Bool) → Pair → (left first second : ℕ) → Tree
+tree pages state compared checked pair left first second = instruction_tree pages (comparing_script checked pair left first second compared) state
 
 -- what comes behind the comparison
 abbrev ending : Pages → Compared → (left : ℕ) → VaxState → Tree
 ending pages compared left after = tree_of pages (comparing_end compared left) after ends_with
 
 -- the first byte is read, and then the second one
-first_of : (rest whole less : ℕ) (pages : Pages) (state : VaxState) (compared : Compared) (first second : ℕ) → whole ≡ suc rest → less ≡ rest
-    → tree pages state compared First whole first second
-    ≡ Check first 1 false (Ask (reference first) (λ r. tree_of pages (compare_second (low_bytes 1 r) less whole first second) state (ending pages compared)))
-unfolding comparing_script compare_on compare_bytes fetch_byte
-first_of rest whole less pages state compared first second a b = rw (a, b) refl
+abbrev second_read : Pages → VaxState → Compared → (left first second one : ℕ) → Tree
+second_read pages state compared left first second one = tree_of pages (compare_second false one (left - 1) left first second) state (ending pages compared)
 
-pub first_taken : (rest : ℕ) (pages : Pages) (state : VaxState) (compared : Compared) (pair : Pair) (left first second reply : ℕ) → pair ≡ First → left ≡ suc rest
-    → IsAsking (feed pages (tree pages state compared pair left first second) [])
-    → feed pages (tree pages state compared pair left first second) (reply ∷ []) ≡ feed pages (tree pages state compared (Second (reply % 256)) left first second) []
+first_of : (checked : Bool) (pages : Pages) (state : VaxState) (compared : Compared) (left first second : ℕ) → (left == 0) ≡ false
+    → tree pages state compared checked First left first second
+    ≡ reading checked first (reference first) (λ r. second_read pages state compared left first second (low_bytes 1 r))
+unfolding comparing_script compare_on next_byte fetch_byte
+first_of true pages state compared left first second some = rw some refl
+first_of false pages state compared left first second some = rw some refl
+
+pub first_taken : (pages : Pages) (state : VaxState) (compared : Compared) (checked : Bool) (pair : Pair) (left first second reply : ℕ) → pair ≡ First → 0 < left
+    → IsAsking (feed pages (tree pages state compared checked pair left first second) [])
+    → feed pages (tree pages state compared checked pair left first second) (reply ∷ []) ≡ feed pages (tree pages state compared false (Second (reply % 256)) left first second) []
 unfolding comparing_script compare_on
-first_taken rest pages state compared pair left first second reply at is asks =
-    let whole = ap (λ p. tree pages state compared p left first second) at ∙ first_of rest left (left - 1) pages state compared first second is (omega (arith, is)) in
+first_taken pages state compared checked pair left first second reply at some asks =
+    let whole = ap (λ p. tree pages state compared checked p left first second) at ∙ first_of checked pages state compared left first second (some_left left some) in
     ap (λ t. feed pages t (reply ∷ [])) whole
-    ∙ checked_reply pages first (reference first) (λ r. tree_of pages (compare_second (low_bytes 1 r) (left - 1) left first second) state (ending pages compared)) reply
+    ∙ read_reply checked pages first (reference first) (λ r. second_read pages state compared left first second (low_bytes 1 r)) reply
     (subst (λ t. IsAsking (feed pages t [])) whole asks)
 
-pub first_over : (pages : Pages) (state : VaxState) (compared : Compared) (pair : Pair) (left first second reply : ℕ) → pair ≡ First → left ≡ 0
-    → feed pages (tree pages state compared pair left first second) (reply ∷ []) ≡ feed pages (tree pages state compared pair left first second) []
-unfolding comparing_script compare_on compare_bytes
-first_over pages state compared pair left first second reply at is = rw (at, is) refl
-
-pub differs_over : (one other : ℕ) (pages : Pages) (state : VaxState) (compared : Compared) (pair : Pair) (left first second reply : ℕ) → pair ≡ Differs one other
-    → feed pages (tree pages state compared pair left first second) (reply ∷ []) ≡ feed pages (tree pages state compared pair left first second) []
+pub first_over : (pages : Pages) (state : VaxState) (compared : Compared) (checked : Bool) (pair : Pair) (left first second reply : ℕ) → pair ≡ First → left ≡ 0
+    → feed pages (tree pages state compared checked pair left first second) (reply ∷ []) ≡ feed pages (tree pages state compared checked pair left first second) []
 unfolding comparing_script compare_on
-differs_over one other pages state compared pair left first second reply at = rw at refl
+first_over pages state compared checked pair left first second reply at is = rw (at, is) refl
+
+pub differs_over : (one other : ℕ) (pages : Pages) (state : VaxState) (compared : Compared) (checked : Bool) (pair : Pair) (left first second reply : ℕ) → pair ≡ Differs one other
+    → feed pages (tree pages state compared checked pair left first second) (reply ∷ []) ≡ feed pages (tree pages state compared checked pair left first second) []
+unfolding comparing_script compare_on
+differs_over one other pages state compared checked pair left first second reply at = rw at refl
 
 -- what is done with the two bytes
 abbrev looked_at : Pages → VaxState → Compared → (same : Bool) → (one other left first second : ℕ) → Tree
-looked_at pages state compared same one other left first second = tree_of pages
+looked_at pages state compared same one other left first second = compared_by pages state compared
     (when same
     then compare_bytes (left - 1) (beside false first) (beside false second)
     else (do
       change (with_comparison Byte one other)
       pure left))
-    state (ending pages compared)
 
-second_taken : (pages : Pages) (state : VaxState) (compared : Compared) (pair : Pair) (one left first second reply : ℕ) → pair ≡ Second one
-    → IsAsking (feed pages (tree pages state compared pair left first second) [])
-    → feed pages (tree pages state compared pair left first second) (reply ∷ [])
+second_of : (checked : Bool) (pages : Pages) (state : VaxState) (compared : Compared) (one left first second : ℕ)
+    → tree pages state compared checked (Second one) left first second
+    ≡ reading checked second (reference second) (λ r. looked_at pages state compared (one == low_bytes 1 r) one (low_bytes 1 r) left first second)
+unfolding comparing_script compare_on next_byte fetch_byte
+second_of true pages state compared one left first second = refl
+second_of false pages state compared one left first second = refl
+
+second_taken : (pages : Pages) (state : VaxState) (compared : Compared) (checked : Bool) (pair : Pair) (one left first second reply : ℕ) → pair ≡ Second one
+    → IsAsking (feed pages (tree pages state compared checked pair left first second) [])
+    → feed pages (tree pages state compared checked pair left first second) (reply ∷ [])
     ≡ feed pages (looked_at pages state compared (one == low_bytes 1 reply) one (low_bytes 1 reply) left first second) []
-unfolding comparing_script compare_on fetch_byte
-second_taken pages state compared pair one left first second reply at asks =
-    let whole : tree pages state compared pair left first second ≡ tree pages state compared (Second one) left first second = ap (λ p. tree pages state compared p left first second) at in
+second_taken pages state compared checked pair one left first second reply at asks =
+    let whole = ap (λ p. tree pages state compared checked p left first second) at ∙ second_of checked pages state compared one left first second in
     ap (λ t. feed pages t (reply ∷ [])) whole
-    ∙ checked_reply pages second (reference second) (λ r. looked_at pages state compared (one == low_bytes 1 r) one (low_bytes 1 r) left first second) reply
+    ∙ read_reply checked pages second (reference second) (λ r. looked_at pages state compared (one == low_bytes 1 r) one (low_bytes 1 r) left first second) reply
     (subst (λ t. IsAsking (feed pages t [])) whole asks)
 
-pub second_same : (pages : Pages) (state : VaxState) (compared : Compared) (pair : Pair) (one left first second reply : ℕ) (same : Bool) → pair ≡ Second one
+pub second_same : (pages : Pages) (state : VaxState) (compared : Compared) (checked : Bool) (pair : Pair) (one left first second reply : ℕ) (same : Bool) → pair ≡ Second one
     → same ≡ (one == reply % 256) → same ≡ true
-    → IsAsking (feed pages (tree pages state compared pair left first second) [])
-    → feed pages (tree pages state compared pair left first second) (reply ∷ [])
-    ≡ feed pages (tree pages state compared First (left - 1) (beside false first) (beside false second)) []
+    → IsAsking (feed pages (tree pages state compared checked pair left first second) [])
+    → feed pages (tree pages state compared checked pair left first second) (reply ∷ [])
+    ≡ feed pages (tree pages state compared false First (left - 1) (beside false first) (beside false second)) []
+unfolding comparing_script
+second_same pages state compared checked pair one left first second reply same at tells is asks =
+    second_taken pages state compared checked pair one left first second reply at asks
+    ∙ ap (λ b. feed pages (looked_at pages state compared b one (low_bytes 1 reply) left first second) []) (sym tells ∙ is)
+    ∙ ap (λ t. feed pages t []) (sym (compared_from pages state compared (left - 1) (beside false first) (beside false second)))
+
+pub second_differs : (pages : Pages) (state : VaxState) (compared : Compared) (checked : Bool) (pair : Pair) (one left first second reply : ℕ) (same : Bool) → pair ≡ Second one
+    → same ≡ (one == reply % 256) → same ≡ false
+    → IsAsking (feed pages (tree pages state compared checked pair left first second) [])
+    → feed pages (tree pages state compared checked pair left first second) (reply ∷ [])
+    ≡ feed pages (tree pages state compared false (Differs one (reply % 256)) left first second) []
 unfolding comparing_script compare_on
-second_same pages state compared pair one left first second reply same at tells is asks =
-    second_taken pages state compared pair one left first second reply at asks
+second_differs pages state compared checked pair one left first second reply same at tells is asks =
+    second_taken pages state compared checked pair one left first second reply at asks
     ∙ ap (λ b. feed pages (looked_at pages state compared b one (low_bytes 1 reply) left first second) []) (sym tells ∙ is)
 
-pub second_differs : (pages : Pages) (state : VaxState) (compared : Compared) (pair : Pair) (one left first second reply : ℕ) (same : Bool) → pair ≡ Second one
-    → same ≡ (one == reply % 256) → same ≡ false
-    → IsAsking (feed pages (tree pages state compared pair left first second) [])
-    → feed pages (tree pages state compared pair left first second) (reply ∷ [])
-    ≡ feed pages (tree pages state compared (Differs one (reply % 256)) left first second) []
+first_noted : (pages : Pages) (state : VaxState) (compared : Compared) (checked : Bool) (left first second : ℕ) → 0 < left
+    → IsAsking (feed pages (tree pages state compared checked First left first second) [])
+    → feed pages (tree pages state compared true First left first second) [] ≡ feed pages (tree pages state compared checked First left first second) []
+first_noted pages state compared checked left first second some asks =
+    let on : ℕ → Tree = λ r. second_read pages state compared left first second (low_bytes 1 r) in
+    let now = first_of checked pages state compared left first second (some_left left some) in
+    ap (λ t. feed pages t []) (first_of true pages state compared left first second (some_left left some))
+    ∙ check_made checked pages first (reference first) on (subst (λ t. IsAsking (feed pages t [])) now asks)
+    ∙ ap (λ t. feed pages t []) (sym now)
+
+second_noted : (pages : Pages) (state : VaxState) (compared : Compared) (checked : Bool) (one left first second : ℕ)
+    → IsAsking (feed pages (tree pages state compared checked (Second one) left first second) [])
+    → feed pages (tree pages state compared true (Second one) left first second) [] ≡ feed pages (tree pages state compared checked (Second one) left first second) []
+second_noted pages state compared checked one left first second asks =
+    let on : ℕ → Tree = λ r. looked_at pages state compared (one == low_bytes 1 r) one (low_bytes 1 r) left first second in
+    ap (λ t. feed pages t []) (second_of true pages state compared one left first second)
+    ∙ check_made checked pages second (reference second) on (subst (λ t. IsAsking (feed pages t [])) (second_of checked pages state compared one left first second) asks)
+    ∙ ap (λ t. feed pages t []) (sym (second_of checked pages state compared one left first second))
+
+-- once the next byte is wanted, its check was made
+pub noted : (pages : Pages) (state : VaxState) (compared : Compared) (checked : Bool) (pair : Pair) (left first second : ℕ)
+    → IsAsking (feed pages (tree pages state compared checked pair left first second) [])
+    → feed pages (tree pages state compared true pair left first second) [] ≡ feed pages (tree pages state compared checked pair left first second) []
 unfolding comparing_script compare_on
-second_differs pages state compared pair one left first second reply same at tells is asks =
-    second_taken pages state compared pair one left first second reply at asks
-    ∙ ap (λ b. feed pages (looked_at pages state compared b one (low_bytes 1 reply) left first second) []) (sym tells ∙ is)
+noted pages state compared checked First zero first second asks = refl
+noted pages state compared checked First (suc rest) first second asks = first_noted pages state compared checked (suc rest) first second (omega arith) asks
+noted pages state compared checked (Second one) left first second asks = second_noted pages state compared checked one left first second asks
+noted pages state compared checked (Differs one other) left first second asks = refl

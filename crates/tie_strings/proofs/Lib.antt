@@ -1,4 +1,5 @@
 pub mod Replying
+pub mod Unchecked
 pub mod MoveTakes
 pub mod CompareTakes
 pub mod ScanTakes

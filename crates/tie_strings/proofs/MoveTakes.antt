@@ -1,6 +1,6 @@
 -- What is left of a move behind a reply.
 use Rattle.std.proofs.Common.{◌≡◌, ℕ, suc, ◌-◌, ◌%◌, [], ◌∷◌, Bool, false, Option, Some, None, refl, ap, ◌∙◌, arith}
-use Rattle.vax_form.specs.Tree.{Tree, feed, tree_of, ends_with, instruction_tree}
+use Rattle.vax_form.specs.Tree.{feed, tree_of, ends_with, instruction_tree}
 use Rattle.vax_form.specs.Script.{Script, ◌>>◌, change}
 use Rattle.vax_form.specs.declared.instr.Width.TheVariants.{Word}
 use Rattle.vax_form.specs.declared.pages.Pages.{Pages}

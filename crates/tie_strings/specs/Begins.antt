@@ -1,5 +1,5 @@
 -- Instructions with strings, before their first reference.
-use Rattle.std.specs.Prelude.{◌≡◌, ℕ, ◌-◌, min, not, nat_le, Bool, true, false, List, Option, Some, None, Result, Ok, Err}
+use Rattle.std.specs.Prelude.{◌≡◌, ℕ, ◌-◌, min, not, nat_le, Bool, true, false, List, None, Result, Ok, Err}
 use Rattle.vax_form.specs.Script.{Script, ◌>>◌}
 use Rattle.vax_form.specs.Tree.{feed, stop_outcome}
 use Rattle.vax_form.specs.declared.instr.Instr.{Instr}
@@ -70,6 +70,7 @@ compare_of instr values = record {
   first = value_of_place values 1 Long;
   second = value_of_place values 2 Long;
   pair = First;
+  checked = false;
   compared = record {
     count = value_of_place values 0 Word;
     first = value_of_place values 1 Long;
@@ -84,6 +85,7 @@ scan_of instr locates values = record {
   left = value_of_place values 1 Word;
   address = value_of_place values 2 Long;
   stopped = false;
+  checked = false;
   scanned = record {
     locates = locates;
     character = value_of_place values 0 Byte;

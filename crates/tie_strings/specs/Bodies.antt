@@ -1,5 +1,5 @@
 -- The rest of the tree of a long instruction behind its operands.
-use Rattle.std.specs.Prelude.{ℕ, List}
+use Rattle.std.specs.Prelude.{List}
 use Rattle.vax_form.specs.Tree.{Tree, feed, instruction_tree}
 use Rattle.vax_form.specs.declared.instr.Instr.{Instr}
 use Rattle.vax_form.specs.declared.operation.LongOperation.{LongOperation}

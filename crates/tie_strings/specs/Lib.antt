@@ -1,4 +1,5 @@
 pub mod Moves
+pub mod Bytes
 pub mod Compares
 pub mod Scans
 pub mod Strings

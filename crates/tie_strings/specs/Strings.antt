@@ -17,8 +17,8 @@ use Rattle.tie_strings.specs.declared.string.StringLoop.{StringLoop}
 -- what is left of it
 abbrev pub strings_script : Strings → Script End
 strings_script (Moves m) = moving_script m.byte m.down m.left m.from m.to m.fill m.moved
-strings_script (Compares m) = comparing_script m.pair m.left m.first m.second m.compared
-strings_script (Scans m) = scanning_script m.stopped m.left m.address m.scanned
+strings_script (Compares m) = comparing_script m.checked m.pair m.left m.first m.second m.compared
+strings_script (Scans m) = scanning_script m.stopped m.checked m.left m.address m.scanned
 
 abbrev pub strings_tree : Pages → Strings → VaxState → Tree
 strings_tree pages strings state = instruction_tree pages (strings_script strings) state

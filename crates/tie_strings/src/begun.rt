@@ -143,6 +143,7 @@ pub(crate) fn comparison_begun(instr: &Instr, values: &[Evaluated; 6]) -> Compar
         first,
         second,
         pair: Pair::First,
+        checked: false,
         compared: Compared {
             count,
             first,
@@ -163,6 +164,7 @@ pub(crate) fn search_begun(instr: &Instr, locates: bool, values: &[Evaluated; 6]
         left: count,
         address,
         stopped: false,
+        checked: false,
         scanned: Scanned {
             locates,
             character,

@@ -1,9 +1,10 @@
-ghost use Rattle.std.specs.Prelude.{◌≡◌, ◌==◌, ◌∷◌, []};
+ghost use Rattle.std.specs.Prelude.{◌≡◌, ◌==◌, ◌-◌, ◌∷◌, []};
 ghost use Rattle.vax_meaning.specs.Play.{Plays, Uses};
 
+use crate::byte::next_byte;
 use vax_form::{End, Stop, Width};
-use vax_long::{beside, beyond, byte_fetched, bytes_compared};
-use vax_meaning::{Cursor, gone_to, set_compared, set_register_of};
+use vax_long::{beside, beyond, bytes_compared};
+use vax_meaning::{Cursor, gone_to, set_codes, set_compared, set_register_of};
 
 /// How far the next two bytes are.
 #[derive(Clone, Copy, Debug, PartialEq, Eq)]
@@ -33,6 +34,8 @@ pub(crate) struct Comparing {
     pub(crate) first: u32,
     pub(crate) second: u32,
     pub(crate) pair: Pair,
+    /// Whether the next byte was checked.
+    pub(crate) checked: bool,
     pub(crate) compared: Compared,
 }
 
@@ -47,30 +50,43 @@ impl Comparing {
     ghost use Rattle.vax_form.specs.declared.pages.Pages.{Pages};
     ghost use Rattle.vax_form.specs.declared.state.VaxState.{VaxState};
     ghost use Rattle.tie_operands.specs.Steps.{IsAsking};
-    ghost use Rattle.tie_strings.specs.Compares.{compare_on, comparing_script};
+    ghost use Rattle.tie_strings.specs.Compares.{compare_second, compare_on, comparing_script};
+
+    /// Compares the second of two bytes with the first, and what is left behind both.
+    fn second_compared(&self, cursor: &mut Cursor, checked: bool, one: u8) -> Result<u16, Stop>
+        ensures plays { Plays (compare_second checked one (self.now.left - 1) self.now.left self.now.first self.now.second) cursor.old result cursor.new }
+        ensures few { Uses 131071 cursor.old result cursor.new }
+    {
+        let other = next_byte(cursor, checked, self.second)?;
+        if one == other {
+            bytes_compared(
+                cursor,
+                self.left.saturating_sub(1),
+                beside(false, self.first),
+                beside(false, self.second),
+            )
+        } else {
+            set_compared(cursor, Width::Byte, one as u64, other as u64);
+            Ok(self.left)
+        }
+    }
 
     /// Compares what is left, and gives the number of bytes left.
     #[tactic(auto, unfolding(crate::specs::Compares::compare_on))]
     fn bytes_compared_on(&self, cursor: &mut Cursor) -> Result<u16, Stop>
-        ensures plays { Plays (compare_on self.now.pair self.now.left self.now.first self.now.second) cursor.old result cursor.new }
-        ensures few { Uses 131071 cursor.old result cursor.new }
+        ensures plays { Plays (compare_on self.now.checked self.now.pair self.now.left self.now.first self.now.second) cursor.old result cursor.new }
+        ensures few { Uses 131072 cursor.old result cursor.new }
     {
         match self.pair {
-            Pair::First => bytes_compared(cursor, self.left, self.first, self.second),
-            Pair::Second(one) => {
-                let other = byte_fetched(cursor, self.second)?;
-                if one == other {
-                    bytes_compared(
-                        cursor,
-                        self.left.saturating_sub(1),
-                        beside(false, self.first),
-                        beside(false, self.second),
-                    )
-                } else {
-                    set_compared(cursor, Width::Byte, one as u64, other as u64);
-                    Ok(self.left)
+            Pair::First => {
+                if self.left == 0 {
+                    set_codes(cursor, false, true, false, false);
+                    return Ok(0);
                 }
+                let one = next_byte(cursor, self.checked, self.first)?;
+                self.second_compared(cursor, false, one)
             }
+            Pair::Second(one) => self.second_compared(cursor, self.checked, one),
             Pair::Differs(one, other) => {
                 set_compared(cursor, Width::Byte, one as u64, other as u64);
                 Ok(self.left)
@@ -81,8 +97,8 @@ impl Comparing {
     /// Goes through what is left of the instruction.
     #[tactic(auto, unfolding(crate::specs::Compares::comparing_script))]
     pub(crate) fn run(&self, cursor: &mut Cursor) -> Result<End, Stop>
-        ensures plays { Plays (comparing_script self.now.pair self.now.left self.now.first self.now.second self.now.compared) cursor.old result cursor.new }
-        ensures few { Uses 131071 cursor.old result cursor.new }
+        ensures plays { Plays (comparing_script self.now.checked self.now.pair self.now.left self.now.first self.now.second self.now.compared) cursor.old result cursor.new }
+        ensures few { Uses 131072 cursor.old result cursor.new }
     {
         let left = self.bytes_compared_on(cursor)?;
         let done = self.compared.count.saturating_sub(left);
@@ -93,21 +109,33 @@ impl Comparing {
         gone_to(cursor, self.compared.after)
     }
 
+    /// Notes that the byte that is wanted was checked.
+    pub(crate) fn note_check(&mut self)
+        ensures { (pages : Pages) (state : VaxState)
+            → IsAsking (feed pages (instruction_tree pages (comparing_script self.old.checked self.old.pair self.old.left self.old.first self.old.second self.old.compared) state) [])
+            → feed pages (instruction_tree pages (comparing_script self.new.checked self.new.pair self.new.left self.new.first self.new.second self.new.compared) state) []
+            ≡ feed pages (instruction_tree pages (comparing_script self.old.checked self.old.pair self.old.left self.old.first self.old.second self.old.compared) state) [] }
+    {
+        self.checked = true;
+    }
+
     /// Takes the reply to the reference that is wanted.
     pub(crate) fn take(&mut self, reply: u64)
         ensures { (pages : Pages) (state : VaxState)
-            → IsAsking (feed pages (instruction_tree pages (comparing_script self.old.pair self.old.left self.old.first self.old.second self.old.compared) state) [])
-            → feed pages (instruction_tree pages (comparing_script self.old.pair self.old.left self.old.first self.old.second self.old.compared) state) (reply ∷ [])
-            ≡ feed pages (instruction_tree pages (comparing_script self.new.pair self.new.left self.new.first self.new.second self.new.compared) state) [] }
+            → IsAsking (feed pages (instruction_tree pages (comparing_script self.old.checked self.old.pair self.old.left self.old.first self.old.second self.old.compared) state) [])
+            → feed pages (instruction_tree pages (comparing_script self.old.checked self.old.pair self.old.left self.old.first self.old.second self.old.compared) state) (reply ∷ [])
+            ≡ feed pages (instruction_tree pages (comparing_script self.new.checked self.new.pair self.new.left self.new.first self.new.second self.new.compared) state) [] }
     {
         let byte = (reply % 256) as u8;
         match self.pair {
             Pair::First => {
                 if self.left > 0 {
+                    self.checked = false;
                     self.pair = Pair::Second(byte);
                 }
             }
             Pair::Second(one) => {
+                self.checked = false;
                 if is_same(one, byte) {
                     self.pair = Pair::First;
                     self.left = self.left.saturating_sub(1);

@@ -3,11 +3,13 @@
 //! 36, and go through it anew, and a string keeps its place and at most one byte. Memory stays with the caller.
 //!
 //! `body` is what comes behind the operands of an instruction without a string, `moving`, `comparing` and `scanning` are
-//! strings under way, `string` goes through any of them, and `tie` is the whole instruction.
+//! strings under way, `byte` reads the next byte of one, `string` goes through any of them, and `tie` is the whole
+//! instruction.
 #![tactic(auto)]
 
 mod begun;
 mod body;
+mod byte;
 mod comparing;
 mod moving;
 mod scanning;

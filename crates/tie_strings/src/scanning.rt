@@ -1,6 +1,7 @@
 ghost use Rattle.std.specs.Prelude.{◌≡◌, ◌∷◌, []};
 ghost use Rattle.vax_meaning.specs.Play.{Plays, Uses};
 
+use crate::byte::next_byte;
 use vax_form::{End, Stop};
 use vax_long::{beside, beyond, bytes_scanned, stops_at};
 use vax_meaning::{Cursor, gone_to, set_codes, set_register_of};
@@ -24,6 +25,8 @@ pub(crate) struct Scanning {
     pub(crate) address: u32,
     /// Whether the next one stopped it.
     pub(crate) stopped: bool,
+    /// Whether the next one was checked.
+    pub(crate) checked: bool,
     pub(crate) scanned: Scanned,
 }
 
@@ -37,25 +40,32 @@ impl Scanning {
     /// Searches what is left, and gives the number of bytes left.
     #[tactic(auto, unfolding(crate::specs::Scans::scan_on))]
     fn bytes_scanned_on(&self, cursor: &mut Cursor) -> Result<u16, Stop>
-        ensures plays { Plays (scan_on self.now.stopped self.now.left self.now.address self.now.scanned) cursor.old result cursor.new }
+        ensures plays { Plays (scan_on self.now.stopped self.now.checked self.now.left self.now.address self.now.scanned) cursor.old result cursor.new }
         ensures few { Uses 65535 cursor.old result cursor.new }
     {
         if self.stopped {
+            return Ok(self.left);
+        }
+        if self.left == 0 {
+            return Ok(0);
+        }
+        let byte = next_byte(cursor, self.checked, self.address)?;
+        if stops_at(self.scanned.locates, self.scanned.character, byte) {
             return Ok(self.left);
         }
         bytes_scanned(
             cursor,
             self.scanned.locates,
             self.scanned.character,
-            self.left,
-            self.address,
+            self.left - 1,
+            beside(false, self.address),
         )
     }
 
     /// Goes through what is left of the instruction.
     #[tactic(auto, unfolding(crate::specs::Scans::scanning_script))]
     pub(crate) fn run(&self, cursor: &mut Cursor) -> Result<End, Stop>
-        ensures plays { Plays (scanning_script self.now.stopped self.now.left self.now.address self.now.scanned) cursor.old result cursor.new }
+        ensures plays { Plays (scanning_script self.now.stopped self.now.checked self.now.left self.now.address self.now.scanned) cursor.old result cursor.new }
         ensures few { Uses 65535 cursor.old result cursor.new }
     {
         let left = self.bytes_scanned_on(cursor)?;
@@ -66,12 +76,22 @@ impl Scanning {
         gone_to(cursor, self.scanned.after)
     }
 
+    /// Notes that the byte that is wanted was checked.
+    pub(crate) fn note_check(&mut self)
+        ensures { (pages : Pages) (state : VaxState)
+            → IsAsking (feed pages (instruction_tree pages (scanning_script self.old.stopped self.old.checked self.old.left self.old.address self.old.scanned) state) [])
+            → feed pages (instruction_tree pages (scanning_script self.new.stopped self.new.checked self.new.left self.new.address self.new.scanned) state) []
+            ≡ feed pages (instruction_tree pages (scanning_script self.old.stopped self.old.checked self.old.left self.old.address self.old.scanned) state) [] }
+    {
+        self.checked = true;
+    }
+
     /// Takes the reply to the reference that is wanted.
     pub(crate) fn take(&mut self, reply: u64)
         ensures { (pages : Pages) (state : VaxState)
-            → IsAsking (feed pages (instruction_tree pages (scanning_script self.old.stopped self.old.left self.old.address self.old.scanned) state) [])
-            → feed pages (instruction_tree pages (scanning_script self.old.stopped self.old.left self.old.address self.old.scanned) state) (reply ∷ [])
-            ≡ feed pages (instruction_tree pages (scanning_script self.new.stopped self.new.left self.new.address self.new.scanned) state) [] }
+            → IsAsking (feed pages (instruction_tree pages (scanning_script self.old.stopped self.old.checked self.old.left self.old.address self.old.scanned) state) [])
+            → feed pages (instruction_tree pages (scanning_script self.old.stopped self.old.checked self.old.left self.old.address self.old.scanned) state) (reply ∷ [])
+            ≡ feed pages (instruction_tree pages (scanning_script self.new.stopped self.new.checked self.new.left self.new.address self.new.scanned) state) [] }
     {
         if self.stopped {
             return;
@@ -79,6 +99,7 @@ impl Scanning {
         if self.left == 0 {
             return;
         }
+        self.checked = false;
         let byte = (reply % 256) as u8;
         if stops_at(self.scanned.locates, self.scanned.character, byte) {
             self.stopped = true;

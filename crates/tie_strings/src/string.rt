@@ -35,6 +35,18 @@ impl Strings {
         }
     }
 
+    /// Notes that the byte that is wanted was checked.
+    fn note_check(&mut self)
+        ensures { (pages : Pages) (state : VaxState) → IsAsking (feed pages (strings_tree pages self.old state) [])
+            → feed pages (strings_tree pages self.new state) [] ≡ feed pages (strings_tree pages self.old state) [] }
+    {
+        match self {
+            Strings::Moves(_) => {}
+            Strings::Compares(comparing) => comparing.note_check(),
+            Strings::Scans(scanning) => scanning.note_check(),
+        }
+    }
+
     /// Takes the reply to the reference that is wanted.
     fn take(&mut self, reply: u64)
         ensures { (pages : Pages) (state : VaxState) → IsAsking (feed pages (strings_tree pages self.old state) [])
@@ -59,7 +71,7 @@ impl StringLoop {
     ghost use Rattle.vax_form.specs.Tree.{feed};
     ghost use Rattle.std.specs.Prelude.{ℕ, List, ◌++◌};
     ghost use Rattle.vax_form.specs.Tree.{Tree};
-    ghost use Rattle.tie_operands.specs.Steps.{Shows, Passes};
+    ghost use Rattle.tie_operands.specs.Steps.{Shows, Passes, IfWant};
     ghost use Rattle.tie_strings.specs.Strings.{strings_tree, loop_tree, StandsAt};
 
     /// Goes through what is left.
@@ -70,7 +82,7 @@ impl StringLoop {
     }
 
     /// The next reference, or the end.
-    fn show(&self, pages: &Pages, before: &VaxState) -> TieStep
+    fn look(&self, pages: &Pages, before: &VaxState) -> TieStep
         ensures { Shows before.now (feed pages.now (loop_tree pages.now self.now) []) result }
     {
         let mut cursor = Cursor {
@@ -82,6 +94,18 @@ impl StringLoop {
             Ok(end) => TieStep::ended(end, &cursor.state),
             Err(stop) => TieStep::stopped(stop, before),
         }
+    }
+
+    /// The next reference, whose check is then made, or the end.
+    fn show(&mut self, pages: &Pages, before: &VaxState) -> TieStep
+        ensures shown { Shows before.now (feed pages.now (loop_tree pages.now self.old) []) result }
+        ensures rest { IfWant result (feed pages.now (loop_tree pages.now self.new) [] ≡ feed pages.now (loop_tree pages.now self.old) []) }
+    {
+        let step = self.look(pages, before);
+        if let TieStep::Want(_) = step {
+            self.strings.note_check();
+        }
+        step
     }
 
     /// Takes one reply more, where a step wants one.
