@@ -1,0 +1,9 @@
+pub mod Numbers
+pub mod Ready
+pub mod Frames
+pub mod Values
+pub mod Told
+pub mod Shown
+pub mod Whole
+pub mod Leaving
+pub mod Leaves

@@ -1,0 +1,77 @@
+-- Codes that are live are ready.
+use Rattle.std.proofs.Common.{◌≡◌, refl, sym, ap, Bool, true, false}
+use Rattle.vax_form.specs.Row.{class_of_operation, class_of_binary}
+use Rattle.vax_form.specs.declared.instr.Width.{Width}
+use Rattle.vax_form.specs.declared.operation.BinaryOperation.{BinaryOperation}
+use Rattle.vax_form.specs.declared.operation.BinaryOperation.TheVariants as binary
+use Rattle.vax_form.specs.declared.operation.Operation.TheVariants as operations
+use Rattle.vax_form.specs.declared.row.Class.TheVariants.{Translated}
+use Rattle.vax_form.specs.declared.state.Flags.{Flags}
+use Rattle.cc_liveness.specs.Codes.{Code, holds}
+use Rattle.cc_liveness.specs.Codes as code
+use Rattle.cc_liveness.specs.Liveness.{passes}
+use Rattle.cc_liveness.specs.Uses.{code_use_of, written_by_binary}
+use Rattle.micro_ops.specs.declared.codes.CodeSource.{CodeSource}
+use Rattle.micro_ops.specs.declared.codes.CodeSource.TheVariants.{Kept}
+use Rattle.micro_ops.specs.Sources.{sources_of}
+use Rattle.exception_records.specs.Codes.{is_ready}
+use Rattle.exception_records.specs.declared.rules.CodeRule.{CodeRule}
+use Rattle.block_law.specs.CodeWords.{is_written, codes_written_by}
+use Rattle.flag_codegen.specs.Rules.{rule_behind, rules_behind}
+use Rattle.flag_codegen.specs.Promises.{AreReady, SourcesAreWritten, LiveAreReady}
+
+-- ---- what is written
+two_written : (operation : BinaryOperation) (width : Width) → class_of_binary operation ≡ Translated
+    → codes_written_by (sources_of (operations.TwoOperands operation width)) ≡ written_by_binary operation
+unfolding sources_of written_by_binary
+two_written binary.Add width h = refl
+two_written binary.Subtract width h = refl
+two_written binary.Multiply width h = refl
+two_written binary.Divide width h = absurd (cc h)
+two_written binary.BitSet width h = refl
+two_written binary.BitClear width h = refl
+two_written binary.ExclusiveOr width h = refl
+
+three_written : (operation : BinaryOperation) (width : Width) → class_of_binary operation ≡ Translated
+    → codes_written_by (sources_of (operations.ThreeOperands operation width)) ≡ written_by_binary operation
+unfolding sources_of written_by_binary
+three_written binary.Add width h = refl
+three_written binary.Subtract width h = refl
+three_written binary.Multiply width h = refl
+three_written binary.Divide width h = absurd (cc h)
+three_written binary.BitSet width h = refl
+three_written binary.BitClear width h = refl
+three_written binary.ExclusiveOr width h = refl
+
+pub sources_are_written : SourcesAreWritten
+unfolding sources_of code_use_of class_of_operation
+sources_are_written (operations.TwoOperands operation width) h = two_written operation width h
+sources_are_written (operations.ThreeOperands operation width) h = three_written operation width h
+sources_are_written (operations.ExtractField signed) h = absurd (cc h)
+sources_are_written operations.InsertField h = absurd (cc h)
+sources_are_written (operations.Case width) h = absurd (cc h)
+sources_are_written (operations.Long operation) h = absurd (cc h)
+sources_are_written operation h = refl
+
+-- ---- what is ready
+-- a code that isn't written, and is live, is wanted before
+wanted : (reads writes live : Bool) → writes ≡ false → live ≡ true → passes reads writes live ≡ true
+wanted true writes live e f = refl
+wanted false writes live e f = rw (e, f) refl
+
+ready_behind : (source : CodeSource) (reads writes live : Bool) (before : CodeRule) → is_written source ≡ writes → live ≡ true
+    → (passes reads writes live ≡ true → is_ready before ≡ true) → is_ready (rule_behind source live before) ≡ true
+ready_behind Kept reads writes live before w l h = h (wanted reads writes live (sym w) l)
+ready_behind source reads writes live before w l h = rw l refl
+
+pub live_are_ready : LiveAreReady
+live_are_ready operation live before translated h = by
+  where
+    written : codes_written_by (sources_of operation) ≡ (code_use_of operation).writes
+    written = sources_are_written operation translated
+
+    by : AreReady live (rules_behind (sources_of operation) live before)
+    by code.negative l = ready_behind (sources_of operation).nzv (code_use_of operation).reads.n (code_use_of operation).writes.n live.n before.n (ap (λ (set : Flags). set.n) written) l (h code.negative)
+    by code.zero_code l = ready_behind (sources_of operation).nzv (code_use_of operation).reads.z (code_use_of operation).writes.z live.z before.z (ap (λ (set : Flags). set.z) written) l (h code.zero_code)
+    by code.overflow l = ready_behind (sources_of operation).nzv (code_use_of operation).reads.v (code_use_of operation).writes.v live.v before.v (ap (λ (set : Flags). set.v) written) l (h code.overflow)
+    by code.carry l = ready_behind (sources_of operation).c (code_use_of operation).reads.c (code_use_of operation).writes.c live.c before.c (ap (λ (set : Flags). set.c) written) l (h code.carry)

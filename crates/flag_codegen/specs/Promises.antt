@@ -1,0 +1,42 @@
+-- What is promised of the words of condition codes, and of the rules behind an instruction.
+use Rattle.std.specs.Prelude.{◌≡◌, ℕ, true}
+use Rattle.vax_form.specs.Row.{class_of_operation}
+use Rattle.vax_form.specs.declared.operation.Operation.{Operation}
+use Rattle.vax_form.specs.declared.row.Class.TheVariants.{Translated}
+use Rattle.vax_form.specs.declared.state.Flags.{Flags}
+use Rattle.cc_liveness.specs.Codes.{Code, holds}
+use Rattle.cc_liveness.specs.Codes as code
+use Rattle.cc_liveness.specs.Liveness.{wanted_before}
+use Rattle.cc_liveness.specs.Uses.{code_use_of}
+use Rattle.micro_ops.specs.Sources.{sources_of}
+use Rattle.block_law.specs.CodeWords.{codes_written_by}
+use Rattle.exception_records.specs.Codes.{is_ready}
+use Rattle.exception_records.specs.declared.rules.CodeRule.{CodeRule}
+use Rattle.exception_records.specs.declared.rules.Rules.{Rules}
+use Rattle.flag_codegen.specs.Rules.{rules_behind}
+
+-- the most words that leave the condition codes of an instruction
+abbrev pub most_words : ℕ
+most_words = 10
+
+abbrev pub rule_for : Code → Rules → CodeRule
+rule_for code.negative rules = rules.n
+rule_for code.zero_code rules = rules.z
+rule_for code.overflow rules = rules.v
+rule_for code.carry rules = rules.c
+
+-- each code of the set is in its register
+abbrev pub AreReady : (set : Flags) → Rules → Type 0
+AreReady set rules = (code : Code) → holds code set ≡ true → is_ready (rule_for code rules) ≡ true
+
+-- what a translated operation writes are the codes that have a source
+abbrev pub SourcesAreWritten : Type 0
+SourcesAreWritten = (operation : Operation) → class_of_operation operation ≡ Translated
+    → codes_written_by (sources_of operation) ≡ (code_use_of operation).writes
+
+-- The codes that are live behind a translated instruction are ready there, if those that are wanted before it are ready
+-- before.
+abbrev pub LiveAreReady : Type 0
+LiveAreReady = (operation : Operation) (live : Flags) (before : Rules) → class_of_operation operation ≡ Translated
+    → AreReady (wanted_before (code_use_of operation) live) before
+    → AreReady live (rules_behind (sources_of operation) live before)

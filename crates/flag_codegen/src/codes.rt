@@ -1,0 +1,203 @@
+// The words of each condition code, and all of them.
+ghost use Rattle.std.specs.Prelude.{◌≡◌, ◌≤◌, ◌++◌, length, All, IfOk, OnOk};
+ghost use Rattle.alpha_encode.specs.Words.{IsEncodable};
+ghost use Rattle.micro_ops.specs.Sources.{sources_of};
+ghost use Rattle.exception_records.specs.declared.rules.Rules.{Rules};
+ghost use Rattle.block_law.specs.Tidy.{codes_written};
+ghost use Rattle.block_law.specs.CodeWords.{LeavesCodes};
+ghost use Rattle.flag_codegen.specs.Rules.{rules_behind, codes_made};
+ghost use Rattle.flag_codegen.specs.Words.{negative_words, zero_words, overflow_words, carry_words, operand_words, carry_code, signs_code, code_words};
+ghost use Rattle.flag_codegen.specs.Promises.{most_words};
+
+use crate::instructions::{
+    FIRST, RESULT, SECOND, clear, move_to, operate, operate_by, push_bit, push_less, push_unlike,
+    sign,
+};
+use crate::rules::is_made;
+use alpha_encode::{AlphaInstr, OperateOp};
+use micro_ops::{CodeSource, sources_of};
+use std::alloc::{AllocError, Global};
+use vax_form::{Flags, Operation, WantOfMemory};
+
+/// The registers of the codes.
+const NEGATIVE: u8 = 16;
+
+const ZERO: u8 = 17;
+
+const OVERFLOW: u8 = 18;
+
+const CARRY: u8 = 19;
+
+/// The temporaries that hold V and C where they have no rule.
+const COMPUTED_OVERFLOW: u8 = 24;
+
+const COMPUTED_CARRY: u8 = 25;
+
+/// The places of N, Z and V in the PSW; C is bit 0.
+const NEGATIVE_PLACE: u8 = 3;
+
+const ZERO_PLACE: u8 = 2;
+
+const OVERFLOW_PLACE: u8 = 1;
+
+/// The registers that keep the operands of the rule of N, Z and V, and of that of C.
+const KEPT_FIRST: u8 = 28;
+
+const KEPT_SECOND: u8 = 29;
+
+const CARRY_FIRST: u8 = 15;
+
+const CARRY_SECOND: u8 = 30;
+
+fn push_negative(words: &mut Vec<AlphaInstr>, source: CodeSource) -> Result<(), AllocError>
+    ensures { OnOk result (words.new.items ≡ words.old.items ++ negative_words source) }
+{
+    use CodeSource::{Add, Compare, Computed, Kept, Psw, Result, Sub, Zero};
+    match source {
+        Kept => {}
+        Zero => words.push(clear(NEGATIVE))?,
+        Result(size) | Add(size) | Sub(size) | Computed(size) => {
+            words.push(sign(size, RESULT, NEGATIVE))?
+        }
+        Compare(size) => push_less(words, size, FIRST, SECOND, NEGATIVE)?,
+        Psw => push_bit(words, NEGATIVE_PLACE, NEGATIVE)?,
+    }
+    Ok(())
+}
+
+fn push_zero(words: &mut Vec<AlphaInstr>, source: CodeSource) -> Result<(), AllocError>
+    ensures { OnOk result (words.new.items ≡ words.old.items ++ zero_words source) }
+{
+    use CodeSource::{Add, Compare, Computed, Kept, Psw, Result, Sub, Zero};
+    match source {
+        Kept => {}
+        Zero => words.push(clear(ZERO))?,
+        Result(_) | Add(_) | Sub(_) | Computed(_) => {
+            words.push(operate_by(OperateOp::Cmpeq, RESULT, 0, ZERO))?
+        }
+        Compare(_) => words.push(operate(OperateOp::Cmpeq, FIRST, SECOND, ZERO))?,
+        Psw => push_bit(words, ZERO_PLACE, ZERO)?,
+    }
+    Ok(())
+}
+
+fn push_overflow(words: &mut Vec<AlphaInstr>, source: CodeSource) -> Result<(), AllocError>
+    ensures { OnOk result (words.new.items ≡ words.old.items ++ overflow_words source) }
+{
+    use CodeSource::{Add, Compare, Computed, Kept, Psw, Result, Sub, Zero};
+    match source {
+        Kept => {}
+        Zero | Result(_) | Compare(_) => words.push(clear(OVERFLOW))?,
+        Add(size) => push_unlike(words, size, RESULT, FIRST, SECOND, OVERFLOW)?,
+        Sub(size) => push_unlike(words, size, FIRST, SECOND, RESULT, OVERFLOW)?,
+        Computed(_) => words.push(move_to(COMPUTED_OVERFLOW, OVERFLOW))?,
+        Psw => push_bit(words, OVERFLOW_PLACE, OVERFLOW)?,
+    }
+    Ok(())
+}
+
+fn push_carry(words: &mut Vec<AlphaInstr>, source: CodeSource) -> Result<(), AllocError>
+    ensures { OnOk result (words.new.items ≡ words.old.items ++ carry_words source) }
+{
+    use CodeSource::{Add, Compare, Computed, Kept, Psw, Result, Sub, Zero};
+    match source {
+        Kept => {}
+        Zero | Result(_) => words.push(clear(CARRY))?,
+        Add(_) => words.push(operate(OperateOp::Cmpult, RESULT, FIRST, CARRY))?,
+        Sub(_) | Compare(_) => words.push(operate(OperateOp::Cmpult, FIRST, SECOND, CARRY))?,
+        Computed(_) => words.push(move_to(COMPUTED_CARRY, CARRY))?,
+        Psw => words.push(operate_by(OperateOp::And, RESULT, 1, CARRY))?,
+    }
+    Ok(())
+}
+
+// The operands of a rule into two registers that keep them.
+fn push_operands(
+    words: &mut Vec<AlphaInstr>,
+    source: CodeSource,
+    first: u8,
+    second: u8,
+) -> Result<(), AllocError>
+    ensures { OnOk result (words.new.items ≡ words.old.items ++ operand_words source first second) }
+{
+    match source {
+        CodeSource::Result(_) => words.push(move_to(FIRST, first))?,
+        CodeSource::Add(_) | CodeSource::Sub(_) | CodeSource::Compare(_) => {
+            words.extend_from_slice(&[move_to(FIRST, first), move_to(SECOND, second)])?
+        }
+        _ => {}
+    }
+    Ok(())
+}
+
+// C: the operands of its rule where it isn't live, else its register.
+fn push_carry_code(
+    words: &mut Vec<AlphaInstr>,
+    source: CodeSource,
+    live: bool,
+) -> Result<(), AllocError>
+    ensures { OnOk result (words.new.items ≡ words.old.items ++ carry_code source live) }
+{
+    if !live {
+        push_operands(words, source, CARRY_FIRST, CARRY_SECOND)?;
+    }
+    if is_made(source, live) {
+        push_carry(words, source)?;
+    }
+    Ok(())
+}
+
+// N, Z and V: the operands of their rule where some isn't live, and the registers of those that are made.
+fn push_signs_code(
+    words: &mut Vec<AlphaInstr>,
+    source: CodeSource,
+    live: Flags,
+) -> Result<(), AllocError>
+    ensures { OnOk result (words.new.items ≡ words.old.items ++ signs_code source live) }
+{
+    if !(live.n && live.z && live.v) {
+        push_operands(words, source, KEPT_FIRST, KEPT_SECOND)?;
+    }
+    if is_made(source, live.v) {
+        push_overflow(words, source)?;
+    }
+    if is_made(source, live.n) {
+        push_negative(words, source)?;
+    }
+    if is_made(source, live.z) {
+        push_zero(words, source)?;
+    }
+    Ok(())
+}
+
+fn code_words_of(
+    alloc: Global,
+    operation: Operation,
+    live: Flags,
+) -> Result<Vec<AlphaInstr>, AllocError>
+    ensures { IfOk result (λ words. words.items ≡ code_words (sources_of operation) live) }
+{
+    let sources = sources_of(operation);
+    let mut words = Vec::new(alloc);
+    push_carry_code(&mut words, sources.c, live.c)?;
+    push_signs_code(&mut words, sources.nzv, live)?;
+    Ok(words)
+}
+
+/// The words that leave the condition codes of an operation, of which some are live behind it. They find the operands of
+/// its rule in R21 and R22, the result, or a new PSW, in R23, and a computed V and C in R24 and R25.
+pub fn code_words(
+    alloc: Global,
+    operation: Operation,
+    live: Flags,
+) -> Result<Vec<AlphaInstr>, WantOfMemory>
+    // Whatever rules the codes had before.
+    ensures leaves { IfOk result (λ words. (before : Rules) → LeavesCodes (sources_of operation) before (rules_behind (sources_of operation) live before) words.items) }
+    // A word writes a code's register exactly where the operation writes the code, and that is live or has no rule.
+    ensures writes { IfOk result (λ words. codes_written words.items ≡ codes_made (sources_of operation) live) }
+    ensures short { IfOk result (λ words. length words.items ≤ most_words) }
+    ensures encodable { IfOk result (λ words. All IsEncodable words.items) }
+    ensures words { IfOk result (λ words. words.items ≡ code_words (sources_of operation) live) }
+{
+    code_words_of(alloc, operation, live).map_err(|_| WantOfMemory)
+}

@@ -1,0 +1,9 @@
+// What holds of the sources and rules of every operation.
+ghost use Rattle.flag_codegen.specs.Promises.{SourcesAreWritten, LiveAreReady};
+
+/// A translated operation writes the codes that have a source. A code that is live behind it is ready there, if those that
+/// are wanted before it are ready before.
+pub fn flag_laws()
+    ensures sources { SourcesAreWritten }
+    ensures ready { LiveAreReady }
+{}
