@@ -10,4 +10,9 @@ pub mod Finishing
 pub mod Ordered
 pub mod Short
 pub mod Low
+pub mod Held
 pub mod More
+pub mod Walking
+pub mod OperandWalks
+pub mod Committing
+pub mod RowWalks

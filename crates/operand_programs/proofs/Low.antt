@@ -19,8 +19,8 @@ use Rattle.micro_ops.specs.declared.program.Micro.{Micro}
 use Rattle.micro_ops.specs.declared.program.Micro.TheVariants.{Probe, Read}
 use Rattle.operand_programs.specs.Specifiers.{sum_into, address_program, index_program, place_program, pointer_of, steps_behind, register_program, commit_one, commit_program}
 use Rattle.operand_programs.specs.Operands.{access_program}
-use Rattle.operand_programs.specs.Results.{steps_left, give_program}
-use Rattle.operand_programs.specs.Words.{OperandIsLow, FinishIsLow}
+use Rattle.operand_programs.specs.Results.{steps_left, give_program, steps_behind_push}
+use Rattle.operand_programs.specs.Words.{OperandIsLow, ResultIsLow, ReplacementIsLow, PushIsLow, FinishIsLow, CommitsAreLow}
 use Rattle.operand_programs.specs.declared.specifiers.Pointer.{Pointer}
 
 low_4 : (temp : ℕ) → temp < 4 → is_low temp ≡ true
@@ -29,7 +29,7 @@ low_4 temp lt = lt-ltb temp 6 (omega (arith, lt))
 both : (a b : Bool) → a ≡ true → b ≡ true → (a && b) ≡ true
 both a b x y = rw (x, y) refl
 
-joined_low : (first second : List Micro) → IsLowPiece first → IsLowPiece second → IsLowPiece (first ++ second)
+pub joined_low : (first second : List Micro) → IsLowPiece first → IsLowPiece second → IsLowPiece (first ++ second)
 joined_low first second x y = list_all-append names_low first second ∙ both _ _ x y
 
 sum_low : (to : ℕ) (from : Option ℕ) (offset : ℕ) → is_low to ≡ true → names_low (sum_into to from offset) ≡ true
@@ -116,3 +116,24 @@ give_low (Target address) size steps from f = refl
 pub finish_is_low : FinishIsLow
 finish_is_low operand size steps from low =
     joined_low (commit_program 0 (steps_left operand size steps)) (give_program operand size steps from) (commits_low 0 (steps_left operand size steps)) (give_low operand size steps from (low_4 from low))
+
+pub commits_are_low : CommitsAreLow
+commits_are_low steps = commits_low 0 steps
+
+-- ---- results
+pub result_is_low : ResultIsLow
+result_is_low (Place base index) size place from p f = rw (low_4 place p, low_4 from f) refl
+result_is_low Unused size place from p f = refl
+result_is_low (Value value) size place from p f = refl
+result_is_low (Register n) size place from p f = refl
+result_is_low (Target address) size place from p f = refl
+
+pub replacement_is_low : ReplacementIsLow
+replacement_is_low (Place base index) size place from p f = rw (low_4 place p, low_4 from f) refl
+replacement_is_low Unused size place from p f = refl
+replacement_is_low (Value value) size place from p f = refl
+replacement_is_low (Register n) size place from p f = refl
+replacement_is_low (Target address) size place from p f = refl
+
+pub push_is_low : PushIsLow
+push_is_low steps place from p f = rw (sum_low place (Some 14) (get_or (steps_behind_push steps) 14 0) (low_4 place p), low_4 place p, low_4 from f) refl

@@ -1,6 +1,7 @@
 -- A program that fits behind what is known also fits where more is known.
-use Rattle.std.proofs.Common.{◌≡◌, ℕ, Bool, true, false, List, [], ◌∷◌, Option, Some, None, refl, sym, ap, ◌∙◌, subst, eqb}
-use Rattle.std.specs.Prelude.{◌&&◌, ◌||◌, not, if◌then◌else◌, option_and_then, slice_set}
+use Rattle.std.proofs.Common.{◌≡◌, ℕ, ◌<◌, ◌≤◌, eqb, Bool, true, false, List, [], ◌∷◌, ◌++◌, length, Option, Some, None, refl, sym, ap, ◌∙◌, subst, arith, inl, inr, length-set}
+use Rattle.std.specs.Prelude.{◌&&◌, ◌||◌, not, if◌then◌else◌, option_and_then}
+use Rattle.std.proofs.lemmas.Bool.{cases_eq, cases_lt, both_ways}
 use Rattle.micro_ops.specs.Fits.{argument_fits, place_fits, reference_fits, code_fits, exit_holds, exit_fits, signs_are_held, carry_is_held, sources_fit, is_from_values, is_from_psw, when_fits, step, walk, same}
 use Rattle.micro_ops.specs.Known.{held, with_held, holds, holds_longword, has_flag, is_something, is_longword, is_checked, is_committed, forgotten, behind_write, behind_access, behind_commit}
 use Rattle.micro_ops.specs.Meaning.{locked_count}
@@ -19,7 +20,9 @@ use Rattle.micro_ops.specs.declared.program.Exit.{Exit}
 use Rattle.micro_ops.specs.declared.program.Exit.TheVariants as exits
 use Rattle.micro_ops.specs.declared.program.Micro.{Micro}
 use Rattle.micro_ops.specs.declared.program.Micro.TheVariants.{Compute, Probe, Refuse, Read, Write, Locked, Commit, Codes, SetPsw, Leave}
-use Rattle.operand_programs.specs.Knowing.{IsNoMore, IsSameCheck, KnowsMore, FitsBehindMore}
+use Rattle.micro_ops.proofs.Walks.{walks_joined}
+use Rattle.operand_programs.specs.Knowing.{IsNoMore, IsSameCheck, KnowsMore, FitsBetween, FitsBehindMore, FitsJoined}
+use Rattle.operand_programs.proofs.Held.{SameRest, flag_more, high_held, held_set, held_same, held_other, held_behind, lost_behind, rest_kept}
 
 -- ---- tests
 abbrev Implies : Bool → Bool → Type 0
@@ -39,15 +42,31 @@ the_same a b is e = sym is ∙ e
 itself : (a : Bool) → Implies a a
 itself a e = e
 
+not_back : (a b : Bool) → Implies b a → Implies (not a) (not b)
+not_back a true implies e = absurd (both_ways (not a) (rw (implies refl) refl) e)
+not_back a false implies e = refl
+
 -- ---- holdings
-no_more : (holding : Holding) → IsNoMore holding holding
+pub no_more : (holding : Holding) → IsNoMore holding holding
 no_more Nothing = tt
 no_more Wide = tt
 no_more Longword = tt
 
-pick : (b : Bool) (x x' y y' : Holding) → IsNoMore x x' → IsNoMore y y' → IsNoMore (if b then x else y) (if b then x' else y')
-pick true x x' y y' p q = p
-pick false x x' y y' p q = q
+pub most : (holding : Holding) → IsNoMore holding Longword
+most Nothing = tt
+most Wide = tt
+most Longword = tt
+
+still_no_more : (x y z : Holding) → IsNoMore x y → IsNoMore y z → IsNoMore x z
+still_no_more Nothing y z p q = tt
+still_no_more Wide Nothing z p q = absurd p
+still_no_more Wide Wide z p q = q
+still_no_more Wide Longword Nothing p q = absurd q
+still_no_more Wide Longword Wide p q = tt
+still_no_more Wide Longword Longword p q = tt
+still_no_more Longword Nothing z p q = absurd p
+still_no_more Longword Wide z p q = absurd p
+still_no_more Longword Longword z p q = q
 
 something : (x y : Holding) → IsNoMore x y → Implies (is_something x) (is_something y)
 something Nothing y p e = cc
@@ -65,9 +84,27 @@ longword Longword Nothing p e = absurd p
 longword Longword Wide p e = absurd p
 longword Longword Longword p e = refl
 
-same_check : (checked : Checked) → IsSameCheck checked checked
+-- a temporary above 5 is wide or nothing
+abbrev wide : Bool → Holding
+wide b = if b then Wide else Nothing
+
+from_wide : (a b : Bool) → IsNoMore (wide a) (wide b) → Implies a b
+from_wide true true p e = refl
+from_wide true false p e = absurd p
+from_wide false b p e = cc
+
+to_wide : (a b : Bool) → Implies a b → IsNoMore (wide a) (wide b)
+to_wide true b implies = rw (implies refl) tt
+to_wide false b implies = tt
+
+-- ---- checks
+pub same_check : (checked : Checked) → IsSameCheck checked checked
 same_check Nowhere = tt
 same_check (At place count write) = refl
+
+still_same : (x y z : Checked) → IsSameCheck x y → IsSameCheck y z → IsSameCheck x z
+still_same Nowhere y z p q = tt
+still_same (At place count write) y z p q = subst (λ c. IsSameCheck c z) (sym p) q
 
 still_checked : (x y : Checked) (place count : ℕ) (write : Bool) → IsSameCheck x y → Implies (is_checked x place count write) (is_checked y place count write)
 still_checked Nowhere y place count write p e = cc
@@ -78,178 +115,100 @@ forgets temp Nowhere y p = tt
 forgets temp (At place count write) y p =
     subst (λ c. IsSameCheck (forgotten temp (At place count write)) (forgotten temp c)) p (same_check (forgotten temp (At place count write)))
 
-pick_known : (b : Bool) (x x' y y' : Known) → KnowsMore x x' → KnowsMore y y' → KnowsMore (if b then x else y) (if b then x' else y')
-pick_known true x x' y y' p q = p
-pick_known false x x' y y' p q = q
+-- ---- the order
+pub knows_itself : (known : Known) → KnowsMore known known
+knows_itself known = record {
+  temps = λ temp. no_more (held known temp);
+  high = refl;
+  checked = same_check known.checked;
+  changed = λ e. e;
+  committed = λ number e. e;
+  registers = refl;
+  codes = refl;
+  psw = refl;
+  ended = refl;
+}
+
+pub knows_still_more : (least known more : Known) → KnowsMore least known → KnowsMore known more → KnowsMore least more
+knows_still_more least known more l m = record {
+  temps = λ temp. still_no_more (held least temp) (held known temp) (held more temp) (l.temps temp) (m.temps temp);
+  high = l.high ∙ m.high;
+  checked = still_same least.checked known.checked more.checked l.checked m.checked;
+  changed = λ e. l.changed (m.changed e);
+  committed = λ number e. l.committed number (m.committed number e);
+  registers = l.registers ∙ m.registers;
+  codes = l.codes ∙ m.codes;
+  psw = l.psw ∙ m.psw;
+  ended = l.ended ∙ m.ended;
+}
+
+-- where the temporaries hold as much, and the rest is the same but for the check
+knows_by_temps : (known more known' more' : Known) → KnowsMore known more → SameRest known' known → SameRest more' more
+    → ((temp : ℕ) → IsNoMore (held known' temp) (held more' temp)) → (checked checked' : Checked) → IsSameCheck checked checked'
+    → KnowsMore (record known' { checked = checked }) (record more' { checked = checked' })
+knows_by_temps known more known' more' m rest rest' temps checked checked' p = record {
+  temps = temps;
+  high = rest.high ∙ m.high ∙ sym rest'.high;
+  checked = p;
+  changed = λ e. rest.changed ∙ m.changed (sym rest'.changed ∙ e);
+  committed = λ number e. ap (λ flags. has_flag flags number) rest.committed ∙ m.committed number (ap (λ flags. has_flag flags number) (sym rest'.committed) ∙ e);
+  registers = ap length rest.committed ∙ m.registers ∙ ap length (sym rest'.committed);
+  codes = rest.codes ∙ m.codes ∙ sym rest'.codes;
+  psw = rest.psw ∙ m.psw ∙ sym rest'.psw;
+  ended = rest.ended ∙ m.ended ∙ sym rest'.ended;
+}
 
 module _ (known more : Known) (m : KnowsMore known more) where
-  high_held : (temp : ℕ) → IsNoMore (if has_flag known.high temp then Wide else Nothing) (if has_flag more.high temp then Wide else Nothing)
-  high_held temp = rw m.high (no_more _)
+  held_more : (temp : ℕ) (holding : Holding) (other : ℕ) → IsNoMore (held (with_held temp holding known) other) (held (with_held temp holding more) other)
+  held_more temp holding other = elim (cases_eq other temp) [
+    | inl e ↦ subst (λ n. IsNoMore (held (with_held temp holding known) n) (held (with_held temp holding more) n)) (sym e) (elim (cases_lt temp 6) [
+      | inl low ↦ rw (held_same holding known temp low, held_same holding more temp low) (no_more holding)
+      | inr high ↦ rw (held_set holding known temp high, held_set holding more temp high)
+          (to_wide _ _ (flag_more known.high more.high temp temp m.high (from_wide _ _ (rw (sym (high_held known temp high), sym (high_held more temp high)) (m.temps temp)))))
+    ])
+    | inr ne ↦ rw (held_other holding known temp other ne, held_other holding more temp other ne) (m.temps other)
+  ]
 
-  more_held : (temp : ℕ) → IsNoMore (held known temp) (held more temp)
-  more_held temp =
-      pick (eqb temp 0) _ _ _ _ m.temp0 (pick (eqb temp 1) _ _ _ _ m.temp1 (pick (eqb temp 2) _ _ _ _ m.temp2
-      (pick (eqb temp 3) _ _ _ _ m.temp3 (pick (eqb temp 4) _ _ _ _ m.temp4 (pick (eqb temp 5) _ _ _ _ m.temp5 (high_held temp))))))
+  pub more_write : (temp : ℕ) (holding : Holding) → KnowsMore (behind_write temp holding known) (behind_write temp holding more)
+  more_write temp holding =
+      knows_by_temps known more (with_held temp holding known) (with_held temp holding more) m (rest_kept temp holding known) (rest_kept temp holding more) (held_more temp holding)
+      (forgotten temp known.checked) (forgotten temp more.checked) (forgets temp known.checked more.checked m.checked)
 
-  still_holds : (temp : ℕ) → Implies (holds known temp) (holds more temp)
-  still_holds temp = something _ _ (more_held temp)
+  held_covered : (temp : ℕ) (holding : Holding) → temp < 6 → IsNoMore (held known temp) holding → (other : ℕ) → IsNoMore (held known other) (held (with_held temp holding more) other)
+  held_covered temp holding low p other = elim (cases_eq other temp) [
+    | inl e ↦ subst (λ n. IsNoMore (held known n) (held (with_held temp holding more) n)) (sym e) (rw (held_same holding more temp low) p)
+    | inr ne ↦ rw (held_other holding more temp other ne) (m.temps other)
+  ]
 
-  still_longword : (temp : ℕ) → Implies (holds_longword known temp) (holds_longword more temp)
-  still_longword temp = longword _ _ (more_held temp)
+  -- a write that leaves as much, where no check is counted on
+  pub covers_write : (temp : ℕ) (holding : Holding) → temp < 6 → IsNoMore (held known temp) holding → known.checked ≡ Nowhere → KnowsMore known (behind_write temp holding more)
+  covers_write temp holding low p nowhere =
+      knows_by_temps known more known (with_held temp holding more) m (record { high = refl; changed = refl; committed = refl; codes = refl; psw = refl; ended = refl }) (rest_kept temp holding more)
+      (held_covered temp holding low p) known.checked (forgotten temp more.checked) (rw nowhere tt)
 
-  holds_in_0 : (holding : Holding) → KnowsMore (record known { temp0 = holding }) (record more { temp0 = holding })
-  holds_in_0 holding = record {
-    temp0 = no_more holding;
-    temp1 = m.temp1;
-    temp2 = m.temp2;
-    temp3 = m.temp3;
-    temp4 = m.temp4;
-    temp5 = m.temp5;
-    high = m.high;
-    checked = m.checked;
-    changed = m.changed;
-    committed = m.committed;
-    codes = m.codes;
-    psw = m.psw;
-    ended = m.ended;
-  }
+  pub more_checked : (checked checked' : Checked) → IsSameCheck checked checked' → KnowsMore (record known { checked = checked }) (record more { checked = checked' })
+  more_checked checked checked' p =
+      knows_by_temps known more known more m (record { high = refl; changed = refl; committed = refl; codes = refl; psw = refl; ended = refl })
+      (record { high = refl; changed = refl; committed = refl; codes = refl; psw = refl; ended = refl }) m.temps checked checked' p
 
-  holds_in_1 : (holding : Holding) → KnowsMore (record known { temp1 = holding }) (record more { temp1 = holding })
-  holds_in_1 holding = record {
-    temp0 = m.temp0;
-    temp1 = no_more holding;
-    temp2 = m.temp2;
-    temp3 = m.temp3;
-    temp4 = m.temp4;
-    temp5 = m.temp5;
-    high = m.high;
-    checked = m.checked;
-    changed = m.changed;
-    committed = m.committed;
-    codes = m.codes;
-    psw = m.psw;
-    ended = m.ended;
-  }
+  -- any check, where none is counted on
+  pub covers_checked : (checked : Checked) → known.checked ≡ Nowhere → KnowsMore known (record more { checked = checked })
+  covers_checked checked nowhere = more_checked known.checked checked (rw nowhere tt)
 
-  holds_in_2 : (holding : Holding) → KnowsMore (record known { temp2 = holding }) (record more { temp2 = holding })
-  holds_in_2 holding = record {
-    temp0 = m.temp0;
-    temp1 = m.temp1;
-    temp2 = no_more holding;
-    temp3 = m.temp3;
-    temp4 = m.temp4;
-    temp5 = m.temp5;
-    high = m.high;
-    checked = m.checked;
-    changed = m.changed;
-    committed = m.committed;
-    codes = m.codes;
-    psw = m.psw;
-    ended = m.ended;
-  }
+  held_by : (temp : ℕ) → IsNoMore (held (behind_access known) temp) (held (behind_access more) temp)
+  held_by temp = elim (cases_lt temp 4) [
+    | inl low ↦ rw (held_behind known temp low, held_behind more temp low) (m.temps temp)
+    | inr high ↦ rw (lost_behind known temp high) tt
+  ]
 
-  holds_in_3 : (holding : Holding) → KnowsMore (record known { temp3 = holding }) (record more { temp3 = holding })
-  holds_in_3 holding = record {
-    temp0 = m.temp0;
-    temp1 = m.temp1;
-    temp2 = m.temp2;
-    temp3 = no_more holding;
-    temp4 = m.temp4;
-    temp5 = m.temp5;
-    high = m.high;
-    checked = m.checked;
-    changed = m.changed;
-    committed = m.committed;
-    codes = m.codes;
-    psw = m.psw;
-    ended = m.ended;
-  }
-
-  holds_in_4 : (holding : Holding) → KnowsMore (record known { temp4 = holding }) (record more { temp4 = holding })
-  holds_in_4 holding = record {
-    temp0 = m.temp0;
-    temp1 = m.temp1;
-    temp2 = m.temp2;
-    temp3 = m.temp3;
-    temp4 = no_more holding;
-    temp5 = m.temp5;
-    high = m.high;
-    checked = m.checked;
-    changed = m.changed;
-    committed = m.committed;
-    codes = m.codes;
-    psw = m.psw;
-    ended = m.ended;
-  }
-
-  holds_in_5 : (holding : Holding) → KnowsMore (record known { temp5 = holding }) (record more { temp5 = holding })
-  holds_in_5 holding = record {
-    temp0 = m.temp0;
-    temp1 = m.temp1;
-    temp2 = m.temp2;
-    temp3 = m.temp3;
-    temp4 = m.temp4;
-    temp5 = no_more holding;
-    high = m.high;
-    checked = m.checked;
-    changed = m.changed;
-    committed = m.committed;
-    codes = m.codes;
-    psw = m.psw;
-    ended = m.ended;
-  }
-
-  holds_in_high : (temp : ℕ) → KnowsMore (record known { high = slice_set known.high temp true }) (record more { high = slice_set more.high temp true })
-  holds_in_high temp = record {
-    temp0 = m.temp0;
-    temp1 = m.temp1;
-    temp2 = m.temp2;
-    temp3 = m.temp3;
-    temp4 = m.temp4;
-    temp5 = m.temp5;
-    high = ap (λ flags. slice_set flags temp true) m.high;
-    checked = m.checked;
-    changed = m.changed;
-    committed = m.committed;
-    codes = m.codes;
-    psw = m.psw;
-    ended = m.ended;
-  }
-
-  more_with_held : (temp : ℕ) (holding : Holding) → KnowsMore (with_held temp holding known) (with_held temp holding more)
-  more_with_held temp holding =
-      pick_known (eqb temp 0) _ _ _ _ (holds_in_0 holding) (pick_known (eqb temp 1) _ _ _ _ (holds_in_1 holding) (pick_known (eqb temp 2) _ _ _ _ (holds_in_2 holding)
-      (pick_known (eqb temp 3) _ _ _ _ (holds_in_3 holding) (pick_known (eqb temp 4) _ _ _ _ (holds_in_4 holding) (pick_known (eqb temp 5) _ _ _ _ (holds_in_5 holding) (holds_in_high temp))))))
-
-  more_checked : (checked checked' : Checked) → IsSameCheck checked checked' → KnowsMore (record known { checked = checked }) (record more { checked = checked' })
-  more_checked checked checked' p = record {
-    temp0 = m.temp0;
-    temp1 = m.temp1;
-    temp2 = m.temp2;
-    temp3 = m.temp3;
-    temp4 = m.temp4;
-    temp5 = m.temp5;
-    high = m.high;
-    checked = p;
-    changed = m.changed;
-    committed = m.committed;
-    codes = m.codes;
-    psw = m.psw;
-    ended = m.ended;
-  }
-
-  more_access : KnowsMore (behind_access known) (behind_access more)
+  pub more_access : KnowsMore (behind_access known) (behind_access more)
   more_access = record {
-    temp0 = m.temp0;
-    temp1 = m.temp1;
-    temp2 = m.temp2;
-    temp3 = m.temp3;
-    temp4 = tt;
-    temp5 = tt;
+    temps = held_by;
     high = refl;
     checked = m.checked;
     changed = m.changed;
     committed = m.committed;
+    registers = m.registers;
     codes = m.codes;
     psw = m.psw;
     ended = m.ended;
@@ -257,94 +216,34 @@ module _ (known more : Known) (m : KnowsMore known more) where
 
   more_commit : (number : ℕ) → KnowsMore (behind_commit number known) (behind_commit number more)
   more_commit number = record {
-    temp0 = m.temp0;
-    temp1 = m.temp1;
-    temp2 = m.temp2;
-    temp3 = m.temp3;
-    temp4 = m.temp4;
-    temp5 = m.temp5;
+    temps = m.temps;
     high = m.high;
     checked = m.checked;
-    changed = refl;
-    committed = ap (λ flags. slice_set flags number true) m.committed;
+    changed = λ e. refl;
+    committed = λ other. flag_more more.committed known.committed number other (sym m.registers) (m.committed other);
+    registers = length-set known.committed number true ∙ m.registers ∙ sym (length-set more.committed number true);
     codes = m.codes;
     psw = m.psw;
     ended = m.ended;
   }
 
   more_codes : KnowsMore (record known { codes = true; changed = true }) (record more { codes = true; changed = true })
-  more_codes = record {
-    temp0 = m.temp0;
-    temp1 = m.temp1;
-    temp2 = m.temp2;
-    temp3 = m.temp3;
-    temp4 = m.temp4;
-    temp5 = m.temp5;
-    high = m.high;
-    checked = m.checked;
-    changed = refl;
-    committed = m.committed;
-    codes = refl;
-    psw = m.psw;
-    ended = m.ended;
-  }
+  more_codes = record { temps = m.temps; high = m.high; checked = m.checked; changed = λ e. refl; committed = m.committed; registers = m.registers; codes = refl; psw = m.psw; ended = m.ended }
 
   more_psw : KnowsMore (record known { psw = true; changed = true }) (record more { psw = true; changed = true })
-  more_psw = record {
-    temp0 = m.temp0;
-    temp1 = m.temp1;
-    temp2 = m.temp2;
-    temp3 = m.temp3;
-    temp4 = m.temp4;
-    temp5 = m.temp5;
-    high = m.high;
-    checked = m.checked;
-    changed = refl;
-    committed = m.committed;
-    codes = m.codes;
-    psw = refl;
-    ended = m.ended;
-  }
+  more_psw = record { temps = m.temps; high = m.high; checked = m.checked; changed = λ e. refl; committed = m.committed; registers = m.registers; codes = m.codes; psw = refl; ended = m.ended }
 
   more_ended : KnowsMore (record known { ended = true }) (record more { ended = true })
-  more_ended = record {
-    temp0 = m.temp0;
-    temp1 = m.temp1;
-    temp2 = m.temp2;
-    temp3 = m.temp3;
-    temp4 = m.temp4;
-    temp5 = m.temp5;
-    high = m.high;
-    checked = m.checked;
-    changed = m.changed;
-    committed = m.committed;
-    codes = m.codes;
-    psw = m.psw;
-    ended = refl;
-  }
+  more_ended = record { temps = m.temps; high = m.high; checked = m.checked; changed = m.changed; committed = m.committed; registers = m.registers; codes = m.codes; psw = m.psw; ended = refl }
 
-  more_write : (temp : ℕ) (holding : Holding) → KnowsMore (behind_write temp holding known) (behind_write temp holding more)
-  more_write temp holding = more_checked_of (with_held temp holding known) (with_held temp holding more) (more_with_held temp holding)
-    where
-      more_checked_of : (x y : Known) → KnowsMore x y → KnowsMore (record x { checked = forgotten temp known.checked }) (record y { checked = forgotten temp more.checked })
-      more_checked_of x y m' = record {
-        temp0 = m'.temp0;
-        temp1 = m'.temp1;
-        temp2 = m'.temp2;
-        temp3 = m'.temp3;
-        temp4 = m'.temp4;
-        temp5 = m'.temp5;
-        high = m'.high;
-        checked = forgets temp known.checked more.checked m.checked;
-        changed = m'.changed;
-        committed = m'.committed;
-        codes = m'.codes;
-        psw = m'.psw;
-        ended = m'.ended;
-      }
+  still_holds : (temp : ℕ) → Implies (holds known temp) (holds more temp)
+  still_holds temp = something (held known temp) (held more temp) (m.temps temp)
+
+  still_longword : (temp : ℕ) → Implies (holds_longword known temp) (holds_longword more temp)
+  still_longword temp = longword (held known temp) (held more temp) (m.temps temp)
 
   still_uncommitted : (number : ℕ) → Implies (not (is_committed known number)) (not (is_committed more number))
-  still_uncommitted number = the_same _ _ (ap (λ flags. not (has_flag flags number)) m.committed)
+  still_uncommitted number = not_back _ _ (m.committed number)
 
   argument : (arg : Arg) → Implies (argument_fits known arg) (argument_fits more arg)
   argument (Temp temp) = still_holds temp
@@ -353,7 +252,7 @@ module _ (known more : Known) (m : KnowsMore known more) where
   argument (Const value) = itself _
 
   unchanged : Implies (not known.changed) (not more.changed)
-  unchanged = the_same _ _ (ap not m.changed)
+  unchanged = not_back _ _ m.changed
 
   place_still : (place : ℕ) → Implies (place_fits known place) (place_fits more place)
   place_still place = both _ _ _ _ unchanged (still_longword place)
@@ -460,8 +359,24 @@ module _ (codes : CodeSources) (program : List Micro) (behind : Known)
   by false false e None o' steps is = cc
   by false false e (Some first) o' steps is = on first o' (steps first refl) is
 
-pub fits_behind_more : FitsBehindMore
-fits_behind_more codes [] known more behind m is = (more, refl, subst (λ x. KnowsMore x more) (some_same known behind is) m)
-fits_behind_more codes (operation ∷ program) known more behind m is =
-    by codes program behind (λ first second m' is'. fits_behind_more codes program first second behind m' is') known.ended more.ended m.ended
+walk_more : (codes : CodeSources) (program : List Micro) (known more behind : Known) → KnowsMore known more → walk codes known program ≡ Some behind → Behind (walk codes more program) behind
+walk_more codes [] known more behind m is = (more, refl, subst (λ x. KnowsMore x more) (some_same known behind is) m)
+walk_more codes (operation ∷ program) known more behind m is =
+    by codes program behind (λ first second m' is'. walk_more codes program first second behind m' is') known.ended more.ended m.ended
     (step codes known operation) (step codes more operation) (λ first is'. step_more codes operation known more first m is') is
+
+pub fits_behind_more : FitsBehindMore
+fits_behind_more codes program known behind is more m = walk_more codes program known more behind m is
+
+pub fits_joined : FitsJoined
+fits_joined codes first second known between behind one other more m =
+    let a = one more m in
+    let b = other a.0 a.2 in
+    (b.0, walks_joined codes more first second ∙ ap (option_and_then (λ k. walk codes k second)) a.1 ∙ b.1, b.2)
+
+-- ---- with less known behind, and more before
+pub knowing_less : (codes : CodeSources) (program : List Micro) (known behind less : Known) → KnowsMore less behind → FitsBetween codes known program behind → FitsBetween codes known program less
+knowing_less codes program known behind less l fits more m = let a = fits more m in (a.0, a.1, knows_still_more less behind a.0 l a.2)
+
+pub knowing_more : (codes : CodeSources) (program : List Micro) (known known' behind : Known) → KnowsMore known known' → FitsBetween codes known program behind → FitsBetween codes known' program behind
+knowing_more codes program known known' behind l fits more m = fits more (knows_still_more known known' more l m)

@@ -1,5 +1,5 @@
 -- The words of operands and of their commits are few.
-use Rattle.std.proofs.Common.{◌≡◌, ℕ, zero, suc, ◌+◌, ◌≤◌, Bool, true, false, List, [], ◌∷◌, ◌++◌, get_or, set, Option, Some, None, arith, inl, inr, lit≤}
+use Rattle.std.proofs.Common.{◌≡◌, ℕ, zero, suc, ◌+◌, ◌-◌, ◌%◌, ◌^◌, ◌≤◌, Bool, true, false, List, [], ◌∷◌, ◌++◌, get_or, set, Option, Some, None, refl, arith, inl, inr, lit≤}
 use Rattle.std.specs.Prelude.{min}
 use Rattle.std.proofs.lemmas.Bool.Decides.{eqb_tells}
 use Rattle.std.proofs.lemmas.List.Sums.{sum_by-append}
@@ -20,8 +20,8 @@ use Rattle.micro_ops.specs.declared.program.Micro.TheVariants.{Compute, Probe, R
 use Rattle.micro_ops.specs.declared.program.MicroOp.TheVariants as ops
 use Rattle.operand_programs.specs.Specifiers.{sum_into, address_program, index_program, place_program, pointer_of, steps_behind, register_program, commit_one, commit_program}
 use Rattle.operand_programs.specs.Operands.{access_program, steps_behind_access, IsFor}
-use Rattle.operand_programs.specs.Results.{steps_left, give_program}
-use Rattle.operand_programs.specs.Words.{words_of_steps, place_most, access_most, operand_most, OperandIsShort, FinishIsShort}
+use Rattle.operand_programs.specs.Results.{steps_left, give_program, steps_behind_push}
+use Rattle.operand_programs.specs.Words.{words_of_steps, place_most, access_most, operand_most, finish_most, OperandIsShort, ResultIsShort, ReplacementIsShort, PushIsShort, FinishIsShort}
 use Rattle.operand_programs.specs.declared.specifiers.Pointer.{Pointer}
 
 joined : (first second : List Micro) → piece_words (first ++ second) ≡ piece_words first + piece_words second
@@ -172,7 +172,7 @@ left_most Unused size steps = omega arith
 left_most (Value value) size steps = omega arith
 left_most (Target address) size steps = omega arith
 
-give_most : (operand : Operand) (size : Size) (steps : List ℕ) (from : ℕ) → piece_words (give_program operand size steps from) ≤ 11
+give_most : (operand : Operand) (size : Size) (steps : List ℕ) (from : ℕ) → piece_words (give_program operand size steps from) ≤ finish_most operand
 give_most (Register n) Byte steps from = omega (arith, sum_most 5 (Some n) (get_or steps n 0))
 give_most (Register n) Word steps from = omega (arith, sum_most 5 (Some n) (get_or steps n 0))
 give_most (Register n) Long steps from = lit≤ tt
@@ -185,3 +185,28 @@ give_most (Target address) size steps from = lit≤ tt
 pub finish_is_short : FinishIsShort
 finish_is_short operand size steps from =
     omega (arith, joined (commit_program 0 (steps_left operand size steps)) (give_program operand size steps from), left_most operand size steps, give_most operand size steps from)
+
+-- ---- results
+pub result_is_short : ResultIsShort
+result_is_short (Place base index) Byte place from = refl
+result_is_short (Place base index) Word place from = refl
+result_is_short (Place base index) Long place from = refl
+result_is_short (Place base index) Quad place from = refl
+result_is_short Unused size place from = refl
+result_is_short (Value value) size place from = refl
+result_is_short (Register n) size place from = refl
+result_is_short (Target address) size place from = refl
+
+pub replacement_is_short : ReplacementIsShort
+replacement_is_short (Place base index) Byte place from = refl
+replacement_is_short (Place base index) Word place from = refl
+replacement_is_short (Place base index) Long place from = refl
+replacement_is_short (Place base index) Quad place from = refl
+replacement_is_short Unused size place from = refl
+replacement_is_short (Value value) size place from = refl
+replacement_is_short (Register n) size place from = refl
+replacement_is_short (Target address) size place from = refl
+
+pub push_is_short : PushIsShort
+push_is_short steps place from =
+    omega (arith, sum_most place (Some 14) (get_or (steps_behind_push steps) 14 0), set_most 0 14 ((get_or steps 14 0 + (2 ^ 32 - 4)) % 2 ^ 32) steps)

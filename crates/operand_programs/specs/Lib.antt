@@ -4,4 +4,7 @@ pub mod Operands
 pub mod InOrder
 pub mod Results
 pub mod Words
+pub mod Registers
 pub mod Knowing
+pub mod Behind
+pub mod Rows

@@ -7,7 +7,7 @@ mod operands;
 mod results;
 mod specifiers;
 
-pub use laws::{fitting_law, operand_laws, word_laws};
+pub use laws::{fitting_law, operand_laws, piece_laws, row_law, word_laws};
 pub use operands::{Specifier, put_operand};
 pub use results::{put_finish, put_push, put_replacement, put_result, put_steps};
 pub use specifiers::{Pointer, Steps};
