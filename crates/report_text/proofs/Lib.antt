@@ -1,3 +1,4 @@
 mod Digits
 mod Hexadecimal
 mod Lines
+mod Listings

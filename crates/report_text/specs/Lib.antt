@@ -4,3 +4,4 @@ pub mod Report
 pub mod Offer
 pub mod Refused
 pub mod Generating
+pub mod Listing

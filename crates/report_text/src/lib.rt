@@ -1,13 +1,16 @@
-//! What is said: the report of a run, the line of a refused file, and the lines of `generate`.
+//! What is said: the report of a run, the line of a refused file, the lines of `generate`, and the listing of a
+//! translation.
 //!
 //! A `Line` is made in an array, so that what a run says takes no memory.
 #![tactic(auto)]
 
+mod blocks;
 mod generating;
 mod line;
 mod refused;
 mod threads;
 
+pub use blocks::listing;
 pub use generating::generated_lines;
 pub use line::{LINE_ROOM, Line};
 pub use refused::{MOST_NUMBERS, Subject, refused_line};
