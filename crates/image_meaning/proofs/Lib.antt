@@ -19,4 +19,11 @@ pub mod Strings
 pub mod TreesAt
 pub mod Moments
 pub mod Meanings
+pub mod Alike
+pub mod AlikeStates
+pub mod AlikeOperands
+pub mod AlikeMoves
+pub mod AlikeBranches
+pub mod AlikeLong
+pub mod CodesUsed
 mod Refused

@@ -1,5 +1,6 @@
 //! Laws of what instructions do, for the proofs of the crates above. Their functions do nothing.
 ghost use Rattle.vax_form.specs.GrammarLaws.{AreBytes};
+ghost use Rattle.image_meaning.specs.CodeUses.{CodesAreUsed};
 ghost use Rattle.image_meaning.specs.Laws.{TreeAtStaysInRange, MomentsStayInRange, TreeAtFailsByFaults, ServicesAre, VaxMeaningIsSound};
 
 use vax_form::Pages;
@@ -45,4 +46,12 @@ pub fn page_table_has_bytes(pages: &Pages)
 
 fn code_has_bytes(code: &[u8])
     ensures { AreBytes code.now }
+{}
+
+/// From two states that differ in condition codes alone, and have those that an instruction reads in common, it makes the
+/// same checks and references, fails and ends alike, and leaves states that differ in the codes alone that it does not
+/// write: these are as each found them. Where it does not end, it goes on behind it.
+#[tactic(auto, using(crate::proofs::CodesUsed::codes_are_used))]
+pub fn codes_are_used()
+    ensures { CodesAreUsed }
 {}

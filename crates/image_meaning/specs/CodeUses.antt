@@ -1,0 +1,65 @@
+-- What instructions do with condition codes: which they read, which they write, and where they go on.
+-- VAX Architecture Reference Manual, "Instruction Descriptions": the line of condition codes of each instruction.
+use Rattle.std.specs.Prelude.{◌≡◌, ℕ, ◌/◌, true, false, Some}
+use Rattle.vax_form.specs.Operation.{operation_at}
+use Rattle.vax_form.specs.Tree.{Tree, Check, Ask, Fault, Ends, Ending, Finish, Exit, Trap}
+use Rattle.vax_form.specs.declared.instr.Instr.{Instr}
+use Rattle.vax_form.specs.declared.operation.Operation.{Operation}
+use Rattle.vax_form.specs.declared.pages.Pages.{Pages}
+use Rattle.vax_form.specs.declared.state.Flags.{Flags}
+use Rattle.vax_form.specs.declared.state.VaxState.{VaxState}
+use Rattle.vax_long.specs.Instructions.{any_script_of}
+use Rattle.vax_form.specs.Tree.{instruction_tree}
+use Rattle.cc_liveness.specs.declared.uses.CodeUse.{CodeUse}
+use Rattle.cc_liveness.specs.Codes.{Code, holds}
+use Rattle.cc_liveness.specs.Uses.{code_use_of}
+use Rattle.block_law.specs.CodeWords.{codes_in}
+
+-- two states that differ in condition codes alone
+pub record SameButCodes (one other : VaxState) : Type 0 where
+  pub registers : one.r ≡ other.r
+  pub pc : one.pc ≡ other.pc
+  pub upper : one.psw / 16 ≡ other.psw / 16
+  pub handler : one.handler ≡ other.handler
+  pub pending : one.pending ≡ other.pending
+
+-- the codes of a set are the same in both
+abbrev pub AgreeOn : (set : Flags) → (one other : VaxState) → Type 0
+AgreeOn set one other = (code : Code) → holds code set ≡ true → holds code (codes_in one.psw) ≡ holds code (codes_in other.psw)
+
+-- the codes outside a set are as they were
+abbrev pub KeepsOthers : (set : Flags) → (before after : VaxState) → Type 0
+KeepsOthers set before after = (code : Code) → holds code set ≡ false → holds code (codes_in after.psw) ≡ holds code (codes_in before.psw)
+
+-- What two states leave: they differ in codes alone, the codes that are written are the same, the others are as each
+-- found them, and where the instruction does not end it goes on behind it.
+pub record LeftAlike (used : CodeUse) (after : ℕ) (one other left left' : VaxState) : Type 0 where
+  pub same : SameButCodes left left'
+  pub written : AgreeOn used.writes left left'
+  pub first : KeepsOthers used.writes one left
+  pub second : KeepsOthers used.writes other left'
+  pub on : used.ends ≡ false → left.pc ≡ after
+
+-- both end in the same way
+abbrev pub EndAlike : (used : CodeUse) (after : ℕ) (one other : VaxState) → Ending → Ending → Type 0
+EndAlike used after one other (Finish left) (Finish left') = LeftAlike used after one other left left'
+EndAlike used after one other (Exit left) (Exit left') = LeftAlike used after one other left left'
+EndAlike used after one other (Trap kind left) (Trap kind' left') = (kind ≡ kind') × LeftAlike used after one other left left'
+EndAlike used after one other _ _ = ⊥
+
+-- the same checks, references and faults, for all replies, and ends that are alike
+abbrev pub Alike : (Ending → Ending → Type 0) → Tree → Tree → Type 0
+Alike AreAlike (Check address count write tree) (Check address' count' write' tree') = (address ≡ address') × (count ≡ count') × (write ≡ write') × Alike AreAlike tree tree'
+Alike AreAlike (Ask reference on) (Ask reference' on') = (reference ≡ reference') × ((reply : ℕ) → Alike AreAlike (on reply) (on' reply))
+Alike AreAlike (Fault exception) (Fault exception') = exception ≡ exception'
+Alike AreAlike (Ends e) (Ends e') = AreAlike e e'
+Alike AreAlike _ _ = ⊥
+
+-- From two states that differ in codes alone, and have those that the instruction reads in common, its trees are alike: so
+-- the codes that it isn't said to read have no effect, those that it isn't said to write stay, and where it isn't said to
+-- end it goes on behind it.
+abbrev pub CodesAreUsed : Type 0
+CodesAreUsed = (pages : Pages) (thread : ℕ) (instr : Instr) (operation : Operation) (one other : VaxState)
+    → operation_at instr.opcode ≡ Some operation → SameButCodes one other → AgreeOn (code_use_of operation).reads one other
+    → Alike (EndAlike (code_use_of operation) instr.after one other)
+    (instruction_tree pages (any_script_of instr thread) one) (instruction_tree pages (any_script_of instr thread) other)
