@@ -4,8 +4,8 @@
 mod liveness;
 mod uses;
 
-pub use liveness::{live, liveness_laws};
-pub use uses::{CodeUse, code_use};
+pub use liveness::{live, live_behind, liveness_laws, wanted};
+pub use uses::{CodeUse, all_codes, code_use};
 
 #[cfg(test)]
 mod tests;

@@ -13,7 +13,7 @@ fn is_wanted(reads: bool, writes: bool, live: bool) -> bool
 }
 
 /// The codes that are wanted before an instruction, from those that are live behind it.
-fn wanted(instruction: &CodeUse, live: Flags) -> Flags
+pub fn wanted(instruction: &CodeUse, live: Flags) -> Flags
     ensures { result ≡ wanted_before instruction.now live }
 {
     let (reads, writes) = (instruction.reads, instruction.writes);
@@ -26,7 +26,7 @@ fn wanted(instruction: &CodeUse, live: Flags) -> Flags
 }
 
 /// The codes that are live behind an instruction, from those that are wanted behind it.
-fn live_behind(instruction: &CodeUse, wanted: Flags) -> Flags
+pub fn live_behind(instruction: &CodeUse, wanted: Flags) -> Flags
     ensures { result ≡ live_behind instruction.now wanted }
 {
     if instruction.ends {

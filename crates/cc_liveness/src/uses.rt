@@ -26,7 +26,8 @@ fn no_codes() -> Flags
     codes(false, false, false, false)
 }
 
-pub(crate) fn all_codes() -> Flags
+/// All four condition codes.
+pub fn all_codes() -> Flags
     ensures { result ≡ all }
 {
     codes(true, true, true, true)

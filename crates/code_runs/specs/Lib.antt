@@ -1,0 +1,4 @@
+pub mod Runs
+pub mod Codes
+pub mod Entrances
+pub mod Promises

@@ -1,0 +1,37 @@
+-- What holds of the runs of instructions, and of the condition codes along them.
+use Rattle.std.specs.Prelude.{◌≡◌, ◌≢◌, ◌<◌, ℕ, true, All, Contains, List, None, length}
+use Rattle.vax_form.specs.Row.{class_at}
+use Rattle.vax_form.specs.declared.instr.Instr.{Instr}
+use Rattle.vax_form.specs.declared.row.Class.TheVariants.{Translated}
+use Rattle.exception_records.specs.Codes.{all_ready}
+use Rattle.flag_codegen.specs.Promises.{AreReady}
+use Rattle.code_runs.specs.Runs.{AreInOrder, instr_at, joined_to, IsRun}
+use Rattle.code_runs.specs.Codes.{codes_at, use_of}
+
+-- the instruction at the place is in a run, and in no other
+pub record IsInOneRun (instrs : List Instr) (place : ℕ) : Type 0 where
+  pub run : List ℕ
+  pub is_run : IsRun instrs run
+  pub contains : Contains run place
+  pub alone : (other : List ℕ) → IsRun instrs other → Contains other place → other ≡ run
+
+abbrev pub EachInOneRun : Type 0
+EachInOneRun = (instrs : List Instr) → AreInOrder instrs → (place : ℕ) → place < length instrs → IsInOneRun instrs place
+
+abbrev pub AreTranslated : List Instr → Type 0
+AreTranslated instrs = All (λ instr. class_at instr.opcode ≡ Translated) instrs
+
+-- Where an instruction ends, control may be elsewhere behind it, and all codes are ready there; so they are before one that
+-- is joined to none. An instruction finds the rules of the one that ends where it begins, and behind one where none begins
+-- all codes are ready. The codes that an instruction reads are ready before it.
+pub record RulesMeet (instrs : List Instr) : Type 0 where
+  pub ends : (place : ℕ) → place < length instrs → (use_of (instr_at instrs place)).ends ≡ true → (codes_at instrs place).behind ≡ all_ready
+  pub begins : (place : ℕ) → place < length instrs → joined_to instrs place ≡ None → (codes_at instrs place).before ≡ all_ready
+  pub onward : (place next : ℕ) → place < length instrs → next < length instrs → (instr_at instrs next).at ≡ (instr_at instrs place).after
+      → (codes_at instrs next).before ≡ (codes_at instrs place).behind
+  pub leaves : (place : ℕ) → place < length instrs → ((next : ℕ) → next < length instrs → (instr_at instrs next).at ≢ (instr_at instrs place).after)
+      → (codes_at instrs place).behind ≡ all_ready
+  pub reads : (place : ℕ) → place < length instrs → AreReady (use_of (instr_at instrs place)).reads (codes_at instrs place).before
+
+abbrev pub RulesAlwaysMeet : Type 0
+RulesAlwaysMeet = (instrs : List Instr) → AreInOrder instrs → AreTranslated instrs → RulesMeet instrs
