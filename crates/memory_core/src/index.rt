@@ -8,9 +8,10 @@ use std::marker::Model;
 use std::snapshot::Snapshot;
 use vax_form::{PageRange, Pages};
 
-/// The bytes of a page, and of a quadword.
+/// The bytes of a page.
 const PAGE: u32 = 512;
 
+/// The bytes of a quadword.
 const QUAD: u32 = 8;
 
 /// The quadwords of a page.
@@ -84,7 +85,7 @@ impl PageIndex {
     }
 }
 
-// Appends the words of a range, and of the pages before it that have none yet. So many pages have lower numbers.
+// Appends the words of the pages up to the last of a range, where `before` pages of the image have lower numbers.
 fn push_range(words: &mut Vec<u32>, before: u32, range: &PageRange) -> Result<(), AllocError>
     requires rising { length words.old.items ≤ range.now.first }
     requires low { range.now.first + range.now.count ≤ 4194304 }
