@@ -61,7 +61,7 @@ fn run(
 }
 
 /// A memory for three processors.
-fn memory_of(alloc: Global, image: &Image, limit: u32, miss: u16) -> Result<MemState>
+pub fn memory_of(alloc: Global, image: &Image, limit: u32, miss: u16) -> Result<MemState>
     requires { IsWhole image.now }
     ensures image { IfOk result (λ memory. memory.set_up.image ≡ image.now) }
     ensures processors { IfOk result (λ memory. memory.processors ≡ 3) }
