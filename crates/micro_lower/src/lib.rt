@@ -3,6 +3,7 @@
 #![tactic(auto)]
 
 mod branches;
+mod plans;
 
 pub use branches::lower_operation;
 
