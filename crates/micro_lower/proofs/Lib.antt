@@ -4,3 +4,7 @@ pub mod Covered
 pub mod Coding
 pub mod Overflow
 pub mod Ready
+pub mod Endings
+pub mod Slots
+pub mod Planned
+pub mod Moves

@@ -1,3 +1,4 @@
 pub mod Lowering
 pub mod Programs
 pub mod Plans
+pub mod Rows

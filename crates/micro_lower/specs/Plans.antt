@@ -1,8 +1,10 @@
 -- The plan of a program: the operands in order, what is computed before the result is written and behind that, where the
 -- result goes, and the exit.
-use Rattle.std.specs.Prelude.{ℕ, List, [], ◌∷◌, ◌++◌, Option, Some, None}
+use Rattle.std.specs.Prelude.{ℕ, ◌+◌, List, [], ◌∷◌, ◌++◌, Option, Some, None}
+use Rattle.vax_form.specs.declared.instr.Instr.{Instr}
 use Rattle.vax_form.specs.declared.instr.Size.{Size}
 use Rattle.vax_form.specs.declared.instr.Size.TheVariants.{Byte, Quad}
+use Rattle.vax_meaning.specs.Evaluation.{operand}
 use Rattle.micro_ops.specs.declared.codes.CodeSource.{CodeSource}
 use Rattle.micro_ops.specs.declared.codes.CodeSource.TheVariants as sources
 use Rattle.micro_ops.specs.declared.codes.CodeSources.{CodeSources}
@@ -17,12 +19,25 @@ use Rattle.operand_programs.specs.Specifiers.{commit_program}
 use Rattle.operand_programs.specs.InOrder.{operands_program, steps_behind_all, no_steps}
 use Rattle.operand_programs.specs.Results.{result_program, replacement_program, push_program, finish_program, steps_behind_push}
 use Rattle.operand_programs.specs.declared.operands.Specifier.{Specifier}
+use Rattle.micro_lower.specs.declared.plans.Slot.{Slot}
 use Rattle.micro_lower.specs.declared.plans.Target.{Target}
 use Rattle.micro_lower.specs.declared.plans.Target.TheVariants.{Nowhere, Result, Replacement, Stack}
 
+-- ---- operands
+-- the operands of an instruction, from that one on, in their slots
+abbrev pub specifiers_from : (number : ℕ) → List Slot → Instr → List Specifier
+specifiers_from number [] instr = []
+specifiers_from number (slot ∷ slots) instr =
+    record { access = slot.access; size = slot.size; operand = operand instr number; to = slot.to; place = slot.place } ∷ specifiers_from (number + 1) slots instr
+
+-- what the specifiers leave added to the registers
+abbrev pub steps_of : List Slot → Instr → List ℕ
+steps_of slots instr = steps_behind_all (specifiers_from 0 slots instr) no_steps
+
+-- ---- plans
 -- what is computed works on temporaries; the result is in 2, and the address of its operand in 3
 pub record Plan : Type 0 where
-  pub specifiers : List Specifier
+  pub slots : List Slot
   pub before : List Micro
   pub target : Target
   pub behind : List Micro
@@ -111,5 +126,5 @@ abbrev pub rest_program : CodeSources → Plan → (steps : List ℕ) → List M
 rest_program codes plan steps =
     plan.before ++ (write_program plan.target steps ++ (plan.behind ++ (end_program plan.target steps ++ (codes_program codes ++ Leave plan.exit ∷ []))))
 
-abbrev pub program_of : CodeSources → Plan → List Micro
-program_of codes plan = operands_program plan.specifiers no_steps ++ rest_program codes plan (steps_behind_all plan.specifiers no_steps)
+abbrev pub program_of : CodeSources → Plan → Instr → List Micro
+program_of codes plan instr = operands_program (specifiers_from 0 plan.slots instr) no_steps ++ rest_program codes plan (steps_of plan.slots instr)

@@ -1,0 +1,157 @@
+-- Behind the computations of a program: the result goes to its operand, the registers are committed and the codes set.
+use Rattle.std.proofs.Common.{◌≡◌, ℕ, ◌%◌, ◌^◌, ◌<◌, ◌==◌, eqb, Bool, true, false, List, [], ◌∷◌, ◌++◌, length, refl, sym, ap, ◌∙◌, subst, append_assoc}
+use Rattle.std.proofs.Common.{arith, inl, inr, lit<}
+use Rattle.std.proofs.lemmas.Bool.Decides.{eqb_tells}
+use Rattle.std.proofs.lemmas.List.{length-set}
+use Rattle.std.specs.List.{list_all}
+use Rattle.std.specs.Prelude.{◌&&◌}
+use Rattle.vax_form.specs.Script.{◌>>◌, change}
+use Rattle.vax_form.specs.State.{IsState, with_core}
+use Rattle.vax_form.specs.Tree.{Tree, tree_of, ends_with}
+use Rattle.vax_form.specs.declared.instr.Operand.{Operand}
+use Rattle.vax_form.specs.declared.instr.Size.{Size}
+use Rattle.vax_form.specs.declared.instr.Size.TheVariants.{Byte, Word, Long, Quad}
+use Rattle.vax_form.specs.declared.pages.Pages.{Pages}
+use Rattle.vax_form.specs.declared.state.VaxState.{VaxState}
+use Rattle.vax_meaning.specs.Operands.{store, put}
+use Rattle.vax_meaning.specs.Moves.{push}
+use Rattle.vax_meaning.specs.declared.operands.Location.{Location}
+use Rattle.vax_meaning.specs.declared.operands.Location.TheVariants.{InMemory, InRegister}
+use Rattle.vt_words.specs.Values.{bit}
+use Rattle.vt_words.specs.declared.arithmetic.Coded.{Coded}
+use Rattle.micro_ops.specs.Leaving.{CodesComeFrom}
+use Rattle.micro_ops.specs.Meaning.{Temps, Found, Standing, course_of, started}
+use Rattle.micro_ops.specs.Sources.{from}
+use Rattle.micro_ops.specs.declared.codes.CodeSource.{CodeSource}
+use Rattle.micro_ops.specs.declared.codes.CodeSource.TheVariants as sources
+use Rattle.micro_ops.specs.declared.program.Exit.{Exit}
+use Rattle.micro_ops.specs.declared.program.Micro.{Micro}
+use Rattle.micro_ops.specs.declared.program.Micro.TheVariants.{Compute, Leave}
+use Rattle.operand_programs.specs.InOrder.{steps_behind_all, no_steps}
+use Rattle.operand_programs.specs.Operands.{IsAt, IsOfSize}
+use Rattle.operand_programs.specs.Pieces.{Agrees, Kept, with_temps, leaving}
+use Rattle.operand_programs.specs.Results.{given, result_program, replacement_program, push_program, finish_program, steps_behind_push, with_registers_of, KeptBut5, IsGivable}
+use Rattle.operand_programs.specs.Specifiers.{stepped, commit_program}
+use Rattle.operand_programs.proofs.Accesses.{register_below}
+use Rattle.operand_programs.proofs.Finishing.{finishes, commits_steps}
+use Rattle.operand_programs.proofs.Writing.{stores_result, replaces_operand, pushes}
+use Rattle.micro_lower.specs.Plans.{codes_program}
+use Rattle.micro_lower.proofs.Coding.{GoesTo, coded_end}
+use Rattle.micro_lower.proofs.Ready.{effect, IsLowExit, still_goes, ReadyFor, ends_coded}
+
+steps_length_push : (steps : List ℕ) → length (steps_behind_push steps) ≡ length steps
+steps_length_push steps = length-set steps 14 _
+
+-- computations alone
+abbrev pub is_computation : Micro → Bool
+is_computation (Compute to op size a b) = true
+is_computation operation = false
+
+pub computes : (program rest : List Micro) (found : Found) (standing : Standing) → list_all is_computation program ≡ true
+    → course_of (program ++ rest) found standing ≡ course_of rest found (with_temps (effect program found standing.temps) standing)
+computes [] rest found standing all = refl
+computes (Compute to op size a b ∷ program) rest found standing all = computes program rest found _ all
+computes (_ ∷ program) rest found standing all = cc
+
+-- a result changes registers alone
+pub given_core : (location : Location) (size : Size) (value : ℕ) (steps : List ℕ) (start : VaxState)
+    → with_core start (given location size value (stepped steps start)).r start.pc start.psw ≡ given location size value (stepped steps start)
+given_core (InMemory address) size value steps start = refl
+given_core (InRegister n) Byte value steps start = refl
+given_core (InRegister n) Word value steps start = refl
+given_core (InRegister n) Long value steps start = refl
+given_core (InRegister n) Quad value steps start = refl
+
+-- the codes do not come from temporary 5
+pub still_ready : (nzv c : CodeSource) (psw : ℕ) (before after : Temps) (coded : Coded) → KeptBut5 before after → ReadyFor nzv c psw before coded → ReadyFor nzv c psw after coded
+still_ready (sources.Result size) sources.Kept psw before after coded kept ready = rw (kept 0 refl, kept 2 refl) ready
+still_ready (sources.Result size) sources.Zero psw before after coded kept ready = rw (kept 0 refl, kept 2 refl) ready
+still_ready (sources.Add size) (sources.Add other) psw before after coded kept ready = rw (kept 0 refl, kept 1 refl, kept 2 refl) ready
+still_ready (sources.Sub size) (sources.Sub other) psw before after coded kept ready = rw (kept 0 refl, kept 1 refl, kept 2 refl) ready
+still_ready (sources.Compare size) (sources.Compare other) psw before after coded kept ready = rw (kept 0 refl, kept 1 refl) ready
+still_ready (sources.Computed size) sources.Zero psw before after coded kept ready = rw (kept 2 refl, kept 3 refl) ready
+still_ready (sources.Computed size) (sources.Computed other) psw before after coded kept ready = rw (kept 2 refl, kept 3 refl, kept 4 refl) ready
+still_ready (sources.Computed size) sources.Kept psw before after coded kept ready = rw (kept 2 refl, kept 3 refl) ready
+still_ready nzv c psw before after coded kept ready = absurd ready
+
+not_5 : (temp : ℕ) → temp < 5 → eqb temp 5 ≡ false
+not_5 temp below = elim (eqb_tells temp 5) [ inl is ↦ absurd (omega (arith, below, is.1)) | inr not ↦ not.0 ]
+
+module _ (nzv c : CodeSource) (start : VaxState) (pages : Pages) (thread after : ℕ) (ok : IsState start) (coded : Coded) (exit : Exit) (pc : ℕ)
+    (end : VaxState → Tree) (ends : (state : VaxState) → state.psw ≡ start.psw → coded_end pages coded.n coded.z coded.v coded.c pc state ≡ end state) where
+  abbrev pub found : Found
+  found = record { state = start; after = after }
+
+  -- behind the operands
+  abbrev pub with : Temps → Standing
+  with temps = with_temps temps (started start)
+
+  -- the program does what the tree does
+  abbrev pub DoesSo : List Micro → Standing → Tree → Type 0
+  DoesSo program standing tree = Agrees (CodesComeFrom (from nzv c) start) (leaving pages thread) (course_of program found standing) tree
+
+  abbrev pub close : List Micro
+  close = codes_program (from nzv c) ++ Leave exit ∷ []
+
+  -- what the temporaries hold where nothing but the end is left
+  pub record IsClosing (temps : Temps) : Type 0 where
+    pub low : IsLowExit exit
+    pub goes : GoesTo exit found temps pc
+    pub ready : ReadyFor nzv c start.psw temps coded
+
+  closes : (state : VaxState) (temps temps' : Temps) → with_core start state.r start.pc start.psw ≡ state → KeptBut5 temps temps' → IsClosing temps
+      → DoesSo close (with_registers_of state temps' (with temps)) (end state)
+  closes state temps temps' is kept closing =
+      subst (λ (s : VaxState). DoesSo close (with_registers_of state temps' (with temps)) (end s)) is
+      (subst (λ (tree : Tree). DoesSo close (with_registers_of state temps' (with temps)) tree) (ends (with_core start state.r start.pc start.psw) refl)
+      (ends_coded start pages thread found (with_registers_of state temps' (with temps)) coded exit pc nzv c (still_ready nzv c start.psw temps temps' coded kept closing.ready)
+      closing.low (still_goes exit found temps temps' pc closing.low (λ temp below. kept temp (not_5 temp below)) closing.goes) refl))
+
+  -- what the specifiers added is committed
+  commits : (steps : List ℕ) (temps : Temps) → length steps ≡ length start.r → IsClosing temps → DoesSo (commit_program 0 steps ++ close) (with temps) (end (stepped steps start))
+  commits steps temps same closing =
+      commits_steps steps (from nzv c) start pages thread close found (with temps) (end (stepped steps start)) same refl (register_below start ok)
+      (λ temps' kept. closes (stepped steps start) temps temps' refl kept closing)
+
+  -- so is a result in registers
+  gives : (operand : Operand) (size : Size) (steps : List ℕ) (location : Location) (address value : ℕ) (temps : Temps) → length steps ≡ length start.r
+      → IsAt operand location address → IsGivable operand size → temps 2 ≡ value → IsOfSize size value → IsClosing temps
+      → DoesSo (finish_program operand size steps 2 ++ close) (with temps) (end (given location size value (stepped steps start)))
+  gives operand size steps location address value temps same at givable is fits closing =
+      let state = given location size value (stepped steps start) in
+      finishes operand size steps 2 (lit< tt) givable (from nzv c) start pages thread close found (with temps) location address (end state) same refl (register_below start ok) at (rw is fits)
+      (λ temps' kept. rw is (closes state temps temps' (given_core location size value steps start) kept closing))
+
+  module _ (behind : List Micro) (all : list_all is_computation behind ≡ true) where
+    -- behind the computations behind the result
+    pub nowhere : (steps : List ℕ) (temps : Temps) → length steps ≡ length start.r → IsClosing (effect behind found temps)
+        → DoesSo (behind ++ (commit_program 0 steps ++ close)) (with temps) (end (stepped steps start))
+    nowhere steps temps same closing = rw (computes behind (commit_program 0 steps ++ close) found (with temps) all) (commits steps (effect behind found temps) same closing)
+
+    module _ (operand : Operand) (size : Size) (steps : List ℕ) (location : Location) (value : ℕ) (temps : Temps) (same : length steps ≡ length start.r)
+        (at : IsAt operand location (temps 3)) (givable : IsGivable operand size) (is : temps 2 ≡ value) (fits : IsOfSize size value)
+        (kept : effect behind found temps 2 ≡ temps 2) (closing : IsClosing (effect behind found temps)) where
+      finished : DoesSo (behind ++ (finish_program operand size steps 2 ++ close)) (with temps) (end (given location size value (stepped steps start)))
+      finished =
+          rw (computes behind (finish_program operand size steps 2 ++ close) found (with temps) all)
+          (gives operand size steps location (temps 3) value (effect behind found temps) same at givable (kept ∙ is) fits closing)
+
+      pub results : DoesSo (result_program operand size 3 2 ++ (behind ++ (finish_program operand size steps 2 ++ close))) (with temps)
+          (tree_of pages (store location size value) (stepped steps start) (λ done state. end state))
+      results =
+          rw (← is) (stores_result operand size 3 2 (from nzv c) start pages thread (behind ++ (finish_program operand size steps 2 ++ close)) found (with temps) location (stepped steps start) (λ done state. end state) at
+          (rw is finished))
+
+      pub replaces : DoesSo (replacement_program operand size 3 2 ++ (behind ++ (finish_program operand size steps 2 ++ close))) (with temps)
+          (tree_of pages (put location size value) (stepped steps start) (λ done state. end state))
+      replaces =
+          rw (← is) (replaces_operand operand size 3 2 (from nzv c) start pages thread (behind ++ (finish_program operand size steps 2 ++ close)) found (with temps) location (stepped steps start) (λ done state. end state) at
+          (rw is finished))
+
+    -- a longword is pushed
+    pub pushed : (steps : List ℕ) (value : ℕ) (temps : Temps) → length steps ≡ length start.r → 14 < length steps → temps 2 ≡ value
+        → ((temps' : Temps) → Kept 3 3 temps temps' → IsClosing (effect behind found temps'))
+        → DoesSo (push_program steps 3 2 ++ (behind ++ (commit_program 0 (steps_behind_push steps) ++ close))) (with temps) (tree_of pages (push value) (stepped steps start) (λ done state. end state))
+    pushed steps value temps same room is closing =
+        rw (← is) (pushes steps 3 2 refl (from nzv c) start pages thread (behind ++ (commit_program 0 (steps_behind_push steps) ++ close)) found (with temps) (λ done state. end state) same room
+        (λ temps' kept. nowhere (steps_behind_push steps) temps' (steps_length_push steps ∙ same) (closing temps' kept)))

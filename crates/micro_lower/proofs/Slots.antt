@@ -1,0 +1,215 @@
+-- The operands of an instruction that is spelled fit the slots of their row.
+use Rattle.std.proofs.Common.{◌≡◌, ℕ, suc, ◌+◌, ◌<◌, ◌≤◌, ◌^◌, eqb, Bool, true, false, List, [], ◌∷◌, ◌++◌, length, map, ◌⊎◌, inl, inr, Some, None, refl, sym, ap, ◌∙◌, subst, arith, leb-true, ltb-true, lit<}
+use Rattle.std.specs.Prelude.{◌≢◌, ◌==◌, ◌&&◌, not, nat_lt}
+use Rattle.std.proofs.lemmas.Bool.Decides.{eqb_tells, nat_tests}
+use Rattle.std.proofs.lemmas.Nat.{mod_below}
+use Rattle.vax_form.specs.Grammar.{IsSpelled, SpecifyAll, Specifies, Describes, Locates, HasRegister, padded, number, extended, wrapped}
+use Rattle.vax_form.specs.Operation.{operation_at}
+use Rattle.vax_form.specs.Row.{operands_of, row_with}
+use Rattle.vax_form.specs.declared.instr.Access.{Access}
+use Rattle.vax_form.specs.declared.instr.Access.TheVariants.{Read, Write, Modify, Address, Field, Branch}
+use Rattle.vax_form.specs.declared.instr.Base.{Base}
+use Rattle.vax_form.specs.declared.instr.Base.TheVariants.{Deferred, Decrement, Increment, IncrementDeferred, Offset, Fixed}
+use Rattle.vax_form.specs.declared.instr.Instr.{Instr}
+use Rattle.vax_form.specs.declared.instr.Operand.{Operand}
+use Rattle.vax_form.specs.declared.instr.Operand.TheVariants as operands
+use Rattle.vax_form.specs.declared.instr.Size.{Size}
+use Rattle.vax_form.specs.declared.instr.Size.TheVariants.{Byte, Word, Long, Quad}
+use Rattle.vax_form.specs.declared.operation.Operation.{Operation}
+use Rattle.vax_meaning.specs.Evaluation.{operand}
+use Rattle.operand_programs.specs.InOrder.{IsOutside, Lasts, ArePlaced, AreOperandsOf}
+use Rattle.operand_programs.specs.Operands.{IsFor, IsPlaced}
+use Rattle.operand_programs.specs.Pieces.{IsLong}
+use Rattle.operand_programs.specs.Results.{IsGivable}
+use Rattle.operand_programs.specs.declared.operands.Specifier.{Specifier}
+use Rattle.micro_lower.specs.Plans.{specifiers_from}
+use Rattle.micro_lower.specs.declared.plans.Slot.{Slot}
+use Rattle.micro_lower.proofs.Spelled.{Given, given, with_operands}
+
+-- an address that the code has is a longword
+abbrev pub IsLongOperand : Operand → Type 0
+IsLongOperand (operands.Place base index) = IsLong base
+IsLongOperand operand = Unit {0}
+
+-- it can be used so, and given a value of that size
+abbrev pub Fits : Access → Size → Operand → Type 0
+Fits access size operand = IsFor access operand × IsGivable operand size
+
+below_255 : (size : Size) (n : ℕ) → HasRegister size n → IsGivable (operands.Register n) size
+below_255 Byte n has = tt
+below_255 Word n has = tt
+below_255 Long n has = tt
+below_255 Quad n has = omega (arith, has)
+
+place_fits : (access : Access) (size : Size) (base : Base) (index : _) → access ≢ Branch → IsLong base → Fits access size (operands.Place base index)
+place_fits Read size base index other long = (long, tt)
+place_fits Write size base index other long = (long, tt)
+place_fits Modify size base index other long = (long, tt)
+place_fits Address size base index other long = (long, tt)
+place_fits Field size base index other long = (long, tt)
+place_fits Branch size base index other long = absurd (other refl)
+
+value_fits : (access : Access) (size : Size) (value : ℕ) → access ≡ Read → Fits access size (operands.Value value)
+value_fits Read size value is = (tt, tt)
+value_fits Write size value is = cc
+value_fits Modify size value is = cc
+value_fits Address size value is = cc
+value_fits Field size value is = cc
+value_fits Branch size value is = cc
+
+register_fits : (access : Access) (size : Size) (n : ℕ) → access ≢ Address → access ≢ Branch → HasRegister size n → Fits access size (operands.Register n)
+register_fits Read size n other other' has = (tt, below_255 size n has)
+register_fits Write size n other other' has = (tt, below_255 size n has)
+register_fits Modify size n other other' has = (tt, below_255 size n has)
+register_fits Address size n other other' has = absurd (other refl)
+register_fits Field size n other other' has = (tt, below_255 size n has)
+register_fits Branch size n other other' has = absurd (other' refl)
+
+described : (access : Access) (size : Size) (at : ℕ) (bytes : List ℕ) (operand : Operand) → access ≢ Branch → Describes access size at bytes operand → IsLongOperand operand → Fits access size operand
+described access size at bytes operand other (Describes.literal v lt is b o) long = rw o (value_fits access size v is)
+described access size at bytes operand other (Describes.register n has not b o) long = rw o (register_fits access size n not other has)
+described access size at bytes operand other (Describes.immediate d l is b o) long = rw o (value_fits access size (number d) is)
+described access size at bytes operand other (Describes.constant_address d l is b o) long = rw o (place_fits access size _ _ other (mod_below _ (2 ^ 32) (lit< tt)))
+described access size at bytes operand other (Describes.place base locates o) long = rw o (place_fits access size base None other (subst IsLongOperand o long))
+described access size at bytes operand other (Describes.indexed x base more lt locates free b o) long = rw o (place_fits access size base (Some x) other (subst IsLongOperand o long))
+
+specified : (access : Access) (size : Size) (at : ℕ) (bytes : List ℕ) (operand : Operand) → Specifies access size at bytes operand → IsLongOperand operand → Fits access size operand
+specified Branch size at bytes operand is long = rw is.1 (tt, tt)
+specified Read size at bytes operand is long = described Read size at bytes operand (λ e. cc) is long
+specified Write size at bytes operand is long = described Write size at bytes operand (λ e. cc) is long
+specified Modify size at bytes operand is long = described Modify size at bytes operand (λ e. cc) is long
+specified Address size at bytes operand is long = described Address size at bytes operand (λ e. cc) is long
+specified Field size at bytes operand is long = described Field size at bytes operand (λ e. cc) is long
+
+-- ---- several operands
+-- the types of the slots
+abbrev pub types_of : List Slot → List (Access × Size)
+types_of slots = map (λ (slot : Slot). (slot.access, slot.size)) slots
+
+abbrev pub FitSlots : List Slot → List Operand → Type 0
+FitSlots [] [] = Unit {0}
+FitSlots (slot ∷ slots) (operand ∷ operands) = Fits slot.access slot.size operand × FitSlots slots operands
+FitSlots _ _ = ⊥
+
+abbrev pub AreLong : List Operand → Type 0
+AreLong [] = Unit {0}
+AreLong (operand ∷ operands) = IsLongOperand operand × AreLong operands
+
+pub fit_slots : (slots : List Slot) (at : ℕ) (bytes : List ℕ) (operands : List Operand) → SpecifyAll (types_of slots) at bytes operands → AreLong operands → FitSlots slots operands
+fit_slots [] at bytes operands are long = rw are.1 tt
+fit_slots (slot ∷ slots) at bytes operands are long =
+    let l = subst AreLong are.5 long in
+    rw are.5 (specified slot.access slot.size at are.0 are.2 are.6 l.0, fit_slots slots (at + length are.0) are.1 are.3 are.7 l.1)
+
+-- the operands in their slots
+abbrev pub zip : List Slot → List Operand → List Specifier
+zip (slot ∷ slots) (operand ∷ operands) = record { access = slot.access; size = slot.size; operand = operand; to = slot.to; place = slot.place } ∷ zip slots operands
+zip _ _ = []
+
+same_length : (slots : List Slot) (operands : List Operand) → FitSlots slots operands → length slots ≡ length operands
+same_length [] [] fit = refl
+same_length (slot ∷ slots) (operand ∷ operands) fit = ap suc (same_length slots operands fit.1)
+same_length [] (operand ∷ operands) fit = absurd fit
+same_length (slot ∷ slots) [] fit = absurd fit
+
+zipped : (slots : List Slot) (operands : List Operand) (at opcode count after : ℕ) → FitSlots slots operands → length slots ≤ 4
+    → specifiers_from 0 slots (with_operands at opcode count after operands) ≡ zip slots operands
+zipped [] [] at opcode count after fit few = refl
+zipped (a ∷ []) (x ∷ []) at opcode count after fit few = refl
+zipped (a ∷ b ∷ []) (x ∷ y ∷ []) at opcode count after fit few = refl
+zipped (a ∷ b ∷ c ∷ []) (x ∷ y ∷ z ∷ []) at opcode count after fit few = refl
+zipped (a ∷ b ∷ c ∷ d ∷ []) (x ∷ y ∷ z ∷ w ∷ []) at opcode count after fit few = refl
+zipped (a ∷ b ∷ c ∷ d ∷ e ∷ more) operands at opcode count after fit few = absurd (omega (arith, few))
+zipped slots operands at opcode count after fit few = absurd (omega (arith, same_length slots operands fit))
+
+are_operands : (slots : List Slot) (operands : List Operand) → FitSlots slots operands → map (λ (specifier : Specifier). specifier.operand) (zip slots operands) ≡ operands
+are_operands [] [] fit = refl
+are_operands (slot ∷ slots) (operand ∷ operands) fit = ap (λ xs. operand ∷ xs) (are_operands slots operands fit.1)
+are_operands [] (operand ∷ operands) fit = absurd fit
+are_operands (slot ∷ slots) [] fit = absurd fit
+
+are_types : (slots : List Slot) (operands : List Operand) → FitSlots slots operands → map (λ (specifier : Specifier). (specifier.access, specifier.size)) (zip slots operands) ≡ types_of slots
+are_types [] [] fit = refl
+are_types (slot ∷ slots) (operand ∷ operands) fit = ap (λ xs. (slot.access, slot.size) ∷ xs) (are_types slots operands fit.1)
+are_types [] (operand ∷ operands) fit = absurd fit
+are_types (slot ∷ slots) [] fit = absurd fit
+
+-- ---- temporaries
+abbrev pub is_outside : List Slot → (temp : ℕ) → Bool
+is_outside [] temp = true
+is_outside (slot ∷ slots) temp = not (temp == slot.place) && not (temp == slot.to) && not (temp == 4) && is_outside slots temp
+
+abbrev pub lasts : Access → (to place : ℕ) → List Slot → Bool
+lasts Read to place later = is_outside later to
+lasts Write to place later = is_outside later place
+lasts Modify to place later = is_outside later to && is_outside later place
+lasts Address to place later = is_outside later to
+lasts Field to place later = is_outside later to && is_outside later place
+lasts Branch to place later = true
+
+-- each operand has two temporaries of 0 to 3, and what it leaves outlasts the later ones
+abbrev pub are_apart : List Slot → Bool
+are_apart [] = true
+are_apart (slot ∷ slots) = nat_lt slot.to 4 && nat_lt slot.place 4 && not (slot.to == slot.place) && lasts slot.access slot.to slot.place slots && are_apart slots
+
+both : (a b : Bool) → (a && b) ≡ true → (a ≡ true) × (b ≡ true)
+both true b is = (refl, is)
+both false b is = cc
+
+negated : (b : Bool) → not b ≡ true → b ≡ false
+negated true is = cc
+negated false is = refl
+
+outside : (slots : List Slot) (operands : List Operand) (temp : ℕ) → FitSlots slots operands → is_outside slots temp ≡ true → IsOutside (zip slots operands) temp
+outside [] [] temp fit is = tt
+outside (slot ∷ slots) (operand ∷ operands) temp fit is =
+    let d = both _ _ is in
+    let c = both _ _ d.0 in
+    let b = both _ _ c.0 in
+    (negated _ b.0, negated _ b.1, negated _ c.1, outside slots operands temp fit.1 d.1)
+outside [] (operand ∷ operands) temp fit is = absurd fit
+outside (slot ∷ slots) [] temp fit is = absurd fit
+
+last : (access : Access) (to place : ℕ) (slots : List Slot) (operands : List Operand) → FitSlots slots operands → lasts access to place slots ≡ true → Lasts access to place (zip slots operands)
+last Read to place slots operands fit is = outside slots operands to fit is
+last Write to place slots operands fit is = outside slots operands place fit is
+last Modify to place slots operands fit is = let b = both _ _ is in (outside slots operands to fit b.0, outside slots operands place fit b.1)
+last Address to place slots operands fit is = outside slots operands to fit is
+last Field to place slots operands fit is = let b = both _ _ is in (outside slots operands to fit b.0, outside slots operands place fit b.1)
+last Branch to place slots operands fit is = tt
+
+are_placed : (slots : List Slot) (operands : List Operand) → FitSlots slots operands → are_apart slots ≡ true → ArePlaced (zip slots operands)
+are_placed [] [] fit is = tt
+are_placed (slot ∷ slots) (operand ∷ operands) fit is =
+    let e = both _ _ is in
+    let d = both _ _ e.0 in
+    let c = both _ _ d.0 in
+    let b = both _ _ c.0 in (
+      record { operand = fit.0.0; to = ltb-true slot.to 4 b.0; place = ltb-true slot.place 4 b.1; apart = negated _ c.1 },
+      last slot.access slot.to slot.place slots operands fit.1 d.1,
+      are_placed slots operands fit.1 e.1,
+    )
+are_placed [] (operand ∷ operands) fit is = absurd fit
+are_placed (slot ∷ slots) [] fit is = absurd fit
+
+-- the operands of an instruction fit the slots
+pub record AreSlots (slots : List Slot) (instr : Instr) : Type 0 where
+  pub operands : List Operand
+  pub fit : FitSlots slots operands
+  pub is_instr : instr ≡ with_operands instr.at instr.opcode instr.count instr.after operands
+  pub are : specifiers_from 0 slots instr ≡ zip slots operands
+  pub placed : ArePlaced (specifiers_from 0 slots instr)
+  pub of_instruction : AreOperandsOf (specifiers_from 0 slots instr) (row_with (types_of slots)) instr
+
+pub are_slots : (slots : List Slot) (instr : Instr) (operands : List Operand) → FitSlots slots operands → are_apart slots ≡ true → length slots ≤ 4
+    → instr ≡ with_operands instr.at instr.opcode instr.count instr.after operands → AreSlots slots instr
+are_slots slots instr operands fit apart few is =
+    let are : specifiers_from 0 slots instr ≡ zip slots operands = ap (specifiers_from 0 slots) is ∙ zipped slots operands instr.at instr.opcode instr.count instr.after fit few in
+    record {
+      operands = operands;
+      fit = fit;
+      is_instr = is;
+      are = are;
+      placed = rw are (are_placed slots operands fit apart);
+      of_instruction = rw (are, are_types slots operands fit, are_operands slots operands fit) (refl, ap (λ (i : Instr). i.operands) is);
+    }
