@@ -39,11 +39,15 @@ abbrev pub operands_program : List Specifier → (steps : List ℕ) → List Mic
 operands_program [] steps = []
 operands_program (specifier ∷ specifiers) steps = operand_program specifier steps ++ operands_program specifiers (steps_behind_specifier specifier steps)
 
--- the operands use other temporaries
+-- an operand uses other temporaries; a displacement uses none
+abbrev pub IsOutsideOne : Access → (to place temp : ℕ) → Type 0
+IsOutsideOne Branch to place temp = Unit {0}
+IsOutsideOne access to place temp = ((temp == place) ≡ false) × ((temp == to) ≡ false) × ((temp == 4) ≡ false)
+
+-- so do several
 abbrev pub IsOutside : List Specifier → (temp : ℕ) → Type 0
 IsOutside [] temp = Unit {0}
-IsOutside (specifier ∷ specifiers) temp =
-    ((temp == specifier.place) ≡ false) × ((temp == specifier.to) ≡ false) × ((temp == 4) ≡ false) × IsOutside specifiers temp
+IsOutside (specifier ∷ specifiers) temp = IsOutsideOne specifier.access specifier.to specifier.place temp × IsOutside specifiers temp
 
 -- what an operand leaves is outside the later ones
 abbrev pub Lasts : Access → (to place : ℕ) → List Specifier → Type 0
