@@ -14,6 +14,7 @@ use Rattle.vax_form.specs.declared.instr.Size.TheVariants.{Byte, Word, Long, Qua
 use Rattle.vax_form.specs.declared.pages.Pages.{Pages}
 use Rattle.vax_form.specs.declared.state.VaxState.{VaxState}
 use Rattle.vax_meaning.specs.Operands.{store, put}
+use Rattle.vax_meaning.specs.Codes.{go_to}
 use Rattle.vax_meaning.specs.Moves.{push}
 use Rattle.vax_meaning.specs.declared.operands.Location.{Location}
 use Rattle.vax_meaning.specs.declared.operands.Location.TheVariants.{InMemory, InRegister}
@@ -23,6 +24,7 @@ use Rattle.micro_ops.specs.Leaving.{CodesComeFrom}
 use Rattle.micro_ops.specs.Meaning.{Temps, Found, Standing, course_of, started}
 use Rattle.micro_ops.specs.Sources.{from}
 use Rattle.micro_ops.specs.declared.codes.CodeSource.{CodeSource}
+use Rattle.micro_ops.specs.declared.codes.CodeSources.{CodeSources}
 use Rattle.micro_ops.specs.declared.codes.CodeSource.TheVariants as sources
 use Rattle.micro_ops.specs.declared.program.Exit.{Exit}
 use Rattle.micro_ops.specs.declared.program.Micro.{Micro}
@@ -36,7 +38,7 @@ use Rattle.operand_programs.proofs.Accesses.{register_below}
 use Rattle.operand_programs.proofs.Finishing.{finishes, commits_steps}
 use Rattle.operand_programs.proofs.Writing.{stores_result, replaces_operand, pushes}
 use Rattle.micro_lower.specs.Plans.{codes_program}
-use Rattle.micro_lower.proofs.Coding.{GoesTo, coded_end}
+use Rattle.micro_lower.proofs.Coding.{GoesTo, coded_end, plain_leaves}
 use Rattle.micro_lower.proofs.Ready.{effect, IsLowExit, still_goes, ReadyFor, ends_coded}
 
 steps_length_push : (steps : List ℕ) → length (steps_behind_push steps) ≡ length steps
@@ -77,81 +79,105 @@ still_ready nzv c psw before after coded kept ready = absurd ready
 not_5 : (temp : ℕ) → temp < 5 → eqb temp 5 ≡ false
 not_5 temp below = elim (eqb_tells temp 5) [ inl is ↦ absurd (omega (arith, below, is.1)) | inr not ↦ not.0 ]
 
-module _ (nzv c : CodeSource) (start : VaxState) (pages : Pages) (thread after : ℕ) (ok : IsState start) (coded : Coded) (exit : Exit) (pc : ℕ)
-    (end : VaxState → Tree) (ends : (state : VaxState) → state.psw ≡ start.psw → coded_end pages coded.n coded.z coded.v coded.c pc state ≡ end state) where
-  abbrev pub found : Found
-  found = record { state = start; after = after }
+-- what was found: the state, and the address behind the instruction
+abbrev pub found_at : VaxState → (after : ℕ) → Found
+found_at start after = record { state = start; after = after }
 
-  -- behind the operands
-  abbrev pub with : Temps → Standing
-  with temps = with_temps temps (started start)
+-- behind the operands
+abbrev pub with : VaxState → Temps → Standing
+with start temps = with_temps temps (started start)
 
-  -- the program does what the tree does
-  abbrev pub DoesSo : List Micro → Standing → Tree → Type 0
-  DoesSo program standing tree = Agrees (CodesComeFrom (from nzv c) start) (leaving pages thread) (course_of program found standing) tree
+-- the program does what the tree does
+abbrev pub DoesSo : CodeSources → VaxState → Pages → (thread after : ℕ) → List Micro → Standing → Tree → Type 0
+DoesSo codes start pages thread after program standing tree = Agrees (CodesComeFrom codes start) (leaving pages thread) (course_of program (found_at start after) standing) tree
 
-  abbrev pub close : List Micro
-  close = codes_program (from nzv c) ++ Leave exit ∷ []
+-- the end of a program: it closes as the instruction ends, from each state with other registers, where the temporaries hold
+-- what it takes
+abbrev pub Closes : CodeSources → VaxState → Pages → (thread after : ℕ) → List Micro → (VaxState → Tree) → (Temps → Type 0) → Type 0
+Closes codes start pages thread after close end Ready =
+    (state : VaxState) (temps temps' : Temps) → with_core start state.r start.pc start.psw ≡ state → KeptBut5 temps temps' → Ready temps
+    → DoesSo codes start pages thread after close (with_registers_of state temps' (with start temps)) (end state)
 
-  -- what the temporaries hold where nothing but the end is left
-  pub record IsClosing (temps : Temps) : Type 0 where
-    pub low : IsLowExit exit
-    pub goes : GoesTo exit found temps pc
-    pub ready : ReadyFor nzv c start.psw temps coded
-
-  closes : (state : VaxState) (temps temps' : Temps) → with_core start state.r start.pc start.psw ≡ state → KeptBut5 temps temps' → IsClosing temps
-      → DoesSo close (with_registers_of state temps' (with temps)) (end state)
-  closes state temps temps' is kept closing =
-      subst (λ (s : VaxState). DoesSo close (with_registers_of state temps' (with temps)) (end s)) is
-      (subst (λ (tree : Tree). DoesSo close (with_registers_of state temps' (with temps)) tree) (ends (with_core start state.r start.pc start.psw) refl)
-      (ends_coded start pages thread found (with_registers_of state temps' (with temps)) coded exit pc nzv c (still_ready nzv c start.psw temps temps' coded kept closing.ready)
-      closing.low (still_goes exit found temps temps' pc closing.low (λ temp below. kept temp (not_5 temp below)) closing.goes) refl))
-
+module _ (codes : CodeSources) (start : VaxState) (pages : Pages) (thread after : ℕ) (ok : IsState start) (close : List Micro) (end : VaxState → Tree) (Ready : Temps → Type 0)
+    (closes : Closes codes start pages thread after close end Ready) where
   -- what the specifiers added is committed
-  commits : (steps : List ℕ) (temps : Temps) → length steps ≡ length start.r → IsClosing temps → DoesSo (commit_program 0 steps ++ close) (with temps) (end (stepped steps start))
-  commits steps temps same closing =
-      commits_steps steps (from nzv c) start pages thread close found (with temps) (end (stepped steps start)) same refl (register_below start ok)
-      (λ temps' kept. closes (stepped steps start) temps temps' refl kept closing)
+  pub commits : (steps : List ℕ) (temps : Temps) → length steps ≡ length start.r → Ready temps
+      → DoesSo codes start pages thread after (commit_program 0 steps ++ close) (with start temps) (end (stepped steps start))
+  commits steps temps same ready =
+      commits_steps steps codes start pages thread close (found_at start after) (with start temps) (end (stepped steps start)) same refl (register_below start ok)
+      (λ temps' kept. closes (stepped steps start) temps temps' refl kept ready)
 
   -- so is a result in registers
-  gives : (operand : Operand) (size : Size) (steps : List ℕ) (location : Location) (address value : ℕ) (temps : Temps) → length steps ≡ length start.r
-      → IsAt operand location address → IsGivable operand size → temps 2 ≡ value → IsOfSize size value → IsClosing temps
-      → DoesSo (finish_program operand size steps 2 ++ close) (with temps) (end (given location size value (stepped steps start)))
-  gives operand size steps location address value temps same at givable is fits closing =
+  pub gives : (operand : Operand) (size : Size) (steps : List ℕ) (location : Location) (address value : ℕ) (temps : Temps) → length steps ≡ length start.r
+      → IsAt operand location address → IsGivable operand size → temps 2 ≡ value → IsOfSize size value → Ready temps
+      → DoesSo codes start pages thread after (finish_program operand size steps 2 ++ close) (with start temps) (end (given location size value (stepped steps start)))
+  gives operand size steps location address value temps same at givable is fits ready =
       let state = given location size value (stepped steps start) in
-      finishes operand size steps 2 (lit< tt) givable (from nzv c) start pages thread close found (with temps) location address (end state) same refl (register_below start ok) at (rw is fits)
-      (λ temps' kept. rw is (closes state temps temps' (given_core location size value steps start) kept closing))
+      finishes operand size steps 2 (lit< tt) givable codes start pages thread close (found_at start after) (with start temps) location address (end state) same refl (register_below start ok) at (rw is fits)
+      (λ temps' kept. rw is (closes state temps temps' (given_core location size value steps start) kept ready))
 
   module _ (behind : List Micro) (all : list_all is_computation behind ≡ true) where
     -- behind the computations behind the result
-    pub nowhere : (steps : List ℕ) (temps : Temps) → length steps ≡ length start.r → IsClosing (effect behind found temps)
-        → DoesSo (behind ++ (commit_program 0 steps ++ close)) (with temps) (end (stepped steps start))
-    nowhere steps temps same closing = rw (computes behind (commit_program 0 steps ++ close) found (with temps) all) (commits steps (effect behind found temps) same closing)
+    pub nowhere : (steps : List ℕ) (temps : Temps) → length steps ≡ length start.r → Ready (effect behind (found_at start after) temps)
+        → DoesSo codes start pages thread after (behind ++ (commit_program 0 steps ++ close)) (with start temps) (end (stepped steps start))
+    nowhere steps temps same ready = rw (computes behind (commit_program 0 steps ++ close) (found_at start after) (with start temps) all) (commits steps (effect behind (found_at start after) temps) same ready)
 
     module _ (operand : Operand) (size : Size) (steps : List ℕ) (location : Location) (value : ℕ) (temps : Temps) (same : length steps ≡ length start.r)
         (at : IsAt operand location (temps 3)) (givable : IsGivable operand size) (is : temps 2 ≡ value) (fits : IsOfSize size value)
-        (kept : effect behind found temps 2 ≡ temps 2) (closing : IsClosing (effect behind found temps)) where
-      finished : DoesSo (behind ++ (finish_program operand size steps 2 ++ close)) (with temps) (end (given location size value (stepped steps start)))
+        (kept : effect behind (found_at start after) temps 2 ≡ temps 2) (ready : Ready (effect behind (found_at start after) temps)) where
+      finished : DoesSo codes start pages thread after (behind ++ (finish_program operand size steps 2 ++ close)) (with start temps) (end (given location size value (stepped steps start)))
       finished =
-          rw (computes behind (finish_program operand size steps 2 ++ close) found (with temps) all)
-          (gives operand size steps location (temps 3) value (effect behind found temps) same at givable (kept ∙ is) fits closing)
+          rw (computes behind (finish_program operand size steps 2 ++ close) (found_at start after) (with start temps) all)
+          (gives operand size steps location (temps 3) value (effect behind (found_at start after) temps) same at givable (kept ∙ is) fits ready)
 
-      pub results : DoesSo (result_program operand size 3 2 ++ (behind ++ (finish_program operand size steps 2 ++ close))) (with temps)
+      pub results : DoesSo codes start pages thread after (result_program operand size 3 2 ++ (behind ++ (finish_program operand size steps 2 ++ close))) (with start temps)
           (tree_of pages (store location size value) (stepped steps start) (λ done state. end state))
       results =
-          rw (← is) (stores_result operand size 3 2 (from nzv c) start pages thread (behind ++ (finish_program operand size steps 2 ++ close)) found (with temps) location (stepped steps start) (λ done state. end state) at
-          (rw is finished))
+          rw (← is) (stores_result operand size 3 2 codes start pages thread (behind ++ (finish_program operand size steps 2 ++ close)) (found_at start after) (with start temps) location (stepped steps start)
+          (λ done state. end state) at (rw is finished))
 
-      pub replaces : DoesSo (replacement_program operand size 3 2 ++ (behind ++ (finish_program operand size steps 2 ++ close))) (with temps)
+      pub replaces : DoesSo codes start pages thread after (replacement_program operand size 3 2 ++ (behind ++ (finish_program operand size steps 2 ++ close))) (with start temps)
           (tree_of pages (put location size value) (stepped steps start) (λ done state. end state))
       replaces =
-          rw (← is) (replaces_operand operand size 3 2 (from nzv c) start pages thread (behind ++ (finish_program operand size steps 2 ++ close)) found (with temps) location (stepped steps start) (λ done state. end state) at
-          (rw is finished))
+          rw (← is) (replaces_operand operand size 3 2 codes start pages thread (behind ++ (finish_program operand size steps 2 ++ close)) (found_at start after) (with start temps) location (stepped steps start)
+          (λ done state. end state) at (rw is finished))
 
     -- a longword is pushed
     pub pushed : (steps : List ℕ) (value : ℕ) (temps : Temps) → length steps ≡ length start.r → 14 < length steps → temps 2 ≡ value
-        → ((temps' : Temps) → Kept 3 3 temps temps' → IsClosing (effect behind found temps'))
-        → DoesSo (push_program steps 3 2 ++ (behind ++ (commit_program 0 (steps_behind_push steps) ++ close))) (with temps) (tree_of pages (push value) (stepped steps start) (λ done state. end state))
-    pushed steps value temps same room is closing =
-        rw (← is) (pushes steps 3 2 refl (from nzv c) start pages thread (behind ++ (commit_program 0 (steps_behind_push steps) ++ close)) found (with temps) (λ done state. end state) same room
-        (λ temps' kept. nowhere (steps_behind_push steps) temps' (steps_length_push steps ∙ same) (closing temps' kept)))
+        → ((temps' : Temps) → Kept 3 3 temps temps' → Ready (effect behind (found_at start after) temps'))
+        → DoesSo codes start pages thread after (push_program steps 3 2 ++ (behind ++ (commit_program 0 (steps_behind_push steps) ++ close))) (with start temps)
+        (tree_of pages (push value) (stepped steps start) (λ done state. end state))
+    pushed steps value temps same room is ready =
+        rw (← is) (pushes steps 3 2 refl codes start pages thread (behind ++ (commit_program 0 (steps_behind_push steps) ++ close)) (found_at start after) (with start temps) (λ done state. end state) same room
+        (λ temps' kept. nowhere (steps_behind_push steps) temps' (steps_length_push steps ∙ same) (ready temps' kept)))
+
+-- ---- codes that are set
+-- the exit goes there, and the temporaries hold what the codes come from
+pub record IsReady (nzv c : CodeSource) (start : VaxState) (after : ℕ) (coded : Coded) (exit : Exit) (pc : ℕ) (temps : Temps) : Type 0 where
+  pub low : IsLowExit exit
+  pub goes : GoesTo exit (found_at start after) temps pc
+  pub ready : ReadyFor nzv c start.psw temps coded
+
+pub closes_coded : (nzv c : CodeSource) (start : VaxState) (pages : Pages) (thread after : ℕ) (coded : Coded) (exit : Exit) (pc : ℕ) (end : VaxState → Tree)
+    → ((state : VaxState) → state.psw ≡ start.psw → coded_end pages coded.n coded.z coded.v coded.c pc state ≡ end state)
+    → Closes (from nzv c) start pages thread after (codes_program (from nzv c) ++ Leave exit ∷ []) end (IsReady nzv c start after coded exit pc)
+closes_coded nzv c start pages thread after coded exit pc end ends state temps temps' is kept r =
+    let close = codes_program (from nzv c) ++ Leave exit ∷ [] in
+    let standing = with_registers_of state temps' (with start temps) in
+    subst (λ (s : VaxState). DoesSo (from nzv c) start pages thread after close standing (end s)) is
+    (subst (λ (tree : Tree). DoesSo (from nzv c) start pages thread after close standing tree) (ends (with_core start state.r start.pc start.psw) refl)
+    (ends_coded start pages thread (found_at start after) standing coded exit pc nzv c (still_ready nzv c start.psw temps temps' coded kept r.ready)
+    r.low (still_goes exit (found_at start after) temps temps' pc r.low (λ temp below. kept temp (not_5 temp below)) r.goes) refl))
+
+-- ---- codes that are kept
+pub record IsReadyToGo (start : VaxState) (after : ℕ) (exit : Exit) (pc : ℕ) (temps : Temps) : Type 0 where
+  pub low : IsLowExit exit
+  pub goes : GoesTo exit (found_at start after) temps pc
+
+pub closes_kept : (start : VaxState) (pages : Pages) (thread after : ℕ) (exit : Exit) (pc : ℕ)
+    → Closes (from sources.Kept sources.Kept) start pages thread after (Leave exit ∷ []) (λ state. tree_of pages (go_to pc) state ends_with) (IsReadyToGo start after exit pc)
+closes_kept start pages thread after exit pc state temps temps' is kept r =
+    let standing = with_registers_of state temps' (with start temps) in
+    subst (λ (s : VaxState). DoesSo (from sources.Kept sources.Kept) start pages thread after (Leave exit ∷ []) standing (tree_of pages (go_to pc) s ends_with)) is
+    (plain_leaves (from sources.Kept sources.Kept) start pages thread (found_at start after) standing exit pc refl
+    (still_goes exit (found_at start after) temps temps' pc r.low (λ temp below. kept temp (not_5 temp below)) r.goes) (record { signs = (refl, refl, refl); carry = refl }))

@@ -28,7 +28,7 @@ use Rattle.micro_ops.specs.declared.program.Exit.TheVariants.{Next}
 use Rattle.micro_lower.specs.Plans.{program_of}
 use Rattle.micro_lower.specs.Rows.{move_plan}
 use Rattle.micro_lower.proofs.Coding.{plain_end, coded_end}
-use Rattle.micro_lower.proofs.Endings.{results, is_computation}
+use Rattle.micro_lower.proofs.Endings.{found_at, with, DoesSo, results, closes_coded, is_computation}
 use Rattle.micro_lower.proofs.Planned.{plan_does, AllDo, BodyDoes, read_and_write}
 use Rattle.micro_lower.proofs.Overflow.{low_below}
 use Rattle.vax_form.specs.declared.instr.Operand.{Operand}
@@ -67,23 +67,25 @@ value_ends pages start size value pc state same =
     let coded = value_coded start size value in
     plain_end pages coded.n coded.z (carry_of start) pc state ∙ rw same refl
 
+-- the result is in 2, and behind the computations also in 0
 module _ (start : VaxState) (pages : Pages) (thread after : ℕ) (ok : IsState start) (size : Size) (operand : Operand) (steps : List ℕ) (same : length steps ≡ length start.r)
     (location : Location) (value : ℕ) (temps : Temps) (behind : List Micro) (all : list_all is_computation behind ≡ true) where
-  -- the result is in 2, and behind the computations also in 0
   pub gives_value : IsAt operand location (temps 3) → IsGivable operand size → temps 2 ≡ value → value < limit_of size
-      → effect behind (record { state = start; after = after }) temps 2 ≡ temps 2 → effect behind (record { state = start; after = after }) temps 0 ≡ value
-      → Agrees (CodesComeFrom (from (Result size) Kept) start) (leaving pages thread)
-      (course_of (result_program operand size 3 2 ++ (behind ++ (finish_program operand size steps 2 ++ (codes_program (from (Result size) Kept) ++ Leave Next ∷ [])))) (record { state = start; after = after }) (with_temps temps (started start)))
+      → effect behind (found_at start after) temps 2 ≡ temps 2 → effect behind (found_at start after) temps 0 ≡ value
+      → DoesSo (from (Result size) Kept) start pages thread after
+      (result_program operand size 3 2 ++ (behind ++ (finish_program operand size steps 2 ++ (codes_program (from (Result size) Kept) ++ Leave Next ∷ [])))) (with start temps)
       (tree_of pages (store location size value) (stepped steps start) (λ done state. value_end pages size value after state))
   gives_value at givable is fits kept in_0 =
       let coded = value_coded start size value in
-      results (Result size) Kept start pages thread after ok coded Next after (value_end pages size value after) (value_ends pages start size value after)
+      results (from (Result size) Kept) start pages thread after ok _ (value_end pages size value after) _
+      (closes_coded (Result size) Kept start pages thread after coded Next after (value_end pages size value after) (value_ends pages start size value after))
       behind all operand size steps location value temps same at givable is fits kept
       (record { low = tt; goes = refl; ready = (((rw in_0 fits, rw in_0 refl, rw in_0 refl), kept ∙ is ∙ sym in_0, refl), carry_is start.psw) })
 
-pub move_all : (size : Size) (instr : Instr) → AreSlots (move_plan size instr).slots instr → IsGivable (operand instr 1) size → AllDo (operations.Move size) instr (move_plan size instr)
+pub move_all : (size : Size) (instr : Instr) → IsGivable (operand instr 1) size → AllDo (operations.Move size) instr (move_plan size instr)
 unfolding body give sources_of value_from
-move_all size instr slots givable state pages thread temps values ok same left =
+move_all size instr givable state pages thread temps values ok same left =
     read_and_write values temps (BodyDoes (operations.Move size) instr (move_plan size instr) state pages thread temps) size size (operand instr 0) (operand instr 1) 0 1 left (λ location fits at.
-    gives_value state pages thread instr.after ok size (operand instr 1) (steps_of (move_plan size instr).slots instr) same location (temps 0 % limit_of size) (effect (move_plan size instr).before (record { state = state; after = instr.after }) temps) [] refl
+    gives_value state pages thread instr.after ok size (operand instr 1) (steps_of (move_plan size instr).slots instr) same location (temps 0 % limit_of size)
+    (effect (move_plan size instr).before (found_at state instr.after) temps) [] refl
     at givable refl (low_below size _) refl (sym (mod-eq_of_lt fits)))

@@ -17,7 +17,7 @@ use Rattle.vax_form.specs.declared.instr.Size.{Size}
 use Rattle.vax_form.specs.declared.instr.Size.TheVariants.{Byte, Word, Long, Quad}
 use Rattle.vax_form.specs.declared.operation.Operation.{Operation}
 use Rattle.vax_meaning.specs.Evaluation.{operand}
-use Rattle.operand_programs.specs.InOrder.{IsOutside, Lasts, ArePlaced, AreOperandsOf}
+use Rattle.operand_programs.specs.InOrder.{IsOutsideOne, IsOutside, Lasts, ArePlaced, AreOperandsOf}
 use Rattle.operand_programs.specs.Operands.{IsFor, IsPlaced}
 use Rattle.operand_programs.specs.Pieces.{IsLong}
 use Rattle.operand_programs.specs.Results.{IsGivable}
@@ -135,9 +135,13 @@ are_types [] (operand ∷ operands) fit = absurd fit
 are_types (slot ∷ slots) [] fit = absurd fit
 
 -- ---- temporaries
+abbrev pub is_outside_one : Access → (to place temp : ℕ) → Bool
+is_outside_one Branch to place temp = true
+is_outside_one access to place temp = not (temp == place) && not (temp == to) && not (temp == 4)
+
 abbrev pub is_outside : List Slot → (temp : ℕ) → Bool
 is_outside [] temp = true
-is_outside (slot ∷ slots) temp = not (temp == slot.place) && not (temp == slot.to) && not (temp == 4) && is_outside slots temp
+is_outside (slot ∷ slots) temp = is_outside_one slot.access slot.to slot.place temp && is_outside slots temp
 
 abbrev pub lasts : Access → (to place : ℕ) → List Slot → Bool
 lasts Read to place later = is_outside later to
@@ -160,13 +164,25 @@ negated : (b : Bool) → not b ≡ true → b ≡ false
 negated true is = cc
 negated false is = refl
 
+three : (a b c : Bool) → (not a && not b && not c) ≡ true → (a ≡ false) × (b ≡ false) × (c ≡ false)
+three a b c is =
+    let second = both _ _ is in
+    let first = both _ _ second.0 in
+    (negated a first.0, negated b first.1, negated c second.1)
+
+outside_one : (access : Access) (to place temp : ℕ) → is_outside_one access to place temp ≡ true → IsOutsideOne access to place temp
+outside_one Read to place temp is = three _ _ _ is
+outside_one Write to place temp is = three _ _ _ is
+outside_one Modify to place temp is = three _ _ _ is
+outside_one Address to place temp is = three _ _ _ is
+outside_one Field to place temp is = three _ _ _ is
+outside_one Branch to place temp is = tt
+
 outside : (slots : List Slot) (operands : List Operand) (temp : ℕ) → FitSlots slots operands → is_outside slots temp ≡ true → IsOutside (zip slots operands) temp
 outside [] [] temp fit is = tt
 outside (slot ∷ slots) (operand ∷ operands) temp fit is =
-    let d = both _ _ is in
-    let c = both _ _ d.0 in
-    let b = both _ _ c.0 in
-    (negated _ b.0, negated _ b.1, negated _ c.1, outside slots operands temp fit.1 d.1)
+    let b = both _ _ is in
+    (outside_one slot.access slot.to slot.place temp b.0, outside slots operands temp fit.1 b.1)
 outside [] (operand ∷ operands) temp fit is = absurd fit
 outside (slot ∷ slots) [] temp fit is = absurd fit
 

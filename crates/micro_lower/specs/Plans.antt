@@ -17,8 +17,9 @@ use Rattle.micro_ops.specs.declared.program.MicroOp.{MicroOp}
 use Rattle.micro_ops.specs.declared.program.MicroOp.TheVariants as ops
 use Rattle.operand_programs.specs.Specifiers.{commit_program}
 use Rattle.operand_programs.specs.InOrder.{operands_program, steps_behind_all, no_steps}
-use Rattle.operand_programs.specs.Results.{result_program, replacement_program, push_program, finish_program, steps_behind_push}
+use Rattle.operand_programs.specs.Results.{result_program, replacement_program, push_program, finish_program, steps_behind_push, IsGivable}
 use Rattle.operand_programs.specs.declared.operands.Specifier.{Specifier}
+use Rattle.micro_lower.specs.declared.plans.Plan.{Plan as PlanValue}
 use Rattle.micro_lower.specs.declared.plans.Slot.{Slot}
 use Rattle.micro_lower.specs.declared.plans.Target.{Target}
 use Rattle.micro_lower.specs.declared.plans.Target.TheVariants.{Nowhere, Result, Replacement, Stack}
@@ -43,6 +44,10 @@ pub record Plan : Type 0 where
   pub behind : List Micro
   pub exit : Exit
 
+-- the plan that a value of the program is
+abbrev pub plan_of : PlanValue → Plan
+plan_of plan = record { slots = plan.slots.now; before = plan.before.now; target = plan.target; behind = plan.behind.now; exit = plan.exit }
+
 -- ---- results
 -- the result is written
 abbrev pub write_program : Target → (steps : List ℕ) → List Micro
@@ -51,12 +56,22 @@ write_program (Result operand size) steps = result_program operand size 3 2
 write_program (Replacement operand size) steps = replacement_program operand size 3 2
 write_program Stack steps = push_program steps 3 2
 
--- what the specifiers added, and a result in registers, is committed
+-- a push adds to the stack pointer
+abbrev pub steps_behind_target : Target → (steps : List ℕ) → List ℕ
+steps_behind_target Stack steps = steps_behind_push steps
+steps_behind_target target steps = steps
+
+-- what was added, and a result in registers, is committed
 abbrev pub end_program : Target → (steps : List ℕ) → List Micro
-end_program Nowhere steps = commit_program 0 steps
 end_program (Result operand size) steps = finish_program operand size steps 2
 end_program (Replacement operand size) steps = finish_program operand size steps 2
-end_program Stack steps = commit_program 0 (steps_behind_push steps)
+end_program target steps = commit_program 0 steps
+
+-- a quadword in registers has a next one
+abbrev pub IsGiven : Target → Type 0
+IsGiven (Result operand size) = IsGivable operand size
+IsGiven (Replacement operand size) = IsGivable operand size
+IsGiven target = Unit {0}
 
 -- ---- condition codes
 -- a computation of one argument
@@ -124,7 +139,7 @@ codes_program codes = codes_from codes.nzv codes.c
 -- what comes behind the operands
 abbrev pub rest_program : CodeSources → Plan → (steps : List ℕ) → List Micro
 rest_program codes plan steps =
-    plan.before ++ (write_program plan.target steps ++ (plan.behind ++ (end_program plan.target steps ++ (codes_program codes ++ Leave plan.exit ∷ []))))
+    plan.before ++ (write_program plan.target steps ++ (plan.behind ++ (end_program plan.target (steps_behind_target plan.target steps) ++ (codes_program codes ++ Leave plan.exit ∷ []))))
 
 abbrev pub program_of : CodeSources → Plan → Instr → List Micro
 program_of codes plan instr = operands_program (specifiers_from 0 plan.slots instr) no_steps ++ rest_program codes plan (steps_of plan.slots instr)

@@ -6,6 +6,7 @@ ghost use Rattle.vax_meaning.specs.Evaluation.{operand};
 ghost use Rattle.micro_lower.specs.Lowering.{Lowers};
 ghost use Rattle.micro_lower.specs.Programs.{no_operation_program, breakpoint_program, branch_program, flags_of, is_negated, flag_test, branch_if_program, subroutine_program, return_program, is_lowered};
 
+use crate::micros::{binary, unary};
 use micro_ops::{Arg, Exit, Micro, MicroOp};
 use std::alloc::{AllocError, Global};
 use vax_form::{Condition, Instr, Operand, Operation, Size};
@@ -18,26 +19,6 @@ fn target(instr: &Instr) -> u32
         Operand::Target(address) => address,
         _ => 0,
     }
-}
-
-/// A computation of one argument.
-fn unary(to: u8, op: MicroOp, size: Size, a: Arg) -> Micro
-    ensures { result ≡ Micro.Compute to op size a (Arg.Const 0) }
-{
-    Micro::Compute {
-        to,
-        op,
-        size,
-        a,
-        b: Arg::Const(0),
-    }
-}
-
-/// A computation of two arguments.
-fn binary(to: u8, op: MicroOp, size: Size, a: Arg, b: Arg) -> Micro
-    ensures { result ≡ Micro.Compute to op size a b }
-{
-    Micro::Compute { to, op, size, a, b }
 }
 
 /// The flags that a condition is made from, by their numbers: one, or either of two.

@@ -3,6 +3,8 @@
 #![tactic(auto)]
 
 mod branches;
+mod codes;
+mod micros;
 mod plans;
 
 pub use branches::lower_operation;

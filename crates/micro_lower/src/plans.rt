@@ -1,7 +1,22 @@
 // The plan of a program: the operands in order, what is computed before the result is written and behind that, where the
 // result goes, and the exit.
+ghost use Rattle.std.specs.Prelude.{◌≡◌, ◌≤◌, ◌++◌, ◌∷◌, [], IfOk, OnOk, length};
+ghost use Rattle.operand_programs.specs.InOrder.{operands_program, steps_behind_all, no_steps, ArePlaced};
+ghost use Rattle.operand_programs.specs.Results.{IsGivable, steps_behind_push};
+ghost use Rattle.micro_lower.specs.Plans.{codes_program, specifiers_from, write_program, end_program, program_of, plan_of, steps_behind_target, IsGiven};
 
-use vax_form::{Access, Operand, Size};
+use crate::codes::put_codes;
+use micro_ops::{CodeSources, Exit, Micro};
+use operand_programs::{
+    Specifier, Steps, put_finish, put_operand, put_push, put_replacement, put_result, put_steps,
+};
+use std::alloc::Global;
+use vax_form::{Access, Instr, Operand, Size, WantOfMemory};
+
+/// The temporary of the result.
+const RESULT: u8 = 2;
+/// The temporary for the address of its operand.
+const PLACE: u8 = 3;
 
 /// An operand of a row of the table: how it is used, its size, and the temporaries for its value and for its address.
 #[derive(Clone, Copy, Debug, PartialEq, Eq)]
@@ -23,4 +38,116 @@ pub(crate) enum Target {
     Replacement { operand: Operand, size: Size },
     /// The longword is pushed.
     Stack,
+}
+
+/// A row of the table of instructions.
+#[derive(Clone, Copy)]
+pub(crate) struct Plan<'a> {
+    pub slots: &'a [Slot],
+    pub before: &'a [Micro],
+    pub target: Target,
+    pub behind: &'a [Micro],
+    pub exit: Exit,
+}
+
+/// The operands in order.
+fn put_operands(
+    program: &mut Vec<Micro>,
+    slots: &[Slot],
+    instr: &Instr,
+    steps: &mut Steps,
+) -> Result<(), WantOfMemory>
+    requires few { length slots.now ≤ 6 }
+    requires placed { ArePlaced (specifiers_from 0 slots.now instr.now) }
+    ensures program { OnOk result (program.new.items ≡ program.old.items ++ operands_program (specifiers_from 0 slots.now instr.now) steps.old) }
+    ensures steps { OnOk result (steps.new ≡ steps_behind_all (specifiers_from 0 slots.now instr.now) steps.old) }
+{
+    for i in 0..slots.len() {
+        let Slot {
+            access,
+            size,
+            to,
+            place,
+        } = slots[i];
+        let specifier = Specifier {
+            access,
+            size,
+            operand: instr.operands[i],
+            to,
+            place,
+        };
+        put_operand(program, specifier, steps)?;
+    }
+    Ok(())
+}
+
+/// Writes the result.
+fn put_target(
+    program: &mut Vec<Micro>,
+    target: Target,
+    steps: &mut Steps,
+) -> Result<(), WantOfMemory>
+    ensures program { OnOk result (program.new.items ≡ program.old.items ++ write_program target steps.old) }
+    ensures steps { OnOk result (steps.new ≡ steps_behind_target target steps.old) }
+{
+    match target {
+        Target::Nowhere => Ok(()),
+        Target::Result { operand, size } => put_result(program, operand, size, PLACE, RESULT),
+        Target::Replacement { operand, size } => {
+            put_replacement(program, operand, size, PLACE, RESULT)
+        }
+        Target::Stack => put_push(program, steps, PLACE, RESULT),
+    }
+}
+
+/// Commits what the specifiers added, and a result in registers.
+fn put_end(program: &mut Vec<Micro>, target: Target, steps: &Steps) -> Result<(), WantOfMemory>
+    requires { IsGiven target }
+    ensures { OnOk result (program.new.items ≡ program.old.items ++ end_program target steps.now) }
+{
+    match target {
+        Target::Nowhere | Target::Stack => put_steps(program, steps),
+        Target::Result { operand, size } | Target::Replacement { operand, size } => {
+            put_finish(program, operand, size, steps, RESULT)
+        }
+    }
+}
+
+fn add(program: &mut Vec<Micro>, operations: &[Micro]) -> Result<(), WantOfMemory>
+    ensures { OnOk result (program.new.items ≡ program.old.items ++ operations.now) }
+{
+    program
+        .extend_from_slice(operations)
+        .map_err(|_| WantOfMemory)
+}
+
+/// Sets the codes and leaves.
+fn put_leave(program: &mut Vec<Micro>, codes: CodeSources, exit: Exit) -> Result<(), WantOfMemory>
+    ensures { OnOk result (program.new.items ≡ program.old.items ++ (codes_program codes ++ Micro.Leave exit ∷ [])) }
+{
+    put_codes(program, codes).map_err(|_| WantOfMemory)?;
+    add(program, &[Micro::Leave(exit)])
+}
+
+/// The program of a plan.
+pub(crate) fn assemble(
+    alloc: Global,
+    codes: CodeSources,
+    plan: Plan<'_>,
+    instr: &Instr,
+) -> Result<Vec<Micro>, WantOfMemory>
+    requires few { length plan.slots.now ≤ 6 }
+    requires placed { ArePlaced (specifiers_from 0 plan.slots.now instr.now) }
+    requires given { IsGiven plan.target }
+    ensures { IfOk result (λ p. p.items ≡ program_of codes (plan_of plan.entry) instr.now) }
+{
+    let mut program = Vec::new(alloc);
+    let mut steps: Steps = [0; 15];
+    put_operands(&mut program, plan.slots, instr, &mut steps)?;
+    add(&mut program, plan.before)?;
+    put_target(&mut program, plan.target, &mut steps)?;
+    add(&mut program, plan.behind)?;
+    put_end(&mut program, plan.target, &steps)?;
+    put_leave(&mut program, codes, plan.exit)?;
+    Ok(program)
 }
