@@ -8,3 +8,5 @@ pub mod Endings
 pub mod Slots
 pub mod Planned
 pub mod Moves
+pub mod Given
+pub mod Tabled

@@ -67,7 +67,7 @@ flipped false = refl
 abbrev pub differ : Size → (x r : ℕ) → ℕ
 differ size x r = bit_xor (bit (x % 2 ^ 64 % 2 ^ 64 == sign_extended (r % limit_of size) (bits_of size) % 2 ^ 64) % 2 ^ 8) 1
 
-some : (size : Size) → 0 < limit_of size
+pub some : (size : Size) → 0 < limit_of size
 some Byte = lit< tt
 some Word = lit< tt
 some Long = lit< tt

@@ -5,6 +5,7 @@ use Rattle.vax_form.specs.Row.{row_with, filled}
 use Rattle.vax_form.specs.Size.{bytes_of}
 use Rattle.vax_form.specs.State.{IsState}
 use Rattle.vax_form.specs.Tree.{Tree, tree_of, ends_with}
+use Rattle.vax_form.specs.declared.instr.Access.{Access}
 use Rattle.vax_form.specs.declared.instr.Access.TheVariants.{Read, Write, Modify, Address, Field, Branch}
 use Rattle.vax_form.specs.declared.instr.Instr.{Instr}
 use Rattle.vax_form.specs.declared.instr.Operand.{Operand}
@@ -100,27 +101,71 @@ value number = record { location = InMemory 0; value = number }
 abbrev pub place : Location → Evaluated
 place location = record { location = location; value = 0 }
 
--- ---- shapes of rows
-abbrev pub reading : Size → Operand → (to place : ℕ) → Specifier
-reading size operand to place = record { access = Read; size = size; operand = operand; to = to; place = place }
+abbrev pub both : Location → ℕ → Evaluated
+both location number = record { location = location; value = number }
 
-abbrev pub writing : Size → Operand → Specifier
-writing size operand = record { access = Write; size = size; operand = operand; to = 2; place = 3 }
+abbrev pub address : ℕ → Evaluated
+address number = record { location = InMemory number; value = number }
+
+-- ---- shapes of rows
+abbrev pub specifier : Access → Size → Operand → (to place : ℕ) → Specifier
+specifier access size operand to place = record { access = access; size = size; operand = operand; to = to; place = place }
 
 module _ (values : List Evaluated) (temps : Temps) (P : List Evaluated → Type 0) where
-  pub only_write : (size : Size) (a : Operand) → AreLeft (writing size a ∷ []) values temps
+  pub only_write : (size : Size) (a : Operand) → AreLeft (specifier Write size a 2 3 ∷ []) values temps
       → ((location : Location) → IsAt a location (temps 3) → P (place location ∷ [])) → P values
   only_write size a left goes =
       after_write size a 2 3 [] values temps P left (λ others left' location at.
       after_all others temps (λ others. P (place location ∷ others)) left' (goes location at))
 
-  pub read_and_write : (size size' : Size) (a b : Operand) (to from : ℕ) → AreLeft (reading size a to from ∷ writing size' b ∷ []) values temps
+  pub only_read : (size : Size) (a : Operand) (to from : ℕ) → AreLeft (specifier Read size a to from ∷ []) values temps
+      → (IsOfSize size (temps to) → P (value (temps to) ∷ [])) → P values
+  only_read size a to from left goes =
+      after_read size a to from [] values temps P left (λ others left' fits.
+      after_all others temps (λ others. P (value (temps to) ∷ others)) left' (goes fits))
+
+  pub only_address : (size : Size) (a : Operand) (to from : ℕ) → AreLeft (specifier Address size a to from ∷ []) values temps
+      → (temps to < 2 ^ 32 → P (address (temps to) ∷ [])) → P values
+  only_address size a to from left goes =
+      after_address size a to from [] values temps P left (λ others left' fits.
+      after_all others temps (λ others. P (address (temps to) ∷ others)) left' (goes fits))
+
+  pub only_modify : (size : Size) (a : Operand) (to : ℕ) → AreLeft (specifier Modify size a to 3 ∷ []) values temps
+      → ((location : Location) → IsAt a location (temps 3) → IsOfSize size (temps to) → P (both location (temps to) ∷ [])) → P values
+  only_modify size a to left goes =
+      after_modify size a to 3 [] values temps P left (λ others left' location at fits.
+      after_all others temps (λ others. P (both location (temps to) ∷ others)) left' (goes location at fits))
+
+-- behind a value that was read
+module _ (values : List Evaluated) (temps : Temps) (P : List Evaluated → Type 0) (size : Size) (a : Operand) (to from : ℕ) (size' : Size) (b : Operand) where
+  abbrev P' : List Evaluated → Type 0
+  P' others = P (value (temps to) ∷ others)
+
+  pub read_and_write : AreLeft (specifier Read size a to from ∷ specifier Write size' b 2 3 ∷ []) values temps
       → ((location : Location) → IsOfSize size (temps to) → IsAt b location (temps 3) → P (value (temps to) ∷ place location ∷ [])) → P values
-  read_and_write size size' a b to from left goes =
-      after_read size a to from (writing size' b ∷ []) values temps P left (λ others left' fits.
-      only_write' others left' fits)
-    where
-      only_write' : (others : List Evaluated) → AreLeft (writing size' b ∷ []) others temps → IsOfSize size (temps to) → P (value (temps to) ∷ others)
-      only_write' others left' fits =
-          after_write size' b 2 3 [] others temps (λ others. P (value (temps to) ∷ others)) left' (λ none left'' location at.
-          after_all none temps (λ none. P (value (temps to) ∷ place location ∷ none)) left'' (goes location fits at))
+  read_and_write left goes =
+      after_read size a to from (specifier Write size' b 2 3 ∷ []) values temps P left (λ others left' fits. only_write others temps P' size' b left' (λ location at. goes location fits at))
+
+  pub address_and_write : AreLeft (specifier Address size a to from ∷ specifier Write size' b 2 3 ∷ []) values temps
+      → ((location : Location) → temps to < 2 ^ 32 → IsAt b location (temps 3) → P (address (temps to) ∷ place location ∷ [])) → P values
+  address_and_write left goes =
+      after_address size a to from (specifier Write size' b 2 3 ∷ []) values temps P left
+      (λ others left' fits. only_write others temps (λ others. P (address (temps to) ∷ others)) size' b left' (λ location at. goes location fits at))
+
+  pub read_and_modify : (to' : ℕ) → AreLeft (specifier Read size a to from ∷ specifier Modify size' b to' 3 ∷ []) values temps
+      → ((location : Location) → IsOfSize size (temps to) → IsAt b location (temps 3) → IsOfSize size' (temps to') → P (value (temps to) ∷ both location (temps to') ∷ [])) → P values
+  read_and_modify to' left goes =
+      after_read size a to from (specifier Modify size' b to' 3 ∷ []) values temps P left (λ others left' fits. only_modify others temps P' size' b to' left' (λ location at fits'. goes location fits at fits'))
+
+  pub read_twice : (to' from' : ℕ) → AreLeft (specifier Read size a to from ∷ specifier Read size' b to' from' ∷ []) values temps
+      → (IsOfSize size (temps to) → IsOfSize size' (temps to') → P (value (temps to) ∷ value (temps to') ∷ [])) → P values
+  read_twice to' from' left goes =
+      after_read size a to from (specifier Read size' b to' from' ∷ []) values temps P left (λ others left' fits. only_read others temps P' size' b to' from' left' (λ fits'. goes fits fits'))
+
+-- and two
+pub read_twice_and_write : (values : List Evaluated) (temps : Temps) (P : List Evaluated → Type 0) (size size' size'' : Size) (a b c : Operand) (to from to' from' : ℕ)
+    → AreLeft (specifier Read size a to from ∷ specifier Read size' b to' from' ∷ specifier Write size'' c 2 3 ∷ []) values temps
+    → ((location : Location) → IsOfSize size (temps to) → IsOfSize size' (temps to') → IsAt c location (temps 3) → P (value (temps to) ∷ value (temps to') ∷ place location ∷ [])) → P values
+read_twice_and_write values temps P size size' size'' a b c to from to' from' left goes =
+    after_read size a to from (specifier Read size' b to' from' ∷ specifier Write size'' c 2 3 ∷ []) values temps P left (λ others left' fits.
+    read_and_write others temps (λ others. P (value (temps to) ∷ others)) size' b to' from' size'' c left' (λ location fits' at. goes location fits fits' at))

@@ -1,26 +1,64 @@
 -- The rows of the table of instructions: the plan of each operation.
-use Rattle.std.specs.Prelude.{ℕ, List, [], ◌∷◌}
+-- VAX Architecture Reference Manual, "Instruction Descriptions".
+use Rattle.std.specs.Prelude.{ℕ, List, [], ◌∷◌, ◌++◌, Bool, true, false}
+use Rattle.vax_form.specs.Size.{size_of}
 use Rattle.vax_form.specs.declared.instr.Access.{Access}
 use Rattle.vax_form.specs.declared.instr.Access.TheVariants as accesses
 use Rattle.vax_form.specs.declared.instr.Instr.{Instr}
+use Rattle.vax_form.specs.declared.instr.Operand.{Operand}
+use Rattle.vax_form.specs.declared.instr.Operand.TheVariants as operands
+use Rattle.vax_form.specs.declared.instr.Base.TheVariants as bases
 use Rattle.vax_form.specs.declared.instr.Size.{Size}
 use Rattle.vax_form.specs.declared.instr.Size.TheVariants.{Byte, Word, Long, Quad}
+use Rattle.vax_form.specs.declared.instr.Width.{Width}
+use Rattle.vax_form.specs.declared.operation.BinaryOperation.{BinaryOperation}
+use Rattle.vax_form.specs.declared.operation.BinaryOperation.TheVariants as binary
+use Rattle.vax_meaning.specs.Branches.{target}
 use Rattle.vax_meaning.specs.Evaluation.{operand}
-use Rattle.micro_ops.specs.declared.program.Arg.TheVariants.{Temp, Const}
-use Rattle.micro_ops.specs.declared.program.Exit.TheVariants.{Next}
+use Rattle.micro_ops.specs.declared.program.Arg.TheVariants.{Temp, Const, Flag}
+use Rattle.micro_ops.specs.declared.program.Exit.{Exit}
+use Rattle.micro_ops.specs.declared.program.Exit.TheVariants.{Next, Fixed, Computed, Choice, Service}
+use Rattle.micro_ops.specs.declared.program.Micro.{Micro}
 use Rattle.micro_ops.specs.declared.program.Micro.TheVariants.{Compute}
+use Rattle.micro_ops.specs.declared.program.MicroOp.{MicroOp}
 use Rattle.micro_ops.specs.declared.program.MicroOp.TheVariants as ops
 use Rattle.micro_lower.specs.Plans.{Plan, unary}
 use Rattle.micro_lower.specs.declared.plans.Slot.{Slot}
 use Rattle.micro_lower.specs.declared.plans.Target.TheVariants as targets
 
+-- ---- operands
+abbrev pub slot : Access → Size → (to place : ℕ) → Slot
+slot access size to place = record { access = access; size = size; to = to; place = place }
+
 abbrev pub read : Size → (to place : ℕ) → Slot
-read size to place = record { access = accesses.Read; size = size; to = to; place = place }
+read size to place = slot accesses.Read size to place
 
--- the place is 3; the address is found through 2
+-- the address goes into 3, and is found through 2
 abbrev pub written : Size → Slot
-written size = record { access = accesses.Write; size = size; to = 2; place = 3 }
+written size = slot accesses.Write size 2 3
 
+-- the value goes into that temporary, the address into 3
+abbrev pub modified : Size → (to : ℕ) → Slot
+modified size to = slot accesses.Modify size to 3
+
+-- the address goes into 0
+abbrev pub addressed : Size → Slot
+addressed size = slot accesses.Address size 0 1
+
+-- a displacement is in the instruction, and takes no temporary
+abbrev pub displaced : Size → Slot
+displaced size = slot accesses.Branch size 0 1
+
+-- ---- computations
+-- 1 for 0, and 0 for 1
+abbrev pub inverted : (temp : ℕ) → Micro
+inverted temp = Compute temp ops.Xor Byte (Temp temp) (Const 1)
+
+-- V into 3: a number that was extended into 4 is not the result extended
+abbrev pub overflow_by : Size → List Micro
+overflow_by size = unary 5 ops.SignExtend size (Temp 2) ∷ Compute 3 ops.Equal Quad (Temp 4) (Temp 5) ∷ inverted 3 ∷ []
+
+-- ---- moves
 -- MOV
 abbrev pub move_plan : Size → Instr → Plan
 move_plan size instr = record {
@@ -28,5 +66,171 @@ move_plan size instr = record {
   before = unary 2 ops.Move size (Temp 0) ∷ [];
   target = targets.Result (operand instr 1) size;
   behind = [];
+  exit = Next;
+}
+
+-- MOVZ
+abbrev pub move_zero_extended_plan : (from to : Width) → Instr → Plan
+move_zero_extended_plan from to instr = record {
+  slots = read (size_of from) 0 1 ∷ written (size_of to) ∷ [];
+  before = unary 2 ops.Move (size_of from) (Temp 0) ∷ [];
+  target = targets.Result (operand instr 1) (size_of to);
+  behind = [];
+  exit = Next;
+}
+
+-- CLR
+abbrev pub clear_plan : Size → Instr → Plan
+clear_plan size instr = record {
+  slots = written size ∷ [];
+  before = unary 2 ops.Move Byte (Const 0) ∷ [];
+  target = targets.Result (operand instr 0) size;
+  behind = unary 0 ops.Move Byte (Const 0) ∷ [];
+  exit = Next;
+}
+
+-- all bits of a size
+abbrev pub ones : Size → ℕ
+ones Byte = 0xFF
+ones Word = 0xFFFF
+ones Long = 0xFFFF_FFFF
+ones Quad = 0xFFFF_FFFF_FFFF_FFFF
+
+-- MCOM
+abbrev pub move_complemented_plan : Width → Instr → Plan
+move_complemented_plan width instr = record {
+  slots = read (size_of width) 0 1 ∷ written (size_of width) ∷ [];
+  before = Compute 2 ops.Sub (size_of width) (Const (ones (size_of width))) (Temp 0) ∷ [];
+  target = targets.Result (operand instr 1) (size_of width);
+  behind = unary 0 ops.Move (size_of width) (Temp 2) ∷ [];
+  exit = Next;
+}
+
+-- MNEG: 0 minus the operand
+abbrev pub move_negated_plan : Width → Instr → Plan
+move_negated_plan width instr = record {
+  slots = read (size_of width) 1 0 ∷ written (size_of width) ∷ [];
+  before = Compute 2 ops.Sub (size_of width) (Const 0) (Temp 1) ∷ [];
+  target = targets.Result (operand instr 1) (size_of width);
+  behind = unary 0 ops.Move Byte (Const 0) ∷ [];
+  exit = Next;
+}
+
+-- CVT
+abbrev pub convert_plan : (from to : Width) → Instr → Plan
+convert_plan from to instr = record {
+  slots = read (size_of from) 0 1 ∷ written (size_of to) ∷ [];
+  before = unary 2 ops.SignExtend (size_of from) (Temp 0) ∷ unary 2 ops.Move (size_of to) (Temp 2) ∷ [];
+  target = targets.Result (operand instr 1) (size_of to);
+  behind = unary 4 ops.SignExtend (size_of from) (Temp 0) ∷ overflow_by (size_of to);
+  exit = Next;
+}
+
+-- MOVA
+abbrev pub move_address_plan : Size → Instr → Plan
+move_address_plan size instr = record {
+  slots = addressed size ∷ written Long ∷ [];
+  before = unary 2 ops.Move Long (Temp 0) ∷ [];
+  target = targets.Result (operand instr 1) Long;
+  behind = [];
+  exit = Next;
+}
+
+-- PUSHA
+abbrev pub push_address_plan : Size → Plan
+push_address_plan size = record {
+  slots = addressed size ∷ [];
+  before = unary 2 ops.Move Long (Temp 0) ∷ [];
+  target = targets.Stack;
+  behind = [];
+  exit = Next;
+}
+
+-- PUSHL
+abbrev pub push_long_plan : Plan
+push_long_plan = record {
+  slots = read Long 0 1 ∷ [];
+  before = unary 2 ops.Move Long (Temp 0) ∷ [];
+  target = targets.Stack;
+  behind = [];
+  exit = Next;
+}
+
+-- ---- tests
+-- CMP
+abbrev pub compare_plan : Width → Plan
+compare_plan width = record {
+  slots = read (size_of width) 0 1 ∷ read (size_of width) 1 2 ∷ [];
+  before = [];
+  target = targets.Nowhere;
+  behind = [];
+  exit = Next;
+}
+
+-- TST
+abbrev pub test_plan : Width → Plan
+test_plan width = record {
+  slots = read (size_of width) 0 1 ∷ [];
+  before = [];
+  target = targets.Nowhere;
+  behind = unary 2 ops.Move (size_of width) (Temp 0) ∷ [];
+  exit = Next;
+}
+
+-- BIT
+abbrev pub bit_test_plan : Width → Plan
+bit_test_plan width = record {
+  slots = read (size_of width) 0 1 ∷ read (size_of width) 1 2 ∷ [];
+  before = [];
+  target = targets.Nowhere;
+  behind = Compute 2 ops.And (size_of width) (Temp 0) (Temp 1) ∷ unary 0 ops.Move (size_of width) (Temp 2) ∷ [];
+  exit = Next;
+}
+
+-- ---- arithmetic: the second operand is in 0, and the first in 1
+abbrev pub micro_of : BinaryOperation → MicroOp
+micro_of binary.Add = ops.Add
+micro_of binary.Subtract = ops.Sub
+micro_of binary.Multiply = ops.Mul
+micro_of binary.Divide = ops.Mul
+micro_of binary.BitSet = ops.Or
+micro_of binary.BitClear = ops.AndNot
+micro_of binary.ExclusiveOr = ops.Xor
+
+-- V of a product is computed, and a logical result is also in 0
+abbrev pub behind_binary : BinaryOperation → Size → List Micro
+behind_binary binary.Add size = []
+behind_binary binary.Subtract size = []
+behind_binary binary.Multiply size =
+    unary 4 ops.SignExtend size (Temp 0) ∷ unary 5 ops.SignExtend size (Temp 1) ∷ Compute 4 ops.Mul Quad (Temp 4) (Temp 5) ∷ overflow_by size
+behind_binary _ size = unary 0 ops.Move size (Temp 2) ∷ []
+
+-- ADD2, SUB2, MUL2, BIS2, BIC2, XOR2
+abbrev pub two_operands_plan : BinaryOperation → Width → Instr → Plan
+two_operands_plan operation width instr = record {
+  slots = read (size_of width) 1 2 ∷ modified (size_of width) 0 ∷ [];
+  before = Compute 2 (micro_of operation) (size_of width) (Temp 0) (Temp 1) ∷ [];
+  target = targets.Replacement (operand instr 1) (size_of width);
+  behind = behind_binary operation (size_of width);
+  exit = Next;
+}
+
+-- ADD3, SUB3, MUL3, BIS3, BIC3, XOR3
+abbrev pub three_operands_plan : BinaryOperation → Width → Instr → Plan
+three_operands_plan operation width instr = record {
+  slots = read (size_of width) 1 2 ∷ read (size_of width) 0 2 ∷ written (size_of width) ∷ [];
+  before = Compute 2 (micro_of operation) (size_of width) (Temp 0) (Temp 1) ∷ [];
+  target = targets.Result (operand instr 2) (size_of width);
+  behind = behind_binary operation (size_of width);
+  exit = Next;
+}
+
+-- INC, DEC: 1 is added or subtracted
+abbrev pub by_one_plan : MicroOp → Width → Instr → Plan
+by_one_plan op width instr = record {
+  slots = modified (size_of width) 0 ∷ [];
+  before = Compute 2 op (size_of width) (Temp 0) (Const 1) ∷ [];
+  target = targets.Replacement (operand instr 0) (size_of width);
+  behind = unary 1 ops.Move Byte (Const 1) ∷ [];
   exit = Next;
 }
