@@ -99,4 +99,3 @@ module _ (nzv c : CodeSource) (start : VaxState) (pages : Pages) (thread after :
 pub result_ready : (size : Size) (start : VaxState) (value : ℕ) (temps : Temps) → value < limit_of size → temps 0 ≡ value → temps 2 ≡ value
     → ReadyFor (Result size) Kept start.psw temps (value_coded start size value)
 result_ready size start value temps fits zero two = (((rw zero fits, rw zero refl, rw zero refl), two ∙ sym zero, refl), carry_is start.psw)
-

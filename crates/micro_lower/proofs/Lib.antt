@@ -10,3 +10,5 @@ pub mod Planned
 pub mod Moves
 pub mod Given
 pub mod Tabled
+pub mod Fitting
+pub mod Binary

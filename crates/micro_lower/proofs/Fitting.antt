@@ -1,0 +1,133 @@
+-- An integer is a two's complement number of some bytes exactly where the extension of its low bytes is itself.
+use Rattle.std.proofs.Common.{◌≡◌, ℕ, ◌+◌, ◌-◌, ◌*◌, ◌/◌, ◌%◌, ◌^◌, ◌<◌, ◌≤◌, refl, sym, ap, ◌∙◌, arith, Bool, true, false, lit<}
+use Rattle.std.specs.Prelude.{◌==◌, ℤ, pos, negsuc, ◌*ℤ◌, not, bit_xor, unsigned_abs}
+use Rattle.std.specs.Int.{cast_signed, cast_unsigned, w64, int_wrap}
+use Rattle.std.proofs.Math.Nat.{mod-eq_of_lt}
+use Rattle.std.proofs.lemmas.Bool.Decides.{nat_tests}
+use Rattle.std.proofs.lemmas.Int.{ints, wrapping_mul-bits, of_z-to_z, unsigned_abs-mul}
+use Rattle.std.proofs.lemmas.Nat.{mod_below, mul-le, mul-mod}
+use Rattle.vax_form.specs.Size.{bytes_of}
+use Rattle.vax_form.specs.declared.instr.Size.{Size}
+use Rattle.vax_form.specs.declared.instr.Size.TheVariants.{Byte, Word, Long, Quad}
+use Rattle.vt_words.specs.Quad.{sign_extended}
+use Rattle.vt_words.specs.Values.{signed_value, value_of, fits, bit}
+use Rattle.micro_ops.specs.Values.{limit_of, bits_of, signed}
+use Rattle.micro_lower.proofs.Overflow.{IsNarrow, extended_below, flipped, low_below}
+
+module _ (n : ℕ) (small : n < 2 ^ 63) where
+  byte_up : fits 1 (pos n) ≡ (sign_extended (value_of 1 (pos n)) 8 == value_of 8 (pos n))
+  byte_up = grind (arith, nat_tests, ints)
+
+  byte_down : fits 1 (negsuc n) ≡ (sign_extended (value_of 1 (negsuc n)) 8 == value_of 8 (negsuc n))
+  byte_down = grind (arith, nat_tests, ints)
+
+  word_up : fits 2 (pos n) ≡ (sign_extended (value_of 2 (pos n)) 16 == value_of 8 (pos n))
+  word_up = grind (arith, nat_tests, ints)
+
+  word_down : fits 2 (negsuc n) ≡ (sign_extended (value_of 2 (negsuc n)) 16 == value_of 8 (negsuc n))
+  word_down = grind (arith, nat_tests, ints)
+
+  long_up : fits 4 (pos n) ≡ (sign_extended (value_of 4 (pos n)) 32 == value_of 8 (pos n))
+  long_up = grind (arith, nat_tests, ints)
+
+  long_down : fits 4 (negsuc n) ≡ (sign_extended (value_of 4 (negsuc n)) 32 == value_of 8 (negsuc n))
+  long_down = grind (arith, nat_tests, ints)
+
+pub fits_where : (size : Size) (x : ℤ) → IsNarrow size → unsigned_abs x < 2 ^ 63 → fits (bytes_of size) x ≡ (sign_extended (value_of (bytes_of size) x) (bits_of size) == value_of 8 x)
+fits_where Byte (pos n) narrow small = byte_up n (omega (arith, small))
+fits_where Byte (negsuc n) narrow small = byte_down n (omega (arith, small))
+fits_where Word (pos n) narrow small = word_up n (omega (arith, small))
+fits_where Word (negsuc n) narrow small = word_down n (omega (arith, small))
+fits_where Long (pos n) narrow small = long_up n (omega (arith, small))
+fits_where Long (negsuc n) narrow small = long_down n (omega (arith, small))
+fits_where Quad x narrow small = absurd narrow
+
+-- the low bytes of the low quadword
+pub low_of : (size : Size) (x : ℤ) → value_of (bytes_of size) x ≡ value_of 8 x % limit_of size
+low_of Byte (pos n) = omega arith
+low_of Byte (negsuc n) = omega arith
+low_of Word (pos n) = omega arith
+low_of Word (negsuc n) = omega arith
+low_of Long (pos n) = omega arith
+low_of Long (negsuc n) = omega arith
+low_of Quad (pos n) = omega arith
+low_of Quad (negsuc n) = omega arith
+
+pub value_below : (size : Size) (x : ℤ) → value_of (bytes_of size) x < limit_of size
+value_below size x = rw (low_of size x) (low_below size _)
+
+-- the test that a program makes of an extended number and a result
+abbrev pub differs : Size → (y r : ℕ) → ℕ
+differs size y r = bit_xor (bit (y % 2 ^ 64 == sign_extended (r % limit_of size) (bits_of size) % 2 ^ 64) % 2 ^ 8) 1
+
+pub does_differ : (size : Size) (x : ℤ) (y r : ℕ) → IsNarrow size → unsigned_abs x < 2 ^ 63 → y ≡ value_of 8 x → r ≡ value_of (bytes_of size) x → differs size y r ≡ bit (not (fits (bytes_of size) x))
+does_differ size x y r narrow small wide low =
+    let below = value_below size x in
+    let v = value_of (bytes_of size) x in
+    ap (λ n. differs size n r) wide
+    ∙ ap (λ n. differs size (value_of 8 x) n) low
+    ∙ ap (λ n. bit_xor (bit (n == sign_extended (v % limit_of size) (bits_of size) % 2 ^ 64) % 2 ^ 8) 1) (mod-eq_of_lt (value_below Quad x))
+    ∙ ap (λ n. bit_xor (bit (value_of 8 x == n) % 2 ^ 8) 1) (ap (λ n. sign_extended n (bits_of size) % 2 ^ 64) (mod-eq_of_lt below) ∙ mod-eq_of_lt (extended_below size v below))
+    ∙ flipped _
+    ∙ ap (λ b. bit (not b)) (turned (value_of 8 x) (sign_extended v (bits_of size)) ∙ sym (fits_where size x narrow small))
+  where
+    turned : (a b : ℕ) → (a == b) ≡ (b == a)
+    turned a b = grind (arith, nat_tests)
+
+-- ---- signed numbers
+pub signed_wide : (size : Size) (v : ℕ) → v < limit_of size → value_of 8 (signed size v) ≡ sign_extended v (bits_of size)
+signed_wide Byte v lt = grind (arith, nat_tests, ints)
+signed_wide Word v lt = grind (arith, nat_tests, ints)
+signed_wide Long v lt = grind (arith, nat_tests, ints)
+signed_wide Quad v lt = grind (arith, nat_tests, ints)
+
+pub signed_small : (size : Size) (v : ℕ) → IsNarrow size → v < limit_of size → unsigned_abs (signed size v) ≤ 2 ^ 31
+signed_small Byte v narrow lt = grind (arith, nat_tests, ints)
+signed_small Word v narrow lt = grind (arith, nat_tests, ints)
+signed_small Long v narrow lt = grind (arith, nat_tests, ints)
+signed_small Quad v narrow lt = absurd narrow
+
+extended_is : (size : Size) (v : ℕ) → v < limit_of size → cast_signed w64 (sign_extended v (bits_of size)) ≡ signed size v
+extended_is Byte v lt = grind (arith, nat_tests, ints)
+extended_is Word v lt = grind (arith, nat_tests, ints)
+extended_is Long v lt = grind (arith, nat_tests, ints)
+extended_is Quad v lt = grind (arith, nat_tests, ints)
+
+-- ---- products
+module _ (size : Size) (a b : ℕ) (first : a < limit_of size) (second : b < limit_of size) where
+  pub product_wide : value_of 8 (signed size a *ℤ signed size b) ≡ sign_extended a (bits_of size) * sign_extended b (bits_of size) % 2 ^ 64
+  unfolding int_wrap
+  product_wide =
+      let m = sign_extended a (bits_of size) in
+      let n = sign_extended b (bits_of size) in
+      let e : cast_signed w64 (m * n % 2 ^ 64) ≡ cast_signed w64 (value_of 8 (signed size a *ℤ signed size b)) =
+      wrapping_mul-bits w64 m n (extended_below size a first) (extended_below size b second) ∙ rw (extended_is size a first, extended_is size b second) refl in
+      sym (sym (of_z-to_z w64 (m * n % 2 ^ 64) (mod_below (m * n) (2 ^ 64) (lit< tt))) ∙ (ap (cast_unsigned w64) e ∙ of_z-to_z w64 _ (value_below Quad (signed size a *ℤ signed size b))))
+
+  pub product_small : IsNarrow size → unsigned_abs (signed size a *ℤ signed size b) < 2 ^ 63
+  product_small narrow =
+      let m = mul-le (unsigned_abs (signed size a)) (unsigned_abs (signed size b)) (2 ^ 31) (2 ^ 31) (signed_small size a narrow first) (signed_small size b narrow second) in
+      omega (arith, m, unsigned_abs-mul (signed size a) (signed size b))
+
+low_of_quad : (size : Size) (n : ℕ) → n % 2 ^ 64 % limit_of size ≡ n % limit_of size
+low_of_quad Byte n = omega arith
+low_of_quad Word n = omega arith
+low_of_quad Long n = omega arith
+low_of_quad Quad n = omega arith
+
+pub extended_low : (size : Size) (v : ℕ) → v < limit_of size → sign_extended v (bits_of size) % limit_of size ≡ v
+extended_low Byte v lt = grind (arith, nat_tests)
+extended_low Word v lt = grind (arith, nat_tests)
+extended_low Long v lt = grind (arith, nat_tests)
+extended_low Quad v lt = grind (arith, nat_tests)
+
+pub product_low : (size : Size) (a b : ℕ) → a < limit_of size → b < limit_of size → value_of (bytes_of size) (signed size a *ℤ signed size b) ≡ a * b % limit_of size
+product_low size a b first second =
+    let m = sign_extended a (bits_of size) in
+    let n = sign_extended b (bits_of size) in
+    low_of size (signed size a *ℤ signed size b)
+    ∙ ap (λ x. x % limit_of size) (product_wide size a b first second)
+    ∙ low_of_quad size (m * n)
+    ∙ mul-mod m n (limit_of size)
+    ∙ ap (λ x. x * (n % limit_of size) % limit_of size) (extended_low size a first)
+    ∙ ap (λ x. a * x % limit_of size) (extended_low size b second)
