@@ -82,7 +82,6 @@ use Rattle.micro_lower.proofs.Given.{replaces_as}
 use Rattle.micro_lower.proofs.Moves.{narrow_width}
 use Rattle.micro_lower.proofs.Planned.{only_modify, read_and_modify, read_twice_and_write}
 use Rattle.micro_lower.proofs.Ready.{ReadyFor}
-
 use Rattle.vax_meaning.specs.Arithmetic.{finish_binary, two_operands, three_operands, replace}
 use Rattle.vax_meaning.specs.Codes.{with_all}
 use Rattle.micro_ops.specs.Meaning.{Found}
@@ -189,9 +188,13 @@ module _ (size : Size) (start : VaxState) (found : Found) (temps : Temps) (narro
       let wide : behind 4 ≡ value_of 8 (signed size a *ℤ signed size b) =
       ap (λ n. n * (sign_extended b (bits_of size) % 2 ^ 64) % 2 ^ 64) (mod-eq_of_lt (extended_below size a below))
       ∙ ap (λ n. sign_extended a (bits_of size) * n % 2 ^ 64) (mod-eq_of_lt (extended_below size b below'))
-      ∙ sym (product_wide size a b below below') in
-      (((rw made (low_below size _), rw made refl, rw made refl),
-      does_differ size (signed size a *ℤ signed size b) (behind 4) (behind 2) narrow (product_small size a b below below' narrow) wide (made ∙ sym (product_low size a b below below'))), refl)
+      ∙ sym (product_wide size a b below below') in (
+        (
+          (rw made (low_below size _), rw made refl, rw made refl),
+          does_differ size (signed size a *ℤ signed size b) (behind 4) (behind 2) narrow (product_small size a b below below' narrow) wide (made ∙ sym (product_low size a b below below')),
+        ),
+        refl,
+      )
   ready binary.Divide none made = cc
   ready binary.BitSet none made = logical _ (or_below size _ _ (low_below size _) (low_below size _)) made
   ready binary.BitClear none made = logical _ (let le = and_le_l (temps 0 % limit_of size) (limit_of size - 1 - temps 1 % limit_of size) in omega (arith, le, low_below size (temps 0))) made

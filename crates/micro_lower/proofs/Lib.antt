@@ -12,3 +12,4 @@ pub mod Given
 pub mod Tabled
 pub mod Fitting
 pub mod Binary
+pub mod Tests

@@ -1,6 +1,6 @@
 -- The rows of the table of instructions: the plan of each operation.
 -- VAX Architecture Reference Manual, "Instruction Descriptions".
-use Rattle.std.specs.Prelude.{ℕ, List, [], ◌∷◌, ◌++◌, Bool, true, false}
+use Rattle.std.specs.Prelude.{ℕ, List, [], ◌∷◌, ◌++◌, Bool, true, false, None}
 use Rattle.vax_form.specs.Size.{size_of}
 use Rattle.vax_form.specs.declared.instr.Access.{Access}
 use Rattle.vax_form.specs.declared.instr.Access.TheVariants as accesses
@@ -233,4 +233,227 @@ by_one_plan op width instr = record {
   target = targets.Replacement (operand instr 0) (size_of width);
   behind = unary 1 ops.Move Byte (Const 1) ∷ [];
   exit = Next;
+}
+
+-- ---- branches
+-- a branch, taken where 0 is not 0
+abbrev pub branch_exit : Instr → (number : ℕ) → Exit
+branch_exit instr number = Choice 0 (target (operand instr number)) instr.after
+
+-- a test for 1 is a test for 0 inverted
+abbrev pub unless : Bool → List Micro → List Micro
+unless true program = program
+unless false program = program ++ inverted 0 ∷ []
+
+-- BLBS, BLBC
+abbrev pub low_bit_plan : Bool → Instr → Plan
+low_bit_plan state instr = record {
+  slots = read Long 0 1 ∷ displaced Byte ∷ [];
+  before = unless state (Compute 0 ops.And Byte (Temp 0) (Const 1) ∷ []);
+  target = targets.Nowhere;
+  behind = [];
+  exit = branch_exit instr 1;
+}
+
+-- the greatest and the least longword, as signed numbers
+abbrev pub greatest : ℕ
+greatest = 0x7FFF_FFFF
+
+abbrev pub least : ℕ
+least = 0x8000_0000
+
+-- whether a longword is at least 0, or above 0
+abbrev pub down_test : (or_equal : Bool) → List Micro
+down_test true = Compute 0 ops.Less Long (Temp 2) (Const 0) ∷ inverted 0 ∷ []
+down_test false = Compute 0 ops.Less Long (Const 0) (Temp 2) ∷ []
+
+-- SOBGEQ, SOBGTR
+abbrev pub subtract_one_plan : (or_equal : Bool) → Instr → Plan
+subtract_one_plan or_equal instr = record {
+  slots = modified Long 0 ∷ displaced Byte ∷ [];
+  before = Compute 2 ops.Sub Long (Temp 0) (Const 1) ∷ [];
+  target = targets.Replacement (operand instr 0) Long;
+  behind = Compute 3 ops.Equal Long (Temp 2) (Const greatest) ∷ down_test or_equal;
+  exit = branch_exit instr 1;
+}
+
+-- whether the index is at most the limit, or less
+abbrev pub up_test : (or_equal : Bool) → List Micro
+up_test true = Compute 0 ops.Less Long (Temp 1) (Temp 2) ∷ inverted 0 ∷ []
+up_test false = Compute 0 ops.Less Long (Temp 2) (Temp 1) ∷ []
+
+-- AOBLEQ, AOBLSS
+abbrev pub add_one_plan : (or_equal : Bool) → Instr → Plan
+add_one_plan or_equal instr = record {
+  slots = read Long 1 2 ∷ modified Long 0 ∷ displaced Byte ∷ [];
+  before = Compute 2 ops.Add Long (Temp 0) (Const 1) ∷ [];
+  target = targets.Replacement (operand instr 1) Long;
+  behind = Compute 3 ops.Equal Long (Temp 2) (Const least) ∷ up_test or_equal;
+  exit = branch_exit instr 2;
+}
+
+-- ACB: the limit is in 0, the addend in 1 and the index in 2. V: the sum less the addend is no such number. The index is at
+-- most the limit, or with a negative addend at least the limit
+abbrev pub add_compare_plan : Width → Instr → Plan
+add_compare_plan width instr = record {
+  slots = read (size_of width) 0 2 ∷ read (size_of width) 1 2 ∷ modified (size_of width) 2 ∷ displaced Word ∷ [];
+  before = Compute 2 ops.Add (size_of width) (Temp 2) (Temp 1) ∷ [];
+  target = targets.Replacement (operand instr 2) (size_of width);
+  behind =
+      unary 4 ops.SignExtend (size_of width) (Temp 2)
+      ∷ unary 5 ops.SignExtend (size_of width) (Temp 1)
+      ∷ Compute 4 ops.Sub Quad (Temp 4) (Temp 5)
+      ∷ unary 5 ops.SignExtend (size_of width) (Temp 4)
+      ∷ Compute 3 ops.Equal Quad (Temp 4) (Temp 5)
+      ∷ inverted 3
+      ∷ Compute 4 ops.Less (size_of width) (Temp 0) (Temp 2)
+      ∷ Compute 5 ops.Less (size_of width) (Temp 2) (Temp 0)
+      ∷ Compute 1 ops.Less (size_of width) (Temp 1) (Const 0)
+      ∷ Compute 4 ops.SelectNonzero Byte (Temp 1) (Temp 5)
+      ∷ Compute 0 ops.Xor Byte (Temp 4) (Const 1)
+      ∷ [];
+  exit = branch_exit instr 3;
+}
+
+-- ---- jumps
+-- an operand whose address the code fixes is a fixed target
+abbrev pub jump_exit : Operand → Exit
+jump_exit (operands.Place (bases.Fixed address false) None) = Fixed address
+jump_exit _ = Computed 0
+
+-- JMP
+abbrev pub jump_plan : Instr → Plan
+jump_plan instr = record {
+  slots = addressed Byte ∷ [];
+  before = [];
+  target = targets.Nowhere;
+  behind = [];
+  exit = jump_exit (operand instr 0);
+}
+
+-- JSB
+abbrev pub jump_to_subroutine_plan : Instr → Plan
+jump_to_subroutine_plan instr = record {
+  slots = addressed Byte ∷ [];
+  before = unary 2 ops.Move Long (Const instr.after) ∷ [];
+  target = targets.Stack;
+  behind = [];
+  exit = jump_exit (operand instr 0);
+}
+
+-- ---- with carry
+-- ADWC: C is bit 32 of the sum
+abbrev pub add_with_carry_plan : Instr → Plan
+add_with_carry_plan instr = record {
+  slots = read Long 1 2 ∷ modified Long 0 ∷ [];
+  before = Compute 2 ops.Add Long (Temp 0) (Temp 1) ∷ Compute 2 ops.Add Long (Temp 2) (Flag 3) ∷ [];
+  target = targets.Replacement (operand instr 1) Long;
+  behind =
+      unary 4 ops.SignExtend Long (Temp 0)
+      ∷ unary 5 ops.SignExtend Long (Temp 1)
+      ∷ Compute 4 ops.Add Quad (Temp 4) (Temp 5)
+      ∷ Compute 4 ops.Add Quad (Temp 4) (Flag 3)
+      ∷ unary 5 ops.SignExtend Long (Temp 2)
+      ∷ Compute 3 ops.Equal Quad (Temp 4) (Temp 5)
+      ∷ inverted 3
+      ∷ Compute 4 ops.Add Quad (Temp 0) (Temp 1)
+      ∷ Compute 4 ops.Add Quad (Temp 4) (Flag 3)
+      ∷ Compute 4 ops.ShiftRight Quad (Temp 4) (Const 32)
+      ∷ [];
+  exit = Next;
+}
+
+-- SBWC: C says that the first is below the second with C
+abbrev pub subtract_with_carry_plan : Instr → Plan
+subtract_with_carry_plan instr = record {
+  slots = read Long 1 2 ∷ modified Long 0 ∷ [];
+  before = Compute 2 ops.Sub Long (Temp 0) (Temp 1) ∷ Compute 2 ops.Sub Long (Temp 2) (Flag 3) ∷ [];
+  target = targets.Replacement (operand instr 1) Long;
+  behind =
+      unary 4 ops.SignExtend Long (Temp 0)
+      ∷ unary 5 ops.SignExtend Long (Temp 1)
+      ∷ Compute 4 ops.Sub Quad (Temp 4) (Temp 5)
+      ∷ Compute 4 ops.Sub Quad (Temp 4) (Flag 3)
+      ∷ unary 5 ops.SignExtend Long (Temp 2)
+      ∷ Compute 3 ops.Equal Quad (Temp 4) (Temp 5)
+      ∷ inverted 3
+      ∷ Compute 4 ops.Add Quad (Temp 1) (Flag 3)
+      ∷ Compute 4 ops.LessUnsigned Quad (Temp 0) (Temp 4)
+      ∷ [];
+  exit = Next;
+}
+
+-- ---- shifts
+-- ASHL: a shift to the left by the unsigned count, or with a negative count to the right by what it lacks to 256. V: the source
+-- as a signed quadword, shifted by at most 32, is not its low longword, and the count is not negative
+abbrev pub arithmetic_shift_plan : Instr → Plan
+arithmetic_shift_plan instr = record {
+  slots = read Byte 0 1 ∷ read Long 1 2 ∷ written Long ∷ [];
+  before =
+      Compute 2 ops.ShiftLeft Long (Temp 1) (Temp 0)
+      ∷ Compute 4 ops.Sub Byte (Const 0) (Temp 0)
+      ∷ Compute 5 ops.ShiftSigned Long (Temp 1) (Temp 4)
+      ∷ Compute 4 ops.Less Byte (Temp 0) (Const 0)
+      ∷ Compute 2 ops.SelectNonzero Long (Temp 4) (Temp 5)
+      ∷ [];
+  target = targets.Result (operand instr 2) Long;
+  behind =
+      unary 4 ops.Move Byte (Temp 0)
+      ∷ Compute 5 ops.LessUnsigned Byte (Const 32) (Temp 0)
+      ∷ Compute 4 ops.SelectNonzero Byte (Temp 5) (Const 32)
+      ∷ unary 5 ops.SignExtend Long (Temp 1)
+      ∷ Compute 4 ops.ShiftLeft Quad (Temp 5) (Temp 4)
+      ∷ unary 5 ops.SignExtend Long (Temp 4)
+      ∷ Compute 3 ops.Equal Quad (Temp 4) (Temp 5)
+      ∷ inverted 3
+      ∷ Compute 4 ops.Less Byte (Temp 0) (Const 0)
+      ∷ Compute 3 ops.AndNot Byte (Temp 3) (Temp 4)
+      ∷ [];
+  exit = Next;
+}
+
+-- ROTL: by the count modulo 32, and what it lacks to 32 to the right
+abbrev pub rotate_plan : Instr → Plan
+rotate_plan instr = record {
+  slots = read Byte 0 1 ∷ read Long 1 2 ∷ written Long ∷ [];
+  before =
+      Compute 4 ops.And Byte (Temp 0) (Const 31)
+      ∷ Compute 2 ops.ShiftLeft Long (Temp 1) (Temp 4)
+      ∷ Compute 4 ops.Sub Byte (Const 32) (Temp 4)
+      ∷ Compute 5 ops.ShiftRight Long (Temp 1) (Temp 4)
+      ∷ Compute 2 ops.Or Long (Temp 2) (Temp 5)
+      ∷ [];
+  target = targets.Result (operand instr 2) Long;
+  behind = unary 0 ops.Move Long (Temp 2) ∷ [];
+  exit = Next;
+}
+
+-- ---- the processor status
+-- the low byte of the status into 2, from DV down to C
+abbrev pub with_flag : (flag : ℕ) → List Micro
+with_flag flag = Compute 2 ops.Add Byte (Temp 2) (Temp 2) ∷ Compute 2 ops.Add Byte (Temp 2) (Flag flag) ∷ []
+
+abbrev pub status_program : List Micro
+status_program =
+    unary 2 ops.Move Byte (Flag 7)
+    ∷ with_flag 6 ++ with_flag 5 ++ with_flag 4 ++ with_flag 0 ++ with_flag 1 ++ with_flag 2 ++ with_flag 3
+
+-- MOVPSL: user mode is added
+abbrev pub move_psl_plan : Instr → Plan
+move_psl_plan instr = record {
+  slots = written Long ∷ [];
+  before = status_program ++ Compute 2 ops.Add Long (Temp 2) (Const 0x03C0_0000) ∷ [];
+  target = targets.Result (operand instr 0) Long;
+  behind = [];
+  exit = Next;
+}
+
+-- CHMK
+abbrev pub change_mode_plan : Plan
+change_mode_plan = record {
+  slots = read Word 0 1 ∷ [];
+  before = [];
+  target = targets.Nowhere;
+  behind = [];
+  exit = Service 0;
 }
