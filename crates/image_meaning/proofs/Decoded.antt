@@ -125,7 +125,7 @@ byte_below f below None bytes are i = lit< tt
 byte_below f below (Some r) bytes are zero = below r
 byte_below f below (Some r) bytes are (suc i) = are i
 
-fetched_bytes : (pages : Pages) (at n : ℕ) → AreBytes pages.code → AreBytes (fetched pages at n)
+pub fetched_bytes : (pages : Pages) (at n : ℕ) → AreBytes pages.code → AreBytes (fetched pages at n)
 unfolding fetched
 fetched_bytes pages at zero code = λ i. lit< tt
 fetched_bytes pages at (suc n) code =

@@ -26,4 +26,5 @@ pub mod AlikeMoves
 pub mod AlikeBranches
 pub mod AlikeLong
 pub mod CodesUsed
+pub mod Written
 mod Refused

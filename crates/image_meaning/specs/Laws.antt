@@ -1,9 +1,13 @@
 -- What the VAX instructions do stays in range, and goes with processors.
-use Rattle.std.specs.Prelude.{◌≡◌, ℕ, ◌<◌, ◌≤◌}
+use Rattle.std.specs.Prelude.{◌≡◌, ℕ, ◌<◌, ◌≤◌, ◌^◌}
+use Rattle.vax_form.specs.Grammar.{instruction}
+use Rattle.vax_form.specs.GrammarFound.{found}
 use Rattle.vax_form.specs.GrammarLaws.{AreBytes}
+use Rattle.vax_form.specs.Operation.{operation_at}
 use Rattle.vax_form.specs.Ranges.{StaysInRange, FailsByFaults}
 use Rattle.vax_form.specs.State.{IsState}
 use Rattle.vax_form.specs.Tree.{instruction_tree}
+use Rattle.vax_form.specs.declared.instr.Instr.{Instr}
 use Rattle.vax_form.specs.declared.pages.Pages.{Pages}
 use Rattle.vax_form.specs.declared.state.Flags.{Flags}
 use Rattle.vax_form.specs.declared.state.Reference.{Reference}
@@ -15,7 +19,7 @@ use Rattle.alpha_meaning.specs.Pieces.{Kinds}
 use Rattle.block_law.specs.Rounds.{block_steps}
 use Rattle.block_law.specs.Services.{service}
 use Rattle.block_law.specs.Sound.{IsSound}
-use Rattle.image_meaning.specs.Meant.{vax_meaning}
+use Rattle.image_meaning.specs.Meant.{codes_of, codes_written, vax_meaning}
 
 -- whatever stands at the PC of a state of a thread, where the code has bytes alone
 abbrev pub TreeAtStaysInRange : Type 0
@@ -33,6 +37,11 @@ TreeAtFailsByFaults = (pages : Pages) (thread : ℕ) → AreBytes pages.code →
 -- what CHMK does by its code is the service
 abbrev pub ServicesAre : Type 0
 ServicesAre = (pages : Pages) (thread code : ℕ) (state : VaxState) → instruction_tree pages (serve code thread) state ≡ service thread code state
+
+-- what is written of the codes at an instruction's address is what its operation writes
+abbrev pub CodesWrittenAreTheOperations : Type 0
+CodesWrittenAreTheOperations = (pages : Pages) (address : ℕ) (instr : Instr) → AreBytes pages.code → address < 2 ^ 32
+    → found pages address ≡ instruction instr → codes_written pages address ≡ codes_of (operation_at instr.opcode)
 
 -- where the code has bytes alone, and an access allows at most as many steps more as a block may take
 abbrev pub VaxMeaningIsSound : Type 0

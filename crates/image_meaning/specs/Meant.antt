@@ -1,8 +1,7 @@
 -- What the VAX instructions of a page table mean, for processors that run them.
 use Rattle.std.specs.Prelude.{ℕ, true, Option, Some, None}
-use Rattle.vax_form.specs.Grammar.{Found, instruction, reserved_instruction, reserved_mode, past}
-use Rattle.vax_form.specs.GrammarFound.{found}
 use Rattle.vax_form.specs.Operation.{operation_at}
+use Rattle.vax_form.specs.Pages.{code_byte_at}
 use Rattle.vax_form.specs.Tree.{instruction_tree}
 use Rattle.vax_form.specs.declared.operation.Operation.{Operation}
 use Rattle.vax_form.specs.declared.pages.Pages.{Pages}
@@ -33,15 +32,14 @@ abbrev pub codes_of : Option Operation → Flags
 codes_of None = none
 codes_of (Some operation) = (code_use_of operation).writes
 
-abbrev pub codes_found : Found → Flags
-codes_found (instruction instr) = codes_of (operation_at instr.opcode)
-codes_found reserved_instruction = none
-codes_found reserved_mode = none
-codes_found (past address) = none
+-- those of an opcode; without one, none
+abbrev pub codes_by : (opcode : Option ℕ) → Flags
+codes_by None = none
+codes_by (Some opcode) = codes_of (operation_at opcode)
 
--- the condition codes that the instruction at an address writes
+-- the condition codes that the instruction at an address writes, which its opcode tells
 abbrev pub codes_written : Pages → (address : ℕ) → Flags
-codes_written pages address = codes_found (found pages address)
+codes_written pages address = codes_by (code_byte_at pages address)
 
 abbrev pub all_kinds : (address : ℕ) → Reference → Kinds
 all_kinds address reference kind bytes = true

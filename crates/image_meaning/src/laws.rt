@@ -1,7 +1,7 @@
 //! Laws of what instructions do, for the proofs of the crates above. Their functions do nothing.
 ghost use Rattle.vax_form.specs.GrammarLaws.{AreBytes};
 ghost use Rattle.image_meaning.specs.CodeUses.{CodesAreUsed};
-ghost use Rattle.image_meaning.specs.Laws.{TreeAtStaysInRange, MomentsStayInRange, TreeAtFailsByFaults, ServicesAre, VaxMeaningIsSound};
+ghost use Rattle.image_meaning.specs.Laws.{TreeAtStaysInRange, MomentsStayInRange, TreeAtFailsByFaults, ServicesAre, CodesWrittenAreTheOperations, VaxMeaningIsSound};
 
 use vax_form::Pages;
 
@@ -29,6 +29,12 @@ pub fn tree_at_fails_by_faults()
 #[tactic(auto, using(crate::proofs::Services::services_are))]
 pub fn services_are()
     ensures { ServicesAre }
+{}
+
+/// The opcode at an instruction's address tells what the instruction writes of the codes.
+#[tactic(auto, using(crate::proofs::Written::codes_written_are_the_operations))]
+pub fn codes_written_are_the_operations()
+    ensures { CodesWrittenAreTheOperations }
 {}
 
 /// The meaning of the VAX instructions is sound. `page_table_has_bytes` gives what it asks of the pages.

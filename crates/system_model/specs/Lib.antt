@@ -4,7 +4,6 @@ pub mod Quadwords
 pub mod Steps
 pub mod Processors
 pub mod Legal
-pub mod Closed
 pub mod Counted
 pub mod Matches
 pub mod Interpreted

@@ -1,5 +1,5 @@
 -- Local steps of a processor whose boundary is not worked out.
-use Rattle.std.proofs.Common.{◌≡◌, ℕ, zero, suc, ◌+◌, Option, Some, None, refl, sym, ap, ◌∙◌, arith}
+use Rattle.std.proofs.Common.{◌≡◌, ℕ, zero, suc, ◌<◌, ◌+◌, Option, Some, None, refl, sym, ap, ◌∙◌, arith}
 use Rattle.std.specs.Prelude.{option_and_then}
 use Rattle.alpha_machine.specs.Step.{state_of}
 use Rattle.alpha_machine.specs.declared.cpu.Cpu.{Cpu}
@@ -51,6 +51,21 @@ goes_nowhere s thread before course = λ ties steps. ap (λ k. Some (course_of t
   where
     none : (n : ℕ) → n ≡ n + 0
     none n = omega arith
+
+-- the turns of the one are those of the other
+pub begun_went : (s : Setting) (p q r : Processor) (n : ℕ) → Begins s p q → 0 < n → went s q n ≡ Some r → went s p n ≡ Some r
+begun_went s p q r zero begins some goes = absurd (omega (arith, some))
+begun_went s p q r (suc n) begins some goes = begins n ∙ goes
+
+same_place : (p q : Processor) (c d : Alpha) → p.mode ≡ Runs c → q.mode ≡ Runs d → Some p ≡ Some q → c ≡ d
+same_place p q c d at there same =
+    let one : p ≡ q = cc same in
+    let modes : Runs c ≡ Runs d = sym at ∙ ap (λ (x : Processor). x.mode) one ∙ there in
+    cc modes
+
+-- where it goes no step, it stands where it stood
+pub stood : (s : Setting) (thread : ℕ) (before : VaxState) (old new : Course) → Goes s thread before old new 0 → state_of old.cpu ≡ state_of new.cpu
+stood s thread before old new goes = same_place (course_of thread before 0 old 0) (course_of thread before 0 new 0) (state_of old.cpu) (state_of new.cpu) refl refl (goes 0 0)
 
 -- ---- inside a block
 pub goes_inside : (s : Setting) (thread : ℕ) (before : VaxState) (old : Course) (cpu : Cpu) (n : ℕ) → StepsAreTurns → steps_in s.code (state_of old.cpu) n ≡ Some (state_of cpu)

@@ -8,4 +8,5 @@ pub mod Found
 pub mod Standing
 pub mod Inside
 pub mod Courses
+pub mod Stopping
 pub mod ManyTurns

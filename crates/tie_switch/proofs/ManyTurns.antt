@@ -1,17 +1,23 @@
 -- Turns that ask nothing, within the budget, are turns over any memory.
-use Rattle.std.proofs.Common.{◌≡◌, ◌≢◌, ℕ, zero, suc, ◌+◌, ◌≤◌, ◌&&◌, Bool, true, false, List, Option, Some, None, refl, sym, ap, ◌∙◌, subst, arith}
+use Rattle.std.proofs.Common.{◌≡◌, ◌≢◌, ℕ, zero, suc, ◌+◌, ◌≤◌, ◌&&◌, Bool, true, false, List, reverse, Option, Some, None, refl, sym, ap, ◌∙◌, subst, arith}
 use Rattle.std.specs.Prelude.{MatchBool, option_and_then}
 use Rattle.std.proofs.lemmas.Bool.{ne_eqb}
 use Rattle.memory_core.specs.declared.entry.Entry.{Entry}
 use Rattle.memory_core.specs.declared.entry.SetUp.{SetUp}
 use Rattle.system_model.proofs.Requests.{IsStep, Makes, makes}
-use Rattle.system_model.specs.Legal.{spent}
+use Rattle.system_model.specs.Legal.{spent, IsReached}
 use Rattle.system_model.specs.Processors.{Processor, Turn, Went, Asks, Over, Lost, turn}
 use Rattle.system_model.specs.Settings.{Setting}
 use Rattle.tie_switch.specs.Inside.{went, went_by}
+use Rattle.vax_form.specs.declared.state.VaxState.{VaxState}
+use Rattle.tie_switch.specs.Laws.{LocalTurnsKeepReached, ManyTurnsKeepReached, TurnsKeepReached}
 use Rattle.tie_switch.specs.ManyTurns.{IsTurns, NoTurn, Turns}
 use Rattle.tie_switch.specs.Turns.{IsStill, goes_on, is_out, IsTurn}
 use Rattle.tie_switch.specs.Turns as turns
+
+-- whatever entries of others come
+abbrev any : List Entry → Type 0
+any entries = Unit {0}
 
 same_processor : (p q : Processor) → Some p ≡ Some q → p ≡ q
 same_processor p q e = cc e
@@ -57,3 +63,17 @@ went_are_turns s u m budget h p q (suc n) e le = last (went s p n) refl (λ x k.
     last (Some x) same f k =
         let steps = steps_behind s p x n same in
         Turns (f x refl) (one_turn s u m budget h x q (went_there (turn s x) q k) (λ out. omega (arith, steps, out, le)))
+
+-- ---- what they keep
+kept : TurnsKeepReached → (s : Setting) (u : SetUp) (budget : ℕ) (thread : ℕ) (start : VaxState) (p : Processor) (old : List Entry)
+    → IsReached s budget u.limit (reverse old) thread start p
+    → {n : ℕ} {q : Processor} {new : List Entry} → IsTurns s u any budget p old n q new → IsReached s budget u.limit (reverse new) thread start q
+kept law s u budget thread start p old reached NoTurn = reached
+kept law s u budget thread start p old reached (Turns {p = x} {q = y} {old = mid} {new = after} more last) =
+    law s u budget mid after thread start x y (kept law s u budget thread start p old reached more) last
+
+pub many_keep : TurnsKeepReached → ManyTurnsKeepReached
+many_keep law s u budget n old new thread start p q reached turns = kept law s u budget thread start p old reached turns
+
+pub local_keep : TurnsKeepReached → LocalTurnsKeepReached
+local_keep law s u budget n seen thread start p q reached there within = kept law s u budget thread start p seen reached (went_are_turns s u any budget seen p q n there within)

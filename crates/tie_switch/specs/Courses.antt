@@ -1,6 +1,8 @@
 -- What contracts see of a processor in Alpha code whose boundary is not worked out.
-use Rattle.std.specs.Prelude.{◌≡◌, ℕ, suc, ◌+◌, Option, Some, None}
+use Rattle.std.specs.Prelude.{◌≡◌, ℕ, suc, ◌+◌, Option, Some, None, IfSome}
 use Rattle.alpha_machine.specs.Step.{state_of}
+use Rattle.vax_form.specs.Pages.{code_byte_at}
+use Rattle.vax_form.specs.declared.pages.Pages.{Pages}
 use Rattle.vax_form.specs.declared.state.Flags.{Flags}
 use Rattle.vax_form.specs.declared.state.VaxState.{VaxState}
 use Rattle.system_model.specs.Processors.{Runs, Processor}
@@ -25,6 +27,10 @@ course_of thread before ties course steps = record {
   steps = steps;
   ties = ties;
 }
+
+-- the opcode that is kept of the block where it landed is the byte there
+abbrev pub HasOpcode : Pages → Option Landed → Type 0
+HasOpcode pages landed = IfSome landed (λ l. l.block.opcode ≡ code_byte_at pages l.block.address)
 
 -- it makes so many turns, none of which asks
 abbrev pub Goes : Setting → (thread : ℕ) → (before : VaxState) → (old new : Course) → ℕ → Type 0

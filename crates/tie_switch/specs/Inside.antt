@@ -1,15 +1,17 @@
 -- Turns that ask nothing: what the local steps of a processor are, told by the code alone.
-use Rattle.std.specs.Prelude.{◌≡◌, ℕ, zero, suc, ◌+◌, Option, Some, None, option_and_then}
+use Rattle.std.specs.Prelude.{◌≡◌, ℕ, zero, suc, ◌+◌, Bool, true, false, Option, Some, None, is_some, option_and_then}
+use Rattle.address_map.specs.Pairs.{address_at}
 use Rattle.alpha_meaning.specs.State.{Alpha}
 use Rattle.exception_records.specs.Codes.{all_ready}
 use Rattle.exception_records.specs.declared.rules.Rules.{Rules}
 use Rattle.vax_form.specs.declared.pages.Pages.{Pages}
 use Rattle.vax_form.specs.declared.state.Flags.{Flags}
 use Rattle.vax_form.specs.declared.state.VaxState.{VaxState}
-use Rattle.prepared_code.specs.Inside.{steps_in, landing, landed}
+use Rattle.prepared_code.specs.Inside.{local_at, steps_in, landing, landed}
 use Rattle.prepared_code.specs.Sources.{Source}
 use Rattle.prepared_code.specs.declared.blocks.Block.{Block}
-use Rattle.system_model.specs.Processors.{Runs, Processor, Turn, Went, Asks, Over, Lost, turn, moment_of, stepped, arrived}
+use Rattle.system_model.specs.Processors.{Mode, New, Runs, Interprets, Ended, Processor, Turn, Went, Asks, Over, Lost, turn, mode_of, moment_of, stepped, arrived}
+use Rattle.system_model.specs.Ranges.{word_for}
 use Rattle.system_model.specs.Settings.{Setting}
 use Rattle.system_model.specs.Steps.{state_at, held_behind}
 
@@ -33,6 +35,29 @@ ran p c n = record p { mode = Runs c; steps = p.steps + n }
 abbrev pub StepsAreTurns : Type 0
 StepsAreTurns = (setting : Setting) (p : Processor) (c d : Alpha) (n : ℕ) → p.mode ≡ Runs c
     → steps_in setting.code c n ≡ Some d → went setting p n ≡ Some (ran p d n)
+
+-- the thread goes on in Alpha code at the next word: inside a block, or at the block of an address that it does not interpret
+abbrev pub goes_on_at : Setting → (thread : ℕ) → Option ℕ → Bool
+goes_on_at setting thread None = true
+goes_on_at setting thread (Some address) = is_some (word_for setting.code.map setting.ranges thread address)
+
+abbrev pub goes_on_behind : Setting → (thread : ℕ) → Option Alpha → Bool
+goes_on_behind setting thread None = false
+goes_on_behind setting thread (Some d) = goes_on_at setting thread (address_at setting.code.map d.pc)
+
+-- the word there is a local instruction, and the thread goes on in Alpha code behind it
+abbrev pub goes_on_locally : Setting → (thread : ℕ) → Alpha → Bool
+goes_on_locally setting thread c = goes_on_behind setting thread (local_at setting.code c)
+
+abbrev pub is_local_in : Setting → (thread : ℕ) → Mode → Bool
+is_local_in setting thread New = false
+is_local_in setting thread (Runs c) = goes_on_locally setting thread c
+is_local_in setting thread (Interprets state replies) = false
+is_local_in setting thread (Ended end) = false
+
+-- the processor's next turn is such a step, where nothing is pending
+abbrev pub is_local : Setting → Processor → Bool
+is_local setting p = is_local_in setting p.thread (mode_of setting p p.mode)
 
 -- ---- a step that lands
 -- the rules of a block, without which all codes stand in their registers

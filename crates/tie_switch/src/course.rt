@@ -1,17 +1,19 @@
 // Local steps, one after the other.
-ghost use Rattle.std.specs.Prelude.{◌≡◌, ◌<◌, ◌≤◌, ◌+◌, ◌^◌, slice_index, true, false, Some};
+ghost use Rattle.std.specs.Prelude.{◌≡◌, ◌<◌, ◌≤◌, ◌+◌, ◌^◌, slice_index, true, false, Some, None};
 ghost use Rattle.alpha_machine.specs.Step.{state_of};
 ghost use Rattle.alpha_meaning.specs.State.{at_place};
 ghost use Rattle.prepared_code.specs.Effects.{behind};
+ghost use Rattle.prepared_code.specs.Inside.{step_in};
 ghost use Rattle.exception_records.specs.Shown.{still_held};
 ghost use Rattle.image_meaning.specs.Meant.{codes_written};
-ghost use Rattle.tie_switch.specs.Courses.{Goes, boundary_by};
-ghost use Rattle.tie_switch.specs.Inside.{block_rules};
+ghost use Rattle.tie_switch.specs.Courses.{Goes, HasOpcode, boundary_by};
+ghost use Rattle.tie_switch.specs.Inside.{block_rules, goes_on_locally};
 ghost use Rattle.tie_switch.specs.Settings.{image_setting};
+ghost use Rattle.vax_form.specs.Pages.{code_byte_at};
 ghost use Rattle.vax_form.specs.declared.state.Pending.TheVariants.{Nothing};
 
 use crate::laws::{landings_are_turns, steps_are_turns};
-use crate::setting::{READY, codes_written};
+use crate::setting::{READY, codes_by};
 use alpha_machine::Cpu;
 use exception_records::Rules;
 use prepared_code::{Block, Landing, Prepared};
@@ -74,23 +76,25 @@ impl Course {
         }
     }
 
-    // The address of its instruction.
-    fn address(&self, before: &VaxState) -> u32
-        ensures { result ≡ (boundary_by before.now self.now.held self.now.landed).pc }
+    // The opcode of its instruction.
+    fn opcode(&self, pages: &Pages, before: &VaxState) -> Option<u8>
+        requires opcode { HasOpcode pages.now self.now.landed }
+        ensures { result ≡ code_byte_at pages.now (boundary_by before.now self.now.held self.now.landed).pc }
     {
         match &self.landed {
-            None => before.pc,
-            Some(landed) => landed.block.address,
+            None => pages.code_byte(before.pc),
+            Some(landed) => landed.block.opcode,
         }
     }
 
-    // The codes that are still held behind its instruction, which is looked at where any is.
+    // The codes that are still held behind its instruction, whose opcode is looked at where any is.
     fn held_behind(&self, pages: &Pages, before: &VaxState) -> Flags
+        requires opcode { HasOpcode pages.now self.now.landed }
         ensures { result ≡ still_held self.now.held (codes_written pages.now (boundary_by before.now self.now.held self.now.landed).pc) }
     {
         let held = self.held;
         if held.n || held.z || held.v || held.c {
-            still_held(&held, &codes_written(pages, self.address(before)))
+            still_held(&held, &codes_by(self.opcode(pages, before)))
         } else {
             held
         }
@@ -126,9 +130,13 @@ impl Course {
         requires zero { slice_index self.old.cpu.r 31 ≡ 0 }
         requires nothing { before.now.pending ≡ Nothing }
         requires room { self.old.retired + 1 < 2 ^ 64 }
+        requires inside { step_in prepared.now.code (state_of self.old.cpu) ≡ None }
+        requires opcode { HasOpcode prepared.now.pages self.old.landed }
+        ensures opcode { HasOpcode prepared.now.pages self.new.landed }
         ensures lands { result ≡ true → Goes (image_setting prepared.now.pages prepared.now.code ranges.now) thread before.now self.old self.new 1 }
         ensures retired { result ≡ true → self.new.retired ≡ self.old.retired + 1 }
         ensures stays { result ≡ false → self.new ≡ self.old }
+        ensures stops { result ≡ false → goes_on_locally (image_setting prepared.now.pages prepared.now.code ranges.now) thread (state_of self.new.cpu) ≡ false }
     {
         landings_are_turns();
         let Some(landing) = prepared.landing(&self.cpu) else {
@@ -153,10 +161,13 @@ impl Course {
     ) -> (u64, bool)
         requires nothing { before.now.pending ≡ Nothing }
         requires room { self.old.retired + most < 2 ^ 64 }
+        requires opcode { HasOpcode prepared.now.pages self.old.landed }
+        ensures opcode { HasOpcode prepared.now.pages self.new.landed }
         ensures most { result.0 ≤ most }
         ensures some { result.1 ≡ true → 0 < result.0 }
         ensures goes { Goes (image_setting prepared.now.pages prepared.now.code ranges.now) thread before.now self.old self.new result.0 }
         ensures retired { self.new.retired ≤ self.old.retired + result.0 }
+        ensures stops { result.1 ≡ false → result.0 < most → goes_on_locally (image_setting prepared.now.pages prepared.now.code ranges.now) thread (state_of self.new.cpu) ≡ false }
     {
         steps_are_turns();
         let inside = prepared.run_inside(&mut self.cpu, most);
@@ -168,7 +179,7 @@ impl Course {
     }
 
     /// Makes local steps, inside blocks and from block to block, and tells how many: at most so many, and only those behind
-    /// which the thread goes on in Alpha code.
+    /// which the thread goes on in Alpha code. Fewer are made only where the next is none of these.
     pub(crate) fn run(
         &mut self,
         prepared: &Prepared<'_>,
@@ -179,9 +190,11 @@ impl Course {
     ) -> u64
         requires nothing { before.now.pending ≡ Nothing }
         requires room { self.old.retired + most < 2 ^ 64 }
+        requires opcode { HasOpcode prepared.now.pages self.old.landed }
         ensures most { result ≤ most }
         ensures goes { Goes (image_setting prepared.now.pages prepared.now.code ranges.now) thread before.now self.old self.new result }
         ensures retired { self.new.retired ≤ self.old.retired + result }
+        ensures stops { result < most → goes_on_locally (image_setting prepared.now.pages prepared.now.code ranges.now) thread (state_of self.new.cpu) ≡ false }
     {
         let mut made = 0;
         while made < most {

@@ -1,6 +1,6 @@
 //! What a turn keeps, for the proofs of the crates above. Its functions do nothing.
 ghost use Rattle.tie_switch.specs.Inside.{LandingsAreTurns, StepsAreTurns};
-ghost use Rattle.tie_switch.specs.Laws.{TurnsKeepReached, TurnsStayLegal};
+ghost use Rattle.tie_switch.specs.Laws.{LocalTurnsKeepReached, ManyTurnsKeepReached, TurnsKeepReached, TurnsStayLegal};
 
 use system_model::laws::{
     accesses_keep_reached, ends_keep_reached, others_keep_reached, reached_are_legal,
@@ -17,6 +17,14 @@ pub fn turns_keep_reached()
     ends_keep_reached();
     others_keep_reached();
     requests_are_own();
+}
+
+/// So do many turns, one after the other, and many that ask nothing.
+pub fn many_turns_keep_reached()
+    ensures many { ManyTurnsKeepReached }
+    ensures local { LocalTurnsKeepReached }
+{
+    turns_keep_reached();
 }
 
 /// A turn keeps a history and its processors legal, in a memory of one owner.

@@ -1,11 +1,11 @@
 // Many turns of a processor.
-ghost use Rattle.std.specs.Prelude.{◌≡◌, ◌<◌, ◌≤◌, ◌+◌, ◌⊎◌, ◌↔◌, ℕ, Some, IfSome, length};
+ghost use Rattle.std.specs.Prelude.{◌≡◌, ◌<◌, ◌≤◌, ◌+◌, ◌⊎◌, ◌↔◌, ℕ, false, Some, IfNone, IfSome, length};
 ghost use Rattle.alpha_machine.specs.Step.{state_of};
 ghost use Rattle.block_law.specs.Translations.{most_words};
 ghost use Rattle.system_model.specs.Processors as model;
 ghost use Rattle.system_model.specs.Processors.{Runs, mode_of};
-ghost use Rattle.tie_switch.specs.Courses.{Begins, course_of};
-ghost use Rattle.tie_switch.specs.Inside.{went};
+ghost use Rattle.tie_switch.specs.Courses.{Begins, HasOpcode, course_of};
+ghost use Rattle.tie_switch.specs.Inside.{goes_on_locally, is_local, went};
 ghost use Rattle.tie_switch.specs.Processors.{HasAdvanced, HasGone, HasSteps, IsPlain};
 ghost use Rattle.tie_switch.specs.Settings.{image_setting};
 ghost use Rattle.vax_form.specs.declared.state.Pending.TheVariants.{Nothing};
@@ -28,6 +28,7 @@ impl Processor {
         requires nothing { self.now.boundary.pending ≡ Nothing }
         ensures plain { IfSome result (λ cpu. IsPlain self.now.mode) }
         ensures there { IfSome result (λ cpu. mode_of (image_setting prepared.now.pages prepared.now.code ranges.now) (processor_of self.now) (processor_of self.now).mode ≡ Runs (state_of cpu)) }
+        ensures none { IfNone result (is_local (image_setting prepared.now.pages prepared.now.code ranges.now) (processor_of self.now) ≡ false) }
     {
         match self.mode {
             Mode::New => {
@@ -51,6 +52,10 @@ impl Processor {
         ensures nothing { IfSome result (λ course. self.now.boundary.pending ≡ Nothing) }
         ensures retired { IfSome result (λ course. course.retired ≡ self.now.retired) }
         ensures plain { IfSome result (λ course. IsPlain self.now.mode) }
+        ensures opcode { IfSome result (λ course. HasOpcode prepared.now.pages course.landed) }
+        ensures local { IfSome result (λ course. is_local (image_setting prepared.now.pages prepared.now.code ranges.now) (processor_of self.now)
+            ≡ goes_on_locally (image_setting prepared.now.pages prepared.now.code ranges.now) self.now.thread (state_of course.cpu)) }
+        ensures none { IfNone result (self.now.boundary.pending ≡ Nothing → is_local (image_setting prepared.now.pages prepared.now.code ranges.now) (processor_of self.now) ≡ false) }
     {
         match self.boundary.pending {
             Pending::Nothing => match self.cpu_at(prepared, ranges) {
@@ -93,6 +98,8 @@ impl Processor {
         ensures stays { result ≡ 0 → self.new ≡ self.old }
         ensures before { 0 < result → IsPlain self.old.mode }
         ensures behind { 0 < result → IsPlain self.new.mode }
+        ensures stops { result < most → self.new.steps < self.new.budget → self.new.boundary.pending ≡ Nothing
+            → is_local (image_setting prepared.now.pages prepared.now.code ranges.now) (processor_of self.new) ≡ false }
         ensures went { went (image_setting prepared.now.pages prepared.now.code ranges.now) (processor_of self.old) result ≡ Some (processor_of self.new) }
     {
         let Some(mut course) = self.course(prepared, ranges) else {
@@ -107,13 +114,16 @@ impl Processor {
     }
 
     /// Makes turns that ask nothing, with the registers in place, and tells how many: local steps inside blocks and from block
-    /// to block, at most so many and within the budget, while the thread goes on in Alpha code.
+    /// to block, at most so many and within the budget, while the thread goes on in Alpha code. Fewer are made only where the
+    /// budget is spent, something is pending, or the next turn is no such step.
     pub fn run_local(&mut self, prepared: &Prepared<'_>, ranges: &[Range], most: u64) -> u64
         ensures most { result ≤ most }
         ensures budget { self.new.budget ≡ self.old.budget }
         ensures thread { self.new.thread ≡ self.old.thread }
         ensures steps { self.new.steps ≡ self.old.steps + result }
         ensures few_steps { self.new.steps ≤ self.new.budget }
+        ensures stops { result < most → self.new.steps < self.new.budget → self.new.boundary.pending ≡ Nothing
+            → is_local (image_setting prepared.now.pages prepared.now.code ranges.now) (processor_of self.new) ≡ false }
         ensures went { (p : model.Processor) → StandsFor prepared.now.pages self.old p
             → HasGone (image_setting prepared.now.pages prepared.now.code ranges.now) p result self.new }
     {

@@ -1,6 +1,6 @@
 // What a processor runs by.
 ghost use Rattle.std.specs.Prelude.{◌≡◌};
-ghost use Rattle.image_meaning.specs.Meant.{codes_written};
+ghost use Rattle.image_meaning.specs.Meant.{codes_by, codes_written};
 ghost use Rattle.system_model.specs.Settings.{goes_on};
 ghost use Rattle.exception_records.specs.Points.{point_at};
 ghost use Rattle.system_model.specs.Steps.{rules_of};
@@ -9,7 +9,6 @@ ghost use Rattle.tie_switch.specs.Seen.{setting_of};
 use cc_liveness::code_use;
 use exception_records::{CodeRule, Rules};
 use system_model::{Range, Translation, word_for};
-use vax_decode::{Decoded, decode_at};
 use vax_form::{Flags, Pages, Pending, VaxState, operation_of};
 
 /// The pages of an image, its translation, and the addresses that threads interpret.
@@ -34,17 +33,24 @@ const NO_CODES: Flags = Flags {
     c: false,
 };
 
+/// The condition codes that an instruction with that opcode writes; without one, none.
+pub(crate) fn codes_by(opcode: Option<u8>) -> Flags
+    ensures { result ≡ codes_by opcode }
+{
+    match opcode {
+        Some(opcode) => match operation_of(opcode) {
+            Some(operation) => code_use(operation).writes,
+            None => NO_CODES,
+        },
+        None => NO_CODES,
+    }
+}
+
 /// The condition codes that the instruction at an address writes.
 pub(crate) fn codes_written(pages: &Pages, address: u32) -> Flags
     ensures { result ≡ codes_written pages.now address }
 {
-    match decode_at(pages, address) {
-        Decoded::Instr(instr) => match operation_of(instr.opcode) {
-            Some(operation) => code_use(operation).writes,
-            None => NO_CODES,
-        },
-        Decoded::Reserved | Decoded::BadMode | Decoded::Past(_) => NO_CODES,
-    }
+    codes_by(pages.code_byte(address))
 }
 
 /// The rules of a word's point; without one, all codes stand in their registers.

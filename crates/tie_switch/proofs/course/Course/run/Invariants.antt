@@ -1,6 +1,6 @@
 -- The steps so far; each round makes one.
 use Rattle.std.proofs.Common.{◌≤◌, ◌-◌, ◌+◌}
-use Rattle.tie_switch.specs.Courses.{Goes}
+use Rattle.tie_switch.specs.Courses.{Goes, HasOpcode}
 use Rattle.tie_switch.specs.Settings.{image_setting}
 use Rattle.tie_switch.proofs.course.Course.run.Given as goal
 
@@ -8,6 +8,7 @@ abbrev pub invariant-loop-made : goal.invariant-loop-made
 invariant-loop-made l = record {
   most : l.made ≤ l.most;
   goes : Goes (image_setting l.prepared.pages l.prepared.code l.ranges) l.thread l.before l.initial.self l.self l.made;
+  opcode : HasOpcode l.prepared.pages l.self.landed;
   retired : l.self.retired ≤ l.initial.self.retired + l.made;
 }
 
