@@ -123,12 +123,3 @@ abbrev pub codes_of : Option Work → Flags
 codes_of (Some (Move source destination)) = record { n = true; z = true; v = true; c = false }
 codes_of (Some (Serve code)) = record { n = false; z = false; v = false; c = false }
 codes_of None = record { n = false; z = false; v = false; c = false }
-
-abbrev pub is_exit : Option Work → Bool
-is_exit (Some (Serve code)) = code == 1
-is_exit (Some (Move source destination)) = false
-is_exit None = false
-
--- it has a block and ends its thread
-abbrev pub ends_thread : Instr → Bool
-ends_thread instr = is_exit (work_of instr)

@@ -1,8 +1,7 @@
--- What a block promises, and what the trees of instructions that have one come to.
+-- What a block promises.
 use Rattle.std.specs.Prelude.{◌≡◌, ℕ, ◌<◌, true}
 use Rattle.vax_form.specs.Grammar.{instruction}
 use Rattle.vax_form.specs.GrammarFound.{found}
-use Rattle.vax_form.specs.Finishes.{AllEnd, AllFinish}
 use Rattle.vax_form.specs.State.{IsState}
 use Rattle.vax_form.specs.Tree.{instruction_tree}
 use Rattle.vax_form.specs.declared.instr.Instr.{Instr}
@@ -23,7 +22,7 @@ use Rattle.block_law.specs.Rounds.{block_steps, new_round}
 use Rattle.block_law.specs.Follows.{Follows}
 use Rattle.block_law.specs.Translations.{Meaning, Code, placed}
 use Rattle.block_law.specs.Blocks.{Stands, ExitsLead}
-use Rattle.alpha_codegen.specs.HasBlock.{has_block, ends_thread}
+use Rattle.alpha_codegen.specs.HasBlock.{has_block}
 
 -- the VAX instructions of its pages, whose blocks may make all kinds of accesses
 pub record MeansVax (meaning : Meaning) : Type 0 where
@@ -39,23 +38,3 @@ Compiles instr block = (meaning : Meaning) → MeansVax meaning
     → IsState state → state.pc ≡ instr.at → InForm regs → Shows regs instr.at all_ready held state
     → ExitsLead (placed meaning code thread state held first) block.exits first all_ready
     → Follows (placed meaning code thread state held first) n Plain block_steps new_round (at_place regs first) (meaning.tree thread state)
-
--- an instruction that has a block finishes behind itself
-abbrev pub FinishesBehind : Type 0
-FinishesBehind = (pages : Pages) (thread : ℕ) (state : VaxState) (instr : Instr) → has_block instr ≡ true
-    → found pages state.pc ≡ instruction instr → AllFinish (tree_at pages thread state) (λ s. s.pc ≡ instr.after)
-
--- one that ends its thread does not finish
-abbrev pub ExitNeverFinishes : Type 0
-ExitNeverFinishes = (pages : Pages) (thread : ℕ) (state : VaxState) (instr : Instr) → ends_thread instr ≡ true
-    → found pages state.pc ≡ instruction instr → AllFinish (tree_at pages thread state) (λ s. ⊥)
-
--- the handler and what is pending are as before
-pub record KeepsHandler (before state : VaxState) : Type 0 where
-  pub handler : state.handler ≡ before.handler
-  pub pending : state.pending ≡ before.pending
-
--- an instruction that has a block leaves them
-abbrev pub EndsWithHandler : Type 0
-EndsWithHandler = (pages : Pages) (thread : ℕ) (state : VaxState) (instr : Instr) → has_block instr ≡ true
-    → found pages state.pc ≡ instruction instr → AllEnd (tree_at pages thread state) (KeepsHandler state)

@@ -8,10 +8,9 @@
 #![tactic(auto)]
 
 mod blocks;
-pub mod laws;
 mod lines;
 mod pieces;
 mod works;
 
 pub use blocks::block;
-pub use works::{ends_thread, has_block};
+pub use works::has_block;

@@ -1,6 +1,6 @@
 // Which instructions have a block, and what it does.
 ghost use Rattle.std.specs.Prelude.{◌≡◌, ◌<◌, ◌%◌, ◌^◌, IfSome};
-ghost use Rattle.alpha_codegen.specs.HasBlock.{is_unused, has_operands, longword_place, source_of, destination_of, service_of, FitsSource, FitsDestination, FitsWork, move_of, clear_of, work_in, work_of, has_block, ends_thread};
+ghost use Rattle.alpha_codegen.specs.HasBlock.{is_unused, has_operands, longword_place, source_of, destination_of, service_of, FitsSource, FitsDestination, FitsWork, move_of, clear_of, work_in, work_of, has_block};
 
 use vax_form::{Base, Instr, Operand, Operation, Size, operation_of};
 
@@ -179,11 +179,4 @@ pub fn has_block(instr: &Instr) -> bool
     ensures { result ≡ has_block instr.now }
 {
     work_of(instr).is_some()
-}
-
-/// Whether it has a block and ends its thread: CHMK with the literal 1.
-pub fn ends_thread(instr: &Instr) -> bool
-    ensures { result ≡ ends_thread instr.now }
-{
-    matches!(work_of(instr), Some(Work::Serve(1)))
 }

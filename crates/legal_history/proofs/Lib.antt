@@ -18,7 +18,6 @@ pub mod Handled
 pub mod Boundaries
 pub mod Sums
 pub mod Headlines
-pub mod Closed
 pub mod Images
 pub mod Runs
 mod Refused

@@ -6,4 +6,3 @@ pub mod Failures
 pub mod Headline
 pub mod Law
 pub mod OneProcessor
-pub mod Closed

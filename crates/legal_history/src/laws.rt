@@ -4,7 +4,6 @@ ghost use Rattle.image_file.specs.Memory.{byte_in};
 ghost use Rattle.image_file.specs.Whole.{IsWhole};
 ghost use Rattle.memory_core.specs.declared.entry.SetUp.{SetUp};
 ghost use Rattle.vax_form.specs.References.{AreBytes};
-ghost use Rattle.legal_history.specs.Closed.{ClosedNeverInterprets};
 ghost use Rattle.legal_history.specs.Law.{IsRun, LegalHasHeadline};
 ghost use Rattle.legal_history.specs.OneHistory.{OneHistory};
 ghost use Rattle.legal_history.specs.OneProcessor.{ReachedIsSteady};
@@ -29,11 +28,6 @@ pub fn legal_has_headline()
 #[tactic(auto, using(crate::proofs::Headlines::reached_is_steady))]
 pub fn reached_is_steady()
     ensures { ReachedIsSteady }
-{}
-
-/// In closed code, with no ranges, and from starts in it, no processor comes to an instruction that is interpreted.
-pub fn closed_never_interprets()
-    ensures { ClosedNeverInterprets }
 {}
 
 /// Whatever is set up with a whole image and an input, of any limit and miss number, is in range: so the law of legal
