@@ -78,7 +78,6 @@ fn main(rt: HostRuntime) -> Result<()> {
         let table = fs::read_to_string(&rt, topic.file()).context(topic.file())?;
         all.add(run(&rt, topic, table.as_str())?);
     }
-    all.add(maps::check_large(&rt)?);
     all.print(&rt, "all")?;
     all.verdict()
 }
