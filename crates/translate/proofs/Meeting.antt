@@ -85,10 +85,10 @@ module _ (pages : Pages) (instrs : List Instr) (blocks : List Placed) (code : Co
       let shape = of.compiled.shape in
       is_block (image_meaning pages) code of.instr.at of.block.1 shape of.laid
       (λ thread n state held regs lt is_state pc form shows.
-          of.compiled.means (image_meaning pages) (means_vax pages) code of.laid.first thread n state held regs (All_at (λ instr. found pages instr.at ≡ instruction instr) instrs of.place of.instr stand of.at)
-          of.laid.stands lt is_state pc form
-          (subst (λ (rules : Rules). Shows regs of.instr.at rules held state) (rules_ready of.instr of.block of.compiled 0 shape.first shape.has_first) shows)
-          (of.laid.leads (image_meaning pages) thread state held all_ready (rules_meet of.block.1.exits)))
+      of.compiled.means (image_meaning pages) (means_vax pages) code of.laid.first thread n state held regs (All_at (λ instr. found pages instr.at ≡ instruction instr) instrs of.place of.instr stand of.at)
+      of.laid.stands lt is_state pc form
+      (subst (λ (rules : Rules). Shows regs of.instr.at rules held state) (rules_ready of.instr of.block of.compiled 0 shape.first shape.has_first) shows)
+      (of.laid.leads (image_meaning pages) thread state held all_ready (rules_meet of.block.1.exits)))
 
   pub meets : Meets (image_meaning pages) code
   meets = record {

@@ -54,9 +54,10 @@ fn translate_instrs(
 {
     let blocks = compiled(alloc, instrs)?;
     let (words, map, points) = lay_out(alloc, &blocks)?;
-    let Ok(points) = exception_records::build(points) else {
+    let Ok(mut points) = exception_records::build(points) else {
         unreachable!()
     };
+    points.prepare(alloc)?;
     let Ok(map) = address_map::build(alloc, &map) else {
         return Err(WantOfMemory);
     };

@@ -23,9 +23,9 @@ returns c =
     let instrs = c.args.instrs.now in
     let blocks = c.in_ok-blocks.blocks.items in
     let are = c.in_ok-blocks.ensures in
-    let code : Code = record { words = c.in_ok-words.words.items; map = c.in-Ok-build.map; points = c.in-Ok.points } in
+    let code : Code = record { words = c.in_ok-words.words.items; map = c.in-Ok-build.map; points = c.prepare.new.self } in
     let map_is : c.in-Ok-build.map ≡ c.in_ok-words.map.items = c.in-Ok-build.ensures.map ∙ c.deref-2.ensures.value in
-    let points_is : c.in-Ok.points ≡ c.in_ok-words.points.items = c.in-Ok.ensures.points in
+    let points_is : c.prepare.new.self ≡ c.in_ok-words.points.items = c.prepare.ensures ∙ c.in-Ok.ensures.points in
     let layout : IsLayout blocks code = rw (map_is, points_is, ← c.deref.ensures.value) c.in_ok-words.ensures.laid in
     record {
       meets = meets c.args.pages.now instrs blocks code are layout c.requires.found;
