@@ -49,20 +49,20 @@ is_in_memory operand = false
 abbrev pub value_holding : Size → Holding
 value_holding size = holding_of (nat_le (bytes_of size) 4)
 
--- an operand in memory that is modified was checked for writing
+-- an operand in memory that is modified was checked for writing; a displacement takes no operation
 abbrev pub behind_access_of : Access → (in_memory : Bool) → Size → (to place : ℕ) → Known → Known
-behind_access_of Read in_memory size to place known = behind_write to (value_holding size) known
-behind_access_of Write true size to place known = behind_write place Longword known
-behind_access_of Write false size to place known = known
-behind_access_of Modify true size to place known = behind_write to (value_holding size) (record (behind_write place Longword known) { checked = At place (bytes_of size) true })
-behind_access_of Modify false size to place known = behind_write to (value_holding size) known
-behind_access_of Address in_memory size to place known = behind_write to Longword known
-behind_access_of Field true size to place known = behind_write place Longword known
-behind_access_of Field false size to place known = behind_write to Longword known
+behind_access_of Read in_memory size to place known = behind_write to (value_holding size) (lasting known)
+behind_access_of Write true size to place known = behind_write place Longword (lasting known)
+behind_access_of Write false size to place known = lasting known
+behind_access_of Modify true size to place known = behind_write to (value_holding size) (record (behind_write place Longword (lasting known)) { checked = At place (bytes_of size) true })
+behind_access_of Modify false size to place known = behind_write to (value_holding size) (lasting known)
+behind_access_of Address in_memory size to place known = behind_write to Longword (lasting known)
+behind_access_of Field true size to place known = behind_write place Longword (lasting known)
+behind_access_of Field false size to place known = behind_write to Longword (lasting known)
 behind_access_of Branch in_memory size to place known = known
 
 abbrev pub behind_operand : Specifier → Known → Known
-behind_operand specifier known = behind_access_of specifier.access (is_in_memory specifier.operand) specifier.size specifier.to specifier.place (lasting known)
+behind_operand specifier known = behind_access_of specifier.access (is_in_memory specifier.operand) specifier.size specifier.to specifier.place known
 
 abbrev pub behind_operands : List Specifier → Known → Known
 behind_operands [] known = known
