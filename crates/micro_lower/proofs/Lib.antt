@@ -13,3 +13,4 @@ pub mod Tabled
 pub mod Fitting
 pub mod Binary
 pub mod Tests
+pub mod Jumps

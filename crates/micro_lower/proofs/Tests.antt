@@ -140,7 +140,7 @@ bit_test_all width instr state pages thread temps values ok same left =
     (record { low = tt; goes = refl; ready = result_ready size state v (effect plan.behind found temps) fits (mod-eq_of_lt fits) refl }))
 
 -- ---- pushes
-room : (state : VaxState) (steps : List ℕ) → IsState state → length steps ≡ length state.r → 14 < length steps
+pub room : (state : VaxState) (steps : List ℕ) → IsState state → length steps ≡ length state.r → 14 < length steps
 room state steps ok same = let r = ok.registers in omega (arith, same, r)
 
 module _ (instr : Instr) (plan : Plan) (state : VaxState) (pages : Pages) (thread : ℕ) (ok : IsState state) (steps : List ℕ) (same : length steps ≡ length state.r)
