@@ -14,3 +14,4 @@ pub mod Fitting
 pub mod Binary
 pub mod Tests
 pub mod Jumps
+pub mod Loops

@@ -1,0 +1,262 @@
+-- Loops: an index is stepped and compared.
+use Rattle.std.proofs.Common.{◌≡◌, ℕ, ◌%◌, ◌^◌, ◌<◌, ◌≤◌, ◌==◌, Bool, true, false, List, [], ◌∷◌, ◌++◌, length, refl, sym, ap, ◌∙◌, subst, lit≤, Some, arith, inl, inr}
+use Rattle.std.proofs.lemmas.Bool.{cases_lt}
+use Rattle.std.proofs.Math.Nat.{mod-eq_of_lt}
+use Rattle.vax_form.specs.Operation.{operation_at}
+use Rattle.vax_form.specs.Row.{operands_of}
+use Rattle.vax_form.specs.Size.{bytes_of}
+use Rattle.vax_form.specs.Script.{◌>>◌, change}
+use Rattle.vax_form.specs.State.{IsState}
+use Rattle.vax_form.specs.Tree.{Tree, tree_of, ends_with}
+use Rattle.vax_form.specs.declared.instr.Instr.{Instr}
+use Rattle.vax_form.specs.declared.instr.Size.{Size}
+use Rattle.vax_form.specs.declared.instr.Size.TheVariants.{Byte, Word, Long, Quad}
+use Rattle.vax_form.specs.declared.operation.Operation.TheVariants as operations
+use Rattle.vax_form.specs.declared.pages.Pages.{Pages}
+use Rattle.vax_form.specs.declared.state.VaxState.{VaxState}
+use Rattle.vax_meaning.specs.Codes.{carry_of, with_result, go_to}
+use Rattle.vax_meaning.specs.Evaluation.{evaluated_row, operand}
+use Rattle.vax_meaning.specs.Instructions.{body}
+use Rattle.vax_meaning.specs.Moves.{give}
+use Rattle.vt_words.specs.Arithmetic.{coded_value}
+use Rattle.vt_words.specs.Values.{bit}
+use Rattle.vt_words.specs.declared.arithmetic.Coded.{Coded}
+use Rattle.micro_ops.specs.Sources.{sources_of, from}
+use Rattle.micro_ops.specs.Values.{limit_of, value_from}
+use Rattle.micro_ops.specs.declared.codes.CodeSource.{CodeSource}
+use Rattle.micro_ops.specs.declared.codes.CodeSource.TheVariants.{Result, Kept}
+use Rattle.micro_ops.specs.declared.program.Exit.{Exit}
+use Rattle.micro_ops.specs.declared.program.Exit.TheVariants.{Next}
+use Rattle.micro_lower.specs.Plans.{program_of}
+use Rattle.micro_lower.specs.Rows.{move_plan}
+use Rattle.micro_lower.proofs.Coding.{GoesTo, plain_end, coded_end}
+use Rattle.micro_lower.proofs.Endings.{found_at, with, DoesSo, results, replaces, IsReady, closes_coded, is_computation}
+use Rattle.micro_lower.proofs.Planned.{plan_does, AllDo, BodyDoes, read_and_write}
+use Rattle.micro_lower.proofs.Overflow.{low_below}
+use Rattle.vax_form.specs.declared.instr.Operand.{Operand}
+use Rattle.vax_meaning.specs.declared.operands.Location.{Location}
+use Rattle.vax_meaning.specs.Operands.{store, put}
+use Rattle.micro_ops.specs.Meaning.{Temps, course_of, started}
+use Rattle.micro_ops.specs.Leaving.{CodesComeFrom}
+use Rattle.micro_ops.specs.declared.program.Micro.{Micro}
+use Rattle.micro_ops.specs.declared.program.Micro.TheVariants.{Leave}
+use Rattle.operand_programs.specs.Operands.{IsAt}
+use Rattle.operand_programs.specs.Pieces.{Agrees, with_temps, leaving}
+use Rattle.operand_programs.specs.Results.{IsGivable, result_program, replacement_program, finish_program}
+use Rattle.operand_programs.specs.Specifiers.{stepped}
+use Rattle.std.specs.List.{list_all}
+use Rattle.micro_lower.specs.Plans.{codes_program, steps_of}
+use Rattle.micro_lower.proofs.Plain.{Does}
+use Rattle.micro_lower.proofs.Ready.{effect, IsLowExit, ReadyFor}
+use Rattle.micro_lower.proofs.Slots.{AreSlots}
+use Rattle.std.specs.Prelude.{nat_le, ◌+◌, ◌-◌, ◌/◌, ◌*◌}
+use Rattle.std.proofs.lemmas.Bool.Decides.{nat_tests}
+use Rattle.vax_form.specs.Size.{size_of}
+use Rattle.vax_form.specs.declared.instr.Width.{Width}
+use Rattle.vax_form.specs.declared.instr.Width.TheVariants as widths
+use Rattle.vax_meaning.specs.Codes.{with_codes}
+use Rattle.vax_meaning.specs.Moves.{move_zero_extended}
+use Rattle.vax_meaning.specs.Arithmetic.{give_coded}
+use Rattle.vt_words.specs.Arithmetic.{difference_of}
+use Rattle.micro_ops.specs.declared.codes.CodeSource.TheVariants.{Sub}
+use Rattle.micro_lower.specs.Rows.{ones, move_zero_extended_plan, clear_plan, move_complemented_plan, move_negated_plan, move_address_plan}
+use Rattle.micro_lower.proofs.Given.{value_coded, value_end, value_ends, coded_end_of, gives_as, result_ready}
+use Rattle.micro_lower.proofs.Overflow.{IsNarrow, some}
+use Rattle.micro_lower.proofs.Planned.{only_write, address_and_write}
+use Rattle.micro_lower.proofs.Tabled.{is_narrower}
+use Rattle.std.proofs.Common.{lit<}
+use Rattle.std.specs.Prelude.{bit_and, nat_lt, int_lt, bit_xor, not}
+use Rattle.std.proofs.lemmas.Nat.{and_le_l, and_mask}
+use Rattle.vax_form.specs.declared.instr.Base.TheVariants as bases
+use Rattle.vax_form.specs.declared.instr.Operand.TheVariants as operands
+use Rattle.vax_meaning.specs.Branches.{target, pc_after}
+use Rattle.vax_meaning.specs.Codes.{sign_of}
+use Rattle.vax_meaning.specs.Moves.{push, push_value, compare, test_value, bit_test, with_comparison}
+use Rattle.vt_words.specs.Values.{signed_value}
+use Rattle.micro_ops.specs.Leaving.{comparison_of}
+use Rattle.micro_ops.specs.Meaning.{Found}
+use Rattle.micro_ops.specs.declared.codes.CodeSource.TheVariants.{Compare, Zero}
+use Rattle.micro_ops.specs.declared.program.Exit.TheVariants as exits
+use Rattle.operand_programs.specs.Pieces.{Kept as KeptTemps}
+use Rattle.micro_lower.specs.Rows.{compare_plan, test_plan, bit_test_plan, push_long_plan, push_address_plan, low_bit_plan, jump_plan, jump_to_subroutine_plan, jump_exit, branch_exit, unless}
+use Rattle.micro_lower.specs.Plans.{Plan}
+use Rattle.micro_lower.proofs.Endings.{nowhere, pushed, closes_kept, IsReadyToGo}
+use Rattle.micro_lower.proofs.Moves.{narrow_width}
+use Rattle.micro_lower.proofs.Overflow.{flipped}
+use Rattle.micro_lower.proofs.Planned.{only_read, only_address, read_twice, after_read, after_address, after_branch, after_all}
+use Rattle.operand_programs.specs.Results.{push_program, steps_behind_push}
+use Rattle.operand_programs.specs.Specifiers.{commit_program}
+use Rattle.vax_form.specs.declared.instr.Access.TheVariants.{Read, Branch}
+use Rattle.vax_meaning.specs.Evaluation.{nothing}
+use Rattle.vax_meaning.specs.declared.evaluation.Evaluated.{Evaluated}
+use Rattle.operand_programs.specs.InOrder.{AreLeft}
+use Rattle.operand_programs.specs.Operands.{IsOfSize}
+use Rattle.micro_lower.proofs.Planned.{specifier, value}
+use Rattle.micro_lower.proofs.Tests.{room}
+use Rattle.std.specs.Prelude.{if◌then◌else◌}
+use Rattle.std.specs.Prelude.{ℤ, int_le}
+use Rattle.std.proofs.lemmas.Int.{ints}
+use Rattle.vax_form.specs.declared.instr.Access.TheVariants.{Modify}
+use Rattle.vax_meaning.specs.Branches.{goes_up, goes_down, goes_by, is_at_most, is_less, step_index, add_one_branch, subtract_one_branch, add_compare_branch}
+use Rattle.vax_meaning.specs.Codes.{with_three, finish}
+use Rattle.vt_words.specs.Arithmetic.{sum_of}
+use Rattle.vt_words.specs.Quad.{sign_extended}
+use Rattle.micro_ops.specs.Values.{bits_of, signed}
+use Rattle.micro_ops.specs.declared.codes.CodeSource.TheVariants.{Computed}
+use Rattle.micro_lower.specs.Rows.{down_test, up_test, subtract_one_plan, add_one_plan, add_compare_plan}
+use Rattle.micro_lower.proofs.Given.{replaces_as}
+use Rattle.micro_ops.specs.Meaning.{with_temp}
+use Rattle.micro_lower.proofs.Given.{carry_is}
+use Rattle.micro_lower.proofs.Ready.{ReadyFor}
+use Rattle.micro_lower.proofs.Overflow.{extended_below}
+use Rattle.micro_lower.proofs.Planned.{both, after_modify}
+
+-- ---- shapes
+pub modify_then_branch : (values : List Evaluated) (temps : Temps) (P : List Evaluated → Type 0) (size size' : Size) (a b : Operand) (to to' from' : ℕ)
+    → AreLeft (specifier Modify size a to 3 ∷ specifier Branch size' b to' from' ∷ []) values temps
+    → ((location : Location) → IsAt a location (temps 3) → IsOfSize size (temps to) → P (both location (temps to) ∷ nothing ∷ [])) → P values
+modify_then_branch values temps P size size' a b to to' from' left goes =
+    after_modify size a to 3 (specifier Branch size' b to' from' ∷ []) values temps P left (λ others left' location at fits.
+    after_branch size' b to' from' [] others temps (λ others. P (both location (temps to) ∷ others)) left' (λ none left''.
+    after_all none temps (λ none. P (both location (temps to) ∷ nothing ∷ none)) left'' (goes location at fits)))
+
+pub read_modify_branch : (values : List Evaluated) (temps : Temps) (P : List Evaluated → Type 0) (size size' size'' : Size) (a b c : Operand) (to from to' to'' from'' : ℕ)
+    → AreLeft (specifier Read size a to from ∷ specifier Modify size' b to' 3 ∷ specifier Branch size'' c to'' from'' ∷ []) values temps
+    → ((location : Location) → IsOfSize size (temps to) → IsAt b location (temps 3) → IsOfSize size' (temps to') → P (value (temps to) ∷ both location (temps to') ∷ nothing ∷ [])) → P values
+read_modify_branch values temps P size size' size'' a b c to from to' to'' from'' left goes =
+    after_read size a to from (specifier Modify size' b to' 3 ∷ specifier Branch size'' c to'' from'' ∷ []) values temps P left (λ others left' fits.
+    modify_then_branch others temps (λ others. P (value (temps to) ∷ others)) size' size'' b c to' to'' from'' left' (λ location at fits'. goes location fits at fits'))
+
+pub read_twice_modify_branch : (values : List Evaluated) (temps : Temps) (P : List Evaluated → Type 0) (size size4 : Size) (a b c d : Operand) (to from to2 from2 to3 to4 from4 : ℕ)
+    → AreLeft (specifier Read size a to from ∷ specifier Read size b to2 from2 ∷ specifier Modify size c to3 3 ∷ specifier Branch size4 d to4 from4 ∷ []) values temps
+    → ((location : Location) → IsOfSize size (temps to) → IsOfSize size (temps to2) → IsAt c location (temps 3) → IsOfSize size (temps to3) → P (value (temps to) ∷ value (temps to2) ∷ both location (temps to3) ∷ nothing ∷ [])) → P values
+read_twice_modify_branch values temps P size size4 a b c d to from to2 from2 to3 to4 from4 left goes =
+    after_read size a to from (specifier Read size b to2 from2 ∷ specifier Modify size c to3 3 ∷ specifier Branch size4 d to4 from4 ∷ []) values temps P left (λ others left' fits.
+    read_modify_branch others temps (λ others. P (value (temps to) ∷ others)) size size size4 b c d to2 from2 to3 to4 from4 left' (λ location fits' at fits''. goes location fits fits' at fits''))
+
+-- ---- conditions
+branches_by : (b : Bool) (taken other : ℕ) → (if bit b == 0 then other else taken) ≡ (if b then taken else other)
+branches_by true taken other = refl
+branches_by false taken other = refl
+
+pub not_less : (x y : ℤ) → not (int_lt x y) ≡ int_le y x
+not_less x y = grind (arith, ints)
+
+-- ---- the index
+-- N, Z and V by the index, C as it was found
+abbrev pub index_coded : VaxState → Coded → Coded
+index_coded start coded = record coded { c = carry_of start }
+
+abbrev pub index_end : Pages → Coded → (pc : ℕ) → VaxState → Tree
+index_end pages coded pc state = tree_of pages (change (with_three coded) >> finish pc) state ends_with
+
+index_ends : (pages : Pages) (start : VaxState) (coded : Coded) (pc : ℕ) (state : VaxState) → state.psw ≡ start.psw → coded_end_of pages (index_coded start coded) pc state ≡ index_end pages coded pc state
+index_ends pages start coded pc state same = rw same refl
+
+down_overflows : (x : ℕ) → x < 2 ^ 32 → (difference_of 4 x 1 false).v ≡ ((x + 2 ^ 32 - (1 + 0)) % 2 ^ 32 == 2147483647)
+unfolding difference_of
+down_overflows x lt = grind (arith, nat_tests, ints)
+
+up_overflows : (x : ℕ) → x < 2 ^ 32 → (sum_of 4 x 1 false).v ≡ ((x + 1 + 0) % 2 ^ 32 == 2147483648)
+unfolding sum_of
+up_overflows x lt = grind (arith, nat_tests, ints)
+
+by_overflows : (size : Size) (old addend : ℕ) → IsNarrow size → old < limit_of size → addend < limit_of size
+    → (sum_of (bytes_of size) old addend false).v ≡ not ((sign_extended ((old + addend + 0) % limit_of size) (bits_of size) + (2 ^ 64 - sign_extended addend (bits_of size))) % 2 ^ 64 == sign_extended old (bits_of size))
+unfolding sum_of
+by_overflows Byte old addend narrow lt lt' = grind (arith, nat_tests, ints)
+by_overflows Word old addend narrow lt lt' = grind (arith, nat_tests, ints)
+by_overflows Long old addend narrow lt lt' = grind (arith, nat_tests, ints)
+by_overflows Quad old addend narrow lt lt' = absurd narrow
+
+taken_back : (size : Size) (old addend : ℕ) → old < limit_of size → addend < limit_of size
+    → (sign_extended ((old + addend + 0) % limit_of size) (bits_of size) + (2 ^ 64 - sign_extended addend (bits_of size))) % 2 ^ 64 % limit_of size ≡ old
+taken_back Byte old addend lt lt' = grind (arith, nat_tests)
+taken_back Word old addend lt lt' = grind (arith, nat_tests)
+taken_back Long old addend lt lt' = grind (arith, nat_tests)
+taken_back Quad old addend lt lt' = grind (arith, nat_tests)
+
+-- ---- the rows
+-- what the index takes: it is in 2, with V in 3
+index_ready : (size : Size) (start : VaxState) (temps : Temps) (coded : Coded) → coded.value < limit_of size → temps 2 ≡ coded.value
+    → coded.n ≡ nat_le (limit_of size / 2) coded.value → coded.z ≡ (coded.value == 0) → temps 3 ≡ bit coded.v
+    → ReadyFor (Computed size) Kept start.psw temps (index_coded start coded)
+index_ready size start temps coded fits made n z v = (((rw made fits, rw made n, rw made z), v), carry_is start.psw)
+
+decreased : (x : ℕ) → x < 4294967296 → (x + (4294967296 - 1)) % 4294967296 ≡ (x + 4294967296 - (1 + 0)) % 4294967296
+decreased x lt = omega (arith, lt)
+
+down_goes : (or_equal : Bool) (found : Found) (temps : Temps) (r taken other : ℕ) → r < 2 ^ 32 → temps 2 ≡ r
+    → (if effect (down_test or_equal) found temps 0 == 0 then other else taken) ≡ (if goes_down or_equal r then taken else other)
+unfolding value_from
+down_goes true found temps r taken other lt made =
+    rw (made, mod-eq_of_lt lt, flipped (int_lt (signed Long r) (signed Long 0)), not_less (signed Long r) (signed Long 0)) (branches_by (is_at_most 4 0 r) taken other)
+down_goes false found temps r taken other lt made = rw (made, mod-eq_of_lt lt) (branches_by (is_less 4 0 r) taken other)
+
+down_computes : (or_equal : Bool) → list_all is_computation (down_test or_equal) ≡ true
+down_computes true = refl
+down_computes false = refl
+
+down_keeps : (or_equal : Bool) (found : Found) (temps : Temps) (temp : ℕ) → (temp == 0) ≡ false → effect (down_test or_equal) found temps temp ≡ temps temp
+down_keeps true found temps temp other = rw other refl
+down_keeps false found temps temp other = rw other refl
+
+pub subtract_one_all : (or_equal : Bool) (instr : Instr) → IsGivable (operand instr 0) Long → AllDo (operations.SubtractOneBranch or_equal) instr (subtract_one_plan or_equal instr)
+unfolding body subtract_one_branch step_index sources_of value_from difference_of
+subtract_one_all or_equal instr givable state pages thread temps values ok same left =
+    let plan = subtract_one_plan or_equal instr in
+    let found = found_at state instr.after in
+    let x = temps 0 % 2 ^ 32 in
+    let lt = low_below Long (temps 0) in
+    let index = difference_of 4 x 1 false in
+    let after = effect plan.before found temps in
+    let tested = with_temp 3 (bit (after 2 % 2 ^ 32 == 2147483647)) after in
+    let made : after 2 ≡ index.value = decreased x lt in
+    let fits : index.value < 2 ^ 32 = low_below Long _ in
+    let v : tested 3 ≡ bit index.v = ap (λ n. bit (n == 2147483647)) (mod-eq_of_lt (rw made fits) ∙ made) ∙ ap bit (sym (down_overflows x lt)) in
+    let pc = pc_after instr 1 (goes_down or_equal index.value) in
+    modify_then_branch values temps (BodyDoes (operations.SubtractOneBranch or_equal) instr plan state pages thread temps) Long Byte (operand instr 0) (operand instr 1) 0 0 1 left (λ location at was.
+    replaces_as (Computed Long) Kept state pages thread instr.after ok Long (operand instr 0) (steps_of plan.slots instr) same location (index_coded state index) after plan.behind (down_computes or_equal)
+    at givable made fits (down_keeps or_equal found tested 2 refl)
+    (index_ready Long state (effect plan.behind found after) index fits (down_keeps or_equal found tested 2 refl ∙ made) refl refl (down_keeps or_equal found tested 3 refl ∙ v)) plan.exit (lit< tt) pc
+    (down_goes or_equal found tested index.value (target (operand instr 1)) instr.after fits made)
+    (index_end pages index pc) (index_ends pages state index pc))
+
+increased : (x : ℕ) → (x + 1) % 4294967296 ≡ (x + 1 + 0) % 4294967296
+increased x = omega arith
+
+up_goes : (or_equal : Bool) (found : Found) (temps : Temps) (r limit taken other : ℕ) → r < 2 ^ 32 → temps 2 ≡ r → temps 1 % 2 ^ 32 ≡ limit
+    → (if effect (up_test or_equal) found temps 0 == 0 then other else taken) ≡ (if goes_up or_equal r limit then taken else other)
+unfolding value_from
+up_goes true found temps r limit taken other lt made is =
+    rw (is, made, mod-eq_of_lt lt, flipped (int_lt (signed Long limit) (signed Long r)), not_less (signed Long limit) (signed Long r)) (branches_by (is_at_most 4 r limit) taken other)
+up_goes false found temps r limit taken other lt made is = rw (is, made, mod-eq_of_lt lt) (branches_by (is_less 4 r limit) taken other)
+
+up_computes : (or_equal : Bool) → list_all is_computation (up_test or_equal) ≡ true
+up_computes true = refl
+up_computes false = refl
+
+up_keeps : (or_equal : Bool) (found : Found) (temps : Temps) (temp : ℕ) → (temp == 0) ≡ false → effect (up_test or_equal) found temps temp ≡ temps temp
+up_keeps true found temps temp other = rw other refl
+up_keeps false found temps temp other = rw other refl
+
+pub add_one_all : (or_equal : Bool) (instr : Instr) → IsGivable (operand instr 1) Long → AllDo (operations.AddOneBranch or_equal) instr (add_one_plan or_equal instr)
+unfolding body add_one_branch step_index sources_of value_from sum_of
+add_one_all or_equal instr givable state pages thread temps values ok same left =
+    let plan = add_one_plan or_equal instr in
+    let found = found_at state instr.after in
+    let x = temps 0 % 2 ^ 32 in
+    let lt = low_below Long (temps 0) in
+    let index = sum_of 4 x 1 false in
+    let after = effect plan.before found temps in
+    let tested = with_temp 3 (bit (after 2 % 2 ^ 32 == 2147483648)) after in
+    let made : after 2 ≡ index.value = increased x in
+    let fits : index.value < 2 ^ 32 = low_below Long _ in
+    let v : tested 3 ≡ bit index.v = ap (λ n. bit (n == 2147483648)) (mod-eq_of_lt (rw made fits) ∙ made) ∙ ap bit (sym (up_overflows x lt)) in
+    let pc = pc_after instr 2 (goes_up or_equal index.value (temps 1 % 2 ^ 32)) in
+    read_modify_branch values temps (BodyDoes (operations.AddOneBranch or_equal) instr plan state pages thread temps) Long Long Byte (operand instr 0) (operand instr 1) (operand instr 2) 1 2 0 0 1 left (λ location limit at was.
+    replaces_as (Computed Long) Kept state pages thread instr.after ok Long (operand instr 1) (steps_of plan.slots instr) same location (index_coded state index) after plan.behind (up_computes or_equal)
+    at givable made fits (up_keeps or_equal found tested 2 refl)
+    (index_ready Long state (effect plan.behind found after) index fits (up_keeps or_equal found tested 2 refl ∙ made) refl refl (up_keeps or_equal found tested 3 refl ∙ v)) plan.exit (lit< tt) pc
+    (up_goes or_equal found tested index.value (temps 1 % 2 ^ 32) (target (operand instr 2)) instr.after fits made refl)
+    (index_end pages index pc) (index_ends pages state index pc))
