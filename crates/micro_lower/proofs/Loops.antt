@@ -105,6 +105,8 @@ use Rattle.micro_ops.specs.Values.{bits_of, signed}
 use Rattle.micro_ops.specs.declared.codes.CodeSource.TheVariants.{Computed}
 use Rattle.micro_lower.specs.Rows.{down_test, up_test, subtract_one_plan, add_one_plan, add_compare_plan}
 use Rattle.micro_lower.proofs.Given.{replaces_as}
+use Rattle.std.proofs.Common.{add-zero}
+use Rattle.std.proofs.lemmas.Nat.{mod_below}
 use Rattle.micro_ops.specs.Meaning.{with_temp}
 use Rattle.micro_lower.proofs.Given.{carry_is}
 use Rattle.micro_lower.proofs.Ready.{ReadyFor}
@@ -259,4 +261,85 @@ add_one_all or_equal instr givable state pages thread temps values ok same left 
     at givable made fits (up_keeps or_equal found tested 2 refl)
     (index_ready Long state (effect plan.behind found after) index fits (up_keeps or_equal found tested 2 refl ∙ made) refl refl (up_keeps or_equal found tested 3 refl ∙ v)) plan.exit (lit< tt) pc
     (up_goes or_equal found tested index.value (temps 1 % 2 ^ 32) (target (operand instr 2)) instr.after fits made refl)
+    (index_end pages index pc) (index_ends pages state index pc))
+
+-- ---- ACB
+module _ (size : Size) (narrow : IsNarrow size) (old addend limit : ℕ) (old_fits : old < limit_of size) (addend_fits : addend < limit_of size) (limit_fits : limit < limit_of size) where
+  abbrev new : ℕ
+  new = (old + addend + 0) % limit_of size
+
+  -- the index less the addend, as a quadword
+  abbrev back : ℕ
+  back = (sign_extended (new % limit_of size) (bits_of size) % 2 ^ 64 + (2 ^ 64 - sign_extended (addend % limit_of size) (bits_of size) % 2 ^ 64)) % 2 ^ 64
+
+  extension : (x : ℕ) → x < limit_of size → sign_extended (x % limit_of size) (bits_of size) % 2 ^ 64 ≡ sign_extended x (bits_of size)
+  extension x lt = ap (λ y. sign_extended y (bits_of size) % 2 ^ 64) (mod-eq_of_lt lt) ∙ mod-eq_of_lt (extended_below size x lt)
+
+  back_is : back ≡ (sign_extended new (bits_of size) + (2 ^ 64 - sign_extended addend (bits_of size))) % 2 ^ 64
+  back_is =
+      ap (λ x. (x + (2 ^ 64 - sign_extended (addend % limit_of size) (bits_of size) % 2 ^ 64)) % 2 ^ 64) (extension new (low_below size _))
+      ∙ ap (λ y. (sign_extended new (bits_of size) + (2 ^ 64 - y)) % 2 ^ 64) (extension addend addend_fits)
+
+  back_low : back % limit_of size ≡ old
+  back_low = ap (λ x. x % limit_of size) back_is ∙ taken_back size old addend old_fits addend_fits
+
+  sum_differs_back : bit_xor (bit (back % 2 ^ 64 == sign_extended (back % limit_of size) (bits_of size) % 2 ^ 64) % 2 ^ 8) 1 ≡ bit (sum_of (bytes_of size) old addend false).v
+  sum_differs_back =
+      ap (λ x. bit_xor (bit (x == sign_extended (back % limit_of size) (bits_of size) % 2 ^ 64) % 2 ^ 8) 1) (mod-eq_of_lt (mod_below _ (2 ^ 64) (lit< tt)) ∙ back_is)
+      ∙ ap (λ x. bit_xor (bit ((sign_extended new (bits_of size) + (2 ^ 64 - sign_extended addend (bits_of size))) % 2 ^ 64 == x) % 2 ^ 8) 1)
+      (ap (λ x. sign_extended x (bits_of size) % 2 ^ 64) back_low ∙ mod-eq_of_lt (extended_below size old old_fits))
+      ∙ flipped _
+      ∙ ap bit (sym (by_overflows size old addend narrow old_fits addend_fits))
+
+selected : (neg p q : Bool) (taken other : ℕ)
+    → (if bit_xor ((if bit neg % 256 == 0 then bit p % 256 else bit q % 256) % 256) 1 == 0 then other else taken) ≡ (if (if neg then not q else not p) then taken else other)
+selected true true true taken other = refl
+selected true true false taken other = refl
+selected true false true taken other = refl
+selected true false false taken other = refl
+selected false true true taken other = refl
+selected false true false taken other = refl
+selected false false true taken other = refl
+selected false false false taken other = refl
+
+zero_low : (size : Size) → 0 % limit_of size ≡ 0
+zero_low Byte = refl
+zero_low Word = refl
+zero_low Long = refl
+zero_low Quad = refl
+
+by_goes : (size : Size) (found : Found) (temps : Temps) (instr : Instr) (width : Width) (r taken other : ℕ) → size_of width ≡ size → r < limit_of size → temps 2 ≡ r
+    → (if effect (add_compare_plan width instr).behind found temps 0 == 0 then other else taken)
+    ≡ (if goes_by (bytes_of size) (temps 1 % limit_of size) r (temps 0 % limit_of size) then taken else other)
+unfolding value_from
+by_goes size found temps instr width r taken other is lt made =
+    let limit = temps 0 % limit_of size in
+    let addend = temps 1 % limit_of size in
+    let p = int_lt (signed size limit) (signed size r) in
+    let q = int_lt (signed size r) (signed size limit) in
+    let neg = int_lt (signed size addend) (signed size 0) in
+    rw (is, made, mod-eq_of_lt lt, zero_low size)
+    (selected neg p q taken other ∙ rw (not_less (signed size limit) (signed size r), not_less (signed size r) (signed size limit)) refl)
+
+pub add_compare_all : (width : Width) (instr : Instr) → IsGivable (operand instr 2) (size_of width) → AllDo (operations.AddCompareBranch width) instr (add_compare_plan width instr)
+unfolding body add_compare_branch step_index sources_of value_from sum_of
+add_compare_all width instr givable state pages thread temps values ok same left =
+    let size = size_of width in
+    let plan = add_compare_plan width instr in
+    let found = found_at state instr.after in
+    let old = temps 2 % limit_of size in
+    let addend = temps 1 % limit_of size in
+    let index = sum_of (bytes_of size) old addend false in
+    let after = effect plan.before found temps in
+    let made : after 2 ≡ index.value = ap (λ n. n % limit_of size) (sym (add-zero (old + addend))) in
+    let fits : index.value < limit_of size = low_below size _ in
+    let pc = pc_after instr 3 (goes_by (bytes_of size) addend index.value (temps 0 % limit_of size)) in
+    read_twice_modify_branch values temps (BodyDoes (operations.AddCompareBranch width) instr plan state pages thread temps) size Word (operand instr 0) (operand instr 1) (operand instr 2) (operand instr 3) 0 2 1 2 2 0 1 left
+    (λ location limit addend_fits at was.
+    let made_of : after 2 ≡ (old + temps 1 + 0) % limit_of size = made ∙ ap (λ n. (old + n + 0) % limit_of size) (mod-eq_of_lt addend_fits) in
+    let v : effect plan.behind found after 3 ≡ bit index.v =
+    rw made_of (sum_differs_back size (narrow_width width) old (temps 1) (temps 0 % limit_of size) (low_below size _) addend_fits (low_below size _) ∙ ap (λ n. bit (sum_of (bytes_of size) old n false).v) (sym (mod-eq_of_lt addend_fits))) in
+    replaces_as (Computed size) Kept state pages thread instr.after ok size (operand instr 2) (steps_of plan.slots instr) same location (index_coded state index) after plan.behind refl
+    at givable made fits refl (index_ready size state (effect plan.behind found after) index fits made refl refl v) plan.exit (lit< tt) pc
+    (by_goes size found after instr width index.value (target (operand instr 3)) instr.after refl fits made)
     (index_end pages index pc) (index_ends pages state index pc))
