@@ -125,8 +125,7 @@ pub fn put_operand(
     specifier: Specifier,
     steps: &mut Steps,
 ) -> Result<(), WantOfMemory>
-    requires placed { IsPlaced specifier }
-    ensures evaluates { EvaluatesOne specifier steps.old (operand_program specifier steps.old) }
+    ensures evaluates { IsPlaced specifier → EvaluatesOne specifier steps.old (operand_program specifier steps.old) }
     ensures program { OnOk result (program.new.items ≡ program.old.items ++ operand_program specifier steps.old) }
     ensures steps { OnOk result (steps.new ≡ steps_behind_specifier specifier steps.old) }
 {

@@ -244,9 +244,7 @@ pub fn put_finish(
     steps: &Steps,
     from: u8,
 ) -> Result<(), WantOfMemory>
-    requires from { from < 4 }
-    requires register { IsGivable operand size }
-    ensures finishes { Finishes operand size steps.now from (finish_program operand size steps.now from) }
+    ensures finishes { from < 4 → IsGivable operand size → Finishes operand size steps.now from (finish_program operand size steps.now from) }
     ensures program { OnOk result (program.new.items ≡ program.old.items ++ finish_program operand size steps.now from) }
 {
     put_registers(program, operand, size, steps, from).map_err(|_| WantOfMemory)
@@ -274,8 +272,7 @@ pub fn put_push(
     place: u8,
     from: u8,
 ) -> Result<(), WantOfMemory>
-    requires { (from == place) ≡ false }
-    ensures pushes { Pushes steps.old place from (push_program steps.old place from) }
+    ensures pushes { (from == place) ≡ false → Pushes steps.old place from (push_program steps.old place from) }
     ensures program { OnOk result (program.new.items ≡ program.old.items ++ push_program steps.old place from) }
     ensures steps { OnOk result (steps.new ≡ steps_behind_push steps.old) }
 {

@@ -3,4 +3,4 @@ use Rattle.operand_programs.proofs.Evaluating.{evaluates_one}
 use Rattle.operand_programs.proofs.operands.put_operand.Goals as goal
 
 pub returns-clause-evaluates : goal.returns-clause-evaluates
-returns-clause-evaluates c = evaluates_one c.args.specifier c.args.steps.now c.requires.placed
+returns-clause-evaluates c placed = evaluates_one c.args.specifier c.args.steps.now placed
