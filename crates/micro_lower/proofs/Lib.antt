@@ -7,11 +7,11 @@ pub mod Ready
 pub mod Endings
 pub mod Slots
 pub mod Planned
-pub mod Moves
+pub mod MoveRows
 pub mod Given
 pub mod Tabled
 pub mod Fitting
-pub mod Binary
-pub mod Tests
-pub mod Jumps
-pub mod Loops
+pub mod BinaryRows
+pub mod TestRows
+pub mod JumpRows
+pub mod LoopRows

@@ -22,14 +22,10 @@ use Rattle.operand_programs.specs.Operands.{IsFor, IsPlaced}
 use Rattle.operand_programs.specs.Pieces.{IsLong}
 use Rattle.operand_programs.specs.Results.{IsGivable}
 use Rattle.operand_programs.specs.declared.operands.Specifier.{Specifier}
+use Rattle.micro_lower.specs.Lowering.{IsLongOperand}
 use Rattle.micro_lower.specs.Plans.{specifiers_from}
 use Rattle.micro_lower.specs.declared.plans.Slot.{Slot}
 use Rattle.micro_lower.proofs.Spelled.{Given, given, with_operands}
-
--- an address that the code has is a longword
-abbrev pub IsLongOperand : Operand → Type 0
-IsLongOperand (operands.Place base index) = IsLong base
-IsLongOperand operand = Unit {0}
 
 -- it can be used so, and given a value of that size
 abbrev pub Fits : Access → Size → Operand → Type 0

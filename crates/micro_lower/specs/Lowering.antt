@@ -4,9 +4,12 @@ use Rattle.std.specs.Prelude.{◌≡◌, ℕ, true, List}
 use Rattle.vax_form.specs.State.{IsState}
 use Rattle.vax_form.specs.Tree.{Same}
 use Rattle.vax_form.specs.declared.instr.Instr.{Instr}
+use Rattle.vax_form.specs.declared.instr.Operand.{Operand}
+use Rattle.vax_form.specs.declared.instr.Operand.TheVariants as operands
 use Rattle.vax_form.specs.declared.operation.Operation.{Operation}
 use Rattle.vax_form.specs.declared.pages.Pages.{Pages}
 use Rattle.vax_form.specs.declared.state.VaxState.{VaxState}
+use Rattle.vax_meaning.specs.Evaluation.{operand}
 use Rattle.vax_meaning.specs.Instructions.{tree_for}
 use Rattle.micro_ops.specs.Fits.{fits}
 use Rattle.micro_ops.specs.Leaving.{CodesAgree}
@@ -14,7 +17,7 @@ use Rattle.micro_ops.specs.Meaning.{program_tree}
 use Rattle.micro_ops.specs.Sources.{sources_of}
 use Rattle.micro_ops.specs.declared.codes.CodeSources.{CodeSources}
 use Rattle.micro_ops.specs.declared.program.Micro.{Micro}
-use Rattle.operand_programs.specs.Pieces.{service}
+use Rattle.operand_programs.specs.Pieces.{service, IsLong}
 
 -- the program does what the instruction does, from every state
 abbrev pub Means : Instr → List Micro → Type 0
@@ -30,3 +33,12 @@ pub record Lowers (operation : Operation) (instr : Instr) (program : List Micro)
   pub means : Means instr program
   pub holds : Holds (sources_of operation) instr program
   pub fits : fits (sources_of operation) program ≡ true
+
+-- an address that the code has is a longword
+abbrev pub IsLongOperand : Operand → Type 0
+IsLongOperand (operands.Place base index) = IsLong base
+IsLongOperand operand = Unit {0}
+
+-- so are all addresses in the operands of an instruction with at most four
+abbrev pub AreLongOperands : Instr → Type 0
+AreLongOperands instr = IsLongOperand (operand instr 0) × IsLongOperand (operand instr 1) × IsLongOperand (operand instr 2) × IsLongOperand (operand instr 3)

@@ -17,7 +17,7 @@ use Rattle.micro_ops.specs.declared.program.MicroOp.{MicroOp}
 use Rattle.micro_ops.specs.declared.program.MicroOp.TheVariants as ops
 use Rattle.operand_programs.specs.Specifiers.{commit_program}
 use Rattle.operand_programs.specs.InOrder.{operands_program, steps_behind_all, no_steps}
-use Rattle.operand_programs.specs.Results.{result_program, replacement_program, push_program, finish_program, steps_behind_push, IsGivable}
+use Rattle.operand_programs.specs.Results.{result_program, replacement_program, push_program, finish_program, steps_behind_push}
 use Rattle.operand_programs.specs.declared.operands.Specifier.{Specifier}
 use Rattle.micro_lower.specs.declared.plans.Plan.{Plan as PlanValue}
 use Rattle.micro_lower.specs.declared.plans.Slot.{Slot}
@@ -66,12 +66,6 @@ abbrev pub end_program : Target → (steps : List ℕ) → List Micro
 end_program (Result operand size) steps = finish_program operand size steps 2
 end_program (Replacement operand size) steps = finish_program operand size steps 2
 end_program target steps = commit_program 0 steps
-
--- a quadword in registers has a next one
-abbrev pub IsGiven : Target → Type 0
-IsGiven (Result operand size) = IsGivable operand size
-IsGiven (Replacement operand size) = IsGivable operand size
-IsGiven target = Unit {0}
 
 -- ---- condition codes
 -- a computation of one argument

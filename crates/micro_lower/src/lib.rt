@@ -5,7 +5,10 @@
 mod branches;
 mod codes;
 mod micros;
+mod moves;
 mod plans;
+mod ranges;
+mod rows;
 
 pub use branches::lower_operation;
 

@@ -1,9 +1,8 @@
 // The plan of a program: the operands in order, what is computed before the result is written and behind that, where the
 // result goes, and the exit.
 ghost use Rattle.std.specs.Prelude.{◌≡◌, ◌≤◌, ◌++◌, ◌∷◌, [], IfOk, OnOk, length};
-ghost use Rattle.operand_programs.specs.InOrder.{operands_program, steps_behind_all, no_steps, ArePlaced};
-ghost use Rattle.operand_programs.specs.Results.{IsGivable, steps_behind_push};
-ghost use Rattle.micro_lower.specs.Plans.{codes_program, specifiers_from, write_program, end_program, program_of, plan_of, steps_behind_target, IsGiven};
+ghost use Rattle.operand_programs.specs.InOrder.{operands_program, steps_behind_all, no_steps};
+ghost use Rattle.micro_lower.specs.Plans.{codes_program, specifiers_from, write_program, end_program, program_of, plan_of, steps_behind_target};
 
 use crate::codes::put_codes;
 use micro_ops::{CodeSources, Exit, Micro};
@@ -57,8 +56,7 @@ fn put_operands(
     instr: &Instr,
     steps: &mut Steps,
 ) -> Result<(), WantOfMemory>
-    requires few { length slots.now ≤ 6 }
-    requires placed { ArePlaced (specifiers_from 0 slots.now instr.now) }
+    requires { length slots.now ≤ 6 }
     ensures program { OnOk result (program.new.items ≡ program.old.items ++ operands_program (specifiers_from 0 slots.now instr.now) steps.old) }
     ensures steps { OnOk result (steps.new ≡ steps_behind_all (specifiers_from 0 slots.now instr.now) steps.old) }
 {
@@ -102,7 +100,6 @@ fn put_target(
 
 /// Commits what the specifiers added, and a result in registers.
 fn put_end(program: &mut Vec<Micro>, target: Target, steps: &Steps) -> Result<(), WantOfMemory>
-    requires { IsGiven target }
     ensures { OnOk result (program.new.items ≡ program.old.items ++ end_program target steps.now) }
 {
     match target {
@@ -136,9 +133,7 @@ pub(crate) fn assemble(
     plan: Plan<'_>,
     instr: &Instr,
 ) -> Result<Vec<Micro>, WantOfMemory>
-    requires few { length plan.slots.now ≤ 6 }
-    requires placed { ArePlaced (specifiers_from 0 plan.slots.now instr.now) }
-    requires given { IsGiven plan.target }
+    requires { length plan.slots.now ≤ 6 }
     ensures { IfOk result (λ p. p.items ≡ program_of codes (plan_of plan.entry) instr.now) }
 {
     let mut program = Vec::new(alloc);

@@ -81,7 +81,7 @@ use Rattle.operand_programs.specs.Pieces.{Kept as KeptTemps}
 use Rattle.micro_lower.specs.Rows.{compare_plan, test_plan, bit_test_plan, push_long_plan, push_address_plan, low_bit_plan, jump_plan, jump_to_subroutine_plan, jump_exit, branch_exit, unless}
 use Rattle.micro_lower.specs.Plans.{Plan}
 use Rattle.micro_lower.proofs.Endings.{nowhere, pushed, closes_kept, IsReadyToGo}
-use Rattle.micro_lower.proofs.Moves.{narrow_width}
+use Rattle.micro_lower.proofs.MoveRows.{narrow_width}
 use Rattle.micro_lower.proofs.Overflow.{flipped}
 use Rattle.micro_lower.proofs.Planned.{only_read, only_address, read_twice, after_read, after_address, after_branch, after_all}
 use Rattle.operand_programs.specs.Results.{push_program, steps_behind_push}
@@ -92,7 +92,7 @@ use Rattle.vax_meaning.specs.declared.evaluation.Evaluated.{Evaluated}
 use Rattle.operand_programs.specs.InOrder.{AreLeft}
 use Rattle.operand_programs.specs.Operands.{IsOfSize}
 use Rattle.micro_lower.proofs.Planned.{specifier, value}
-use Rattle.micro_lower.proofs.Tests.{room}
+use Rattle.micro_lower.proofs.TestRows.{room}
 use Rattle.std.specs.Prelude.{if◌then◌else◌}
 
 -- ---- branches

@@ -79,7 +79,7 @@ use Rattle.micro_ops.specs.declared.codes.CodeSource.TheVariants.{Add, Computed,
 use Rattle.micro_lower.specs.Rows.{micro_of, behind_binary, convert_plan, two_operands_plan, three_operands_plan, by_one_plan}
 use Rattle.micro_lower.proofs.Fitting.{does_differ, signed_wide, signed_small, low_of, value_below, product_wide, product_small, product_low}
 use Rattle.micro_lower.proofs.Given.{replaces_as}
-use Rattle.micro_lower.proofs.Moves.{narrow_width}
+use Rattle.micro_lower.proofs.MoveRows.{narrow_width}
 use Rattle.micro_lower.proofs.Planned.{only_modify, read_and_modify, read_twice_and_write}
 use Rattle.micro_lower.proofs.Ready.{ReadyFor}
 use Rattle.vax_meaning.specs.Arithmetic.{finish_binary, two_operands, three_operands, replace}

@@ -1,0 +1,109 @@
+// What rows of the table are made of: slots of operands, and computations.
+ghost use Rattle.std.specs.Prelude.{◌≡◌, ◌<◌};
+ghost use Rattle.vax_meaning.specs.Branches.{target};
+ghost use Rattle.vax_meaning.specs.Evaluation.{operand};
+ghost use Rattle.micro_lower.specs.Rows.{slot, read, written, modified, addressed, displaced, inverted, overflow_by, branch_exit};
+
+use crate::micros::{binary, unary};
+use crate::plans::Slot;
+use micro_ops::{Arg, Exit, Micro, MicroOp};
+use vax_form::{Access, Instr, Operand, Size};
+
+fn slot(access: Access, size: Size, to: u8, place: u8) -> Slot
+    ensures { result ≡ slot access size to place }
+{
+    Slot {
+        access,
+        size,
+        to,
+        place,
+    }
+}
+
+pub(crate) fn read(size: Size, to: u8, place: u8) -> Slot
+    ensures { result ≡ read size to place }
+{
+    slot(Access::Read, size, to, place)
+}
+
+/// The address goes into 3, and is found through 2.
+pub(crate) fn written(size: Size) -> Slot
+    ensures { result ≡ written size }
+{
+    slot(Access::Write, size, 2, 3)
+}
+
+/// The value goes into that temporary, the address into 3.
+pub(crate) fn modified(size: Size, to: u8) -> Slot
+    ensures { result ≡ modified size to }
+{
+    slot(Access::Modify, size, to, 3)
+}
+
+/// The address goes into 0.
+pub(crate) fn addressed(size: Size) -> Slot
+    ensures { result ≡ addressed size }
+{
+    slot(Access::Address, size, 0, 1)
+}
+
+/// A displacement is in the instruction, and takes no temporary.
+pub(crate) fn displaced(size: Size) -> Slot
+    ensures { result ≡ displaced size }
+{
+    slot(Access::Branch, size, 0, 1)
+}
+
+/// 1 for 0, and 0 for 1.
+pub(crate) fn inverted(temp: u8) -> Micro
+    ensures { result ≡ inverted temp }
+{
+    binary(
+        temp,
+        MicroOp::Xor,
+        Size::Byte,
+        Arg::Temp(temp),
+        Arg::Const(1),
+    )
+}
+
+/// V into 3: a number that was extended into 4 is not the result extended.
+pub(crate) fn overflow_by(size: Size) -> [Micro; 3]
+    ensures { result ≡ overflow_by size }
+{
+    [
+        unary(5, MicroOp::SignExtend, size, Arg::Temp(2)),
+        binary(3, MicroOp::Equal, Size::Quad, Arg::Temp(4), Arg::Temp(5)),
+        inverted(3),
+    ]
+}
+
+/// The operand of that number, 0 to 5.
+pub(crate) fn operand(instr: &Instr, number: usize) -> Operand
+    requires { number < 6 }
+    ensures { result ≡ operand instr.now number }
+{
+    instr.operands[number]
+}
+
+/// Where a branch goes.
+fn target(operand: Operand) -> u32
+    ensures { result ≡ target operand }
+{
+    match operand {
+        Operand::Target(address) => address,
+        _ => 0,
+    }
+}
+
+/// A branch, taken where 0 is not 0.
+pub(crate) fn branch_exit(instr: &Instr, number: usize) -> Exit
+    requires { number < 6 }
+    ensures { result ≡ branch_exit instr.now number }
+{
+    Exit::Choice {
+        when: 0,
+        taken: target(operand(instr, number)),
+        other: instr.after,
+    }
+}
