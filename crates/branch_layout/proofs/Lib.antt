@@ -4,3 +4,4 @@ pub mod Filling
 pub mod Built
 pub mod Leads
 pub mod Laid
+pub mod Value

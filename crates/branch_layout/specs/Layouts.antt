@@ -1,13 +1,13 @@
 -- Blocks in their places, one behind the other.
-use Rattle.std.specs.Prelude.{◌≡◌, ℕ, ◌<◌, ◌≤◌, ◌+◌, All, Bool, List, [], ◌∷◌, length, map, slice_get, sum_by, Some}
-use Rattle.std.specs.List.{AllAdjacentBelow}
-use Rattle.alpha_encode.specs.Words.{IsEncodable}
+use Rattle.std.specs.Prelude.{◌≡◌, ℕ, ◌<◌, ◌≤◌, ◌+◌, ◌++◌, All, Bool, List, [], ◌∷◌, length, map, slice_get, sum_by, Some, take, drop}
+use Rattle.std.specs.List.{AllAdjacentBelow, fold}
+use Rattle.alpha_encode.specs.Words.{IsEncodable, word_of}
 use Rattle.alpha_encode.specs.declared.instr.AlphaInstr.{AlphaInstr}
 use Rattle.alpha_meaning.specs.Pieces.{HasAt}
 use Rattle.address_map.specs.Pairs.{Pair, AllRise, word_at}
 use Rattle.exception_records.specs.Blocks.{BlockValue}
 use Rattle.exception_records.specs.Points.{Entry, WordsRise}
-use Rattle.block_law.specs.Blocks.{Exit, IsBlockOf, IsLike, IsLaid}
+use Rattle.block_law.specs.Blocks.{Exit, exit_words, IsBlockOf, IsLike, IsLaid}
 use Rattle.block_law.specs.Translations.{Code, fetch_of, most_words}
 use Rattle.branch_layout.specs.Exits.{exit_code}
 
@@ -40,6 +40,32 @@ words_of blocks = sum_by (λ block. length block.1.words) blocks
 abbrev pub shifted : (first : ℕ) → List Entry → List Entry
 shifted first points = map (λ entry. (first + entry.0, entry.1)) points
 
+-- ---- what is made
+-- words with those of an exit in place of its own
+abbrev pub with_exit : (words : List AlphaInstr) → (start : ℕ) → (code : List AlphaInstr) → List AlphaInstr
+with_exit words start code = take start words ++ (code ++ drop (start + exit_words) words)
+
+-- with those of the exit of a block that begins at that word of the code
+abbrev pub fill_exit : List Pair → (first : ℕ) → List AlphaInstr → Exit → List AlphaInstr
+fill_exit pairs first words exit = with_exit words exit.0 (exit_code (word_at pairs exit.1) (first + exit.0) exit.1)
+
+abbrev pub filled_words : List Pair → (first : ℕ) → BlockValue → List AlphaInstr
+filled_words pairs first block = fold (fill_exit pairs first) block.words block.exits
+
+-- the words of the blocks one behind the other, from that word of the code on
+abbrev pub laid_words : List Pair → (first : ℕ) → List Placed → List ℕ
+laid_words pairs first [] = []
+laid_words pairs first (block ∷ blocks) = map word_of (filled_words pairs first block.1) ++ laid_words pairs (first + length block.1.words) blocks
+
+abbrev pub laid_points : (first : ℕ) → List Placed → List Entry
+laid_points first [] = []
+laid_points first (block ∷ blocks) = shifted first block.1.points ++ laid_points (first + length block.1.words) blocks
+
+-- the code of the blocks
+unfoldable pub layout : List Placed → Code
+layout blocks = record { words = laid_words (places 0 blocks) 0 blocks; map = places 0 blocks; points = laid_points 0 blocks }
+
+-- ---- what is promised
 -- the words of a block that begins at that word of the code, with those of its exits filled in
 pub record IsFilled (pairs : List Pair) (first : ℕ) (block : BlockValue) (words : List AlphaInstr) : Type 0 where
   pub like : IsLike block words

@@ -4,7 +4,7 @@ ghost use Rattle.alpha_encode.specs.Words.{IsEncodable, word_of};
 ghost use Rattle.address_map.specs.Pairs.{word_at};
 ghost use Rattle.block_law.specs.Tidy.{block_words};
 ghost use Rattle.block_law.specs.Translations.{Code, most_words};
-ghost use Rattle.branch_layout.specs.Layouts.{AddressesRise, AreBlocks, IsFilled, IsLayout, IsPlaced, places, shifted};
+ghost use Rattle.branch_layout.specs.Layouts.{AddressesRise, AreBlocks, IsFilled, IsLayout, IsPlaced, filled_words, layout, places, shifted};
 
 use crate::exits::{EXIT_WORDS, exit_code};
 use address_map::{AddressMap, build};
@@ -46,7 +46,8 @@ fn filled(
     requires within { first + length block.now.words ≤ most_words }
     requires targets { (address : ℕ) → IfSome (word_at map.now address) (λ target. target ≤ most_words) }
     requires block { (address : ℕ) × IsPlaced (address, block.now) }
-    ensures { IfOk result (λ words. IsFilled map.now first block.now words.items) }
+    ensures filled { IfOk result (λ words. IsFilled map.now first block.now words.items) }
+    ensures value { IfOk result (λ words. words.items ≡ filled_words map.now first block.now) }
 {
     let mut words = block.words.clone()?;
     for (word, address) in &block.exits {
@@ -90,7 +91,8 @@ fn code(
     requires rising { AddressesRise blocks.now }
     requires blocks { AreBlocks blocks.now }
     requires places { map.now ≡ places 0 blocks.now }
-    ensures { IfOk result (λ code. IsLayout blocks.now (record { words = code.0.items; map = map.now; points = code.1.items })) }
+    ensures laid { IfOk result (λ code. IsLayout blocks.now (record { words = code.0.items; map = map.now; points = code.1.items })) }
+    ensures value { IfOk result (λ code. record { words = code.0.items; map = map.now; points = code.1.items } ≡ layout blocks.now) }
 {
     let mut words = Vec::new(alloc);
     let mut points = Vec::new(alloc);
@@ -113,6 +115,8 @@ pub fn lay_out(
     requires rising { AddressesRise blocks.now }
     requires blocks { AreBlocks blocks.now }
     ensures laid { IfOk result (λ code. IsLayout blocks.now (record { words = code.0.items; map = code.1.items; points = code.2.items })) }
+    // They are a function of the blocks.
+    ensures value { IfOk result (λ code. record { words = code.0.items; map = code.1.items; points = code.2.items } ≡ layout blocks.now) }
 {
     let places = places(alloc, blocks).map_err(|_| WantOfMemory)?;
     let map = build(alloc, places.as_slice()).map_err(|_| WantOfMemory)?;
