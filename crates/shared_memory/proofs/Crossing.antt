@@ -3,6 +3,7 @@ use denote.Param.Send.{IsSend, IsSync, sendable}
 use Rattle.std.proofs.Crossing.{crosses, send, sync, frees}
 use Rattle.atomic_table.proofs.shared.Seat.TheSendSync as Seat
 use Rattle.atomic_table.proofs.owned.Table.TheSendSync as Table
+use Rattle.crossbeam_utils.proofs.sync.event_count.EventCount.TheSendSync as EventCount
 use Rattle.memory_core.proofs.entry.Entry.TheSendSync as Entry
 use Rattle.memory_core.proofs.reservation.Reservation.TheSendSync as Reservation
 use Rattle.vax_form.proofs.pages.PageRange.TheSendSync as PageRange
@@ -21,4 +22,4 @@ pub pass_send : IsSend Pass.the_row
 pass_send = search (Seat.the_send, slot_send, sendable) depth 20
 
 pub memory_sync : IsSync SharedMemory.the_row
-memory_sync = search (Table.the_field_sync, slot_send, send, sync, frees, sendable, crosses) depth 20
+memory_sync = search (Table.the_field_sync, EventCount.the_sync, slot_send, send, sync, frees, sendable, crosses) depth 20

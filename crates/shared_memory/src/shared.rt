@@ -10,6 +10,7 @@ use crate::plays::{Choose, End, Make, Order};
 use crate::steps::{enter, look, take_out, win};
 use crate::view::View;
 use atomic_table::{Refused, Table};
+use crossbeam_utils::sync::EventCount;
 use memory_core::{MemState, Reply, Request};
 use std::alloc::{AllocError, Global};
 use std::snapshot::Snapshot;
@@ -20,6 +21,7 @@ use vax_form::WantOfMemory;
 #[derive(Drop)]
 pub struct SharedMemory {
     table: Table<Option<MemState>, View, Snapshot<MemState>, Order, Global>,
+    waiting: EventCount,
     ghost sized: { (table.shared.table_id.words ≡ 2) × (table.shared.table_id.slots ≡ 1) },
 }
 
@@ -65,12 +67,12 @@ impl SharedMemory {
         ensures own { own_of pass.new ≡ own request.now.processor (seen_of pass.new) }
     {
         let shared = &self.table.shared;
-        win(rt, shared, &mut pass.seat);
+        win(rt, shared, &self.waiting, &mut pass.seat);
         let mut state = take_out(shared, &mut pass.seat);
         let reply = state.access(request);
         match reply {
-            Reply::Made { .. } => enter(shared, &mut pass.seat, state),
-            Reply::Full => look(shared, &mut pass.seat, state),
+            Reply::Made { .. } => enter(shared, &self.waiting, &mut pass.seat, state),
+            Reply::Full => look(shared, &self.waiting, &mut pass.seat, state),
         }
         reply
     }
@@ -93,7 +95,7 @@ impl SharedMemory {
         requires joined { length (given_of keeper) ≡ length (ended_of keeper) }
         ensures { IsClosed (start_of self) (view_of keeper) result }
     {
-        let SharedMemory { table } = self;
+        let SharedMemory { table, waiting: _ } = self;
         let Pass { seat } = keeper;
         let mut closed = table.close_with(seat);
         let whole = closed.take(0);
@@ -109,7 +111,10 @@ impl SharedMemory {
         let mut slots = Vec::with_capacity(alloc, 1)?;
         slots.push_reserved(Some(state));
         match Table::new(alloc, &[0, 0], slots, &start) {
-            Ok((table, seat)) => Ok((SharedMemory { table }, Pass { seat })),
+            Ok((table, seat)) => {
+                let waiting = EventCount::new();
+                Ok((SharedMemory { table, waiting }, Pass { seat }))
+            }
             Err(Refused { slots: _ }) => Err(AllocError),
         }
     }

@@ -1,5 +1,5 @@
 // The steps of an access on the table.
-ghost use Rattle.std.specs.Prelude.{◌≡◌, ◌∷◌, ◌++◌, [], Some, None};
+ghost use Rattle.std.specs.Prelude.{◌≡◌, ◌∷◌, ◌++◌, [], Some, None, true, false};
 ghost use Rattle.memory_core.specs.declared.entry.Entry.{Entry};
 ghost use Rattle.memory_core.specs.Contents.{Contents};
 ghost use Rattle.shared_memory.specs.Steps.{Won, HasTurn, entered, looked, given_back};
@@ -9,6 +9,7 @@ ghost use Rattle.shared_memory.specs.Views.{IsPass};
 use crate::plays::{Enter, GiveBack, Look, Order, Win};
 use crate::view::View;
 use atomic_table::Seat;
+use crossbeam_utils::sync::EventCount;
 use memory_core::MemState;
 use std::snapshot::Snapshot;
 use std::sync::Wait;
@@ -17,16 +18,30 @@ pub type Shared = atomic_table::Shared<Option<MemState>, View, Snapshot<MemState
 
 pub type Place = Seat<Option<MemState>, View>;
 
-// Takes the turn, and the slot with it.
-pub fn win<R: Wait>(rt: &R, shared: &Shared, seat: &mut Place)
+// Takes the turn where it is free, and the slot with it.
+fn try_win(shared: &Shared, seat: &mut Place) -> bool
+    requires { (seat.old.table_id ≡ shared.now.table_id) × (shared.now.table_id.words ≡ 2) × (shared.now.table_id.slots ≡ 1) × IsPass shared.now.key.value seat.old.me.0.number seat.old.me.0 }
+    ensures table { seat.new.table_id ≡ seat.old.table_id }
+    ensures won { result ≡ true → Won seat.old.me seat.new.me }
+    ensures same { result ≡ false → seat.new.me ≡ seat.old.me }
+{
+    shared.compare_exchange::<Win>(seat, 1, 0, 1) == 0
+}
+
+// Takes the turn, and the slot with it. A waiter is counted before it tries once more.
+pub fn win<R: Wait>(rt: &R, shared: &Shared, waiting: &EventCount, seat: &mut Place)
     requires { (seat.old.table_id ≡ shared.now.table_id) × (shared.now.table_id.words ≡ 2) × (shared.now.table_id.slots ≡ 1) × IsPass shared.now.key.value seat.old.me.0.number seat.old.me.0 }
     ensures { (seat.new.table_id ≡ seat.old.table_id) × Won seat.old.me seat.new.me }
 {
     for _ in rt.forever() {
-        if shared.compare_exchange::<Win>(seat, 1, 0, 1) == 0 {
+        if try_win(shared, seat) {
             return;
         }
-        shared.park(rt, 1, 1);
+        let key = waiting.prepare_wait();
+        if try_win(shared, seat) {
+            return;
+        }
+        key.wait(rt);
     }
     unreachable!()
 }
@@ -41,7 +56,7 @@ pub fn take_out(shared: &Shared, seat: &mut Place) -> MemState
 }
 
 // Puts the memory into the slot, and gives the turn back.
-pub fn give_back(shared: &Shared, seat: &mut Place, whole: Option<MemState>)
+pub fn give_back(shared: &Shared, waiting: &EventCount, seat: &mut Place, whole: Option<MemState>)
     requires table { (seat.old.table_id ≡ shared.now.table_id) × (shared.now.table_id.words ≡ 2) × (shared.now.table_id.slots ≡ 1) }
     requires turn { HasTurn seat.old.me }
     requires state { whole ≡ Some (behind shared.now.key.value seat.old.me.0.found) }
@@ -49,11 +64,11 @@ pub fn give_back(shared: &Shared, seat: &mut Place, whole: Option<MemState>)
 {
     drop(shared.exchange(seat, 0, whole));
     shared.store::<GiveBack>(seat, 1, 0);
-    shared.wake_one(1);
+    waiting.notify_one();
 }
 
 // Enters the last entry of the memory, which has one more than was found.
-pub fn enter(shared: &Shared, seat: &mut Place, state: MemState)
+pub fn enter(shared: &Shared, waiting: &EventCount, seat: &mut Place, state: MemState)
     requires table { (seat.old.table_id ≡ shared.now.table_id) × (shared.now.table_id.words ≡ 2) × (shared.now.table_id.slots ≡ 1) }
     requires turn { HasTurn seat.old.me }
     requires entry { (e : Entry) × (e.processor ≡ seat.old.me.0.number) × (state ≡ behind shared.now.key.value (seat.old.me.0.found ++ e ∷ [])) × IsLegal shared.now.key.value.set_up state.history }
@@ -62,16 +77,16 @@ pub fn enter(shared: &Shared, seat: &mut Place, state: MemState)
     let count = state.history().len() as u64;
     let whole = Some(state);
     shared.compare_exchange_with::<Enter>(seat, 0, count - 1, count, &whole);
-    give_back(shared, seat, whole);
+    give_back(shared, waiting, seat, whole);
 }
 
 // Sees that the history has its limit.
-pub fn look(shared: &Shared, seat: &mut Place, state: MemState)
+pub fn look(shared: &Shared, waiting: &EventCount, seat: &mut Place, state: MemState)
     requires table { (seat.old.table_id ≡ shared.now.table_id) × (shared.now.table_id.words ≡ 2) × (shared.now.table_id.slots ≡ 1) }
     requires turn { HasTurn seat.old.me }
     requires state { state ≡ behind shared.now.key.value seat.old.me.0.found }
     ensures { (seat.new.table_id ≡ seat.old.table_id) × (seat.new.me ≡ (given_back (looked seat.old.me.0), [])) }
 {
     shared.load::<Look>(seat, 0);
-    give_back(shared, seat, Some(state));
+    give_back(shared, waiting, seat, Some(state));
 }
