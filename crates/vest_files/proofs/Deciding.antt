@@ -1,0 +1,186 @@
+-- What stages found, or why they stop, beside what told files decide.
+use Rattle.std.proofs.Common.{◌≡◌, ◌<◌, ◌≤◌, ◌⊎◌, ℕ, Bool, true, false, List, [], length, nat_lt, Option, Some, None, Result, Ok, Err, refl, sym, ap, subst, inl, inr, arith}
+use Rattle.std.specs.Prelude.{IfErr, IfOk, MatchBool, MatchResult}
+use Rattle.std.proofs.lemmas.Result.{IfErr-weaker, IfOk-weaker}
+use Rattle.std.proofs.lemmas.Bool.Decides.{nat_tests}
+use Rattle.vt_outside.specs.Desk.{Files, DeskMeaning, IsLonger}
+use Rattle.image_file.specs.Values.{ImageValue}
+use Rattle.image_file.specs.Reading.{image_of}
+use Rattle.image_file.specs.declared.refusal.ImageRefusal.{ImageRefusal}
+use Rattle.translated_file.specs.Comparing.{compared}
+use Rattle.translated_file.specs.Reading.{parts_of}
+use Rattle.translated_file.specs.Values.{PartsValue}
+use Rattle.translated_file.specs.declared.refusal.TranslatedRefusal.{TranslatedRefusal}
+use Rattle.flow_discovery.specs.Reach.{most}
+use Rattle.flow_discovery.specs.Starts.{starts}
+use Rattle.block_law.specs.Translations.{Code}
+use Rattle.vest_files.specs.Decided.{Decision, stops, goes_on, IsDecided, StopsAsDecided}
+use Rattle.vest_files.specs.Loading.{DecidesBytes, DecidesFile, DecidesFlow, DecidesImage, DecidesLoad, DecidesParts, DecidesTail, is_translated}
+use Rattle.vest_files.specs.Loading.{IsOfImage, IsOfTranslated, Loads, StopsAtImageFile, StopsAtLoad, StopsAtTranslatedFile}
+use Rattle.vest_files.specs.Refusal.{RefusalValue}
+use Rattle.vest_files.specs.Stages.{HasParts, IsFile, IsImage, IsTranslated, RefusesFlow, RefusesImage, RefusesParts, RefusesTail, StopsAtFile, StopsWhere}
+use Rattle.vest_files.specs.Translate.{DecidesTranslate, StopsTranslate, Translates}
+use Rattle.vest_files.specs.declared.stages.TheConstants.{FILE_LIMIT}
+use Rattle.vest_files.specs.declared.status.Done.{Done}
+use Rattle.vest_files.specs.declared.status.Status.TheVariants as status
+use Rattle.vest_files.specs.declared.stop.Stop.{Stop}
+use Rattle.vest_files.specs.declared.stop.Stop.TheVariants.{Absent, Refused, ReadFault, TooLong, WantOfMemory}
+use Rattle.vest_files.proofs.Members.{as_few, as_many}
+
+above : (limit n : ℕ) → limit < n → nat_lt limit n ≡ true
+above limit n h = grind (arith, nat_tests)
+
+within : (limit n : ℕ) → n ≤ limit → nat_lt limit n ≡ false
+within limit n h = grind (arith, nat_tests)
+
+-- ---- one stage
+stage : (Refuses : RefusalValue → Type 0) (stop : Stop) (d : Decision) → StopsWhere Refuses stop → ((r : RefusalValue) → Refuses r → d ≡ stops status.Refused)
+    → StopsAsDecided stop d
+stage Refuses Absent d h f = absurd h
+stage Refuses (Refused r) d h f = f r h
+stage Refuses ReadFault d h f = absurd h
+stage Refuses TooLong d h f = absurd h
+stage Refuses WantOfMemory d h f = tt
+
+long_file : (file : Option (List ℕ)) (Then : List ℕ → Type 0) (d : Decision) → IsLonger file FILE_LIMIT → DecidesFile file Then d → d ≡ stops status.TooLong
+long_file None Then d h e = absurd h
+long_file (Some bytes) Then d h e = rw (above FILE_LIMIT (length bytes) h) at e
+
+file_stops : (stop : Stop) (name : List ℕ) (f : Files) (r w : ℕ) (new : DeskMeaning) (Then : List ℕ → Type 0) (d : Decision)
+    → StopsAtFile stop name (record { files = Some f; read_faults = r; write_faults = w }) new → DecidesFile (f name) Then d → StopsAsDecided stop d
+file_stops Absent name f r w new Then d h e = subst (λ (o : Option (List ℕ)). DecidesFile o Then d) h e
+file_stops (Refused refusal) name f r w new Then d h e = absurd h
+file_stops ReadFault name f r w new Then d h e = tt
+file_stops TooLong name f r w new Then d h e = long_file (f name) Then d h e
+file_stops WantOfMemory name f r w new Then d h e = tt
+
+file_read : (f : Files) (name bytes : List ℕ) (Then : List ℕ → Type 0) (d : Decision) → IsFile (Some f) name bytes → DecidesFile (f name) Then d → Then bytes
+file_read f name bytes Then d file e =
+    let read : DecidesFile (Some bytes) Then d = subst (λ (o : Option (List ℕ)). DecidesFile o Then d) file.held e in
+    rw (within FILE_LIMIT (length bytes) file.short) at read
+
+-- ---- the flow of an image
+too_many : (image : ImageValue) (hints : List ℕ) (Then : Type 0) (d : Decision) (r : RefusalValue) → RefusesFlow image hints r → DecidesFlow image hints Then d
+    → d ≡ stops status.Refused
+too_many image hints Then d r h e =
+    let decides = e.decides in
+    rw (above most (length e.addresses) (as_many image.pages (starts image hints) e.addresses h.count e.reached h.many)) at decides
+
+few_enough : (image : ImageValue) (hints : List ℕ) (Then : Type 0) (d : Decision) (code : Code) → IsTranslated image hints code → DecidesFlow image hints Then d → Then
+few_enough image hints Then d code h e =
+    let decides = e.decides in
+    rw (within most (length e.addresses) (as_few image.pages (starts image hints) e.addresses e.reached h.few)) at decides
+
+-- ---- a VAX image
+image_refused : (bytes : List ℕ) (d : Decision) (r : RefusalValue) → RefusesImage bytes r → DecidesImage (image_of bytes) d → d ≡ stops status.Refused
+image_refused bytes d r h e = subst (λ (o : Result ImageValue ImageRefusal). DecidesImage o d) h.refused e
+
+image_flow : (bytes : List ℕ) (image : ImageValue) (d : Decision) → IsImage bytes image → DecidesImage (image_of bytes) d → DecidesFlow image [] (d ≡ goes_on) d
+image_flow bytes image d h e = subst (λ (o : Result ImageValue ImageRefusal). DecidesImage o d) h.meant e
+
+pub image_stops : (stop : Stop) (bytes : List ℕ) (d : Decision) → StopsAtImageFile stop bytes → DecidesImage (image_of bytes) d → StopsAsDecided stop d
+image_stops stop bytes d (inl h) e = stage (RefusesImage bytes) stop d h (λ r refused. image_refused bytes d r refused e)
+image_stops stop bytes d (inr (image, meant, h)) e =
+    stage (RefusesFlow image []) stop d h (λ r many. too_many image [] (d ≡ goes_on) d r many (image_flow bytes image d meant e))
+
+pub image_goes : (bytes : List ℕ) (image : ImageValue) (code : Code) (d : Decision) → IsOfImage bytes image code → DecidesImage (image_of bytes) d → d ≡ goes_on
+image_goes bytes image code d h e = few_enough image [] (d ≡ goes_on) d code h.translated (image_flow bytes image d h.meant e)
+
+-- ---- a translated file
+parts_refused : (bytes : List ℕ) (d : Decision) (r : RefusalValue) → RefusesParts bytes r → DecidesParts (parts_of bytes) d → d ≡ stops status.Refused
+parts_refused bytes d r h e = subst (λ (o : Result PartsValue TranslatedRefusal). DecidesParts o d) h.refused e
+
+parts_flow : (bytes : List ℕ) (parts : PartsValue) (d : Decision) → HasParts bytes parts → DecidesParts (parts_of bytes) d
+    → DecidesFlow parts.image parts.hints (DecidesTail parts d) d
+parts_flow bytes parts d h e = subst (λ (o : Result PartsValue TranslatedRefusal). DecidesParts o d) h.meant e
+
+abbrev Tail : Decision → Result (Unit {0}) TranslatedRefusal → Type 0
+Tail d o = MatchResult o (λ _. d ≡ goes_on) (λ _. d ≡ stops status.Refused)
+
+tail_refused : (parts : PartsValue) (code : Code) (d : Decision) (r : RefusalValue) → IsTranslated parts.image parts.hints code → RefusesTail parts code r
+    → DecidesTail parts d → d ≡ stops status.Refused
+tail_refused parts code d r is h e = subst (Tail d) h.refused (e code is)
+
+pub translated_stops : (stop : Stop) (bytes : List ℕ) (d : Decision) → StopsAtTranslatedFile stop bytes → DecidesParts (parts_of bytes) d → StopsAsDecided stop d
+translated_stops stop bytes d (inl h) e = stage (RefusesParts bytes) stop d h (λ r refused. parts_refused bytes d r refused e)
+translated_stops stop bytes d (inr (parts, meant, inl h)) e =
+    stage (RefusesFlow parts.image parts.hints) stop d h (λ r many. too_many parts.image parts.hints (DecidesTail parts d) d r many (parts_flow bytes parts d meant e))
+translated_stops stop bytes d (inr (parts, meant, inr (code, is, h))) e =
+    stage (RefusesTail parts code) stop d h
+    (λ r refused. tail_refused parts code d r is refused (few_enough parts.image parts.hints (DecidesTail parts d) d code is (parts_flow bytes parts d meant e)))
+
+pub translated_goes : (bytes : List ℕ) (image : ImageValue) (code : Code) (d : Decision) → IsOfTranslated bytes image code → DecidesParts (parts_of bytes) d → d ≡ goes_on
+translated_goes bytes image code d h e =
+    subst (Tail d) h.equal (few_enough h.parts.image h.parts.hints (DecidesTail h.parts d) d code h.translated (parts_flow bytes h.parts d h.meant e) code h.translated)
+
+-- ---- either
+bytes_stops : (b : Bool) (stop : Stop) (bytes : List ℕ) (d : Decision) → MatchBool b (StopsAtTranslatedFile stop bytes) (StopsAtImageFile stop bytes)
+    → MatchBool b (DecidesParts (parts_of bytes) d) (DecidesImage (image_of bytes) d) → StopsAsDecided stop d
+bytes_stops true stop bytes d h e = translated_stops stop bytes d h e
+bytes_stops false stop bytes d h e = image_stops stop bytes d h e
+
+bytes_go : (b : Bool) (bytes : List ℕ) (image : ImageValue) (code : Code) (d : Decision) → MatchBool b (IsOfTranslated bytes image code) (IsOfImage bytes image code)
+    → MatchBool b (DecidesParts (parts_of bytes) d) (DecidesImage (image_of bytes) d) → d ≡ goes_on
+bytes_go true bytes image code d h e = translated_goes bytes image code d h e
+bytes_go false bytes image code d h e = image_goes bytes image code d h e
+
+load_stops_at : (files : Option Files) (r w : ℕ) (stop : Stop) (name : List ℕ) (new : DeskMeaning) (d : Decision)
+    → StopsAtLoad stop name (record { files = files; read_faults = r; write_faults = w }) new → DecidesLoad files name d → StopsAsDecided stop d
+load_stops_at None r w stop name new d h e = absurd e
+load_stops_at (Some f) r w stop name new d (inl h) e = file_stops stop name f r w new (DecidesBytes d) d h e
+load_stops_at (Some f) r w stop name new d (inr (bytes, file, h)) e =
+    bytes_stops (is_translated bytes) stop bytes d h (file_read f name bytes (DecidesBytes d) d file e)
+
+pub load_stops : (stop : Stop) (name : List ℕ) (old new : DeskMeaning) (d : Decision) → StopsAtLoad stop name old new → DecidesLoad old.files name d → StopsAsDecided stop d
+load_stops stop name old new d h e = load_stops_at old.files old.read_faults old.write_faults stop name new d h e
+
+pub load_goes : (files : Option Files) (name : List ℕ) (image : ImageValue) (code : Code) (d : Decision) → Loads files name image code → DecidesLoad files name d → d ≡ goes_on
+load_goes None name image code d h e = absurd e
+load_goes (Some f) name image code d h e =
+    bytes_go (is_translated h.bytes) h.bytes image code d h.loaded (file_read f name h.bytes (DecidesBytes d) d h.file e)
+
+-- ---- `translate`
+translate_stops_at : (files : Option Files) (r w : ℕ) (stop : Stop) (name : List ℕ) (new : DeskMeaning) (d : Decision)
+    → StopsTranslate stop name (record { files = files; read_faults = r; write_faults = w }) new → DecidesTranslate files name d → StopsAsDecided stop d
+translate_stops_at None r w stop name new d h e = absurd e
+translate_stops_at (Some f) r w stop name new d (inl h) e = file_stops stop name f r w new (λ bytes. DecidesImage (image_of bytes) d) d h e
+translate_stops_at (Some f) r w stop name new d (inr (bytes, file, h)) e =
+    image_stops stop bytes d h (file_read f name bytes (λ b. DecidesImage (image_of b) d) d file e)
+
+pub translate_stops : (stop : Stop) (name : List ℕ) (old new : DeskMeaning) (d : Decision) → StopsTranslate stop name old new → DecidesTranslate old.files name d
+    → StopsAsDecided stop d
+translate_stops stop name old new d h e = translate_stops_at old.files old.read_faults old.write_faults stop name new d h e
+
+pub translate_goes : (files : Option Files) (name bytes : List ℕ) (image : ImageValue) (code : Code) (d : Decision) → IsFile files name bytes → IsOfImage bytes image code
+    → DecidesTranslate files name d → d ≡ goes_on
+translate_goes None name bytes image code d file h e = absurd e
+translate_goes (Some f) name bytes image code d file h e =
+    image_goes bytes image code d h (file_read f name bytes (λ b. DecidesImage (image_of b) d) d file e)
+
+-- ---- what a call answers
+module _ {X : Type 0} (r : Result X Stop) (d : Decision) where
+  decided_by : (o : Result X Stop) → IfOk o (λ _. d ≡ goes_on) → IfErr o (λ stop. StopsAsDecided stop d) → IsDecided o d
+  decided_by (Ok x) goes stop = goes
+  decided_by (Err e) goes stop = stop
+
+  pub translated_file_decided : (image : X → ImageValue) (code : X → Code) (files : Option Files) (name bytes : List ℕ) → IsFile files name bytes → is_translated bytes ≡ true
+      → IfOk r (λ x. IsOfTranslated bytes (image x) (code x)) → IfErr r (λ stop. StopsAtTranslatedFile stop bytes) → DecidesLoad files name d → IsDecided r d
+  translated_file_decided image code None name bytes file is ok err e = absurd e
+  translated_file_decided image code (Some f) name bytes file is ok err e =
+      let at_bytes : DecidesBytes d bytes = file_read f name bytes (DecidesBytes d) d file e in
+      let at_parts : DecidesParts (parts_of bytes) d = subst (λ (b : Bool). MatchBool b (DecidesParts (parts_of bytes) d) (DecidesImage (image_of bytes) d)) is at_bytes in
+      decided_by r (IfOk-weaker r _ _ (λ x h. translated_goes bytes (image x) (code x) d h at_parts) ok)
+      (IfErr-weaker r _ _ (λ stop h. translated_stops stop bytes d h at_parts) err)
+
+  pub image_file_decided : (image : X → ImageValue) (code : X → Code) (files : Option Files) (name bytes : List ℕ) → IsFile files name bytes → is_translated bytes ≡ false
+      → IfOk r (λ x. IsOfImage bytes (image x) (code x)) → IfErr r (λ stop. StopsAtImageFile stop bytes) → DecidesLoad files name d → IsDecided r d
+  image_file_decided image code None name bytes file is ok err e = absurd e
+  image_file_decided image code (Some f) name bytes file is ok err e =
+      let at_bytes : DecidesBytes d bytes = file_read f name bytes (DecidesBytes d) d file e in
+      let at_image : DecidesImage (image_of bytes) d = subst (λ (b : Bool). MatchBool b (DecidesParts (parts_of bytes) d) (DecidesImage (image_of bytes) d)) is at_bytes in
+      decided_by r (IfOk-weaker r _ _ (λ x h. image_goes bytes (image x) (code x) d h at_image) ok)
+      (IfErr-weaker r _ _ (λ stop h. image_stops stop bytes d h at_image) err)
+
+  pub translate_decided : (name : List ℕ) (old new : DeskMeaning) → IfErr r (λ stop. StopsTranslate stop name old new) → IfOk r (λ _. d ≡ goes_on)
+      → DecidesTranslate old.files name d → IsDecided r d
+  translate_decided name old new err ok e = decided_by r ok (IfErr-weaker r _ _ (λ stop h. translate_stops stop name old new d h e) err)

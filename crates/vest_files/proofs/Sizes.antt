@@ -1,0 +1,55 @@
+-- The sizes of a translation.
+use Rattle.std.proofs.Common.{◌≡◌, ◌<◌, ◌≤◌, ◌+◌, ◌||◌, ℕ, Bool, true, false, cond, List, [], ◌∷◌, Option, Some, None, length, map, get_or, nat_eq, refl, sym, ap, subst, ◌∙◌, arith}
+use Rattle.std.specs.Prelude.{find, ◌==◌}
+use Rattle.std.specs.List.{AllByRecursion}
+use Rattle.std.specs.List.Sorted.{IsStrictlyIncreasing}
+use Rattle.std.specs.Option.{option_map, is_some}
+use Rattle.std.proofs.lemmas.Bool.Decides.{nat_tests}
+use Rattle.std.proofs.lemmas.List.{get_or-map, length-map}
+use Rattle.std.proofs.lemmas.List.Elements.{recursion_from_All}
+use Rattle.address_map.specs.Pairs.{AllRise, Pair, word_at}
+use Rattle.address_map.proofs.Lookups.{word_at-pair}
+use Rattle.block_law.specs.Translations.{Code, Meaning, Meets}
+use Rattle.flow_discovery.specs.Reach.{has, most}
+use Rattle.image_file.specs.Values.{ImageValue}
+use Rattle.report_text.specs.Listing.{AreWithin}
+use Rattle.vest_files.specs.Stages.{IsTranslated}
+use Rattle.vest_files.proofs.Members.{not_longer}
+
+-- an address among those of the map is mapped
+is_mapped : (pairs : List Pair) (a : ℕ) → is_some (word_at pairs a) ≡ has (map (λ (p : Pair). p.0) pairs) a
+is_mapped [] a = refl
+is_mapped (p ∷ pairs) a = by (nat_eq a p.0) (p.0 == a) (grind (arith, nat_tests)) (is_mapped pairs a)
+  where
+    by : (b c : Bool) → b ≡ c → is_some (word_at pairs a) ≡ has (map (λ (q : Pair). q.0) pairs) a
+        → is_some (option_map (λ (q : Pair). q.1) (cond c (Some p) (find (λ (q : Pair). q.0 == a) pairs))) ≡ (b || has (map (λ (q : Pair). q.0) pairs) a)
+    by true true e h = refl
+    by true false e h = absurd (cc e)
+    by false true e h = absurd (cc e)
+    by false false e h = h
+
+addresses_rise : (pairs : List Pair) → AllRise pairs → IsStrictlyIncreasing (map (λ (p : Pair). p.0) pairs)
+addresses_rise pairs rise k lt =
+    let count = length-map pairs (λ (p : Pair). p.0) in
+    let within : k + 1 < length pairs = omega (arith, count, lt) in
+    let up = (rise k (0, 0) within).0 in
+    rw (get_or-map (λ (p : Pair). p.0) pairs k (0, 0) 0 (omega arith), get_or-map (λ (p : Pair). p.0) pairs (k + 1) (0, 0) 0 within) up
+
+-- as many addresses are mapped as can be reached at most
+pub few_pairs : (image : ImageValue) (hints : List ℕ) (code : Code) → IsTranslated image hints code → length code.map ≤ 32768
+few_pairs image hints code is =
+    let few = is.few.few in
+    let count = length-map code.map (λ (p : Pair). p.0) in
+    let fewer : length (map (λ (p : Pair). p.0) code.map) ≤ length is.few.addresses =
+    not_longer (map (λ (p : Pair). p.0) code.map) is.few.addresses (addresses_rise code.map is.meets.map_rises) is.few.reached.rising
+    (λ a h. (is.few.reached.members a).1 ((is.mapped a).0 (is_mapped code.map a ∙ h)).member) in
+    omega (arith, few, count, fewer)
+
+-- each block begins within the words, or behind them
+pub blocks_within : (meaning : Meaning) (code : Code) → Meets meaning code → AreWithin code.words code.map
+blocks_within meaning code meets = recursion_from_All (λ (pair : Pair). pair.1 ≤ length code.words) code.map
+    (λ k d lt.
+    let block = meets.blocks (get_or code.map k d).0 (get_or code.map k d).1 (word_at-pair code.map k d meets.map_rises lt) in
+    let ends = block.ends in
+    let within = block.within in
+    omega (arith, ends, within))

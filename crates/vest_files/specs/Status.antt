@@ -1,0 +1,20 @@
+-- The status of a call, by why it stopped, or by what it has done.
+use Rattle.vest_files.specs.declared.status.Done.{Done}
+use Rattle.vest_files.specs.declared.status.Done.TheVariants as done
+use Rattle.vest_files.specs.declared.status.Status.{Status}
+use Rattle.vest_files.specs.declared.status.Status.TheVariants as status
+use Rattle.vest_files.specs.declared.stop.Stop.{Stop}
+use Rattle.vest_files.specs.declared.stop.Stop.TheVariants.{Absent, Refused, ReadFault, TooLong, WantOfMemory}
+
+abbrev pub status_of : Stop → Status
+status_of Absent = status.Absent
+status_of (Refused refusal) = status.Refused
+status_of ReadFault = status.ReadFault
+status_of TooLong = status.TooLong
+status_of WantOfMemory = status.WantOfMemory
+
+abbrev pub status_of_done : Done → Status
+status_of_done done.Ok = status.Ok
+status_of_done done.Exception = status.Exception
+status_of_done done.Spent = status.Spent
+status_of_done done.WriteFault = status.WriteFault

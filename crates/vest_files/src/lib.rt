@@ -1,0 +1,18 @@
+//! Files that a command line names: the image of a file with its translation, and the commands that run nothing.
+//!
+//! Each stage and each command is one function that says what it does, why it stops before it has written anything, and
+//! what the files decide where the desk tells them. `specs/` has their tables.
+#![tactic(auto)]
+
+mod listing;
+mod loading;
+mod stages;
+mod status;
+mod stop;
+mod translating;
+
+pub use listing::list_file;
+pub use loading::{Loaded, load};
+pub use status::{Done, Status};
+pub use stop::{Refusal, Stop};
+pub use translating::translate_file;
