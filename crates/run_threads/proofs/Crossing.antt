@@ -4,6 +4,7 @@ use denote.Param.Send.{IsSend, IsSync, sendable}
 use Rattle.std.proofs.Crossing.{crosses}
 use Rattle.shared_memory.proofs.Crossing.{pass_send}
 use Rattle.image_file.proofs.image.Image.TheSendSync as Image
+use Rattle.prepared_code.proofs.prepared.Prepared.TheSendSync as Prepared
 use Rattle.system_model.proofs.translation.Range.TheSendSync as Range
 use Rattle.system_model.proofs.translation.Translation.TheSendSync as Translation
 use Rattle.tie_switch.proofs.processor.Processor.TheSendSync as Processor
@@ -14,4 +15,4 @@ pub job_send : IsSend Job.the_row
 job_send = search (pass_send, Processor.the_send, sendable) depth 20
 
 pub program_sync : (lifetime : NamedLft) → IsSync (Program.the_row lifetime)
-program_sync lifetime = search (Image.the_sync, Translation.the_sync, Range.the_sync, sendable, crosses) depth 30
+program_sync lifetime = search (Image.the_sync, Translation.the_sync, Prepared.the_sync, Range.the_sync, sendable, crosses) depth 30

@@ -1,5 +1,5 @@
 -- A turn keeps a processor reached by its own entries of what its pass has seen.
-use Rattle.std.proofs.Common.{◌≡◌, ℕ, Bool, true, false, List, [], reverse, refl, sym, ap, ◌∙◌, subst, inl, inr, arith}
+use Rattle.std.proofs.Common.{◌≡◌, ℕ, ◌+◌, ◌≤◌, Bool, true, false, List, [], reverse, refl, sym, ap, ◌∙◌, subst, inl, inr, arith}
 use Rattle.std.specs.Prelude.{MatchBool}
 use Rattle.memory_core.specs.declared.entry.Entry.{Entry}
 use Rattle.memory_core.specs.declared.entry.SetUp.{SetUp}
@@ -9,8 +9,8 @@ use Rattle.system_model.specs.Legal.{starts, IsReached, spent}
 use Rattle.system_model.specs.Processors.{Processor, Turn, Went, Asks, Over, Lost, Begins, begun}
 use Rattle.system_model.specs.Processors as model
 use Rattle.system_model.specs.Settings.{Setting}
-use Rattle.tie_switch.specs.Laws.{TurnsKeepReached}
-use Rattle.tie_switch.specs.Processors.{Kept, HasStep, HasTurned}
+use Rattle.tie_switch.specs.Laws.{LocalTurnsKeepReached, TurnsKeepReached}
+use Rattle.tie_switch.specs.Processors.{Kept, HasGone, HasStep, HasTurned}
 use Rattle.tie_switch.specs.Turns.{IsStill, Makes, is_out}
 use Rattle.run_threads.specs.Processors.{IsBegun, IsUnderWay}
 use Rattle.run_threads.specs.Programs.{CanRun}
@@ -55,6 +55,22 @@ module _ (setting : Setting) (set_up : SetUp) (seen : List Entry) (k : Kept) (wa
         (subst (λ (t : ℕ). IsReached setting k.budget set_up.limit (reverse new) t way.start turned.processor) (sym thread)
         (law setting set_up k.budget seen new k.thread way.start way.processor turned.processor way.reached turned.turned));
   }
+
+  -- turns that ask nothing
+  pub local_turns : LocalTurnsKeepReached → (n : ℕ) (to : Kept) → to.thread ≡ k.thread → to.budget ≡ k.budget → to.steps ≡ k.steps + n → to.steps ≤ to.budget
+      → HasGone setting way.processor n to → IsUnderWay setting set_up seen to
+  local_turns law n to thread budget steps few gone =
+      let before : way.processor.steps ≡ k.steps = ap (λ (p : Processor). p.steps) way.stands.same in
+      record {
+        order = way.order;
+        start = way.start;
+        starts_so = ap (starts set_up.image) thread ∙ way.starts_so;
+        processor = gone.processor;
+        stands = gone.stands;
+        reached = subst (λ (b : ℕ). IsReached setting b set_up.limit (reverse seen) to.thread way.start gone.processor) (sym budget)
+            (subst (λ (t : ℕ). IsReached setting k.budget set_up.limit (reverse seen) t way.start gone.processor) (sym thread)
+            (law setting set_up k.budget n seen k.thread way.start way.processor gone.processor way.reached gone.went (omega (arith, before, budget, steps, few))));
+      }
 
 -- ---- its beginning
 pub begins : (setting : Setting) (set_up : SetUp) (seen : List Entry) (k : Kept) → seen ≡ [] → IsBegun set_up.image k → IsUnderWay setting set_up seen k

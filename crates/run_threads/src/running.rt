@@ -17,6 +17,7 @@ use image_file::Image;
 use image_meaning::laws::{page_table_has_bytes, vax_meaning_is_sound};
 use legal_history::laws::images_are_runs;
 use memory_core::MemState;
+use prepared_code::Prepared;
 use shared_memory::{Pass, SharedMemory};
 use std::alloc::Global;
 use std::marker::Model;
@@ -88,17 +89,20 @@ impl Running {
         })
     }
 
-    /// Runs every processor to its end, in a thread of its own. It may wait, and takes no memory. The processors stand in
+    /// Runs every processor to its end, in a thread of its own, by the translation that was made ready. It may wait, and takes no memory. The processors stand in
     /// the order of the threads.
     pub fn go<R: Threads + Wait + Sync, G: Gate + Sync>(
         self,
         rt: &R,
         image: &Image,
         translation: &Translation,
+        prepared: &Prepared<'_>,
         ranges: &[Range],
         gate: &G,
     ) -> (MemState, Vec<Processor>)
         requires image { self.set_up.image ≡ image.now }
+        requires code { prepared.now.code ≡ translation.now }
+        requires pages { prepared.now.pages ≡ image.now.pages }
         requires meets { Meets (image_meaning image.now.pages) translation.now }
         ensures set_up { result.0.set_up ≡ self.set_up }
         ensures legal { IsLegal (image_setting image.now.pages translation.now ranges.now) self.set_up self.budget (reverse result.0.history) (map processor_of result.1.items) }
@@ -116,6 +120,7 @@ impl Running {
         let program = Program {
             image,
             translation,
+            prepared,
             ranges,
         };
         run_all(rt, &memory, gate, program, jobs.as_mut_slice());

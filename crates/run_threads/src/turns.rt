@@ -1,12 +1,14 @@
 // The turns of processors, each in a thread of its own.
-ghost use Rattle.std.specs.Prelude.{◌≡◌, ◌<◌, ◌+◌, ◌≤◌, ℕ, true, length, slice_index_or};
+ghost use Rattle.std.specs.Prelude.{◌≡◌, ◌<◌, ◌+◌, ◌≤◌, ℕ, List, true, length, slice_index_or};
+ghost use Rattle.memory_core.specs.declared.entry.Entry.{Entry};
+ghost use Rattle.memory_core.specs.declared.entry.SetUp.{SetUp};
 ghost use Rattle.shared_memory.specs.Passes.{set_up_of, number_of, seen_of, IsPassOf};
 ghost use Rattle.tie_switch.specs.Processors.{processor_of};
 ghost use Rattle.tie_switch.specs.Turns.{has_ended};
 ghost use Rattle.run_threads.specs.declared.job.Job.{Job};
 ghost use Rattle.run_threads.specs.Jobs.{IsReady, IsDone, AllReady};
 ghost use Rattle.run_threads.specs.Processors.{IsUnderWay, HasEnded};
-ghost use Rattle.run_threads.specs.Programs.{setting_of, CanRun};
+ghost use Rattle.run_threads.specs.Programs.{setting_of, CanRun, HasPrepared};
 
 use crate::job::Job;
 use crate::program::Program;
@@ -15,9 +17,22 @@ use shared_memory::{Pass, Port, SharedMemory};
 use std::sync::Wait;
 use std::thread;
 use std::thread::Threads;
-use tie_switch::laws::turns_keep_reached;
+use tie_switch::laws::{many_turns_keep_reached, turns_keep_reached};
 use tie_switch::{Processor, Turn};
 use vt_outside::Gate;
+
+// Turns that ask nothing, as many as there are.
+fn go_locally(program: Program<'_>, processor: &mut Processor)
+    requires prepared { HasPrepared program }
+    ensures thread { processor.new.thread ≡ processor.old.thread }
+    ensures budget { processor.new.budget ≡ processor.old.budget }
+    ensures steps { processor.old.steps ≤ processor.new.steps }
+    ensures way { (set_up : SetUp) (seen : List Entry) → IsUnderWay (setting_of program.entry) set_up seen processor.old
+        → IsUnderWay (setting_of program.entry) set_up seen processor.new }
+{
+    many_turns_keep_reached();
+    processor.run_local(program.prepared, program.ranges, u64::MAX);
+}
 
 // One turn.
 fn go_on<R: Wait, G: Gate>(
@@ -43,8 +58,32 @@ fn go_on<R: Wait, G: Gate>(
         image,
         translation,
         ranges,
+        ..
     } = program;
     processor.turn(image, translation, ranges, port)
+}
+
+// The turns up to the next that asks or ends, and that one.
+fn advance<R: Wait, G: Gate>(
+    program: Program<'_>,
+    processor: &mut Processor,
+    port: &mut Port<'_, R, G>,
+) -> Turn
+    requires prepared { HasPrepared program }
+    requires can_run { CanRun (setting_of program) (set_up_of port.old.memory.now) }
+    requires pass { number_of port.old.pass ≡ processor.old.thread }
+    requires way { IsUnderWay (setting_of program) (set_up_of port.old.memory.now) (seen_of port.old.pass) processor.old }
+    ensures memory { port.new.memory.now ≡ port.old.memory.now }
+    ensures pass { number_of port.new.pass ≡ processor.old.thread }
+    ensures thread { processor.new.thread ≡ processor.old.thread }
+    ensures budget { processor.new.budget ≡ processor.old.budget }
+    ensures way { IsUnderWay (setting_of program.entry) (set_up_of port.old.memory.now) (seen_of port.new.pass) processor.new }
+    ensures steps { result ≡ Turn.Went → processor.old.steps < processor.new.steps }
+    ensures few_steps { processor.new.steps ≤ processor.old.budget }
+    ensures ended { result ≡ Turn.Ended → has_ended (processor_of processor.new).mode ≡ true }
+{
+    go_locally(program, processor);
+    go_on(program, processor, port)
 }
 
 // Turns a processor until it has ended.
@@ -56,6 +95,7 @@ fn turn_all<R: Wait, G: Gate>(
     processor: &mut Processor,
     pass: Pass,
 ) -> Pass
+    requires prepared { HasPrepared program }
     requires can_run { CanRun (setting_of program) (set_up_of memory.now) }
     requires pass { IsPassOf memory.now processor.old.thread pass }
     requires way { IsUnderWay (setting_of program) (set_up_of memory.now) (seen_of pass) processor.old }
@@ -71,7 +111,7 @@ fn turn_all<R: Wait, G: Gate>(
         gate,
         asked: 0,
     };
-    while let Turn::Went = go_on(program, processor, &mut port) {}
+    while let Turn::Went = advance(program, processor, &mut port) {}
     let Port { pass, .. } = port;
     pass
 }
@@ -84,6 +124,7 @@ fn run_job<R: Wait, G: Gate>(
     program: Program<'_>,
     job: &mut Job,
 )
+    requires prepared { HasPrepared program }
     requires can_run { CanRun (setting_of program) (set_up_of memory.now) }
     requires ready { IsReady memory.now job.old.processor.thread job.old }
     ensures { IsDone (setting_of program.entry) memory.now job.old.processor.budget job.old.processor.thread job.new }
@@ -100,6 +141,7 @@ pub(crate) fn run_all<R: Threads + Wait + Sync, G: Gate + Sync>(
     program: Program<'_>,
     jobs: &mut [Job],
 )
+    requires prepared { HasPrepared program }
     requires can_run { CanRun (setting_of program) (set_up_of memory.now) }
     requires some { 0 < length jobs.old }
     requires ready { AllReady memory.now jobs.old }
@@ -112,7 +154,7 @@ pub(crate) fn run_all<R: Threads + Wait + Sync, G: Gate + Sync>(
         jobs,
         threads,
         &|i, job|
-            requires { CanRun (setting_of program) (set_up_of memory.now) × IsReady memory.now i job.now }
+            requires { HasPrepared program × CanRun (setting_of program) (set_up_of memory.now) × IsReady memory.now i job.now }
             ensures { IsDone (setting_of program.entry) memory.entry.now job.entry.now.processor.budget i job.exit.now }
         { run_job(rt, memory, gate, program, job) },
     );

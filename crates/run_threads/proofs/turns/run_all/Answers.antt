@@ -14,4 +14,4 @@ for_each_mut-requires-sync-F g c κs within = search (memory_sync, program_sync,
 
 pub for_each_mut-requires-clause-accepts : goal.for_each_mut-requires-clause-accepts
 for_each_mut-requires-clause-accepts g c κs within = λ i p inside is.
-    (c.requires.can_run, subst (IsReady c.args.memory.now i) (sym is) (c.requires.ready i p.now inside))
+    (c.requires.prepared, c.requires.can_run, subst (IsReady c.args.memory.now i) (sym is) (c.requires.ready i p.now inside))
