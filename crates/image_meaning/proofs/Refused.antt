@@ -1,5 +1,5 @@
--- What no instruction may do that stays in range.
-use Rattle.std.proofs.Common.{◌≡◌, ℕ, ◌%◌, true, false, [], ◌∷◌, refl, arith}
+-- What no instruction may do that stays in range, and what may not be said of the codes that instructions use.
+use Rattle.std.proofs.Common.{◌≡◌, ℕ, ◌%◌, true, false, [], ◌∷◌, replicate, refl, arith}
 use Rattle.vax_form.specs.Pages.{is_allowed}
 use Rattle.vax_form.specs.Ranges.{IsInRange}
 use Rattle.vax_form.specs.Script.{Script, ◌>>=◌, ◌>>◌, pure}
@@ -9,6 +9,25 @@ use Rattle.vax_form.specs.declared.script.End.{End}
 use Rattle.vax_form.specs.declared.script.End.TheVariants.{Done}
 use Rattle.vax_form.specs.declared.state.RefKind.TheVariants.{Add}
 use Rattle.vax_form.specs.declared.state.VaxState.{VaxState}
+use Rattle.vax_form.specs.Operation.{operation_at, control_opcodes, mixed_opcodes, move_opcodes}
+use Rattle.vax_form.specs.declared.instr.Instr.{Instr}
+use Rattle.vax_form.specs.declared.instr.Operand.{Operand}
+use Rattle.vax_form.specs.declared.instr.Operand.TheVariants.{Unused, Value, Register, Target}
+use Rattle.vax_form.specs.declared.operation.Condition.TheVariants.{CarrySet}
+use Rattle.vax_form.specs.declared.operation.Operation.{Operation}
+use Rattle.vax_form.specs.declared.operation.Operation.TheVariants as operations
+use Rattle.vax_form.specs.declared.state.Pending.TheVariants.{Nothing}
+use Rattle.cc_liveness.specs.declared.uses.CodeUse.{CodeUse}
+use Rattle.cc_liveness.specs.Codes.{negative, zero_code, overflow, carry, none, all}
+use Rattle.cc_liveness.specs.Uses.{goes_on, may_jump, code_use_of}
+use Rattle.image_meaning.specs.CodeUses.{SameButCodes, AgreeOn, AreUsedAs}
+use Rattle.vax_form.specs.Row.{operands_of}
+use Rattle.vax_long.specs.Instructions.{long_operation}
+use Rattle.vax_meaning.specs.Instructions.{operation_script, body}
+use Rattle.vax_meaning.specs.Evaluation.{evaluated_row, operands_from, find, read_found, obtain}
+use Rattle.vax_meaning.specs.Operands.{locate, store, put}
+use Rattle.vax_meaning.specs.Moves.{give}
+use Rattle.vax_meaning.specs.Branches.{branch_if, holds}
 use Rattle.vax_meaning.specs.Memory.{check, write_part, lock}
 use Rattle.vax_long.specs.Registers.{below}
 
@@ -71,3 +90,42 @@ written = do
 
 checked_late : (state : VaxState) → IsInRange two_pages (instruction_tree two_pages written state) → ⊥
 checked_late state h = let none : true ≡ false = ((h refl).2 refl 0 refl).0 in absurd (cc none)
+
+-- ---- condition codes
+-- C is set in the other of two states
+abbrev state_with : (psw : ℕ) → VaxState
+state_with psw = record { r = replicate 15 0; pc = 512; psw = psw; handler = 0; pending = Nothing }
+
+abbrev short_form : (opcode : ℕ) → (a b c : Operand) → Instr
+short_form opcode a b c = record { at = 512; opcode = opcode; count = 3; operands = a ∷ b ∷ c ∷ Unused ∷ Unused ∷ Unused ∷ []; after = 516 }
+
+carry_alone : SameButCodes (state_with 0) (state_with 1)
+carry_alone = record { registers = refl; pc = refl; upper = refl; handler = refl; pending = refl }
+
+none_read : AgreeOn none (state_with 0) (state_with 1)
+none_read negative h = refl
+none_read zero_code h = refl
+none_read overflow h = refl
+none_read carry h = absurd (cc h)
+
+-- say that ROTL writes C
+abbrev rotate_writes_carry : Operation → CodeUse
+rotate_writes_carry operations.Rotate = goes_on none all
+rotate_writes_carry operation = code_use_of operation
+
+kept_carry : AreUsedAs rotate_writes_carry → ⊥
+unfolding operation_at control_opcodes mixed_opcodes move_opcodes operands_of long_operation operation_script evaluated_row operands_from find locate read_found obtain body give store put
+kept_carry said =
+    let left = said two_pages 0 (short_form 0x9c (Value 1) (Value 1) (Register 0)) operations.Rotate (state_with 0) (state_with 1) refl carry_alone none_read in
+    absurd (cc (left.written carry refl))
+
+-- say that BCS reads no code
+abbrev branch_reads_nothing : Operation → CodeUse
+branch_reads_nothing (operations.BranchIf condition) = may_jump none none
+branch_reads_nothing operation = code_use_of operation
+
+read_carry : AreUsedAs branch_reads_nothing → ⊥
+unfolding operation_at control_opcodes operands_of long_operation operation_script evaluated_row operands_from find locate read_found obtain body branch_if holds
+read_carry said =
+    let left = said two_pages 0 (short_form 0x1f (Target 600) Unused Unused) (operations.BranchIf CarrySet) (state_with 0) (state_with 1) refl carry_alone none_read in
+    let pc : 516 ≡ 600 = left.same.pc in absurd (omega (arith, pc))

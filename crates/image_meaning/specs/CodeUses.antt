@@ -55,11 +55,14 @@ Alike AreAlike (Fault exception) (Fault exception') = exception ≡ exception'
 Alike AreAlike (Ends e) (Ends e') = AreAlike e e'
 Alike AreAlike _ _ = ⊥
 
--- From two states that differ in codes alone, and have those that the instruction reads in common, its trees are alike: so
--- the codes that it isn't said to read have no effect, those that it isn't said to write stay, and where it isn't said to
--- end it goes on behind it.
-abbrev pub CodesAreUsed : Type 0
-CodesAreUsed = (pages : Pages) (thread : ℕ) (instr : Instr) (operation : Operation) (one other : VaxState)
-    → operation_at instr.opcode ≡ Some operation → SameButCodes one other → AgreeOn (code_use_of operation).reads one other
-    → Alike (EndAlike (code_use_of operation) instr.after one other)
+-- From two states that differ in codes alone, and have those that the instruction is said to read in common, its trees are
+-- alike: so the codes that it isn't said to read have no effect, those that it isn't said to write stay, and where it isn't
+-- said to end it goes on behind it.
+abbrev pub AreUsedAs : (said : Operation → CodeUse) → Type 0
+AreUsedAs said = (pages : Pages) (thread : ℕ) (instr : Instr) (operation : Operation) (one other : VaxState)
+    → operation_at instr.opcode ≡ Some operation → SameButCodes one other → AgreeOn (said operation).reads one other
+    → Alike (EndAlike (said operation) instr.after one other)
     (instruction_tree pages (any_script_of instr thread) one) (instruction_tree pages (any_script_of instr thread) other)
+
+abbrev pub CodesAreUsed : Type 0
+CodesAreUsed = AreUsedAs code_use_of
