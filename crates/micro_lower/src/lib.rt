@@ -2,8 +2,10 @@
 //! are made from in its temporaries.
 #![tactic(auto)]
 
+mod arithmetic;
 mod branches;
 mod codes;
+mod jumps;
 mod micros;
 mod moves;
 mod plans;

@@ -1,0 +1,245 @@
+// Arithmetic and logical instructions, and tests.
+// VAX Architecture Reference Manual, "Integer Arithmetic and Logical Instructions".
+ghost use Rattle.std.specs.Prelude.{◌≡◌, ◌≤◌, IfOk, length};
+ghost use Rattle.vax_form.specs.Size.{size_of};
+ghost use Rattle.micro_ops.specs.Sources.{sources_of};
+ghost use Rattle.micro_lower.specs.Plans.{plan_of, program_of};
+ghost use Rattle.micro_lower.specs.Rows.{compare_plan, test_plan, bit_test_plan, micro_of, behind_binary, two_operands_plan, three_operands_plan, by_one_plan};
+
+use crate::micros::{binary, unary};
+use crate::plans::{Plan, Target, assemble};
+use crate::rows::{modified, operand, overflow_by, read, written};
+use micro_ops::{Arg, CodeSources, Exit, Micro, MicroOp, sources_of};
+use std::alloc::Global;
+use vax_form::{BinaryOperation, Instr, Operation, Size, WantOfMemory, Width};
+
+/// CMP.
+pub(crate) fn compare(
+    alloc: Global,
+    instr: &Instr,
+    width: Width,
+) -> Result<Vec<Micro>, WantOfMemory>
+    ensures { IfOk result (λ p. p.items ≡ program_of (sources_of (Operation.Compare width)) (compare_plan width) instr.now) }
+{
+    let plan = Plan {
+        slots: &[read(width.size(), 0, 1), read(width.size(), 1, 2)],
+        before: &[],
+        target: Target::Nowhere,
+        behind: &[],
+        exit: Exit::Next,
+    };
+    let codes = sources_of(Operation::Compare(width));
+    assemble(alloc, codes, plan, instr)
+}
+
+/// TST.
+pub(crate) fn test_value(
+    alloc: Global,
+    instr: &Instr,
+    width: Width,
+) -> Result<Vec<Micro>, WantOfMemory>
+    ensures { IfOk result (λ p. p.items ≡ program_of (sources_of (Operation.Test width)) (test_plan width) instr.now) }
+{
+    let plan = Plan {
+        slots: &[read(width.size(), 0, 1)],
+        before: &[],
+        target: Target::Nowhere,
+        behind: &[unary(2, MicroOp::Move, width.size(), Arg::Temp(0))],
+        exit: Exit::Next,
+    };
+    assemble(alloc, sources_of(Operation::Test(width)), plan, instr)
+}
+
+/// BIT.
+pub(crate) fn bit_test(
+    alloc: Global,
+    instr: &Instr,
+    width: Width,
+) -> Result<Vec<Micro>, WantOfMemory>
+    ensures { IfOk result (λ p. p.items ≡ program_of (sources_of (Operation.BitTest width)) (bit_test_plan width) instr.now) }
+{
+    let size = width.size();
+    let plan = Plan {
+        slots: &[read(size, 0, 1), read(size, 1, 2)],
+        before: &[],
+        target: Target::Nowhere,
+        behind: &[
+            binary(2, MicroOp::And, size, Arg::Temp(0), Arg::Temp(1)),
+            unary(0, MicroOp::Move, size, Arg::Temp(2)),
+        ],
+        exit: Exit::Next,
+    };
+    let codes = sources_of(Operation::BitTest(width));
+    assemble(alloc, codes, plan, instr)
+}
+
+/// What makes the result; a division has no program.
+fn micro_of(operation: BinaryOperation) -> MicroOp
+    ensures { result ≡ micro_of operation }
+{
+    match operation {
+        BinaryOperation::Add => MicroOp::Add,
+        BinaryOperation::Subtract => MicroOp::Sub,
+        BinaryOperation::Multiply | BinaryOperation::Divide => MicroOp::Mul,
+        BinaryOperation::BitSet => MicroOp::Or,
+        BinaryOperation::BitClear => MicroOp::AndNot,
+        BinaryOperation::ExclusiveOr => MicroOp::Xor,
+    }
+}
+
+/// A row with two operands in 0 and 1: V of a product is computed, and a logical result is also in 0.
+fn assemble_binary(
+    alloc: Global,
+    operation: BinaryOperation,
+    size: Size,
+    plan: Plan<'_>,
+    codes: CodeSources,
+    instr: &Instr,
+) -> Result<Vec<Micro>, WantOfMemory>
+    requires { length plan.slots.now ≤ 6 }
+    ensures { IfOk result (λ p. p.items ≡ program_of codes (record (plan_of plan.entry) { behind = behind_binary operation size }) instr.now) }
+{
+    match operation {
+        BinaryOperation::Add | BinaryOperation::Subtract => {
+            assemble(
+                alloc,
+                codes,
+                Plan {
+                    behind: &[],
+                    ..plan
+                },
+                instr,
+            )
+        }
+        BinaryOperation::Multiply => {
+            let [extended, equal, overflows] = overflow_by(size);
+            let behind = [
+                unary(4, MicroOp::SignExtend, size, Arg::Temp(0)),
+                unary(5, MicroOp::SignExtend, size, Arg::Temp(1)),
+                binary(4, MicroOp::Mul, Size::Quad, Arg::Temp(4), Arg::Temp(5)),
+                extended,
+                equal,
+                overflows,
+            ];
+            assemble(
+                alloc,
+                codes,
+                Plan {
+                    behind: &behind,
+                    ..plan
+                },
+                instr,
+            )
+        }
+        _ => {
+            let behind = [unary(0, MicroOp::Move, size, Arg::Temp(2))];
+            assemble(
+                alloc,
+                codes,
+                Plan {
+                    behind: &behind,
+                    ..plan
+                },
+                instr,
+            )
+        }
+    }
+}
+
+/// ADD2, SUB2, MUL2, BIS2, BIC2, XOR2.
+pub(crate) fn two_operands(
+    alloc: Global,
+    instr: &Instr,
+    operation: BinaryOperation,
+    width: Width,
+) -> Result<Vec<Micro>, WantOfMemory>
+    ensures { IfOk result (λ p. p.items ≡ program_of (sources_of (Operation.TwoOperands operation width)) (two_operands_plan operation width instr.now) instr.now) }
+{
+    let size = width.size();
+    let op = micro_of(operation);
+    let plan = Plan {
+        slots: &[read(size, 1, 2), modified(size, 0)],
+        before: &[binary(2, op, size, Arg::Temp(0), Arg::Temp(1))],
+        target: Target::Replacement {
+            operand: operand(instr, 1),
+            size,
+        },
+        behind: &[],
+        exit: Exit::Next,
+    };
+    let codes = sources_of(Operation::TwoOperands(operation, width));
+    assemble_binary(alloc, operation, size, plan, codes, instr)
+}
+
+/// ADD3, SUB3, MUL3, BIS3, BIC3, XOR3.
+pub(crate) fn three_operands(
+    alloc: Global,
+    instr: &Instr,
+    operation: BinaryOperation,
+    width: Width,
+) -> Result<Vec<Micro>, WantOfMemory>
+    ensures { IfOk result (λ p. p.items ≡ program_of (sources_of (Operation.ThreeOperands operation width)) (three_operands_plan operation width instr.now) instr.now) }
+{
+    let size = width.size();
+    let op = micro_of(operation);
+    let plan = Plan {
+        slots: &[read(size, 1, 2), read(size, 0, 2), written(size)],
+        before: &[binary(2, op, size, Arg::Temp(0), Arg::Temp(1))],
+        target: Target::Result {
+            operand: operand(instr, 2),
+            size,
+        },
+        behind: &[],
+        exit: Exit::Next,
+    };
+    let codes = sources_of(Operation::ThreeOperands(operation, width));
+    assemble_binary(alloc, operation, size, plan, codes, instr)
+}
+
+/// 1 is added or subtracted.
+fn by_one(
+    alloc: Global,
+    instr: &Instr,
+    op: MicroOp,
+    width: Width,
+    codes: CodeSources,
+) -> Result<Vec<Micro>, WantOfMemory>
+    ensures { IfOk result (λ p. p.items ≡ program_of codes (by_one_plan op width instr.now) instr.now) }
+{
+    let (size, one) = (width.size(), Arg::Const(1));
+    let plan = Plan {
+        slots: &[modified(size, 0)],
+        before: &[binary(2, op, size, Arg::Temp(0), one)],
+        target: Target::Replacement {
+            operand: operand(instr, 0),
+            size,
+        },
+        behind: &[unary(1, MicroOp::Move, Size::Byte, one)],
+        exit: Exit::Next,
+    };
+    assemble(alloc, codes, plan, instr)
+}
+
+/// INC.
+pub(crate) fn increment(
+    alloc: Global,
+    instr: &Instr,
+    width: Width,
+) -> Result<Vec<Micro>, WantOfMemory>
+    ensures { IfOk result (λ p. p.items ≡ program_of (sources_of (Operation.Increment width)) (by_one_plan MicroOp.Add width instr.now) instr.now) }
+{
+    let codes = sources_of(Operation::Increment(width));
+    by_one(alloc, instr, MicroOp::Add, width, codes)
+}
+
+/// DEC.
+pub(crate) fn decrement(
+    alloc: Global,
+    instr: &Instr,
+    width: Width,
+) -> Result<Vec<Micro>, WantOfMemory>
+    ensures { IfOk result (λ p. p.items ≡ program_of (sources_of (Operation.Decrement width)) (by_one_plan MicroOp.Sub width instr.now) instr.now) }
+{
+    let codes = sources_of(Operation::Decrement(width));
+    by_one(alloc, instr, MicroOp::Sub, width, codes)
+}
