@@ -1,5 +1,5 @@
 -- A row fits where that can be computed of its pieces.
-use Rattle.std.proofs.Common.{◌≡◌, ℕ, ◌+◌, ◌<◌, ◌≤◌, Bool, true, false, List, [], ◌∷◌, ◌++◌, length, Option, Some, None, refl, sym, ap, ◌∙◌, subst, arith, inl, inr, length-set}
+use Rattle.std.proofs.Common.{◌≡◌, ℕ, ◌+◌, ◌<◌, ◌≤◌, Bool, true, false, List, [], ◌∷◌, ◌++◌, length, replicate, Option, Some, None, refl, sym, ap, ◌∙◌, subst, arith, inl, inr, lit≤, length-set}
 use Rattle.std.specs.Prelude.{◌&&◌, nat_lt, nat_le, option_and_then, sum_by, min}
 use Rattle.std.specs.List.{list_all}
 use Rattle.std.proofs.lemmas.Bool.{and_parts, and_from, ltb-true, leb-true, le-leb, cases_lt, both_ways}
@@ -14,7 +14,7 @@ use Rattle.vax_form.specs.declared.instr.Operand.{Operand}
 use Rattle.vax_form.specs.declared.instr.Operand.TheVariants.{Unused, Value, Register, Place, Target}
 use Rattle.vax_form.specs.declared.instr.Size.{Size}
 use Rattle.vax_form.specs.declared.instr.Size.TheVariants.{Byte, Word, Long, Quad}
-use Rattle.micro_ops.specs.Fits.{walk, when_fits, is_ended, all_keep_low, most_words}
+use Rattle.micro_ops.specs.Fits.{walk, when_fits, is_ended, all_keep_low, most_words, fits, names_low}
 use Rattle.micro_ops.specs.Known.{at_start, holds, has_flag}
 use Rattle.micro_ops.specs.Laws.{IsLowPiece, piece_words}
 use Rattle.micro_ops.specs.WordCounts.{words_of, program_words}
@@ -26,14 +26,14 @@ use Rattle.micro_ops.proofs.Walks.{walks_joined, words_of_piece, piece_keeps_low
 use Rattle.operand_programs.specs.Specifiers.{steps_behind, steps_behind_operand, commit_program}
 use Rattle.operand_programs.specs.Operands.{operand_program, steps_behind_access, steps_behind_specifier}
 use Rattle.operand_programs.specs.InOrder.{operands_program, steps_behind_all, no_steps}
-use Rattle.operand_programs.specs.Results.{push_program, result_program, replacement_program, finish_program}
+use Rattle.operand_programs.specs.Results.{push_program, result_program, replacement_program, steps_behind_push, finish_program}
 use Rattle.operand_programs.specs.Words.{words_of_steps, operand_most}
 use Rattle.operand_programs.specs.Knowing.{KnowsMore, FitsBetween}
 use Rattle.operand_programs.specs.Behind.{AreFit, is_unchanged, is_uncommitted, behind_operands, behind_commits, stepping, finishing}
-use Rattle.operand_programs.specs.Rows.{Piece, Evaluates, Operates, Stores, Replaces, Pushes, Finishes, Commits, piece_program, steps_behind_piece, row_program, all_registers, behind_piece, walk_row, piece_most, piece_is_low, PieceIsFit, PiecesAreFit, RowFits}
+use Rattle.operand_programs.specs.Rows.{Piece, Evaluates, Operates, Stores, Replaces, Pushes, Finishes, Commits, piece_program, steps_behind_piece, row_program, all_registers, behind_piece, walk_row, piece_most, piece_is_low, PieceIsFit, PiecesAreFit, row_fits, RowFits}
 use Rattle.operand_programs.specs.declared.operands.Specifier.{Specifier}
 use Rattle.operand_programs.proofs.Held.{flag_past}
-use Rattle.operand_programs.proofs.More.{no_more, knows_itself, fits_behind_more, knowing_less}
+use Rattle.operand_programs.proofs.More.{no_more, same_check, knows_itself, fits_behind_more, knowing_less}
 use Rattle.operand_programs.proofs.OperandWalks.{operands_fit}
 use Rattle.operand_programs.proofs.Committing.{push_fits, commits_fit, finish_fits}
 use Rattle.operand_programs.proofs.Short.{operand_is_short, result_is_short, replacement_is_short, push_is_short, finish_is_short}

@@ -1,5 +1,5 @@
 -- How much is known, at least, behind the parts of a program that evaluate operands, push, and commit.
-use Rattle.std.specs.Prelude.{◌≡◌, ℕ, ◌+◌, ◌==◌, ◌<◌, ◌&&◌, Bool, true, false, not, List, [], ◌∷◌, length, map, min, slice_set, nat_le}
+use Rattle.std.specs.Prelude.{◌≡◌, ℕ, ◌+◌, ◌==◌, ◌<◌, ◌&&◌, Bool, true, false, not, List, [], ◌∷◌, length, map, min, slice_set, nat_le, if◌then◌else◌}
 use Rattle.std.specs.List.{list_any}
 use Rattle.vax_form.specs.Size.{bytes_of}
 use Rattle.vax_form.specs.declared.instr.Access.{Access}
@@ -15,6 +15,7 @@ use Rattle.micro_ops.specs.declared.known.Checked.TheVariants.{Nowhere, At}
 use Rattle.micro_ops.specs.declared.known.Holding.{Holding}
 use Rattle.micro_ops.specs.declared.known.Holding.TheVariants.{Nothing, Longword}
 use Rattle.micro_ops.specs.declared.known.Known.{Known}
+use Rattle.micro_ops.specs.declared.program.Micro.{Micro}
 use Rattle.operand_programs.specs.Specifiers.{commit_program}
 use Rattle.operand_programs.specs.Operands.{operand_program, IsPlaced}
 use Rattle.operand_programs.specs.InOrder.{operands_program, no_steps}
@@ -49,20 +50,26 @@ is_in_memory operand = false
 abbrev pub value_holding : Size → Holding
 value_holding size = holding_of (nat_le (bytes_of size) 4)
 
--- an operand in memory that is modified was checked for writing; a displacement takes no operation
+-- an operand in memory that is modified was checked for writing
 abbrev pub behind_access_of : Access → (in_memory : Bool) → Size → (to place : ℕ) → Known → Known
-behind_access_of Read in_memory size to place known = behind_write to (value_holding size) (lasting known)
-behind_access_of Write true size to place known = behind_write place Longword (lasting known)
-behind_access_of Write false size to place known = lasting known
-behind_access_of Modify true size to place known = behind_write to (value_holding size) (record (behind_write place Longword (lasting known)) { checked = At place (bytes_of size) true })
-behind_access_of Modify false size to place known = behind_write to (value_holding size) (lasting known)
-behind_access_of Address in_memory size to place known = behind_write to Longword (lasting known)
-behind_access_of Field true size to place known = behind_write place Longword (lasting known)
-behind_access_of Field false size to place known = behind_write to Longword (lasting known)
+behind_access_of Read in_memory size to place known = behind_write to (value_holding size) known
+behind_access_of Write true size to place known = behind_write place Longword known
+behind_access_of Write false size to place known = known
+behind_access_of Modify true size to place known = behind_write to (value_holding size) (record (behind_write place Longword known) { checked = At place (bytes_of size) true })
+behind_access_of Modify false size to place known = behind_write to (value_holding size) known
+behind_access_of Address in_memory size to place known = behind_write to Longword known
+behind_access_of Field true size to place known = behind_write place Longword known
+behind_access_of Field false size to place known = behind_write to Longword known
 behind_access_of Branch in_memory size to place known = known
 
+-- a displacement is no operation
+abbrev pub before_access : Access → Known → Known
+before_access Branch known = known
+before_access access known = lasting known
+
 abbrev pub behind_operand : Specifier → Known → Known
-behind_operand specifier known = behind_access_of specifier.access (is_in_memory specifier.operand) specifier.size specifier.to specifier.place known
+behind_operand specifier known =
+    behind_access_of specifier.access (is_in_memory specifier.operand) specifier.size specifier.to specifier.place (before_access specifier.access known)
 
 abbrev pub behind_operands : List Specifier → Known → Known
 behind_operands [] known = known

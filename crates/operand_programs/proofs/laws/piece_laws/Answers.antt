@@ -1,11 +1,7 @@
 -- What pieces leave known.
 use Rattle.operand_programs.proofs.Committing.{push_fits, commits_fit, finish_fits}
-use Rattle.operand_programs.proofs.Named.{specified_is_named}
 use Rattle.operand_programs.proofs.OperandWalks.{operand_fits, operands_fit}
 use Rattle.operand_programs.proofs.laws.piece_laws.Goals as goal
-
-pub returns-clause-named : goal.returns-clause-named
-returns-clause-named c = specified_is_named
 
 pub returns-clause-operand : goal.returns-clause-operand
 returns-clause-operand c = operand_fits
