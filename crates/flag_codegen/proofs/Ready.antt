@@ -1,24 +1,28 @@
 -- Codes that are live are ready.
-use Rattle.std.proofs.Common.{◌≡◌, refl, sym, ap, Bool, true, false}
+use Rattle.std.proofs.Common.{◌≡◌, refl, sym, ap, Bool, true, false, List, [], ◌∷◌, map}
+use Rattle.std.specs.Prelude.{if◌then◌else◌}
 use Rattle.vax_form.specs.Row.{class_of_operation, class_of_binary}
 use Rattle.vax_form.specs.declared.instr.Width.{Width}
 use Rattle.vax_form.specs.declared.operation.BinaryOperation.{BinaryOperation}
 use Rattle.vax_form.specs.declared.operation.BinaryOperation.TheVariants as binary
+use Rattle.vax_form.specs.declared.operation.Operation.{Operation}
 use Rattle.vax_form.specs.declared.operation.Operation.TheVariants as operations
 use Rattle.vax_form.specs.declared.row.Class.TheVariants.{Translated}
 use Rattle.vax_form.specs.declared.state.Flags.{Flags}
-use Rattle.cc_liveness.specs.Codes.{Code, holds}
+use Rattle.cc_liveness.specs.Codes.{Code, holds, all}
 use Rattle.cc_liveness.specs.Codes as code
-use Rattle.cc_liveness.specs.Liveness.{passes}
+use Rattle.cc_liveness.specs.declared.uses.CodeUse.{CodeUse}
+use Rattle.cc_liveness.specs.Liveness.{passes, live_behind, wanted_by, live_codes}
 use Rattle.cc_liveness.specs.Uses.{code_use_of, written_by_binary}
 use Rattle.micro_ops.specs.declared.codes.CodeSource.{CodeSource}
 use Rattle.micro_ops.specs.declared.codes.CodeSource.TheVariants.{Kept}
 use Rattle.micro_ops.specs.Sources.{sources_of}
-use Rattle.exception_records.specs.Codes.{is_ready}
+use Rattle.exception_records.specs.Codes.{is_ready, all_ready}
 use Rattle.exception_records.specs.declared.rules.CodeRule.{CodeRule}
+use Rattle.exception_records.specs.declared.rules.Rules.{Rules}
 use Rattle.block_law.specs.CodeWords.{is_written, codes_written_by}
 use Rattle.flag_codegen.specs.Rules.{rule_behind, rules_behind}
-use Rattle.flag_codegen.specs.Promises.{AreReady, SourcesAreWritten, LiveAreReady}
+use Rattle.flag_codegen.specs.Promises.{AreReady, SourcesAreWritten, LiveAreReady, RunsAreReady, AreReadyAlong, AreTranslated, rules_along}
 
 -- ---- what is written
 two_written : (operation : BinaryOperation) (width : Width) → class_of_binary operation ≡ Translated
@@ -75,3 +79,32 @@ live_are_ready operation live before translated h = by
     by code.zero_code l = ready_behind (sources_of operation).nzv (code_use_of operation).reads.z (code_use_of operation).writes.z live.z before.z (ap (λ (set : Flags). set.z) written) l (h code.zero_code)
     by code.overflow l = ready_behind (sources_of operation).nzv (code_use_of operation).reads.v (code_use_of operation).writes.v live.v before.v (ap (λ (set : Flags). set.v) written) l (h code.overflow)
     by code.carry l = ready_behind (sources_of operation).c (code_use_of operation).reads.c (code_use_of operation).writes.c live.c before.c (ap (λ (set : Flags). set.c) written) l (h code.carry)
+
+-- ---- along a run
+all_hold : (which : Code) → holds which all ≡ true
+all_hold code.negative = refl
+all_hold code.zero_code = refl
+all_hold code.overflow = refl
+all_hold code.carry = refl
+
+-- what is wanted behind an instruction is live behind it
+wanted_live : (instruction : CodeUse) (wanted : Flags) (which : Code) → holds which wanted ≡ true → holds which (live_behind instruction wanted) ≡ true
+wanted_live instruction wanted which h = elim instruction.ends as (λ b. holds which (if b then all else wanted) ≡ true) [ true ↦ all_hold which | false ↦ h ]
+
+ready_along : (run : List Operation) (before : Rules) → AreTranslated run → AreReady (wanted_by (map code_use_of run)) before
+    → let lives = live_codes (map code_use_of run) in AreReadyAlong lives (rules_along run lives before)
+ready_along [] before translated ready = tt
+ready_along (operation ∷ run) before translated ready =
+    let said = code_use_of operation in
+    let live = live_behind said (wanted_by (map code_use_of run)) in
+    let here = live_are_ready operation live before translated.0 ready in
+    (here, ready_along run (rules_behind (sources_of operation) live before) translated.1 (λ which h. here which (wanted_live said (wanted_by (map code_use_of run)) which h)))
+
+pub runs_are_ready : RunsAreReady
+runs_are_ready run translated = ready_along run all_ready translated all_are
+  where
+    all_are : AreReady (wanted_by (map code_use_of run)) all_ready
+    all_are code.negative h = refl
+    all_are code.zero_code h = refl
+    all_are code.overflow h = refl
+    all_are code.carry h = refl

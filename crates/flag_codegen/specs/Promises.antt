@@ -1,16 +1,16 @@
 -- What is promised of the words of condition codes, and of the rules behind an instruction.
-use Rattle.std.specs.Prelude.{◌≡◌, ℕ, true}
+use Rattle.std.specs.Prelude.{◌≡◌, ℕ, true, List, [], ◌∷◌, map}
 use Rattle.vax_form.specs.Row.{class_of_operation}
 use Rattle.vax_form.specs.declared.operation.Operation.{Operation}
 use Rattle.vax_form.specs.declared.row.Class.TheVariants.{Translated}
 use Rattle.vax_form.specs.declared.state.Flags.{Flags}
 use Rattle.cc_liveness.specs.Codes.{Code, holds}
 use Rattle.cc_liveness.specs.Codes as code
-use Rattle.cc_liveness.specs.Liveness.{wanted_before}
+use Rattle.cc_liveness.specs.Liveness.{wanted_before, live_codes}
 use Rattle.cc_liveness.specs.Uses.{code_use_of}
 use Rattle.micro_ops.specs.Sources.{sources_of}
 use Rattle.block_law.specs.CodeWords.{codes_written_by}
-use Rattle.exception_records.specs.Codes.{is_ready}
+use Rattle.exception_records.specs.Codes.{is_ready, all_ready}
 use Rattle.exception_records.specs.declared.rules.CodeRule.{CodeRule}
 use Rattle.exception_records.specs.declared.rules.Rules.{Rules}
 use Rattle.flag_codegen.specs.Rules.{rules_behind}
@@ -40,3 +40,25 @@ abbrev pub LiveAreReady : Type 0
 LiveAreReady = (operation : Operation) (live : Flags) (before : Rules) → class_of_operation operation ≡ Translated
     → AreReady (wanted_before (code_use_of operation) live) before
     → AreReady live (rules_behind (sources_of operation) live before)
+
+-- the rules behind each instruction of a run, where these codes are live behind each
+abbrev pub rules_along : (run : List Operation) → (live : List Flags) → (before : Rules) → List Rules
+rules_along [] lives before = []
+rules_along (operation ∷ run) [] before = []
+rules_along (operation ∷ run) (live ∷ lives) before =
+    let behind = rules_behind (sources_of operation) live before in behind ∷ rules_along run lives behind
+
+abbrev pub AreReadyAlong : (lives : List Flags) → List Rules → Type 0
+AreReadyAlong (live ∷ lives) (rules ∷ rest) = AreReady live rules × AreReadyAlong lives rest
+AreReadyAlong [] [] = Unit {0}
+AreReadyAlong _ _ = ⊥
+
+abbrev pub AreTranslated : List Operation → Type 0
+AreTranslated [] = Unit {0}
+AreTranslated (operation ∷ run) = (class_of_operation operation ≡ Translated) × AreTranslated run
+
+-- Along a run of translated instructions before which all codes are ready, the codes that are live behind each are ready
+-- there; all are behind the last.
+abbrev pub RunsAreReady : Type 0
+RunsAreReady = (run : List Operation) → AreTranslated run
+    → let lives = live_codes (map code_use_of run) in AreReadyAlong lives (rules_along run lives all_ready)
