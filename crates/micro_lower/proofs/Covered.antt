@@ -17,7 +17,7 @@ use Rattle.vax_meaning.specs.Branches.{target}
 use Rattle.vax_meaning.specs.Evaluation.{operand}
 use Rattle.micro_ops.specs.declared.program.Micro.{Micro}
 use Rattle.micro_lower.specs.Lowering.{Lowers}
-use Rattle.micro_lower.specs.Programs.{is_lowered, no_operation_program, breakpoint_program, branch_program, branch_if_program, subroutine_program, return_program}
+use Rattle.micro_lower.specs.Programs.{is_plain, no_operation_program, breakpoint_program, branch_program, branch_if_program, subroutine_program, return_program}
 use Rattle.micro_lower.proofs.Spelled.{Given, given, with_operands}
 use Rattle.micro_lower.proofs.Plain.{lowers, no_operation_does, no_operation_fits, breakpoint_does, breakpoint_fits, branch_does, branch_fits, branch_if_does, branch_if_fits, subroutine_does, subroutine_fits, return_does, return_fits}
 
@@ -83,14 +83,14 @@ pub renamed : (operation other : Operation) (instr : Instr) (program : List Micr
     → (operation_at instr.opcode ≡ Some other → Lowers other instr program) → Lowers operation instr program
 renamed operation other instr program is at_opcode lowered = subst (λ o. Lowers o instr program) (sym is) (lowered (at_opcode ∙ ap Some is))
 
-pub not_lowered : (operation : Operation) → (operation ≡ operations.NoOperation → ⊥) → (operation ≡ operations.Breakpoint → ⊥) → ((width : Width) → operation ≡ operations.Branch width → ⊥)
+pub not_plain : (operation : Operation) → (operation ≡ operations.NoOperation → ⊥) → (operation ≡ operations.Breakpoint → ⊥) → ((width : Width) → operation ≡ operations.Branch width → ⊥)
     → ((condition : Condition) → operation ≡ operations.BranchIf condition → ⊥) → ((width : Width) → operation ≡ operations.BranchToSubroutine width → ⊥)
-    → (operation ≡ operations.ReturnFromSubroutine → ⊥) → is_lowered operation ≡ false
-unfolding is_lowered
-not_lowered operations.NoOperation a b c d e f = absurd (a refl)
-not_lowered operations.Breakpoint a b c d e f = absurd (b refl)
-not_lowered (operations.Branch width) a b c d e f = absurd (c width refl)
-not_lowered (operations.BranchIf condition) a b c d e f = absurd (d condition refl)
-not_lowered (operations.BranchToSubroutine width) a b c d e f = absurd (e width refl)
-not_lowered operations.ReturnFromSubroutine a b c d e f = absurd (f refl)
-not_lowered _ a b c d e f = refl
+    → (operation ≡ operations.ReturnFromSubroutine → ⊥) → is_plain operation ≡ false
+unfolding is_plain
+not_plain operations.NoOperation a b c d e f = absurd (a refl)
+not_plain operations.Breakpoint a b c d e f = absurd (b refl)
+not_plain (operations.Branch width) a b c d e f = absurd (c width refl)
+not_plain (operations.BranchIf condition) a b c d e f = absurd (d condition refl)
+not_plain (operations.BranchToSubroutine width) a b c d e f = absurd (e width refl)
+not_plain operations.ReturnFromSubroutine a b c d e f = absurd (f refl)
+not_plain _ a b c d e f = refl

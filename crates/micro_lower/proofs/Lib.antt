@@ -15,3 +15,7 @@ pub mod BinaryRows
 pub mod TestRows
 pub mod JumpRows
 pub mod LoopRows
+pub mod Fit
+pub mod RowsFit
+pub mod Lowered
+pub mod RowsLower

@@ -20,6 +20,8 @@ use Rattle.vax_meaning.specs.Evaluation.{operand}
 use Rattle.operand_programs.specs.InOrder.{IsOutsideOne, IsOutside, Lasts, ArePlaced, AreOperandsOf}
 use Rattle.operand_programs.specs.Operands.{IsFor, IsPlaced}
 use Rattle.operand_programs.specs.Pieces.{IsLong}
+use Rattle.operand_programs.specs.Behind.{AreFit}
+use Rattle.operand_programs.specs.Registers.{BaseIsNamed, NamesRegisters}
 use Rattle.operand_programs.specs.Results.{IsGivable}
 use Rattle.operand_programs.specs.declared.operands.Specifier.{Specifier}
 use Rattle.micro_lower.specs.Lowering.{IsLongOperand}
@@ -28,8 +30,12 @@ use Rattle.micro_lower.specs.declared.plans.Slot.{Slot}
 use Rattle.micro_lower.proofs.Spelled.{Given, given, with_operands}
 
 -- it can be used so, and given a value of that size
+abbrev pub CanBeUsed : Access → Size → Operand → Type 0
+CanBeUsed access size operand = IsFor access operand × IsGivable operand size
+
+-- and it names registers that there are
 abbrev pub Fits : Access → Size → Operand → Type 0
-Fits access size operand = IsFor access operand × IsGivable operand size
+Fits access size operand = CanBeUsed access size operand × NamesRegisters operand size
 
 below_255 : (size : Size) (n : ℕ) → HasRegister size n → IsGivable (operands.Register n) size
 below_255 Byte n has = tt
@@ -37,7 +43,7 @@ below_255 Word n has = tt
 below_255 Long n has = tt
 below_255 Quad n has = omega (arith, has)
 
-place_fits : (access : Access) (size : Size) (base : Base) (index : _) → access ≢ Branch → IsLong base → Fits access size (operands.Place base index)
+place_fits : (access : Access) (size : Size) (base : Base) (index : _) → access ≢ Branch → IsLong base → CanBeUsed access size (operands.Place base index)
 place_fits Read size base index other long = (long, tt)
 place_fits Write size base index other long = (long, tt)
 place_fits Modify size base index other long = (long, tt)
@@ -45,7 +51,7 @@ place_fits Address size base index other long = (long, tt)
 place_fits Field size base index other long = (long, tt)
 place_fits Branch size base index other long = absurd (other refl)
 
-value_fits : (access : Access) (size : Size) (value : ℕ) → access ≡ Read → Fits access size (operands.Value value)
+value_fits : (access : Access) (size : Size) (value : ℕ) → access ≡ Read → CanBeUsed access size (operands.Value value)
 value_fits Read size value is = (tt, tt)
 value_fits Write size value is = cc
 value_fits Modify size value is = cc
@@ -53,7 +59,7 @@ value_fits Address size value is = cc
 value_fits Field size value is = cc
 value_fits Branch size value is = cc
 
-register_fits : (access : Access) (size : Size) (n : ℕ) → access ≢ Address → access ≢ Branch → HasRegister size n → Fits access size (operands.Register n)
+register_fits : (access : Access) (size : Size) (n : ℕ) → access ≢ Address → access ≢ Branch → HasRegister size n → CanBeUsed access size (operands.Register n)
 register_fits Read size n other other' has = (tt, below_255 size n has)
 register_fits Write size n other other' has = (tt, below_255 size n has)
 register_fits Modify size n other other' has = (tt, below_255 size n has)
@@ -61,7 +67,7 @@ register_fits Address size n other other' has = absurd (other refl)
 register_fits Field size n other other' has = (tt, below_255 size n has)
 register_fits Branch size n other other' has = absurd (other' refl)
 
-described : (access : Access) (size : Size) (at : ℕ) (bytes : List ℕ) (operand : Operand) → access ≢ Branch → Describes access size at bytes operand → IsLongOperand operand → Fits access size operand
+described : (access : Access) (size : Size) (at : ℕ) (bytes : List ℕ) (operand : Operand) → access ≢ Branch → Describes access size at bytes operand → IsLongOperand operand → CanBeUsed access size operand
 described access size at bytes operand other (Describes.literal v lt is b o) long = rw o (value_fits access size v is)
 described access size at bytes operand other (Describes.register n has not b o) long = rw o (register_fits access size n not other has)
 described access size at bytes operand other (Describes.immediate d l is b o) long = rw o (value_fits access size (number d) is)
@@ -69,13 +75,46 @@ described access size at bytes operand other (Describes.constant_address d l is 
 described access size at bytes operand other (Describes.place base locates o) long = rw o (place_fits access size base None other (subst IsLongOperand o long))
 described access size at bytes operand other (Describes.indexed x base more lt locates free b o) long = rw o (place_fits access size base (Some x) other (subst IsLongOperand o long))
 
+used : (access : Access) (size : Size) (at : ℕ) (bytes : List ℕ) (operand : Operand) → Specifies access size at bytes operand → IsLongOperand operand → CanBeUsed access size operand
+used Branch size at bytes operand is long = rw is.1 (tt, tt)
+used Read size at bytes operand is long = described Read size at bytes operand (λ e. cc) is long
+used Write size at bytes operand is long = described Write size at bytes operand (λ e. cc) is long
+used Modify size at bytes operand is long = described Modify size at bytes operand (λ e. cc) is long
+used Address size at bytes operand is long = described Address size at bytes operand (λ e. cc) is long
+used Field size at bytes operand is long = described Field size at bytes operand (λ e. cc) is long
+
+-- ---- registers
+base_named : (size : Size) (at : ℕ) (bytes : List ℕ) (base : Base) → Locates size at bytes base → BaseIsNamed base
+base_named size at bytes base (Locates.deferred n lt b is) = rw is lt
+base_named size at bytes base (Locates.decrement n lt b is) = rw is lt
+base_named size at bytes base (Locates.increment n lt b is) = rw is lt
+base_named size at bytes base (Locates.increment_deferred n lt b is) = rw is lt
+base_named size at bytes base (Locates.absolute d l b is) = rw is tt
+base_named size at bytes base (Locates.byte_displacement n twice d lt l b is) = rw is lt
+base_named size at bytes base (Locates.word_displacement n twice d lt l b is) = rw is lt
+base_named size at bytes base (Locates.long_displacement n twice d lt l b is) = rw is lt
+base_named size at bytes base (Locates.byte_relative twice d l b is) = rw is tt
+base_named size at bytes base (Locates.word_relative twice d l b is) = rw is tt
+base_named size at bytes base (Locates.long_relative twice d l b is) = rw is tt
+
+described_named : (access : Access) (size : Size) (at : ℕ) (bytes : List ℕ) (operand : Operand) → Describes access size at bytes operand → NamesRegisters operand size
+described_named access size at bytes operand (Describes.literal v lt is b o) = rw o tt
+described_named access size at bytes operand (Describes.register n has not b o) = rw o has
+described_named access size at bytes operand (Describes.immediate d l is b o) = rw o tt
+described_named access size at bytes operand (Describes.constant_address d l is b o) = rw o (tt, tt)
+described_named access size at bytes operand (Describes.place base locates o) = rw o (base_named size at bytes base locates, tt)
+described_named access size at bytes operand (Describes.indexed x base more lt locates free b o) = rw o (base_named size (at + 1) more base locates, lt)
+
+specified_is_named : (access : Access) (size : Size) (at : ℕ) (bytes : List ℕ) (operand : Operand) → Specifies access size at bytes operand → NamesRegisters operand size
+specified_is_named Branch size at bytes operand is = rw is.1 tt
+specified_is_named Read size at bytes operand is = described_named Read size at bytes operand is
+specified_is_named Write size at bytes operand is = described_named Write size at bytes operand is
+specified_is_named Modify size at bytes operand is = described_named Modify size at bytes operand is
+specified_is_named Address size at bytes operand is = described_named Address size at bytes operand is
+specified_is_named Field size at bytes operand is = described_named Field size at bytes operand is
+
 specified : (access : Access) (size : Size) (at : ℕ) (bytes : List ℕ) (operand : Operand) → Specifies access size at bytes operand → IsLongOperand operand → Fits access size operand
-specified Branch size at bytes operand is long = rw is.1 (tt, tt)
-specified Read size at bytes operand is long = described Read size at bytes operand (λ e. cc) is long
-specified Write size at bytes operand is long = described Write size at bytes operand (λ e. cc) is long
-specified Modify size at bytes operand is long = described Modify size at bytes operand (λ e. cc) is long
-specified Address size at bytes operand is long = described Address size at bytes operand (λ e. cc) is long
-specified Field size at bytes operand is long = described Field size at bytes operand (λ e. cc) is long
+specified access size at bytes operand is long = (used access size at bytes operand is long, specified_is_named access size at bytes operand is)
 
 -- ---- several operands
 -- the types of the slots
@@ -197,12 +236,18 @@ are_placed (slot ∷ slots) (operand ∷ operands) fit is =
     let d = both _ _ e.0 in
     let c = both _ _ d.0 in
     let b = both _ _ c.0 in (
-      record { operand = fit.0.0; to = ltb-true slot.to 4 b.0; place = ltb-true slot.place 4 b.1; apart = negated _ c.1 },
+      record { operand = fit.0.0.0; to = ltb-true slot.to 4 b.0; place = ltb-true slot.place 4 b.1; apart = negated _ c.1 },
       last slot.access slot.to slot.place slots operands fit.1 d.1,
       are_placed slots operands fit.1 e.1,
     )
 are_placed [] (operand ∷ operands) fit is = absurd fit
 are_placed (slot ∷ slots) [] fit is = absurd fit
+
+are_fit : (slots : List Slot) (operands : List Operand) → FitSlots slots operands → ArePlaced (zip slots operands) → AreFit (zip slots operands)
+are_fit [] [] fit placed = tt
+are_fit (slot ∷ slots) (operand ∷ operands) fit placed = (record { placed = placed.0; registers = fit.0.1 }, are_fit slots operands fit.1 placed.2)
+are_fit [] (operand ∷ operands) fit placed = absurd fit
+are_fit (slot ∷ slots) [] fit placed = absurd fit
 
 -- the operands of an instruction fit the slots
 pub record AreSlots (slots : List Slot) (instr : Instr) : Type 0 where
@@ -211,6 +256,7 @@ pub record AreSlots (slots : List Slot) (instr : Instr) : Type 0 where
   pub is_instr : instr ≡ with_operands instr.at instr.opcode instr.count instr.after operands
   pub are : specifiers_from 0 slots instr ≡ zip slots operands
   pub placed : ArePlaced (specifiers_from 0 slots instr)
+  pub registers : AreFit (specifiers_from 0 slots instr)
   pub of_instruction : AreOperandsOf (specifiers_from 0 slots instr) (row_with (types_of slots)) instr
 
 pub are_slots : (slots : List Slot) (instr : Instr) (operands : List Operand) → FitSlots slots operands → are_apart slots ≡ true → length slots ≤ 4
@@ -223,5 +269,6 @@ are_slots slots instr operands fit apart few is =
       is_instr = is;
       are = are;
       placed = rw are (are_placed slots operands fit apart);
+      registers = rw are (are_fit slots operands fit (are_placed slots operands fit apart));
       of_instruction = rw (are, are_types slots operands fit, are_operands slots operands fit) (refl, ap (λ (i : Instr). i.operands) is);
     }

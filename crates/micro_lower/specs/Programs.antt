@@ -87,12 +87,12 @@ return_program =
     ∷ Leave (Computed 0)
     ∷ []
 
--- the operations whose programs are made here
-unfoldable pub is_lowered : Operation → Bool
-is_lowered NoOperation = true
-is_lowered operations.Breakpoint = true
-is_lowered (Branch width) = true
-is_lowered (BranchIf condition) = true
-is_lowered (BranchToSubroutine width) = true
-is_lowered ReturnFromSubroutine = true
-is_lowered _ = false
+-- these operations evaluate no operand specifier
+unfoldable pub is_plain : Operation → Bool
+is_plain NoOperation = true
+is_plain operations.Breakpoint = true
+is_plain (Branch width) = true
+is_plain (BranchIf condition) = true
+is_plain (BranchToSubroutine width) = true
+is_plain ReturnFromSubroutine = true
+is_plain _ = false

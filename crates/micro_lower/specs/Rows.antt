@@ -1,6 +1,7 @@
 -- The rows of the table of instructions: the plan of each operation.
 -- VAX Architecture Reference Manual, "Instruction Descriptions".
-use Rattle.std.specs.Prelude.{ℕ, List, [], ◌∷◌, ◌++◌, Bool, true, false, None}
+use Rattle.std.specs.Prelude.{ℕ, List, [], ◌∷◌, ◌++◌, Bool, true, false, ◌||◌, Option, Some, None}
+use Rattle.std.specs.Option.{is_some, option_or}
 use Rattle.vax_form.specs.Size.{size_of}
 use Rattle.vax_form.specs.declared.instr.Access.{Access}
 use Rattle.vax_form.specs.declared.instr.Access.TheVariants as accesses
@@ -13,6 +14,8 @@ use Rattle.vax_form.specs.declared.instr.Size.TheVariants.{Byte, Word, Long, Qua
 use Rattle.vax_form.specs.declared.instr.Width.{Width}
 use Rattle.vax_form.specs.declared.operation.BinaryOperation.{BinaryOperation}
 use Rattle.vax_form.specs.declared.operation.BinaryOperation.TheVariants as binary
+use Rattle.vax_form.specs.declared.operation.Operation.{Operation}
+use Rattle.vax_form.specs.declared.operation.Operation.TheVariants as operations
 use Rattle.vax_meaning.specs.Branches.{target}
 use Rattle.vax_meaning.specs.Evaluation.{operand}
 use Rattle.micro_ops.specs.declared.program.Arg.TheVariants.{Temp, Const, Flag}
@@ -22,7 +25,10 @@ use Rattle.micro_ops.specs.declared.program.Micro.{Micro}
 use Rattle.micro_ops.specs.declared.program.Micro.TheVariants.{Compute}
 use Rattle.micro_ops.specs.declared.program.MicroOp.{MicroOp}
 use Rattle.micro_ops.specs.declared.program.MicroOp.TheVariants as ops
-use Rattle.micro_lower.specs.Plans.{Plan, unary}
+use Rattle.micro_ops.specs.Sources.{sources_of}
+use Rattle.micro_ops.specs.declared.codes.CodeSources.{CodeSources}
+use Rattle.micro_lower.specs.Plans.{Plan, unary, program_of}
+use Rattle.micro_lower.specs.Programs.{is_plain}
 use Rattle.micro_lower.specs.declared.plans.Slot.{Slot}
 use Rattle.micro_lower.specs.declared.plans.Target.TheVariants as targets
 
@@ -292,26 +298,30 @@ add_one_plan or_equal instr = record {
   exit = branch_exit instr 2;
 }
 
--- ACB: the limit is in 0, the addend in 1 and the index in 2. V: the sum less the addend is no such number. The index is at
--- most the limit, or with a negative addend at least the limit
+-- what ACB computes behind the sum. V: the sum less the addend is no such number. The index is at most the limit, or with a
+-- negative addend at least the limit
+abbrev pub behind_sum : Size → List Micro
+behind_sum size =
+    unary 4 ops.SignExtend size (Temp 2)
+    ∷ unary 5 ops.SignExtend size (Temp 1)
+    ∷ Compute 4 ops.Sub Quad (Temp 4) (Temp 5)
+    ∷ unary 5 ops.SignExtend size (Temp 4)
+    ∷ Compute 3 ops.Equal Quad (Temp 4) (Temp 5)
+    ∷ inverted 3
+    ∷ Compute 4 ops.Less size (Temp 0) (Temp 2)
+    ∷ Compute 5 ops.Less size (Temp 2) (Temp 0)
+    ∷ Compute 1 ops.Less size (Temp 1) (Const 0)
+    ∷ Compute 4 ops.SelectNonzero Byte (Temp 1) (Temp 5)
+    ∷ Compute 0 ops.Xor Byte (Temp 4) (Const 1)
+    ∷ []
+
+-- ACB: the limit is in 0, the addend in 1 and the index in 2
 abbrev pub add_compare_plan : Width → Instr → Plan
 add_compare_plan width instr = record {
   slots = read (size_of width) 0 2 ∷ read (size_of width) 1 2 ∷ modified (size_of width) 2 ∷ displaced Word ∷ [];
   before = Compute 2 ops.Add (size_of width) (Temp 2) (Temp 1) ∷ [];
   target = targets.Replacement (operand instr 2) (size_of width);
-  behind =
-      unary 4 ops.SignExtend (size_of width) (Temp 2)
-      ∷ unary 5 ops.SignExtend (size_of width) (Temp 1)
-      ∷ Compute 4 ops.Sub Quad (Temp 4) (Temp 5)
-      ∷ unary 5 ops.SignExtend (size_of width) (Temp 4)
-      ∷ Compute 3 ops.Equal Quad (Temp 4) (Temp 5)
-      ∷ inverted 3
-      ∷ Compute 4 ops.Less (size_of width) (Temp 0) (Temp 2)
-      ∷ Compute 5 ops.Less (size_of width) (Temp 2) (Temp 0)
-      ∷ Compute 1 ops.Less (size_of width) (Temp 1) (Const 0)
-      ∷ Compute 4 ops.SelectNonzero Byte (Temp 1) (Temp 5)
-      ∷ Compute 0 ops.Xor Byte (Temp 4) (Const 1)
-      ∷ [];
+  behind = behind_sum (size_of width);
   exit = branch_exit instr 3;
 }
 
@@ -457,3 +467,57 @@ change_mode_plan = record {
   behind = [];
   exit = Service 0;
 }
+
+-- ---- the table
+abbrev pub binary_row : BinaryOperation → Plan → Option Plan
+binary_row binary.Divide plan = None
+binary_row operation plan = Some plan
+
+-- moves and pushes
+unfoldable pub move_row : Operation → Instr → Option Plan
+move_row (operations.Move size) instr = Some (move_plan size instr)
+move_row (operations.MoveZeroExtended from to) instr = Some (move_zero_extended_plan from to instr)
+move_row (operations.Clear size) instr = Some (clear_plan size instr)
+move_row (operations.MoveComplemented width) instr = Some (move_complemented_plan width instr)
+move_row (operations.MoveNegated width) instr = Some (move_negated_plan width instr)
+move_row (operations.Convert from to) instr = Some (convert_plan from to instr)
+move_row (operations.MoveAddress size) instr = Some (move_address_plan size instr)
+move_row (operations.PushAddress size) instr = Some (push_address_plan size)
+move_row operations.PushLong instr = Some push_long_plan
+move_row _ instr = None
+
+-- arithmetic, logical operations and tests
+unfoldable pub arithmetic_row : Operation → Instr → Option Plan
+arithmetic_row (operations.Compare width) instr = Some (compare_plan width)
+arithmetic_row (operations.Test width) instr = Some (test_plan width)
+arithmetic_row (operations.BitTest width) instr = Some (bit_test_plan width)
+arithmetic_row (operations.TwoOperands operation width) instr = binary_row operation (two_operands_plan operation width instr)
+arithmetic_row (operations.ThreeOperands operation width) instr = binary_row operation (three_operands_plan operation width instr)
+arithmetic_row (operations.Increment width) instr = Some (by_one_plan ops.Add width instr)
+arithmetic_row (operations.Decrement width) instr = Some (by_one_plan ops.Sub width instr)
+arithmetic_row _ instr = None
+
+-- branches and loops
+unfoldable pub control_row : Operation → Instr → Option Plan
+control_row (operations.BranchOnLowBit state) instr = Some (low_bit_plan state instr)
+control_row (operations.SubtractOneBranch or_equal) instr = Some (subtract_one_plan or_equal instr)
+control_row (operations.AddOneBranch or_equal) instr = Some (add_one_plan or_equal instr)
+control_row (operations.AddCompareBranch width) instr = Some (add_compare_plan width instr)
+control_row _ instr = None
+
+-- the row of an operation, where it has one
+abbrev pub row_of : Operation → Instr → Option Plan
+row_of operation instr = option_or (move_row operation instr) (option_or (arithmetic_row operation instr) (control_row operation instr))
+
+-- its program
+abbrev pub program_where : CodeSources → Instr → Option Plan → Option (List Micro)
+program_where codes instr None = None
+program_where codes instr (Some plan) = Some (program_of codes plan instr)
+
+-- the program of an operation that has a row
+abbrev pub row_program_of : Operation → Instr → Option (List Micro)
+row_program_of operation instr = program_where (sources_of operation) instr (row_of operation instr)
+
+-- the operations that have a program here
+abbrev pub is_lowered : Operation → Instr → Bool
+is_lowered operation instr = is_plain operation || is_some (row_of operation instr)

@@ -4,7 +4,7 @@ ghost use Rattle.vax_form.specs.Operation.{operation_at};
 ghost use Rattle.vax_meaning.specs.Branches.{target};
 ghost use Rattle.vax_meaning.specs.Evaluation.{operand};
 ghost use Rattle.micro_lower.specs.Lowering.{Lowers};
-ghost use Rattle.micro_lower.specs.Programs.{no_operation_program, breakpoint_program, branch_program, flags_of, is_negated, flag_test, branch_if_program, subroutine_program, return_program, is_lowered};
+ghost use Rattle.micro_lower.specs.Programs.{no_operation_program, breakpoint_program, branch_program, flags_of, is_negated, flag_test, branch_if_program, subroutine_program, return_program, is_plain};
 
 use crate::micros::{binary, unary};
 use micro_ops::{Arg, Exit, Micro, MicroOp};
@@ -143,8 +143,8 @@ fn subroutine_return(alloc: Global) -> Result<Vec<Micro>, AllocError>
 }
 
 /// The program of an operation that evaluates no operand specifier; None for any other.
-#[tactic(auto, unfolding(crate::specs::Programs::is_lowered))]
-pub fn lower_operation(
+#[tactic(auto, unfolding(crate::specs::Programs::is_plain))]
+pub(crate) fn lower_plain(
     alloc: Global,
     operation: Operation,
     instr: &Instr,
@@ -152,7 +152,7 @@ pub fn lower_operation(
     requires spelled { IsSpelled instr.now }
     requires operation { operation_at instr.now.opcode ≡ Some operation }
     ensures lowers { IfOk result (λ found. IfSome found (λ p. Lowers operation instr.now p.items)) }
-    ensures covered { IfOk result (λ found. IsSome found ↔ (is_lowered operation ≡ true)) }
+    ensures covered { IfOk result (λ found. IsSome found ↔ (is_plain operation ≡ true)) }
 {
     match operation {
         Operation::NoOperation => Ok(Some(vec![in alloc; Micro::Leave(Exit::Next)]?)),

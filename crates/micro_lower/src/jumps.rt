@@ -3,7 +3,7 @@
 ghost use Rattle.std.specs.Prelude.{◌≡◌, IfOk};
 ghost use Rattle.micro_ops.specs.Sources.{sources_of};
 ghost use Rattle.micro_lower.specs.Plans.{program_of};
-ghost use Rattle.micro_lower.specs.Rows.{low_bit_plan, down_test, subtract_one_plan, up_test, add_one_plan, add_compare_plan, jump_exit, jump_plan, jump_to_subroutine_plan};
+ghost use Rattle.micro_lower.specs.Rows.{low_bit_plan, down_test, subtract_one_plan, up_test, add_one_plan, behind_sum, add_compare_plan, jump_exit, jump_plan, jump_to_subroutine_plan};
 
 use crate::micros::{binary, unary};
 use crate::plans::{Plan, Target, assemble};
@@ -79,5 +79,85 @@ pub(crate) fn subtract_one_branch(
         exit: branch_exit(instr, 1),
     };
     let codes = sources_of(Operation::SubtractOneBranch { or_equal });
+    assemble(alloc, codes, plan, instr)
+}
+
+/// AOBLEQ, AOBLSS.
+pub(crate) fn add_one_branch(
+    alloc: Global,
+    instr: &Instr,
+    or_equal: bool,
+) -> Result<Vec<Micro>, WantOfMemory>
+    ensures { IfOk result (λ p. p.items ≡ program_of (sources_of (Operation.AddOneBranch or_equal)) (add_one_plan or_equal instr.now) instr.now) }
+{
+    let (limit, index) = (Arg::Temp(1), Arg::Temp(2));
+    let overflows = binary(3, MicroOp::Equal, Size::Long, index, Arg::Const(LEAST));
+    let at_most = [overflows, less(0, limit, index), inverted(0)];
+    let below = [overflows, less(0, index, limit)];
+    let plan = Plan {
+        slots: &[
+            read(Size::Long, 1, 2),
+            modified(Size::Long, 0),
+            displaced(Size::Byte),
+        ],
+        before: &[binary(2, MicroOp::Add, Size::Long, Arg::Temp(0), Arg::Const(1))],
+        target: Target::Replacement {
+            operand: operand(instr, 1),
+            size: Size::Long,
+        },
+        behind: if or_equal { &at_most } else { &below },
+        exit: branch_exit(instr, 2),
+    };
+    let codes = sources_of(Operation::AddOneBranch { or_equal });
+    assemble(alloc, codes, plan, instr)
+}
+
+/// What ACB computes behind the sum: V, where the sum less the addend is no such number, and whether the index is at most
+/// the limit, or with a negative addend at least the limit.
+fn behind_sum(size: Size) -> [Micro; 11]
+    ensures { result ≡ behind_sum size }
+{
+    let (limit, addend, index) = (Arg::Temp(0), Arg::Temp(1), Arg::Temp(2));
+    let (made, other) = (Arg::Temp(4), Arg::Temp(5));
+    [
+        unary(4, MicroOp::SignExtend, size, index),
+        unary(5, MicroOp::SignExtend, size, addend),
+        binary(4, MicroOp::Sub, Size::Quad, made, other),
+        unary(5, MicroOp::SignExtend, size, made),
+        binary(3, MicroOp::Equal, Size::Quad, made, other),
+        inverted(3),
+        binary(4, MicroOp::Less, size, limit, index),
+        binary(5, MicroOp::Less, size, index, limit),
+        binary(1, MicroOp::Less, size, addend, Arg::Const(0)),
+        binary(4, MicroOp::SelectNonzero, Size::Byte, addend, other),
+        binary(0, MicroOp::Xor, Size::Byte, made, Arg::Const(1)),
+    ]
+}
+
+/// ACB: the limit is in 0, the addend in 1 and the index in 2.
+pub(crate) fn add_compare_branch(
+    alloc: Global,
+    instr: &Instr,
+    width: Width,
+) -> Result<Vec<Micro>, WantOfMemory>
+    ensures { IfOk result (λ p. p.items ≡ program_of (sources_of (Operation.AddCompareBranch width)) (add_compare_plan width instr.now) instr.now) }
+{
+    let size = width.size();
+    let plan = Plan {
+        slots: &[
+            read(size, 0, 2),
+            read(size, 1, 2),
+            modified(size, 2),
+            displaced(Size::Word),
+        ],
+        before: &[binary(2, MicroOp::Add, size, Arg::Temp(2), Arg::Temp(1))],
+        target: Target::Replacement {
+            operand: operand(instr, 2),
+            size,
+        },
+        behind: &behind_sum(size),
+        exit: branch_exit(instr, 3),
+    };
+    let codes = sources_of(Operation::AddCompareBranch(width));
     assemble(alloc, codes, plan, instr)
 }

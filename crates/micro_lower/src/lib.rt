@@ -11,8 +11,6 @@ mod moves;
 mod plans;
 mod ranges;
 mod rows;
-
-pub use branches::lower_operation;
-
+mod table;
 #[cfg(test)]
 mod tests;

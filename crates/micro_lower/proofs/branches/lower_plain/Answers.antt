@@ -1,13 +1,13 @@
 -- Each arm's program is right, and the other operations have none.
 use Rattle.std.proofs.Common.{rules, ◌≡◌, false}
-use Rattle.micro_lower.specs.Programs.{is_lowered}
-use Rattle.micro_lower.proofs.Covered.{renamed, not_lowered, no_operation_lowers, breakpoint_lowers, return_lowers, branch_lowers, branch_if_lowers, subroutine_lowers}
-use Rattle.micro_lower.proofs.branches.lower_operation.Goals as goal
+use Rattle.micro_lower.specs.Programs.{is_plain}
+use Rattle.micro_lower.proofs.Covered.{renamed, not_plain, no_operation_lowers, breakpoint_lowers, return_lowers, branch_lowers, branch_if_lowers, subroutine_lowers}
+use Rattle.micro_lower.proofs.branches.lower_plain.Goals as goal
 
 pub returns-in_default : goal.returns-in_default
 returns-in_default c =
     let d = c.in_default in
-    let none : is_lowered c.args.operation ≡ false = not_lowered c.args.operation d.not-NoOperation d.not-Breakpoint d.not-Branch d.not-BranchIf d.not-BranchToSubroutine d.not-ReturnFromSubroutine in
+    let none : is_plain c.args.operation ≡ false = not_plain c.args.operation d.not-NoOperation d.not-Breakpoint d.not-Branch d.not-BranchIf d.not-BranchToSubroutine d.not-ReturnFromSubroutine in
     record { lowers = tt; covered = rw none (search rules) }
 
 pub returns-in_ok-vec-in-NoOperation-clause-lowers : goal.returns-in_ok-vec-in-NoOperation-clause-lowers
