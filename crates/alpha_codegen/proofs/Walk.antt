@@ -1,5 +1,5 @@
 -- Lines in their place, and one step over them.
-use Rattle.std.proofs.Common.{◌≡◌, ℕ, zero, suc, ◌+◌, ◌-◌, ◌*◌, ◌/◌, ◌%◌, ◌^◌, ◌<◌, ◌≤◌, refl, sym, ap, ◌∙◌, subst, arith, List, [], ◌∷◌, length, Some, None, Bool, true, false, eq-eqb}
+use Rattle.std.proofs.Common.{◌≡◌, ℕ, zero, suc, ◌+◌, ◌-◌, ◌*◌, ◌/◌, ◌%◌, ◌^◌, ◌<◌, ◌≤◌, refl, ap, ◌∙◌, arith, List, [], ◌∷◌, length, Some, None, Bool, true, false, eq-eqb}
 use Rattle.std.specs.Prelude.{◌==◌, pos, ◌&&◌, ◌||◌, not}
 use Rattle.std.specs.List.{list_any}
 use Rattle.vax_form.specs.PageTable.{has_page}
@@ -10,7 +10,6 @@ use Rattle.vax_form.specs.Tree.{Tree, Ask}
 use Rattle.vax_form.specs.declared.pages.Pages.{Pages}
 use Rattle.vax_form.specs.declared.pages.PageRange.{PageRange}
 use Rattle.vax_form.specs.declared.state.RefKind.TheVariants.{Read, Write}
-use Rattle.alpha_encode.specs.declared.instr.AlphaInstr.{AlphaInstr}
 use Rattle.alpha_encode.specs.declared.instr.AlphaInstr.TheVariants.{Memory}
 use Rattle.alpha_encode.specs.declared.instr.MemoryOp.TheVariants.{Ldl, Stl}
 use Rattle.alpha_meaning.specs.declared.access.AlphaKind.TheVariants.{Load, Store}

@@ -5,7 +5,6 @@ use Rattle.vax_form.specs.GrammarFound.{found}
 use Rattle.vax_form.specs.State.{IsState}
 use Rattle.vax_form.specs.Tree.{instruction_tree}
 use Rattle.vax_form.specs.declared.instr.Instr.{Instr}
-use Rattle.vax_form.specs.declared.pages.Pages.{Pages}
 use Rattle.vax_form.specs.declared.state.Flags.{Flags}
 use Rattle.vax_form.specs.declared.state.Reference.{Reference}
 use Rattle.vax_form.specs.declared.state.VaxState.{VaxState}
@@ -22,7 +21,6 @@ use Rattle.block_law.specs.Rounds.{block_steps, new_round}
 use Rattle.block_law.specs.Follows.{Follows}
 use Rattle.block_law.specs.Translations.{Meaning, Code, placed}
 use Rattle.block_law.specs.Blocks.{Stands, ExitsLead}
-use Rattle.alpha_codegen.specs.HasBlock.{has_block}
 
 -- the VAX instructions of its pages, whose blocks may make all kinds of accesses
 pub record MeansVax (meaning : Meaning) : Type 0 where
