@@ -19,3 +19,4 @@ pub mod Fit
 pub mod RowsFit
 pub mod Lowered
 pub mod RowsLower
+pub mod ByRow

@@ -6,6 +6,7 @@ mod arithmetic;
 mod branches;
 mod codes;
 mod jumps;
+mod lowering;
 mod micros;
 mod moves;
 mod plans;
