@@ -20,3 +20,4 @@ pub mod RowsFit
 pub mod Lowered
 pub mod RowsLower
 pub mod ByRow
+pub mod CarryRows

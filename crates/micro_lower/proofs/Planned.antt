@@ -33,7 +33,7 @@ use Rattle.micro_lower.specs.Plans.{Plan, specifiers_from, steps_of, rest_progra
 use Rattle.micro_lower.proofs.Plain.{Does}
 use Rattle.micro_lower.proofs.Slots.{AreSlots}
 
-steps_length : (specifiers : List Specifier) (steps : List ℕ) → length (steps_behind_all specifiers steps) ≡ length steps
+pub steps_length : (specifiers : List Specifier) (steps : List ℕ) → length (steps_behind_all specifiers steps) ≡ length steps
 steps_length [] steps = refl
 steps_length (s ∷ specifiers) steps = steps_length specifiers (steps_behind_specifier s steps) ∙ access_steps_length s.access s.operand s.size steps
 

@@ -1,0 +1,229 @@
+-- Sums and differences with carry, shifts and rotation.
+use Rattle.std.proofs.Common.{◌≡◌, ℕ, ◌%◌, ◌^◌, ◌<◌, ◌≤◌, ◌==◌, Bool, true, false, List, [], ◌∷◌, ◌++◌, length, refl, sym, ap, ◌∙◌, subst, lit≤, Some, arith, inl, inr}
+use Rattle.std.proofs.lemmas.Bool.{cases_lt}
+use Rattle.std.proofs.Math.Nat.{mod-eq_of_lt}
+use Rattle.vax_form.specs.Operation.{operation_at}
+use Rattle.vax_form.specs.Row.{operands_of}
+use Rattle.vax_form.specs.Size.{bytes_of}
+use Rattle.vax_form.specs.Script.{◌>>◌, change}
+use Rattle.vax_form.specs.State.{IsState}
+use Rattle.vax_form.specs.Tree.{Tree, tree_of, ends_with}
+use Rattle.vax_form.specs.declared.instr.Instr.{Instr}
+use Rattle.vax_form.specs.declared.instr.Size.{Size}
+use Rattle.vax_form.specs.declared.instr.Size.TheVariants.{Byte, Word, Long, Quad}
+use Rattle.vax_form.specs.declared.operation.Operation.TheVariants as operations
+use Rattle.vax_form.specs.declared.pages.Pages.{Pages}
+use Rattle.vax_form.specs.declared.state.VaxState.{VaxState}
+use Rattle.vax_meaning.specs.Codes.{carry_of, with_result, go_to}
+use Rattle.vax_meaning.specs.Evaluation.{evaluated_row, operand}
+use Rattle.vax_meaning.specs.Instructions.{body}
+use Rattle.vax_meaning.specs.Moves.{give}
+use Rattle.vt_words.specs.Arithmetic.{coded_value}
+use Rattle.vt_words.specs.Values.{bit}
+use Rattle.vt_words.specs.declared.arithmetic.Coded.{Coded}
+use Rattle.micro_ops.specs.Sources.{sources_of, from}
+use Rattle.micro_ops.specs.Values.{limit_of, value_from}
+use Rattle.micro_ops.specs.declared.codes.CodeSource.{CodeSource}
+use Rattle.micro_ops.specs.declared.codes.CodeSource.TheVariants.{Result, Kept}
+use Rattle.micro_ops.specs.declared.program.Exit.{Exit}
+use Rattle.micro_ops.specs.declared.program.Exit.TheVariants.{Next}
+use Rattle.micro_lower.specs.Plans.{program_of}
+use Rattle.micro_lower.specs.Rows.{move_plan}
+use Rattle.micro_lower.proofs.Coding.{GoesTo, plain_end, coded_end}
+use Rattle.micro_lower.proofs.Endings.{found_at, with, DoesSo, results, replaces, IsReady, closes_coded, is_computation}
+use Rattle.micro_lower.proofs.Planned.{plan_does, AllDo, BodyDoes, read_and_write}
+use Rattle.micro_lower.proofs.Overflow.{low_below}
+use Rattle.vax_form.specs.declared.instr.Operand.{Operand}
+use Rattle.vax_meaning.specs.declared.operands.Location.{Location}
+use Rattle.vax_meaning.specs.Operands.{store, put}
+use Rattle.micro_ops.specs.Meaning.{Temps, course_of, started}
+use Rattle.micro_ops.specs.Leaving.{CodesComeFrom}
+use Rattle.micro_ops.specs.declared.program.Micro.{Micro}
+use Rattle.micro_ops.specs.declared.program.Micro.TheVariants.{Leave}
+use Rattle.operand_programs.specs.Operands.{IsAt}
+use Rattle.operand_programs.specs.Pieces.{Agrees, with_temps, leaving}
+use Rattle.operand_programs.specs.Results.{IsGivable, result_program, replacement_program, finish_program}
+use Rattle.operand_programs.specs.Specifiers.{stepped}
+use Rattle.std.specs.List.{list_all}
+use Rattle.micro_lower.specs.Plans.{codes_program, steps_of}
+use Rattle.micro_lower.proofs.Plain.{Does}
+use Rattle.micro_lower.proofs.Ready.{effect, IsLowExit, ReadyFor}
+use Rattle.micro_lower.proofs.Slots.{AreSlots}
+use Rattle.std.specs.Prelude.{nat_le, ◌+◌, ◌-◌, ◌/◌, ◌*◌}
+use Rattle.std.proofs.lemmas.Bool.Decides.{nat_tests}
+use Rattle.vax_form.specs.Size.{size_of}
+use Rattle.vax_form.specs.declared.instr.Width.{Width}
+use Rattle.vax_form.specs.declared.instr.Width.TheVariants as widths
+use Rattle.vax_meaning.specs.Codes.{with_codes}
+use Rattle.vax_meaning.specs.Moves.{move_zero_extended}
+use Rattle.vax_meaning.specs.Arithmetic.{give_coded}
+use Rattle.vt_words.specs.Arithmetic.{difference_of}
+use Rattle.micro_ops.specs.declared.codes.CodeSource.TheVariants.{Sub}
+use Rattle.micro_lower.specs.Rows.{ones, move_zero_extended_plan, clear_plan, move_complemented_plan, move_negated_plan, move_address_plan}
+use Rattle.micro_lower.proofs.Given.{value_coded, value_end, value_ends, coded_end_of, gives_as, result_ready}
+use Rattle.micro_lower.proofs.Overflow.{IsNarrow, some}
+use Rattle.micro_lower.proofs.Planned.{only_write, address_and_write}
+use Rattle.micro_lower.proofs.Tabled.{is_narrower}
+use Rattle.std.proofs.Common.{lit<}
+use Rattle.std.specs.Prelude.{bit_and, nat_lt, int_lt, bit_xor, not}
+use Rattle.std.proofs.lemmas.Nat.{and_le_l, and_mask}
+use Rattle.vax_form.specs.declared.instr.Base.TheVariants as bases
+use Rattle.vax_form.specs.declared.instr.Operand.TheVariants as operands
+use Rattle.vax_meaning.specs.Branches.{target, pc_after}
+use Rattle.vax_meaning.specs.Codes.{sign_of}
+use Rattle.vax_meaning.specs.Moves.{push, push_value, compare, test_value, bit_test, with_comparison}
+use Rattle.vt_words.specs.Values.{signed_value}
+use Rattle.micro_ops.specs.Leaving.{comparison_of}
+use Rattle.micro_ops.specs.Meaning.{Found}
+use Rattle.micro_ops.specs.declared.codes.CodeSource.TheVariants.{Compare, Zero}
+use Rattle.micro_ops.specs.declared.program.Exit.TheVariants as exits
+use Rattle.operand_programs.specs.Pieces.{Kept as KeptTemps}
+use Rattle.micro_lower.specs.Rows.{compare_plan, test_plan, bit_test_plan, push_long_plan, push_address_plan, low_bit_plan, jump_plan, jump_to_subroutine_plan, jump_exit, branch_exit, unless}
+use Rattle.micro_lower.specs.Plans.{Plan}
+use Rattle.micro_lower.proofs.Endings.{nowhere, pushed, closes_kept, IsReadyToGo}
+use Rattle.micro_lower.proofs.MoveRows.{narrow_width}
+use Rattle.micro_lower.proofs.Overflow.{flipped}
+use Rattle.micro_lower.proofs.Planned.{only_read, only_address, read_twice, after_read, after_address, after_branch, after_all}
+use Rattle.operand_programs.specs.Results.{push_program, steps_behind_push}
+use Rattle.operand_programs.specs.Specifiers.{commit_program}
+use Rattle.vax_form.specs.declared.instr.Access.TheVariants.{Read, Branch}
+use Rattle.vax_meaning.specs.Evaluation.{nothing}
+use Rattle.vax_meaning.specs.declared.evaluation.Evaluated.{Evaluated}
+use Rattle.operand_programs.specs.InOrder.{AreLeft}
+use Rattle.operand_programs.specs.Operands.{IsOfSize}
+use Rattle.micro_lower.proofs.Planned.{specifier, value}
+use Rattle.micro_lower.proofs.TestRows.{room}
+use Rattle.std.specs.Prelude.{if◌then◌else◌}
+use Rattle.std.specs.Prelude.{ℤ, int_le}
+use Rattle.std.proofs.lemmas.Int.{ints}
+use Rattle.vax_form.specs.declared.instr.Access.TheVariants.{Modify}
+use Rattle.vax_meaning.specs.Branches.{goes_up, goes_down, goes_by, is_at_most, is_less, step_index, add_one_branch, subtract_one_branch, add_compare_branch}
+use Rattle.vax_meaning.specs.Codes.{with_three, finish}
+use Rattle.vt_words.specs.Arithmetic.{sum_of}
+use Rattle.vt_words.specs.Quad.{sign_extended}
+use Rattle.micro_ops.specs.Values.{bits_of, signed}
+use Rattle.micro_ops.specs.declared.codes.CodeSource.TheVariants.{Computed}
+use Rattle.micro_lower.specs.Rows.{down_test, up_test, subtract_one_plan, add_one_plan, add_compare_plan}
+use Rattle.micro_lower.proofs.Given.{replaces_as}
+use Rattle.std.proofs.Common.{add-zero}
+use Rattle.std.proofs.lemmas.Nat.{mod_below}
+use Rattle.micro_ops.specs.Meaning.{with_temp}
+use Rattle.micro_lower.proofs.Given.{carry_is}
+use Rattle.micro_lower.proofs.Ready.{ReadyFor}
+use Rattle.micro_lower.proofs.Overflow.{extended_below}
+use Rattle.micro_lower.proofs.Planned.{both, after_modify}
+use Rattle.std.specs.Prelude.{bit_or}
+use Rattle.micro_lower.proofs.Planned.{read_and_modify}
+use Rattle.vax_meaning.specs.Arithmetic.{add_with_carry, subtract_with_carry, replace, give_coded, rotate, arithmetic_shift, shift_of}
+use Rattle.vt_words.specs.Shifts.{rotation_of}
+use Rattle.micro_lower.specs.Rows.{add_with_carry_plan, subtract_with_carry_plan, rotate_plan, arithmetic_shift_plan}
+
+-- ---- with carry
+-- C as a number
+carry_bit : (psw : ℕ) → psw / 1 % 2 ≡ bit (psw % 2 == 1)
+carry_bit psw = (omega arith) ∙ carry_is psw
+
+sum_with : (a b : ℕ) (c : Bool) → ((a % 4294967296 + b % 4294967296) % 4294967296 % 4294967296 + bit c % 4294967296) % 4294967296 ≡ (a % 4294967296 + b % 4294967296 + bit c) % 4294967296
+sum_with a b true = omega arith
+sum_with a b false = omega arith
+
+difference_with : (a b : ℕ) (c : Bool) → ((a % 4294967296 + (4294967296 - b % 4294967296)) % 4294967296 % 4294967296 + (4294967296 - bit c % 4294967296)) % 4294967296 ≡ (a % 4294967296 + 4294967296 - (b % 4294967296 + bit c)) % 4294967296
+difference_with a b true = omega arith
+difference_with a b false = omega arith
+
+sum_overflows_with : (a b : ℕ) (c : Bool) → a < 2 ^ 32 → b < 2 ^ 32
+    → (sum_of 4 a b c).v ≡ not (((sign_extended a 32 + sign_extended b 32) % 2 ^ 64 + bit c) % 2 ^ 64 == sign_extended ((a + b + bit c) % 2 ^ 32) 32)
+unfolding sum_of
+sum_overflows_with a b true lt lt' = grind (arith, nat_tests, ints)
+sum_overflows_with a b false lt lt' = grind (arith, nat_tests, ints)
+
+difference_overflows_with : (a b : ℕ) (c : Bool) → a < 2 ^ 32 → b < 2 ^ 32
+    → (difference_of 4 a b c).v ≡ not (((sign_extended a 32 + (2 ^ 64 - sign_extended b 32)) % 2 ^ 64 + (2 ^ 64 - bit c)) % 2 ^ 64 == sign_extended ((a + 2 ^ 32 - (b + bit c)) % 2 ^ 32) 32)
+unfolding difference_of
+difference_overflows_with a b true lt lt' = grind (arith, nat_tests, ints)
+difference_overflows_with a b false lt lt' = grind (arith, nat_tests, ints)
+
+sum_carries_with : (a b : ℕ) (c : Bool) → a < 2 ^ 32 → b < 2 ^ 32 → (a + b + bit c) / 2 ^ 32 ≡ bit (nat_le (2 ^ 32) (a + b + bit c))
+sum_carries_with a b true lt lt' = grind (arith, nat_tests)
+sum_carries_with a b false lt lt' = grind (arith, nat_tests)
+
+-- the flag as a quadword and a longword
+flag_low : (psw m : ℕ) → 1 < m → psw / 1 % 2 % m ≡ bit (psw % 2 == 1)
+flag_low psw m two = mod-eq_of_lt (let b : psw / 1 % 2 < 2 = omega arith in omega (arith, b, two)) ∙ carry_bit psw
+
+bit_low : (c : Bool) → bit c % 4294967296 ≡ bit c
+bit_low true = refl
+bit_low false = refl
+
+sum_beyond : (x y f : ℕ) → x < 4294967296 → y < 4294967296 → f < 2
+    → ((x % 18446744073709551616 + y % 18446744073709551616) % 18446744073709551616 % 18446744073709551616 + f % 18446744073709551616) % 18446744073709551616 % 18446744073709551616 / 4294967296 ≡ (x + y + f) / 4294967296
+sum_beyond x y f lt lt' small = omega (arith, lt, lt', small)
+
+flag_small : (psw : ℕ) → psw / 1 % 2 < 2
+flag_small psw = omega arith
+
+extension_of : (x : ℕ) → sign_extended (x % 4294967296) 32 % 18446744073709551616 ≡ sign_extended (x % 4294967296) 32
+extension_of x = mod-eq_of_lt (extended_below Long (x % 4294967296) (low_below Long x))
+
+module _ (instr : Instr) (state : VaxState) (pages : Pages) (thread : ℕ) (temps : Temps) (lt : temps 0 < 2 ^ 32) (lt' : temps 1 < 2 ^ 32) where
+  abbrev a : ℕ
+  a = temps 0 % 2 ^ 32
+
+  abbrev b : ℕ
+  b = temps 1 % 2 ^ 32
+
+  abbrev c : Bool
+  c = carry_of state
+
+  abbrev with_sum : Temps
+  with_sum = effect (add_with_carry_plan instr).before (found_at state instr.after) temps
+
+  sum_made : with_sum 2 ≡ (sum_of 4 a b c).value
+  unfolding value_from sum_of
+  sum_made = ap (λ f. ((a + b) % 2 ^ 32 % 2 ^ 32 + f) % 2 ^ 32) (flag_low state.psw (2 ^ 32) (lit< tt) ∙ sym (bit_low c)) ∙ sum_with (temps 0) (temps 1) c
+
+  sum_v : effect (add_with_carry_plan instr).behind (found_at state instr.after) with_sum 3 ≡ bit (sum_of 4 a b c).v
+  unfolding value_from sum_of
+  sum_v =
+      let e = sign_extended a 32 in
+      let f = sign_extended b 32 in
+      let z = ((e + f) % 2 ^ 64 + bit c) % 2 ^ 64 in
+      let r = (a + b + bit c) % 2 ^ 32 in
+      let y : ((sign_extended a 32 % 2 ^ 64 + sign_extended b 32 % 2 ^ 64) % 2 ^ 64 % 2 ^ 64 + state.psw / 1 % 2 % 2 ^ 64) % 2 ^ 64 ≡ z =
+      ap (λ n. ((n + sign_extended b 32 % 2 ^ 64) % 2 ^ 64 % 2 ^ 64 + state.psw / 1 % 2 % 2 ^ 64) % 2 ^ 64) (extension_of (temps 0))
+      ∙ ap (λ n. ((e + n) % 2 ^ 64 % 2 ^ 64 + state.psw / 1 % 2 % 2 ^ 64) % 2 ^ 64) (extension_of (temps 1))
+      ∙ ap (λ n. (n + state.psw / 1 % 2 % 2 ^ 64) % 2 ^ 64) (mod-eq_of_lt (mod_below (e + f) (2 ^ 64) (lit< tt)))
+      ∙ ap (λ n. ((e + f) % 2 ^ 64 + n) % 2 ^ 64) (flag_low state.psw (2 ^ 64) (lit< tt)) in
+      ap (λ n. bit_xor (bit (n % 2 ^ 64 == sign_extended (with_sum 2 % 2 ^ 32) 32 % 2 ^ 64) % 2 ^ 8) 1) y
+      ∙ ap (λ n. bit_xor (bit (n == sign_extended (with_sum 2 % 2 ^ 32) 32 % 2 ^ 64) % 2 ^ 8) 1) (mod-eq_of_lt (mod_below _ (2 ^ 64) (lit< tt)))
+      ∙ ap (λ n. bit_xor (bit (z == sign_extended (n % 2 ^ 32) 32 % 2 ^ 64) % 2 ^ 8) 1) sum_made
+      ∙ ap (λ n. bit_xor (bit (z == n) % 2 ^ 8) 1) (extension_of r)
+      ∙ ap (λ n. bit_xor (bit (z == sign_extended n 32) % 2 ^ 8) 1) (mod-eq_of_lt (low_below Long (a + b + bit c)))
+      ∙ flipped _
+      ∙ ap bit (sym (sum_overflows_with a b c (low_below Long _) (low_below Long _)))
+
+  sum_c : effect (add_with_carry_plan instr).behind (found_at state instr.after) with_sum 4 ≡ bit (sum_of 4 a b c).c
+  unfolding value_from sum_of
+  sum_c =
+      sum_beyond (temps 0) (temps 1) (state.psw / 1 % 2) lt lt' (flag_small state.psw)
+      ∙ ap (λ n. (temps 0 + temps 1 + n) / 2 ^ 32) (carry_bit state.psw)
+      ∙ ap (λ n. (n + temps 1 + bit c) / 2 ^ 32) (sym (mod-eq_of_lt lt))
+      ∙ ap (λ n. (a + n + bit c) / 2 ^ 32) (sym (mod-eq_of_lt lt'))
+      ∙ sum_carries_with a b c (low_below Long _) (low_below Long _)
+
+computed_long : (start : VaxState) (temps : Temps) (coded : Coded) → coded.value < 2 ^ 32 → temps 2 ≡ coded.value → coded.n ≡ nat_le (2 ^ 32 / 2) coded.value → coded.z ≡ (coded.value == 0)
+    → temps 3 ≡ bit coded.v → temps 4 ≡ bit coded.c → ReadyFor (Computed Long) (Computed Long) start.psw temps coded
+computed_long start temps coded fits made n z v c = (refl, ((rw made fits, rw made n, rw made z), v), c)
+
+pub add_with_carry_all : (instr : Instr) → IsGivable (operand instr 1) Long → AllDo operations.AddWithCarry instr (add_with_carry_plan instr)
+unfolding body add_with_carry replace sources_of value_from sum_of
+add_with_carry_all instr givable state pages thread temps values ok same left =
+    let plan = add_with_carry_plan instr in
+    let found = found_at state instr.after in
+    let after = effect plan.before found temps in
+    let coded = sum_of 4 (temps 0 % 2 ^ 32) (temps 1 % 2 ^ 32) (carry_of state) in
+    read_and_modify values temps (BodyDoes operations.AddWithCarry instr plan state pages thread temps) Long (operand instr 0) 1 2 Long (operand instr 1) 0 left (λ location first at second.
+    replaces_as (Computed Long) (Computed Long) state pages thread instr.after ok Long (operand instr 1) (steps_of plan.slots instr) same location coded after plan.behind refl
+    at givable (sum_made instr state pages thread temps second first) (low_below Long _) refl
+    (computed_long state (effect plan.behind found after) coded (low_below Long _) (sum_made instr state pages thread temps second first) refl refl (sum_v instr state pages thread temps second first) (sum_c instr state pages thread temps second first))
+    Next tt instr.after refl (coded_end_of pages coded instr.after) (λ s e. refl))
