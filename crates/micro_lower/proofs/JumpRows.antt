@@ -239,6 +239,22 @@ module _ (operation : Operation) (instr : Instr) (plan : Plan) (target : ℕ) (l
       (tree_of pages (evaluate_all s) state (λ values after. tree_of pages (body operation instr thread (filled nothing 6 values)) after ends_with))) (sym one)
       (subst (λ (n : ℕ). at (with_temp 0 n no_temps) (specifier Address Byte (operands.Place (bases.Fixed target false) None) 0 1 ∷ []) state) (sym (mod-eq_of_lt lt)) here))
 
+fixed_jumps : (instr : Instr) (target : ℕ) (state : VaxState) (temps : Temps) → operand instr 0 ≡ operands.Place (bases.Fixed target false) None → target < 2 ^ 32 → temps 0 ≡ target → Jumps instr state temps
+fixed_jumps instr target state temps fixed lt zero = rw fixed (tt, sym (ap (λ n. n % 2 ^ 32) zero ∙ mod-eq_of_lt lt))
+
+pub jump_fixed_does : (instr : Instr) (target : ℕ) → target < 2 ^ 32 → operation_at instr.opcode ≡ Some operations.Jump → operand instr 0 ≡ operands.Place (bases.Fixed target false) None
+    → AreOperandsOf (specifiers_from 0 (jump_plan instr).slots instr) (evaluated_row operations.Jump) instr → Does (sources_of operations.Jump) instr (program_of (sources_of operations.Jump) (jump_plan instr) instr)
+jump_fixed_does instr target lt is fixed are =
+    fixed_does operations.Jump instr (jump_plan instr) target lt is refl fixed are
+    (λ state pages thread ok same. jump_body instr state pages thread (with_temp 0 target no_temps) ok same (fixed_jumps instr target state (with_temp 0 target no_temps) fixed lt refl))
+
+pub call_fixed_does : (instr : Instr) (target : ℕ) → target < 2 ^ 32 → instr.after < 2 ^ 32 → operation_at instr.opcode ≡ Some operations.JumpToSubroutine → operand instr 0 ≡ operands.Place (bases.Fixed target false) None
+    → AreOperandsOf (specifiers_from 0 (jump_to_subroutine_plan instr).slots instr) (evaluated_row operations.JumpToSubroutine) instr
+    → Does (sources_of operations.JumpToSubroutine) instr (program_of (sources_of operations.JumpToSubroutine) (jump_to_subroutine_plan instr) instr)
+call_fixed_does instr target lt within is fixed are =
+    fixed_does operations.JumpToSubroutine instr (jump_to_subroutine_plan instr) target lt is refl fixed are
+    (λ state pages thread ok same. call_body instr state pages thread (with_temp 0 target no_temps) ok same within (fixed_jumps instr target state (with_temp 0 target no_temps) fixed lt refl))
+
 -- ---- services
 same_tree : (tree : Tree) → Same tree tree
 same_tree (trees.Check address count write tree) = (refl, refl, refl, same_tree tree)

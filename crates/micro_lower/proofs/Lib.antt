@@ -21,3 +21,4 @@ pub mod Lowered
 pub mod RowsLower
 pub mod ByRow
 pub mod CarryRows
+pub mod JumpsLower

@@ -495,14 +495,18 @@ arithmetic_row (operations.TwoOperands operation width) instr = binary_row opera
 arithmetic_row (operations.ThreeOperands operation width) instr = binary_row operation (three_operands_plan operation width instr)
 arithmetic_row (operations.Increment width) instr = Some (by_one_plan ops.Add width instr)
 arithmetic_row (operations.Decrement width) instr = Some (by_one_plan ops.Sub width instr)
+arithmetic_row operations.AddWithCarry instr = Some (add_with_carry_plan instr)
 arithmetic_row _ instr = None
 
--- branches and loops
+-- branches, loops, jumps and services
 unfoldable pub control_row : Operation → Instr → Option Plan
 control_row (operations.BranchOnLowBit state) instr = Some (low_bit_plan state instr)
 control_row (operations.SubtractOneBranch or_equal) instr = Some (subtract_one_plan or_equal instr)
 control_row (operations.AddOneBranch or_equal) instr = Some (add_one_plan or_equal instr)
 control_row (operations.AddCompareBranch width) instr = Some (add_compare_plan width instr)
+control_row operations.Jump instr = Some (jump_plan instr)
+control_row operations.JumpToSubroutine instr = Some (jump_to_subroutine_plan instr)
+control_row operations.ChangeMode instr = Some change_mode_plan
 control_row _ instr = None
 
 -- the row of an operation, where it has one

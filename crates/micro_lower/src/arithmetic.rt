@@ -4,7 +4,7 @@ ghost use Rattle.std.specs.Prelude.{◌≡◌, ◌≤◌, IfOk, length};
 ghost use Rattle.vax_form.specs.Size.{size_of};
 ghost use Rattle.micro_ops.specs.Sources.{sources_of};
 ghost use Rattle.micro_lower.specs.Plans.{plan_of, program_of};
-ghost use Rattle.micro_lower.specs.Rows.{compare_plan, test_plan, bit_test_plan, micro_of, behind_binary, two_operands_plan, three_operands_plan, by_one_plan};
+ghost use Rattle.micro_lower.specs.Rows.{compare_plan, test_plan, bit_test_plan, micro_of, behind_binary, two_operands_plan, three_operands_plan, by_one_plan, add_with_carry_plan};
 
 use crate::micros::{binary, unary};
 use crate::plans::{Plan, Target, assemble};
@@ -242,4 +242,39 @@ pub(crate) fn decrement(
 {
     let codes = sources_of(Operation::Decrement(width));
     by_one(alloc, instr, MicroOp::Sub, width, codes)
+}
+
+/// ADWC: C is bit 32 of the sum.
+pub(crate) fn add_with_carry(alloc: Global, instr: &Instr) -> Result<Vec<Micro>, WantOfMemory>
+    ensures { IfOk result (λ p. p.items ≡ program_of (sources_of Operation.AddWithCarry) (add_with_carry_plan instr.now) instr.now) }
+{
+    let (quad, carry) = (Size::Quad, Arg::Flag(3));
+    let (first, second, made) = (Arg::Temp(1), Arg::Temp(0), Arg::Temp(4));
+    let [extended, equal, overflows] = overflow_by(Size::Long);
+    let plan = Plan {
+        slots: &[read(Size::Long, 1, 2), modified(Size::Long, 0)],
+        before: &[
+            binary(2, MicroOp::Add, Size::Long, second, first),
+            binary(2, MicroOp::Add, Size::Long, Arg::Temp(2), carry),
+        ],
+        target: Target::Replacement {
+            operand: operand(instr, 1),
+            size: Size::Long,
+        },
+        behind: &[
+            unary(4, MicroOp::SignExtend, Size::Long, second),
+            unary(5, MicroOp::SignExtend, Size::Long, first),
+            binary(4, MicroOp::Add, quad, made, Arg::Temp(5)),
+            binary(4, MicroOp::Add, quad, made, carry),
+            extended,
+            equal,
+            overflows,
+            binary(4, MicroOp::Add, quad, second, first),
+            binary(4, MicroOp::Add, quad, made, carry),
+            binary(4, MicroOp::ShiftRight, quad, made, Arg::Const(32)),
+        ],
+        exit: Exit::Next,
+    };
+    let codes = sources_of(Operation::AddWithCarry);
+    assemble(alloc, codes, plan, instr)
 }

@@ -3,7 +3,7 @@
 ghost use Rattle.std.specs.Prelude.{◌≡◌, IfOk};
 ghost use Rattle.micro_ops.specs.Sources.{sources_of};
 ghost use Rattle.micro_lower.specs.Plans.{program_of};
-ghost use Rattle.micro_lower.specs.Rows.{low_bit_plan, down_test, subtract_one_plan, up_test, add_one_plan, behind_sum, add_compare_plan, jump_exit, jump_plan, jump_to_subroutine_plan};
+ghost use Rattle.micro_lower.specs.Rows.{low_bit_plan, down_test, subtract_one_plan, up_test, add_one_plan, behind_sum, add_compare_plan, jump_exit, jump_plan, jump_to_subroutine_plan, change_mode_plan};
 
 use crate::micros::{binary, unary};
 use crate::plans::{Plan, Target, assemble};
@@ -160,4 +160,64 @@ pub(crate) fn add_compare_branch(
     };
     let codes = sources_of(Operation::AddCompareBranch(width));
     assemble(alloc, codes, plan, instr)
+}
+
+/// An operand whose address the code fixes is a fixed target.
+fn jump_exit(operand: Operand) -> Exit
+    ensures { result ≡ jump_exit operand }
+{
+    match operand {
+        Operand::Place {
+            base: Base::Fixed {
+                address,
+                deferred: false,
+            },
+            index: None,
+        } => Exit::Fixed(address),
+        _ => Exit::Computed(0),
+    }
+}
+
+/// JMP.
+pub(crate) fn jump(alloc: Global, instr: &Instr) -> Result<Vec<Micro>, WantOfMemory>
+    ensures { IfOk result (λ p. p.items ≡ program_of (sources_of Operation.Jump) (jump_plan instr.now) instr.now) }
+{
+    let plan = Plan {
+        slots: &[addressed(Size::Byte)],
+        before: &[],
+        target: Target::Nowhere,
+        behind: &[],
+        exit: jump_exit(operand(instr, 0)),
+    };
+    assemble(alloc, sources_of(Operation::Jump), plan, instr)
+}
+
+/// JSB.
+pub(crate) fn jump_to_subroutine(alloc: Global, instr: &Instr) -> Result<Vec<Micro>, WantOfMemory>
+    ensures { IfOk result (λ p. p.items ≡ program_of (sources_of Operation.JumpToSubroutine) (jump_to_subroutine_plan instr.now) instr.now) }
+{
+    let after = Arg::Const(u64::from(instr.after));
+    let plan = Plan {
+        slots: &[addressed(Size::Byte)],
+        before: &[unary(2, MicroOp::Move, Size::Long, after)],
+        target: Target::Stack,
+        behind: &[],
+        exit: jump_exit(operand(instr, 0)),
+    };
+    let codes = sources_of(Operation::JumpToSubroutine);
+    assemble(alloc, codes, plan, instr)
+}
+
+/// CHMK.
+pub(crate) fn change_mode(alloc: Global, instr: &Instr) -> Result<Vec<Micro>, WantOfMemory>
+    ensures { IfOk result (λ p. p.items ≡ program_of (sources_of Operation.ChangeMode) change_mode_plan instr.now) }
+{
+    let plan = Plan {
+        slots: &[read(Size::Word, 0, 1)],
+        before: &[],
+        target: Target::Nowhere,
+        behind: &[],
+        exit: Exit::Service(0),
+    };
+    assemble(alloc, sources_of(Operation::ChangeMode), plan, instr)
 }

@@ -4,9 +4,13 @@ ghost use Rattle.micro_ops.specs.Sources.{sources_of};
 ghost use Rattle.micro_lower.specs.Rows.{program_where, move_row, arithmetic_row, control_row, row_of, row_program_of};
 
 use crate::arithmetic::{
-    bit_test, compare, decrement, increment, test_value, three_operands, two_operands,
+    add_with_carry, bit_test, compare, decrement, increment, test_value, three_operands,
+    two_operands,
 };
-use crate::jumps::{add_compare_branch, add_one_branch, branch_on_low_bit, subtract_one_branch};
+use crate::jumps::{
+    add_compare_branch, add_one_branch, branch_on_low_bit, change_mode, jump, jump_to_subroutine,
+    subtract_one_branch,
+};
 use crate::moves::{
     clear, convert, move_address, move_complemented, move_negated, move_value, move_zero_extended,
     push_address, push_long,
@@ -60,12 +64,13 @@ fn lower_arithmetic(
         }
         Operation::Increment(width) => increment(alloc, instr, width)?,
         Operation::Decrement(width) => decrement(alloc, instr, width)?,
+        Operation::AddWithCarry => add_with_carry(alloc, instr)?,
         _ => return Ok(None),
     };
     Ok(Some(program))
 }
 
-/// Branches and loops.
+/// Branches, loops, jumps and services.
 #[tactic(auto, unfolding(crate::specs::Rows::control_row))]
 fn lower_control(
     alloc: Global,
@@ -79,6 +84,9 @@ fn lower_control(
         Operation::SubtractOneBranch { or_equal } => subtract_one_branch(alloc, instr, or_equal)?,
         Operation::AddOneBranch { or_equal } => add_one_branch(alloc, instr, or_equal)?,
         Operation::AddCompareBranch(width) => add_compare_branch(alloc, instr, width)?,
+        Operation::Jump => jump(alloc, instr)?,
+        Operation::JumpToSubroutine => jump_to_subroutine(alloc, instr)?,
+        Operation::ChangeMode => change_mode(alloc, instr)?,
         _ => return Ok(None),
     };
     Ok(Some(program))
