@@ -25,7 +25,7 @@ const BEFORE: Rules = Rules {
 const MOST_WORDS: usize = 13;
 
 /// What is wanted of a code: that it is kept, or that it is set or not.
-#[derive(Clone, Copy, Debug, PartialEq, Eq)]
+#[derive(Clone, Copy)]
 enum Wanted {
     Kept,
     Is(bool),
@@ -50,7 +50,7 @@ impl Wanted {
 }
 
 /// A row: an operation, what the temporaries hold, and the codes that are wanted.
-#[derive(Clone, Copy, Debug, PartialEq, Eq)]
+#[derive(Clone, Copy)]
 struct Case {
     operation: Operation,
     registers: [u64; 32],
