@@ -1,5 +1,6 @@
 #!/bin/sh
-# Measures the shared memory: a new memory with the default limit, and as many accesses as it has room for.
+# Measures the shared memory: as many accesses as it has room for; and a new memory of a small image, of one of 1 MB, and of a
+# small one that ends at address 80000000, each the fastest of 20.
 # Usage: tools/measure_memory.sh [ACCESSES], in the repository. It proves, builds and runs a program in a copy.
 set -eu
 
@@ -13,7 +14,7 @@ for crate in vax_form image_file memory_core; do
     cp -R "$root/crates/$crate" "$copy/crates/$crate"
 done
 grep -E '^(#|vax_form|image_file|memory_core)' "$root/crates.txt" > "$copy/crates.txt"
-echo 'measure: vax_form image_file memory_core' >> "$copy/crates.txt"
+echo 'measure: vax_form image_file memory_core anyhow' >> "$copy/crates.txt"
 
 program=$copy/crates/measure
 mkdir -p "$program/src" "$program/specs" "$program/proofs/work"
@@ -23,11 +24,13 @@ mkdir -p "$program/src" "$program/specs" "$program/proofs/work"
 sed "s/ACCESSES/$accesses/" > "$program/src/main.rt" <<'END'
 #![tactic(auto)]
 
-ghost use Rattle.std.specs.Prelude.{◌≡◌};
+ghost use Rattle.std.specs.Prelude.{◌≡◌, IfOk};
+ghost use Rattle.image_file.specs.Whole.{IsWhole};
 
+use anyhow::{Context, Result, bail};
 use image_file::{Image, read_image};
 use memory_core::{Change, Kind, MemState, Reply, Request};
-use std::io;
+use std::alloc::Global;
 use std::time::Instant;
 
 // A read-only section at 200 and a writable one at 1000.
@@ -37,6 +40,40 @@ const IMAGE: [u8; 52] = [
     0, 2, 0, 0, 0, 2, 0, 0, 0, 0, 0, 0, 0, 0, 0, 0, //
     0, 0x10, 0, 0, 0, 2, 0, 0, 0, 0, 0, 0, 1, 0, 0, 0,
 ];
+
+// Where the second section's start and size stand.
+const START: usize = 36;
+const SIZE: usize = 40;
+
+const ROUNDS: u32 = 20;
+
+// The image with its second section there.
+fn image_of(alloc: Global, start: u32, size: u32) -> Result<Image>
+    ensures { IfOk result IsWhole }
+{
+    let mut bytes = IMAGE;
+    bytes[START..SIZE].copy_from_slice(&start.to_le_bytes());
+    bytes[SIZE..SIZE + 4].copy_from_slice(&size.to_le_bytes());
+    match read_image(alloc, &bytes) {
+        Ok(image) => Ok(image),
+        Err(_) => bail!("no image"),
+    }
+}
+
+// Makes memories with room for one entry.
+fn measure_new(rt: &HostRuntime, name: &str, start: u32, size: u32) -> Result<()> {
+    let image = image_of(rt.alloc(), start, size)?;
+    let mut fastest = u128::MAX;
+    for _ in 0..ROUNDS {
+        let start = Instant::now(rt)?;
+        let input = Vec::new(rt.alloc());
+        let memory = MemState::new(rt.alloc(), &image, input, 16, 1, 0).ok().context("no memory")?;
+        fastest = fastest.min(start.elapsed(rt)?.as_micros());
+        drop(memory);
+    }
+    println!(rt; "a new memory of {name}: {fastest} microseconds")?;
+    Ok(())
+}
 
 // Rounds of a load, a load-locked with its store conditional, and a write of four bytes, by 16 processors.
 fn work(image: &Image, memory: &mut MemState, accesses: u32) -> u32
@@ -72,18 +109,19 @@ fn work(image: &Image, memory: &mut MemState, accesses: u32) -> u32
     made
 }
 
-fn main(rt: HostRuntime) -> io::Result<()> {
-    let image = read_image(rt.alloc(), &IMAGE).expect(&rt, "the image");
-    let start = Instant::now(&rt)?;
+fn main(rt: HostRuntime) -> Result<()> {
+    measure_new(&rt, "a small image", 0x1000, 0x200)?;
+    measure_new(&rt, "1 MB", 0x1000, 0xf_fe00)?;
+    measure_new(&rt, "a small image with the last page", 0x7fff_fe00, 0x200)?;
+    let image = image_of(rt.alloc(), 0x1000, 0x200)?;
     let input = Vec::new(rt.alloc());
-    let mut memory = MemState::new(rt.alloc(), &image, input, 16, ACCESSES, 0).expect(&rt, "memory");
-    let new = start.elapsed(&rt)?.as_micros();
+    let mut memory = MemState::new(rt.alloc(), &image, input, 16, ACCESSES, 0).ok().context("no memory")?;
     let start = Instant::now(&rt)?;
     let made = work(&image, &mut memory, ACCESSES);
     let accesses = start.elapsed(&rt)?.as_micros();
     let entries = memory.history().len();
-    println!(rt; "new: {new} microseconds")?;
-    println!(rt; "{entries} accesses, of which {made} succeed: {accesses} microseconds")
+    println!(rt; "{entries} accesses, of which {made} succeed: {accesses} microseconds")?;
+    Ok(())
 }
 END
 
@@ -100,4 +138,7 @@ invariant-loop-n l = record {
 END
 
 cd "$program"
-rt run
+rt run > "$copy/log" 2>&1 || { tail -n 20 "$copy/log"; exit 1; }
+for turn in 1 2 3; do
+    ./out/measure
+done
