@@ -1,4 +1,4 @@
-//! Runs the programs of data/threads.txt, all threads of an image at once and all interpreted, each several times, and says
+//! Runs the programs of data/threads.txt, all threads of an image at once and all interpreted, as often as it says, and tells
 //! how many rows end as stands there.
 //!
 //! `row` reads a row and makes its image, `nothing` is a translation of nothing, `outcome` compares what a run left, and
@@ -14,7 +14,7 @@ ghost use Rattle.thread_rows.specs.Empty.{IsEmpty};
 ghost use Rattle.image_file.specs.Whole.{IsWhole};
 
 use crate::beside::are_beside;
-use crate::nothing::nothing;
+use crate::nothing::{made_ready, nothing};
 use crate::outcome::agrees;
 use crate::row::{Row, image_of, row_of};
 use anyhow::{Context, Result, anyhow};
@@ -30,9 +30,6 @@ use system_model::Translation;
 use tie_switch::Processor;
 use vt_outside::{Gate, OpenGate};
 
-/// How often each row is run.
-const RUNS: u32 = 8;
-
 /// What a run leaves.
 #[tactic(auto, using(crate::proofs::EmptyCode::empty_meets))]
 fn run<R: Threads + Wait + Sync, G: Gate + Sync>(
@@ -46,6 +43,7 @@ fn run<R: Threads + Wait + Sync, G: Gate + Sync>(
     requires whole { IsWhole image.now }
     requires empty { IsEmpty translation.now }
 {
+    let prepared = made_ready(alloc, translation, image)?;
     match Running::new(
         alloc,
         image,
@@ -54,7 +52,7 @@ fn run<R: Threads + Wait + Sync, G: Gate + Sync>(
         row.limit,
         row.miss,
     ) {
-        Ok(running) => Ok(running.go(rt, image, translation, &[], gate)),
+        Ok(running) => Ok(running.go(rt, image, translation, &prepared, &[], gate)),
         Err(_) => Err(anyhow!("no memory")),
     }
 }
@@ -70,7 +68,7 @@ fn check<R: Print + Threads + Wait + Sync>(
 {
     let image = image_of(alloc, row)?;
     let mut agree = true;
-    for _ in 0..RUNS {
+    for _ in 0..row.runs {
         let (memory, processors) = run(rt, alloc, &image, translation, row, &OpenGate)?;
         agree = agrees(rt, alloc, row, &memory, &processors)? && agree;
     }

@@ -62,6 +62,15 @@ fn entries_agree(rt: &impl Print, row: &Row<'_>, memory: &MemState) -> Result<bo
     }
 }
 
+fn output_agrees(rt: &impl Print, row: &Row<'_>, memory: &MemState) -> Result<bool> {
+    let found = memory.output();
+    let agrees = found == row.output.as_slice();
+    if !agrees {
+        println!(rt; "output {found:?}, not {:?}", row.output)?;
+    }
+    Ok(agrees)
+}
+
 /// Whether a run left what its row wants; what differs is printed.
 pub fn agrees(
     rt: &impl Print,
@@ -73,5 +82,6 @@ pub fn agrees(
     let ends = ends_agree(rt, alloc, row, processors)?;
     let bytes = bytes_agree(rt, row, memory)?;
     let entries = entries_agree(rt, row, memory)?;
-    Ok(ends && bytes && entries)
+    let output = output_agrees(rt, row, memory)?;
+    Ok(ends && bytes && entries && output)
 }

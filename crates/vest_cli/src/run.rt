@@ -3,9 +3,12 @@ ghost use Rattle.std.specs.Prelude.{◌≡◌, IfOk, IfErr, map};
 ghost use Rattle.image_file.specs.Whole.{IsWhole};
 ghost use Rattle.block_law.specs.Translations.{Meets};
 ghost use Rattle.image_meaning.specs.Meant.{image_meaning};
+ghost use Rattle.tie_switch.specs.Processors.{processor_of};
+ghost use Rattle.tie_switch.specs.Settings.{image_setting};
 ghost use Rattle.vest_cli.specs.Kept.{nothing_kept};
 ghost use Rattle.vest_cli.specs.Lent.{lent};
 ghost use Rattle.vest_cli.specs.Stopping.{LeavesAll};
+ghost use Rattle.vest_cli.specs.Threads.{HasRun};
 ghost use Rattle.vest_cli.specs.Run.{HasKept, Runs, StopsRun, range_of, running_of};
 
 use crate::deliver::deliver;
@@ -16,11 +19,14 @@ use crate::stop::Stop;
 use crate::threads::run_all;
 use command_words::Limits;
 use image_file::Image;
+use memory_core::MemState;
+use prepared_code::{Prepared, prepare};
 use run_threads::Running;
 use std::alloc::{AllocError, Global};
 use std::sync::Wait;
 use std::thread::Threads;
 use system_model::{Range, Translation};
+use tie_switch::Processor;
 use vt_outside::{Desk, Gate, Sink, Source};
 
 // The addresses that threads interpret, of the words.
@@ -58,35 +64,41 @@ fn set_up(alloc: Global, image: &Image, input: &[u8], limits: Limits) -> Result<
     }
 }
 
-// The run itself, which takes no memory.
-fn execute<R: Threads + Wait + Sync, K: Sink, E: Sink, G: Gate + Sync>(
-    rt: &R,
+// The translation made ready to be run.
+fn made_ready<'a>(
+    alloc: Global,
+    image: &'a Image,
+    translation: &'a Translation,
+) -> Result<Prepared<'a>, Stop>
+    requires { Meets (image_meaning image.now.pages) translation.now }
+    ensures code { IfOk result (λ prepared. prepared.code ≡ translation.now) }
+    ensures pages { IfOk result (λ prepared. prepared.pages ≡ image.now.pages) }
+    ensures err { IfErr result (λ stop. stop ≡ Stop.WantOfMemory) }
+{
+    let Translation { words, map, points } = translation;
+    match prepare(alloc, words, map, points, &image.pages) {
+        Ok(prepared) => Ok(prepared),
+        Err(_) => Err(Stop::WantOfMemory),
+    }
+}
+
+// What is done with a run, which takes no memory.
+fn finish<K: Sink, E: Sink>(
     image: Image,
     taken: Vec<u8>,
     translation: Translation,
     limits: Limits,
     ranges: Vec<Range>,
-    running: Running,
+    mut memory: MemState,
+    processors: Vec<Processor>,
     out: &mut K,
     report: &mut E,
-    gate: &G,
     kept: &mut Kept,
 ) -> Status
-    requires whole { IsWhole image }
-    requires meets { Meets (image_meaning image.pages) translation }
-    requires running { running ≡ running_of image taken.items limits }
+    requires ran { HasRun (image_setting image.pages translation ranges.items) (running_of image taken.items limits).set_up limits.budget memory.history (map processor_of processors.items) }
     requires nothing { kept.old ≡ nothing_kept }
     ensures { HasKept result image translation taken.items limits ranges.items (K.meaning out.old) (K.meaning out.new) (E.meaning report.old) (E.meaning report.new) kept.new }
 {
-    let (mut memory, processors) = run_all(
-        rt,
-        running,
-        &image,
-        &taken,
-        &translation,
-        &ranges,
-        gate,
-    );
     let status = deliver(memory.output(), &processors, out, report);
     kept.image = Some(image);
     kept.input = taken;
@@ -132,17 +144,27 @@ pub fn run<R: Threads + Wait + Sync, D: Desk, I: Source, K: Sink, E: Sink, G: Ga
     let taken = read_input(alloc, input)?;
     let ranges = ranges_of(alloc, ranges)?;
     let running = set_up(alloc, &image, &taken, limits)?;
-    Ok(execute(
+    let prepared = made_ready(alloc, &image, &translation)?;
+    let (memory, processors) = run_all(
         rt,
+        running,
+        &image,
+        &taken,
+        &translation,
+        &prepared,
+        &ranges,
+        gate,
+    );
+    Ok(finish(
         image,
         taken,
         translation,
         limits,
         ranges,
-        running,
+        memory,
+        processors,
         out,
         report,
-        gate,
         kept,
     ))
 }

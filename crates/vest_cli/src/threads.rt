@@ -11,6 +11,7 @@ use image_file::Image;
 use image_meaning::laws::{page_table_has_bytes, vax_meaning_is_sound};
 use legal_history::laws::{images_are_runs, legal_has_headline};
 use memory_core::MemState;
+use prepared_code::Prepared;
 use run_threads::Running;
 use std::sync::Wait;
 use std::thread::Threads;
@@ -25,12 +26,15 @@ pub fn run_all<R: Threads + Wait + Sync, G: Gate + Sync>(
     image: &Image,
     input: &[u8],
     translation: &Translation,
+    prepared: &Prepared<'_>,
     ranges: &[Range],
     gate: &G,
 ) -> (MemState, Vec<Processor>)
     requires whole { IsWhole image.now }
     requires image { running.set_up.image ≡ image.now }
     requires input { running.set_up.input ≡ input.now }
+    requires code { prepared.now.code ≡ translation.now }
+    requires pages { prepared.now.pages ≡ image.now.pages }
     requires meets { Meets (image_meaning image.now.pages) translation.now }
     ensures { HasRun (image_setting image.now.pages translation.now ranges.now) running.set_up running.budget result.0.history (map processor_of result.1.items) }
 {
@@ -38,5 +42,5 @@ pub fn run_all<R: Threads + Wait + Sync, G: Gate + Sync>(
     images_are_runs(image, input);
     vax_meaning_is_sound();
     legal_has_headline();
-    running.go(rt, image, translation, ranges, gate)
+    running.go(rt, image, translation, prepared, ranges, gate)
 }
