@@ -82,6 +82,36 @@ fn made_ready<'a>(
     }
 }
 
+// Takes all that a run needs, and makes it: from its first step on it takes no memory.
+fn execute<R: Threads + Wait + Sync, G: Gate + Sync>(
+    rt: &R,
+    alloc: Global,
+    image: &Image,
+    taken: &[u8],
+    translation: &Translation,
+    limits: Limits,
+    ranges: &[Range],
+    gate: &G,
+) -> Result<(MemState, Vec<Processor>), Stop>
+    requires whole { IsWhole image.now }
+    requires meets { Meets (image_meaning image.now.pages) translation.now }
+    ensures ran { IfOk result (λ r. HasRun (image_setting image.now.pages translation.now ranges.now) (running_of image.now taken.now limits).set_up limits.budget r.0.history (map processor_of r.1.items)) }
+    ensures err { IfErr result (λ stop. stop ≡ Stop.WantOfMemory) }
+{
+    let prepared = made_ready(alloc, image, translation)?;
+    let running = set_up(alloc, image, taken, limits)?;
+    Ok(run_all(
+        rt,
+        running,
+        image,
+        taken,
+        translation,
+        &prepared,
+        ranges,
+        gate,
+    ))
+}
+
 // What is done with a run, which takes no memory.
 fn finish<K: Sink, E: Sink>(
     image: Image,
@@ -143,18 +173,16 @@ pub fn run<R: Threads + Wait + Sync, D: Desk, I: Source, K: Sink, E: Sink, G: Ga
     let translation = translated(alloc, &image)?;
     let taken = read_input(alloc, input)?;
     let ranges = ranges_of(alloc, ranges)?;
-    let running = set_up(alloc, &image, &taken, limits)?;
-    let prepared = made_ready(alloc, &image, &translation)?;
-    let (memory, processors) = run_all(
+    let (memory, processors) = execute(
         rt,
-        running,
+        alloc,
         &image,
         &taken,
         &translation,
-        &prepared,
+        limits,
         &ranges,
         gate,
-    );
+    )?;
     Ok(finish(
         image,
         taken,
