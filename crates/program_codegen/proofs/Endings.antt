@@ -1,0 +1,312 @@
+-- The lines of a block by which a program leaves, by themselves.
+use Rattle.std.proofs.Common.{◌≡◌, ℕ, zero, suc, ◌+◌, ◌^◌, ◌<◌, ◌≤◌, refl, sym, ap, ◌∙◌, subst, arith, List, [], ◌∷◌, ◌++◌, length, map, Option, Some, None, Bool, true, false, lit<, lit≤, length-append}
+use Rattle.std.specs.Prelude.{pos, ◌==◌, ◌&&◌, ◌||◌, not, nat_lt, nat_le, All, if◌then◌else◌}
+use Rattle.std.specs.List.{list_all, list_any}
+use Rattle.std.proofs.lemmas.Bool.Decides.{nat_tests}
+use Rattle.std.proofs.lemmas.List.Elements.{All-cons, All-nil}
+use Rattle.alpha_encode.specs.Words.{IsEncodable}
+use Rattle.alpha_encode.specs.declared.instr.AlphaInstr.{AlphaInstr}
+use Rattle.alpha_encode.specs.declared.instr.AlphaInstr.TheVariants.{Memory, Branch, Operate, Jump, Pal}
+use Rattle.alpha_encode.specs.declared.instr.BranchOp.TheVariants.{Br, Beq}
+use Rattle.alpha_encode.specs.declared.instr.MemoryOp.TheVariants.{Lda}
+use Rattle.alpha_encode.specs.declared.instr.OperateOp.TheVariants.{And}
+use Rattle.alpha_encode.specs.declared.instr.Second.TheVariants.{Literal}
+use Rattle.alpha_meaning.specs.Loops.{fine}
+use Rattle.exception_records.specs.declared.rules.CodeRule.{CodeRule}
+use Rattle.exception_records.specs.declared.rules.CodeRule.TheVariants as code_rules
+use Rattle.micro_ops.specs.declared.codes.CodeSource.{CodeSource}
+use Rattle.micro_ops.specs.declared.codes.CodeSource.TheVariants.{Kept, Zero, Result, Add, Sub, Compare, Computed, Psw}
+use Rattle.micro_ops.specs.declared.codes.CodeSources.{CodeSources}
+use Rattle.micro_ops.specs.declared.known.Known.{Known}
+use Rattle.micro_ops.specs.declared.program.Exit.{Exit}
+use Rattle.micro_ops.specs.declared.program.Exit.TheVariants as exits
+use Rattle.micro_ops.specs.Fits.{same, exit_fits, sources_fit, is_from_values, is_from_psw, signs_are_held, carry_is_held}
+use Rattle.block_law.specs.CodeWords.{is_written, may_be_written}
+use Rattle.block_law.specs.Tidy.{is_kept, register_written, may_fault, keeps_until, writes_register}
+use Rattle.program_codegen.specs.declared.lines.Line.{Line}
+use Rattle.program_codegen.specs.declared.points.Site.{Site}
+use Rattle.program_codegen.specs.Words.{plain, marked, holder, copy, point_of, raising, trapping, exit_lines, load_address, overflow_made, overflow_register, load_pc, overflow_lines, tested_lines, may_overflow, may_trap, trap_lines, departing, leaving, words_of}
+use Rattle.program_codegen.specs.Programs.{IsExit, KeepsTogether, exit_addresses}
+use Rattle.program_codegen.proofs.Numbers.{all_four}
+use Rattle.program_codegen.proofs.Walk.{skip_behind, plain_length}
+use Rattle.program_codegen.proofs.Shapes.{EachFits, LineFits, PointFits, each_append, exit_each, plain_fits, call_fits, is_local, row_fits}
+use Rattle.program_codegen.proofs.Rows.{is_free, is_own, is_silent, list_all_of, silent_own, silent_quiet, all_encodable, load_each, load_encodable, branch_encodable, small_fits, made_encodable, made_silent, made_short}
+use Rattle.program_codegen.proofs.Fronts.{targets, targets_append, row_targets, words_append, row_words_are, any_append, any_neither, neither, SparesCodes, KeptBy, quiet_kept, free_keeps, Front, row_front, front_append, spares_append, no_front, line_front, Shape}
+
+-- ---- silent lines
+record Silent (site : Site) (most : ℕ) (lines : List Line) : Type 0 where
+  front : Front site lines
+  quiet : list_any may_fault (words_of lines) ≡ false
+  few : length lines ≤ most
+
+silent_append : (site : Site) (n m : ℕ) (xs ys : List Line) → Silent site n xs → Silent site m ys → Silent site (n + m) (xs ++ ys)
+silent_append site n m xs ys a b = record {
+  front = front_append site xs ys a.front b.front;
+  quiet = any_neither may_fault xs ys a.quiet b.quiet;
+  few = let count = length-append xs ys in let x = a.few in let y = b.few in omega arith;
+}
+
+silent_row : (site : Site) (most : ℕ) (is : List AlphaInstr) → All IsEncodable is → list_all is_silent is ≡ true → length is ≤ most → Silent site most (map plain is)
+silent_row site most is encodable silent few = record {
+  front = row_front site is encodable (list_all_of is_silent is_own silent_own is silent);
+  quiet = ap (list_any may_fault) (row_words_are is) ∙ silent_quiet is silent;
+  few = let count = plain_length is in omega arith;
+}
+
+one_word : (i : AlphaInstr) → IsEncodable i → All IsEncodable (i ∷ [])
+one_word i is = All-cons IsEncodable i [] is (All-nil IsEncodable)
+
+pub above_codes : (n r : ℕ) → 20 ≤ n → r < 20 → (n == r) ≡ false
+above_codes n r le lt = grind (arith, nat_tests)
+
+pub below_codes : (n r : ℕ) → n < 16 → 16 ≤ r → (n == r) ≡ false
+below_codes n r lt le = grind (arith, nat_tests)
+
+-- ---- the trap
+pc_encodable : (after : ℕ) (exit : Exit) → IsExit exit → All IsEncodable (load_pc after exit)
+pc_encodable after exits.Next is = load_encodable 26 after (lit< tt)
+pc_encodable after (exits.Fixed address) is = load_encodable 26 address (lit< tt)
+pc_encodable after (exits.Computed temp) is = one_word (copy (holder temp) 26) (omega arith, lit< tt, lit< tt)
+pc_encodable after (exits.Choice when taken other) is =
+    let when_fits : 21 + when < 32 = (let lt = is.0 in omega arith) in
+    let first = load_each 26 taken (lit< tt) in
+    all_encodable (load_pc after (exits.Choice when taken other))
+    (branch_encodable Beq (21 + when) 3 when_fits (lit< tt), (first.0, (first.1.0, (branch_encodable Br 31 2 (lit< tt) (lit< tt), load_each 26 other (lit< tt)))))
+pc_encodable after (exits.Service temp) is = load_encodable 26 after (lit< tt)
+pc_encodable after exits.Breakpoint is = load_encodable 26 after (lit< tt)
+
+pc_silent : (after : ℕ) (exit : Exit) → list_all is_silent (load_pc after exit) ≡ true
+pc_silent after exits.Next = refl
+pc_silent after (exits.Fixed address) = refl
+pc_silent after (exits.Computed temp) = refl
+pc_silent after (exits.Choice when taken other) = refl
+pc_silent after (exits.Service temp) = refl
+pc_silent after exits.Breakpoint = refl
+
+pub pc_short : (after : ℕ) (exit : Exit) → length (load_pc after exit) ≤ 6
+pc_short after exits.Next = lit≤ tt
+pc_short after (exits.Fixed address) = lit≤ tt
+pc_short after (exits.Computed temp) = lit≤ tt
+pc_short after (exits.Choice when taken other) = lit≤ tt
+pc_short after (exits.Service temp) = lit≤ tt
+pc_short after exits.Breakpoint = lit≤ tt
+
+abbrev status_word : AlphaInstr
+status_word = Operate And 20 (Literal 32) 27
+
+abbrev skip_word : ℕ → AlphaInstr
+skip_word n = Branch Beq 27 (pos n)
+
+abbrev test_word : CodeRule → ℕ → AlphaInstr
+test_word rule n = Branch Beq (overflow_register rule) (pos n)
+
+module _ (site : Site) where
+  kind_silent : Silent site 1 (plain (Memory Lda 21 31 (pos 1)) ∷ [])
+  kind_silent = silent_row site 1 (Memory Lda 21 31 (pos 1) ∷ []) (one_word (Memory Lda 21 31 (pos 1)) (lit< tt, lit< tt, small_fits 1 (lit< tt))) refl (lit≤ tt)
+
+  trap_silent : Silent site 1 (marked (Pal 0x84) (trapping site) ∷ [])
+  trap_silent = record {
+    front = line_front site (marked (Pal 0x84) (trapping site)) refl (call_fits site 0x84 (trapping site) (lit≤ tt) (lit≤ tt) refl refl refl refl) (λ r low high. above_codes 31 r (lit≤ tt) high);
+    quiet = refl;
+    few = lit≤ tt;
+  }
+
+  overflow_silent : (exit : Exit) → IsExit exit → Silent site 8 (overflow_lines site exit)
+  overflow_silent exit is =
+      silent_append site 6 2 (map plain (load_pc site.after exit)) _ (silent_row site 6 (load_pc site.after exit) (pc_encodable site.after exit is) (pc_silent site.after exit) (pc_short site.after exit))
+      (silent_append site 1 1 (plain (Memory Lda 21 31 (pos 1)) ∷ []) (marked (Pal 0x84) (trapping site) ∷ []) kind_silent trap_silent)
+
+  overflow_register_fits : (rule : CodeRule) → overflow_register rule < 32
+  overflow_register_fits code_rules.Ready = lit< tt
+  overflow_register_fits rule = lit< tt
+
+  tested_silent : (rule : CodeRule) (trap : List Line) → Silent site 8 trap → Silent site 20 (tested_lines rule (overflow_made rule) trap)
+  tested_silent rule trap silent =
+      let few = silent.few in
+      let made = made_short rule in
+      silent_append site 1 19 (plain (status_word) ∷ []) _ (silent_row site 1 (status_word ∷ []) (one_word status_word (lit< tt, lit< tt, lit< tt)) refl (lit≤ tt))
+      (silent_append site 1 18 (plain (skip_word (length (overflow_made rule) + 1 + length trap)) ∷ []) _ (silent_row site 1 (skip_word (length (overflow_made rule) + 1 + length trap) ∷ []) (one_word _ (branch_encodable Beq 27 (length (overflow_made rule) + 1 + length trap) (lit< tt) (omega arith))) refl (lit≤ tt))
+      (silent_append site 9 9 (map plain (overflow_made rule)) _ (silent_row site 9 (overflow_made rule) (made_encodable rule) (made_silent rule) made)
+      (silent_append site 1 8 (plain (test_word rule (length trap)) ∷ []) trap (silent_row site 1 (test_word rule (length trap) ∷ []) (one_word _ (branch_encodable Beq (overflow_register rule) (length trap) (overflow_register_fits rule) (omega arith))) refl (lit≤ tt)) silent)))
+
+  traps_silent : (exit : Exit) → IsExit exit → Silent site 20 (trap_lines site exit)
+  traps_silent exit is = by (may_trap site)
+    where
+      by : (b : Bool) → Silent site 20 (if b then tested_lines site.behind.v (overflow_made site.behind.v) (overflow_lines site exit) else [])
+      by true = tested_silent site.behind.v (overflow_lines site exit) (overflow_silent exit is)
+      by false = record { front = no_front site; quiet = refl; few = lit≤ tt }
+
+-- ---- the exits
+exit_spares : (address : ℕ) → SparesCodes (words_of (exit_lines address))
+exit_spares address r low high = let other = above_codes 31 r (lit≤ tt) high in rw other refl
+
+module _ (site : Site) (after_fits : site.after < 2 ^ 32) where
+  departing_each : (exit : Exit) → IsExit exit → EachFits site 0 (departing site exit)
+  departing_each exits.Next is = exit_each site site.after after_fits
+  departing_each (exits.Fixed address) is = exit_each site address is
+  departing_each (exits.Computed temp) is = (
+    plain_fits site (copy (holder temp) 26) (omega arith, lit< tt, lit< tt) refl,
+    (record { encodable = (lit≤ tt, lit≤ tt); translated = refl; its_point = refl; whole = tt; address = tt; quiet = tt }, refl),
+  )
+  departing_each (exits.Choice when taken other) is = (
+    plain_fits site (Branch Beq (holder when) (pos 3)) (branch_encodable Beq (21 + when) 3 (let lt = is.0 in omega arith) (lit< tt)) refl,
+    each_append site 0 (exit_lines taken) (exit_lines other) (exit_each site taken is.1) (exit_each site other is.2),
+  )
+  departing_each (exits.Service temp) is = (
+    plain_fits site (copy (holder temp) 21) (omega arith, lit< tt, lit< tt) refl,
+    each_append site 0 (map plain (load_address 26 site.after)) (marked (Pal 0x82) (point_of site) ∷ exit_lines site.after) (row_fits site (load_address 26 site.after) (load_encodable 26 site.after (lit< tt)) refl)
+        (call_fits site 0x82 (point_of site) (lit≤ tt) (lit≤ tt) refl refl refl refl, exit_each site site.after after_fits),
+  )
+  departing_each exits.Breakpoint is = (call_fits site 0x83 (raising site 0x2C) (lit≤ tt) (lit≤ tt) refl refl refl refl, refl)
+
+  departing_goes : (exit : Exit) → targets (departing site exit) ≡ exit_addresses site.after exit
+  departing_goes exits.Next = refl
+  departing_goes (exits.Fixed address) = refl
+  departing_goes (exits.Computed temp) = refl
+  departing_goes (exits.Choice when taken other) = refl
+  departing_goes (exits.Service temp) = refl
+  departing_goes exits.Breakpoint = refl
+
+  departing_spares : (exit : Exit) → SparesCodes (words_of (departing site exit))
+  departing_spares exits.Next r low high = exit_spares site.after r low high
+  departing_spares (exits.Fixed address) r low high = exit_spares address r low high
+  departing_spares (exits.Computed temp) r low high = rw (above_codes 26 r (lit≤ tt) high, above_codes 31 r (lit≤ tt) high) refl
+  departing_spares (exits.Choice when taken other) r low high = rw (above_codes 31 r (lit≤ tt) high) refl
+  departing_spares (exits.Service temp) r low high = rw (above_codes 21 r (lit≤ tt) high, above_codes 26 r (lit≤ tt) high, below_codes 0 r (lit< tt) low, above_codes 31 r (lit≤ tt) high) refl
+  departing_spares exits.Breakpoint r low high = rw (above_codes 31 r (lit≤ tt) high) refl
+
+  departing_short : (exit : Exit) → length (departing site exit) ≤ 7
+  departing_short exits.Next = lit≤ tt
+  departing_short (exits.Fixed address) = lit≤ tt
+  departing_short (exits.Computed temp) = lit≤ tt
+  departing_short (exits.Choice when taken other) = lit≤ tt
+  departing_short (exits.Service temp) = lit≤ tt
+  departing_short exits.Breakpoint = lit≤ tt
+
+-- ---- the words that leave the codes
+codes_local : (may : ℕ → Bool) (i : AlphaInstr) → fine may i ≡ true → is_local i ≡ true
+codes_local may (Operate op ra rb rc) e = refl
+codes_local may (Memory op ra rb disp) e = absurd (cc e)
+codes_local may (Branch op ra disp) e = absurd (cc e)
+codes_local may (Jump ra rb) e = absurd (cc e)
+codes_local may (Pal number) e = absurd (cc e)
+
+codes_free : (may : ℕ → Bool) → ((n : ℕ) → may n ≡ true → not (is_kept n) ≡ true) → (i : AlphaInstr) → fine may i ≡ true → is_free i ≡ true
+codes_free may free (Operate op ra rb rc) e = free rc e
+codes_free may free (Memory op ra rb disp) e = absurd (cc e)
+codes_free may free (Branch op ra disp) e = absurd (cc e)
+codes_free may free (Jump ra rb) e = absurd (cc e)
+codes_free may free (Pal number) e = absurd (cc e)
+
+codes_quiet : (may : ℕ → Bool) (is : List AlphaInstr) → list_all (fine may) is ≡ true → list_any may_fault is ≡ false
+codes_quiet may [] e = refl
+codes_quiet may (i ∷ is) e = by (fine may i) (list_all (fine may) is) (one i) (codes_quiet may is) e
+  where
+    one : (i : AlphaInstr) → fine may i ≡ true → may_fault i ≡ false
+    one (Operate op ra rb rc) e = refl
+    one (Memory op ra rb disp) e = absurd (cc e)
+    one (Branch op ra disp) e = absurd (cc e)
+    one (Jump ra rb) e = absurd (cc e)
+    one (Pal number) e = absurd (cc e)
+
+    by : (a b : Bool) → (a ≡ true → may_fault i ≡ false) → (b ≡ true → list_any may_fault is ≡ false) → (a && b) ≡ true → (may_fault i || list_any may_fault is) ≡ false
+    by true true here rest e = neither (may_fault i) (list_any may_fault is) (here refl) (rest refl)
+    by true false here rest e = absurd (cc e)
+    by false b here rest e = absurd (cc e)
+
+-- where N, Z and V are kept, R24 and R25 alone are written, and nothing traps
+pub kept_source : (source : CodeSource) → is_from_values source ≡ false → is_from_psw source ≡ false → (is_written source ≡ false) × (may_overflow source ≡ false)
+kept_source Kept e f = (refl, refl)
+kept_source Zero e f = absurd (cc e)
+kept_source (Result size) e f = absurd (cc e)
+kept_source (Add size) e f = absurd (cc e)
+kept_source (Sub size) e f = absurd (cc e)
+kept_source (Compare size) e f = absurd (cc e)
+kept_source (Computed size) e f = absurd (cc e)
+kept_source Psw e f = absurd (cc f)
+
+pub free_when_kept : (sources : CodeSources) → is_written sources.nzv ≡ false → is_written sources.c ≡ false → (n : ℕ) → may_be_written sources n ≡ true → not (is_kept n) ≡ true
+free_when_kept sources e f n may = by (is_written sources.nzv) (is_written sources.c) e f may
+  where
+    two : (n : ℕ) → ((n == 24) || (n == 25)) ≡ true → not (is_kept n) ≡ true
+    two n e = grind (arith, nat_tests, e)
+
+    or_false : (b : Bool) → (b || false) ≡ true → b ≡ true
+    or_false true e = refl
+    or_false false e = absurd (cc e)
+
+    by : (signs carry : Bool) → signs ≡ false → carry ≡ false
+        → ((n == 24) || (n == 25) || (signs && ((n == 16) || (n == 17) || (n == 18) || (n == 28) || (n == 29))) || (carry && ((n == 19) || (n == 15) || (n == 30)))) ≡ true → not (is_kept n) ≡ true
+    by false false e f may = two n (or_false ((n == 24) || (n == 25)) (or_false ((n == 24) || (n == 25) || false) may))
+    by true carry e f may = absurd (cc e)
+    by false true e f may = absurd (cc f)
+
+-- ---- the whole end
+or_nothing : (b : Bool) → (b || false) ≡ b
+or_nothing true = refl
+or_nothing false = refl
+
+pub same_false : (b : Bool) → same false b ≡ true → b ≡ false
+same_false true e = absurd (cc e)
+same_false false e = refl
+
+module _ (site : Site) (codes : List AlphaInstr) (after_fits : site.after < 2 ^ 32) (encodable : All IsEncodable codes) (few : length codes ≤ 32) (only : list_all (fine (may_be_written site.sources)) codes ≡ true) (together : KeepsTogether site.sources) where
+  abbrev rest_of : Exit → List Line
+  rest_of exit = trap_lines site exit ++ departing site exit
+
+  quiet_leaving : (exit : Exit) → IsExit exit → list_any may_fault (words_of (departing site exit)) ≡ false → list_any may_fault (words_of (leaving site codes exit)) ≡ false
+  quiet_leaving exit is quiet =
+      any_neither may_fault (map plain codes) (rest_of exit) (ap (list_any may_fault) (row_words_are codes) ∙ codes_quiet (may_be_written site.sources) codes only)
+      (any_neither may_fault (trap_lines site exit) (departing site exit) (traps_silent site exit is).quiet quiet)
+
+  breaks : (known : Known) → known.codes ≡ false → known.psw ≡ false → sources_fit site.sources known ≡ true → keeps_until may_fault (words_of (leaving site codes exits.Breakpoint)) ≡ true
+  breaks known no_codes no_psw fits =
+      let x = all_four (same known.codes (is_from_values site.sources.nzv)) (same known.psw (is_from_psw site.sources.nzv)) (signs_are_held known site.sources.nzv) (carry_is_held known site.sources.c) fits in
+      let values = same_false (is_from_values site.sources.nzv) (subst (λ b. same b (is_from_values site.sources.nzv) ≡ true) no_codes x.0) in
+      let psw = same_false (is_from_psw site.sources.nzv) (subst (λ b. same b (is_from_psw site.sources.nzv) ≡ true) no_psw x.1) in
+      let kept = kept_source site.sources.nzv values psw in
+      let free = list_all_of (fine (may_be_written site.sources)) is_free (codes_free (may_be_written site.sources) (free_when_kept site.sources kept.0 (together kept.0))) codes only in
+      let no_trap : trap_lines site exits.Breakpoint ≡ [] = untrapped kept.1 in
+      let words : words_of (leaving site codes exits.Breakpoint) ≡ codes ++ (Pal 0x83 ∷ []) =
+      words_append (map plain codes) (rest_of exits.Breakpoint) ∙ (ap (λ is. is ++ words_of (rest_of exits.Breakpoint)) (row_words_are codes) ∙ ap (λ lines. codes ++ words_of (lines ++ departing site exits.Breakpoint)) no_trap) in
+      ap (keeps_until may_fault) words ∙ free_keeps codes (Pal 0x83 ∷ []) free refl
+    where
+      untrapped : may_overflow site.sources.nzv ≡ false → trap_lines site exits.Breakpoint ≡ []
+      untrapped e = rw e refl
+
+  leaving_kept : (exit : Exit) (known : Known) → IsExit exit → exit_fits known exit ≡ true → sources_fit site.sources known ≡ true → (known.changed ≡ false → (known.codes ≡ false) × (known.psw ≡ false)) → KeptBy known.changed (words_of (leaving site codes exit))
+  leaving_kept exits.Next known is fits come quiet = quiet_kept known.changed _ (quiet_leaving exits.Next is refl)
+  leaving_kept (exits.Fixed address) known is fits come quiet = quiet_kept known.changed _ (quiet_leaving (exits.Fixed address) is refl)
+  leaving_kept (exits.Computed temp) known is fits come quiet = quiet_kept known.changed _ (quiet_leaving (exits.Computed temp) is refl)
+  leaving_kept (exits.Choice when taken other) known is fits come quiet = quiet_kept known.changed _ (quiet_leaving (exits.Choice when taken other) is refl)
+  leaving_kept (exits.Service temp) known is fits come quiet = quiet_kept known.changed _ (quiet_leaving (exits.Service temp) is refl)
+  leaving_kept exits.Breakpoint known is fits come quiet = by known.changed refl fits
+    where
+      by : (changed : Bool) → known.changed ≡ changed → not changed ≡ true → KeptBy changed (words_of (leaving site codes exits.Breakpoint))
+      by true e f = absurd (cc f)
+      by false e f = let x = quiet e in breaks known x.0 x.1 come
+
+  pub leave_shape : (exit : Exit) (known : Known) → IsExit exit → exit_fits known exit ≡ true → sources_fit site.sources known ≡ true → (known.changed ≡ false → (known.codes ≡ false) × (known.psw ≡ false))
+      → Shape site known.changed codes (exit_addresses site.after exit) 59 (leaving site codes exit)
+  leave_shape exit known is fits come quiet =
+      let trap = traps_silent site exit is in
+      let a = length-append (map plain codes) (rest_of exit) in
+      let b = length-append (trap_lines site exit) (departing site exit) in
+      let c = plain_length codes in
+      let d = trap.few in
+      let e = departing_short site after_fits exit in
+      record {
+        each = each_append site 0 (map plain codes) (rest_of exit) (row_fits site codes encodable (list_all_of (fine (may_be_written site.sources)) is_local (codes_local (may_be_written site.sources)) codes only))
+            (each_append site 0 (trap_lines site exit) (departing site exit) trap.front.each (departing_each site after_fits exit is));
+        kept = leaving_kept exit known is fits come quiet;
+        goes =
+            targets_append (map plain codes) (rest_of exit)
+            ∙ (ap (λ xs. xs ++ targets (rest_of exit)) (row_targets codes)
+            ∙ (targets_append (trap_lines site exit) (departing site exit) ∙ (ap (λ xs. xs ++ targets (departing site exit)) trap.front.stays ∙ departing_goes site after_fits exit)));
+        writes = λ r low high.
+            ap (writes_register r) (words_append (map plain codes) (rest_of exit))
+            ∙ (any_append (λ i. register_written i == r) (words_of (map plain codes)) (words_of (rest_of exit))
+            ∙ (ap (λ xs. writes_register r xs || writes_register r (words_of (rest_of exit))) (row_words_are codes)
+            ∙ (ap (λ b. writes_register r codes || b) (spares_append (trap_lines site exit) (departing site exit) trap.front.spares (departing_spares site after_fits exit) r low high) ∙ or_nothing (writes_register r codes))));
+        short = omega arith;
+      }

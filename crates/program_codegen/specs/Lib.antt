@@ -1,0 +1,3 @@
+pub mod Words
+pub mod Programs
+pub mod Promises

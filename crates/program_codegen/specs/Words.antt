@@ -1,0 +1,196 @@
+-- The words of a micro program's block, with the points and the exits of those that have one. R21 to R26 hold the
+-- temporaries 0 to 5, and R27 is scratch.
+-- Alpha Architecture Reference Manual, "Call Privileged Architecture Library": the numbers are this system's own.
+use Rattle.std.specs.Prelude.{ℕ, pos, ◌+◌, Bool, true, false, List, [], ◌∷◌, ◌++◌, length, map, Option, Some, None, unwrap_or, if◌then◌else◌}
+use Rattle.vax_form.specs.declared.instr.Size.{Size}
+use Rattle.vax_form.specs.declared.instr.Size.TheVariants as sizes
+use Rattle.vax_form.specs.declared.instr.Width.{Width}
+use Rattle.vax_form.specs.declared.instr.Width.TheVariants.{Byte, Word, Long}
+use Rattle.alpha_encode.specs.Halves.{load_high, load_low}
+use Rattle.alpha_encode.specs.declared.instr.AlphaInstr.{AlphaInstr}
+use Rattle.alpha_encode.specs.declared.instr.AlphaInstr.TheVariants.{Memory, Branch, Operate, Pal}
+use Rattle.alpha_encode.specs.declared.instr.BranchOp.TheVariants.{Br, Beq}
+use Rattle.alpha_encode.specs.declared.instr.MemoryOp.TheVariants.{Lda}
+use Rattle.alpha_encode.specs.declared.instr.OperateOp.TheVariants.{Addl, And, Bis}
+use Rattle.alpha_encode.specs.declared.instr.Second.TheVariants.{Register, Literal}
+use Rattle.exception_records.specs.Blocks.{BlockValue}
+use Rattle.exception_records.specs.Points.{Entry}
+use Rattle.exception_records.specs.declared.points.Point.{Point}
+use Rattle.exception_records.specs.declared.rules.CodeRule.{CodeRule}
+use Rattle.exception_records.specs.declared.rules.CodeRule.TheVariants as rules
+use Rattle.micro_ops.specs.LeftOut.{is_left_out}
+use Rattle.micro_ops.specs.declared.codes.CodeSource.{CodeSource}
+use Rattle.micro_ops.specs.declared.codes.CodeSource.TheVariants as sources
+use Rattle.micro_ops.specs.declared.program.Exit.{Exit}
+use Rattle.micro_ops.specs.declared.program.Exit.TheVariants.{Next, Fixed, Computed, Choice, Service, Breakpoint}
+use Rattle.micro_ops.specs.declared.program.Micro.{Micro}
+use Rattle.micro_ops.specs.declared.program.Micro.TheVariants.{Compute, Probe, Refuse, Read, Write, Locked, Commit, Codes, SetPsw, Leave}
+use Rattle.byte_sequences.specs.Words.{read_code, write_code, locked_code}
+use Rattle.compute_sequences.specs.Words.{compute_code}
+use Rattle.compute_sequences.specs.Overflow.{overflow_code}
+use Rattle.compute_sequences.specs.declared.overflow.Arithmetic.TheVariants.{Sum, Difference}
+use Rattle.program_codegen.specs.declared.lines.Line.{Line}
+use Rattle.program_codegen.specs.declared.points.Site.{Site}
+
+-- ---- points
+-- of an instruction that is not done
+abbrev pub point_of : Site → Point
+point_of site = record { vax_pc = site.at; done = 0; count = 0; write = false; raises = 0; rules = site.before }
+
+abbrev pub probing : Site → (count : ℕ) → (write : Bool) → Point
+probing site count write = record (point_of site) { count = count; write = write }
+
+-- a fault, by its vector
+abbrev pub raising : Site → (vector : ℕ) → Point
+raising site vector = record (point_of site) { raises = vector }
+
+-- a trap, where the instruction is done
+abbrev pub trapping : Site → Point
+trapping site = record (point_of site) { done = 1; rules = site.behind }
+
+-- ---- lines
+abbrev pub plain : AlphaInstr → Line
+plain instr = record { instr = instr; point = None; exit = None }
+
+abbrev pub marked : AlphaInstr → Point → Line
+marked instr point = record { instr = instr; point = Some point; exit = None }
+
+-- a word that does nothing
+abbrev pub idle : AlphaInstr
+idle = Operate Bis 31 (Register 31) 31
+
+-- an exit's words are filled where the block is laid out
+abbrev pub exit_lines : (address : ℕ) → List Line
+exit_lines address = record { instr = idle; point = None; exit = Some address } ∷ plain idle ∷ plain idle ∷ []
+
+-- ---- registers
+-- the register of a temporary
+abbrev pub holder : (temp : ℕ) → ℕ
+holder temp = 21 + temp
+
+abbrev pub copy : (from to : ℕ) → AlphaInstr
+copy from to = Operate Bis from (Literal 0) to
+
+-- a constant, of which the low longword counts
+abbrev pub load_address : (to address : ℕ) → List AlphaInstr
+load_address to address = load_high to address ∷ load_low to address ∷ []
+
+-- ---- the trap on overflow
+abbrev pub width_of : Size → Width
+width_of sizes.Byte = Byte
+width_of sizes.Word = Word
+width_of sizes.Long = Long
+width_of sizes.Quad = Long
+
+-- the words that make V behind the instruction by its rule; what is ready is not made
+abbrev pub overflow_made : CodeRule → List AlphaInstr
+overflow_made (rules.Add size) = overflow_code Sum (width_of size) 28 29 24
+overflow_made (rules.Sub size) = overflow_code Difference (width_of size) 28 29 24
+overflow_made rule = []
+
+-- and the register that has it then
+abbrev pub overflow_register : CodeRule → ℕ
+overflow_register rules.Ready = 18
+overflow_register rule = 24
+
+-- by some rules V is 0
+abbrev pub tells_overflow : CodeRule → Bool
+tells_overflow rules.Ready = true
+tells_overflow (rules.Add size) = true
+tells_overflow (rules.Sub size) = true
+tells_overflow rule = false
+
+abbrev pub may_overflow : CodeSource → Bool
+may_overflow (sources.Add size) = true
+may_overflow (sources.Sub size) = true
+may_overflow (sources.Computed size) = true
+may_overflow source = false
+
+-- the PC behind the instruction, in R26
+abbrev pub load_pc : (after : ℕ) → Exit → List AlphaInstr
+load_pc after (Fixed address) = load_address 26 address
+load_pc after (Computed temp) = copy (holder temp) 26 ∷ []
+load_pc after (Choice when taken other) =
+    Branch Beq (holder when) (pos 3) ∷ (load_address 26 taken ++ (Branch Br 31 (pos 2) ∷ load_address 26 other))
+load_pc after exit = load_address 26 after
+
+-- integer overflow has the type 1
+abbrev pub overflow_lines : Site → Exit → List Line
+overflow_lines site exit = map plain (load_pc site.after exit) ++ (plain (Memory Lda 21 31 (pos 1)) ∷ marked (Pal 0x84) (trapping site) ∷ [])
+
+-- where IV, bit 5 of R20, is set, V is made and tested
+abbrev pub tested_lines : CodeRule → (made : List AlphaInstr) → (trap : List Line) → List Line
+tested_lines rule made trap =
+    plain (Operate And 20 (Literal 32) 27)
+    ∷ plain (Branch Beq 27 (pos (length made + 1 + length trap)))
+    ∷ (map plain made ++ (plain (Branch Beq (overflow_register rule) (pos (length trap))) ∷ trap))
+
+abbrev pub may_trap : Site → Bool
+may_trap site = if may_overflow site.sources.nzv then tells_overflow site.behind.v else false
+
+abbrev pub trap_lines : Site → Exit → List Line
+trap_lines site exit = if may_trap site then tested_lines site.behind.v (overflow_made site.behind.v) (overflow_lines site exit) else []
+
+-- ---- leaving
+-- a computed exit looks its address up in R26; a service has its code in R21, and the PC behind it in R26
+abbrev pub departing : Site → Exit → List Line
+departing site Next = exit_lines site.after
+departing site (Fixed address) = exit_lines address
+departing site (Computed temp) = plain (copy (holder temp) 26) ∷ plain (Pal 0x81) ∷ []
+departing site (Choice when taken other) = plain (Branch Beq (holder when) (pos 3)) ∷ (exit_lines taken ++ exit_lines other)
+departing site (Service temp) =
+    plain (copy (holder temp) 21) ∷ (map plain (load_address 26 site.after) ++ (marked (Pal 0x82) (point_of site) ∷ exit_lines site.after))
+departing site Breakpoint = marked (Pal 0x83) (raising site 0x2C) ∷ []
+
+abbrev pub leaving : Site → (codes : List AlphaInstr) → Exit → List Line
+leaving site codes exit = map plain codes ++ (trap_lines site exit ++ departing site exit)
+
+-- ---- operations
+abbrev pub computing : Site → Micro → (behind : List Micro) → List AlphaInstr → List Line
+computing site operation behind words = if is_left_out site.sources operation behind then [] else map plain words
+
+abbrev pub lines_of : Site → (codes : List AlphaInstr) → Micro → (behind : List Micro) → List Line
+lines_of site codes (Compute to op size a b) behind =
+    computing site (Compute to op size a b) behind (compute_code op size a b (holder to))
+lines_of site codes (Probe place count write) behind =
+    plain (copy (holder place) 27) ∷ marked (Pal 0x80) (probing site count write) ∷ []
+lines_of site codes (Refuse when) behind = plain (Branch Beq (holder when) (pos 1)) ∷ marked (Pal 0x83) (raising site 0x18) ∷ []
+lines_of site codes (Read to place count) behind = map plain (read_code (holder place) count (holder to))
+lines_of site codes (Write place count from) behind = map plain (write_code (holder place) count (holder from))
+lines_of site codes (Locked to place kind from) behind = map plain (locked_code kind (holder place) (holder from) (holder to))
+lines_of site codes (Commit register from) behind = plain (Operate Addl (holder from) (Literal 0) register) ∷ []
+lines_of site codes (Codes n z v c) behind = []
+lines_of site codes (SetPsw from) behind = plain (Operate And (holder from) (Literal 0xF0) 20) ∷ []
+lines_of site codes (Leave exit) behind = leaving site codes exit
+
+abbrev pub program_lines : Site → (codes : List AlphaInstr) → List Micro → List Line
+program_lines site codes [] = []
+program_lines site codes (operation ∷ program) = lines_of site codes operation program ++ program_lines site codes program
+
+-- ---- blocks
+-- the first word has a point
+abbrev pub with_first : Point → List Line → List Line
+with_first point [] = []
+with_first point (line ∷ lines) = record line { point = Some (unwrap_or line.point point) } ∷ lines
+
+abbrev pub words_of : List Line → List AlphaInstr
+words_of lines = map (λ (line : Line). line.instr) lines
+
+abbrev pub with_entry : {A : Type 0} → Option A → (word : ℕ) → List (ℕ × A) → List (ℕ × A)
+with_entry None word entries = entries
+with_entry (Some x) word entries = (word, x) ∷ entries
+
+-- the points and the exits of lines from a word on
+abbrev pub points_from : (word : ℕ) → List Line → List Entry
+points_from word [] = []
+points_from word (line ∷ lines) = with_entry line.point word (points_from (word + 1) lines)
+
+abbrev pub exits_from : (word : ℕ) → List Line → List (ℕ × ℕ)
+exits_from word [] = []
+exits_from word (line ∷ lines) = with_entry line.exit word (exits_from (word + 1) lines)
+
+abbrev pub block_of : List Line → BlockValue
+block_of lines = record { words = words_of lines; exits = exits_from 0 lines; points = points_from 0 lines }
+
+abbrev pub block_lines : Site → (codes : List AlphaInstr) → List Micro → List Line
+block_lines site codes program = with_first (point_of site) (program_lines site codes program)

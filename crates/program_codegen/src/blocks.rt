@@ -1,0 +1,76 @@
+// The block of a micro program.
+ghost use Rattle.std.specs.Prelude.{◌≡◌, ◌<◌, ◌^◌, ◌≤◌, All, IfOk, false, true, map, length};
+ghost use Rattle.alpha_encode.specs.Words.{IsEncodable};
+ghost use Rattle.micro_ops.specs.Fits.{fits};
+ghost use Rattle.block_law.specs.Blocks.{IsBlockOf};
+ghost use Rattle.block_law.specs.CodeWords.{LeavesCodes};
+ghost use Rattle.block_law.specs.Tidy.{codes_written};
+ghost use Rattle.program_codegen.specs.Words.{block_lines, block_of};
+ghost use Rattle.program_codegen.specs.Programs.{AllRanged, AllFitWords, ReadsReady, LeavesReady, KeepsTogether, is_narrow, addresses_of};
+ghost use Rattle.program_codegen.specs.Promises.{HasRules, CompilesProgram};
+
+use crate::lines::{block_of, mark_first};
+use crate::operations::program_lines;
+use crate::points::{Site, point_of};
+use alpha_encode::AlphaInstr;
+use exception_records::{Block, Rules};
+use micro_ops::{CodeSources, Micro};
+use std::alloc::Global;
+use vax_form::{Instr, WantOfMemory};
+
+fn block_in(
+    alloc: Global,
+    site: Site,
+    program: &[Micro],
+    codes: &[AlphaInstr],
+) -> Result<Block, WantOfMemory>
+    requires words { AllFitWords site.sources program.now }
+    requires few { AllRanged program.now → site.after < 2 ^ 32 → length (block_lines site codes.now program.now) ≤ 256 }
+    requires narrow { is_narrow site.behind.v ≡ true }
+    ensures block { IfOk result (λ block. block ≡ block_of (block_lines site codes.now program.now)) }
+    ensures ranged { IfOk result (λ block. AllRanged program.now) }
+    ensures after { site.after < 2 ^ 32 }
+{
+    let mut lines = program_lines(alloc, site, codes, program)?;
+    mark_first(&mut lines, point_of(site));
+    block_of(alloc, &lines).map_err(|_| WantOfMemory)
+}
+
+/// The block of an instruction that does what its program means. `codes` are the words that leave its condition codes, as
+/// `sources` say where they come from; `before` are the rules of the codes before the instruction, `behind` those behind it.
+pub fn block(
+    alloc: Global,
+    instr: &Instr,
+    sources: CodeSources,
+    program: &[Micro],
+    codes: &[AlphaInstr],
+    before: Rules,
+    behind: Rules,
+) -> Result<Block, WantOfMemory>
+    requires fits { fits sources program.now ≡ true }
+    requires codes { LeavesCodes sources before behind codes.now }
+    requires encodable { All IsEncodable codes.now }
+    requires reads { ReadsReady before program.now }
+    requires leaves { LeavesReady behind program.now }
+    requires together { KeepsTogether sources }
+    requires narrow { is_narrow behind.v ≡ true }
+    // It has 1 to 256 words, which have encodings, and writes nothing that a boundary shows before its last fault.
+    ensures shape { IfOk result (λ block. IsBlockOf false instr.now.at block) }
+    // Its exits lead where the program leaves to.
+    ensures exits { IfOk result (λ block. map (λ exit. exit.1) block.exits ≡ addresses_of instr.now.after program.now) }
+    // The codes at its words are by the rules before the instruction, and where it is done by those behind it.
+    ensures rules { IfOk result (λ block. All (HasRules before behind) block.points) }
+    // Of the registers of the codes it writes those that the words for the codes write.
+    ensures written { IfOk result (λ block. codes_written block.words ≡ codes_written codes.now) }
+    // Wherever it stands, it does what the program means.
+    ensures means { IfOk result (CompilesProgram instr.now sources program.now before behind) }
+{
+    let site = Site {
+        at: instr.at,
+        after: instr.after,
+        sources,
+        before,
+        behind,
+    };
+    block_in(alloc, site, program, codes)
+}

@@ -1,0 +1,12 @@
+//! The Alpha code of a VAX instruction: the block of its micro program, which does what the program means wherever it
+//! comes to stand in a translation. The temporaries 0 to 5 stand in R21 to R26. Nothing that a boundary between
+//! instructions shows is written before the last word that may fault.
+#![tactic(auto)]
+
+mod blocks;
+mod leaving;
+mod lines;
+mod operations;
+mod points;
+
+pub use blocks::block;

@@ -1,0 +1,154 @@
+// The words of a block with their points and exits, and the block that they make.
+ghost use Rattle.std.specs.Prelude.{◌≡◌, ◌++◌, ◌≤◌, Some, None, length, map, IfOk, OnOk, []};
+ghost use Rattle.program_codegen.specs.Words.{plain, marked, idle, exit_lines, holder, copy, load_address, with_first, words_of, points_from, exits_from, block_of};
+
+use alpha_encode::{AlphaInstr, BranchOp, OperateOp, Second, load_high, load_low};
+use exception_records::{Block, Point};
+use std::alloc::{AllocError, Global};
+
+/// The first of the registers that hold temporaries.
+const TEMPORARIES: u8 = 21;
+
+const ZERO: u8 = 31;
+
+/// A word of a block, with its point, and the address to which the exit goes that begins there.
+#[derive(Clone, Copy)]
+pub(crate) struct Line {
+    pub(crate) instr: AlphaInstr,
+    pub(crate) point: Option<Point>,
+    pub(crate) exit: Option<u32>,
+}
+
+pub(crate) fn plain(instr: AlphaInstr) -> Line
+    ensures { result ≡ plain instr }
+{
+    Line {
+        instr,
+        point: None,
+        exit: None,
+    }
+}
+
+pub(crate) fn marked(instr: AlphaInstr, point: Point) -> Line
+    ensures { result ≡ marked instr point }
+{
+    Line {
+        instr,
+        point: Some(point),
+        exit: None,
+    }
+}
+
+/// The register that holds a temporary.
+pub(crate) fn holder(temp: u8) -> u8
+    requires { temp ≤ 5 }
+    ensures { result ≡ holder temp }
+{
+    TEMPORARIES + temp
+}
+
+pub(crate) fn branch(op: BranchOp, ra: u8, disp: i32) -> AlphaInstr
+    ensures { result ≡ AlphaInstr.Branch op ra disp }
+{
+    AlphaInstr::Branch { op, ra, disp }
+}
+
+pub(crate) fn operate_by(op: OperateOp, ra: u8, literal: u8, rc: u8) -> AlphaInstr
+    ensures { result ≡ AlphaInstr.Operate op ra (Second.Literal literal) rc }
+{
+    AlphaInstr::Operate {
+        op,
+        ra,
+        rb: Second::Literal(literal),
+        rc,
+    }
+}
+
+pub(crate) fn copy(from: u8, to: u8) -> AlphaInstr
+    ensures { result ≡ copy from to }
+{
+    operate_by(OperateOp::Bis, from, 0, to)
+}
+
+/// A word that does nothing.
+fn idle() -> AlphaInstr
+    ensures { result ≡ idle }
+{
+    AlphaInstr::Operate {
+        op: OperateOp::Bis,
+        ra: ZERO,
+        rb: Second::Register(ZERO),
+        rc: ZERO,
+    }
+}
+
+/// A constant, of which the low longword counts.
+pub(crate) fn load_address(to: u8, address: u32) -> [AlphaInstr; 2]
+    ensures { result ≡ load_address to address }
+{
+    [load_high(to, address), load_low(to, address)]
+}
+
+pub(crate) fn push_words(lines: &mut Vec<Line>, words: &[AlphaInstr]) -> Result<(), AllocError>
+    ensures { OnOk result (lines.new.items ≡ lines.old.items ++ map plain words.now) }
+{
+    for word in words {
+        lines.push(plain(*word))?;
+    }
+    Ok(())
+}
+
+/// The three words of an exit, which are filled where the block is laid out.
+pub(crate) fn push_exit(lines: &mut Vec<Line>, address: u32) -> Result<(), AllocError>
+    ensures { OnOk result (lines.new.items ≡ lines.old.items ++ exit_lines address) }
+{
+    let first = Line {
+        instr: idle(),
+        point: None,
+        exit: Some(address),
+    };
+    lines.extend_from_slice(&[first, plain(idle()), plain(idle())])
+}
+
+/// The first word gets the point, where it has none of its own.
+pub(crate) fn mark_first(lines: &mut Vec<Line>, point: Point)
+    ensures { lines.new.items ≡ with_first point lines.old.items }
+{
+    if let Some(line) = lines.first_mut() {
+        line.point = Some(line.point.unwrap_or(point));
+    }
+}
+
+// Each line's word, its point and its exit beside its number.
+fn push_lines(block: &mut Block, lines: &[Line]) -> Result<(), AllocError>
+    requires few { length lines.now ≤ 256 }
+    requires words { block.old.words ≡ [] }
+    requires exits { block.old.exits ≡ [] }
+    requires points { block.old.points ≡ [] }
+    ensures { OnOk result (block.new ≡ block_of lines.now) }
+{
+    for (word, line) in lines.iter().enumerate() {
+        block.words.push(line.instr)?;
+        if let Some(address) = line.exit {
+            block.exits.push((word as u32, address))?;
+        }
+        if let Some(point) = line.point {
+            block.points.push((word as u32, point))?;
+        }
+    }
+    Ok(())
+}
+
+/// The block of these lines.
+pub(crate) fn block_of(alloc: Global, lines: &[Line]) -> Result<Block, AllocError>
+    requires few { length lines.now ≤ 256 }
+    ensures { IfOk result (λ block. block ≡ block_of lines.now) }
+{
+    let mut block = Block {
+        words: Vec::new(alloc),
+        exits: Vec::new(alloc),
+        points: Vec::new(alloc),
+    };
+    push_lines(&mut block, lines)?;
+    Ok(block)
+}

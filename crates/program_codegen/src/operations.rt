@@ -1,0 +1,157 @@
+// The words of each operation of a program.
+ghost use Rattle.std.specs.Prelude.{◌≡◌, ◌++◌, ◌∷◌, [], OnOk, IfOk, map, true};
+ghost use Rattle.program_codegen.specs.Words.{plain, lines_of, program_lines};
+ghost use Rattle.program_codegen.specs.Programs.{IsRanged, AllRanged, HasWords, AllFitWords, is_narrow};
+
+use crate::leaving::push_leaving;
+use crate::lines::{Line, branch, copy, holder, marked, operate_by, plain, push_words};
+use crate::points::{RESERVED_OPERAND, Site, probing, raising};
+use alpha_encode::{AlphaInstr, BranchOp, OperateOp};
+use byte_sequences::{locked_words, read_words, write_words};
+use compute_sequences::compute_words;
+use micro_ops::{Micro, is_left_out};
+use std::alloc::Global;
+use vax_form::WantOfMemory;
+
+/// Bits 7:4 of the processor status word.
+const STATUS: u8 = 20;
+
+const STATUS_BITS: u8 = 0xF0;
+/// The address of a probe.
+const PROBED: u8 = 27;
+
+const PROBE: AlphaInstr = AlphaInstr::Pal(0x80);
+
+const RAISE: AlphaInstr = AlphaInstr::Pal(0x83);
+
+fn push_line(lines: &mut Vec<Line>, line: Line) -> Result<(), WantOfMemory>
+    ensures { OnOk result (lines.new.items ≡ lines.old.items ++ (line ∷ [])) }
+{
+    lines.push(line).map_err(|_| WantOfMemory)?;
+    Ok(())
+}
+
+fn push_two(lines: &mut Vec<Line>, first: Line, second: Line) -> Result<(), WantOfMemory>
+    ensures { OnOk result (lines.new.items ≡ lines.old.items ++ (first ∷ second ∷ [])) }
+{
+    lines
+        .extend_from_slice(&[first, second])
+        .map_err(|_| WantOfMemory)
+}
+
+fn push_all(lines: &mut Vec<Line>, words: &[AlphaInstr]) -> Result<(), WantOfMemory>
+    ensures { OnOk result (lines.new.items ≡ lines.old.items ++ map plain words.now) }
+{
+    push_words(lines, words).map_err(|_| WantOfMemory)
+}
+
+/// The words of an operation, before those behind it. A computation that is left out has none: those that leave the codes
+/// stand in for it.
+fn push_operation(
+    alloc: Global,
+    lines: &mut Vec<Line>,
+    site: Site,
+    codes: &[AlphaInstr],
+    operation: Micro,
+    behind: &[Micro],
+) -> Result<(), WantOfMemory>
+    requires words { HasWords site.sources operation behind.now }
+    requires narrow { is_narrow site.behind.v ≡ true }
+    ensures { OnOk result (lines.new.items ≡ lines.old.items ++ lines_of site codes.now operation behind.now) }
+{
+    match operation {
+        Micro::Compute { to, op, size, a, b } => {
+            if is_left_out(site.sources, operation, behind) {
+                return Ok(());
+            }
+            let words = compute_words(alloc, op, size, a, b, holder(to))?;
+            push_all(lines, &words)
+        }
+        Micro::Probe {
+            place,
+            count,
+            write,
+        } => push_two(
+            lines,
+            plain(copy(holder(place), PROBED)),
+            marked(PROBE, probing(site, count, write)),
+        ),
+        Micro::Refuse { when } => push_two(
+            lines,
+            plain(branch(BranchOp::Beq, holder(when), 1)),
+            marked(RAISE, raising(site, RESERVED_OPERAND)),
+        ),
+        Micro::Read { to, place, count } => {
+            let words = read_words(alloc, holder(place), count, holder(to))?;
+            push_all(lines, &words)
+        }
+        Micro::Write { place, count, from } => {
+            let words = write_words(alloc, holder(place), count, holder(from))?;
+            push_all(lines, &words)
+        }
+        Micro::Locked {
+            to,
+            place,
+            kind,
+            from,
+        } => {
+            let words = locked_words(alloc, holder(place), kind, holder(from), holder(to))?;
+            push_all(lines, &words)
+        }
+        Micro::Commit { register, from } => {
+            push_line(
+                lines,
+                plain(operate_by(OperateOp::Addl, holder(from), 0, register)),
+            )
+        }
+        Micro::Codes { .. } => Ok(()),
+        Micro::SetPsw { from } => push_line(
+            lines,
+            plain(operate_by(OperateOp::And, holder(from), STATUS_BITS, STATUS)),
+        ),
+        Micro::Leave(exit) => push_leaving(alloc, lines, site, codes, exit),
+    }
+}
+
+/// The same; what is asked of the operation may rest on the types of its numbers.
+fn push_next(
+    alloc: Global,
+    lines: &mut Vec<Line>,
+    site: Site,
+    codes: &[AlphaInstr],
+    operation: Micro,
+    behind: &[Micro],
+) -> Result<(), WantOfMemory>
+    requires words { IsRanged operation → HasWords site.sources operation behind.now }
+    requires narrow { is_narrow site.behind.v ≡ true }
+    ensures lines { OnOk result (lines.new.items ≡ lines.old.items ++ lines_of site codes.now operation behind.now) }
+    ensures ranged { IsRanged operation }
+{
+    push_operation(alloc, lines, site, codes, operation, behind)
+}
+
+/// The words of a program.
+pub(crate) fn program_lines(
+    alloc: Global,
+    site: Site,
+    codes: &[AlphaInstr],
+    program: &[Micro],
+) -> Result<Vec<Line>, WantOfMemory>
+    requires words { AllFitWords site.sources program.now }
+    requires narrow { is_narrow site.behind.v ≡ true }
+    ensures lines { IfOk result (λ lines. lines.items ≡ program_lines site codes.now program.now) }
+    ensures ranged { IfOk result (λ lines. AllRanged program.now) }
+{
+    let mut lines = Vec::new(alloc);
+    for i in 0..program.len() {
+        push_next(
+            alloc,
+            &mut lines,
+            site,
+            codes,
+            program[i],
+            &program[i + 1..],
+        )?;
+    }
+    Ok(lines)
+}
