@@ -113,7 +113,10 @@ use Rattle.micro_lower.proofs.Ready.{ReadyFor}
 use Rattle.micro_lower.proofs.Overflow.{extended_below}
 use Rattle.micro_lower.proofs.Planned.{both, after_modify}
 use Rattle.std.specs.Prelude.{bit_or}
-use Rattle.micro_lower.proofs.Planned.{read_and_modify}
+use Rattle.std.proofs.lemmas.Bool.Decides.{eqb_tells}
+use Rattle.std.specs.Int.Bits.{or_comm, or_self}
+use Rattle.std.proofs.lemmas.Nat.{or_lt, shr_le}
+use Rattle.micro_lower.proofs.Planned.{read_and_modify, read_twice_and_write}
 use Rattle.vax_meaning.specs.Arithmetic.{add_with_carry, subtract_with_carry, replace, give_coded, rotate, arithmetic_shift, shift_of}
 use Rattle.vt_words.specs.Shifts.{rotation_of}
 use Rattle.micro_lower.specs.Rows.{add_with_carry_plan, subtract_with_carry_plan, rotate_plan, arithmetic_shift_plan}
@@ -227,3 +230,114 @@ add_with_carry_all instr givable state pages thread temps values ok same left =
     at givable (sum_made instr state pages thread temps second first) (low_below Long _) refl
     (computed_long state (effect plan.behind found after) coded (low_below Long _) (sum_made instr state pages thread temps second first) refl refl (sum_v instr state pages thread temps second first) (sum_c instr state pages thread temps second first))
     Next tt instr.after refl (coded_end_of pages coded instr.after) (λ s e. refl))
+
+less_beyond : (x y f : ℕ) → x < 4294967296 → y < 4294967296 → f < 2 → nat_lt (x % 18446744073709551616) ((y % 18446744073709551616 + f % 18446744073709551616) % 18446744073709551616 % 18446744073709551616) ≡ nat_lt x (y + f)
+less_beyond x y f lt lt' small =
+    let left : x % 18446744073709551616 ≡ x = omega (arith, lt) in
+    let right : (y % 18446744073709551616 + f % 18446744073709551616) % 18446744073709551616 % 18446744073709551616 ≡ y + f = omega (arith, lt', small) in
+    ap (λ n. nat_lt n ((y % 18446744073709551616 + f % 18446744073709551616) % 18446744073709551616 % 18446744073709551616)) left ∙ ap (λ n. nat_lt x n) right
+
+module _ (instr : Instr) (state : VaxState) (pages : Pages) (thread : ℕ) (temps : Temps) (lt : temps 0 < 2 ^ 32) (lt' : temps 1 < 2 ^ 32) where
+  abbrev a' : ℕ
+  a' = temps 0 % 2 ^ 32
+
+  abbrev b' : ℕ
+  b' = temps 1 % 2 ^ 32
+
+  abbrev c' : Bool
+  c' = carry_of state
+
+  abbrev with_difference : Temps
+  with_difference = effect (subtract_with_carry_plan instr).before (found_at state instr.after) temps
+
+  difference_made : with_difference 2 ≡ (difference_of 4 a' b' c').value
+  unfolding value_from difference_of
+  difference_made = ap (λ f. ((a' + (2 ^ 32 - b')) % 2 ^ 32 % 2 ^ 32 + (2 ^ 32 - f)) % 2 ^ 32) (flag_low state.psw (2 ^ 32) (lit< tt) ∙ sym (bit_low c')) ∙ difference_with (temps 0) (temps 1) c'
+
+  difference_v : effect (subtract_with_carry_plan instr).behind (found_at state instr.after) with_difference 3 ≡ bit (difference_of 4 a' b' c').v
+  unfolding value_from difference_of
+  difference_v =
+      let e = sign_extended a' 32 in
+      let f = sign_extended b' 32 in
+      let z = ((e + (2 ^ 64 - f)) % 2 ^ 64 + (2 ^ 64 - bit c')) % 2 ^ 64 in
+      let r = (a' + 2 ^ 32 - (b' + bit c')) % 2 ^ 32 in
+      let y : ((sign_extended a' 32 % 2 ^ 64 + (2 ^ 64 - sign_extended b' 32 % 2 ^ 64)) % 2 ^ 64 % 2 ^ 64 + (2 ^ 64 - state.psw / 1 % 2 % 2 ^ 64)) % 2 ^ 64 ≡ z =
+      ap (λ n. ((n + (2 ^ 64 - sign_extended b' 32 % 2 ^ 64)) % 2 ^ 64 % 2 ^ 64 + (2 ^ 64 - state.psw / 1 % 2 % 2 ^ 64)) % 2 ^ 64) (extension_of (temps 0))
+      ∙ ap (λ n. ((e + (2 ^ 64 - n)) % 2 ^ 64 % 2 ^ 64 + (2 ^ 64 - state.psw / 1 % 2 % 2 ^ 64)) % 2 ^ 64) (extension_of (temps 1))
+      ∙ ap (λ n. (n + (2 ^ 64 - state.psw / 1 % 2 % 2 ^ 64)) % 2 ^ 64) (mod-eq_of_lt (mod_below (e + (2 ^ 64 - f)) (2 ^ 64) (lit< tt)))
+      ∙ ap (λ n. ((e + (2 ^ 64 - f)) % 2 ^ 64 + (2 ^ 64 - n)) % 2 ^ 64) (flag_low state.psw (2 ^ 64) (lit< tt)) in
+      ap (λ n. bit_xor (bit (n % 2 ^ 64 == sign_extended (with_difference 2 % 2 ^ 32) 32 % 2 ^ 64) % 2 ^ 8) 1) y
+      ∙ ap (λ n. bit_xor (bit (n == sign_extended (with_difference 2 % 2 ^ 32) 32 % 2 ^ 64) % 2 ^ 8) 1) (mod-eq_of_lt (mod_below _ (2 ^ 64) (lit< tt)))
+      ∙ ap (λ n. bit_xor (bit (z == sign_extended (n % 2 ^ 32) 32 % 2 ^ 64) % 2 ^ 8) 1) difference_made
+      ∙ ap (λ n. bit_xor (bit (z == n) % 2 ^ 8) 1) (extension_of r)
+      ∙ ap (λ n. bit_xor (bit (z == sign_extended n 32) % 2 ^ 8) 1) (mod-eq_of_lt (low_below Long (a' + 2 ^ 32 - (b' + bit c'))))
+      ∙ flipped _
+      ∙ ap bit (sym (difference_overflows_with a' b' c' (low_below Long _) (low_below Long _)))
+
+  difference_c : effect (subtract_with_carry_plan instr).behind (found_at state instr.after) with_difference 4 ≡ bit (difference_of 4 a' b' c').c
+  unfolding value_from difference_of
+  difference_c =
+      ap bit (less_beyond (temps 0) (temps 1) (state.psw / 1 % 2) lt lt' (flag_small state.psw)
+      ∙ ap (λ n. nat_lt (temps 0) (temps 1 + n)) (carry_bit state.psw)
+      ∙ ap (λ n. nat_lt n (temps 1 + bit c')) (sym (mod-eq_of_lt lt))
+      ∙ ap (λ n. nat_lt a' (n + bit c')) (sym (mod-eq_of_lt lt')))
+
+pub subtract_with_carry_all : (instr : Instr) → IsGivable (operand instr 1) Long → AllDo operations.SubtractWithCarry instr (subtract_with_carry_plan instr)
+unfolding body subtract_with_carry replace sources_of value_from difference_of
+subtract_with_carry_all instr givable state pages thread temps values ok same left =
+    let plan = subtract_with_carry_plan instr in
+    let found = found_at state instr.after in
+    let after = effect plan.before found temps in
+    let coded = difference_of 4 (temps 0 % 2 ^ 32) (temps 1 % 2 ^ 32) (carry_of state) in
+    read_and_modify values temps (BodyDoes operations.SubtractWithCarry instr plan state pages thread temps) Long (operand instr 0) 1 2 Long (operand instr 1) 0 left (λ location first at second.
+    replaces_as (Computed Long) (Computed Long) state pages thread instr.after ok Long (operand instr 1) (steps_of plan.slots instr) same location coded after plan.behind refl
+    at givable (difference_made instr state pages thread temps second first) (low_below Long _) refl
+    (computed_long state (effect plan.behind found after) coded (low_below Long _) (difference_made instr state pages thread temps second first) refl refl (difference_v instr state pages thread temps second first) (difference_c instr state pages thread temps second first))
+    Next tt instr.after refl (coded_end_of pages coded instr.after) (λ s e. refl))
+
+-- ---- rotation
+or_nothing : (x : ℕ) → bit_or x 0 ≡ x
+or_nothing x = or_comm x 0
+
+-- what the right shift is by
+abbrev lacking : ℕ → ℕ
+lacking k = (32 + (256 - k % 256)) % 256
+
+lacks : (k : ℕ) → 0 < k → k < 32 → lacking k % 4294967296 ≡ 32 - k
+lacks k some small = omega (arith, some, small)
+
+rotated : (x k : ℕ) → x < 2 ^ 32 → k < 32
+    → bit_or ((if nat_lt (k % 4294967296) 32 then x * 2 ^ (k % 4294967296) % 4294967296 else 0) % 4294967296) ((if nat_lt (lacking k % 4294967296) 32 then x / 2 ^ (lacking k % 4294967296) else 0) % 4294967296) ≡ rotation_of x k
+rotated x k lt small = elim (eqb_tells k 0) [
+  | inl is ↦ (let low : x * 1 % 4294967296 ≡ x = omega (arith, lt) in
+      let twice : x * 1 % 4294967296 % 4294967296 ≡ x = omega (arith, lt) in
+      let whole : x / 1 ≡ x = omega arith in
+      rw is.1 (ap (λ n. bit_or n 0) twice ∙ or_nothing x ∙ sym (or_self x) ∙ ap (λ n. bit_or n x) (sym low) ∙ ap (λ n. bit_or (x * 1 % 4294967296) n) (sym whole)))
+  | inr not ↦ (let some : 0 < k = grind (arith, nat_tests, not.0) in
+      let same : k % 4294967296 ≡ k = omega (arith, small) in
+      let same' : k % 32 ≡ k = omega (arith, small) in
+      let lack : lacking k % 4294967296 ≡ 32 - k = lacks k some small in
+      let lack' : (32 - k) % 32 ≡ 32 - k = omega (arith, some, small) in
+      let test : nat_lt k 32 ≡ true = grind (arith, nat_tests) in
+      let test' : nat_lt (32 - k) 32 ≡ true = grind (arith, nat_tests) in
+      let le = shr_le x (32 - k) in
+      let right : x / 2 ^ (32 - k) % 4294967296 ≡ x / 2 ^ (32 - k) = mod-eq_of_lt (omega (arith, le, lt)) in
+      let left : x * 2 ^ k % 4294967296 % 4294967296 ≡ x * 2 ^ k % 4294967296 = mod-eq_of_lt (low_below Long (x * 2 ^ k)) in
+      rw (same, lack, same', lack', test, test', right, left) refl)
+]
+
+pub rotate_all : (instr : Instr) → IsGivable (operand instr 2) Long → AllDo operations.Rotate instr (rotate_plan instr)
+unfolding body give sources_of value_from
+rotate_all instr givable state pages thread temps values ok same left =
+    let plan = rotate_plan instr in
+    let found = found_at state instr.after in
+    let after = effect plan.before found temps in
+    let k = temps 0 % 256 % 32 in
+    let x = temps 1 % 2 ^ 32 in
+    let v = rotation_of x k in
+    let made : after 2 ≡ v = rw (and_mask (temps 0 % 256) 5) (rotated x k (low_below Long _) (mod_below _ 32 (lit< tt))) in
+    let fits : v < 2 ^ 32 = subst (λ n. n < 2 ^ 32) made (or_lt 32 _ _ (low_below Long _) (low_below Long _)) in
+    read_twice_and_write values temps (BodyDoes operations.Rotate instr plan state pages thread temps) Byte Long Long (operand instr 0) (operand instr 1) (operand instr 2) 0 1 1 2 left (λ location count source at.
+    gives_as (Result Long) Kept state pages thread instr.after ok Long (operand instr 2) (steps_of plan.slots instr) same location (value_coded state Long v) after plan.behind refl
+    at givable made fits refl (result_ready Long state v (effect plan.behind found after) fits (ap (λ n. n % 2 ^ 32) made ∙ mod-eq_of_lt fits) made) Next tt instr.after refl
+    (value_end pages Long v instr.after) (value_ends pages state Long v instr.after))

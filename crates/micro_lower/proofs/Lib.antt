@@ -22,3 +22,5 @@ pub mod RowsLower
 pub mod ByRow
 pub mod CarryRows
 pub mod JumpsLower
+pub mod StatusRows
+pub mod PslRows
