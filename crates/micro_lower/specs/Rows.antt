@@ -440,8 +440,14 @@ rotate_plan instr = record {
 
 -- ---- the processor status
 -- the low byte of the status into 2, from DV down to C
+abbrev pub doubled : Micro
+doubled = Compute 2 ops.Add Byte (Temp 2) (Temp 2)
+
+abbrev pub flag_added : (flag : ℕ) → Micro
+flag_added flag = Compute 2 ops.Add Byte (Temp 2) (Flag flag)
+
 abbrev pub with_flag : (flag : ℕ) → List Micro
-with_flag flag = Compute 2 ops.Add Byte (Temp 2) (Temp 2) ∷ Compute 2 ops.Add Byte (Temp 2) (Flag flag) ∷ []
+with_flag flag = doubled ∷ flag_added flag ∷ []
 
 abbrev pub status_program : List Micro
 status_program =
@@ -484,6 +490,7 @@ move_row (operations.Convert from to) instr = Some (convert_plan from to instr)
 move_row (operations.MoveAddress size) instr = Some (move_address_plan size instr)
 move_row (operations.PushAddress size) instr = Some (push_address_plan size)
 move_row operations.PushLong instr = Some push_long_plan
+move_row operations.MovePsl instr = Some (move_psl_plan instr)
 move_row _ instr = None
 
 -- arithmetic, logical operations and tests
@@ -496,6 +503,8 @@ arithmetic_row (operations.ThreeOperands operation width) instr = binary_row ope
 arithmetic_row (operations.Increment width) instr = Some (by_one_plan ops.Add width instr)
 arithmetic_row (operations.Decrement width) instr = Some (by_one_plan ops.Sub width instr)
 arithmetic_row operations.AddWithCarry instr = Some (add_with_carry_plan instr)
+arithmetic_row operations.SubtractWithCarry instr = Some (subtract_with_carry_plan instr)
+arithmetic_row operations.Rotate instr = Some (rotate_plan instr)
 arithmetic_row _ instr = None
 
 -- branches, loops, jumps and services

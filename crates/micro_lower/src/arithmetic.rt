@@ -4,7 +4,7 @@ ghost use Rattle.std.specs.Prelude.{◌≡◌, ◌≤◌, IfOk, length};
 ghost use Rattle.vax_form.specs.Size.{size_of};
 ghost use Rattle.micro_ops.specs.Sources.{sources_of};
 ghost use Rattle.micro_lower.specs.Plans.{plan_of, program_of};
-ghost use Rattle.micro_lower.specs.Rows.{compare_plan, test_plan, bit_test_plan, micro_of, behind_binary, two_operands_plan, three_operands_plan, by_one_plan, add_with_carry_plan};
+ghost use Rattle.micro_lower.specs.Rows.{compare_plan, test_plan, bit_test_plan, micro_of, behind_binary, two_operands_plan, three_operands_plan, by_one_plan, add_with_carry_plan, subtract_with_carry_plan, rotate_plan};
 
 use crate::micros::{binary, unary};
 use crate::plans::{Plan, Target, assemble};
@@ -277,4 +277,66 @@ pub(crate) fn add_with_carry(alloc: Global, instr: &Instr) -> Result<Vec<Micro>,
     };
     let codes = sources_of(Operation::AddWithCarry);
     assemble(alloc, codes, plan, instr)
+}
+
+/// SBWC: C says that the first is below the second with C.
+pub(crate) fn subtract_with_carry(alloc: Global, instr: &Instr) -> Result<Vec<Micro>, WantOfMemory>
+    ensures { IfOk result (λ p. p.items ≡ program_of (sources_of Operation.SubtractWithCarry) (subtract_with_carry_plan instr.now) instr.now) }
+{
+    let (quad, carry) = (Size::Quad, Arg::Flag(3));
+    let (first, second, made) = (Arg::Temp(1), Arg::Temp(0), Arg::Temp(4));
+    let [extended, equal, overflows] = overflow_by(Size::Long);
+    let plan = Plan {
+        slots: &[read(Size::Long, 1, 2), modified(Size::Long, 0)],
+        before: &[
+            binary(2, MicroOp::Sub, Size::Long, second, first),
+            binary(2, MicroOp::Sub, Size::Long, Arg::Temp(2), carry),
+        ],
+        target: Target::Replacement {
+            operand: operand(instr, 1),
+            size: Size::Long,
+        },
+        behind: &[
+            unary(4, MicroOp::SignExtend, Size::Long, second),
+            unary(5, MicroOp::SignExtend, Size::Long, first),
+            binary(4, MicroOp::Sub, quad, made, Arg::Temp(5)),
+            binary(4, MicroOp::Sub, quad, made, carry),
+            extended,
+            equal,
+            overflows,
+            binary(4, MicroOp::Add, quad, first, carry),
+            binary(4, MicroOp::LessUnsigned, quad, second, made),
+        ],
+        exit: Exit::Next,
+    };
+    let codes = sources_of(Operation::SubtractWithCarry);
+    assemble(alloc, codes, plan, instr)
+}
+
+/// ROTL: by the count modulo 32, and what it lacks to 32 to the right.
+pub(crate) fn rotate(alloc: Global, instr: &Instr) -> Result<Vec<Micro>, WantOfMemory>
+    ensures { IfOk result (λ p. p.items ≡ program_of (sources_of Operation.Rotate) (rotate_plan instr.now) instr.now) }
+{
+    let (source, count) = (Arg::Temp(1), Arg::Temp(4));
+    let plan = Plan {
+        slots: &[
+            read(Size::Byte, 0, 1),
+            read(Size::Long, 1, 2),
+            written(Size::Long),
+        ],
+        before: &[
+            binary(4, MicroOp::And, Size::Byte, Arg::Temp(0), Arg::Const(31)),
+            binary(2, MicroOp::ShiftLeft, Size::Long, source, count),
+            binary(4, MicroOp::Sub, Size::Byte, Arg::Const(32), count),
+            binary(5, MicroOp::ShiftRight, Size::Long, source, count),
+            binary(2, MicroOp::Or, Size::Long, Arg::Temp(2), Arg::Temp(5)),
+        ],
+        target: Target::Result {
+            operand: operand(instr, 2),
+            size: Size::Long,
+        },
+        behind: &[unary(0, MicroOp::Move, Size::Long, Arg::Temp(2))],
+        exit: Exit::Next,
+    };
+    assemble(alloc, sources_of(Operation::Rotate), plan, instr)
 }

@@ -4,16 +4,16 @@ ghost use Rattle.micro_ops.specs.Sources.{sources_of};
 ghost use Rattle.micro_lower.specs.Rows.{program_where, move_row, arithmetic_row, control_row, row_of, row_program_of};
 
 use crate::arithmetic::{
-    add_with_carry, bit_test, compare, decrement, increment, test_value, three_operands,
-    two_operands,
+    add_with_carry, bit_test, compare, decrement, increment, rotate, subtract_with_carry,
+    test_value, three_operands, two_operands,
 };
 use crate::jumps::{
     add_compare_branch, add_one_branch, branch_on_low_bit, change_mode, jump, jump_to_subroutine,
     subtract_one_branch,
 };
 use crate::moves::{
-    clear, convert, move_address, move_complemented, move_negated, move_value, move_zero_extended,
-    push_address, push_long,
+    clear, convert, move_address, move_complemented, move_negated, move_psl, move_value,
+    move_zero_extended, push_address, push_long,
 };
 use micro_ops::Micro;
 use std::alloc::Global;
@@ -38,6 +38,7 @@ fn lower_move(
         Operation::MoveAddress(size) => move_address(alloc, instr, size)?,
         Operation::PushAddress(size) => push_address(alloc, instr, size)?,
         Operation::PushLong => push_long(alloc, instr)?,
+        Operation::MovePsl => move_psl(alloc, instr)?,
         _ => return Ok(None),
     };
     Ok(Some(program))
@@ -65,6 +66,8 @@ fn lower_arithmetic(
         Operation::Increment(width) => increment(alloc, instr, width)?,
         Operation::Decrement(width) => decrement(alloc, instr, width)?,
         Operation::AddWithCarry => add_with_carry(alloc, instr)?,
+        Operation::SubtractWithCarry => subtract_with_carry(alloc, instr)?,
+        Operation::Rotate => rotate(alloc, instr)?,
         _ => return Ok(None),
     };
     Ok(Some(program))
