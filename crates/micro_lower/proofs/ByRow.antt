@@ -1,5 +1,5 @@
 -- The program that the table has lowers its instruction.
-use Rattle.std.proofs.Common.{◌≡◌, true, false, List, Option, Some, None, refl, ap, sym}
+use Rattle.std.proofs.Common.{◌≡◌, List, Some, refl, sym}
 use Rattle.vax_form.specs.Grammar.{IsSpelled}
 use Rattle.vax_form.specs.Operation.{operation_at}
 use Rattle.vax_form.specs.declared.instr.Instr.{Instr}

@@ -1,8 +1,8 @@
 -- The codes that a program sets are the instruction's, and where it leaves to is where the instruction goes on.
-use Rattle.std.proofs.Common.{◌≡◌, ℕ, ◌+◌, ◌*◌, ◌/◌, ◌%◌, ◌^◌, ◌<◌, Bool, true, false, List, [], ◌∷◌, Option, Some, None, refl, sym, ap, ◌∙◌, arith}
+use Rattle.std.proofs.Common.{◌≡◌, ℕ, ◌+◌, ◌*◌, ◌/◌, ◌%◌, ◌^◌, ◌<◌, Bool, true, false, [], ◌∷◌, Option, Some, None, refl, ap, arith}
 use Rattle.std.specs.Prelude.{◌==◌, ◌&&◌, not, if◌then◌else◌}
 use Rattle.vax_form.specs.Script.{◌>>◌, change}
-use Rattle.vax_form.specs.State.{with_psw, with_pc}
+use Rattle.vax_form.specs.State.{with_pc}
 use Rattle.vax_form.specs.Tree.{Tree, Finish, Trap, tree_of, ends_with}
 use Rattle.vax_form.specs.declared.script.End.TheVariants.{Done, Traps}
 use Rattle.vax_form.specs.declared.pages.Pages.{Pages}
@@ -15,7 +15,6 @@ use Rattle.micro_ops.specs.Meaning.{Temps, Found, Standing, Ended, flag_of, cour
 use Rattle.micro_ops.specs.declared.codes.CodeSources.{CodeSources}
 use Rattle.micro_ops.specs.declared.program.Exit.{Exit}
 use Rattle.micro_ops.specs.declared.program.Exit.TheVariants.{Next, Fixed, Computed, Choice, Service, Breakpoint}
-use Rattle.micro_ops.specs.declared.program.Micro.{Micro}
 use Rattle.micro_ops.specs.declared.program.Micro.TheVariants.{Codes, Leave}
 use Rattle.operand_programs.specs.Pieces.{Agrees, leaving}
 

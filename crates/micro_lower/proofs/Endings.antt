@@ -1,11 +1,9 @@
 -- Behind the computations of a program: the result goes to its operand, the registers are committed and the codes set.
-use Rattle.std.proofs.Common.{◌≡◌, ℕ, ◌%◌, ◌^◌, ◌<◌, ◌==◌, eqb, Bool, true, false, List, [], ◌∷◌, ◌++◌, length, refl, sym, ap, ◌∙◌, subst, append_assoc}
+use Rattle.std.proofs.Common.{◌≡◌, ℕ, ◌<◌, eqb, Bool, true, false, List, [], ◌∷◌, ◌++◌, length, refl, ◌∙◌, subst}
 use Rattle.std.proofs.Common.{arith, inl, inr, lit<}
 use Rattle.std.proofs.lemmas.Bool.Decides.{eqb_tells}
 use Rattle.std.proofs.lemmas.List.{length-set}
 use Rattle.std.specs.List.{list_all}
-use Rattle.std.specs.Prelude.{◌&&◌}
-use Rattle.vax_form.specs.Script.{◌>>◌, change}
 use Rattle.vax_form.specs.State.{IsState, with_core}
 use Rattle.vax_form.specs.Tree.{Tree, tree_of, ends_with}
 use Rattle.vax_form.specs.declared.instr.Operand.{Operand}
@@ -18,7 +16,6 @@ use Rattle.vax_meaning.specs.Codes.{go_to}
 use Rattle.vax_meaning.specs.Moves.{push}
 use Rattle.vax_meaning.specs.declared.operands.Location.{Location}
 use Rattle.vax_meaning.specs.declared.operands.Location.TheVariants.{InMemory, InRegister}
-use Rattle.vt_words.specs.Values.{bit}
 use Rattle.vt_words.specs.declared.arithmetic.Coded.{Coded}
 use Rattle.micro_ops.specs.Leaving.{CodesComeFrom}
 use Rattle.micro_ops.specs.Meaning.{Temps, Found, Standing, course_of, started}
@@ -29,7 +26,6 @@ use Rattle.micro_ops.specs.declared.codes.CodeSource.TheVariants as sources
 use Rattle.micro_ops.specs.declared.program.Exit.{Exit}
 use Rattle.micro_ops.specs.declared.program.Micro.{Micro}
 use Rattle.micro_ops.specs.declared.program.Micro.TheVariants.{Compute, Leave}
-use Rattle.operand_programs.specs.InOrder.{steps_behind_all, no_steps}
 use Rattle.operand_programs.specs.Operands.{IsAt, IsOfSize}
 use Rattle.operand_programs.specs.Pieces.{Agrees, Kept, with_temps, leaving}
 use Rattle.operand_programs.specs.Results.{given, result_program, replacement_program, push_program, finish_program, steps_behind_push, with_registers_of, KeptBut5, IsGivable}

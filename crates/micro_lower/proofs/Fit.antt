@@ -1,13 +1,9 @@
 -- A program by a plan fits a block where its row does.
-use Rattle.std.proofs.Common.{◌≡◌, ℕ, Bool, true, false, List, [], ◌∷◌, ◌++◌, refl, sym, ap, subst}
+use Rattle.std.proofs.Common.{◌≡◌, ℕ, Bool, true, List, [], ◌∷◌, ◌++◌, refl, subst}
 use Rattle.vax_form.specs.declared.instr.Base.{Base}
 use Rattle.vax_form.specs.declared.instr.Instr.{Instr}
 use Rattle.vax_form.specs.declared.instr.Operand.{Operand}
 use Rattle.vax_form.specs.declared.instr.Operand.TheVariants as operands
-use Rattle.vax_form.specs.declared.instr.Size.{Size}
-use Rattle.vax_form.specs.declared.instr.Size.TheVariants.{Byte, Word, Long, Quad}
-use Rattle.vax_form.specs.declared.instr.Width.{Width}
-use Rattle.vax_form.specs.declared.instr.Width.TheVariants as widths
 use Rattle.micro_ops.specs.Fits.{fits}
 use Rattle.micro_ops.specs.declared.codes.CodeSources.{CodeSources}
 use Rattle.micro_ops.specs.declared.program.Exit.{Exit}
@@ -23,10 +19,6 @@ use Rattle.operand_programs.specs.Rows.{Piece, Evaluates, Operates, Stores, Repl
 use Rattle.operand_programs.proofs.RowWalks.{row_law}
 use Rattle.micro_lower.specs.Plans.{Plan, specifiers_from, codes_program, program_of}
 use Rattle.vax_meaning.specs.Evaluation.{operand}
-use Rattle.vax_form.specs.declared.operation.Operation.TheVariants as operations
-use Rattle.micro_ops.specs.Sources.{sources_of}
-use Rattle.micro_ops.specs.Fits.{step}
-use Rattle.micro_lower.specs.Rows.{move_plan}
 use Rattle.micro_lower.specs.declared.plans.Target.{Target}
 use Rattle.micro_lower.specs.declared.plans.Target.TheVariants as targets
 

@@ -1,5 +1,5 @@
 -- An integer is a two's complement number of some bytes exactly where the extension of its low bytes is itself.
-use Rattle.std.proofs.Common.{◌≡◌, ℕ, ◌+◌, ◌-◌, ◌*◌, ◌/◌, ◌%◌, ◌^◌, ◌<◌, ◌≤◌, refl, sym, ap, ◌∙◌, arith, Bool, true, false, lit<}
+use Rattle.std.proofs.Common.{◌≡◌, ℕ, ◌*◌, ◌%◌, ◌^◌, ◌<◌, ◌≤◌, refl, sym, ap, ◌∙◌, arith, lit<}
 use Rattle.std.specs.Prelude.{◌==◌, ℤ, pos, negsuc, ◌*ℤ◌, not, bit_xor, unsigned_abs}
 use Rattle.std.specs.Int.{cast_signed, cast_unsigned, w64, int_wrap}
 use Rattle.std.proofs.Math.Nat.{mod-eq_of_lt}
@@ -10,7 +10,7 @@ use Rattle.vax_form.specs.Size.{bytes_of}
 use Rattle.vax_form.specs.declared.instr.Size.{Size}
 use Rattle.vax_form.specs.declared.instr.Size.TheVariants.{Byte, Word, Long, Quad}
 use Rattle.vt_words.specs.Quad.{sign_extended}
-use Rattle.vt_words.specs.Values.{signed_value, value_of, fits, bit}
+use Rattle.vt_words.specs.Values.{value_of, fits, bit}
 use Rattle.micro_ops.specs.Values.{limit_of, bits_of, signed}
 use Rattle.micro_lower.proofs.Overflow.{IsNarrow, extended_below, flipped, low_below}
 

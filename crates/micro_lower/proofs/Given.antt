@@ -1,54 +1,36 @@
 -- A result is given to its operand, and the codes are set as the instruction sets them.
-use Rattle.std.proofs.Common.{◌≡◌, ℕ, ◌%◌, ◌^◌, ◌<◌, ◌≤◌, ◌==◌, Bool, true, false, List, [], ◌∷◌, ◌++◌, length, refl, sym, ap, ◌∙◌, subst, lit≤, Some, arith, inl, inr}
+use Rattle.std.proofs.Common.{◌≡◌, ℕ, ◌%◌, ◌<◌, ◌==◌, true, false, List, [], ◌∷◌, ◌++◌, length, refl, sym, ◌∙◌, arith, inl, inr}
 use Rattle.std.proofs.lemmas.Bool.{cases_lt}
-use Rattle.std.proofs.Math.Nat.{mod-eq_of_lt}
-use Rattle.vax_form.specs.Operation.{operation_at}
-use Rattle.vax_form.specs.Row.{operands_of}
 use Rattle.vax_form.specs.Size.{bytes_of}
 use Rattle.vax_form.specs.Script.{◌>>◌, change}
 use Rattle.vax_form.specs.State.{IsState}
 use Rattle.vax_form.specs.Tree.{Tree, tree_of, ends_with}
-use Rattle.vax_form.specs.declared.instr.Instr.{Instr}
 use Rattle.vax_form.specs.declared.instr.Size.{Size}
-use Rattle.vax_form.specs.declared.instr.Size.TheVariants.{Byte, Word, Long, Quad}
-use Rattle.vax_form.specs.declared.operation.Operation.TheVariants as operations
 use Rattle.vax_form.specs.declared.pages.Pages.{Pages}
 use Rattle.vax_form.specs.declared.state.VaxState.{VaxState}
 use Rattle.vax_meaning.specs.Codes.{carry_of, with_result, go_to}
-use Rattle.vax_meaning.specs.Evaluation.{evaluated_row, operand}
-use Rattle.vax_meaning.specs.Instructions.{body}
-use Rattle.vax_meaning.specs.Moves.{give}
 use Rattle.vt_words.specs.Arithmetic.{coded_value}
 use Rattle.vt_words.specs.Values.{bit}
 use Rattle.vt_words.specs.declared.arithmetic.Coded.{Coded}
-use Rattle.micro_ops.specs.Sources.{sources_of, from}
-use Rattle.micro_ops.specs.Values.{limit_of, value_from}
+use Rattle.micro_ops.specs.Sources.{from}
+use Rattle.micro_ops.specs.Values.{limit_of}
 use Rattle.micro_ops.specs.declared.codes.CodeSource.{CodeSource}
 use Rattle.micro_ops.specs.declared.codes.CodeSource.TheVariants.{Result, Kept}
 use Rattle.micro_ops.specs.declared.program.Exit.{Exit}
-use Rattle.micro_ops.specs.declared.program.Exit.TheVariants.{Next}
-use Rattle.micro_lower.specs.Plans.{program_of}
-use Rattle.micro_lower.specs.Rows.{move_plan}
 use Rattle.micro_lower.proofs.Coding.{GoesTo, plain_end, coded_end}
 use Rattle.micro_lower.proofs.Endings.{found_at, with, DoesSo, results, replaces, IsReady, closes_coded, is_computation}
-use Rattle.micro_lower.proofs.Planned.{plan_does, AllDo, BodyDoes, read_and_write}
-use Rattle.micro_lower.proofs.Overflow.{low_below}
 use Rattle.vax_form.specs.declared.instr.Operand.{Operand}
 use Rattle.vax_meaning.specs.declared.operands.Location.{Location}
 use Rattle.vax_meaning.specs.Operands.{store, put}
-use Rattle.micro_ops.specs.Meaning.{Temps, course_of, started}
-use Rattle.micro_ops.specs.Leaving.{CodesComeFrom}
+use Rattle.micro_ops.specs.Meaning.{Temps}
 use Rattle.micro_ops.specs.declared.program.Micro.{Micro}
 use Rattle.micro_ops.specs.declared.program.Micro.TheVariants.{Leave}
 use Rattle.operand_programs.specs.Operands.{IsAt}
-use Rattle.operand_programs.specs.Pieces.{Agrees, with_temps, leaving}
 use Rattle.operand_programs.specs.Results.{IsGivable, result_program, replacement_program, finish_program}
 use Rattle.operand_programs.specs.Specifiers.{stepped}
 use Rattle.std.specs.List.{list_all}
-use Rattle.micro_lower.specs.Plans.{codes_program, steps_of}
-use Rattle.micro_lower.proofs.Plain.{Does}
+use Rattle.micro_lower.specs.Plans.{codes_program}
 use Rattle.micro_lower.proofs.Ready.{effect, IsLowExit, ReadyFor}
-use Rattle.micro_lower.proofs.Slots.{AreSlots}
 
 -- ---- a value that is given, with N and Z by it
 -- a number below 2 is its bit

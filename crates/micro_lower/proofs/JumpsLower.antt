@@ -1,5 +1,5 @@
 -- The programs of JMP and JSB lower their instructions.
-use Rattle.std.proofs.Common.{◌≡◌, ℕ, ◌<◌, ◌^◌, true, false, List, Some, None, ◌⊎◌, inl, inr, refl, sym, ap, subst, lit≤}
+use Rattle.std.proofs.Common.{◌≡◌, ℕ, true, false, List, Some, None, ◌⊎◌, inl, inr, refl, sym, subst, lit≤}
 use Rattle.vax_form.specs.Grammar.{IsSpelled}
 use Rattle.vax_form.specs.Operation.{operation_at}
 use Rattle.vax_form.specs.Row.{operands_of}
@@ -19,7 +19,6 @@ use Rattle.micro_lower.proofs.Fit.{plan_fits, program_fits}
 use Rattle.micro_lower.proofs.JumpRows.{IsComputed, jump_all, jump_to_subroutine_all, jump_fixed_does, call_fixed_does}
 use Rattle.micro_lower.proofs.Lowered.{slots_of, lowers_by_plan}
 use Rattle.micro_lower.proofs.Plain.{lowers}
-use Rattle.micro_lower.proofs.Slots.{AreSlots}
 use Rattle.micro_lower.proofs.Spelled.{given}
 
 -- an address that the code fixes

@@ -1,5 +1,5 @@
 -- An instruction that is spelled has the program of its row.
-use Rattle.std.proofs.Common.{◌≡◌, ℕ, ◌≤◌, ◌+◌, true, List, [], ◌∷◌, ◌++◌, length, Some, refl, sym, ap, ◌∙◌, subst, suc, arith}
+use Rattle.std.proofs.Common.{◌≡◌, ℕ, ◌≤◌, ◌+◌, true, List, [], ◌∷◌, length, Some, refl, sym, ap, subst, suc, arith}
 use Rattle.vax_form.specs.Grammar.{IsSpelled, SpecifyAll, padded}
 use Rattle.vax_form.specs.Operation.{operation_at}
 use Rattle.vax_form.specs.Row.{operands_of, row_with}
@@ -14,7 +14,7 @@ use Rattle.micro_ops.specs.Sources.{sources_of}
 use Rattle.micro_ops.specs.declared.program.Micro.{Micro}
 use Rattle.std.specs.Prelude.{slice_index_or}
 use Rattle.operand_programs.specs.InOrder.{AreOperandsOf}
-use Rattle.micro_lower.specs.Lowering.{Lowers, IsLongOperand, AreLongOperands}
+use Rattle.micro_lower.specs.Lowering.{Lowers, AreLongOperands}
 use Rattle.micro_lower.specs.Plans.{Plan, specifiers_from, program_of}
 use Rattle.micro_lower.specs.declared.plans.Slot.{Slot}
 use Rattle.micro_lower.proofs.Fit.{TargetIsNamed, plan_fits, program_fits}

@@ -1,6 +1,6 @@
 -- V of a sum or a difference, and of a number in another size, by comparing extended numbers; N and Z by a value.
-use Rattle.std.proofs.Common.{◌≡◌, ℕ, ◌+◌, ◌-◌, ◌*◌, ◌/◌, ◌%◌, ◌^◌, ◌<◌, ◌≤◌, refl, sym, ap, ◌∙◌, arith, Bool, true, false}
-use Rattle.std.specs.Prelude.{◌==◌, ℤ, pos, negsuc, ◌+ℤ◌, ◌-ℤ◌, nat_lt, nat_le, int_lt, int_le, ◌&&◌, not, if◌then◌else◌, bit_xor}
+use Rattle.std.proofs.Common.{◌≡◌, ℕ, ◌+◌, ◌-◌, ◌/◌, ◌%◌, ◌^◌, ◌<◌, refl, sym, ap, ◌∙◌, arith, Bool, true, false}
+use Rattle.std.specs.Prelude.{◌==◌, nat_lt, nat_le, int_lt, not, bit_xor}
 use Rattle.std.proofs.Common.{lit<}
 use Rattle.std.proofs.Math.Nat.{mod-eq_of_lt}
 use Rattle.std.proofs.lemmas.Nat.{mod_below}
@@ -10,7 +10,7 @@ use Rattle.vax_form.specs.Size.{bytes_of}
 use Rattle.vax_form.specs.declared.instr.Size.{Size}
 use Rattle.vax_form.specs.declared.instr.Size.TheVariants.{Byte, Word, Long, Quad}
 use Rattle.micro_ops.specs.Values.{limit_of, bits_of, signed}
-use Rattle.vt_words.specs.Values.{modulus, signed_value, value_of, fits, bit}
+use Rattle.vt_words.specs.Values.{bit}
 use Rattle.vt_words.specs.Arithmetic.{sum_of, difference_of}
 use Rattle.vt_words.specs.Quad.{sign_extended}
 

@@ -1,19 +1,18 @@
 -- A program by a plan does what its instruction does, where what comes behind the operands does what the body does.
-use Rattle.std.proofs.Common.{◌≡◌, ℕ, ◌%◌, ◌^◌, ◌<◌, ◌≤◌, List, [], ◌∷◌, ◌++◌, length, map, Some, refl, sym, ap, ◌∙◌, subst, ◌==◌, replicate}
+use Rattle.std.proofs.Common.{◌≡◌, ℕ, ◌^◌, ◌<◌, ◌≤◌, List, [], ◌∷◌, length, Some, refl, sym, ◌∙◌, subst}
 use Rattle.vax_form.specs.Operation.{operation_at}
-use Rattle.vax_form.specs.Row.{row_with, filled}
-use Rattle.vax_form.specs.Size.{bytes_of}
+use Rattle.vax_form.specs.Row.{filled}
 use Rattle.vax_form.specs.State.{IsState}
 use Rattle.vax_form.specs.Tree.{Tree, tree_of, ends_with}
 use Rattle.vax_form.specs.declared.instr.Access.{Access}
-use Rattle.vax_form.specs.declared.instr.Access.TheVariants.{Read, Write, Modify, Address, Field, Branch}
+use Rattle.vax_form.specs.declared.instr.Access.TheVariants.{Read, Write, Modify, Address, Branch}
 use Rattle.vax_form.specs.declared.instr.Instr.{Instr}
 use Rattle.vax_form.specs.declared.instr.Operand.{Operand}
 use Rattle.vax_form.specs.declared.instr.Size.{Size}
 use Rattle.vax_form.specs.declared.operation.Operation.{Operation}
 use Rattle.vax_form.specs.declared.pages.Pages.{Pages}
 use Rattle.vax_form.specs.declared.state.VaxState.{VaxState}
-use Rattle.vax_meaning.specs.Evaluation.{nothing, nothings, evaluated_row, operands_from}
+use Rattle.vax_meaning.specs.Evaluation.{nothing, evaluated_row}
 use Rattle.vax_meaning.specs.Instructions.{operation_script, body}
 use Rattle.vax_meaning.specs.declared.evaluation.Evaluated.{Evaluated}
 use Rattle.vax_meaning.specs.declared.operands.Location.{Location}
@@ -21,7 +20,6 @@ use Rattle.vax_meaning.specs.declared.operands.Location.TheVariants.{InMemory}
 use Rattle.micro_ops.specs.Leaving.{CodesComeFrom}
 use Rattle.micro_ops.specs.Meaning.{Temps, course_of, started}
 use Rattle.micro_ops.specs.Sources.{sources_of}
-use Rattle.micro_ops.specs.declared.codes.CodeSources.{CodeSources}
 use Rattle.operand_programs.specs.InOrder.{AreLeft, ArePlaced, AreOperandsOf, steps_behind_all, no_steps}
 use Rattle.operand_programs.specs.Operands.{IsAt, IsOfSize, steps_behind_specifier}
 use Rattle.operand_programs.specs.Pieces.{Agrees, with_temps, leaving}
@@ -31,7 +29,6 @@ use Rattle.operand_programs.proofs.Ordered.{in_order, of_instruction, access_ste
 use Rattle.operand_programs.proofs.Stepped.{nothing_added}
 use Rattle.micro_lower.specs.Plans.{Plan, specifiers_from, steps_of, rest_program, program_of}
 use Rattle.micro_lower.proofs.Plain.{Does}
-use Rattle.micro_lower.proofs.Slots.{AreSlots}
 
 pub steps_length : (specifiers : List Specifier) (steps : List ℕ) → length (steps_behind_all specifiers steps) ≡ length steps
 steps_length [] steps = refl

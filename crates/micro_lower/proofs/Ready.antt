@@ -1,16 +1,15 @@
 -- What the temporaries hold before the codes are set, for each place where codes come from: then they are the
 -- instruction's.
-use Rattle.std.proofs.Common.{◌≡◌, ℕ, ◌+◌, ◌-◌, ◌*◌, ◌/◌, ◌%◌, ◌^◌, ◌<◌, Bool, true, false, List, [], ◌∷◌, ◌++◌, Option, Some, None, refl, sym, ap, ◌∙◌, arith}
-use Rattle.std.specs.Prelude.{◌==◌, ◌&&◌, not, nat_le, nat_lt, int_lt, if◌then◌else◌}
+use Rattle.std.proofs.Common.{◌≡◌, ℕ, ◌+◌, ◌-◌, ◌/◌, ◌%◌, ◌^◌, ◌<◌, Bool, true, false, List, [], ◌∷◌, ◌++◌, Some, None, refl, sym, ap, ◌∙◌, arith}
+use Rattle.std.specs.Prelude.{◌==◌, ◌&&◌, not, nat_le, nat_lt, int_lt}
 use Rattle.std.specs.List.{list_all}
 use Rattle.std.proofs.Common.{inl, inr, leb-true, add-zero, subst}
 use Rattle.std.proofs.lemmas.Bool.Decides.{eqb_tells}
 use Rattle.std.proofs.Math.Nat.{mod-eq_of_lt}
-use Rattle.vax_form.specs.Size.{bytes_of}
 use Rattle.vax_form.specs.declared.instr.Size.{Size}
 use Rattle.vax_form.specs.declared.pages.Pages.{Pages}
 use Rattle.vax_form.specs.declared.state.VaxState.{VaxState}
-use Rattle.vt_words.specs.Arithmetic.{coded_value, sum_of, difference_of}
+use Rattle.vt_words.specs.Arithmetic.{sum_of, difference_of}
 use Rattle.vt_words.specs.Quad.{sign_extended}
 use Rattle.vt_words.specs.Values.{bit}
 use Rattle.vt_words.specs.declared.arithmetic.Coded.{Coded}
@@ -18,7 +17,7 @@ use Rattle.micro_ops.specs.Leaving.{CodesComeFrom, SignsComeFrom, HoldsBoth, com
 use Rattle.micro_ops.specs.Meaning.{Temps, Found, Standing, flag_of, course_of, value_of_arg, with_temp}
 use Rattle.micro_ops.specs.Values.{limit_of, bits_of, signed, value_from, computed}
 use Rattle.micro_ops.specs.declared.codes.CodeSource.{CodeSource}
-use Rattle.micro_ops.specs.declared.codes.CodeSource.TheVariants.{Kept, Zero, Result, Add, Sub, Compare, Computed, Psw}
+use Rattle.micro_ops.specs.declared.codes.CodeSource.TheVariants.{Kept, Zero, Result, Add, Sub, Compare, Computed}
 use Rattle.micro_ops.specs.Sources.{from}
 use Rattle.micro_ops.specs.declared.program.Exit.{Exit}
 use Rattle.micro_ops.specs.declared.program.Exit.TheVariants as exits
@@ -27,7 +26,7 @@ use Rattle.micro_ops.specs.declared.program.Micro.{Micro}
 use Rattle.micro_ops.specs.declared.program.Micro.TheVariants.{Compute, Leave}
 use Rattle.operand_programs.specs.Pieces.{Agrees, with_temps, leaving}
 use Rattle.micro_lower.specs.Plans.{codes_program, signs_by, none_into, overflow_of, signs_of_two, carry_program}
-use Rattle.micro_lower.proofs.Coding.{HasFlags, GoesTo, ComeFrom, coded_end, codes_leave}
+use Rattle.micro_lower.proofs.Coding.{HasFlags, GoesTo, coded_end, codes_leave}
 use Rattle.micro_lower.proofs.Overflow.{IsNarrow, sum_carries, negative_is, none_is, differ, sum_differs, difference_differs, low_below}
 
 -- N and Z are by that value

@@ -1,24 +1,20 @@
 -- The operands of an instruction that is spelled fit the slots of their row.
-use Rattle.std.proofs.Common.{◌≡◌, ℕ, suc, ◌+◌, ◌<◌, ◌≤◌, ◌^◌, eqb, Bool, true, false, List, [], ◌∷◌, ◌++◌, length, map, ◌⊎◌, inl, inr, Some, None, refl, sym, ap, ◌∙◌, subst, arith, leb-true, ltb-true, lit<}
+use Rattle.std.proofs.Common.{◌≡◌, ℕ, suc, ◌+◌, ◌≤◌, ◌^◌, Bool, true, false, List, [], ◌∷◌, length, map, Some, None, refl, ap, ◌∙◌, subst, arith, ltb-true, lit<}
 use Rattle.std.specs.Prelude.{◌≢◌, ◌==◌, ◌&&◌, not, nat_lt}
-use Rattle.std.proofs.lemmas.Bool.Decides.{eqb_tells, nat_tests}
 use Rattle.std.proofs.lemmas.Nat.{mod_below}
-use Rattle.vax_form.specs.Grammar.{IsSpelled, SpecifyAll, Specifies, Describes, Locates, HasRegister, padded, number, extended, wrapped}
-use Rattle.vax_form.specs.Operation.{operation_at}
-use Rattle.vax_form.specs.Row.{operands_of, row_with}
+use Rattle.vax_form.specs.Grammar.{SpecifyAll, Specifies, Describes, Locates, HasRegister, number}
+use Rattle.vax_form.specs.Row.{row_with}
 use Rattle.vax_form.specs.declared.instr.Access.{Access}
 use Rattle.vax_form.specs.declared.instr.Access.TheVariants.{Read, Write, Modify, Address, Field, Branch}
 use Rattle.vax_form.specs.declared.instr.Base.{Base}
-use Rattle.vax_form.specs.declared.instr.Base.TheVariants.{Deferred, Decrement, Increment, IncrementDeferred, Offset, Fixed}
 use Rattle.vax_form.specs.declared.instr.Instr.{Instr}
 use Rattle.vax_form.specs.declared.instr.Operand.{Operand}
 use Rattle.vax_form.specs.declared.instr.Operand.TheVariants as operands
 use Rattle.vax_form.specs.declared.instr.Size.{Size}
 use Rattle.vax_form.specs.declared.instr.Size.TheVariants.{Byte, Word, Long, Quad}
-use Rattle.vax_form.specs.declared.operation.Operation.{Operation}
 use Rattle.vax_meaning.specs.Evaluation.{operand}
 use Rattle.operand_programs.specs.InOrder.{IsOutsideOne, IsOutside, Lasts, ArePlaced, AreOperandsOf}
-use Rattle.operand_programs.specs.Operands.{IsFor, IsPlaced}
+use Rattle.operand_programs.specs.Operands.{IsFor}
 use Rattle.operand_programs.specs.Pieces.{IsLong}
 use Rattle.operand_programs.specs.Behind.{AreFit}
 use Rattle.operand_programs.specs.Registers.{BaseIsNamed, NamesRegisters}
@@ -27,7 +23,7 @@ use Rattle.operand_programs.specs.declared.operands.Specifier.{Specifier}
 use Rattle.micro_lower.specs.Lowering.{IsLongOperand}
 use Rattle.micro_lower.specs.Plans.{specifiers_from}
 use Rattle.micro_lower.specs.declared.plans.Slot.{Slot}
-use Rattle.micro_lower.proofs.Spelled.{Given, given, with_operands}
+use Rattle.micro_lower.proofs.Spelled.{with_operands}
 
 -- it can be used so, and given a value of that size
 abbrev pub CanBeUsed : Access → Size → Operand → Type 0

@@ -1,6 +1,5 @@
 -- The processor status is put together from its flags.
-use Rattle.std.proofs.Common.{◌≡◌, ℕ, ◌+◌, ◌*◌, ◌/◌, ◌%◌, ◌^◌, ◌<◌, refl, sym, ap, ◌∙◌, arith}
-use Rattle.vax_form.specs.declared.state.VaxState.{VaxState}
+use Rattle.std.proofs.Common.{◌≡◌, ℕ, ◌+◌, ◌*◌, ◌/◌, ◌%◌, ◌<◌, arith}
 use Rattle.micro_ops.specs.Meaning.{Temps, Found}
 use Rattle.micro_ops.specs.Values.{value_from}
 use Rattle.micro_lower.specs.Rows.{status_program}

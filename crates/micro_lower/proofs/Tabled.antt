@@ -1,5 +1,5 @@
 -- What the table of opcodes has of each operation.
-use Rattle.std.proofs.Common.{◌≡◌, ℕ, Bool, true, false, List, [], ◌∷◌, Option, Some, None, refl, sym, ap, ◌∙◌, subst}
+use Rattle.std.proofs.Common.{◌≡◌, ℕ, Bool, true, false, List, [], ◌∷◌, Option, Some, None, refl, subst}
 use Rattle.std.specs.Option.{option_or}
 use Rattle.std.specs.Prelude.{◌==◌, ◌-◌, ◌&&◌, if◌then◌else◌}
 use Rattle.vax_form.specs.Operation.{operation_at, among, is_between, integer_opcodes, control_opcodes, mixed_opcodes, move_opcodes, bit_opcodes, other_operation_at}

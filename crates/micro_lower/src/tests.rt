@@ -24,7 +24,7 @@ fn return_from_subroutine(rt: HostRuntime) -> Result<(), Fail> {
         operands: [Operand::Unused; 6],
         after: 0x201,
     };
-    let found = crate::branches::lower_plain(rt.alloc(), Operation::ReturnFromSubroutine, &instr)?;
+    let found = lower_operation(rt.alloc(), Operation::ReturnFromSubroutine, &instr)?;
     let total = match &found {
         Some(program) => words(program),
         None => 0,
