@@ -1,25 +1,22 @@
 -- Checks and references of a program in its block.
-use Rattle.std.proofs.Common.{◌≡◌, ◌≢◌, ℕ, ◌+◌, ◌*◌, ◌%◌, ◌^◌, ◌<◌, ◌≤◌, refl, sym, ap, ◌∙◌, subst, arith, List, ◌∷◌, ◌++◌, length, map, Some, None, Bool, true, false, lit<, lit≤}
-use Rattle.std.specs.Prelude.{pos, ◌==◌, ◌&&◌, ◌||◌, not, nat_lt, nat_le, bit_or, if◌then◌else◌}
+use Rattle.std.proofs.Common.{◌≡◌, ◌≢◌, ℕ, ◌+◌, ◌*◌, ◌%◌, ◌^◌, ◌<◌, ◌≤◌, refl, sym, ap, ◌∙◌, subst, arith, List, ◌∷◌, ◌++◌, length, map, Some, None, Bool, true, false, lit<}
+use Rattle.std.specs.Prelude.{pos, ◌==◌, ◌&&◌, not, nat_lt, nat_le, bit_or, if◌then◌else◌}
 use Rattle.std.proofs.Math.Nat.{mod-eq_of_lt}
 use Rattle.std.proofs.lemmas.Bool.Decides.{nat_tests}
 use Rattle.vt_words.specs.Quad.{IsCount, one as c1, two as c2, four as c4, eight as c8}
 use Rattle.vax_form.specs.PageTable.{IsPageTable}
 use Rattle.vax_form.specs.Pages.{first_bad}
 use Rattle.vax_form.specs.Parts.{parts}
-use Rattle.vax_form.specs.Ranges.{IsInRange, FitsPage}
-use Rattle.vax_form.specs.State.{Answers}
+use Rattle.vax_form.specs.Ranges.{FitsPage}
 use Rattle.vax_form.specs.Tree.{Tree}
 use Rattle.vax_form.specs.Tree as trees
 use Rattle.vax_form.specs.declared.state.Exception.TheVariants.{ReservedOperand}
 use Rattle.vax_form.specs.declared.state.Reference.{Reference}
-use Rattle.alpha_encode.specs.declared.instr.AlphaInstr.{AlphaInstr}
 use Rattle.alpha_encode.specs.declared.instr.AlphaInstr.TheVariants.{Branch, Pal}
 use Rattle.alpha_encode.specs.declared.instr.BranchOp.TheVariants.{Beq}
 use Rattle.alpha_meaning.specs.declared.access.AlphaKind.{AlphaKind}
 use Rattle.alpha_meaning.specs.State.{Regs, put, at_place}
 use Rattle.alpha_meaning.specs.Act.{target_of}
-use Rattle.alpha_meaning.specs.Pieces.{Only}
 use Rattle.micro_ops.specs.declared.known.Checked.TheVariants.{At}
 use Rattle.micro_ops.specs.declared.known.Holding.{Holding}
 use Rattle.micro_ops.specs.declared.known.Holding.TheVariants.{Nothing, Wide, Longword}
@@ -28,7 +25,7 @@ use Rattle.micro_ops.specs.declared.program.LockedOp.{LockedOp}
 use Rattle.micro_ops.specs.declared.program.LockedOp.TheVariants.{AddWord, SetBit, ClearBit}
 use Rattle.micro_ops.specs.Course.{Course, Check, Ask, Fault, read_parts, write_parts}
 use Rattle.micro_ops.specs.Fits.{is_count, are_apart, place_fits, reference_fits, check_fits, read_fits, write_fits, locked_fits, holding_of}
-use Rattle.micro_ops.specs.Known.{held, holds, holds_longword, is_longword, is_something, is_checked, behind_write, behind_access}
+use Rattle.micro_ops.specs.Known.{held, holds, holds_longword, is_longword, is_checked, behind_write, behind_access}
 use Rattle.micro_ops.specs.Meaning.{Temps, Standing, Left, with_temp, with_value, locked_count, locked_kind}
 use Rattle.byte_sequences.specs.Instructions as bytes
 use Rattle.byte_sequences.specs.Instructions.{is_scratch, is_scratch_or}
@@ -50,9 +47,9 @@ use Rattle.program_codegen.specs.Words.{plain, marked, holder, copy, probing, ra
 use Rattle.program_codegen.proofs.Numbers.{both, all_three, all_four, all_five, below_of, copied}
 use Rattle.program_codegen.proofs.Knowing.{SameChanges, write_changes, access_changes, written_one, written_others, outlasts, lost}
 use Rattle.program_codegen.proofs.Walk.{Within, next, stands, row_words, row_length, is_inside}
-use Rattle.program_codegen.proofs.Holding.{Holds, HoldsAs, IsChecked, found, tree}
-use Rattle.program_codegen.proofs.Computing.{any_kind, held_value, held_still, unchanged, checks_written, values_written}
-use Rattle.program_codegen.proofs.Operands.{count_some, IsUsable, usable, may_read, may_write, may_lock, begins_read, begins_write, begins_locked, read_value, write_done, locked_value}
+use Rattle.program_codegen.proofs.Holding.{Holds, HoldsAs, tree}
+use Rattle.program_codegen.proofs.Computing.{any_kind, held_value, held_still, unchanged, checks_written}
+use Rattle.program_codegen.proofs.Operands.{count_some, IsUsable, usable, may_read, may_write, may_lock, begins_read, begins_write, begins_locked}
 
 -- ---- registers
 longword_value : (h : Holding) (v r : ℕ) → is_longword h ≡ true → HoldsAs h v r → (r ≡ v) × (v < 2 ^ 32)

@@ -1,22 +1,21 @@
 -- A block of lines has the shape of a block.
-use Rattle.std.proofs.Common.{◌≡◌, ℕ, zero, suc, ◌+◌, ◌-◌, ◌^◌, ◌<◌, ◌≤◌, refl, sym, ap, ◌∙◌, subst, arith, List, [], ◌∷◌, length, get_or, Option, Some, None, Bool, true, false, cond, eqb-true}
-use Rattle.std.specs.Prelude.{◌==◌, ◌&&◌, ◌||◌, not, nat_lt, nat_le, slice_get, find, option_map, All}
-use Rattle.std.specs.List.{list_any}
+use Rattle.std.proofs.Common.{◌≡◌, ℕ, zero, suc, ◌+◌, ◌-◌, ◌<◌, ◌≤◌, refl, sym, ap, ◌∙◌, subst, arith, List, [], ◌∷◌, length, get_or, Option, Some, None, Bool, true, false, cond, eqb-true}
+use Rattle.std.specs.Prelude.{◌==◌, ◌&&◌, ◌||◌, not, nat_lt, nat_le, slice_get, find, option_map}
 use Rattle.std.proofs.lemmas.Bool.Decides.{nat_tests}
 use Rattle.std.proofs.lemmas.Option.{slice_get_within}
 use Rattle.alpha_encode.specs.declared.instr.AlphaInstr.{AlphaInstr}
 use Rattle.exception_records.specs.Points.{Entry, point_at}
 use Rattle.exception_records.specs.declared.points.Point.{Point}
-use Rattle.block_law.specs.Blocks.{Exit, IsBlockOf, IsExitOf, IsPointOf, is_exit_word, is_past_exit, is_quiet}
-use Rattle.block_law.specs.Tidy.{IsTidy, may_fault, keeps_until}
+use Rattle.block_law.specs.Blocks.{IsBlockOf, IsPointOf, is_exit_word, is_past_exit, is_quiet}
+use Rattle.block_law.specs.Tidy.{may_fault, keeps_until}
 use Rattle.block_law.specs.Translations.{done_at}
 use Rattle.program_codegen.specs.declared.lines.Line.{Line}
 use Rattle.program_codegen.specs.declared.points.Site.{Site}
 use Rattle.program_codegen.specs.Words.{point_of, with_first, words_of, with_entry, points_from, exits_from, block_of}
 use Rattle.program_codegen.proofs.Walk.{skip_behind}
 use Rattle.program_codegen.proofs.Starting.{IsWholeLine, not_before}
-use Rattle.program_codegen.proofs.Compiled.{some_same, word_of_line, words_length, first_length, point_of_line}
-use Rattle.program_codegen.proofs.Shapes.{PointFits, QuietFits, LineFits, EachFits, encoded, all_translated, exits_within, exits_rise, points_rise, first_each}
+use Rattle.program_codegen.proofs.Compiled.{some_same, word_of_line, words_length, first_length}
+use Rattle.program_codegen.proofs.Shapes.{PointFits, QuietFits, EachFits, encoded, all_translated, exits_within, exits_rise, points_rise, first_each}
 
 -- ---- the words of exits
 -- a word of an exit that began before, or of one behind

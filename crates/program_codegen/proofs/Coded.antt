@@ -1,6 +1,6 @@
 -- The words that leave the codes, and what the registers hold behind them.
-use Rattle.std.proofs.Common.{◌≡◌, ℕ, ◌+◌, ◌*◌, ◌/◌, ◌%◌, ◌^◌, ◌<◌, ◌≤◌, refl, sym, ap, ◌∙◌, subst, arith, List, [], ◌∷◌, ◌++◌, length, map, None, Bool, true, false, lit<, lit≤}
-use Rattle.std.specs.Prelude.{◌==◌, ◌&&◌, ◌||◌, not, nat_lt, nat_le, if◌then◌else◌}
+use Rattle.std.proofs.Common.{◌≡◌, ℕ, ◌+◌, ◌*◌, ◌/◌, ◌%◌, ◌<◌, ◌≤◌, refl, sym, ap, ◌∙◌, subst, arith, List, [], ◌∷◌, ◌++◌, length, map, None, Bool, true, false, lit<, lit≤}
+use Rattle.std.specs.Prelude.{◌==◌, ◌&&◌, ◌||◌, not}
 use Rattle.std.specs.List.{list_all}
 use Rattle.std.proofs.lemmas.Bool.Decides.{nat_tests}
 use Rattle.vt_words.specs.Quad.{sign_extended}
@@ -8,7 +8,6 @@ use Rattle.vt_words.specs.Values.{bit}
 use Rattle.vax_form.specs.State.{with_core, with_pc}
 use Rattle.vax_form.specs.Tree.{Tree}
 use Rattle.vax_form.specs.declared.state.Flags.{Flags}
-use Rattle.vax_form.specs.declared.state.VaxState.{VaxState}
 use Rattle.alpha_encode.specs.declared.instr.AlphaInstr.{AlphaInstr}
 use Rattle.alpha_meaning.specs.Loops.{is_operate, fine, written, effects}
 use Rattle.alpha_meaning.specs.Pieces.{Only}
@@ -18,20 +17,19 @@ use Rattle.exception_records.specs.Shown.{registers_shown, codes_shown, psw_show
 use Rattle.micro_ops.specs.declared.codes.CodeSource.{CodeSource}
 use Rattle.micro_ops.specs.declared.codes.CodeSource.TheVariants.{Kept, Zero, Result, Add, Sub, Compare, Computed, Psw}
 use Rattle.micro_ops.specs.declared.codes.CodeSources.{CodeSources}
-use Rattle.micro_ops.specs.declared.known.Holding.TheVariants.{Nothing, Wide, Longword}
 use Rattle.micro_ops.specs.declared.known.Known.{Known}
 use Rattle.micro_ops.specs.Fits.{same, sources_fit, signs_are_held, carry_is_held, is_from_values, is_from_psw}
 use Rattle.micro_ops.specs.Known.{held, holds}
 use Rattle.micro_ops.specs.Leaving.{SignsComeFrom, CarryComesFrom, CodesComeFrom, state_left}
-use Rattle.micro_ops.specs.Meaning.{Temps, Standing, Departure, flag_of}
-use Rattle.block_law.specs.CodeWords.{temps_in, codes_in, HoldCodes, is_written, may_be_written, ShowCodes, codes_written_by}
+use Rattle.micro_ops.specs.Meaning.{Temps, Standing, Departure}
+use Rattle.block_law.specs.CodeWords.{temps_in, codes_in, is_written, may_be_written}
 use Rattle.block_law.specs.Placements.{Placement, InForm, state_behind}
 use Rattle.block_law.specs.Tidy.{is_kept}
 use Rattle.block_law.proofs.Rules.{Always, operates}
 use Rattle.program_codegen.specs.declared.lines.Line.{Line}
 use Rattle.program_codegen.specs.declared.points.Site.{Site}
 use Rattle.program_codegen.specs.Words.{plain}
-use Rattle.program_codegen.proofs.Numbers.{both, all_three, all_four, below_of}
+use Rattle.program_codegen.proofs.Numbers.{both, all_three, all_four}
 use Rattle.program_codegen.proofs.Walk.{Within, row_words, row_rest, row_length, is_inside}
 use Rattle.program_codegen.proofs.Holding.{Setting, Holds, HoldsAs}
 use Rattle.program_codegen.proofs.Computing.{held_value, held_still, codes_kept}

@@ -1,12 +1,11 @@
 -- Changes of the state that a program is to leave, in its block.
-use Rattle.std.proofs.Common.{◌≡◌, ℕ, ◌+◌, ◌*◌, ◌/◌, ◌%◌, ◌^◌, ◌<◌, ◌≤◌, refl, sym, ap, ◌∙◌, subst, arith, List, ◌∷◌, length, Option, Some, None, Bool, true, false, lit<, lit≤}
-use Rattle.std.specs.Prelude.{◌==◌, ◌&&◌, not, nat_lt, bit_and, slice_set, if◌then◌else◌}
+use Rattle.std.proofs.Common.{◌≡◌, ℕ, ◌+◌, ◌*◌, ◌/◌, ◌%◌, ◌^◌, ◌<◌, ◌≤◌, refl, sym, ap, ◌∙◌, subst, arith, List, ◌∷◌, length, Option, Some, None, Bool, true, false, lit≤}
+use Rattle.std.specs.Prelude.{◌==◌, not, nat_lt, bit_and, slice_set}
 use Rattle.std.proofs.lemmas.Bool.Decides.{nat_tests}
 use Rattle.vt_words.specs.Quad.{sign_extended}
 use Rattle.vt_words.specs.Values.{bit}
 use Rattle.vax_form.specs.State.{register, with_core, with_register, with_psw}
 use Rattle.vax_form.specs.Tree.{Tree}
-use Rattle.vax_form.specs.declared.state.VaxState.{VaxState}
 use Rattle.alpha_encode.specs.declared.instr.AlphaInstr.TheVariants.{Operate}
 use Rattle.alpha_encode.specs.declared.instr.OperateOp.TheVariants.{Addl, And}
 use Rattle.alpha_encode.specs.declared.instr.Second.TheVariants.{Literal}
@@ -26,7 +25,7 @@ use Rattle.program_codegen.specs.Words.{plain, holder}
 use Rattle.program_codegen.proofs.Numbers.{all_three, status_bits, extended_low, extended_again, committed_is, bit_small, differs, exceeds}
 use Rattle.program_codegen.proofs.Knowing.{flag_set, flag_kept, flags_kept}
 use Rattle.program_codegen.proofs.Walk.{Within, stands, is_inside}
-use Rattle.program_codegen.proofs.Holding.{Holds, HoldsAs}
+use Rattle.program_codegen.proofs.Holding.{Holds}
 use Rattle.program_codegen.proofs.Computing.{held_value, held_still}
 use Rattle.program_codegen.proofs.Accessing.{put_at, put_other}
 

@@ -1,14 +1,12 @@
 -- Wherever the block of a program stands, it follows the program's tree.
-use Rattle.std.proofs.Common.{◌≡◌, ℕ, zero, suc, ◌+◌, ◌-◌, ◌^◌, ◌<◌, ◌≤◌, refl, sym, ap, ◌∙◌, subst, arith, List, [], ◌∷◌, length, Option, Some, None, Bool, true, false, eq-eqb, ne_eqb}
+use Rattle.std.proofs.Common.{◌≡◌, ℕ, zero, suc, ◌+◌, ◌-◌, ◌^◌, ◌<◌, ◌≤◌, refl, sym, ap, ◌∙◌, subst, arith, List, [], ◌∷◌, length, Option, Some, None, true, false, eq-eqb, ne_eqb}
 use Rattle.std.specs.Prelude.{◌==◌, ◌||◌, nat_lt, slice_get, unwrap_or}
 use Rattle.std.proofs.lemmas.Bool.Decides.{nat_tests}
 use Rattle.std.proofs.lemmas.Option.{slice_get_within}
 use Rattle.vax_form.specs.declared.instr.Instr.{Instr}
 use Rattle.vax_form.specs.declared.state.Flags.{Flags}
-use Rattle.vax_form.specs.declared.state.Reference.{Reference}
 use Rattle.vax_form.specs.declared.state.VaxState.{VaxState}
 use Rattle.alpha_encode.specs.declared.instr.AlphaInstr.{AlphaInstr}
-use Rattle.alpha_meaning.specs.declared.access.AlphaKind.{AlphaKind}
 use Rattle.exception_records.specs.Points.{point_at}
 use Rattle.exception_records.specs.declared.points.Point.{Point}
 use Rattle.exception_records.specs.declared.rules.Rules.{Rules}
@@ -18,15 +16,15 @@ use Rattle.micro_ops.specs.Fits.{walk, is_ended}
 use Rattle.micro_ops.specs.Known.{at_start}
 use Rattle.micro_ops.specs.Meaning.{started}
 use Rattle.block_law.specs.Blocks.{is_exit_word, Stands, ExitsLead}
-use Rattle.block_law.specs.CodeWords.{LeavesCodes, codes_written_by}
+use Rattle.block_law.specs.CodeWords.{LeavesCodes}
 use Rattle.block_law.specs.Placements.{Placement}
 use Rattle.block_law.specs.Rounds.{block_steps, new_round}
-use Rattle.block_law.specs.Translations.{Meaning, Code, placed, end_of, fetch_of, most_words}
+use Rattle.block_law.specs.Translations.{Meaning, Code, placed, fetch_of, most_words}
 use Rattle.program_codegen.specs.declared.lines.Line.{Line}
 use Rattle.program_codegen.specs.declared.points.Site.{Site}
 use Rattle.program_codegen.specs.Words.{point_of, with_first, words_of, with_entry, points_from, exits_from, block_of, block_lines, program_lines}
 use Rattle.program_codegen.specs.Programs.{AllHaveWords, ReadsReady, LeavesReady, KeepsTogether, is_narrow}
-use Rattle.program_codegen.specs.Promises.{Writes, CompilesProgram}
+use Rattle.program_codegen.specs.Promises.{CompilesProgram}
 use Rattle.program_codegen.proofs.Walk.{IsMarked, HasLine, HasLines, Within}
 use Rattle.program_codegen.proofs.Holding.{Setting, LeavingFollows}
 use Rattle.program_codegen.proofs.Starting.{fetched, holds_at_start, IsWhole, lines_stand}

@@ -1,21 +1,18 @@
 -- Computations of a program in its block.
-use Rattle.std.proofs.Common.{◌≡◌, ℕ, ◌+◌, ◌/◌, ◌%◌, ◌^◌, ◌<◌, ◌≤◌, refl, sym, ap, ◌∙◌, subst, arith, List, ◌∷◌, ◌++◌, length, map, None, Bool, true, false, lit<, lit≤}
-use Rattle.std.specs.Prelude.{◌==◌, ◌&&◌, ◌||◌, not, nat_lt, nat_le, if◌then◌else◌}
+use Rattle.std.proofs.Common.{◌≡◌, ℕ, ◌+◌, ◌/◌, ◌%◌, ◌^◌, ◌<◌, ◌≤◌, refl, sym, ap, ◌∙◌, subst, arith, List, ◌++◌, length, map, None, Bool, true, false, lit<, lit≤}
+use Rattle.std.specs.Prelude.{◌==◌, ◌&&◌, ◌||◌, not, nat_lt, if◌then◌else◌}
 use Rattle.std.proofs.lemmas.Bool.Decides.{nat_tests}
 use Rattle.vt_words.proofs.Spreads.{below_8}
-use Rattle.vt_words.specs.Quad.{sign_extended}
-use Rattle.vax_form.specs.State.{register, with_core}
+use Rattle.vax_form.specs.State.{with_core}
 use Rattle.vax_form.specs.Tree.{Tree}
 use Rattle.vax_form.specs.declared.instr.Size.{Size}
 use Rattle.vax_form.specs.declared.instr.Size.TheVariants.{Byte, Word, Long, Quad}
 use Rattle.vax_form.specs.declared.pages.Pages.{Pages}
 use Rattle.vax_form.specs.declared.state.Flags.{Flags}
-use Rattle.vax_form.specs.declared.state.VaxState.{VaxState}
-use Rattle.alpha_encode.specs.declared.instr.AlphaInstr.{AlphaInstr}
 use Rattle.alpha_meaning.specs.State.{Regs, at_place}
-use Rattle.alpha_meaning.specs.Pieces.{Kinds, Over, Only}
+use Rattle.alpha_meaning.specs.Pieces.{Kinds, Over}
 use Rattle.exception_records.specs.Codes.{is_ready}
-use Rattle.exception_records.specs.Shown.{registers_shown, codes_shown, code_shown}
+use Rattle.exception_records.specs.Shown.{codes_shown, code_shown}
 use Rattle.exception_records.specs.declared.rules.CodeRule.{CodeRule}
 use Rattle.exception_records.specs.declared.rules.Rules.{Rules}
 use Rattle.micro_ops.specs.declared.known.Checked.{Checked}
@@ -31,14 +28,14 @@ use Rattle.micro_ops.specs.declared.program.MicroOp.TheVariants.{Move, SignExten
 use Rattle.micro_ops.specs.Fits.{argument_fits, computation_fits, holding_of}
 use Rattle.micro_ops.specs.Known.{held, holds, is_something, is_committed, has_flag, forgotten, behind_write}
 use Rattle.micro_ops.specs.Meaning.{Temps, Standing, with_temp, with_value, value_of_arg, flag_of}
-use Rattle.micro_ops.specs.Uses.{is_unary, is_select, is_quad, leaves_longword, takes}
+use Rattle.micro_ops.specs.Uses.{is_unary, is_select, leaves_longword, takes}
 use Rattle.micro_ops.specs.Values.{low, computed, value_from}
 use Rattle.compute_sequences.specs.Promises.{Leaves, IsComputed, MayCompute}
 use Rattle.compute_sequences.specs.Registers.{IsArgument, IsTarget, register_at, value_at, may_change}
 use Rattle.compute_sequences.specs.Words.{compute_code}
 use Rattle.compute_sequences.proofs.Bounded.{computed_fits}
 use Rattle.compute_sequences.proofs.WholeLaws.{leaves_computed}
-use Rattle.block_law.specs.Placements.{Placement, InForm}
+use Rattle.block_law.specs.Placements.{Placement}
 use Rattle.block_law.specs.Tidy.{is_kept}
 use Rattle.block_law.proofs.Kept.{registers_kept, form_kept}
 use Rattle.block_law.proofs.Rules.{Always, runs}
@@ -48,7 +45,7 @@ use Rattle.program_codegen.specs.Words.{plain, holder}
 use Rattle.program_codegen.specs.Programs.{is_flag, rule_of}
 use Rattle.program_codegen.proofs.Numbers.{both, all_four, below_of, extended_fits, same_bits}
 use Rattle.program_codegen.proofs.Knowing.{SameChanges, write_changes, written_one, written_others}
-use Rattle.program_codegen.proofs.Walk.{Within, row_words, row_rest, row_length, is_inside}
+use Rattle.program_codegen.proofs.Walk.{Within, row_words, row_length, is_inside}
 use Rattle.program_codegen.proofs.Holding.{Holds, HoldsAs, IsChecked, found}
 
 -- ---- registers that a boundary shows

@@ -1,14 +1,12 @@
 -- Where a program leaves: the words that leave the codes, the trap on overflow, and the exits.
-use Rattle.std.proofs.Common.{◌≡◌, ℕ, ◌+◌, ◌%◌, ◌^◌, ◌<◌, ◌≤◌, refl, sym, ap, ◌∙◌, subst, arith, List, [], ◌∷◌, ◌++◌, length, map, None, Bool, true, false, lit≤, length-append}
+use Rattle.std.proofs.Common.{◌≡◌, ℕ, ◌+◌, ◌%◌, ◌^◌, ◌≤◌, refl, subst, arith, List, [], ◌++◌, length, map, None, Bool, true, false, lit≤, length-append}
 use Rattle.std.specs.Prelude.{◌==◌, not, if◌then◌else◌}
 use Rattle.vax_form.specs.State.{with_pc}
 use Rattle.vax_form.specs.Tree.{Finish, Trap, Fault}
 use Rattle.vax_form.specs.declared.state.Exception.TheVariants as exceptions
-use Rattle.vax_form.specs.declared.state.VaxState.{VaxState}
 use Rattle.alpha_encode.specs.declared.instr.AlphaInstr.{AlphaInstr}
 use Rattle.alpha_meaning.specs.Loops.{effects}
 use Rattle.alpha_meaning.specs.State.{Regs, at_place}
-use Rattle.micro_ops.specs.declared.codes.CodeSource.{CodeSource}
 use Rattle.micro_ops.specs.declared.known.Known.{Known}
 use Rattle.micro_ops.specs.declared.program.Exit.{Exit}
 use Rattle.micro_ops.specs.declared.program.Exit.TheVariants as exits

@@ -1,6 +1,6 @@
 -- The lines of a block by which a program leaves, by themselves.
-use Rattle.std.proofs.Common.{◌≡◌, ℕ, zero, suc, ◌+◌, ◌^◌, ◌<◌, ◌≤◌, refl, sym, ap, ◌∙◌, subst, arith, List, [], ◌∷◌, ◌++◌, length, map, Option, Some, None, Bool, true, false, lit<, lit≤, length-append}
-use Rattle.std.specs.Prelude.{pos, ◌==◌, ◌&&◌, ◌||◌, not, nat_lt, nat_le, All, if◌then◌else◌}
+use Rattle.std.proofs.Common.{◌≡◌, ℕ, ◌+◌, ◌^◌, ◌<◌, ◌≤◌, refl, ap, ◌∙◌, subst, arith, List, [], ◌∷◌, ◌++◌, length, map, Bool, true, false, lit<, lit≤, length-append}
+use Rattle.std.specs.Prelude.{pos, ◌==◌, ◌&&◌, ◌||◌, not, All, if◌then◌else◌}
 use Rattle.std.specs.List.{list_all, list_any}
 use Rattle.std.proofs.lemmas.Bool.Decides.{nat_tests}
 use Rattle.std.proofs.lemmas.List.Elements.{All-cons, All-nil}
@@ -28,8 +28,8 @@ use Rattle.program_codegen.specs.declared.points.Site.{Site}
 use Rattle.program_codegen.specs.Words.{plain, marked, holder, copy, point_of, raising, trapping, exit_lines, load_address, overflow_made, overflow_register, load_pc, overflow_lines, tested_lines, may_overflow, may_trap, trap_lines, departing, leaving, words_of}
 use Rattle.program_codegen.specs.Programs.{IsExit, KeepsTogether, exit_addresses}
 use Rattle.program_codegen.proofs.Numbers.{all_four}
-use Rattle.program_codegen.proofs.Walk.{skip_behind, plain_length}
-use Rattle.program_codegen.proofs.Shapes.{EachFits, LineFits, PointFits, each_append, exit_each, plain_fits, call_fits, is_local, row_fits}
+use Rattle.program_codegen.proofs.Walk.{plain_length}
+use Rattle.program_codegen.proofs.Shapes.{EachFits, each_append, exit_each, plain_fits, call_fits, is_local, row_fits}
 use Rattle.program_codegen.proofs.Rows.{is_free, is_own, is_silent, list_all_of, silent_own, silent_quiet, all_encodable, load_each, load_encodable, branch_encodable, small_fits, made_encodable, made_silent, made_short}
 use Rattle.program_codegen.proofs.Fronts.{targets, targets_append, row_targets, words_append, row_words_are, any_append, any_neither, neither, SparesCodes, KeptBy, quiet_kept, free_keeps, Front, row_front, front_append, spares_append, no_front, line_front, Shape}
 

@@ -1,6 +1,6 @@
 -- The exits of a block, behind its codes.
-use Rattle.std.proofs.Common.{◌≡◌, ℕ, ◌+◌, ◌*◌, ◌/◌, ◌%◌, ◌^◌, ◌<◌, ◌≤◌, refl, sym, ap, ◌∙◌, subst, arith, List, [], ◌∷◌, ◌++◌, length, map, Some, None, Bool, true, false, lit<, lit≤}
-use Rattle.std.specs.Prelude.{pos, ◌==◌, ◌&&◌, ◌||◌, not, nat_lt, nat_le, bit_or, slice_set, if◌then◌else◌}
+use Rattle.std.proofs.Common.{◌≡◌, ℕ, ◌+◌, ◌%◌, ◌^◌, ◌<◌, ◌≤◌, refl, sym, ap, ◌∙◌, subst, arith, List, [], ◌∷◌, ◌++◌, length, map, Some, None, Bool, true, false, lit<, lit≤}
+use Rattle.std.specs.Prelude.{pos, ◌==◌, not, bit_or, slice_set, if◌then◌else◌}
 use Rattle.std.specs.Int.{cast_unsigned, w64}
 use Rattle.std.proofs.Math.Nat.{mod-eq_of_lt}
 use Rattle.std.proofs.lemmas.Bool.Decides.{nat_tests}
@@ -17,21 +17,19 @@ use Rattle.alpha_meaning.specs.Pieces.{Only, Plain}
 use Rattle.alpha_meaning.specs.Result.{plus, times}
 use Rattle.alpha_meaning.specs.State.{Regs, put, at_place}
 use Rattle.exception_records.specs.Codes.{all_ready}
-use Rattle.exception_records.specs.Shown.{registers_shown, psw_shown, psw_with, codes_shown, still_held}
-use Rattle.exception_records.specs.declared.rules.Rules.{Rules}
+use Rattle.exception_records.specs.Shown.{registers_shown, psw_shown, psw_with, still_held}
 use Rattle.micro_ops.specs.declared.known.Known.{Known}
-use Rattle.micro_ops.specs.declared.program.Exit.{Exit}
 use Rattle.micro_ops.specs.declared.program.Exit.TheVariants as exits
 use Rattle.micro_ops.specs.declared.program.Micro.TheVariants.{Leave}
-use Rattle.micro_ops.specs.Fits.{exit_holds, exit_fits}
+use Rattle.micro_ops.specs.Fits.{exit_holds}
 use Rattle.micro_ops.specs.Known.{held, holds}
 use Rattle.micro_ops.specs.Meaning.{Standing}
 use Rattle.compute_sequences.proofs.Halves.{long_low}
 use Rattle.block_law.specs.Follows.{Follows}
-use Rattle.block_law.specs.Placements.{Placement, InForm, state_shown, state_behind, state_ready, target}
+use Rattle.block_law.specs.Placements.{Placement, state_shown, state_behind, state_ready, target}
 use Rattle.block_law.specs.Tidy.{is_kept}
 use Rattle.block_law.proofs.Blocks.{same_refl}
-use Rattle.block_law.proofs.Kept.{registers_kept, psw_kept, form_kept, state_kept, registers_put, psw_put}
+use Rattle.block_law.proofs.Kept.{psw_kept, form_kept, state_kept, registers_put, psw_put}
 use Rattle.block_law.proofs.Rounds.{fits_spare}
 use Rattle.block_law.proofs.Rules.{Always, roomy, goes, passes, skips, looks_up, serves, raises}
 use Rattle.program_codegen.specs.declared.lines.Line.{Line}
@@ -40,7 +38,6 @@ use Rattle.program_codegen.specs.Words.{plain, marked, holder, copy, point_of, r
 use Rattle.program_codegen.specs.Programs.{LeavesReady}
 use Rattle.program_codegen.proofs.Numbers.{all_three, copied, extended_low, extended_again}
 use Rattle.program_codegen.proofs.Walk.{Within, next, stands, is_inside, exit_leads, behind_exit}
-use Rattle.program_codegen.proofs.Holding.{Setting, Holds, HoldsAs}
 use Rattle.program_codegen.proofs.Computing.{held_value}
 use Rattle.program_codegen.proofs.Accessing.{put_other}
 use Rattle.program_codegen.proofs.Committing.{form_register}

@@ -1,6 +1,6 @@
 -- The operations of a program that fits have words.
-use Rattle.std.proofs.Common.{◌≡◌, ℕ, ◌+◌, ◌^◌, ◌<◌, ◌≤◌, refl, sym, ap, ◌∙◌, subst, arith, List, [], ◌∷◌, Option, Some, None, Bool, true, false, eqb-true, lit≤}
-use Rattle.std.specs.Prelude.{◌==◌, ◌&&◌, ◌||◌, not, nat_lt, nat_le, option_and_then, if◌then◌else◌}
+use Rattle.std.proofs.Common.{◌≡◌, ℕ, refl, sym, ◌∙◌, subst, arith, List, [], ◌∷◌, Bool, true, false, eqb-true}
+use Rattle.std.specs.Prelude.{◌==◌, ◌&&◌, ◌||◌, not, nat_lt, nat_le}
 use Rattle.std.proofs.lemmas.Bool.Decides.{nat_tests}
 use Rattle.vt_words.specs.Quad.{IsCount, one as c1, two as c2, four as c4, eight as c8}
 use Rattle.micro_ops.specs.declared.codes.CodeSources.{CodeSources}
@@ -17,11 +17,11 @@ use Rattle.micro_ops.specs.Fits.{step, walk, is_ended, check_fits, computation_f
 use Rattle.micro_ops.specs.Known.{holds, is_committed, behind_write, behind_access, behind_commit}
 use Rattle.micro_ops.specs.LeftOut.{is_low, is_left_out}
 use Rattle.micro_ops.specs.Meaning.{locked_count}
-use Rattle.micro_ops.specs.Uses.{is_unary, is_select, is_codes, leaves_longword}
+use Rattle.micro_ops.specs.Uses.{is_unary, is_select, leaves_longword}
 use Rattle.byte_sequences.specs.Instructions as bytes
-use Rattle.compute_sequences.specs.Registers.{IsArgument, IsTarget}
+use Rattle.compute_sequences.specs.Registers.{IsArgument}
 use Rattle.program_codegen.specs.Words.{holder}
-use Rattle.program_codegen.specs.Programs.{IsExit, IsRanged, IsRangedArgument, IsRangedExit, AllRanged, HasWords, AllFitWords, AllHaveWords}
+use Rattle.program_codegen.specs.Programs.{IsExit, IsRangedArgument, IsRangedExit, AllRanged, AllFitWords, AllHaveWords}
 use Rattle.program_codegen.proofs.Numbers.{both, all_three, all_four, all_five, below_of}
 use Rattle.program_codegen.proofs.Knowing.{walk_fits, nothing_behind, write_changes}
 use Rattle.program_codegen.proofs.Following.{opened}

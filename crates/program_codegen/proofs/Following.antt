@@ -1,11 +1,11 @@
 -- The words of a program follow its tree.
-use Rattle.std.proofs.Common.{◌≡◌, ℕ, ◌+◌, ◌*◌, ◌%◌, ◌^◌, ◌<◌, ◌≤◌, refl, sym, ap, ◌∙◌, subst, arith, List, [], ◌∷◌, ◌++◌, length, map, Option, Some, None, Bool, true, false, lit≤, length-append}
+use Rattle.std.proofs.Common.{◌≡◌, ℕ, ◌+◌, ◌<◌, ◌≤◌, refl, sym, ap, ◌∙◌, subst, arith, List, [], ◌∷◌, ◌++◌, length, map, Option, Some, None, Bool, true, false, lit≤, length-append}
 use Rattle.std.specs.Prelude.{pos, ◌==◌, ◌&&◌, ◌||◌, not, nat_le, option_and_then, if◌then◌else◌}
 use Rattle.std.specs.List.{list_any}
 use Rattle.std.proofs.lemmas.Bool.Decides.{nat_tests}
 use Rattle.vax_form.specs.Parts.{parts}
 use Rattle.vax_form.specs.Ranges.{IsInRange}
-use Rattle.vax_form.specs.State.{Answers, with_register, with_psw}
+use Rattle.vax_form.specs.State.{Answers}
 use Rattle.vax_form.specs.Tree.{Tree}
 use Rattle.vax_form.specs.declared.instr.Size.{Size}
 use Rattle.vax_form.specs.declared.state.Exception.TheVariants.{ReservedOperand}
@@ -17,7 +17,6 @@ use Rattle.alpha_encode.specs.declared.instr.OperateOp.TheVariants as row
 use Rattle.alpha_encode.specs.declared.instr.Second.TheVariants.{Literal}
 use Rattle.alpha_meaning.specs.State.{Regs, at_place}
 use Rattle.exception_records.specs.Codes.{is_ready}
-use Rattle.exception_records.specs.declared.rules.Rules.{Rules}
 use Rattle.micro_ops.specs.declared.codes.CodeSources.{CodeSources}
 use Rattle.micro_ops.specs.declared.known.Checked.TheVariants.{At}
 use Rattle.micro_ops.specs.declared.known.Holding.TheVariants.{Wide}
@@ -28,12 +27,12 @@ use Rattle.micro_ops.specs.declared.program.Exit.TheVariants.{Next, Fixed, Compu
 use Rattle.micro_ops.specs.declared.program.Micro.{Micro}
 use Rattle.micro_ops.specs.declared.program.Micro.TheVariants.{Compute, Probe, Refuse, Read, Write, Locked, Commit, Codes, SetPsw, Leave}
 use Rattle.micro_ops.specs.declared.program.MicroOp.{MicroOp}
-use Rattle.micro_ops.specs.Course.{Course, Ask, Fault, AtLeaves, read_parts, write_parts}
+use Rattle.micro_ops.specs.Course.{Course, Ask, Fault, AtLeaves}
 use Rattle.micro_ops.specs.Fits.{step, walk, is_ended, check_fits, computation_fits, read_fits, write_fits, locked_fits, commit_fits, codes_fit, exit_fits, sources_fit, holding_of}
 use Rattle.micro_ops.specs.Known.{holds, held, behind_write, behind_access, behind_commit}
 use Rattle.micro_ops.specs.LeftOut.{is_left_out, is_low, is_used}
 use Rattle.micro_ops.specs.Leaving.{CodesComeFrom}
-use Rattle.micro_ops.specs.Meaning.{Standing, Left, with_temp, with_value, with_codes, value_of_arg, locked_count, locked_kind, course_of, leaves_by}
+use Rattle.micro_ops.specs.Meaning.{Standing, Left, with_temp, with_value, with_codes, value_of_arg, locked_count, course_of, leaves_by}
 use Rattle.micro_ops.specs.Uses.{leaves_longword, takes}
 use Rattle.micro_ops.specs.Values.{computed}
 use Rattle.byte_sequences.specs.Words.{read_code, write_code, locked_code}
@@ -42,8 +41,8 @@ use Rattle.block_law.specs.Placements.{Placement}
 use Rattle.block_law.proofs.Rules.{Always, roomy}
 use Rattle.program_codegen.specs.declared.lines.Line.{Line}
 use Rattle.program_codegen.specs.declared.points.Site.{Site}
-use Rattle.program_codegen.specs.Words.{plain, marked, holder, copy, probing, raising, leaving, departing, trap_lines, computing, lines_of, program_lines, exit_lines}
-use Rattle.program_codegen.specs.Programs.{HasWords, AllHaveWords, IsExit, ReadsReady, LeavesReady, reads_flag, leaves_computed, is_flag, rule_of}
+use Rattle.program_codegen.specs.Words.{plain, marked, holder, copy, probing, raising, leaving, departing, trap_lines, lines_of, program_lines}
+use Rattle.program_codegen.specs.Programs.{HasWords, IsExit, ReadsReady, LeavesReady, reads_flag, is_flag, rule_of}
 use Rattle.program_codegen.proofs.Numbers.{both}
 use Rattle.program_codegen.proofs.Knowing.{walk_fits, nothing_behind, write_changes, written_others}
 use Rattle.program_codegen.proofs.Walk.{Within, next, row_rest, row_length}

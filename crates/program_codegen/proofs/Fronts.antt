@@ -1,6 +1,6 @@
 -- Lines of a block by themselves: where they go, which codes they write, and where kept registers stay.
-use Rattle.std.proofs.Common.{◌≡◌, ℕ, zero, suc, ◌+◌, ◌^◌, ◌<◌, ◌≤◌, refl, sym, ap, ◌∙◌, subst, arith, List, [], ◌∷◌, ◌++◌, length, map, Option, Some, None, Bool, true, false, lit<, lit≤, length-append}
-use Rattle.std.specs.Prelude.{◌==◌, ◌&&◌, ◌||◌, not, nat_lt, nat_le, All, if◌then◌else◌}
+use Rattle.std.proofs.Common.{◌≡◌, ℕ, ◌+◌, ◌<◌, ◌≤◌, refl, sym, ap, ◌∙◌, subst, arith, List, [], ◌∷◌, ◌++◌, length, map, Option, Some, None, Bool, true, false, length-append}
+use Rattle.std.specs.Prelude.{◌==◌, ◌&&◌, ◌||◌, not, All}
 use Rattle.std.specs.List.{list_all, list_any}
 use Rattle.std.proofs.lemmas.Bool.Decides.{nat_tests}
 use Rattle.alpha_encode.specs.Words.{IsEncodable}
@@ -10,7 +10,7 @@ use Rattle.program_codegen.specs.declared.lines.Line.{Line}
 use Rattle.program_codegen.specs.declared.points.Site.{Site}
 use Rattle.program_codegen.specs.Words.{plain, words_of, with_entry, exits_from}
 use Rattle.program_codegen.proofs.Walk.{skip_behind}
-use Rattle.program_codegen.proofs.Shapes.{EachFits, LineFits, each_append, row_fits, plain_fits, is_local}
+use Rattle.program_codegen.proofs.Shapes.{EachFits, LineFits, each_append, row_fits, is_local}
 use Rattle.program_codegen.proofs.Rows.{is_free, is_own, is_silent, list_all_of, own_local, own_free, silent_own, silent_quiet}
 
 -- ---- where lines go

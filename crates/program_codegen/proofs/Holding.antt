@@ -1,6 +1,5 @@
 -- What the registers of a block hold between two operations of its program.
-use Rattle.std.proofs.Common.{◌≡◌, ℕ, ◌+◌, ◌/◌, ◌%◌, ◌^◌, ◌<◌, List, [], ◌∷◌, length, Some, None, Bool, true, false}
-use Rattle.std.specs.Prelude.{Option, ◌&&◌}
+use Rattle.std.proofs.Common.{◌≡◌, ℕ, ◌+◌, ◌/◌, ◌%◌, ◌^◌, ◌<◌, List, [], ◌∷◌, length, None, true, false}
 use Rattle.vt_words.specs.Values.{bit}
 use Rattle.vax_form.specs.PageTable.{IsPageTable}
 use Rattle.vax_form.specs.Pages.{first_bad}
@@ -12,7 +11,6 @@ use Rattle.vax_form.specs.declared.state.Reference.{Reference}
 use Rattle.alpha_encode.specs.declared.instr.AlphaInstr.{AlphaInstr}
 use Rattle.alpha_meaning.specs.State.{Regs, at_place}
 use Rattle.alpha_meaning.specs.declared.access.AlphaKind.{AlphaKind}
-use Rattle.exception_records.specs.Codes.{all_ready}
 use Rattle.exception_records.specs.Shown.{registers_shown, codes_shown}
 use Rattle.micro_ops.specs.declared.known.Holding.{Holding}
 use Rattle.micro_ops.specs.declared.known.Holding.TheVariants.{Nothing, Wide, Longword}

@@ -1,6 +1,6 @@
 -- What is known behind an operation of a program that fits.
-use Rattle.std.proofs.Common.{◌≡◌, ℕ, zero, suc, ◌+◌, ◌<◌, ◌≤◌, refl, sym, ap, ◌∙◌, subst, arith, List, [], ◌∷◌, length, Option, Some, None, Bool, true, false}
-use Rattle.std.specs.Prelude.{◌==◌, nat_lt, slice_get, slice_set, unwrap_or, option_and_then, if◌then◌else◌}
+use Rattle.std.proofs.Common.{◌≡◌, ℕ, zero, suc, ◌<◌, ◌≤◌, refl, ap, ◌∙◌, arith, List, [], ◌∷◌, length, Option, Bool, true, false}
+use Rattle.std.specs.Prelude.{◌==◌, nat_lt, slice_set, option_and_then, if◌then◌else◌}
 use Rattle.std.proofs.lemmas.Bool.Decides.{nat_tests}
 use Rattle.micro_ops.specs.declared.codes.CodeSources.{CodeSources}
 use Rattle.micro_ops.specs.declared.known.Holding.{Holding}
@@ -8,7 +8,7 @@ use Rattle.micro_ops.specs.declared.known.Holding.TheVariants.{Nothing}
 use Rattle.micro_ops.specs.declared.known.Known.{Known}
 use Rattle.micro_ops.specs.declared.program.Micro.{Micro}
 use Rattle.micro_ops.specs.Fits.{when_fits, walk, is_ended}
-use Rattle.micro_ops.specs.Known.{has_flag, held, with_held, is_committed, behind_write, behind_access}
+use Rattle.micro_ops.specs.Known.{has_flag, held, with_held, behind_write, behind_access}
 
 -- ---- the walk
 pub walk_fits : (b : Bool) (behind : Known) (on : Known → Option Known) → is_ended (option_and_then on (when_fits b behind)) ≡ true → (b ≡ true) × (is_ended (on behind) ≡ true)

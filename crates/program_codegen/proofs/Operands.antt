@@ -1,6 +1,6 @@
 -- Operands in memory: their pages, their parts, and the accesses that are made for them.
 use Rattle.std.proofs.Common.{◌≡◌, ℕ, zero, suc, ◌+◌, ◌-◌, ◌*◌, ◌/◌, ◌%◌, ◌^◌, ◌<◌, ◌≤◌, refl, sym, ap, ◌∙◌, subst, arith, List, [], ◌∷◌, All, Option, Some, None, Bool, true, false, inl, inr, lit<, lit≤}
-use Rattle.std.specs.Prelude.{◌==◌, ◌&&◌, ◌||◌, ◌⊎◌, not, nat_le, nat_lt, bit_and, bit_or, if◌then◌else◌}
+use Rattle.std.specs.Prelude.{◌==◌, ◌&&◌, ◌||◌, ◌⊎◌, not, nat_le, nat_lt, bit_and, if◌then◌else◌}
 use Rattle.std.specs.List.{list_any}
 use Rattle.std.proofs.Math.Nat.{mod-eq_of_lt, mod-mod}
 use Rattle.std.proofs.lemmas.Bool.Decides.{nat_tests}
@@ -28,12 +28,11 @@ use Rattle.micro_ops.specs.declared.program.LockedOp.TheVariants.{AddWord, SetBi
 use Rattle.micro_ops.specs.Course.{Course, Ask, read_parts, write_parts}
 use Rattle.micro_ops.specs.Known.{is_checked}
 use Rattle.micro_ops.specs.Meaning.{Temps, Left, locked_count, locked_kind}
-use Rattle.byte_sequences.specs.Plans as plans
 use Rattle.byte_sequences.specs.Plans.{quad_of_part, read_plan, write_plan, locked_plan}
-use Rattle.byte_sequences.specs.Promises.{MayRead, MayWrite, MayLock, MayStore, MayRetry, IsLockable, stored_bytes}
-use Rattle.block_law.specs.Placements.{Placement, allowed_in}
+use Rattle.byte_sequences.specs.Promises.{MayRead, MayWrite, MayLock, MayStore, IsLockable, stored_bytes}
+use Rattle.block_law.specs.Placements.{Placement}
 use Rattle.block_law.proofs.Blocks.{Begins, piece_terms}
-use Rattle.program_codegen.proofs.Numbers.{both, all_three}
+use Rattle.program_codegen.proofs.Numbers.{all_three}
 use Rattle.program_codegen.proofs.Computing.{any_kind}
 use Rattle.program_codegen.proofs.Holding.{IsChecked, tree}
 

@@ -1,6 +1,6 @@
 -- The words of operations by themselves: their encodings, what they write, whether they may fault, and how many they are.
-use Rattle.std.proofs.Common.{◌≡◌, ℕ, zero, suc, ◌+◌, ◌/◌, ◌%◌, ◌^◌, ◌<◌, ◌≤◌, refl, sym, ap, ◌∙◌, subst, arith, rules, List, [], ◌∷◌, ◌++◌, length, Bool, true, false, lit<, lit≤}
-use Rattle.std.specs.Prelude.{pos, ◌==◌, ◌&&◌, ◌||◌, not, nat_lt, nat_le, All, FitsSigned, if◌then◌else◌}
+use Rattle.std.proofs.Common.{◌≡◌, ℕ, ◌+◌, ◌/◌, ◌%◌, ◌^◌, ◌<◌, ◌≤◌, refl, arith, rules, List, [], ◌∷◌, length, Bool, true, false, lit<, lit≤}
+use Rattle.std.specs.Prelude.{pos, ◌&&◌, ◌||◌, not, nat_lt, nat_le, All, FitsSigned, if◌then◌else◌}
 use Rattle.std.specs.Int.{cast_signed, w16}
 use Rattle.std.specs.List.{list_all, list_any}
 use Rattle.std.proofs.lemmas.Bool.Decides.{nat_tests}
@@ -8,14 +8,12 @@ use Rattle.std.proofs.lemmas.Int.{ints}
 use Rattle.std.proofs.lemmas.List.Elements.{All-cons, All-nil}
 use Rattle.vt_words.specs.Quad.{IsCount, one as c1, two as c2, four as c4, eight as c8}
 use Rattle.vax_form.specs.declared.instr.Size.TheVariants.{Byte, Word, Long, Quad}
-use Rattle.alpha_encode.specs.Halves.{high_half, low_half}
 use Rattle.alpha_encode.specs.Words.{IsEncodable}
 use Rattle.alpha_encode.specs.declared.instr.AlphaInstr.{AlphaInstr}
 use Rattle.alpha_encode.specs.declared.instr.AlphaInstr.TheVariants.{Memory, Branch, Operate, Jump, Pal}
 use Rattle.alpha_encode.specs.declared.instr.BranchOp.{BranchOp}
 use Rattle.alpha_encode.specs.declared.instr.MemoryOp.TheVariants.{Lda, Ldah}
 use Rattle.alpha_meaning.specs.Act.{links}
-use Rattle.alpha_meaning.specs.Loops.{fine}
 use Rattle.exception_records.specs.declared.rules.CodeRule.{CodeRule}
 use Rattle.exception_records.specs.declared.rules.CodeRule.TheVariants as code_rules
 use Rattle.micro_ops.specs.declared.program.LockedOp.{LockedOp}

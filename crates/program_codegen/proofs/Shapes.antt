@@ -1,26 +1,22 @@
 -- The blocks of lines by themselves.
-use Rattle.std.proofs.Common.{◌≡◌, ℕ, zero, suc, ◌+◌, ◌-◌, ◌^◌, ◌<◌, ◌≤◌, refl, sym, ap, ◌∙◌, subst, arith, List, [], ◌∷◌, ◌++◌, length, map, get_or, Option, Some, None, Bool, true, false, cond, eqb-true, lit<, lit≤}
-use Rattle.std.specs.Prelude.{◌==◌, ◌&&◌, ◌||◌, not, nat_lt, nat_le, slice_get, find, option_map, unwrap_or, All, if◌then◌else◌}
-use Rattle.std.specs.List.{list_all, list_any, AllAdjacentBelow}
-use Rattle.std.proofs.lemmas.Bool.Decides.{nat_tests}
+use Rattle.std.proofs.Common.{◌≡◌, ℕ, zero, suc, ◌+◌, ◌-◌, ◌^◌, ◌<◌, ◌≤◌, refl, sym, ap, subst, arith, List, [], ◌∷◌, ◌++◌, length, map, get_or, Option, Some, None, Bool, true, false, lit<}
+use Rattle.std.specs.Prelude.{◌==◌, ◌&&◌, unwrap_or, All, if◌then◌else◌}
+use Rattle.std.specs.List.{list_all, list_any}
 use Rattle.std.proofs.lemmas.List.Elements.{All-cons, All-nil}
-use Rattle.std.proofs.lemmas.Option.{slice_get_within}
 use Rattle.alpha_encode.specs.Words.{IsEncodable}
 use Rattle.alpha_encode.specs.declared.instr.AlphaInstr.{AlphaInstr}
 use Rattle.alpha_encode.specs.declared.instr.AlphaInstr.TheVariants.{Memory, Branch, Operate, Jump, Pal}
-use Rattle.exception_records.specs.Points.{Entry, WordsRise, point_at}
+use Rattle.exception_records.specs.Points.{Entry}
 use Rattle.exception_records.specs.declared.points.Point.{Point}
-use Rattle.exception_records.specs.declared.rules.Rules.{Rules}
-use Rattle.block_law.specs.Blocks.{Exit, IsBlockOf, IsExitOf, IsPointOf, is_exit_word, is_past_exit, is_quiet}
-use Rattle.block_law.specs.Tidy.{IsTidy, interprets, may_fault, keeps_until}
+use Rattle.block_law.specs.Blocks.{Exit, is_quiet}
+use Rattle.block_law.specs.Tidy.{interprets}
 use Rattle.block_law.specs.Translations.{done_at}
 use Rattle.program_codegen.specs.declared.lines.Line.{Line}
 use Rattle.program_codegen.specs.declared.points.Site.{Site}
-use Rattle.program_codegen.specs.Words.{plain, marked, idle, exit_lines, point_of, with_first, words_of, with_entry, points_from, exits_from, block_of}
+use Rattle.program_codegen.specs.Words.{plain, marked, idle, exit_lines, point_of, with_first, words_of, with_entry, points_from, exits_from}
 use Rattle.program_codegen.specs.Promises.{HasRules}
 use Rattle.program_codegen.proofs.Walk.{skip_behind}
 use Rattle.program_codegen.proofs.Starting.{IsWholeLine, IsWhole}
-use Rattle.program_codegen.proofs.Compiled.{some_same, word_of_line, words_length, first_length, point_of_line}
 
 -- ---- lines one by one
 -- a call ends the instruction's own words

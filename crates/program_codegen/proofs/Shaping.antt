@@ -1,9 +1,7 @@
 -- The lines of a program by themselves.
-use Rattle.std.proofs.Common.{◌≡◌, ℕ, zero, suc, ◌+◌, ◌^◌, ◌<◌, ◌≤◌, refl, sym, ap, ◌∙◌, subst, arith, List, [], ◌∷◌, ◌++◌, length, map, Option, Some, None, Bool, true, false, lit<, lit≤, length-append}
-use Rattle.std.specs.Prelude.{pos, ◌==◌, ◌&&◌, ◌||◌, not, nat_lt, nat_le, All, option_and_then, if◌then◌else◌}
+use Rattle.std.proofs.Common.{◌≡◌, ℕ, ◌+◌, ◌^◌, ◌<◌, ◌≤◌, refl, sym, ap, ◌∙◌, subst, arith, List, [], ◌∷◌, ◌++◌, length, map, Bool, true, false, lit<, lit≤}
+use Rattle.std.specs.Prelude.{pos, ◌&&◌, not, nat_le, All, if◌then◌else◌}
 use Rattle.std.specs.List.{list_all, list_any}
-use Rattle.std.proofs.lemmas.Bool.Decides.{nat_tests}
-use Rattle.vt_words.specs.Quad.{IsCount}
 use Rattle.vax_form.specs.declared.instr.Size.{Size}
 use Rattle.alpha_encode.specs.Words.{IsEncodable}
 use Rattle.alpha_encode.specs.declared.instr.AlphaInstr.{AlphaInstr}
@@ -12,7 +10,6 @@ use Rattle.alpha_encode.specs.declared.instr.BranchOp.TheVariants.{Beq}
 use Rattle.alpha_encode.specs.declared.instr.OperateOp.TheVariants as row
 use Rattle.alpha_encode.specs.declared.instr.Second.TheVariants.{Literal}
 use Rattle.alpha_meaning.specs.Loops.{fine}
-use Rattle.micro_ops.specs.declared.codes.CodeSources.{CodeSources}
 use Rattle.micro_ops.specs.declared.known.Checked.TheVariants.{At}
 use Rattle.micro_ops.specs.declared.known.Holding.TheVariants.{Wide}
 use Rattle.micro_ops.specs.declared.known.Known.{Known}
@@ -22,11 +19,11 @@ use Rattle.micro_ops.specs.declared.program.Micro.{Micro}
 use Rattle.micro_ops.specs.declared.program.Micro.TheVariants.{Compute, Probe, Refuse, Read, Write, Locked, Commit, Codes, SetPsw, Leave}
 use Rattle.micro_ops.specs.declared.program.MicroOp.{MicroOp}
 use Rattle.micro_ops.specs.Fits.{step, walk, is_ended, check_fits, computation_fits, read_fits, write_fits, locked_fits, commit_fits, codes_fit, exit_fits, sources_fit, place_fits, reference_fits, are_apart, is_count, holding_of}
-use Rattle.micro_ops.specs.Known.{holds, holds_longword, is_committed, is_checked, behind_write, behind_access, behind_commit}
+use Rattle.micro_ops.specs.Known.{holds, holds_longword, is_checked, behind_write, behind_access, behind_commit}
 use Rattle.micro_ops.specs.LeftOut.{is_left_out}
 use Rattle.micro_ops.specs.Meaning.{locked_count}
 use Rattle.micro_ops.specs.Uses.{leaves_longword}
-use Rattle.micro_ops.specs.WordCounts.{words_of as count_of, words_with, program_words}
+use Rattle.micro_ops.specs.WordCounts.{words_of as count_of, program_words}
 use Rattle.byte_sequences.specs.Words.{read_code, write_code, locked_code}
 use Rattle.byte_sequences.proofs.Encoded.{encoded}
 use Rattle.compute_sequences.specs.Words.{compute_code}
@@ -37,7 +34,7 @@ use Rattle.block_law.specs.CodeWords.{may_be_written}
 use Rattle.block_law.specs.Tidy.{may_fault}
 use Rattle.program_codegen.specs.declared.lines.Line.{Line}
 use Rattle.program_codegen.specs.declared.points.Site.{Site}
-use Rattle.program_codegen.specs.Words.{plain, marked, holder, copy, probing, raising, leaving, lines_of, program_lines, words_of}
+use Rattle.program_codegen.specs.Words.{plain, marked, holder, copy, probing, raising, leaving, program_lines, words_of}
 use Rattle.program_codegen.specs.Programs.{HasWords, AllHaveWords, KeepsTogether, IsExit, addresses_of, exit_addresses}
 use Rattle.program_codegen.proofs.Numbers.{both, all_three, all_four, all_five}
 use Rattle.program_codegen.proofs.Knowing.{walk_fits, nothing_behind, write_changes}

@@ -1,32 +1,27 @@
 -- Where a block stands: its lines in their place, and the registers at its start.
-use Rattle.std.proofs.Common.{◌≡◌, ℕ, zero, suc, ◌+◌, ◌-◌, ◌*◌, ◌/◌, ◌%◌, ◌^◌, ◌<◌, ◌≤◌, refl, sym, ap, ◌∙◌, subst, arith, List, [], ◌∷◌, length, Option, Some, None, Bool, true, false, cond, eqb-true}
-use Rattle.std.specs.Prelude.{◌==◌, ◌&&◌, ◌||◌, nat_lt, nat_le, slice_get, slice_index, unwrap_or}
-use Rattle.std.specs.List.{list_any}
+use Rattle.std.proofs.Common.{◌≡◌, ℕ, zero, suc, ◌+◌, ◌-◌, ◌*◌, ◌/◌, ◌%◌, ◌^◌, ◌<◌, ◌≤◌, refl, sym, ap, ◌∙◌, subst, arith, List, [], ◌∷◌, Option, Some, None, Bool, true, false, cond, eqb-true}
+use Rattle.std.specs.Prelude.{◌==◌, ◌&&◌, ◌||◌, nat_lt, nat_le, slice_get, slice_index}
 use Rattle.std.proofs.lemmas.Bool.Decides.{nat_tests}
 use Rattle.std.proofs.lemmas.List.{get_or-set_same}
-use Rattle.std.proofs.lemmas.Option.{slice_get_within}
 use Rattle.vt_words.specs.Values.{bit}
-use Rattle.vax_form.specs.State.{with_core, register}
+use Rattle.vax_form.specs.State.{with_core}
 use Rattle.vax_form.specs.declared.state.Flags.{Flags}
 use Rattle.vax_form.specs.declared.state.VaxState.{VaxState}
 use Rattle.alpha_encode.specs.declared.instr.AlphaInstr.{AlphaInstr}
 use Rattle.alpha_meaning.specs.Pieces.{Fetch, HasAt}
 use Rattle.alpha_meaning.specs.State.{Regs, put}
-use Rattle.exception_records.specs.Points.{point_at}
 use Rattle.exception_records.specs.Shown.{Shows, registers_shown, psw_shown, psw_with, codes_shown}
-use Rattle.exception_records.specs.declared.points.Point.{Point}
 use Rattle.exception_records.specs.declared.rules.Rules.{Rules}
-use Rattle.micro_ops.specs.declared.known.Holding.TheVariants.{Nothing}
 use Rattle.micro_ops.specs.Known.{at_start, held}
 use Rattle.micro_ops.specs.Meaning.{started}
-use Rattle.block_law.specs.Blocks.{Exit, exit_words, has_word, is_exit_word, Stands}
+use Rattle.block_law.specs.Blocks.{Exit, exit_words, is_exit_word}
 use Rattle.block_law.specs.CodeWords.{codes_in}
 use Rattle.block_law.specs.Follows.{LeadsTo}
 use Rattle.block_law.specs.Placements.{Placement, InForm}
 use Rattle.block_law.proofs.Kept.{registers_kept, registers_put}
 use Rattle.program_codegen.specs.declared.lines.Line.{Line}
 use Rattle.program_codegen.specs.declared.points.Site.{Site}
-use Rattle.program_codegen.specs.Words.{with_first, words_of, with_entry, points_from, exits_from}
+use Rattle.program_codegen.specs.Words.{with_entry, exits_from}
 use Rattle.program_codegen.proofs.Numbers.{bit_small}
 use Rattle.program_codegen.proofs.Knowing.{by_six}
 use Rattle.program_codegen.proofs.Walk.{skip_behind, IsMarked, HasLine, HasLines}

@@ -1,19 +1,17 @@
 -- The tests before the trap on overflow, the trap, and what comes behind where it is not made.
-use Rattle.std.proofs.Common.{◌≡◌, ℕ, ◌+◌, ◌*◌, ◌/◌, ◌%◌, ◌^◌, ◌<◌, ◌≤◌, refl, sym, ap, ◌∙◌, subst, arith, List, [], ◌∷◌, ◌++◌, length, map, append_assoc, Some, None, Bool, true, false, lit<, lit≤, length-append}
-use Rattle.std.specs.Prelude.{pos, ◌==◌, ◌&&◌, ◌||◌, not, nat_lt, nat_le, bit_and, if◌then◌else◌}
+use Rattle.std.proofs.Common.{◌≡◌, ℕ, ◌+◌, ◌*◌, ◌/◌, ◌%◌, ◌^◌, ◌<◌, ◌≤◌, refl, sym, ap, ◌∙◌, subst, arith, List, [], ◌∷◌, ◌++◌, length, map, append_assoc, Some, None, Bool, true, false, lit≤, length-append}
+use Rattle.std.specs.Prelude.{pos, ◌==◌, ◌&&◌, ◌||◌, bit_and, if◌then◌else◌}
 use Rattle.std.proofs.lemmas.Bool.Decides.{nat_tests}
 use Rattle.std.proofs.lemmas.Nat.Bits.{and_pow}
 use Rattle.vt_words.specs.Values.{bit}
 use Rattle.vax_form.specs.State.{with_pc}
 use Rattle.vax_form.specs.Tree.{Tree, Ends, Trap}
-use Rattle.alpha_encode.specs.declared.instr.AlphaInstr.{AlphaInstr}
 use Rattle.alpha_encode.specs.declared.instr.AlphaInstr.TheVariants.{Memory, Branch, Operate, Pal}
 use Rattle.alpha_encode.specs.declared.instr.BranchOp.TheVariants.{Beq}
 use Rattle.alpha_encode.specs.declared.instr.MemoryOp.TheVariants.{Lda}
 use Rattle.alpha_encode.specs.declared.instr.OperateOp.TheVariants.{And}
 use Rattle.alpha_encode.specs.declared.instr.Second.TheVariants.{Literal}
 use Rattle.alpha_meaning.specs.Act.{target_of}
-use Rattle.alpha_meaning.specs.Pieces.{Only}
 use Rattle.alpha_meaning.specs.Result.{plus, times}
 use Rattle.alpha_meaning.specs.State.{Regs, put, at_place}
 use Rattle.exception_records.specs.Shown.{still_held}
@@ -29,12 +27,11 @@ use Rattle.program_codegen.specs.declared.lines.Line.{Line}
 use Rattle.program_codegen.specs.declared.points.Site.{Site}
 use Rattle.program_codegen.specs.Words.{plain, marked, trapping, overflow_made, overflow_register, tells_overflow, may_overflow, load_pc, overflow_lines, tested_lines, may_trap, trap_lines}
 use Rattle.program_codegen.specs.Programs.{IsExit, is_narrow}
-use Rattle.program_codegen.proofs.Numbers.{both}
 use Rattle.program_codegen.proofs.Walk.{Within, next, stands, is_inside, row_rest, plain_length}
 use Rattle.program_codegen.proofs.Accessing.{put_other}
 use Rattle.program_codegen.proofs.Coded.{Coded, left_is, coded_still}
 use Rattle.program_codegen.proofs.Exiting.{kept_by_put, kept_apart}
-use Rattle.program_codegen.proofs.Trapping.{Overflows, left_overflow, flag_small, not_set, is_overflow, untrapped, changed_for_trap, makes, pc_left, ExitHolds, loads_pc}
+use Rattle.program_codegen.proofs.Trapping.{Overflows, left_overflow, not_set, is_overflow, untrapped, makes, pc_left, ExitHolds, loads_pc}
 use Rattle.program_codegen.proofs.Rows.{made_short}
 use Rattle.program_codegen.proofs.Endings.{pc_short}
 

@@ -1,25 +1,17 @@
 -- The trap on overflow in its place.
-use Rattle.std.proofs.Common.{◌≡◌, ℕ, ◌+◌, ◌*◌, ◌/◌, ◌%◌, ◌^◌, ◌<◌, ◌≤◌, refl, sym, ap, ◌∙◌, subst, arith, List, [], ◌∷◌, ◌++◌, length, map, append_assoc, Some, None, Bool, true, false, lit<, lit≤, length-append}
-use Rattle.std.specs.Prelude.{pos, ◌==◌, ◌&&◌, ◌||◌, not, nat_lt, nat_le, bit_and, bit_or, if◌then◌else◌}
+use Rattle.std.proofs.Common.{◌≡◌, ℕ, ◌+◌, ◌/◌, ◌%◌, ◌^◌, ◌<◌, ◌≤◌, refl, sym, ap, ◌∙◌, subst, arith, List, ◌∷◌, ◌++◌, length, map, None, Bool, true, false, lit<, lit≤}
+use Rattle.std.specs.Prelude.{pos, ◌==◌, ◌&&◌, ◌||◌, not, bit_or, if◌then◌else◌}
 use Rattle.std.proofs.lemmas.Bool.Decides.{nat_tests}
-use Rattle.std.proofs.lemmas.Nat.Bits.{and_pow}
 use Rattle.vt_words.specs.Values.{bit}
-use Rattle.vax_form.specs.Size.{size_of, bytes_of}
-use Rattle.vax_form.specs.State.{with_pc}
-use Rattle.vax_form.specs.Tree.{Tree, Ends, Trap}
+use Rattle.vax_form.specs.Size.{size_of}
+use Rattle.vax_form.specs.Tree.{Tree}
 use Rattle.vax_form.specs.declared.instr.Size.{Size}
 use Rattle.vax_form.specs.declared.instr.Size.TheVariants.{Byte, Word, Long, Quad}
 use Rattle.vax_form.specs.declared.state.Flags.{Flags}
-use Rattle.alpha_encode.specs.declared.instr.AlphaInstr.{AlphaInstr}
-use Rattle.alpha_encode.specs.declared.instr.AlphaInstr.TheVariants.{Memory, Branch, Operate, Pal}
+use Rattle.alpha_encode.specs.declared.instr.AlphaInstr.TheVariants.{Branch}
 use Rattle.alpha_encode.specs.declared.instr.BranchOp.TheVariants.{Br, Beq}
-use Rattle.alpha_encode.specs.declared.instr.MemoryOp.TheVariants.{Lda}
-use Rattle.alpha_encode.specs.declared.instr.OperateOp.TheVariants.{And}
-use Rattle.alpha_encode.specs.declared.instr.Second.TheVariants.{Literal}
-use Rattle.alpha_encode.specs.Halves.{load_high, load_low}
 use Rattle.alpha_meaning.specs.Act.{Goes, target_of}
 use Rattle.alpha_meaning.specs.Pieces.{Only, Over}
-use Rattle.alpha_meaning.specs.Result.{plus, times}
 use Rattle.alpha_meaning.specs.State.{Regs, put, at_place}
 use Rattle.exception_records.specs.Codes.{codes_by, is_ready}
 use Rattle.exception_records.specs.Shown.{code_shown, still_held}
@@ -30,10 +22,10 @@ use Rattle.micro_ops.specs.declared.codes.CodeSource.TheVariants.{Kept, Zero, Re
 use Rattle.micro_ops.specs.declared.known.Known.{Known}
 use Rattle.micro_ops.specs.declared.program.Exit.{Exit}
 use Rattle.micro_ops.specs.declared.program.Exit.TheVariants as exits
-use Rattle.micro_ops.specs.Fits.{same, exit_holds, exit_fits, is_from_values, is_from_psw}
+use Rattle.micro_ops.specs.Fits.{same, exit_holds, is_from_values, is_from_psw}
 use Rattle.micro_ops.specs.Leaving.{SignsComeFrom}
 use Rattle.micro_ops.specs.Uses.{is_quad}
-use Rattle.micro_ops.specs.Meaning.{Temps, Standing, flag_of, traps as is_trapping}
+use Rattle.micro_ops.specs.Meaning.{Standing, flag_of}
 use Rattle.micro_ops.specs.Values.{low}
 use Rattle.compute_sequences.specs.Overflow.{IsOverflow, overflows}
 use Rattle.compute_sequences.specs.Promises.{Leaves}
@@ -41,22 +33,18 @@ use Rattle.compute_sequences.specs.Registers.{may_change}
 use Rattle.compute_sequences.specs.declared.overflow.Arithmetic.TheVariants.{Sum, Difference}
 use Rattle.compute_sequences.proofs.OverflowLaws.{leaves_overflow}
 use Rattle.block_law.specs.CodeWords.{is_written, codes_written_by}
-use Rattle.block_law.specs.Placements.{Placement, state_behind, target}
-use Rattle.block_law.specs.Tidy.{is_kept}
-use Rattle.block_law.proofs.Kept.{state_kept}
-use Rattle.block_law.proofs.Rules.{Always, roomy, goes, passes, skips, traps, runs}
+use Rattle.block_law.specs.Placements.{Placement}
+use Rattle.block_law.proofs.Rules.{Always, roomy, goes, passes, skips, runs}
 use Rattle.program_codegen.specs.declared.lines.Line.{Line}
 use Rattle.program_codegen.specs.declared.points.Site.{Site}
-use Rattle.program_codegen.specs.Words.{plain, marked, holder, copy, trapping, load_address, width_of, overflow_made, overflow_register, tells_overflow, may_overflow, load_pc, overflow_lines, tested_lines, may_trap, trap_lines}
+use Rattle.program_codegen.specs.Words.{plain, holder, copy, load_address, width_of, overflow_made, overflow_register, tells_overflow, may_overflow, load_pc, may_trap}
 use Rattle.program_codegen.specs.Programs.{IsExit, is_narrow}
-use Rattle.program_codegen.proofs.Numbers.{both, same_bits, copied}
-use Rattle.program_codegen.proofs.Walk.{Within, next, stands, is_inside, row_words, row_rest, row_length, plain_length}
+use Rattle.program_codegen.proofs.Numbers.{same_bits, copied}
+use Rattle.program_codegen.proofs.Walk.{Within, next, stands, is_inside, row_words, row_rest, row_length}
 use Rattle.program_codegen.proofs.Computing.{any_kind}
-use Rattle.program_codegen.proofs.Accessing.{put_at, put_other}
-use Rattle.program_codegen.proofs.Coded.{Coded, left_is, coded_still, bit_of}
+use Rattle.program_codegen.proofs.Accessing.{put_other}
+use Rattle.program_codegen.proofs.Coded.{Coded, bit_of}
 use Rattle.program_codegen.proofs.Exiting.{exit_value, loads}
-use Rattle.program_codegen.proofs.Rows.{made_short}
-use Rattle.program_codegen.proofs.Endings.{pc_short}
 
 -- ---- whether it overflowed
 -- V of the state that is left

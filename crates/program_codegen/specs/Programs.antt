@@ -1,9 +1,7 @@
 -- What is asked of the programs that have blocks, one operation after the other.
-use Rattle.std.specs.Prelude.{◌≡◌, ℕ, ◌<◌, ◌^◌, ◌==◌, ◌&&◌, ◌||◌, not, Bool, true, false, List, [], ◌∷◌, if◌then◌else◌, flat_map}
+use Rattle.std.specs.Prelude.{◌≡◌, ℕ, ◌<◌, ◌^◌, ◌==◌, not, Bool, true, false, List, [], ◌∷◌, if◌then◌else◌, flat_map}
 use Rattle.std.specs.List.{list_any}
 use Rattle.vt_words.specs.Quad.{IsCount}
-use Rattle.vax_form.specs.declared.instr.Size.{Size}
-use Rattle.vax_form.specs.declared.instr.Size.TheVariants.{Byte, Word, Long, Quad}
 use Rattle.exception_records.specs.Codes.{all_ready, is_ready}
 use Rattle.exception_records.specs.declared.rules.CodeRule.{CodeRule}
 use Rattle.exception_records.specs.declared.rules.CodeRule.TheVariants as rules

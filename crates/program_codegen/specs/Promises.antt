@@ -1,5 +1,5 @@
 -- What a block promises wherever it comes to stand.
-use Rattle.std.specs.Prelude.{◌≡◌, ℕ, ◌≤◌, ◌==◌, Bool, true, List, length, if◌then◌else◌}
+use Rattle.std.specs.Prelude.{◌≡◌, ℕ, ◌≤◌, ◌==◌, true, List, length, if◌then◌else◌}
 use Rattle.vax_form.specs.PageTable.{IsPageTable}
 use Rattle.vax_form.specs.Ranges.{IsInRange}
 use Rattle.vax_form.specs.Tree.{Tree}

@@ -1,4 +1,4 @@
-use Rattle.std.proofs.Common.{◌≡◌, ℕ, ◌≤◌, length, map, false, sym, subst, rules}
+use Rattle.std.proofs.Common.{◌≡◌, ℕ, map, false, sym, subst}
 use Rattle.std.specs.Prelude.{All}
 use Rattle.exception_records.specs.Blocks.{BlockValue}
 use Rattle.block_law.specs.Blocks.{IsBlockOf}
