@@ -2,6 +2,7 @@
 -- temporaries 0 to 5, and R27 is scratch.
 -- Alpha Architecture Reference Manual, "Call Privileged Architecture Library": the numbers are this system's own.
 use Rattle.std.specs.Prelude.{ℕ, pos, ◌+◌, Bool, true, false, List, [], ◌∷◌, ◌++◌, length, map, Option, Some, None, unwrap_or, if◌then◌else◌}
+use Rattle.vax_form.specs.declared.instr.Instr.{Instr}
 use Rattle.vax_form.specs.declared.instr.Size.{Size}
 use Rattle.vax_form.specs.declared.instr.Size.TheVariants as sizes
 use Rattle.vax_form.specs.declared.instr.Width.{Width}
@@ -18,9 +19,11 @@ use Rattle.exception_records.specs.Points.{Entry}
 use Rattle.exception_records.specs.declared.points.Point.{Point}
 use Rattle.exception_records.specs.declared.rules.CodeRule.{CodeRule}
 use Rattle.exception_records.specs.declared.rules.CodeRule.TheVariants as rules
+use Rattle.exception_records.specs.declared.rules.Rules.{Rules}
 use Rattle.micro_ops.specs.LeftOut.{is_left_out}
 use Rattle.micro_ops.specs.declared.codes.CodeSource.{CodeSource}
 use Rattle.micro_ops.specs.declared.codes.CodeSource.TheVariants as sources
+use Rattle.micro_ops.specs.declared.codes.CodeSources.{CodeSources}
 use Rattle.micro_ops.specs.declared.program.Exit.{Exit}
 use Rattle.micro_ops.specs.declared.program.Exit.TheVariants.{Next, Fixed, Computed, Choice, Service, Breakpoint}
 use Rattle.micro_ops.specs.declared.program.Micro.{Micro}
@@ -194,3 +197,8 @@ block_of lines = record { words = words_of lines; exits = exits_from 0 lines; po
 
 abbrev pub block_lines : Site → (codes : List AlphaInstr) → List Micro → List Line
 block_lines site codes program = with_first (point_of site) (program_lines site codes program)
+
+-- the block of an instruction's program
+abbrev pub program_block : Instr → CodeSources → List Micro → (codes : List AlphaInstr) → (before behind : Rules) → BlockValue
+program_block instr sources program codes before behind =
+    block_of (block_lines (record { at = instr.at; after = instr.after; sources = sources; before = before; behind = behind }) codes program)

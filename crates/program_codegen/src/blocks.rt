@@ -5,7 +5,7 @@ ghost use Rattle.micro_ops.specs.Fits.{fits};
 ghost use Rattle.block_law.specs.Blocks.{IsBlockOf};
 ghost use Rattle.block_law.specs.CodeWords.{LeavesCodes};
 ghost use Rattle.block_law.specs.Tidy.{codes_written};
-ghost use Rattle.program_codegen.specs.Words.{block_lines, block_of};
+ghost use Rattle.program_codegen.specs.Words.{block_lines, block_of, program_block};
 ghost use Rattle.program_codegen.specs.Programs.{AllRanged, AllFitWords, ReadsReady, LeavesReady, KeepsTogether, is_narrow, addresses_of};
 ghost use Rattle.program_codegen.specs.Promises.{HasRules, CompilesProgram};
 
@@ -64,6 +64,8 @@ pub fn block(
     ensures written { IfOk result (λ block. codes_written block.words ≡ codes_written codes.now) }
     // Wherever it stands, it does what the program means.
     ensures means { IfOk result (CompilesProgram instr.now sources program.now before behind) }
+    // It is a function of the arguments.
+    ensures words { IfOk result (λ block. block ≡ program_block instr.now sources program.now codes.now before behind) }
 {
     let site = Site {
         at: instr.at,
