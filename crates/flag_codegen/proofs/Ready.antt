@@ -55,7 +55,7 @@ sources_are_written (operations.ExtractField signed) h = absurd (cc h)
 sources_are_written operations.InsertField h = absurd (cc h)
 sources_are_written (operations.Case width) h = absurd (cc h)
 sources_are_written (operations.Long operation) h = absurd (cc h)
-sources_are_written operation h = refl
+sources_are_written _ h = refl
 
 -- ---- what is ready
 -- a code that isn't written, and is live, is wanted before

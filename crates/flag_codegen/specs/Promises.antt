@@ -44,9 +44,9 @@ LiveAreReady = (operation : Operation) (live : Flags) (before : Rules) → class
 -- the rules behind each instruction of a run, where these codes are live behind each
 abbrev pub rules_along : (run : List Operation) → (live : List Flags) → (before : Rules) → List Rules
 rules_along [] lives before = []
-rules_along (operation ∷ run) [] before = []
-rules_along (operation ∷ run) (live ∷ lives) before =
-    let behind = rules_behind (sources_of operation) live before in behind ∷ rules_along run lives behind
+rules_along (first ∷ run) [] before = []
+rules_along (first ∷ run) (live ∷ lives) before =
+    let behind = rules_behind (sources_of first) live before in behind ∷ rules_along run lives behind
 
 abbrev pub AreReadyAlong : (lives : List Flags) → List Rules → Type 0
 AreReadyAlong (live ∷ lives) (rules ∷ rest) = AreReady live rules × AreReadyAlong lives rest
@@ -55,7 +55,7 @@ AreReadyAlong _ _ = ⊥
 
 abbrev pub AreTranslated : List Operation → Type 0
 AreTranslated [] = Unit {0}
-AreTranslated (operation ∷ run) = (class_of_operation operation ≡ Translated) × AreTranslated run
+AreTranslated (first ∷ run) = (class_of_operation first ≡ Translated) × AreTranslated run
 
 -- Along a run of translated instructions before which all codes are ready, the codes that are live behind each are ready
 -- there; all are behind the last.
