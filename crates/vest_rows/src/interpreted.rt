@@ -297,3 +297,15 @@ fn starts_with_registers(rt: HostRuntime) -> Result<(), Fail> {
     assert!(rt; is_left(&left, Status::Ok, &[0x41], "thread 0 exit 00000041\n"));
     Ok(())
 }
+
+// An image of version 2 with one section at 0 of 4,194,305 bytes.
+#[test]
+fn refuses_too_many_bytes(rt: HostRuntime) -> Result<(), Fail> {
+    let mut file = b"VXIM".to_vec(rt.alloc())?;
+    file.extend_from_slice(&[2, 0, 1, 0, 1, 0, 0, 0])?;
+    push_longwords(&mut file, &[0; 16])?;
+    push_longwords(&mut file, &[0, 4_194_305, 0, 1])?;
+    let left = call(&rt, "run x", File::Bytes(&file), Outside::Sound)?;
+    assert!(rt; is_left(&left, Status::Refused, &[], "refused image 9 4194816\n"));
+    Ok(())
+}

@@ -86,7 +86,13 @@ fn refuses(rt: HostRuntime) -> Result<(), Fail> {
         (File::Changed(0, &[]), "refused image 1 0\n"),
         (File::Changed(58, &[]), "refused image 1 58\n"),
         (File::Changed(60, &[]), "refused image 11 59\n"),
+        (File::Changed(59, &[(4, 3)]), "refused image 3 3\n"),
         (File::Changed(59, &[(6, 0)]), "refused image 4\n"),
+        (File::Changed(59, &[(6, 17)]), "refused image 5 17\n"),
+        (
+            File::Changed(59, &[(4, 2), (6, 33)]),
+            "refused image 5 33\n",
+        ),
         (overlap, "refused image 8 0 1\n"),
         (File::Changed(36, &sizes), "refused image 9 1049088\n"),
     ];
