@@ -13,5 +13,5 @@ mod plans;
 mod ranges;
 mod rows;
 mod table;
-#[cfg(test)]
-mod tests;
+
+pub use lowering::lower_operation;
