@@ -130,7 +130,6 @@ has_by fetch pc (i ∷ is) h =
       has_by fetch (pc + 1) is (λ j k e. let there : pc + suc j ≡ pc + 1 + j = omega arith in subst (λ x. fetch x ≡ Some k) there (h (suc j) k e)),
     )
 
-
 -- the registers between the loop's
 abbrev is_free : (register : ℕ) → Bool
 is_free register = nat_le 21 register && nat_lt register 28

@@ -20,6 +20,6 @@ meets_all address after small pages code laid few rules =
     let shape = is_block address after small in
     laws.is_block (copy_meaning pages after) code address (copy_value address after) shape laid
     (λ thread n state held regs lt is_state pc form shows.
-        copies address after pages code laid.first thread n state held regs few laid.stands is_state form
-        (subst (λ (r : Rules). Shows regs address r held state) (ready address shape.first shape.has_first) shows)
-        (laid.leads (copy_meaning pages after) thread state held all_ready rules))
+    copies address after pages code laid.first thread n state held regs few laid.stands is_state form
+    (subst (λ (r : Rules). Shows regs address r held state) (ready address shape.first shape.has_first) shows)
+    (laid.leads (copy_meaning pages after) thread state held all_ready rules))
