@@ -2,6 +2,9 @@
 -- instruction behind it.
 -- VAX Architecture Reference Manual, "Instruction Descriptions": "Condition Codes" and "Operation" of each instruction.
 use Rattle.std.specs.Prelude.{Bool, true, false}
+use Rattle.std.specs.Option.{option_map_or}
+use Rattle.vax_form.specs.Operation.{operation_at}
+use Rattle.vax_form.specs.declared.instr.Instr.{Instr}
 use Rattle.vax_form.specs.declared.state.Flags.{Flags}
 use Rattle.vax_form.specs.declared.operation.Condition.{Condition}
 use Rattle.vax_form.specs.declared.operation.Condition.TheVariants.{NotEqual, Equal, Greater, LessOrEqual, GreaterOrEqual, Less, GreaterUnsigned, LessOrEqualUnsigned, OverflowClear, OverflowSet, CarryClear, CarrySet}
@@ -111,3 +114,7 @@ code_use_of JumpToSubroutine = may_jump none none
 code_use_of ReturnFromSubroutine = may_jump none none
 code_use_of (Case width) = may_jump none all
 code_use_of (Long operation) = record { reads = none; writes = written_by_long operation; ends = long_ends operation }
+
+-- what an instruction does to the codes; one without an operation leaves them
+unfoldable pub use_of : Instr → CodeUse
+use_of instr = option_map_or code_use_of (operation_at instr.opcode) (goes_on none none)

@@ -5,11 +5,12 @@ use Rattle.std.proofs.lemmas.List.FromFn.{get_or-map-range_with_len, length-map-
 use Rattle.vax_form.specs.declared.instr.Instr.{Instr}
 use Rattle.vax_form.specs.declared.state.Flags.{Flags}
 use Rattle.cc_liveness.specs.Liveness.{live_behind, live_codes, wanted_by}
+use Rattle.cc_liveness.specs.Uses.{use_of}
 use Rattle.exception_records.specs.Codes.{all_ready}
 use Rattle.exception_records.specs.declared.rules.Rules.{Rules}
 use Rattle.code_runs.specs.declared.codes.InstrCodes.{InstrCodes}
 use Rattle.code_runs.specs.Runs.{AreInOrder, Follow, IsRun, instr_at}
-use Rattle.code_runs.specs.Codes.{AreCodes, codes_along, codes_at, codes_of, instruction_codes, live_at, no_codes, rules_before, run_codes, use_of}
+use Rattle.code_runs.specs.Codes.{AreCodes, codes_along, codes_at, codes_of, instruction_codes, live_at, no_codes, rules_before, run_codes}
 use Rattle.code_runs.proofs.Chains.{follow_is, rules_first, rules_more}
 
 module _ (instrs : List Instr) (order : AreInOrder instrs) where

@@ -10,7 +10,7 @@ use Rattle.vax_form.specs.declared.state.Flags.{Flags}
 use Rattle.cc_liveness.specs.Codes.{Code, all, holds, none}
 use Rattle.cc_liveness.specs.Codes as code
 use Rattle.cc_liveness.specs.Liveness.{live_behind, passes, wanted_before}
-use Rattle.cc_liveness.specs.Uses.{code_use_of, goes_on}
+use Rattle.cc_liveness.specs.Uses.{code_use_of, goes_on, use_of}
 use Rattle.cc_liveness.specs.declared.uses.CodeUse.{CodeUse}
 use Rattle.micro_ops.specs.Sources.{from, sources_of}
 use Rattle.micro_ops.specs.declared.codes.CodeSource.TheVariants.{Kept}
@@ -22,7 +22,7 @@ use Rattle.flag_codegen.specs.Promises.{AreReady}
 use Rattle.flag_codegen.specs.Rules.{rules_behind}
 use Rattle.flag_codegen.proofs.Ready.{live_are_ready}
 use Rattle.code_runs.specs.Runs.{AreInOrder, instr_at, joined_to, no_instr}
-use Rattle.code_runs.specs.Codes.{code_sources, codes_at, joined_behind, live_at, rules_before, use_of}
+use Rattle.code_runs.specs.Codes.{code_sources, codes_at, joined_behind, live_at, rules_before}
 use Rattle.code_runs.specs.Promises.{AreTranslated, RulesAlwaysMeet, RulesMeet}
 use Rattle.code_runs.proofs.Places.{same_place}
 use Rattle.code_runs.proofs.Joined.{joined, joined_alone, joined_is_behind, none_is_behind}

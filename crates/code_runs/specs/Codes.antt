@@ -8,8 +8,7 @@ use Rattle.vax_form.specs.declared.instr.Instr.{Instr}
 use Rattle.vax_form.specs.declared.state.Flags.{Flags}
 use Rattle.cc_liveness.specs.Codes.{none}
 use Rattle.cc_liveness.specs.Liveness.{live_behind, live_codes, wanted_by}
-use Rattle.cc_liveness.specs.Uses.{code_use_of, goes_on}
-use Rattle.cc_liveness.specs.declared.uses.CodeUse.{CodeUse}
+use Rattle.cc_liveness.specs.Uses.{use_of}
 use Rattle.micro_ops.specs.Sources.{from, sources_of}
 use Rattle.micro_ops.specs.declared.codes.CodeSource.TheVariants.{Kept}
 use Rattle.micro_ops.specs.declared.codes.CodeSources.{CodeSources}
@@ -18,10 +17,6 @@ use Rattle.exception_records.specs.declared.rules.Rules.{Rules}
 use Rattle.flag_codegen.specs.Rules.{rules_behind}
 use Rattle.code_runs.specs.declared.codes.InstrCodes.{InstrCodes}
 use Rattle.code_runs.specs.Runs.{instr_at, joined_to, IsRun}
-
--- what an instruction does to the codes; one without an operation leaves them
-unfoldable pub use_of : Instr → CodeUse
-use_of instr = option_map_or code_use_of (operation_at instr.opcode) (goes_on none none)
 
 -- where the codes that it writes come from
 unfoldable pub code_sources : Instr → CodeSources

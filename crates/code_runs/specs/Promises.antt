@@ -1,4 +1,5 @@
 -- What holds of the runs of instructions, and of the condition codes along them.
+use Rattle.cc_liveness.specs.Uses.{use_of}
 use Rattle.std.specs.Prelude.{◌≡◌, ◌≢◌, ◌<◌, ℕ, true, All, Contains, List, None, length}
 use Rattle.vax_form.specs.Row.{class_at}
 use Rattle.vax_form.specs.declared.instr.Instr.{Instr}
@@ -6,7 +7,7 @@ use Rattle.vax_form.specs.declared.row.Class.TheVariants.{Translated}
 use Rattle.exception_records.specs.Codes.{all_ready}
 use Rattle.flag_codegen.specs.Promises.{AreReady}
 use Rattle.code_runs.specs.Runs.{AreInOrder, instr_at, joined_to, IsRun}
-use Rattle.code_runs.specs.Codes.{codes_at, use_of}
+use Rattle.code_runs.specs.Codes.{codes_at}
 
 -- the instruction at the place is in a run, and in no other
 pub record IsInOneRun (instrs : List Instr) (place : ℕ) : Type 0 where

@@ -8,23 +8,10 @@ use Rattle.vax_form.specs.Operation.{operation_at}
 use Rattle.vax_form.specs.declared.instr.Instr.{Instr}
 use Rattle.vax_form.specs.declared.operation.Operation.{Operation}
 use Rattle.vax_form.specs.declared.operation.Operation.TheVariants.{Jump, JumpToSubroutine}
-use Rattle.flow_discovery.specs.Flow.{branch_target, fixed_address, operand_of}
 use Rattle.flow_discovery.specs.Reach.{has}
+use Rattle.vax_form.specs.Targets.{branch_target, fixed_address, operand_of}
 
 -- ---- where control goes
--- the address of a JMP or JSB whose operand fixes it
-unfoldable pub jump_target : Instr → Operation → Option ℕ
-jump_target instr Jump = fixed_address (operand_of instr 0)
-jump_target instr JumpToSubroutine = fixed_address (operand_of instr 0)
-jump_target instr _ = None
-
-unfoldable pub jump_of : Instr → Option ℕ
-jump_of instr = option_and_then (jump_target instr) (operation_at instr.opcode)
-
--- the addresses of the branches of an instruction, and of its jump
-unfoldable pub fixed_targets : Instr → List ℕ
-fixed_targets instr = filter_map branch_target instr.operands ++ option_to_list (jump_of instr)
-
 -- ---- instructions by their places in a list
 -- behind the last no instruction stands
 abbrev pub no_instr : Instr

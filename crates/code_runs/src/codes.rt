@@ -1,6 +1,7 @@
 // The condition codes of each instruction of a list.
 ghost use Rattle.std.specs.Prelude.{◌≡◌, ◌<◌, IfOk, IfSome, ℕ, length, slice_index_or};
 ghost use Rattle.cc_liveness.specs.Codes.{none};
+ghost use Rattle.cc_liveness.specs.Uses.{use_of};
 ghost use Rattle.exception_records.specs.Codes.{all_ready};
 ghost use Rattle.code_runs.specs.Runs.{AreInOrder, joined_to};
 ghost use Rattle.code_runs.specs.Entrances.{AreEntrances};
@@ -22,7 +23,7 @@ pub struct InstrCodes {
     pub behind: Rules,
 }
 
-ghost use Rattle.code_runs.specs.Codes.{AreCodes, code_sources, codes_at, instruction_codes, joined_behind, live_at, no_codes, use_of};
+ghost use Rattle.code_runs.specs.Codes.{AreCodes, code_sources, codes_at, instruction_codes, joined_behind, live_at, no_codes};
 
 const NO_CODES: Flags = Flags {
     n: false,

@@ -1,15 +1,15 @@
 -- The addresses to which control may go on from an instruction, as far as its code shows them.
 -- VAX Architecture Reference Manual, "Control Instructions" and "Procedure Call Instructions".
-use Rattle.std.specs.Prelude.{ℕ, ◌+◌, ◌*◌, Bool, true, false, List, [], ◌∷◌, ◌++◌, Option, Some, None, option_map, option_and_then, nat_lt, slice_index_or, if◌then◌else◌}
+use Rattle.std.specs.Prelude.{ℕ, ◌+◌, ◌*◌, Bool, true, false, List, [], ◌∷◌, ◌++◌, Option, Some, None, option_map, option_and_then, nat_lt, if◌then◌else◌}
 use Rattle.std.specs.List.{filter_map, range_with_len}
 use Rattle.std.specs.Option.{option_map_or, option_to_list}
 use Rattle.vax_form.specs.Grammar.{extended, wrapped}
 use Rattle.vax_form.specs.Operation.{operation_at}
 use Rattle.vax_form.specs.Pages.{code_byte_at}
-use Rattle.vax_form.specs.declared.instr.Base.TheVariants.{Fixed}
+use Rattle.vax_form.specs.Targets.{branch_target, fixed_address, operand_of}
 use Rattle.vax_form.specs.declared.instr.Instr.{Instr}
 use Rattle.vax_form.specs.declared.instr.Operand.{Operand}
-use Rattle.vax_form.specs.declared.instr.Operand.TheVariants.{Place, Target, Unused, Value}
+use Rattle.vax_form.specs.declared.instr.Operand.TheVariants.{Value}
 use Rattle.vax_form.specs.declared.instr.Size.TheVariants.{Word}
 use Rattle.vax_form.specs.declared.operation.LongOperation.TheVariants.{CallGeneral, CallStack, Return}
 use Rattle.vax_form.specs.declared.operation.Operation.{Operation}
@@ -29,16 +29,6 @@ falls_through (Case width) = false
 falls_through _ = true
 
 -- ---- addresses that the operands name
-
--- the address of a branch displacement
-abbrev pub branch_target : Operand → Option ℕ
-branch_target (Target address) = Some address
-branch_target _ = None
-
--- the address of an operand that is absolute or relative, neither deferred nor indexed
-abbrev pub fixed_address : Operand → Option ℕ
-fixed_address (Place (Fixed address false) None) = Some address
-fixed_address _ = None
 
 -- a procedure begins with its entry mask, a word
 abbrev pub behind_mask : ℕ → ℕ
@@ -73,9 +63,6 @@ case_addresses pages table (Value base) (Value limit) =
 case_addresses pages table base limit = []
 
 -- ---- the instruction
-
-abbrev pub operand_of : Instr → ℕ → Operand
-operand_of instr number = slice_index_or instr.operands number Unused
 
 -- the addresses that jumps, calls and CASE give
 unfoldable pub jump_addresses : Pages → Instr → Operation → List ℕ

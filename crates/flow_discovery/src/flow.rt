@@ -3,7 +3,8 @@ ghost use Rattle.std.specs.List.{filter_map};
 ghost use Rattle.std.specs.Option.{option_to_list};
 ghost use Rattle.vax_form.specs.Grammar.{extended};
 ghost use Rattle.vax_form.specs.declared.instr.Size.TheVariants.{Word};
-ghost use Rattle.flow_discovery.specs.Flow.{branch_target, case_addresses, falls_through, fixed_address, goes_on, jump_addresses, table_addresses, table_limit, table_target, word_at};
+ghost use Rattle.flow_discovery.specs.Flow.{case_addresses, falls_through, goes_on, jump_addresses, table_addresses, table_limit, table_target, word_at};
+ghost use Rattle.vax_form.specs.Targets.{branch_target, fixed_address};
 
 use std::alloc::{AllocError, Global};
 use vax_form::{Base, Instr, LongOperation, Operand, Operation, Pages, operation_of};

@@ -1,20 +1,28 @@
 -- What a lowered program has to meet: it does what the instruction does, the temporaries hold what its condition codes
--- come from where it leaves, and it fits a block.
-use Rattle.std.specs.Prelude.{◌≡◌, ℕ, true, List}
+-- come from where it leaves, it fits a block, and it reads no other code and goes nowhere else than the instruction.
+use Rattle.std.specs.Prelude.{◌≡◌, ◌⊎◌, ◌<◌, ◌==◌, ℕ, Bool, true, false, All, List, Some, nat_eq, if◌then◌else◌}
+use Rattle.std.specs.List.{list_any}
+use Rattle.std.specs.Option.{option_map_or}
+use Rattle.vax_form.specs.Operation.{operation_at}
 use Rattle.vax_form.specs.State.{IsState}
+use Rattle.vax_form.specs.Targets.{fixed_targets}
 use Rattle.vax_form.specs.Tree.{Same}
 use Rattle.vax_form.specs.declared.instr.Instr.{Instr}
 use Rattle.vax_form.specs.declared.instr.Operand.{Operand}
 use Rattle.vax_form.specs.declared.instr.Operand.TheVariants as operands
 use Rattle.vax_form.specs.declared.operation.Operation.{Operation}
 use Rattle.vax_form.specs.declared.pages.Pages.{Pages}
+use Rattle.vax_form.specs.declared.state.Flags.{Flags}
 use Rattle.vax_form.specs.declared.state.VaxState.{VaxState}
 use Rattle.vax_meaning.specs.Evaluation.{operand}
 use Rattle.vax_meaning.specs.Instructions.{tree_for}
+use Rattle.cc_liveness.specs.Uses.{use_of}
+use Rattle.micro_ops.specs.Exits.{addresses_of, leaves_computed}
 use Rattle.micro_ops.specs.Fits.{fits}
 use Rattle.micro_ops.specs.Leaving.{CodesAgree}
 use Rattle.micro_ops.specs.Meaning.{program_tree}
 use Rattle.micro_ops.specs.Sources.{sources_of}
+use Rattle.micro_ops.specs.Uses.{reads_flag}
 use Rattle.micro_ops.specs.declared.codes.CodeSources.{CodeSources}
 use Rattle.micro_ops.specs.declared.program.Micro.{Micro}
 use Rattle.operand_programs.specs.Pieces.{service, IsLong}
@@ -42,3 +50,25 @@ IsLongOperand operand = Unit {0}
 -- so are all addresses in the operands of an instruction with at most four
 abbrev pub AreLongOperands : Instr → Type 0
 AreLongOperands instr = IsLongOperand (operand instr 0) × IsLongOperand (operand instr 1) × IsLongOperand (operand instr 2) × IsLongOperand (operand instr 3)
+
+-- ---- the codes that a program reads, and where it leaves
+-- the code of a flag is in the set
+abbrev pub holds_flag : (flag : ℕ) → Flags → Bool
+holds_flag flag set = if flag == 0 then set.n else if flag == 1 then set.z else if flag == 2 then set.v else set.c
+
+-- control goes on behind the instruction, or where that may jump to one of its fixed targets
+abbrev pub GoesTo : Instr → (address : ℕ) → Type 0
+GoesTo instr address = (address ≡ instr.after) ⊎ (((use_of instr).ends ≡ true) × (list_any (nat_eq address) (fixed_targets instr) ≡ true))
+
+pub record KeepsTo (instr : Instr) (program : List Micro) : Type 0 where
+  -- it reads no other codes than the instruction
+  pub reads : (flag : ℕ) → flag < 4 → list_any (reads_flag flag) program ≡ true → holds_flag flag (use_of instr).reads ≡ true
+  -- it leaves to where the instruction goes on
+  pub exits : All (GoesTo instr) (addresses_of instr.after program)
+  -- it leaves to an address that it computes only where the instruction may jump
+  pub computed : list_any leaves_computed program ≡ true → (use_of instr).ends ≡ true
+
+-- ---- the program of an instruction
+pub record IsLowered (instr : Instr) (program : List Micro) : Type 0 where
+  pub lowers : (operation : Operation) → operation_at instr.opcode ≡ Some operation → Lowers operation instr program
+  pub keeps : KeepsTo instr program

@@ -2,6 +2,7 @@ pub mod Values
 pub mod Course
 pub mod Meaning
 pub mod Uses
+pub mod Exits
 pub mod LeftOut
 pub mod WordCounts
 pub mod Known

@@ -3,7 +3,7 @@ use Rattle.std.specs.Prelude.{ℕ, ◌==◌, ◌&&◌, ◌||◌, Bool, true, fal
 use Rattle.vax_form.specs.declared.instr.Size.{Size}
 use Rattle.vax_form.specs.declared.instr.Size.TheVariants.{Quad}
 use Rattle.micro_ops.specs.declared.program.Arg.{Arg}
-use Rattle.micro_ops.specs.declared.program.Arg.TheVariants.{Temp}
+use Rattle.micro_ops.specs.declared.program.Arg.TheVariants.{Flag, Temp}
 use Rattle.micro_ops.specs.declared.program.Exit.{Exit}
 use Rattle.micro_ops.specs.declared.program.Exit.TheVariants.{Computed, Choice, Service}
 use Rattle.micro_ops.specs.declared.program.Micro.{Micro}
@@ -83,3 +83,11 @@ abbrev pub leaves_longword : Micro → Bool
 leaves_longword (Compute to op size a b) = not (is_quad size) && not (is_sign_extension op)
 leaves_longword (Read to place count) = nat_le count 4
 leaves_longword operation = false
+
+abbrev pub is_flag : (flag : ℕ) → Arg → Bool
+is_flag flag (Flag number) = number == flag
+is_flag flag arg = false
+
+abbrev pub reads_flag : (flag : ℕ) → Micro → Bool
+reads_flag flag (Compute to op size a b) = takes (is_flag flag) op a b
+reads_flag flag operation = false

@@ -28,7 +28,7 @@ use Rattle.micro_ops.specs.declared.program.MicroOp.TheVariants.{Move, SignExten
 use Rattle.micro_ops.specs.Fits.{argument_fits, computation_fits, holding_of}
 use Rattle.micro_ops.specs.Known.{held, holds, is_something, is_committed, has_flag, forgotten, behind_write}
 use Rattle.micro_ops.specs.Meaning.{Temps, Standing, with_temp, with_value, value_of_arg, flag_of}
-use Rattle.micro_ops.specs.Uses.{is_unary, is_select, leaves_longword, takes}
+use Rattle.micro_ops.specs.Uses.{is_unary, is_select, leaves_longword, takes, is_flag}
 use Rattle.micro_ops.specs.Values.{low, computed, value_from}
 use Rattle.compute_sequences.specs.Promises.{Leaves, IsComputed, MayCompute}
 use Rattle.compute_sequences.specs.Registers.{IsArgument, IsTarget, register_at, value_at, may_change}
@@ -42,7 +42,7 @@ use Rattle.block_law.proofs.Rules.{Always, runs}
 use Rattle.program_codegen.specs.declared.lines.Line.{Line}
 use Rattle.program_codegen.specs.declared.points.Site.{Site}
 use Rattle.program_codegen.specs.Words.{plain, holder}
-use Rattle.program_codegen.specs.Programs.{is_flag, rule_of}
+use Rattle.program_codegen.specs.Programs.{rule_of}
 use Rattle.program_codegen.proofs.Numbers.{both, all_four, below_of, extended_fits, same_bits}
 use Rattle.program_codegen.proofs.Knowing.{SameChanges, write_changes, written_one, written_others}
 use Rattle.program_codegen.proofs.Walk.{Within, row_words, row_length, is_inside}

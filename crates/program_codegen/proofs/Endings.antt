@@ -23,10 +23,11 @@ use Rattle.micro_ops.specs.declared.program.Exit.TheVariants as exits
 use Rattle.micro_ops.specs.Fits.{same, exit_fits, sources_fit, is_from_values, is_from_psw, signs_are_held, carry_is_held}
 use Rattle.block_law.specs.CodeWords.{is_written, may_be_written}
 use Rattle.block_law.specs.Tidy.{is_kept, register_written, may_fault, keeps_until, writes_register}
+use Rattle.micro_ops.specs.Exits.{exit_addresses}
 use Rattle.program_codegen.specs.declared.lines.Line.{Line}
 use Rattle.program_codegen.specs.declared.points.Site.{Site}
 use Rattle.program_codegen.specs.Words.{plain, marked, holder, copy, point_of, raising, trapping, exit_lines, load_address, overflow_made, overflow_register, load_pc, overflow_lines, tested_lines, may_overflow, may_trap, trap_lines, departing, leaving, words_of}
-use Rattle.program_codegen.specs.Programs.{IsExit, KeepsTogether, exit_addresses}
+use Rattle.program_codegen.specs.Programs.{IsExit, KeepsTogether}
 use Rattle.program_codegen.proofs.Numbers.{all_four}
 use Rattle.program_codegen.proofs.Walk.{plain_length}
 use Rattle.program_codegen.proofs.Shapes.{EachFits, each_append, exit_each, plain_fits, call_fits, is_local, row_fits}

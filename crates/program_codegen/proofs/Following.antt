@@ -33,7 +33,7 @@ use Rattle.micro_ops.specs.Known.{holds, held, behind_write, behind_access, behi
 use Rattle.micro_ops.specs.LeftOut.{is_left_out, is_low, is_used}
 use Rattle.micro_ops.specs.Leaving.{CodesComeFrom}
 use Rattle.micro_ops.specs.Meaning.{Standing, Left, with_temp, with_value, with_codes, value_of_arg, locked_count, course_of, leaves_by}
-use Rattle.micro_ops.specs.Uses.{leaves_longword, takes}
+use Rattle.micro_ops.specs.Uses.{leaves_longword, takes, reads_flag, is_flag}
 use Rattle.micro_ops.specs.Values.{computed}
 use Rattle.byte_sequences.specs.Words.{read_code, write_code, locked_code}
 use Rattle.compute_sequences.specs.Words.{compute_code}
@@ -42,7 +42,7 @@ use Rattle.block_law.proofs.Rules.{Always, roomy}
 use Rattle.program_codegen.specs.declared.lines.Line.{Line}
 use Rattle.program_codegen.specs.declared.points.Site.{Site}
 use Rattle.program_codegen.specs.Words.{plain, marked, holder, copy, probing, raising, leaving, departing, trap_lines, lines_of, program_lines}
-use Rattle.program_codegen.specs.Programs.{HasWords, IsExit, ReadsReady, LeavesReady, reads_flag, is_flag, rule_of}
+use Rattle.program_codegen.specs.Programs.{HasWords, IsExit, ReadsReady, LeavesReady, rule_of}
 use Rattle.program_codegen.proofs.Numbers.{both}
 use Rattle.program_codegen.proofs.Knowing.{walk_fits, nothing_behind, write_changes, written_others}
 use Rattle.program_codegen.proofs.Walk.{Within, next, row_rest, row_length}

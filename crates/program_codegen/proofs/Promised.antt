@@ -14,10 +14,11 @@ use Rattle.micro_ops.specs.WordCounts.{program_words}
 use Rattle.block_law.specs.Blocks.{IsBlockOf}
 use Rattle.block_law.specs.CodeWords.{LeavesCodes}
 use Rattle.block_law.specs.Tidy.{codes_written}
+use Rattle.micro_ops.specs.Exits.{addresses_of}
 use Rattle.program_codegen.specs.declared.lines.Line.{Line}
 use Rattle.program_codegen.specs.declared.points.Site.{Site}
 use Rattle.program_codegen.specs.Words.{point_of, with_first, words_of, block_of, block_lines, program_lines}
-use Rattle.program_codegen.specs.Programs.{AllRanged, AllFitWords, AllHaveWords, ReadsReady, LeavesReady, KeepsTogether, is_narrow, addresses_of}
+use Rattle.program_codegen.specs.Programs.{AllRanged, AllFitWords, AllHaveWords, ReadsReady, LeavesReady, KeepsTogether, is_narrow}
 use Rattle.program_codegen.specs.Promises.{HasRules, CompilesProgram}
 use Rattle.program_codegen.proofs.Numbers.{all_three}
 use Rattle.program_codegen.proofs.Starting.{flags_same}

@@ -32,10 +32,11 @@ use Rattle.compute_sequences.specs.Registers.{may_change}
 use Rattle.compute_sequences.proofs.WholeLaws.{computed_length, computed_encodable, computed_writes}
 use Rattle.block_law.specs.CodeWords.{may_be_written}
 use Rattle.block_law.specs.Tidy.{may_fault}
+use Rattle.micro_ops.specs.Exits.{addresses_of, exit_addresses}
 use Rattle.program_codegen.specs.declared.lines.Line.{Line}
 use Rattle.program_codegen.specs.declared.points.Site.{Site}
 use Rattle.program_codegen.specs.Words.{plain, marked, holder, copy, probing, raising, leaving, program_lines, words_of}
-use Rattle.program_codegen.specs.Programs.{HasWords, AllHaveWords, KeepsTogether, IsExit, addresses_of, exit_addresses}
+use Rattle.program_codegen.specs.Programs.{HasWords, AllHaveWords, KeepsTogether, IsExit}
 use Rattle.program_codegen.proofs.Numbers.{both, all_three, all_four, all_five}
 use Rattle.program_codegen.proofs.Knowing.{walk_fits, nothing_behind, write_changes}
 use Rattle.program_codegen.proofs.Walk.{plain_length}

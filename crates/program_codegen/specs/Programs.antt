@@ -6,7 +6,8 @@ use Rattle.exception_records.specs.Codes.{all_ready, is_ready}
 use Rattle.exception_records.specs.declared.rules.CodeRule.{CodeRule}
 use Rattle.exception_records.specs.declared.rules.CodeRule.TheVariants as rules
 use Rattle.exception_records.specs.declared.rules.Rules.{Rules}
-use Rattle.micro_ops.specs.Uses.{is_unary, is_quad, takes}
+use Rattle.micro_ops.specs.Exits.{leaves_computed}
+use Rattle.micro_ops.specs.Uses.{is_unary, is_quad, reads_flag}
 use Rattle.micro_ops.specs.LeftOut.{is_left_out}
 use Rattle.micro_ops.specs.declared.codes.CodeSources.{CodeSources}
 use Rattle.micro_ops.specs.declared.program.Arg.{Arg}
@@ -24,21 +25,9 @@ use Rattle.program_codegen.specs.Words.{holder}
 abbrev pub rule_of : (flag : ℕ) → Rules → CodeRule
 rule_of flag rules = if flag == 0 then rules.n else if flag == 1 then rules.z else if flag == 2 then rules.v else rules.c
 
-abbrev pub is_flag : (flag : ℕ) → Arg → Bool
-is_flag flag (arguments.Flag number) = number == flag
-is_flag flag arg = false
-
-abbrev pub reads_flag : (flag : ℕ) → Micro → Bool
-reads_flag flag (Compute to op size a b) = takes (is_flag flag) op a b
-reads_flag flag operation = false
-
 -- a code that the program reads stands in its register
 abbrev pub ReadsReady : Rules → List Micro → Type 0
 ReadsReady before program = (flag : ℕ) → flag < 4 → list_any (reads_flag flag) program ≡ true → is_ready (rule_of flag before) ≡ true
-
-abbrev pub leaves_computed : Micro → Bool
-leaves_computed (Leave (Computed temp)) = true
-leaves_computed operation = false
 
 -- where it goes to an address that it computes, all codes are ready
 abbrev pub LeavesReady : Rules → List Micro → Type 0
@@ -55,23 +44,6 @@ is_narrow (rules.Sub size) = not (is_quad size)
 is_narrow rule = true
 
 -- ---- exits
--- the addresses to which an exit goes, but for one that is computed
-abbrev pub exit_addresses : (after : ℕ) → Exit → List ℕ
-exit_addresses after Next = after ∷ []
-exit_addresses after (Fixed address) = address ∷ []
-exit_addresses after (Computed temp) = []
-exit_addresses after (Choice when taken other) = taken ∷ other ∷ []
-exit_addresses after (Service temp) = after ∷ []
-exit_addresses after Breakpoint = []
-
-abbrev pub addresses_left : (after : ℕ) → Micro → List ℕ
-addresses_left after (Leave exit) = exit_addresses after exit
-addresses_left after operation = []
-
--- where the program leaves
-abbrev pub addresses_of : (after : ℕ) → List Micro → List ℕ
-addresses_of after program = flat_map (addresses_left after) program
-
 -- ---- each operation
 -- its temporary has a register, and its addresses are longwords
 abbrev pub IsExit : Exit → Type 0

@@ -5,8 +5,9 @@ ghost use Rattle.micro_ops.specs.Fits.{fits};
 ghost use Rattle.block_law.specs.Blocks.{IsBlockOf};
 ghost use Rattle.block_law.specs.CodeWords.{LeavesCodes};
 ghost use Rattle.block_law.specs.Tidy.{codes_written};
+ghost use Rattle.micro_ops.specs.Exits.{addresses_of};
 ghost use Rattle.program_codegen.specs.Words.{block_lines, block_of, program_block};
-ghost use Rattle.program_codegen.specs.Programs.{AllRanged, AllFitWords, ReadsReady, LeavesReady, KeepsTogether, is_narrow, addresses_of};
+ghost use Rattle.program_codegen.specs.Programs.{AllRanged, AllFitWords, ReadsReady, LeavesReady, KeepsTogether, is_narrow};
 ghost use Rattle.program_codegen.specs.Promises.{HasRules, CompilesProgram};
 
 use crate::lines::{block_of, mark_first};

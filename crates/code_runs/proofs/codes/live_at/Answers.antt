@@ -1,8 +1,8 @@
 use Rattle.std.proofs.Common.{◌∙◌, sym, ap}
 use Rattle.cc_liveness.specs.Liveness.{live_behind}
+use Rattle.cc_liveness.specs.Uses.{use_of}
 use Rattle.vax_form.specs.declared.state.Flags.{Flags}
 use Rattle.cc_liveness.specs.declared.uses.CodeUse.{CodeUse}
-use Rattle.code_runs.specs.Codes.{use_of}
 use Rattle.code_runs.specs.Runs.{instr_at}
 use Rattle.code_runs.proofs.Chains.{live_found, live_last}
 use Rattle.code_runs.proofs.codes.live_at.Goals as goal

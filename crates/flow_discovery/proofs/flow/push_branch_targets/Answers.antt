@@ -1,8 +1,8 @@
 use Rattle.std.proofs.Common.{◌∙◌, ◌++◌, ap, arith}
 use Rattle.std.specs.Option.{option_to_list}
 use Rattle.vax_form.specs.declared.instr.Operand.TheVariants.{Unused}
-use Rattle.flow_discovery.specs.Flow.{branch_target}
 use Rattle.flow_discovery.proofs.Pushed.{pushed_item}
+use Rattle.vax_form.specs.Targets.{branch_target}
 use Rattle.flow_discovery.proofs.flow.push_branch_targets.Goals as goal
 
 pub loop-operand-preserved : goal.loop-operand-preserved

@@ -1,6 +1,6 @@
 use Rattle.std.proofs.Common.{◌≡◌, ◌++◌, take}
 use Rattle.std.specs.List.{filter_map}
-use Rattle.flow_discovery.specs.Flow.{branch_target}
+use Rattle.vax_form.specs.Targets.{branch_target}
 use Rattle.flow_discovery.proofs.flow.push_branch_targets.Given as goal
 
 abbrev pub invariant-loop-operand : goal.invariant-loop-operand
