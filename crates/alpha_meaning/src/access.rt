@@ -1,3 +1,4 @@
+// Accesses to memory: their kinds, their bytes, and how what is loaded is extended.
 ghost use Rattle.std.specs.Prelude.{◌≡◌, ◌%◌, ◌<◌, ◌↔◌, IsTrue};
 ghost use Rattle.alpha_meaning.specs.Memory.{stores};
 

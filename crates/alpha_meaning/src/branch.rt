@@ -1,3 +1,4 @@
+// Conditional and unconditional branches.
 ghost use Rattle.std.specs.Prelude.{◌≡◌};
 ghost use Rattle.alpha_meaning.specs.Act.{taken, links};
 

@@ -1,3 +1,4 @@
+// What byte manipulation makes of an operand in one quadword or in two.
 ghost use Rattle.alpha_meaning.specs.ByteLaws.{Extracts, Joins, Replaces, ReplacesFirst, ReplacesSecond};
 
 use alpha_encode::OperateOp;

@@ -1,3 +1,4 @@
+// Memory instructions: their addresses, and the accesses that they ask for.
 ghost use Rattle.std.specs.Prelude.{◌≡◌, ◌<◌, ◌≤◌};
 ghost use Rattle.vt_words.specs.Quad.{IsCount};
 ghost use Rattle.alpha_meaning.specs.Memory.{kind_of, bytes_of, extension_of, drops_low_bits, scale_of, address_of, access_of, extended};

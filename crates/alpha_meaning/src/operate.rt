@@ -1,3 +1,4 @@
+// The results of operate instructions.
 ghost use Rattle.std.specs.Prelude.{◌≡◌, ◌<◌};
 ghost use Rattle.alpha_meaning.specs.Result.{arithmetic_right, result_of};
 

@@ -1,3 +1,4 @@
+// The words of an interlocked change of a word or of a bit.
 ghost use Rattle.std.specs.Prelude.{◌≡◌, ◌≢◌, ◌≤◌, length, All, IfOk, true};
 ghost use Rattle.std.specs.List.{list_all};
 ghost use Rattle.alpha_encode.specs.Words.{IsEncodable};

@@ -1,3 +1,4 @@
+// The words that write an operand.
 ghost use Rattle.std.specs.Prelude.{◌≡◌, ◌≤◌, ◌++◌, length, All, IfOk, OnOk, true};
 ghost use Rattle.std.specs.List.{list_all};
 ghost use Rattle.vt_words.specs.Quad.{IsCount};

@@ -1,3 +1,4 @@
+// Which codes are live behind each instruction of a run.
 ghost use Rattle.std.specs.Prelude.{◌≡◌, ◌||◌, ◌&&◌, not, reverse, IfOk};
 ghost use Rattle.cc_liveness.specs.Liveness.{AreLive, RecursionIsLiveness, live_codes, wanted_before, live_behind};
 

@@ -1,3 +1,4 @@
+// Runs of a few instructions, by hand.
 use super::*;
 use std::test::Fail;
 use vax_form::{Flags, operation_of};

@@ -1,3 +1,4 @@
+// What each operation does to the condition codes.
 ghost use Rattle.std.specs.Prelude.{◌≡◌};
 ghost use Rattle.cc_liveness.specs.Codes.{all, none, all_but_carry};
 ghost use Rattle.cc_liveness.specs.Uses.{tested_by, written_by_binary, written_by_long, code_use_of};

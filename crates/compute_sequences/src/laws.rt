@@ -1,3 +1,4 @@
+// What holds of every computation.
 ghost use Rattle.compute_sequences.specs.Bounds.{ComputedFits};
 
 /// What is computed fits the size, and a quadword where the sign is extended: so it can be computed with again.

@@ -1,3 +1,4 @@
+// The block of an instruction before it is laid out.
 use crate::points::Point;
 use alpha_encode::AlphaInstr;
 use std::marker::Model;

@@ -1,3 +1,4 @@
+// Points: what a word of Alpha code tells of its VAX instruction.
 ghost use Rattle.std.specs.Prelude.{◌≡◌, IfErr, IfOk, OnOk};
 
 use crate::rules::Rules;

@@ -1,3 +1,4 @@
+// The VAX state that Alpha registers show.
 ghost use Rattle.std.specs.Prelude.{◌≡◌, ◌%◌, ◌^◌, slice_index};
 ghost use Rattle.exception_records.specs.Shown.{code_shown, codes_shown, psw_shown, shown};
 

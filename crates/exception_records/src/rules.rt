@@ -1,3 +1,4 @@
+// Rules by which a condition code is told from operands.
 ghost use Rattle.std.specs.Prelude.{◌≡◌, ◌<◌, ◌≤◌, ◌≤ℤ◌, ◌^◌, pos, neg_ℤ, ◌+ℤ◌, ◌-ℤ◌, not};
 ghost use Rattle.vt_words.specs.Values.{modulus, signed_value, fits};
 ghost use Rattle.vt_words.specs.Arithmetic.{coded_value};

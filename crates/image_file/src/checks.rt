@@ -1,3 +1,4 @@
+// What is checked of sections and entries once the tables are read.
 ghost use Rattle.std.specs.Prelude.{◌≡◌, ◌≤◌, ◌<◌, not, length, position, IfSome};
 ghost use Rattle.std.specs.List.{list_any};
 ghost use Rattle.image_file.specs.Rows.{is_sound, shares_page, has_code, first_overlap, total_bytes};

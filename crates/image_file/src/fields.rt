@@ -1,3 +1,4 @@
+// Little-endian numbers at places of a file.
 ghost use Rattle.std.specs.Prelude.{◌≡◌, ◌≤◌, ◌+◌, length, drop};
 ghost use Rattle.image_file.specs.Reading.{half, word};
 

@@ -1,3 +1,4 @@
+// The header, and where the tables stand behind it.
 ghost use Rattle.std.specs.Prelude.{◌≡◌, ◌≤◌, ◌<◌, ◌^◌, length, IfOk, OnOk};
 ghost use Rattle.image_file.specs.Reading.{rows_at, tables_end, counts_allowed, counts_of};
 

@@ -1,3 +1,4 @@
+// Images: their threads, sections and entries.
 ghost use Rattle.std.specs.Prelude.{◌≡◌, false, is_some};
 
 use crate::limits::FIRST_REGISTERS;

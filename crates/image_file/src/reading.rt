@@ -1,3 +1,4 @@
+// Reads an image file.
 ghost use Rattle.std.specs.Prelude.{◌≡◌, ◌≤◌, ◌<◌, ◌^◌, length, IfOk, Ok};
 ghost use Rattle.image_file.specs.Values.{ImageValue};
 ghost use Rattle.image_file.specs.Rows.{stored_bytes};

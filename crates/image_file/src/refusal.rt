@@ -1,3 +1,4 @@
+// Why a file is no image.
 ghost use Rattle.std.specs.Prelude.{◌≡◌};
 ghost use Rattle.image_file.specs.declared.refusal.ImageRefusal.TheVariants.{WantOfMemory};
 

@@ -1,3 +1,4 @@
+// The rows of the table of sections.
 ghost use Rattle.std.specs.Prelude.{◌≡◌};
 
 use crate::limits::ADDRESS_END;

@@ -1,3 +1,4 @@
+// The tables of threads, sections and entries.
 ghost use Rattle.std.specs.Prelude.{◌≡◌, ◌≤◌, ◌+◌, ◌*◌, length, drop, IfOk};
 ghost use Rattle.image_file.specs.Limits.{start_width};
 ghost use Rattle.image_file.specs.Reading.{word, first_in, start_in, row_in, table_in, tables_end, threads_in, rows_in, entries_in};

@@ -1,3 +1,4 @@
+// Writes an image file.
 ghost use Rattle.std.specs.Prelude.{◌≡◌, ◌++◌, length, true, map, IfOk, OnOk, Ok};
 ghost use Rattle.std.specs.List.{flat_map, list_all};
 ghost use Rattle.std.specs.Int.{w32, to_le_bytes};

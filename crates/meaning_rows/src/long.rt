@@ -1,3 +1,4 @@
+// Rows of long instructions, worked by hand.
 ghost use Rattle.std.specs.Prelude.{◌≡◌};
 
 use std::alloc::{AllocError, Global};

@@ -1,3 +1,4 @@
+// Rows of the values of micro computations.
 use micro_ops::{MicroOp, compute};
 use rows::VALUES;
 use std::alloc::Global;

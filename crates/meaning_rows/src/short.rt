@@ -1,3 +1,4 @@
+// Rows of programs of short instructions, worked by hand.
 ghost use Rattle.std.specs.Prelude.{◌≡◌};
 
 use std::alloc::{AllocError, Global};

@@ -1,3 +1,4 @@
+// Entries of the history: one access each.
 ghost use Rattle.std.specs.Prelude.{◌≡◌};
 ghost use Rattle.memory_core.specs.Kinds.{is_memory, writes, is_conditional};
 

@@ -1,3 +1,4 @@
+// The memory of an image, its input and output, and the history of all accesses.
 ghost use Rattle.std.specs.Prelude.{◌≡◌, ◌<◌, ◌≤◌, ◌++◌, ◌∷◌, [], ◌↔◌, ◌%◌, ◌-◌, ℕ, Some, true, false, is_some, length, reverse, IfOk, IfSome};
 ghost use Rattle.image_file.specs.Whole.{IsWhole};
 ghost use Rattle.vax_form.specs.Pages.{is_allowed};

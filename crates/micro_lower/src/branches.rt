@@ -1,3 +1,4 @@
+// Instructions that evaluate no operand: branches, BSB, RSB, NOP and BPT.
 ghost use Rattle.std.specs.Prelude.{◌≡◌, ◌↔◌, true, IfOk, IfSome, IsSome};
 ghost use Rattle.vax_form.specs.Grammar.{IsSpelled};
 ghost use Rattle.vax_form.specs.Operation.{operation_at};

@@ -1,3 +1,4 @@
+// Whether a program fits a block.
 ghost use Rattle.std.specs.Prelude.{◌≡◌, ◌&&◌, nat_le};
 ghost use Rattle.micro_ops.specs.Known.{at_start};
 ghost use Rattle.micro_ops.specs.Fits.{walk, is_ended, is_low_argument, is_low_exit, is_low_code, names_low, keeps_low, all_keep_low, most_words, fits};

@@ -1,3 +1,4 @@
+// Where the condition codes of an instruction come from.
 use vax_form::Size;
 
 /// Where an instruction's codes come from when it leaves. The operands of a rule are in the temporaries 0 and 1, and a

@@ -1,3 +1,4 @@
+// What holds of operands in parts, and of programs in pieces.
 ghost use Rattle.micro_ops.specs.Laws.{ReadsInOne, ReadsInTwo, WritesInOne, WritesInTwo, WalksJoined, NoneLeftOut, WordsJoined, WordsOfPiece, PieceKeepsLow};
 
 /// The laws of operands in memory: one within an aligned quadword is one reference, and one that crosses is two.

@@ -1,3 +1,4 @@
+// Which computations of a program have no words.
 ghost use Rattle.std.specs.Prelude.{◌≡◌, ℕ, ◌<◌, ◌≤◌, Bool, false, Some, List, slice_get, length, unwrap_or};
 ghost use Rattle.micro_ops.specs.LeftOut.{is_low, is_computed, is_needed, uses_now, uses_from, is_used, is_left_out, Tells};
 

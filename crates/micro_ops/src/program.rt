@@ -1,3 +1,4 @@
+// The operations of micro programs.
 use vax_form::Size;
 
 /// An argument of a computation.

@@ -1,3 +1,4 @@
+// The table of where each operation's condition codes come from.
 ghost use Rattle.std.specs.Prelude.{◌≡◌};
 ghost use Rattle.micro_ops.specs.Sources.{from, sources_of_binary, sources_of};
 

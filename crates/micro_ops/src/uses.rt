@@ -1,3 +1,4 @@
+// Which temporaries a micro operation reads and writes.
 ghost use Rattle.std.specs.Prelude.{◌≡◌};
 ghost use Rattle.micro_ops.specs.Uses.{is_unary, is_select, is_temp, is_code, leaves_through, reads, writes, replaces, is_codes, leaves_longword};
 

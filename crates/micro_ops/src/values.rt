@@ -1,3 +1,4 @@
+// What a computation gives.
 ghost use Rattle.std.specs.Prelude.{◌≡◌, ◌≤◌, ◌<◌, ◌-◌, ◌*◌, ◌/◌, ◌%◌, ◌^◌, pos, nat_lt, if◌then◌else◌};
 ghost use Rattle.vax_form.specs.Size.{bytes_of};
 ghost use Rattle.vt_words.specs.Values.{value_of};

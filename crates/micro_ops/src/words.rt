@@ -1,3 +1,4 @@
+// How many words a program counts.
 ghost use Rattle.std.specs.Prelude.{◌≡◌, ◌≤◌, min};
 ghost use Rattle.micro_ops.specs.WordCounts.{by_size, operation_words, argument_words, second_words, by_count, words_of, words_with, program_words};
 

@@ -1,3 +1,4 @@
+// Operand specifiers as micro operations, with the steps that they add to registers.
 ghost use Rattle.std.specs.Prelude.{◌≡◌, ◌≤◌, ◌++◌, [], IfOk, OnOk, ◌*◌, length, slice_index, All, ◌<◌};
 ghost use Rattle.vax_form.specs.Size.{bytes_of};
 ghost use Rattle.operand_programs.specs.Specifiers.{with_step, steps_behind, pointer_of, sum_into, address_program, scaled, index_program, place_program, steps_behind_operand, upper_half_program, register_program, read_program};

@@ -1,3 +1,4 @@
+// One operand of each way, and how many words it counts.
 ghost use Rattle.std.specs.Prelude.{◌≡◌};
 
 use super::*;

@@ -1,3 +1,4 @@
+// Operand specifiers by their addressing modes.
 ghost use Rattle.std.specs.Prelude.{◌≡◌, ◌<◌, ◌%◌};
 ghost use Rattle.vax_form.specs.GrammarModes.{base_of, extension_size, is_reserved_base, is_reserved_mode, operand_of};
 ghost use Rattle.operand_specifiers.specs.Answer.{FitsExtension};

@@ -1,3 +1,4 @@
+// Numbers in a list of bytes.
 ghost use Rattle.std.specs.Prelude.{◌≡◌, ◌+◌, ◌*◌, ◌^◌, ◌<◌, ◌≤◌, length, IfSome};
 ghost use Rattle.vax_form.specs.Size.{bytes_of};
 ghost use Rattle.vax_form.specs.Grammar.{extended, wrapped};

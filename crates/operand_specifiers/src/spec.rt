@@ -1,3 +1,4 @@
+// Reads one operand specifier.
 ghost use Rattle.std.specs.Prelude.{◌≡◌, ◌+◌, ◌≤◌, ◌<◌, ◌↔◌, ℕ, length, drop, IfSome, IfOk};
 ghost use Rattle.vax_form.specs.GrammarReading.{read_base, read_displacement, read_extension, read_general, read_specifier};
 ghost use Rattle.operand_specifiers.specs.Answer.{BeginsReserved, FitsSize, IsSpecified, IsUndecided, answer_of};

@@ -1,3 +1,4 @@
+// A thread's pass to a shared memory.
 ghost use Rattle.std.specs.Prelude.{◌≡◌, true, []};
 ghost use Rattle.memory_core.specs.Order.{own};
 

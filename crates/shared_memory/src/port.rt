@@ -1,3 +1,4 @@
+// A thread's way to a shared memory, as a memory.
 ghost use Rattle.std.specs.Prelude.{◌≡◌, ◌+◌, ◌-◌, ◌^◌, min};
 ghost use Rattle.memory_core.specs.Requests.{CanMake, MatchReply};
 ghost use Rattle.shared_memory.specs.Passes.{IsPassOf, number_of};

@@ -1,3 +1,4 @@
+// The order of a history.
 ghost use Rattle.std.specs.Prelude.{◌≡◌, IfOk};
 ghost use Rattle.system_model.specs.Counted.{is_counted, pick_of, order};
 

@@ -1,3 +1,4 @@
+// Translations, ranges of interpreted addresses, and how a processor ends.
 ghost use Rattle.std.specs.Prelude.{◌≡◌};
 ghost use Rattle.std.specs.List.{list_any};
 ghost use Rattle.system_model.specs.Ranges.{covers, word_for};

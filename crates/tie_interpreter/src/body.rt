@@ -1,3 +1,4 @@
+// What an operation does behind its operands, a reference at a time.
 ghost use Rattle.std.specs.Prelude.{◌≡◌, ◌<◌, length};
 ghost use Rattle.tie_operands.specs.Replies.{replies_of};
 

@@ -1,3 +1,4 @@
+// An instruction, a reference at a time.
 ghost use Rattle.std.specs.Prelude.{◌≡◌, []};
 ghost use Rattle.tie_interpreter.specs.Rest.{body_at, led, LeadsToBody};
 

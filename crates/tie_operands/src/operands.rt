@@ -1,3 +1,4 @@
+// The operands of an instruction, evaluated a reference at a time.
 ghost use Rattle.std.specs.Prelude.{◌≡◌, ◌<◌, ◌++◌, [], length};
 ghost use Rattle.tie_operands.specs.Replies.{list_of, replies_of};
 

@@ -1,3 +1,4 @@
+// A few replies, kept.
 ghost use Rattle.std.specs.Prelude.{◌≡◌, ◌<◌, ◌≤◌, ◌++◌, [], length};
 
 /// At most `MOST` replies, in order.

@@ -1,3 +1,4 @@
+// The operand specifiers of an instruction, one after the other.
 ghost use Rattle.std.specs.Prelude.{◌≡◌, ◌<◌};
 
 use vax_form::{Instr, Row, Stop};

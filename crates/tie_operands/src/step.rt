@@ -1,3 +1,4 @@
+// What a step of the interpreter comes to.
 ghost use Rattle.std.specs.Prelude.{◌≡◌};
 
 use vax_form::{End, Exception, Reference, Stop, VaxState};

@@ -1,3 +1,4 @@
+// What an instruction begins with behind its operands: a body, or strings.
 ghost use Rattle.std.specs.Prelude.{◌≡◌, not, nat_le};
 ghost use Rattle.vax_form.specs.declared.operation.LongOperation.TheVariants.{MoveCharacters, MoveCharactersFilled};
 ghost use Rattle.vax_meaning.specs.Play.{Plays, Uses};

@@ -1,3 +1,4 @@
+// Calls, lists of registers and INDEX: what they do behind their operands.
 ghost use Rattle.std.specs.Prelude.{◌≡◌, ◌<◌, length};
 ghost use Rattle.tie_operands.specs.Replies.{replies_of};
 

@@ -1,3 +1,4 @@
+// The next byte of a string.
 ghost use Rattle.vax_meaning.specs.Play.{Plays, Uses};
 ghost use Rattle.tie_strings.specs.Bytes.{next_byte};
 

@@ -1,3 +1,4 @@
+// MOVC3 and MOVC5: strings moved a byte at a time.
 ghost use Rattle.std.specs.Prelude.{◌≡◌, ◌∷◌, []};
 ghost use Rattle.vax_meaning.specs.Play.{Plays, Uses};
 

@@ -1,3 +1,4 @@
+// LOCC and SKPC: a string searched a byte at a time.
 ghost use Rattle.std.specs.Prelude.{◌≡◌, ◌∷◌, []};
 ghost use Rattle.vax_meaning.specs.Play.{Plays, Uses};
 

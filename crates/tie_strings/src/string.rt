@@ -1,3 +1,4 @@
+// An instruction with strings that is under way.
 ghost use Rattle.std.specs.Prelude.{◌≡◌, ◌∷◌, []};
 ghost use Rattle.vax_meaning.specs.Play.{Plays, Uses};
 

@@ -1,3 +1,4 @@
+// A long instruction, one reference at a time.
 ghost use Rattle.std.specs.Prelude.{◌≡◌, []};
 ghost use Rattle.tie_strings.specs.Whole.{closed_at, led, LeadsToBody};
 

@@ -1,3 +1,4 @@
+// What stands at an address.
 ghost use Rattle.std.specs.Prelude.{◌≡◌, ◌≤◌, length};
 ghost use Rattle.vax_form.specs.Grammar.{Found};
 ghost use Rattle.vax_form.specs.GrammarFound.{Stands, found, found_in};

@@ -1,3 +1,4 @@
+// The bytes that can be fetched from an address on.
 ghost use Rattle.std.specs.Prelude.{◌≡◌, ◌≤◌, take};
 ghost use Rattle.vax_form.specs.GrammarFound.{fetched};
 

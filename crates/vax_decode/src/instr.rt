@@ -1,3 +1,4 @@
+// Reads one instruction from bytes.
 ghost use Rattle.std.specs.Prelude.{◌≡◌, ◌+◌, ◌≤◌, length, drop};
 ghost use Rattle.vax_form.specs.GrammarReading.{read_specifiers};
 ghost use Rattle.vax_decode.specs.Reading.{instr_answer, types_of};

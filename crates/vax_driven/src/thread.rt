@@ -1,3 +1,4 @@
+// A thread behind a driven run.
 use vax_form::{Exception, VaxState};
 
 /// A thread as it stands after some instructions. It has exited where the last of them was the exit. It has raised the

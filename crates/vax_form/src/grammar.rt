@@ -1,3 +1,4 @@
+// Laws of the grammar of instructions.
 ghost use Rattle.vax_form.specs.GrammarLaws.{Decided, DecidedOnce, ReadBack};
 
 /// The laws of the grammar of instructions: to read the front of a list byte by byte is to decide what the list shows,

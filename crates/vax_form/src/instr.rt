@@ -1,3 +1,4 @@
+// Instructions, their operands and addressing modes.
 ghost use Rattle.std.specs.Prelude.{◌≡◌, ◌≤◌};
 ghost use Rattle.vax_form.specs.Size.{bytes_of, size_of};
 

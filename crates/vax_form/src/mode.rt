@@ -1,3 +1,4 @@
+// Addressing modes by the first byte of a specifier.
 ghost use Rattle.std.specs.Prelude.{◌≡◌};
 ghost use Rattle.vax_form.specs.GrammarModes.{mode_of, program_counter_mode, register_mode};
 

@@ -1,3 +1,4 @@
+// The table of opcodes.
 ghost use Rattle.std.specs.Prelude.{◌≡◌};
 ghost use Rattle.vax_form.specs.Operation.{operation_at, among, integer_opcodes, control_opcodes, mixed_opcodes, move_opcodes, bit_opcodes};
 

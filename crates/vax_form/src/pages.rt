@@ -1,3 +1,4 @@
+// The page table: which pages there are, and what may be done to them.
 ghost use Rattle.std.specs.Prelude.{◌≡◌, ◌≤◌, is_some, find};
 
 use std::marker::Model;

@@ -1,3 +1,4 @@
+// The operands of each operation, and its class.
 ghost use Rattle.std.specs.Prelude.{◌≡◌, ◌↔◌, [], ◌∷◌, IsNone};
 ghost use Rattle.vax_form.specs.Row.{row_with, operands_of_long, row_of_operation, row_at, class_of_operation, class_at, is_long_operation, is_long_at};
 

@@ -1,3 +1,4 @@
+// How scripts stop and end, and the laws of their trees.
 ghost use Rattle.vax_form.specs.After.{AfterWithMore};
 ghost use Rattle.vax_form.specs.Moments.{HandledIsSettled, HandledStaysInRange};
 ghost use Rattle.vax_form.specs.TreeLaws.{FeedingTwice, SeenOfTheRest, MoreReplies, ShowsTheOutcome, SameAnswers};

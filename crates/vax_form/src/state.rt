@@ -1,3 +1,4 @@
+// The state of a VAX thread.
 ghost use Rattle.std.specs.Prelude.{◌≡◌};
 
 /// The processor status longword of a thread is this and its low word: user mode, now and before.

@@ -1,3 +1,4 @@
+// The bytes of strings.
 ghost use Rattle.std.specs.Prelude.{◌≡◌, ◌<◌};
 ghost use Rattle.vax_form.specs.Pages.{first_bad};
 ghost use Rattle.vax_meaning.specs.Play.{Plays, Uses};

@@ -1,3 +1,4 @@
+// Procedure calls: CALLG, CALLS and RET.
 ghost use Rattle.std.specs.Prelude.{◌≡◌, ◌<◌};
 ghost use Rattle.vax_form.specs.Script.{changed};
 ghost use Rattle.vax_meaning.specs.Play.{Plays, Uses, view};

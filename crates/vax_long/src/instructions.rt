@@ -1,3 +1,4 @@
+// The table of long instructions.
 ghost use Rattle.std.specs.Prelude.{◌≡◌};
 ghost use Rattle.vax_meaning.specs.Play.{Plays, Uses};
 ghost use Rattle.vax_long.specs.Instructions.{long_body, long_script, long_operation, long_at};

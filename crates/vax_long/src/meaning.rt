@@ -1,3 +1,4 @@
+// What a long instruction does for some replies.
 ghost use Rattle.std.specs.Prelude.{◌≡◌};
 ghost use Rattle.vax_form.specs.Script.{Moment, run};
 ghost use Rattle.vax_form.specs.Tree.{run_outcome};

@@ -1,3 +1,4 @@
+// Lists of registers on the stack: PUSHR and POPR.
 ghost use Rattle.std.specs.Prelude.{◌≡◌, ◌<◌, ◌≤◌, ◌+◌, ◌*◌};
 ghost use Rattle.vax_form.specs.Script.{pure, when◌then◌else◌};
 ghost use Rattle.vax_meaning.specs.Play.{Plays, Uses};

@@ -1,3 +1,4 @@
+// Strings that are compared and searched: CMPC3, LOCC and SKPC.
 ghost use Rattle.std.specs.Prelude.{◌≡◌, ◌≤◌, IfOk, ◌*◌};
 ghost use Rattle.vax_meaning.specs.Play.{Plays, Uses};
 ghost use Rattle.vax_long.specs.Strings.{compare_bytes, compare_characters, stops_at, scan_bytes, scan_characters};

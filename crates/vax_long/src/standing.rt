@@ -1,3 +1,4 @@
+// Laws of the tree of what stands at an address.
 ghost use Rattle.vax_long.specs.TreeAt.{ShortStands, LongStands, ReservedStands, BadModeStands, PastStands};
 
 /// The tree of what stands at a PC: that of an instruction, long or not, or the fault where there is none.

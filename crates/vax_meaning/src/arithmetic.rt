@@ -1,3 +1,4 @@
+// Integer arithmetic and logical instructions.
 ghost use Rattle.std.specs.Prelude.{◌≡◌, ◌<◌, ◌*◌, ◌^◌, IfOk};
 ghost use Rattle.vt_words.specs.Values.{IsSize, modulus};
 ghost use Rattle.vax_meaning.specs.Play.{Plays, Uses};

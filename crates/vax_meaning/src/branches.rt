@@ -1,3 +1,4 @@
+// Branches, jumps and loops.
 ghost use Rattle.std.specs.Prelude.{◌≡◌, ◌<◌, ◌*◌, ◌^◌, false};
 ghost use Rattle.vax_form.specs.Size.{size_of, bytes_of};
 ghost use Rattle.vt_words.specs.Values.{IsSize, modulus};

@@ -1,3 +1,4 @@
+// The condition codes, and how an instruction ends.
 ghost use Rattle.std.specs.Prelude.{◌≡◌};
 ghost use Rattle.vax_form.specs.State.{with_pc};
 ghost use Rattle.vax_form.specs.Script.{changed};

@@ -1,3 +1,4 @@
+// Services: CHMK.
 ghost use Rattle.std.specs.Prelude.{◌≡◌, ◌<◌, ◌^◌};
 ghost use Rattle.vax_form.specs.Script.{ask};
 ghost use Rattle.vax_meaning.specs.Play.{Plays, Uses};

@@ -1,3 +1,4 @@
+// A script under way: its state, its pages and the replies that are left.
 ghost use Rattle.std.specs.Prelude.{◌≡◌, ℕ, ◌+◌, ◌*◌, ◌%◌, ◌^◌, ◌<◌, ◌≤◌};
 
 use vax_form::{Exception, Pages, Reference, Stop, VaxState};

@@ -1,3 +1,4 @@
+// Operands as their instruction uses them.
 ghost use Rattle.std.specs.Prelude.{◌≡◌, ◌<◌, ◌*◌, ◌^◌};
 ghost use Rattle.vax_form.specs.Size.{bytes_of};
 ghost use Rattle.vax_meaning.specs.Play.{Plays, Uses};

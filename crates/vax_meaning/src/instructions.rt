@@ -1,3 +1,4 @@
+// The table of what each operation does.
 ghost use Rattle.std.specs.Prelude.{◌≡◌};
 ghost use Rattle.vax_meaning.specs.Play.{Plays, Uses};
 ghost use Rattle.vax_meaning.specs.Instructions.{body, operation_script};

@@ -1,3 +1,4 @@
+// What an instruction does for some replies.
 ghost use Rattle.std.specs.Prelude.{◌≡◌, false};
 ghost use Rattle.vax_form.specs.Row.{is_long_at};
 ghost use Rattle.vax_form.specs.Script.{Moment, run};

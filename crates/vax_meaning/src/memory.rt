@@ -1,3 +1,4 @@
+// Checks and references of operands in memory.
 ghost use Rattle.std.specs.Prelude.{◌≡◌, ℕ, ◌+◌, ◌-◌, ◌*◌, ◌%◌, ◌^◌, ◌<◌, ◌≤◌, IfOk};
 ghost use Rattle.vax_form.specs.Script.{ask};
 ghost use Rattle.vax_meaning.specs.Play.{Plays, Uses};

@@ -1,3 +1,4 @@
+// Moves, comparisons and the processor status.
 ghost use Rattle.std.specs.Prelude.{◌≡◌, ◌<◌, ◌*◌, ◌^◌};
 ghost use Rattle.vax_form.specs.Size.{bytes_of, size_of};
 ghost use Rattle.vax_form.specs.Script.{changed};

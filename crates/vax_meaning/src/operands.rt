@@ -1,3 +1,4 @@
+// Where operands are, and how they are read and stored.
 ghost use Rattle.std.specs.Prelude.{◌≡◌, ℕ, ◌+◌, ◌-◌, ◌*◌, ◌%◌, ◌^◌, ◌<◌, ◌≤◌, IfOk};
 ghost use Rattle.vax_form.specs.Size.{bytes_of};
 ghost use Rattle.vax_form.specs.State.{register, with_register};

@@ -1,3 +1,4 @@
+// How many replies the parts of an instruction use.
 ghost use Rattle.vax_meaning.specs.Play.{Uses};
 ghost use Rattle.vax_meaning.specs.Fed.{Fed};
 ghost use Rattle.vax_meaning.specs.Evaluation.{find, obtain};

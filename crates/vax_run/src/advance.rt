@@ -1,3 +1,4 @@
+// A thread, an instruction further.
 ghost use Rattle.std.specs.Prelude.{◌≡◌, ◌≤◌, length, drop, Some};
 ghost use Rattle.vax_form.specs.Tree.{answer, retires};
 ghost use Rattle.vax_form.specs.declared.state.VaxState.{VaxState};

@@ -1,3 +1,4 @@
+// What an instruction comes to, with the replies that there are.
 ghost use Rattle.std.specs.Prelude.{◌≡◌, ◌≤◌, length};
 ghost use Rattle.vax_form.specs.Moments.{handled};
 ghost use Rattle.vax_form.specs.Tree.{answer, instruction_tree};

@@ -1,3 +1,4 @@
+// The memory of references.
 ghost use Rattle.std.specs.Prelude.{◌≡◌, ◌≤◌, ◌<◌, ◌^◌, ◌+◌, ◌-◌, ◌%◌, bit_and, bit_or, ℕ, [], IfOk, OnOk};
 ghost use Rattle.image_file.specs.Values.{ImageValue};
 ghost use Rattle.vax_meaning.specs.Made.{input_at, gets_by};

@@ -1,3 +1,4 @@
+// The threads driven by an order of references.
 ghost use Rattle.std.specs.Prelude.{◌≡◌, ◌≤◌, ℕ, IfOk, length};
 ghost use Rattle.image_file.specs.Whole.{IsWhole};
 ghost use Rattle.vax_run.specs.Values.{driven_value};

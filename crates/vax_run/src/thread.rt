@@ -1,3 +1,4 @@
+// One of the driven threads, with its replies.
 ghost use Rattle.std.specs.Prelude.{◌≡◌, ◌≤◌, ◌++◌, ◌∷◌, [], drop, length, option_map, IfSome, OnOk};
 ghost use Rattle.vax_form.specs.Tree.{answer};
 ghost use Rattle.vax_driven.specs.Threads.{wanted_at, wanted_in, fault_of, run_in, run_at};

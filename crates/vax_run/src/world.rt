@@ -1,3 +1,4 @@
+// All driven threads with their memory.
 ghost use Rattle.std.specs.Prelude.{◌≡◌, ◌≤◌, ◌+◌, ◌*◌, ◌++◌, [], List, length, option_map, reverse, map, IfOk, OnOk};
 ghost use Rattle.vax_driven.specs.Driven.{picked, runs_from, walk};
 ghost use Rattle.vax_meaning.specs.Made.{Made};

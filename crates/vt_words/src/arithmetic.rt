@@ -1,3 +1,4 @@
+// Sums, differences, products and quotients with their condition codes.
 ghost use Rattle.std.specs.Prelude.{◌≡◌, ◌<◌, ◌≤◌, ◌*◌, ◌^◌, unsigned_abs, pos, ◌+ℤ◌, ◌-ℤ◌, ◌*ℤ◌, int_div};
 ghost use Rattle.vt_words.specs.Values.{IsSize, modulus, bit, signed_value};
 ghost use Rattle.vt_words.specs.Arithmetic.{coded_value, sum_of, difference_of, negation_of, product_of, quotient_of};

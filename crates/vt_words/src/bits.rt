@@ -1,3 +1,4 @@
+// Shifts, rotation and logical operations on numbers of a few bytes.
 ghost use Rattle.std.specs.Prelude.{◌≡◌, ◌<◌, ◌≤◌, ◌*◌, ◌%◌, ◌^◌, pos, ◌*ℤ◌, bit_and, bit_or, bit_xor, unsigned_abs, min};
 ghost use Rattle.std.specs.Int.{int_div_euclid};
 ghost use Rattle.vt_words.specs.Values.{IsSize, modulus, signed_value};

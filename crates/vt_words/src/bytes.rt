@@ -1,3 +1,4 @@
+// Bytes of a quadword: masks, fields and byte manipulation.
 ghost use Rattle.std.specs.Prelude.{◌≡◌, ◌+◌, ◌*◌, ◌/◌, ◌%◌, ◌^◌, ◌<◌, ◌≤◌};
 ghost use Rattle.vt_words.specs.Quad.{spread, kept, cleared, ext_low, ext_high, ins_low, ins_high, msk_low, msk_high, field_of, with_field_of, sign_extended};
 

@@ -1,3 +1,4 @@
+// Conversion between sizes, and the extended product.
 ghost use Rattle.std.specs.Prelude.{◌≡◌, ◌<◌, ◌≤◌, ◌*◌, ◌/◌, ◌^◌, ◌↔◌, IsTrue, pos, neg_ℤ, ◌<ℤ◌, ◌+ℤ◌, ◌*ℤ◌, unsigned_abs};
 ghost use Rattle.vt_words.specs.Values.{IsSize, modulus, signed_value, value_of};
 ghost use Rattle.vt_words.specs.Arithmetic.{conversion_of, extended_product_of};

@@ -1,3 +1,4 @@
+// Laws of numbers that fit a size, as quadwords.
 ghost use Rattle.vt_words.specs.Extensions.{FitsByExtension, ExtendsToQuad, HasLowBytes, SumsAsQuads, DifferencesAsQuads, ProductsAsQuads};
 
 /// An integer fits so many bytes exactly where the extension of its low bytes is itself.

@@ -1,3 +1,4 @@
+// Numbers of a few bytes as signed numbers.
 ghost use Rattle.std.specs.Prelude.{◌≡◌, ◌*◌, ◌^◌, ◌<◌, ◌≤◌, neg_ℤ, pos, unsigned_abs};
 ghost use Rattle.vt_words.specs.Values.{IsSize, modulus, signed_value, fits, value_of};
 
