@@ -1,4 +1,4 @@
-// One operand of each way, and how many words it counts.
+// An operand that is read, and how many words it counts.
 ghost use Rattle.std.specs.Prelude.{◌≡◌};
 
 use super::*;
