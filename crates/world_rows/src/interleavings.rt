@@ -1,17 +1,16 @@
 // Every interleaving of the turns of two threads.
-ghost use Rattle.block_law.specs.Translations.{Meets};
 ghost use Rattle.image_file.specs.Whole.{IsWhole};
-ghost use Rattle.image_meaning.specs.Meant.{image_meaning};
+ghost use Rattle.world_rows.specs.Ready.{CanRun};
 
 use crate::driven::check_driven;
 use crate::images::{image_of, pairs_of};
 use crate::shown::bytes_text;
-use crate::worlds::{Limits, nothing_translated, pick, world_of};
+use crate::worlds::{Limits, Program, nothing_translated, pick, world_of};
 use anyhow::{Context, Result};
 use image_file::Image;
 use row_tally::{bytes, fields, longword};
 use std::alloc::{AllocError, Global};
-use system_model::{End, Translation};
+use system_model::End;
 use vest_core::World;
 
 /// The longest lists of picks.
@@ -24,20 +23,14 @@ const LIMITS: Limits = Limits {
 };
 
 /// The world behind a list of picks: thread 1 where a bit is set and thread 0 where it is not, from the lowest bit on.
-fn ran(
-    alloc: Global,
-    image: &Image,
-    translation: &Translation,
-    picks: u32,
-    turns: u32,
-) -> Result<World>
-    requires whole { IsWhole image.now }
-    requires meets { Meets (image_meaning image.now.pages) translation.now }
+fn ran(alloc: Global, program: Program<'_>, picks: u32, turns: u32) -> Result<World>
+    requires whole { IsWhole program.image.now }
+    requires meets { CanRun program }
 {
-    let mut world = world_of(alloc, image, translation, Vec::new(alloc), LIMITS)?;
+    let mut world = world_of(alloc, program, Vec::new(alloc), LIMITS)?;
     for turn in 0..turns.min(MOST_PICKS) {
         let thread = u8::from(picks >> turn & 1 == 1);
-        pick(&mut world, image, translation, thread)?;
+        pick(&mut world, program, thread)?;
     }
     Ok(world)
 }
@@ -85,9 +78,14 @@ fn outcomes_of(alloc: Global, image: &Image, length: u32, shown: Shown) -> Resul
     requires { IsWhole image.now }
 {
     let translation = nothing_translated(alloc, image)?;
+    let program = Program {
+        image,
+        translation: &translation,
+        ranges: &[],
+    };
     let mut outcomes = Vec::new(alloc);
     for picks in 0..1u32 << length.min(MOST_PICKS) {
-        let world = ran(alloc, image, &translation, picks, length)?;
+        let world = ran(alloc, program, picks, length)?;
         check_driven(alloc, image, &[], &world)?;
         if let Some(text) = left_text(alloc, &world, shown)? {
             count(&mut outcomes, text)?;

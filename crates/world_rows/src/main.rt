@@ -1,13 +1,14 @@
-//! Runs images turn by turn as the rows of data/turns.txt and data/interleavings.txt say, compares what is left with what
-//! stands there, and each world with the threads driven by the order of its history.
+//! Runs images turn by turn as the rows of data/turns.txt, data/interleavings.txt and data/modes.txt say, compares what is
+//! left with what stands there, and each world with the threads driven by the order of its history.
 //!
 //! `images` makes the image of a row, `worlds` picks processors, `driven` compares a world with the driven threads,
-//! `shown` says in text what is left, and `turns` and `interleavings` go through the files.
+//! `shown` says in text what is left, and `turns`, `interleavings` and `modes` go through the files.
 #![tactic(auto)]
 
 mod driven;
 mod images;
 mod interleavings;
+mod modes;
 mod shown;
 mod turns;
 mod worlds;
@@ -22,6 +23,7 @@ use std::fs;
 enum Topic {
     Turns,
     Interleavings,
+    Modes,
 }
 
 impl Topic {
@@ -29,6 +31,7 @@ impl Topic {
         match self {
             Topic::Turns => "turns.txt",
             Topic::Interleavings => "interleavings.txt",
+            Topic::Modes => "modes.txt",
         }
     }
 
@@ -36,6 +39,7 @@ impl Topic {
         match self {
             Topic::Turns => turns::answer(alloc, question),
             Topic::Interleavings => interleavings::answer(alloc, question),
+            Topic::Modes => modes::answer(alloc, question),
         }
     }
 }
@@ -67,7 +71,7 @@ fn run(rt: &(impl Print + AllocGlobal), topic: Topic, table: &str) -> Result<Tal
 
 fn main(rt: HostRuntime) -> Result<()> {
     let mut all = Tally::NONE;
-    for topic in [Topic::Turns, Topic::Interleavings] {
+    for topic in [Topic::Turns, Topic::Interleavings, Topic::Modes] {
         let table = fs::read_to_string(&rt, topic.file()).context(topic.file())?;
         all.add(run(&rt, topic, table.as_str())?);
     }

@@ -19,14 +19,23 @@ fn exception_text(alloc: Global, exception: Exception) -> Result<String, AllocEr
     }
 }
 
+/// How a processor ended.
+fn outcome_text(alloc: Global, end: Option<End>) -> Result<String, AllocError> {
+    match end {
+        Some(End::Exit(value)) => format!(in alloc; "exit {value:08X}"),
+        Some(End::Raised(exception)) => exception_text(alloc, exception),
+        Some(End::Spent) => String::from_str(alloc, "spent"),
+        None => String::from_str(alloc, "goes on"),
+    }
+}
+
 /// How a processor ended, and where it stands if that is no exit.
 fn end_text(alloc: Global, processor: &Processor) -> Result<String, AllocError> {
-    let mut text = match processor.end() {
-        Some(End::Exit(value)) => return format!(in alloc; "exit {value:08X}"),
-        Some(End::Raised(exception)) => exception_text(alloc, exception)?,
-        Some(End::Spent) => String::from_str(alloc, "spent")?,
-        None => String::from_str(alloc, "goes on")?,
-    };
+    let end = processor.end();
+    let mut text = outcome_text(alloc, end)?;
+    if let Some(End::Exit(_)) = end {
+        return Ok(text);
+    }
     let state = processor.shown();
     let psl = state.psl();
     write!(text, " pc {:08X} psl {psl:08X}", state.pc)?;
@@ -43,6 +52,37 @@ fn processor_text(alloc: Global, processor: &Processor) -> Result<String, AllocE
         text,
         " retired {retired} ties {ties} r0 {r0:08X} r1 {r1:08X}"
     )?;
+    Ok(text)
+}
+
+/// The whole state of a processor: PC, processor status, all registers, and how many instructions were retired.
+fn state_text(alloc: Global, processor: &Processor) -> Result<String, AllocError> {
+    let state = processor.shown();
+    let (psl, retired) = (state.psl(), processor.retired());
+    let mut text = format!(in alloc;
+        "pc {:08X} psl {psl:08X} retired {retired} registers",
+        state.pc
+    )?;
+    for number in 0..15 {
+        let register = state.register(number);
+        write!(text, " {register:X}")?;
+    }
+    Ok(text)
+}
+
+/// The ends of the processors and their whole states, with semicolons between.
+pub fn ends_text(alloc: Global, world: &World) -> Result<String, AllocError> {
+    let mut text = String::new(alloc);
+    for (thread, processor) in world.processors().iter().enumerate() {
+        if thread > 0 {
+            text.push_str("; ")?;
+        }
+        let end = outcome_text(alloc, processor.end())?;
+        let state = state_text(alloc, processor)?;
+        text.push_str(end.as_str())?;
+        text.push_str(" ")?;
+        text.push_str(state.as_str())?;
+    }
     Ok(text)
 }
 

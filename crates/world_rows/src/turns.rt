@@ -5,12 +5,11 @@ ghost use Rattle.world_rows.specs.Ready.{IsReady};
 use crate::driven::check_driven;
 use crate::images::{image_of, pairs_of};
 use crate::shown::{bytes_text, order_text, output_text, processors_text};
-use crate::worlds::{Limits, nothing_translated, pick_often, world_of};
+use crate::worlds::{Limits, Program, nothing_translated, pick_often, world_of};
 use anyhow::{Result, anyhow};
 use image_file::Image;
 use row_tally::{bytes, fields, longword, number};
 use std::alloc::Global;
-use system_model::Translation;
 use vest_core::World;
 
 /// The bytes of a field, none for `-`.
@@ -22,18 +21,13 @@ pub fn bytes_or_none(alloc: Global, field: &str) -> Result<Vec<u8>> {
 }
 
 /// Picks threads, each so many times.
-fn run(
-    world: &mut World,
-    image: &Image,
-    translation: &Translation,
-    picks: &[(u32, u32)],
-) -> Result<()>
-    requires { IsReady image.now translation.now world.old }
-    ensures { IsReady image.now translation.now world.new }
+fn run(world: &mut World, program: Program<'_>, picks: &[(u32, u32)]) -> Result<()>
+    requires { IsReady program world.old }
+    ensures { IsReady program.entry world.new }
 {
     for (thread, turns) in picks {
         match u8::try_from(*thread) {
-            Ok(thread) => pick_often(world, image, translation, thread, *turns)?,
+            Ok(thread) => pick_often(world, program, thread, *turns)?,
             Err(_) => return Err(anyhow!("no such thread")),
         }
     }
@@ -65,8 +59,13 @@ fn ran(
     requires { IsWhole image.now }
 {
     let translation = nothing_translated(alloc, image)?;
-    let mut world = world_of(alloc, image, &translation, input, limits)?;
-    run(&mut world, image, &translation, picks)?;
+    let program = Program {
+        image,
+        translation: &translation,
+        ranges: &[],
+    };
+    let mut world = world_of(alloc, program, input, limits)?;
+    run(&mut world, program, picks)?;
     Ok(world)
 }
 

@@ -4,12 +4,12 @@ ghost use Rattle.block_law.specs.Translations.{Meets};
 ghost use Rattle.image_file.specs.Whole.{IsWhole};
 ghost use Rattle.image_meaning.specs.Meant.{image_meaning};
 ghost use Rattle.world_rows.specs.Empty.{IsEmpty};
-ghost use Rattle.world_rows.specs.Ready.{IsReady};
+ghost use Rattle.world_rows.specs.Ready.{CanRun, IsReady};
 
 use anyhow::{Result, bail};
 use image_file::Image;
 use std::alloc::Global;
-use system_model::Translation;
+use system_model::{Range, Translation};
 use vest_core::{Turn, World};
 
 /// A translation of no instruction: everything is interpreted.
@@ -44,49 +44,69 @@ pub struct Limits {
     pub entries: u32,
 }
 
+/// What the threads of a world run: an image, its translation, and the addresses that they interpret.
+#[derive(Clone, Copy)]
+pub struct Program<'a> {
+    pub image: &'a Image,
+    pub translation: &'a Translation,
+    pub ranges: &'a [Range],
+}
+
 /// A world before its first turn.
 pub fn world_of(
     alloc: Global,
-    image: &Image,
-    translation: &Translation,
+    program: Program<'_>,
     input: Vec<u8>,
     limits: Limits,
 ) -> Result<World>
-    requires whole { IsWhole image.now }
-    requires meets { Meets (image_meaning image.now.pages) translation.now }
-    ensures { IfOk result (IsReady image.now translation.now) }
+    requires whole { IsWhole program.image.now }
+    requires meets { CanRun program }
+    ensures { IfOk result (IsReady program.entry) }
 {
-    let _ = &translation.words;
-    match World::new(alloc, image, input, limits.budget, limits.entries, 0) {
+    match World::new(
+        alloc,
+        program.image,
+        input,
+        limits.budget,
+        limits.entries,
+        0,
+    ) {
         Ok(world) => Ok(world),
         Err(_) => bail!("want of memory"),
     }
 }
 
 /// Gives a thread one turn.
-pub fn pick(world: &mut World, image: &Image, translation: &Translation, thread: u8) -> Result<Turn>
-    requires { IsReady image.now translation.now world.old }
-    ensures { IsReady image.now translation.now world.new }
+pub fn pick(world: &mut World, program: Program<'_>, thread: u8) -> Result<Turn>
+    requires { IsReady program world.old }
+    ensures { IsReady program.entry world.new }
 {
     if usize::from(thread) >= world.processors().len() {
         bail!("no such thread");
     }
-    Ok(world.pick(image, translation, &[], thread))
+    Ok(world.pick(program.image, program.translation, program.ranges, thread))
 }
 
 /// Gives a thread so many turns.
-pub fn pick_often(
-    world: &mut World,
-    image: &Image,
-    translation: &Translation,
-    thread: u8,
-    turns: u32,
-) -> Result<()>
-    requires { IsReady image.now translation.now world.old }
-    ensures { IsReady image.now translation.now world.new }
+pub fn pick_often(world: &mut World, program: Program<'_>, thread: u8, turns: u32) -> Result<()>
+    requires { IsReady program world.old }
+    ensures { IsReady program.entry world.new }
 {
     for _ in 0..turns {
-        pick(world, image, translation, thread)?;
+        pick(world, program, thread)?;
     }
     Ok(())
+}
+
+/// Gives a thread turns until it has ended, but at most so many.
+pub fn pick_to_its_end(world: &mut World, program: Program<'_>, thread: u8, most: u32) -> Result<()>
+    requires { IsReady program world.old }
+    ensures { IsReady program.entry world.new }
+{
+    for _ in 0..most {
+        if let Turn::Ended = pick(world, program, thread)? {
+            return Ok(());
+        }
+    }
+    bail!("a thread without an end")
 }

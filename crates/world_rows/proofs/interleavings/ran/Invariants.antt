@@ -3,4 +3,4 @@ use Rattle.world_rows.specs.Ready.{IsReady}
 use Rattle.world_rows.proofs.interleavings.ran.Given as goal
 
 abbrev pub invariant-loop-turn : goal.invariant-loop-turn
-invariant-loop-turn l = IsReady l.image l.translation l.world
+invariant-loop-turn l = IsReady l.program l.world

@@ -3,4 +3,4 @@ use Rattle.world_rows.specs.Ready.{IsReady}
 use Rattle.world_rows.proofs.turns.run.Given as goal
 
 abbrev pub invariant-loop-thread : goal.invariant-loop-thread
-invariant-loop-thread l = IsReady l.image l.translation l.world
+invariant-loop-thread l = IsReady l.program l.world

@@ -3,4 +3,4 @@ use Rattle.world_rows.specs.Ready.{IsReady}
 use Rattle.world_rows.proofs.worlds.pick_often.Given as goal
 
 abbrev pub invariant-loop : goal.invariant-loop
-invariant-loop l = IsReady l.image l.translation l.world
+invariant-loop l = IsReady l.program l.world

@@ -1,0 +1,76 @@
+#!/usr/bin/env python3
+"""Lists the definitions and lemmas that nothing cites, and the public items of each crate that no other crate uses."""
+import collections
+import pathlib
+import re
+import sys
+
+ROOT = pathlib.Path(__file__).resolve().parent.parent
+NAME = re.compile(r"[A-Za-z_][A-Za-z0-9_'-]*")
+# A definition or lemma of specs/ or proofs/, with its type; a record or a data type.
+HEAD = re.compile(r"^ *(?:(?:abbrev|unfoldable|opaque) +)?(?:pub +)?(?:(?:record|data) +)?([a-z_A-Z][A-Za-z0-9_'-]*) *(?:[:({].*)?$")
+DEFINED = re.compile(r"^(?:(?:abbrev|unfoldable|opaque) +)*(?:pub +)?(?:record +|data +)?([A-Za-z_][A-Za-z0-9_'-]*) +(?::|\(|\{)")
+ITEM = re.compile(r"^ *pub (?:const fn|fn|struct|enum|const|trait|type) ([A-Za-z_][A-Za-z0-9_]*)")
+# Files whose names the toolchain gives.
+GOALS = {"Answers.antt", "Invariants.antt", "Proof.antt"}
+
+
+def text_of(path):
+    lines = path.read_text().splitlines()
+    return [re.sub(r"(--|//).*$", "", line) for line in lines]
+
+
+def files(crate, suffix):
+    return [p for p in sorted(crate.rglob(f"*.{suffix}")) if "out" not in p.relative_to(crate).parts]
+
+
+def main():
+    crates = sorted(p for p in (ROOT / "crates").iterdir() if (p / "src").is_dir())
+    lines = {p: text_of(p) for c in crates for s in ("antt", "rt") for p in files(c, s)}
+    cited = collections.Counter()
+    for path, text in lines.items():
+        for line in text:
+            if re.match(r"^\s*(ghost )?(pub )?use ", line):
+                continue
+            cited.update(set(NAME.findall(line)))
+    dead = []
+    for path, text in lines.items():
+        if path.suffix != ".antt" or path.name in GOALS:
+            continue
+        own = collections.Counter()
+        heads = {}
+        for number, line in enumerate(text, 1):
+            found = DEFINED.match(line)
+            if found and " : " in line + " ":
+                heads.setdefault(found.group(1), number)
+        for line in text:
+            first = NAME.match(line)
+            if first and first.group(0) in heads:
+                own[first.group(0)] += 1
+                continue
+            found = DEFINED.match(line)
+            if found and found.group(1) in heads:
+                own[found.group(1)] += 1
+        for name, number in heads.items():
+            if cited[name] <= own[name]:
+                dead.append(f"{path.relative_to(ROOT)}:{number}: {name}")
+    unused = []
+    for crate in crates:
+        if (crate / "src" / "main.rt").exists():
+            continue
+        others = "\n".join("\n".join(t) for p, t in lines.items() if crate not in p.parents and p.suffix == ".rt")
+        words = set(NAME.findall(others))
+        for path in files(crate, "rt"):
+            for number, line in enumerate(lines[path], 1):
+                found = ITEM.match(line)
+                if found and found.group(1) not in words:
+                    unused.append(f"{path.relative_to(ROOT)}:{number}: {found.group(1)}")
+    print(f"cited by nothing: {len(dead)}")
+    print("\n".join(dead))
+    print(f"public, and used by no other crate: {len(unused)}")
+    print("\n".join(unused))
+    return 1 if dead else 0
+
+
+if __name__ == "__main__":
+    sys.exit(main())
