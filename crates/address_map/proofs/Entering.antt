@@ -1,9 +1,8 @@
 -- The pages and numbers of a list with one pair more.
 use Rattle.std.proofs.Common.{◌≡◌, ◌≢◌, ℕ, zero, suc, ◌+◌, ◌-◌, ◌*◌, ◌/◌, ◌%◌, ◌<◌, ◌≤◌, Bool, true, false, cond, List, [], ◌∷◌, ◌++◌, Option, Some, None, length, take, replicate, get_or, set, refl, subst, sym, ap, ◌∙◌, arith, eqb, nat_lt, ltb-true, ltb-false}
-use Rattle.std.specs.Prelude.{find, slice_get, option_map, ◌||◌, ◌==◌}
-use Rattle.std.specs.List.{list_any, AllAdjacentBelow}
+use Rattle.std.specs.Prelude.{find, option_map, ◌||◌, ◌==◌}
 use Rattle.std.proofs.lemmas.Bool.{eq-eqb, ne_eqb, eqb-true, eqb-false}
-use Rattle.std.proofs.lemmas.List.{length-take-le, get_or-take, get_or_default, length-set, get_or-replicate, length-replicate, take_more, take_all}
+use Rattle.std.proofs.lemmas.List.{length-take-le, get_or-take, get_or_default, length-set, get_or-replicate, length-replicate, take_more}
 use Rattle.address_map.specs.Pairs.{Pair, KeysRise, word_at}
 use Rattle.address_map.specs.Tables.{has_page, count_below, first_page, end_page, page_span, TablesValue, tables, opened, IsInside, Holds, HasTables, AreTablesOf}
 use Rattle.address_map.proofs.Counting.{and_page, and_here, count_nothing, count_small}
@@ -77,15 +76,6 @@ no_word (q ∷ qs) x none = go (eqb (q.0 / 512) (x / 512)) refl none (no_word qs
     go false e none rest =
         let other : eqb q.0 x ≡ false = ne_eqb q.0 x (λ same. eqb-false (q.0 / 512) (x / 512) e (ap (λ n. n / 512) same)) in
         ap (λ b. option_map (λ (r : Pair). r.1) (cond b (Some q) (find (λ (r : Pair). eqb r.0 x) qs))) other ∙ rest none
-
-pub had_page : (ps : List Pair) (x : ℕ) (k : ℕ) (d : Pair) → k < length ps → (get_or ps k d).0 ≡ x → has_page ps (x / 512) ≡ true
-had_page [] x k d h e = absurd (omega arith)
-had_page (q ∷ qs) x zero d h e = ap (λ b. b || has_page qs (x / 512)) (eq-eqb (q.0 / 512) (x / 512) (ap (λ n. n / 512) e))
-had_page (q ∷ qs) x (suc k) d h e = ap (λ b. (q.0 / 512 == x / 512) || b) (had_page qs x k d (omega arith) e) ∙ always (q.0 / 512 == x / 512)
-  where
-    always : (b : Bool) → (b || true) ≡ true
-    always true = refl
-    always false = refl
 
 -- ---- the first and the last page
 

@@ -10,7 +10,7 @@ use Rattle.alpha_meaning.specs.declared.access.AlphaAccess.{AlphaAccess}
 use Rattle.alpha_meaning.specs.State.{Alpha, Regs, at_place}
 use Rattle.alpha_meaning.specs.Memory.{kind_of}
 use Rattle.alpha_meaning.specs.Act.{Does, Goes, Asks, Calls, act, finished, memory_act_by, memory_finish_by}
-use Rattle.alpha_meaning.specs.Pieces.{quad_of, loaded, changed, Allowed, Kinds, Terms, Fetch, Plan, Access, Over, bind, Wants, Wanted, Nothing, wants, Suits, retry_steps, Phase, Plain, Held, Failed, Made, Accesses, Acts, Steps, Forth, phase_after, Piece, Choose, Ended, Runs, piece}
+use Rattle.alpha_meaning.specs.Pieces.{quad_of, loaded, changed, Allowed, Kinds, Plan, Access, Over, Wants, Wanted, Nothing, wants, Suits, retry_steps, Phase, Plain, Held, Failed, Made, Accesses, Acts, Steps, Forth, phase_after, Piece, Choose, Ended, Runs, piece}
 
 -- ---- one step, from one tree to another
 -- the second tree wants the same access, for which the same kinds may be made, and related trees follow
@@ -202,32 +202,6 @@ further Plain from from' pc pc' le h = h
 further (Held _ _ _) from from' pc pc' le h = h
 further (Failed _) from from' pc pc' le h = (let at = h.0 in omega arith, h.1)
 
-bind_covers : {A B : Type 0} (kinds : Kinds) (f : A → Plan B) (t : Plan A) (u : Plan B) → u ≡ bind t f → Covers (λ (t : Plan A) (u : Plan B). u ≡ bind t f) (wants kinds t) (wants kinds u)
-bind_covers {A} {B} kinds f t u e = subst (λ x. Covers (λ (t : Plan A) (u : Plan B). u ≡ bind t f) (wants kinds t) (wants kinds x)) (sym e) (self t)
-  where
-    self : (t : Plan A) → Covers (λ (t : Plan A) (u : Plan B). u ≡ bind t f) (wants kinds t) (wants kinds (bind t f))
-    self (Access quad leaves rest) = (refl, λ kind bytes may. may, λ before lt. (refl, refl))
-    self (Over a) = tt
-
-pub then_runs : {A B : Type 0} (fetch : Fetch) (terms : Terms) (from mid to more : ℕ) (Ends : A → Regs → Type 0) (Ends' : B → Regs → Type 0) (f : A → Plan B) → mid ≤ to
-    → (n : ℕ) → ((m spare : ℕ) (a : A) (regs : Regs) → m ≤ n → more ≤ spare → Ends a regs → Runs (piece fetch terms from to) Ends' m Plain spare (at_place regs mid) (f a))
-    → (phase : Phase) (spare : ℕ) (c : Alpha) (t : Plan A) → Runs (piece fetch terms from mid) Ends n phase spare c t → Runs (piece fetch terms from to) Ends' n phase (spare + more) c (bind t f)
-then_runs {A} {B} fetch terms from mid to more Ends Ends' f le n k phase spare c t h =
-    let p = piece fetch terms from mid in
-    let w = piece fetch terms from to in
-    onto p Ends (λ (t : Plan A) (u : Plan B). u ≡ bind t f) (wants terms.kinds) (Runs w Ends') terms.bonus more (omega arith) (bind_covers terms.kinds f) (no_steps w Ends')
-    (λ n phase spare c u in_from in_to some steps. begin w Ends' n phase spare c u (in_from, omega arith, some, longer n phase spare c u in_from in_to steps))
-    n n n (omega arith) (omega arith)
-    (λ m spare a regs u le room h e. subst (Runs w Ends' m Plain spare (at_place regs mid)) (sym e) (k m spare a regs le room h))
-    phase spare (spare + more) c t (bind t f) (omega arith) refl h
-  where
-    longer : (n : ℕ) (phase : Phase) (spare : ℕ) (c : Alpha) (u : Plan B) → from ≤ c.pc → c.pc < mid
-        → Steps (fetch c.pc) terms.allowed terms.bonus phase (spare - 1) c (wants terms.kinds u) u (λ d. Forth phase from c.pc d.pc × (d.pc ≤ mid) × Runs (piece fetch terms from to) Ends' n (phase_after phase c.pc d.pc) (spare - 1) d u) (λ _. ⊥) (Runs (piece fetch terms from to) Ends' n)
-        → Steps (fetch c.pc) terms.allowed terms.bonus phase (spare - 1) c (wants terms.kinds u) u (λ d. Forth phase from c.pc d.pc × (d.pc ≤ to) × Runs (piece fetch terms from to) Ends' n (phase_after phase c.pc d.pc) (spare - 1) d u) (λ _. ⊥) (Runs (piece fetch terms from to) Ends' n)
-    longer n phase spare c u in_from in_to h =
-        steps_refine terms.allowed terms.bonus phase (spare - 1) c u _ _ (λ _. ⊥) (λ _. ⊥) (Runs (piece fetch terms from to) Ends' n) (Runs (piece fetch terms from to) Ends' n)
-        (λ d w. (w.0, (let at : d.pc ≤ mid = w.1 in omega arith), w.2)) (λ _ x. x) (λ _ _ _ _ _ x. x) (wants terms.kinds u) (fetch c.pc) h
-
 -- ---- one step taken out of what holds for every number of steps
 module _ {T : Type 0} (Next : ℕ → Phase → ℕ → Alpha → T → Type 0) where
   abbrev pub Ever : Phase → ℕ → Alpha → T → Type 0
@@ -256,22 +230,6 @@ module _ {T : Type 0} (Next : ℕ → Phase → ℕ → Alpha → T → Type 0) 
     pub steps_open : (o : Option AlphaInstr) → ((n : ℕ) → Steps o allowed bonus phase spare c w t (Moves n) (Pal n) (Next n)) → Steps o allowed bonus phase spare c w t (λ d. (n : ℕ) → Moves n d) (λ k. (n : ℕ) → Pal n k) Ever
     steps_open None h = absurd (h 0)
     steps_open (Some i) h = acts_open (act i c) i h
-
-pub open_runs : {A : Type 0} (p : Piece) (Ends : A → Regs → Type 0) (phase : Phase) (spare : ℕ) (c : Alpha) (t : Plan A) → c.pc < p.to
-    → ((n : ℕ) → Runs p Ends n phase spare c t) → Inside p (λ phase spare d u. (n : ℕ) → Runs p Ends n phase spare d u) phase spare c t
-open_runs {A} p Ends phase spare c t away h =
-    let one = within 0 in (
-      one.0,
-      one.1,
-      one.2,
-      steps_refine p.terms.allowed p.terms.bonus phase (spare - 1) c t (λ d. (n : ℕ) → Forth phase p.from c.pc d.pc × (d.pc ≤ p.to) × Runs p Ends n (phase_after phase c.pc d.pc) (spare - 1) d t) _ (λ k. (n : ℕ) → ⊥) (λ _. ⊥) (λ phase spare d u. (n : ℕ) → Runs p Ends n phase spare d u) (λ phase spare d u. (n : ℕ) → Runs p Ends n phase spare d u)
-          (λ d w. ((w 0).0, (w 0).1, λ n. (w n).2)) (λ k w. w 0) (λ _ _ _ _ _ x. x) (wants p.terms.kinds t) (p.fetch c.pc)
-          (steps_open (Runs p Ends) p.terms.allowed p.terms.bonus phase (spare - 1) c (wants p.terms.kinds t) t (λ n d. Forth phase p.from c.pc d.pc × (d.pc ≤ p.to) × Runs p Ends n (phase_after phase c.pc d.pc) (spare - 1) d t) (λ n k. ⊥) (p.fetch c.pc) (λ n. (within n).3)),
-    )
-  where
-    by : (n : ℕ) → Runs_by p Ends n phase spare c t → Inside p (Runs p Ends n) phase spare c t
-    by n (at_end at e) = absurd (omega arith)
-    by n (inside i) = i
 
     within : (n : ℕ) → Inside p (Runs p Ends n) phase spare c t
     within n = by n (runs_by p Ends n phase spare c t (h (suc n)))

@@ -3,7 +3,7 @@ use Rattle.std.proofs.Common.{◌≡◌, ℕ, zero, suc, ◌+◌, ◌-◌, ◌*�
 use Rattle.std.specs.Prelude.{ℤ, ◌&&◌, nat_lt}
 use Rattle.std.specs.List.{list_all}
 use Rattle.std.proofs.lemmas.Bool.Decides.{nat_tests}
-use Rattle.std.proofs.Math.Nat.{mod-mod, mod-eq_of_lt}
+use Rattle.std.proofs.Math.Nat.{mod-mod}
 use Rattle.vt_words.specs.Quad.{field_of, with_field_of}
 use Rattle.alpha_encode.specs.declared.instr.BranchOp.{BranchOp}
 use Rattle.alpha_encode.specs.declared.instr.BranchOp.TheVariants.{Br, Bsr}
@@ -199,10 +199,6 @@ loaded_whole before address fits e = rw e (omega arith)
 
 pub changed_whole : (before address value : ℕ) → before < 2 ^ 64 → value < 2 ^ 64 → address % 8 ≡ 0 → with_field_of before (address % 8) 8 value ≡ value
 changed_whole before address value fits fits' e = rw e (omega arith)
-
--- what is stored are the low bytes of the register
-pub changed_register : (before address register : ℕ) → before < 2 ^ 64 → register < 2 ^ 64 → address % 8 ≡ 0 → with_field_of before (address % 8) 8 (register % 2 ^ 64) ≡ register
-changed_register before address register fits fits' e = changed_whole before address (register % 2 ^ 64) fits (omega arith) e ∙ mod-eq_of_lt fits'
 
 pub changed_low : (before at bytes register : ℕ) → with_field_of before at bytes (register % 2 ^ (8 * bytes)) ≡ with_field_of before at bytes register
 changed_low before at bytes register = rw (mod-mod register (2 ^ (8 * bytes))) refl

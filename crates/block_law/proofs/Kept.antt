@@ -18,7 +18,7 @@ use Rattle.exception_records.specs.Shown.{registers_shown, psw_shown}
 use Rattle.exception_records.specs.declared.rules.Rules.{Rules}
 use Rattle.block_law.specs.Placements.{Placement, InForm, state_shown}
 use Rattle.block_law.specs.Tidy.{is_kept, memory_writes, register_written, writes_register}
-use Rattle.block_law.specs.Laws.{StaysBy, UnwrittenStay, shows_psw, SameStatus}
+use Rattle.block_law.specs.Laws.{StaysBy, UnwrittenStay, SameStatus}
 
 kept_below : (n : ℕ) → n < 21 → is_kept n ≡ true
 kept_below n lt = grind (arith, nat_tests)
@@ -132,8 +132,3 @@ effects_stay (i ∷ is) f n ok e =
 pub same_status : SameStatus
 same_status old new rules held stay =
     rw (stay 15 refl, stay 16 refl, stay 17 refl, stay 18 refl, stay 19 refl, stay 20 refl, stay 28 refl, stay 29 refl, stay 30 refl) refl
-
--- so it does behind words that write none of them
-pub psw_effects : (is : List AlphaInstr) (f : Regs) (rules : Rules) (held : Flags) → list_all is_operate is ≡ true → ((n : ℕ) → shows_psw n ≡ true → writes_register n is ≡ false)
-    → psw_shown (effects is f) rules held ≡ psw_shown f rules held
-psw_effects is f rules held ok none = same_status f (effects is f) rules held (λ n e. effects_stay is f n ok (none n e))

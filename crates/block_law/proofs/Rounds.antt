@@ -1,12 +1,12 @@
 -- What is known of a round at a place of a block, and what a step makes of it.
-use Rattle.std.proofs.Common.{◌≡◌, ℕ, suc, ◌+◌, ◌-◌, ◌*◌, ◌<◌, ◌≤◌, refl, sym, ap, ◌∙◌, subst, arith, true, false, Option, Some, None}
+use Rattle.std.proofs.Common.{◌≡◌, ℕ, suc, ◌+◌, ◌-◌, ◌*◌, ◌<◌, ◌≤◌, refl, ap, ◌∙◌, arith, true, Option, Some, None}
 use Rattle.std.specs.Prelude.{nat_lt, option_map, if◌then◌else◌}
 use Rattle.std.proofs.lemmas.Bool.Decides.{nat_tests}
 use Rattle.vax_form.specs.Tree.{Tree, Check, Ask, Fault, Ends}
 use Rattle.vax_form.specs.declared.state.RefKind.{RefKind}
 use Rattle.vax_form.specs.declared.state.RefKind.TheVariants.{Read, Write, Add, SetBit, ClearBit, Put, Get}
 use Rattle.alpha_meaning.specs.Pieces.{Phase, Plain, Held, Failed, Forth, retry_steps}
-use Rattle.block_law.specs.Rounds.{block_steps, Round, new_round, stepped, with_reference, with_next, round_behind, MayGo, round_after}
+use Rattle.block_law.specs.Rounds.{block_steps, Round, stepped, with_reference, with_next, round_behind, MayGo, round_after}
 
 -- the references that were made
 abbrev pub made_in : Round → ℕ
@@ -112,7 +112,3 @@ fits_failed bonus (Some made) left spare place t round some h =
     record { refs = record { reads = h.refs.reads; writes = h.refs.writes; others = h.refs.others }; within = omega arith; earned = omega arith }
 
 -- ---- the same tree
-pub next_same : (phase : Phase) (t u : Tree) (round : Round) → with_next u (stepped round) ≡ with_next t (stepped round) → round_behind phase u round ≡ round_behind phase t round
-next_same Plain t u round e = e
-next_same (Held _ _ _) t u round e = refl
-next_same (Failed _) t u round e = refl

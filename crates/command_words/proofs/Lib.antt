@@ -5,6 +5,5 @@ pub mod Spelled
 pub mod Parsed
 pub mod Getters
 pub mod Readings
-pub mod Ranges
 pub mod Worked
 pub mod Obeyed

@@ -17,10 +17,6 @@ use Rattle.command_words.proofs.Walks.{clean, when}
 use Rattle.command_words.proofs.Lines.{line, line_app, line_rows, spelled_rows, stop_at}
 use Rattle.command_words.proofs.Spelled.{is_good, none_spelled, some_spelled}
 
--- building makes of the command what the walk is about
-built_is : built vest_app ≡ line_app (codes "vest") forms
-built_is = refl
-
 pub is_covered : is_simple_and_free vest_app ≡ true
 is_covered = refl
 

@@ -5,7 +5,7 @@ use Rattle.std.specs.Int.{w16, w32, to_le_bytes, from_le_bytes}
 use Rattle.std.proofs.lemmas.Bool.{cases_lt}
 use Rattle.std.proofs.Common.{inl, inr}
 use Rattle.std.proofs.lemmas.List.{take_at, drop_at, length-append, length-take, length-drop, get_or-drop, get_or-take, get_or_past}
-use Rattle.std.proofs.lemmas.Nat.{le_bytes_2, le_bytes_4, from_le_bytes-to_le_bytes_2, from_le_bytes-to_le_bytes_4}
+use Rattle.std.proofs.lemmas.Nat.{le_bytes_2, le_bytes_4, from_le_bytes-to_le_bytes_4}
 use Rattle.image_file.specs.Spelling.{row_bytes}
 use Rattle.image_file.specs.Reading.{half, word, table_in, row_in}
 
@@ -43,9 +43,6 @@ word_fits bytes fits = let part : IsBytes (take 4 bytes) = IsBytes-take 4 bytes 
 
 pub word_again : (n : ℕ) (rest : List ℕ) → n < 2 ^ 32 → word (to_le_bytes w32 n ++ rest) ≡ n
 word_again n rest fits = ap (from_le_bytes w32) (take_at (to_le_bytes w32 n) rest 4 refl) ∙ from_le_bytes-to_le_bytes_4 n fits
-
-pub half_again : (n : ℕ) (rest : List ℕ) → n < 2 ^ 16 → half (to_le_bytes w16 n ++ rest) ≡ n
-half_again n rest fits = ap (from_le_bytes w16) (take_at (to_le_bytes w16 n) rest 2 refl) ∙ from_le_bytes-to_le_bytes_2 n fits
 
 -- ---- tables
 

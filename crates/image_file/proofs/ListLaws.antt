@@ -15,10 +15,6 @@ pub neither : (a b : Bool) → (a || b) ≡ false → (a ≡ false) × (b ≡ fa
 neither true b none = absurd cc
 neither false b none = (refl, none)
 
-pub not_not : (b : Bool) → not (not b) ≡ b
-not_not true = refl
-not_not false = refl
-
 pub was_true : (b : Bool) → not b ≡ false → b ≡ true
 was_true true is = refl
 was_true false is = absurd cc

@@ -18,9 +18,6 @@ IsLong value = value < 2 ^ 32
 pub start_wide : (version : ℕ) → 8 ≤ start_width version
 start_wide version = elim (version == 1) as (λ b. 8 ≤ cond b 8 64) [ true ↦ lit≤ tt | false ↦ lit≤ tt ]
 
-pub start_small : (version : ℕ) → start_width version ≤ 64
-start_small version = elim (version == 1) as (λ b. cond b 8 64 ≤ 64) [ true ↦ lit≤ tt | false ↦ lit≤ tt ]
-
 pub first_of_1 : (version : ℕ) (bytes : List ℕ) → version ≡ 1 → first_in version bytes ≡ replicate 14 0
 unfolding first_in
 first_of_1 version bytes one = ap (λ v. first_in v bytes) one

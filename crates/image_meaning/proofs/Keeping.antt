@@ -78,12 +78,6 @@ stay_code {pages = pages} {w = w} {address = address} = record {
 pub stay_fail : {pages : Pages} {from to : Bool} {A : Type 0} {Q : A → Type 0} {exception : Exception} → IsFault exception → Stays pages from to Q (fail exception)
 stay_fail fault = record { stays = λ state rest onward. fault }
 
--- what may come where nothing was written is not asked
-pub stay_written : {pages : Pages} {from to : Bool} {A : Type 0} {Q : A → Type 0} {m : Script A} → Stays pages from to Q m → Stays pages from true Q m
-stay_written {pages = pages} {to = to} first = record {
-  stays = λ state rest onward. first.stays state rest (λ x holds. ranged_anywhere to pages (rest x state) (onward x holds));
-}
-
 -- ---- scripts that leave a state
 
 pub keep_pure : {pages : Pages} {w : Bool} {A : Type 0} {Q : A → Type 0} {x : A} → Q x → Keeps pages w w Q (pure x)

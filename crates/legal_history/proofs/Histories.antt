@@ -38,10 +38,6 @@ if_same : {A : Type 0} (b : Bool) (x y z : A) → (b ≡ true → x ≡ z) → (
 if_same true x y z p q = p refl
 if_same false x y z p q = q refl
 
-if_within : {A B : Type 0} (f : A → B) (b : Bool) (x y : A) (z : B) → (b ≡ true → f x ≡ z) → (b ≡ false → f y ≡ z) → f (if b then x else y) ≡ z
-if_within f true x y z p q = p refl
-if_within f false x y z p q = q refl
-
 other_place : (m : Bool) (a q : ℕ) → (m && (a == q)) ≡ false → m ≡ true → q ≢ a
 other_place true a q h t = λ same. grind (arith, nat_tests)
 other_place false a q h t = absurd (cc t)

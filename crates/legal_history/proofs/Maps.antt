@@ -1,14 +1,10 @@
 -- The map both ways.
-use Rattle.std.proofs.Common.{◌≡◌, ◌<◌, ◌==◌, ℕ, suc, Bool, true, false, if◌then◌else◌, refl, sym, ap, ◌∙◌, arith, List, [], ◌∷◌, length, get_or, Option, Some, None}
+use Rattle.std.proofs.Common.{◌≡◌, ◌<◌, ◌==◌, ℕ, suc, Bool, true, false, if◌then◌else◌, refl, sym, ap, ◌∙◌, arith, List, [], ◌∷◌, length, get_or, Some}
 use Rattle.std.specs.Prelude.{find}
 use Rattle.std.specs.Option.{option_map}
 use Rattle.memory_core.proofs.Choices.{same_number}
 use Rattle.address_map.specs.Pairs.{AllRise, Pair, address_at, word_at}
 use Rattle.address_map.proofs.Lookups.{word_at-pair}
-
-get_value : Option ℕ → ℕ → ℕ
-get_value None n = n
-get_value (Some m) n = m
 
 record IsPlace (ps : List Pair) (w a : ℕ) (d : Pair) : Type 0 where
   place : ℕ

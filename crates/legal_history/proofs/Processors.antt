@@ -11,7 +11,7 @@ use Rattle.memory_core.specs.declared.entry.Kind.TheVariants.{LoadLocked, StoreC
 use Rattle.memory_core.specs.declared.entry.Request.{Request}
 use Rattle.memory_core.specs.declared.entry.SetUp.{SetUp}
 use Rattle.vax_form.specs.State.{IsState, register}
-use Rattle.vax_form.specs.Tree.{Tree, Check, Ask, Fault, Ends, Ending, Finish, Exit, Trap, Answer, answer, Life, Exited, Trapped, Retired, retires}
+use Rattle.vax_form.specs.Tree.{Tree, Check, Ask, Fault, Ends, Finish, Exit, Trap, Answer, answer}
 use Rattle.vax_form.specs.Tree as trees
 use Rattle.vax_form.specs.declared.state.Flags.{Flags}
 use Rattle.vax_form.specs.declared.state.Reference.{Reference}
@@ -444,12 +444,6 @@ turn_thread setting p (Interprets state pending) = tie_thread setting p state pe
 turn_thread setting p (Ended end) = tt
 
 -- ---- a turn is one step
-left_steps : (setting : Setting) (p : Processor) (last : Last) → (left setting p last).steps ≡ p.steps
-left_steps setting p (Comes (Finish s)) = refl
-left_steps setting p (Comes (Exit s)) = refl
-left_steps setting p (Comes (Trap kind s)) = refl
-left_steps setting p (Fails x) = refl
-
 -- ---- how many entries a processor may have
 abbrev pub open_by : Option Lock → ℕ
 open_by None = 0

@@ -144,9 +144,6 @@ multiple : (o : Option ℕ) → IfSome (option_map (λ n. 64 * n) o) (λ place. 
 multiple None = tt
 multiple (Some n) = omega arith
 
-pub place_multiple : (rs : List PageRange) (page : ℕ) → IfSome (page_place rs page) (λ place. place % 64 ≡ 0)
-place_multiple rs page = multiple (page_number rs page)
-
 own : (rs : List PageRange) (page : ℕ) (o : Option ℕ) → page_number rs page ≡ o → IfSome (option_map (λ n. 64 * n) o) (λ place. (other : ℕ) → page_place rs other ≡ Some place → other ≡ page)
 own rs page None e = tt
 own rs page (Some n) e = λ other h. go other (page_number rs other) refl h

@@ -1,8 +1,7 @@
 -- What the quadwords at their places tell of the history.
-use Rattle.std.proofs.Common.{◌≡◌, ℕ, ◌<◌, ◌-◌, ◌%◌, Bool, true, false, if◌then◌else◌, List, length, Option, Some, None, is_some, IsSome, slice_index_or, reverse, refl, sym, ap, ◌∙◌, subst}
-use Rattle.std.specs.List.{list_any}
+use Rattle.std.proofs.Common.{◌≡◌, ℕ, ◌<◌, ◌-◌, ◌%◌, Bool, true, false, if◌then◌else◌, List, length, Option, Some, None, is_some, IsSome, slice_index_or, reverse, refl, sym, ap, ◌∙◌}
 use Rattle.vax_form.specs.declared.pages.PageRange.{PageRange}
-use Rattle.vax_form.specs.Pages.{is_allowed, allows}
+use Rattle.vax_form.specs.Pages.{is_allowed}
 use Rattle.memory_core.specs.declared.entry.Entry.{Entry}
 use Rattle.memory_core.specs.declared.entry.Kind.{Kind}
 use Rattle.memory_core.specs.declared.entry.Kind.TheVariants.{Put, Get}
@@ -34,9 +33,6 @@ module _ (set_up : SetUp) (history : List Entry) (ranges : List PageRange) (quad
     some_left =
         ap (λ (v : ℕ). Some v) (current address place there).is
         ∙ ap (λ (b : Bool). if b then Some (left_by set_up (reverse history) (address - address % 8)) else None) (sym (placed (Some place) h))
-
-pub is_placed : (ranges : List PageRange) (address : ℕ) (write : Bool) → list_any (allows address write) ranges ≡ true → is_some (quad_place ranges address) ≡ true
-is_placed ranges address write h = sym (any_is_placed ranges address) ∙ any_written ranges address write h
 
 -- ---- what a memory access asks for
 

@@ -51,10 +51,6 @@ upper_half v lt = omega (arith, lt)
 not_5 : (from : ℕ) → from < 4 → eqb from 5 ≡ false
 not_5 from lt = elim (eqb_tells from 5) [ inl is ↦ absurd (omega (arith, lt, is.1)) | inr not ↦ not.0 ]
 
--- a standing with registers and temporaries
-abbrev pub With : Temps → (r : List ℕ) → Standing → Standing
-With temps r standing = with_r temps r standing
-
 module _ (P : Left → Type 0) (end : Left → Tree) (program : List Micro) (found : Found) (standing : Standing) (steps : List ℕ) (from : ℕ) (tree : Tree)
     (same : length steps ≡ length found.state.r) (r : standing.state.r ≡ found.state.r) (longwords : AreLongwords found.state.r) (low : from < 4) where
   -- what goes on behind the registers of a state

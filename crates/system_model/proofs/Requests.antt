@@ -13,7 +13,7 @@ use Rattle.memory_core.specs.declared.entry.Change.TheVariants.{Nothing, Byte}
 use Rattle.memory_core.specs.declared.entry.Kind.TheVariants as kinds
 use Rattle.block_law.specs.Placements.{target}
 use Rattle.memory_core.specs.declared.entry.Request.{Request}
-use Rattle.vax_form.specs.Tree.{Tree, Ending, Finish, Exit, Trap, Answer, answer}
+use Rattle.vax_form.specs.Tree.{Finish, Exit, Trap, Answer, answer}
 use Rattle.vax_form.specs.Tree as trees
 use Rattle.vax_form.specs.declared.state.Exception.{Exception}
 use Rattle.vax_form.specs.declared.state.VaxState.{VaxState}
@@ -36,10 +36,6 @@ of_access false setting m i a c = tt
 of_raised : (thread : ℕ) (o : Option Exception) → IsOfThread thread (raised o)
 of_raised thread None = tt
 of_raised thread (Some x) = tt
-
-of_choice : (thread : ℕ) (b : Bool) (x y : Next) → IsOfThread thread x → IsOfThread thread y → IsOfThread thread (if b then x else y)
-of_choice thread true x y h k = h
-of_choice thread false x y h k = k
 
 of_choices : (thread : ℕ) (one two three four five six : Bool) (exit : Place) (put get : Request) (stays : Place) (gets : ℕ → Bool → Place) (tells swaps resumes none : Place) → put.processor ≡ thread → get.processor ≡ thread
     → IsOfThread thread (if one then Moves exit else if two then Wants put (λ before success. stays) else if three then Wants get gets else if four then Moves tells else if five then Moves swaps else if six then Moves resumes else Moves none)

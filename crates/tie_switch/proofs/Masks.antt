@@ -4,7 +4,6 @@ use Rattle.std.specs.Prelude.{nat_le}
 use Rattle.std.proofs.Math.Nat.{div-le_self, mod-eq_of_lt}
 use Rattle.std.proofs.Math.Pow.{pow_mono}
 use Rattle.std.proofs.lemmas.Bool.Decides.{nat_tests}
-use Rattle.std.proofs.lemmas.Nat.{pow_pos}
 use Rattle.vt_words.specs.Quad.{IsCount, one, two, four, eight}
 use Rattle.vt_words.proofs.Spreads.{below_8}
 
@@ -21,9 +20,6 @@ powers_rise place count h =
 
 pub mask_is : (place count : ℕ) → place + count ≤ 8 → 1 * 2 ^ (place + count) % 4294967296 - 1 * 2 ^ place % 4294967296 ≡ 2 ^ (place + count) - 2 ^ place
 mask_is place count h = omega (arith, power_is place (omega (arith, h)), power_is (place + count) h)
-
-pub mask_fits : (place count : ℕ) → place + count ≤ 8 → 2 ^ (place + count) - 2 ^ place < 256
-mask_fits place count h = omega (arith, pow_pos place, pow_mono {i = place + count} {j = 8} h)
 
 -- a mask of eight bits names no byte outside the quadword
 pub mask_within : (place count : ℕ) → place < 8 → 2 ^ (place + count) - 2 ^ place < 256 → place + count ≤ 8

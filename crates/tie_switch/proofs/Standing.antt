@@ -16,7 +16,7 @@ use Rattle.tie_switch.specs.Interpreted.{step_of}
 use Rattle.tie_switch.specs.Processors.{Kept, CanStep, IsGiven, IsMode, IsPlain, StandsFor, end_of, in_mode, processor_of}
 use Rattle.tie_switch.specs.Seen as seen
 use Rattle.tie_switch.specs.Seen.{last_of}
-use Rattle.tie_switch.specs.Turns.{goes_on, has_ended, is_out}
+use Rattle.tie_switch.specs.Turns.{goes_on, is_out}
 use Rattle.tie_switch.specs.declared.interpreted.Interpreted.{Interpreted}
 use Rattle.tie_switch.specs.declared.interpreted.Step.TheVariants as steps
 use Rattle.tie_switch.specs.declared.place.Last.{Last}
@@ -133,13 +133,3 @@ is_plain pages thread boundary (modes.Ended end) plain = absurd plain
 
 pub plain_stands : (pages : Pages) (k : Kept) → IsPlain k.mode → StandsFor pages k (processor_of k)
 plain_stands pages k plain = record { same = refl; mode = is_plain pages k.thread k.boundary k.mode plain }
-
--- an ended one, too
-ended_mode : (pages : Pages) (thread : ℕ) (boundary : VaxState) (kind : Kind) (mode : Mode) → has_ended (seen.mode_of kind boundary) ≡ true → IsMode pages thread boundary kind mode → mode ≡ seen.mode_of kind boundary
-ended_mode pages thread boundary modes.New mode e is = absurd (cc e)
-ended_mode pages thread boundary (modes.Runs cpu) mode e is = absurd (cc e)
-ended_mode pages thread boundary (modes.Interprets interpreted reply) mode e is = absurd (cc e)
-ended_mode pages thread boundary (modes.Ended end) mode e is = is
-
-pub ended_is : (pages : Pages) (k : Kept) (p : Processor) → has_ended (processor_of k).mode ≡ true → StandsFor pages k p → p ≡ processor_of k
-ended_is pages k p e stands = stands.same ∙ ap (in_mode k) (ended_mode pages k.thread k.boundary k.mode p.mode e stands.mode)

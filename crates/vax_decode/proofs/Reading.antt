@@ -1,5 +1,5 @@
 -- Reading the specifiers of an instruction one after the other.
-use Rattle.std.proofs.Common.{◌≡◌, ℕ, zero, suc, ◌+◌, ◌-◌, ◌<◌, ◌≤◌, List, [], ◌∷◌, ◌++◌, length, get_or, take, drop, set, replicate, Option, Some, None, Result, Ok, Err, refl, sym, ap, ◌∙◌, arith, append-nil, append_assoc, add_assoc, length-append, length-take, length-drop, get_or-take, min}
+use Rattle.std.proofs.Common.{◌≡◌, ℕ, suc, ◌+◌, ◌-◌, ◌<◌, ◌≤◌, List, [], ◌∷◌, ◌++◌, length, get_or, drop, set, replicate, Option, Some, None, Ok, Err, refl, sym, ap, ◌∙◌, arith, append-nil, append_assoc, length-append, length-take, get_or-take}
 use Rattle.std.proofs.Math.Seq.{drop-drop, set-append_seam}
 use Rattle.std.proofs.lemmas.List.{at_drop_all, at_drop_more}
 use Rattle.std.proofs.lemmas.Slice.Zip.{get_or-zip}
@@ -21,11 +21,6 @@ abbrev pub joined : List Operand → ℕ → Option (Shown (List Operand) × ℕ
 joined done n None = None
 joined done n (Some (complete operands, count)) = Some (complete (done ++ operands), n + count)
 joined done n (Some (reserved, count)) = Some (reserved, n + count)
-
-joined-nil : (x : Option (Shown (List Operand) × ℕ)) → joined [] 0 x ≡ x
-joined-nil None = refl
-joined-nil (Some (complete operands, count)) = ap (λ n. Some (complete operands, n)) (omega arith)
-joined-nil (Some (reserved, count)) = ap (λ n. Some (reserved, n)) (omega arith)
 
 joined-in_front : (done : List Operand) (m n : ℕ) (o : Operand) (x : Option (Shown (List Operand) × ℕ))
     → joined done m (in_front o n x) ≡ joined (done ++ o ∷ []) (m + n) x
@@ -69,17 +64,6 @@ pub record Reading (row : Row) (pc i place : ℕ) (bytes : List ℕ) (operands :
   pub within : place ≤ length bytes
   pub rest : joined done (place - 1) (read_specifiers (drop i (types_of row)) (pc + place) (drop place bytes))
       ≡ read_specifiers (types_of row) (pc + 1) (drop 1 bytes)
-
-pub reading_begun : (row : Row) (pc : ℕ) (bytes : List ℕ) (operands : List Operand) → operands ≡ replicate 6 Unused → 1 ≤ length bytes
-    → Reading row pc 0 1 bytes operands
-reading_begun row pc bytes operands e within = record {
-  done = [];
-  count = refl;
-  are_operands = e;
-  begun = omega arith;
-  within = within;
-  rest = joined-nil _;
-}
 
 answer-ok : (at behind : ℕ) (operand : Operand) (o : Option (Shown Operand × ℕ)) → Ok (operand, behind) ≡ answer_of at o
     → (n : ℕ) × (o ≡ Some (complete operand, n)) × (behind ≡ at + n)

@@ -36,9 +36,6 @@ behind (suc (suc front)) rest whole address pages write is small fits allowed so
     (behind (suc front) rest (suc front + rest) (address + 1) pages write refl (omega (arith, small, fits)) (omega (arith, fits)) (allowed_same pages (address + 1) address write page ∙ allowed) (omega arith)
     ∙ ap (λ a. first_bad pages write (a % 2 ^ 32) rest) there)))
 
-pub first_refused : (count address : ℕ) (pages : Pages) (write : Bool) → 0 < count → is_allowed pages address write ≡ false → Some address ≡ first_bad pages write address count
-first_refused count address pages write some bad = sym (refused count address pages write some bad)
-
 pub all_within : (count address : ℕ) (pages : Pages) (write : Bool) → address < 2 ^ 32 → count ≤ 8 - address % 8 → is_allowed pages address write ≡ true → None ≡ first_bad pages write address count
 all_within count address pages write small fits allowed = sym (within count address pages write small (omega (arith, fits)) allowed)
 

@@ -88,9 +88,3 @@ run (change f) moment = Ok (tt, changed f moment)
 -- the moment with further replies behind those that are left
 abbrev pub more : List ℕ → Moment → Moment
 more extra moment = record moment { replies = moment.replies ++ extra }
-
--- what ended or failed does so as before, with the further replies left
-abbrev pub SameLater : {A : Type 0} → List ℕ → Result (A × Moment) Halt → Result (A × Moment) Halt → Type 0
-SameLater extra (Ok x) later = later ≡ Ok (x.0, more extra x.1)
-SameLater extra (Err (Wants reference, left)) later = Unit {0}
-SameLater extra (Err (Fails exception, left)) later = later ≡ Err (Fails exception, left ++ extra)

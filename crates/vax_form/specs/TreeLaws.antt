@@ -1,6 +1,6 @@
 -- Laws of scripts and trees.
 use Rattle.std.specs.Prelude.{◌≡◌, ℕ, List, ◌++◌, Result, Ok, Err}
-use Rattle.vax_form.specs.Script.{Script, Moment, Halt, run, more, SameLater}
+use Rattle.vax_form.specs.Script.{Script, Moment, Halt, run, more}
 use Rattle.vax_form.specs.Tree.{Tree, Answer, Wants, Fails, Comes, tree_of, answer, feed, outcome, head_outcome, stop_outcome, behind, Same, AnswersTree}
 use Rattle.vax_form.specs.declared.pages.Pages.{Pages}
 use Rattle.vax_form.specs.declared.state.VaxState.{VaxState}
@@ -9,11 +9,6 @@ use Rattle.vax_form.specs.declared.state.VaxState.{VaxState}
 abbrev pub AnsweringIsRunning : Type 1
 AnsweringIsRunning = (A : Type 0) (script : Script A) (moment : Moment) (rest : A → VaxState → Tree)
     → answer moment.pages (tree_of moment.pages script moment.state rest) moment.replies ≡ behind (run script moment) rest
-
--- further replies change nothing of what a script did before them
-abbrev pub RepliesComeLater : Type 1
-RepliesComeLater = (A : Type 0) (script : Script A) (extra : List ℕ) (moment : Moment)
-    → SameLater extra (run script moment) (run script (more extra moment))
 
 -- what a script's tree comes to when it is fed, where the script came to that result
 abbrev pub Feeds : {A : Type 0} → Pages → Tree → (A → VaxState → Tree) → Result (A × Moment) Halt → Type 0

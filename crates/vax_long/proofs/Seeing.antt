@@ -3,12 +3,11 @@ use Rattle.std.proofs.Common.{◌≡◌, ℕ, Result, Ok, Err, sym, ap, ◌∙�
 use Rattle.vax_form.specs.Script.{Script}
 use Rattle.vax_form.specs.Tree.{answer, outcome, run_outcome, instruction_tree}
 use Rattle.vax_form.specs.declared.script.End.{End}
-use Rattle.vax_form.specs.declared.script.End.TheVariants.{Done, Exits, Traps}
 use Rattle.vax_form.specs.declared.script.Stop.{Stop}
 use Rattle.vax_form.specs.declared.script.Stop.TheVariants.{Wants, Fails}
 use Rattle.vax_form.proofs.Feeding.{outcome_by_tree}
 use Rattle.vax_meaning.specs.declared.cursor.Cursor.{Cursor}
-use Rattle.vax_meaning.specs.Play.{Plays, Uses, Within}
+use Rattle.vax_meaning.specs.Play.{Plays}
 use Rattle.vax_long.specs.Seen.{seen_of}
 
 pub seen_by_tree : (script : Script End) (old new : Cursor) (run : Result End Stop) → Plays script old run new
@@ -16,11 +15,3 @@ pub seen_by_tree : (script : Script End) (old new : Cursor) (run : Result End St
 seen_by_tree script old new (Ok end) plays = ap (run_outcome old.state) (sym plays) ∙ outcome_by_tree script old.state old.pages.now old.replies.now
 seen_by_tree script old new (Err (Wants reference)) plays = ap (run_outcome old.state) (sym plays) ∙ outcome_by_tree script old.state old.pages.now old.replies.now
 seen_by_tree script old new (Err (Fails exception)) plays = ap (run_outcome old.state) (sym plays) ∙ outcome_by_tree script old.state old.pages.now old.replies.now
-
--- what wants a reference used up the replies
-pub seen_within : (most : ℕ) (old new : Cursor) (run : Result End Stop) → Uses most old run new → Within most old.replies.now (seen_of old.state new.state run)
-seen_within most old new (Ok Done) uses = tt
-seen_within most old new (Ok Exits) uses = tt
-seen_within most old new (Ok (Traps kind)) uses = tt
-seen_within most old new (Err (Wants reference)) uses = uses
-seen_within most old new (Err (Fails exception)) uses = tt

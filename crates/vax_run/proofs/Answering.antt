@@ -3,7 +3,7 @@ use Rattle.std.proofs.Common.{◌≡◌, Bool, true, false, if◌then◌else◌,
 use Rattle.vax_form.specs.Pages.{first_bad}
 use Rattle.vax_form.specs.Script.{Script}
 use Rattle.vax_form.specs.Tree as trees
-use Rattle.vax_form.specs.Tree.{Tree, Check, Ask, Fault, Ends, Ending, unless_bad, answer, behind, ends_with, ending, instruction_tree, retires}
+use Rattle.vax_form.specs.Tree.{Tree, Check, Ask, Fault, Ends, Ending, unless_bad, answer, behind, ends_with, ending, instruction_tree}
 use Rattle.vax_form.specs.declared.pages.Pages.{Pages}
 use Rattle.vax_form.specs.declared.script.End.{End}
 use Rattle.vax_form.specs.declared.script.End.TheVariants as ends
@@ -18,7 +18,7 @@ use Rattle.vax_form.proofs.Handling.{handling_is_running}
 use Rattle.vax_meaning.specs.After.{one_more, after}
 use Rattle.vax_meaning.specs.Play.{Plays, view}
 use Rattle.vax_meaning.specs.declared.cursor.Cursor.{Cursor}
-use Rattle.vax_run.specs.Answered.{answer_of, answer_to, handled_answer, IsWithin, life_behind_of, reached_of}
+use Rattle.vax_run.specs.Answered.{answer_of, answer_to, handled_answer, IsWithin, reached_of}
 use Rattle.vax_run.specs.declared.answered.Answer.{Answer}
 use Rattle.vax_run.specs.declared.answered.Answer.TheVariants.{Fails, Comes}
 use Rattle.vax_run.specs.declared.advance.Place.{Place}
@@ -101,22 +101,6 @@ handled_is script old new (Err (stops.Wants reference)) plays =
 handled_is script old new (Err (stops.Fails exception)) plays =
     fault_is (has_handler old.state) old.pages.now (handled old.pages.now old.state (instruction_tree old.pages.now script old.state)) old.replies.now exception old.state new.replies.now
     (handling_is_running _ script old.state (view old) ends_with ∙ ap (λ r. handled_behind old.state r ends_with) plays)
-
-drop_nothing : (k : ℕ) → drop {A = ℕ} k [] ≡ []
-drop_nothing zero = refl
-drop_nothing (suc k) = refl
-
-drop_twice : (n m : ℕ) (xs : List ℕ) → drop m (drop n xs) ≡ drop (n + m) xs
-drop_twice zero m xs = let e : m ≡ 0 + m = omega arith in ap (λ k. drop k xs) e
-drop_twice (suc n) m [] = drop_nothing m ∙ sym (drop_nothing (suc n + m))
-drop_twice (suc n) m (x ∷ xs) = let e : suc (n + m) ≡ suc n + m = omega arith in drop_twice n m xs ∙ ap (λ k. drop k (x ∷ xs)) e
-
--- an end that retires
-pub retired_there : (end : End) (state : VaxState) (taken more : ℕ) (replies : List ℕ)
-    → reached_of replies (Some (record { life = life_behind_of end; state = state; taken = taken + more })) ≡ retires (trees.Comes (ending end state) (drop more (drop taken replies)))
-retired_there ends.Done state taken more replies = ap (λ l. Some (record { life = trees.Runs; state = state; left = l })) (sym (drop_twice taken more replies))
-retired_there ends.Exits state taken more replies = ap (λ l. Some (record { life = trees.Exited; state = state; left = l })) (sym (drop_twice taken more replies))
-retired_there (ends.Traps kind) state taken more replies = ap (λ l. Some (record { life = trees.Trapped kind; state = state; left = l })) (sym (drop_twice taken more replies))
 
 module _ (tree : VaxState → Tree) (pages : Pages) (replies : List ℕ) where
   nothing_more : (start : VaxState) (count more : ℕ) → after tree pages start count replies ≡ None → after tree pages start (more + count) replies ≡ None

@@ -6,8 +6,7 @@ use Rattle.std.specs.Ordering.{nat_cmp}
 use Rattle.std.proofs.Math.Nat.{pow-le-pow_right}
 use Rattle.std.proofs.Math.Path.{fun_ext}
 use Rattle.std.proofs.lemmas.Bool.Decides.{nat_tests}
-use Rattle.std.proofs.lemmas.Grind.{pow_more}
-use Rattle.vax_meaning.specs.References.{value_at, with_byte, with_value}
+use Rattle.vax_meaning.specs.References.{with_byte, with_value}
 
 stored : (b : Bool) (value : ℕ) (old : Option ℕ) (first : ℕ) → unwrap_or (cond b (Some value) old) first ≡ (if b then value else unwrap_or old first)
 stored true value old first = refl
@@ -25,23 +24,6 @@ byte_stored first old new address value updates =
     ∙ stored (is_at (nat_cmp address) at) value (get nat_cmp old at) (first at)
     ∙ ap (λ (b : Bool). if b then value else unwrap_or (get nat_cmp old at) (first at)) (compared address at))
 
--- one more byte before those of a number
-pub value_more : (byte : ℕ → ℕ) (address count read value b : ℕ) → read < count → value ≡ value_at byte (address + (count - read)) read
-    → b ≡ byte ((address + (count - 1 - read)) % 2 ^ 32) → 256 * value + b ≡ value_at byte (address + (count - (read + 1))) (read + 1)
-value_more byte address count read value b below is last =
-    let e : count - 1 - read ≡ count - (read + 1) = omega arith in
-    let f : address + (count - read) ≡ address + (count - (read + 1)) + 1 = omega arith in
-    let g : value ≡ value_at byte (address + (count - (read + 1)) + 1) read = is ∙ ap (λ a. value_at byte a read) f in
-    let h : b ≡ byte ((address + (count - (read + 1))) % 2 ^ 32) = last ∙ ap (λ p. byte ((address + p) % 2 ^ 32)) e in
-    let turned : 256 * value + b ≡ b + 256 * value = omega arith in
-    let next : suc read ≡ read + 1 = omega arith in
-    turned ∙ ap (λ x. x + 256 * value) h
-    ∙ ap (λ v. byte ((address + (count - (read + 1))) % 2 ^ 32) + 256 * v) g
-    ∙ ap (λ n. value_at byte (address + (count - (read + 1))) n) next
-
-pub value_small : (value read b : ℕ) → value < 256 ^ read → b < 256 → 256 * value + b < 256 ^ (read + 1)
-value_small value read b small byte = let e : 256 ^ (read + 1) ≡ 256 ^ read * 256 = pow_more 256 read in omega arith
-
 pub value_fits : (value read b : ℕ) → value < 256 ^ read → read ≤ 7 → b < 256 → 256 * value + b < 2 ^ 64
 value_fits value read b small few byte =
     let most : 256 ^ read ≤ 256 ^ 7 = pow-le-pow_right (lit< tt) few in
@@ -58,12 +40,3 @@ store_more before after address count place rest below is =
     ap (λ k. with_value before (address + place) k rest) e
     ∙ ap (λ b. with_value b (address + place + 1) (count - (place + 1)) (rest / 256)) (sym is)
     ∙ ap (λ a. with_value after a (count - (place + 1)) (rest / 256)) f
-
-pub store_none : (byte : ℕ → ℕ) (address count value : ℕ) → with_value byte address count value ≡ with_value byte (address + 0) (count - 0) value
-store_none byte address count value =
-    let e : address ≡ address + 0 = omega arith in
-    let f : count ≡ count - 0 = omega arith in
-    ap (λ a. with_value byte a count value) e ∙ ap (λ n. with_value byte (address + 0) n value) f
-
-pub store_all : (byte : ℕ → ℕ) (address count rest : ℕ) → with_value byte address (count - count) rest ≡ byte
-store_all byte address count rest = let e : count - count ≡ 0 = omega arith in ap (λ n. with_value byte address n rest) e

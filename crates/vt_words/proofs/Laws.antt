@@ -1,12 +1,12 @@
 -- Each byte of what an operation gives, and numbers by their bytes.
 use Rattle.std.proofs.Common.{◌≡◌, ℕ, ◌+◌, ◌-◌, ◌*◌, ◌/◌, ◌%◌, ◌^◌, ◌<◌, ap, ◌∙◌, arith, ⊎_elim, lit<}
-use Rattle.std.specs.Prelude.{bit_and, bit_or, nat_lt, cond}
+use Rattle.std.specs.Prelude.{bit_and, bit_or}
 use Rattle.std.specs.Int.{bit_at}
 use Rattle.std.specs.Int.Bits.{and_zero_r}
-use Rattle.std.proofs.lemmas.Nat.{and_shr, and_mod, and_mask, or_shr, or_mod, shr-shr}
+use Rattle.std.proofs.lemmas.Nat.{and_shr, and_mod, and_mask, or_shr, or_mod}
 use Rattle.std.proofs.lemmas.Nat.Bits.{bit_at-lt}
 use Rattle.std.proofs.Math.Nat.{mod-eq_of_lt}
-use Rattle.vt_words.specs.Quad.{byte_of, spread, spread_below, kept, cleared, left, right}
+use Rattle.vt_words.specs.Quad.{byte_of, spread, spread_below, kept, cleared}
 use Rattle.vt_words.proofs.Spreads.{below_8, bit_cases}
 
 -- a byte, all or none of whose bits are kept
@@ -54,20 +54,3 @@ byte_of_not_spread mask k =
 pub byte_of_cleared : (mask n k : ℕ) → k < 8 → byte_of k (cleared mask n) ≡ (1 - bit_at mask k) * byte_of k n
 byte_of_cleared mask n k h =
     byte_of_and k n (2 ^ 64 - 1 - spread mask) ∙ ap (λ x. bit_and (byte_of k n) x) (byte_of_not_spread mask k h) ∙ and_all (1 - bit_at mask k) (byte_of k n) (omega arith) (byte_of-lt k n)
-
-pub byte_of_right : (n o k : ℕ) → byte_of k (right n (8 * o)) ≡ byte_of (k + o) n
-byte_of_right n o k =
-    let e : 8 * o + 8 * k ≡ 8 * (k + o) = omega arith in
-    ap (λ x. x % 2 ^ 8) (shr-shr n (8 * o) (8 * k) ∙ ap (λ s. n / 2 ^ s) e)
-
--- byte k of a shift to the left by o bytes
-pub byte_of_left : (n o : ℕ) → o < 8 → (k : ℕ) → k < 8 → byte_of k (left n (8 * o)) ≡ cond (nat_lt k o) 0 (byte_of (k - o) n)
-byte_of_left n = below_8 (λ o. (k : ℕ) → k < 8 → byte_of k (left n (8 * o)) ≡ cond (nat_lt k o) 0 (byte_of (k - o) n))
-    (below_8 (λ k. byte_of k (left n (8 * 0)) ≡ cond (nat_lt k 0) 0 (byte_of (k - 0) n)) (omega arith) (omega arith) (omega arith) (omega arith) (omega arith) (omega arith) (omega arith) (omega arith))
-    (below_8 (λ k. byte_of k (left n (8 * 1)) ≡ cond (nat_lt k 1) 0 (byte_of (k - 1) n)) (omega arith) (omega arith) (omega arith) (omega arith) (omega arith) (omega arith) (omega arith) (omega arith))
-    (below_8 (λ k. byte_of k (left n (8 * 2)) ≡ cond (nat_lt k 2) 0 (byte_of (k - 2) n)) (omega arith) (omega arith) (omega arith) (omega arith) (omega arith) (omega arith) (omega arith) (omega arith))
-    (below_8 (λ k. byte_of k (left n (8 * 3)) ≡ cond (nat_lt k 3) 0 (byte_of (k - 3) n)) (omega arith) (omega arith) (omega arith) (omega arith) (omega arith) (omega arith) (omega arith) (omega arith))
-    (below_8 (λ k. byte_of k (left n (8 * 4)) ≡ cond (nat_lt k 4) 0 (byte_of (k - 4) n)) (omega arith) (omega arith) (omega arith) (omega arith) (omega arith) (omega arith) (omega arith) (omega arith))
-    (below_8 (λ k. byte_of k (left n (8 * 5)) ≡ cond (nat_lt k 5) 0 (byte_of (k - 5) n)) (omega arith) (omega arith) (omega arith) (omega arith) (omega arith) (omega arith) (omega arith) (omega arith))
-    (below_8 (λ k. byte_of k (left n (8 * 6)) ≡ cond (nat_lt k 6) 0 (byte_of (k - 6) n)) (omega arith) (omega arith) (omega arith) (omega arith) (omega arith) (omega arith) (omega arith) (omega arith))
-    (below_8 (λ k. byte_of k (left n (8 * 7)) ≡ cond (nat_lt k 7) 0 (byte_of (k - 7) n)) (omega arith) (omega arith) (omega arith) (omega arith) (omega arith) (omega arith) (omega arith) (omega arith))
