@@ -196,12 +196,6 @@ fewer {A} p Ends n m more le phase spare c t h =
     (λ n spare a regs u le room h e. subst (Runs p Ends n Plain spare (at_place regs p.to)) (sym e) (ends p Ends n spare (at_place regs p.to) a refl h))
     phase spare (spare + more) c t t (omega arith) refl h
 
--- ---- one piece and then another
-further : (phase : Phase) (from from' pc pc' : ℕ) → from' ≤ from → Forth phase from pc pc' → Forth phase from' pc pc'
-further Plain from from' pc pc' le h = h
-further (Held _ _ _) from from' pc pc' le h = h
-further (Failed _) from from' pc pc' le h = (let at = h.0 in omega arith, h.1)
-
 -- ---- one step taken out of what holds for every number of steps
 module _ {T : Type 0} (Next : ℕ → Phase → ℕ → Alpha → T → Type 0) where
   abbrev pub Ever : Phase → ℕ → Alpha → T → Type 0
@@ -230,6 +224,3 @@ module _ {T : Type 0} (Next : ℕ → Phase → ℕ → Alpha → T → Type 0) 
     pub steps_open : (o : Option AlphaInstr) → ((n : ℕ) → Steps o allowed bonus phase spare c w t (Moves n) (Pal n) (Next n)) → Steps o allowed bonus phase spare c w t (λ d. (n : ℕ) → Moves n d) (λ k. (n : ℕ) → Pal n k) Ever
     steps_open None h = absurd (h 0)
     steps_open (Some i) h = acts_open (act i c) i h
-
-    within : (n : ℕ) → Inside p (Runs p Ends n) phase spare c t
-    within n = by n (runs_by p Ends n phase spare c t (h (suc n)))
