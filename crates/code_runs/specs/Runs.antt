@@ -1,17 +1,12 @@
 -- Runs of instructions: each instruction of a run but the first begins where the one before ends, and control comes to it
 -- from nowhere else, as far as the code shows.
 -- Source: own; the basic blocks of compilers, over instructions that may overlap.
-use Rattle.std.specs.Prelude.{◌≡◌, ◌≢◌, ◌<◌, ◌==◌, ◌++◌, ℕ, suc, Bool, All, List, [], ◌∷◌, Option, Some, None, length, option_and_then, slice_index_or, if◌then◌else◌}
-use Rattle.std.specs.List.{AllAdjacentBelow, filter_map, list_any}
-use Rattle.std.specs.Option.{option_to_list}
-use Rattle.vax_form.specs.Operation.{operation_at}
+use Rattle.std.specs.Prelude.{◌≡◌, ◌≢◌, ◌<◌, ◌==◌, ℕ, suc, Bool, All, List, [], ◌∷◌, Option, Some, None, length, slice_index_or, if◌then◌else◌}
+use Rattle.std.specs.List.{AllAdjacentBelow, list_any}
+use Rattle.vax_form.specs.Targets.{fixed_targets}
 use Rattle.vax_form.specs.declared.instr.Instr.{Instr}
-use Rattle.vax_form.specs.declared.operation.Operation.{Operation}
-use Rattle.vax_form.specs.declared.operation.Operation.TheVariants.{Jump, JumpToSubroutine}
 use Rattle.flow_discovery.specs.Reach.{has}
-use Rattle.vax_form.specs.Targets.{branch_target, fixed_address, operand_of}
 
--- ---- where control goes
 -- ---- instructions by their places in a list
 -- behind the last no instruction stands
 abbrev pub no_instr : Instr

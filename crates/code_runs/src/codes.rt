@@ -39,7 +39,7 @@ const ALL_READY: Rules = Rules {
     c: CodeRule::Ready,
 };
 
-#[tactic(auto, unfolding(crate::specs::Codes::use_of))]
+#[tactic(auto, unfolding(cc_liveness::specs::Uses::use_of))]
 fn use_of(instr: &Instr) -> CodeUse
     ensures { result ≡ use_of instr.now }
 {

@@ -74,7 +74,7 @@ fn fixed_address(operand: &Operand) -> Option<u32>
     }
 }
 
-#[tactic(auto, unfolding(crate::specs::Runs::jump_target))]
+#[tactic(auto, unfolding(vax_form::specs::Targets::jump_target))]
 fn jump_target(instr: &Instr, operation: Operation) -> Option<u32>
     ensures { result ≡ jump_target instr.now operation }
 {
@@ -121,7 +121,7 @@ fn note_branches(entrances: &mut [Entrance], instrs: &[Instr], operands: &[Opera
 }
 
 /// The address of the instruction's jump.
-#[tactic(auto, unfolding(crate::specs::Runs::jump_of))]
+#[tactic(auto, unfolding(vax_form::specs::Targets::jump_of))]
 fn jump_of(instr: &Instr) -> Option<u32>
     ensures { result ≡ jump_of instr.now }
 {
