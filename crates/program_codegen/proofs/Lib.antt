@@ -22,4 +22,5 @@ pub mod Exiting
 pub mod Trapping
 pub mod Testing
 pub mod Departures
+pub mod Beginning
 pub mod Promised

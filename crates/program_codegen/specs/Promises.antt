@@ -1,5 +1,5 @@
 -- What a block promises wherever it comes to stand.
-use Rattle.std.specs.Prelude.{◌≡◌, ℕ, ◌≤◌, ◌==◌, true, List, length, if◌then◌else◌}
+use Rattle.std.specs.Prelude.{◌≡◌, ℕ, ◌≤◌, ◌==◌, true, List, Some, length, if◌then◌else◌}
 use Rattle.vax_form.specs.PageTable.{IsPageTable}
 use Rattle.vax_form.specs.Ranges.{IsInRange}
 use Rattle.vax_form.specs.Tree.{Tree}
@@ -11,8 +11,9 @@ use Rattle.alpha_meaning.specs.State.{Regs, at_place}
 use Rattle.alpha_meaning.specs.Pieces.{Plain}
 use Rattle.alpha_meaning.specs.declared.access.AlphaKind.{AlphaKind}
 use Rattle.exception_records.specs.Blocks.{BlockValue}
-use Rattle.exception_records.specs.Points.{Entry}
+use Rattle.exception_records.specs.Points.{Entry, point_at}
 use Rattle.exception_records.specs.Shown.{Shows}
+use Rattle.exception_records.specs.declared.points.Point.{Point}
 use Rattle.exception_records.specs.declared.rules.Rules.{Rules}
 use Rattle.micro_ops.specs.Meaning.{program_tree}
 use Rattle.micro_ops.specs.Leaving.{CodesAgree}
@@ -28,6 +29,10 @@ use Rattle.block_law.specs.Translations.{Meaning, Code, placed, most_words}
 -- a point has the rules before the instruction, and where it is done, at a trap, those behind it
 abbrev pub HasRules : (before behind : Rules) → Entry → Type 0
 HasRules before behind entry = entry.1.rules ≡ (if entry.1.done == 1 then behind else before)
+
+-- the point of its first word has these rules
+abbrev pub BeginsBy : Rules → BlockValue → Type 0
+BeginsBy before block = (point : Point) → point_at block.points 0 ≡ Some point → point.rules ≡ before
 
 -- the instruction at the address writes the codes of these sources, its block may make all kinds of accesses, and the
 -- pages are those of an image

@@ -8,7 +8,7 @@ ghost use Rattle.block_law.specs.Tidy.{codes_written};
 ghost use Rattle.micro_ops.specs.Exits.{addresses_of};
 ghost use Rattle.program_codegen.specs.Words.{block_lines, block_of, program_block};
 ghost use Rattle.program_codegen.specs.Programs.{AllRanged, AllFitWords, ReadsReady, LeavesReady, KeepsTogether, is_narrow};
-ghost use Rattle.program_codegen.specs.Promises.{HasRules, CompilesProgram};
+ghost use Rattle.program_codegen.specs.Promises.{BeginsBy, HasRules, CompilesProgram};
 
 use crate::lines::{block_of, mark_first};
 use crate::operations::program_lines;
@@ -59,6 +59,8 @@ pub fn block(
     ensures shape { IfOk result (λ block. IsBlockOf false instr.now.at block) }
     // Its exits lead where the program leaves to.
     ensures exits { IfOk result (λ block. map (λ exit. exit.1) block.exits ≡ addresses_of instr.now.after program.now) }
+    // The codes at its first word are by the rules before the instruction.
+    ensures first { IfOk result (BeginsBy before) }
     // The codes at its words are by the rules before the instruction, and where it is done by those behind it.
     ensures rules { IfOk result (λ block. All (HasRules before behind) block.points) }
     // Of the registers of the codes it writes those that the words for the codes write.

@@ -6,7 +6,8 @@ use Rattle.block_law.specs.Tidy.{codes_written}
 use Rattle.micro_ops.specs.Exits.{addresses_of}
 use Rattle.program_codegen.specs.Words.{block_of, block_lines}
 use Rattle.program_codegen.specs.Programs.{AllRanged}
-use Rattle.program_codegen.specs.Promises.{HasRules, CompilesProgram}
+use Rattle.program_codegen.specs.Promises.{BeginsBy, HasRules, CompilesProgram}
+use Rattle.program_codegen.proofs.Beginning.{begins}
 use Rattle.program_codegen.proofs.Promised.{if_ok_both, all_fit, few_lines, is_block, goes_there, rules_are, writes_codes, compiles_program}
 use Rattle.program_codegen.proofs.blocks.block.Goals as goal
 
@@ -27,6 +28,12 @@ returns-clause-exits c =
     let i = c.args.instr.now in
     if_ok_both c.block_in.result (λ (b : BlockValue). b ≡ block_of (block_lines (record { at = i.at; after = i.after; sources = c.args.sources; before = c.args.before; behind = c.args.behind }) c.args.codes.now c.args.program.now)) (λ b. AllRanged c.args.program.now) (λ (b : BlockValue). map (λ (exit : ℕ × ℕ). exit.1) b.exits ≡ addresses_of i.after c.args.program.now)
     (λ b e ranged. subst (λ (b : BlockValue). map (λ (exit : ℕ × ℕ). exit.1) b.exits ≡ addresses_of i.after c.args.program.now) (sym e) (goes_there (record { at = i.at; after = i.after; sources = c.args.sources; before = c.args.before; behind = c.args.behind }) c.args.program.now c.args.codes.now c.requires.fits c.requires.codes c.requires.encodable c.requires.together c.block_in.ensures.after ranged)) c.block_in.ensures.block c.block_in.ensures.ranged
+
+pub returns-clause-first : goal.returns-clause-first
+returns-clause-first c =
+    let i = c.args.instr.now in
+    if_ok_both c.block_in.result (λ (b : BlockValue). b ≡ block_of (block_lines (record { at = i.at; after = i.after; sources = c.args.sources; before = c.args.before; behind = c.args.behind }) c.args.codes.now c.args.program.now)) (λ b. AllRanged c.args.program.now) (BeginsBy c.args.before)
+    (λ b e ranged. subst (BeginsBy c.args.before) (sym e) (begins (record { at = i.at; after = i.after; sources = c.args.sources; before = c.args.before; behind = c.args.behind }) c.args.codes.now c.args.program.now)) c.block_in.ensures.block c.block_in.ensures.ranged
 
 pub returns-clause-rules : goal.returns-clause-rules
 returns-clause-rules c =
