@@ -7,7 +7,7 @@ use crate::stop::{Refusal, Stop};
 use image_file::{Image, ImageRefusal, read_image};
 use std::alloc::Global;
 use system_model::Translation;
-use translate::{TranslateRefusal, translate};
+use translate::{Target, TranslateRefusal, translate};
 use vt_outside::{Desk, DeskRead, Got, Source};
 
 /// The most bytes of a file.
@@ -44,7 +44,7 @@ pub fn translated(alloc: Global, image: &Image) -> Result<Translation, Stop>
     ensures ok { IfOk result (IsTranslated image.now) }
     ensures err { IfErr result (λ stop. StopsAtTranslation stop image.now) }
 {
-    match translate(alloc, image, &[]) {
+    match translate(alloc, image, &[], Target::Original) {
         Ok(translation) => Ok(translation),
         Err(TranslateRefusal::WantOfMemory) => Err(Stop::WantOfMemory),
         Err(refusal) => Err(Stop::Refused(Refusal::Flow(refusal))),
