@@ -10,7 +10,7 @@ use image_file::{Image, ImageRefusal, read_image};
 use report_text::Subject;
 use std::alloc::Global;
 use system_model::Translation;
-use translate::{TranslateRefusal, translate};
+use translate::{Target, TranslateRefusal, translate};
 use translated_file::{Parts, TranslatedRefusal, compare, read_parts};
 use vt_outside::{Desk, DeskRead};
 
@@ -64,7 +64,7 @@ pub fn translated(alloc: Global, image: &Image, hints: &[u32]) -> Result<Transla
     ensures ok { IfOk result (IsTranslated image.now hints.now) }
     ensures err { IfErr result (λ stop. StopsAtTranslation stop image.now hints.now) }
 {
-    match translate(alloc, image, hints) {
+    match translate(alloc, image, hints, Target::Original) {
         Ok(translation) => Ok(translation),
         Err(TranslateRefusal::WantOfMemory) => Err(Stop::WantOfMemory),
         Err(cause) => Err(Stop::Refused(Refusal::new(Subject::Flow, cause.numbers().as_slice()))),
