@@ -47,7 +47,7 @@ use Rattle.vt_words.specs.Values.{value_of}
 use Rattle.micro_ops.specs.Sources.{sources_of_binary}
 use Rattle.micro_ops.specs.Values.{bits_of, signed}
 use Rattle.micro_ops.specs.declared.codes.CodeSource.TheVariants.{Add, Computed, Zero}
-use Rattle.micro_lower.specs.Rows.{micro_of, behind_binary, convert_plan, two_operands_plan, three_operands_plan, by_one_plan}
+use Rattle.micro_lower.specs.Rows.{divides, micro_of, behind_binary, convert_plan, two_operands_plan, three_operands_plan, by_one_plan}
 use Rattle.micro_lower.proofs.Fitting.{does_differ, signed_wide, signed_small, low_of, value_below, product_wide, product_small, product_low}
 use Rattle.micro_lower.proofs.Given.{replaces_as}
 use Rattle.micro_lower.proofs.MoveRows.{narrow_width}
@@ -61,11 +61,6 @@ use Rattle.micro_ops.specs.declared.program.MicroOp.TheVariants as ops
 use Rattle.micro_lower.specs.Plans.{unary}
 use Rattle.micro_lower.proofs.Overflow.{extended_below}
 use Rattle.std.proofs.Common.{lit<}
-
--- a division
-abbrev pub divides : BinaryOperation → Bool
-divides binary.Divide = true
-divides _ = false
 
 -- ---- results and codes
 -- a value of an extended number

@@ -92,13 +92,13 @@ is_read_then_branch values temps P size size' a b to from to' from' left goes =
     after_branch size' b to' from' [] others temps (λ others. P (value (temps to) ∷ others)) left' (λ none left''.
     after_all none temps (λ none. P (value (temps to) ∷ nothing ∷ none)) left'' (goes fits)))
 
-set_test : (x : ℕ) (taken other : ℕ) → (if x % 2 == 0 then other else taken) ≡ (if x % 2 == 1 then taken else other)
+pub set_test : (x : ℕ) (taken other : ℕ) → (if x % 2 == 0 then other else taken) ≡ (if x % 2 == 1 then taken else other)
 set_test x taken other = elim (cases_lt (x % 2) 1) [
   | inl below ↦ (let z : x % 2 ≡ 0 = omega (arith, below) in rw z refl)
   | inr above ↦ (let o : x % 2 ≡ 1 = omega (arith, above) in rw o refl)
 ]
 
-clear_test : (x : ℕ) (taken other : ℕ) → (if bit_xor (x % 2 % 256) 1 == 0 then other else taken) ≡ (if x % 2 == 0 then taken else other)
+pub clear_test : (x : ℕ) (taken other : ℕ) → (if bit_xor (x % 2 % 256) 1 == 0 then other else taken) ≡ (if x % 2 == 0 then taken else other)
 clear_test x taken other = elim (cases_lt (x % 2) 1) [
   | inl below ↦ (let z : x % 2 ≡ 0 = omega (arith, below) in rw z refl)
   | inr above ↦ (let o : x % 2 ≡ 1 = omega (arith, above) in rw o refl)

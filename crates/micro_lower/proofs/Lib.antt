@@ -24,3 +24,11 @@ pub mod CarryRows
 pub mod JumpsLower
 pub mod StatusRows
 pub mod PslRows
+pub mod Inner
+pub mod Keeping
+pub mod KeptRows
+pub mod Instructions
+pub mod ShiftRows
+pub mod PswRows
+pub mod BitValues
+pub mod BitRows

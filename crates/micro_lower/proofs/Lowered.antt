@@ -61,6 +61,16 @@ second a b more instr slots = subst (λ (i : Instr). Fits b.access b.size (opera
 pub third : (a b c : Slot) (more : List Slot) (instr : Instr) → AreSlots (a ∷ b ∷ c ∷ more) instr → Fits c.access c.size (operand instr 2)
 third a b c more instr slots = subst (λ (i : Instr). Fits c.access c.size (operand i 2)) (sym slots.is_instr) (third_of a b c more slots.operands slots.fit)
 
+fourth_of : (a b c d : Slot) (more : List Slot) (operands : List Operand) → FitSlots (a ∷ b ∷ c ∷ d ∷ more) operands → Fits d.access d.size (slice_index_or (padded operands) 3 Unused)
+fourth_of a b c d more [] fit = absurd fit
+fourth_of a b c d more (x ∷ []) fit = absurd fit.1
+fourth_of a b c d more (x ∷ y ∷ []) fit = absurd fit.1.1
+fourth_of a b c d more (x ∷ y ∷ z ∷ []) fit = absurd fit.1.1.1
+fourth_of a b c d more (x ∷ y ∷ z ∷ w ∷ operands) fit = fit.1.1.1.0
+
+pub fourth : (a b c d : Slot) (more : List Slot) (instr : Instr) → AreSlots (a ∷ b ∷ c ∷ d ∷ more) instr → Fits d.access d.size (operand instr 3)
+fourth a b c d more instr slots = subst (λ (i : Instr). Fits d.access d.size (operand i 3)) (sym slots.is_instr) (fourth_of a b c d more slots.operands slots.fit)
+
 types_length : (slots : List Slot) → length (types_of slots) ≡ length slots
 types_length [] = refl
 types_length (slot ∷ slots) = ap suc (types_length slots)

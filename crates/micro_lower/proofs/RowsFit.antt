@@ -13,8 +13,7 @@ use Rattle.micro_ops.specs.Fits.{step}
 use Rattle.micro_ops.specs.Sources.{sources_of}
 use Rattle.micro_ops.specs.declared.program.MicroOp.TheVariants as ops
 use Rattle.operand_programs.specs.Operands.{IsLocated}
-use Rattle.micro_lower.specs.Rows.{move_plan, clear_plan, move_zero_extended_plan, move_complemented_plan, move_negated_plan, convert_plan, move_address_plan, push_address_plan, push_long_plan, compare_plan, test_plan, bit_test_plan, by_one_plan, two_operands_plan, three_operands_plan, low_bit_plan, subtract_one_plan, add_one_plan, add_compare_plan, add_with_carry_plan, change_mode_plan, subtract_with_carry_plan, rotate_plan, move_psl_plan}
-use Rattle.micro_lower.proofs.BinaryRows.{divides}
+use Rattle.micro_lower.specs.Rows.{divides, move_plan, clear_plan, move_zero_extended_plan, move_complemented_plan, move_negated_plan, convert_plan, move_address_plan, push_address_plan, push_long_plan, compare_plan, test_plan, bit_test_plan, by_one_plan, two_operands_plan, three_operands_plan, low_bit_plan, subtract_one_plan, add_one_plan, add_compare_plan, add_with_carry_plan, change_mode_plan, subtract_with_carry_plan, rotate_plan, arithmetic_shift_plan, change_psw_plan, move_psl_plan}
 use Rattle.micro_lower.proofs.Fit.{plan_fits, located}
 
 pub move_fits : (size : Size) (instr : Instr) → IsLocated (operand instr 1) → plan_fits (sources_of (operations.Move size)) (move_plan size instr) instr ≡ true
@@ -199,3 +198,15 @@ rotate_fits instr is = located (operand instr 2) _ is (λ base index e. rw e ref
 pub move_psl_fits : (instr : Instr) → IsLocated (operand instr 0) → plan_fits (sources_of operations.MovePsl) (move_psl_plan instr) instr ≡ true
 unfolding sources_of step
 move_psl_fits instr is = located (operand instr 0) _ is (λ base index e. rw e refl) (λ n e. rw e refl)
+
+pub arithmetic_shift_fits : (instr : Instr) → IsLocated (operand instr 2) → plan_fits (sources_of operations.ArithmeticShift) (arithmetic_shift_plan instr) instr ≡ true
+unfolding sources_of step
+arithmetic_shift_fits instr is = located (operand instr 2) _ is (λ base index e. rw e refl) (λ n e. rw e refl)
+
+pub set_psw_fits : (instr : Instr) → plan_fits (sources_of operations.BitSetPsw) (change_psw_plan ops.Or) instr ≡ true
+unfolding sources_of step
+set_psw_fits instr = refl
+
+pub clear_psw_fits : (instr : Instr) → plan_fits (sources_of operations.BitClearPsw) (change_psw_plan ops.AndNot) instr ≡ true
+unfolding sources_of step
+clear_psw_fits instr = refl

@@ -14,15 +14,17 @@ use Rattle.micro_ops.specs.declared.program.Micro.{Micro}
 use Rattle.micro_ops.specs.declared.program.MicroOp.TheVariants as ops
 use Rattle.micro_lower.specs.Lowering.{Lowers, AreLongOperands}
 use Rattle.micro_lower.specs.Plans.{program_of}
-use Rattle.micro_lower.specs.Rows.{move_plan, clear_plan, move_zero_extended_plan, move_complemented_plan, move_negated_plan, convert_plan, move_address_plan, push_address_plan, push_long_plan, compare_plan, test_plan, bit_test_plan, by_one_plan, two_operands_plan, three_operands_plan, low_bit_plan, subtract_one_plan, add_one_plan, add_compare_plan, add_with_carry_plan, change_mode_plan, subtract_with_carry_plan, rotate_plan, move_psl_plan}
-use Rattle.micro_lower.proofs.BinaryRows.{divides, convert_all, two_operands_all, three_operands_all, increment_all, decrement_all}
+use Rattle.micro_lower.specs.Rows.{divides, move_plan, clear_plan, move_zero_extended_plan, move_complemented_plan, move_negated_plan, convert_plan, move_address_plan, push_address_plan, push_long_plan, compare_plan, test_plan, bit_test_plan, by_one_plan, two_operands_plan, three_operands_plan, low_bit_plan, subtract_one_plan, add_one_plan, add_compare_plan, add_with_carry_plan, change_mode_plan, subtract_with_carry_plan, rotate_plan, arithmetic_shift_plan, change_psw_plan, move_psl_plan}
+use Rattle.micro_lower.proofs.PswRows.{set_psw_all, clear_psw_all}
+use Rattle.micro_lower.proofs.ShiftRows.{arithmetic_shift_all}
+use Rattle.micro_lower.proofs.BinaryRows.{convert_all, two_operands_all, three_operands_all, increment_all, decrement_all}
 use Rattle.micro_lower.proofs.CarryRows.{add_with_carry_all, subtract_with_carry_all, rotate_all}
 use Rattle.micro_lower.proofs.PslRows.{move_psl_all}
 use Rattle.micro_lower.proofs.JumpRows.{low_bit_all, change_mode_all}
 use Rattle.micro_lower.proofs.LoopRows.{subtract_one_all, add_one_all, add_compare_all}
 use Rattle.micro_lower.proofs.Lowered.{slots_of, lowers_by_plan, first, second, third}
 use Rattle.micro_lower.proofs.MoveRows.{move_all, clear_all, move_zero_extended_all, move_complemented_all, move_negated_all, move_address_all}
-use Rattle.micro_lower.proofs.RowsFit.{move_fits, clear_fits, move_zero_extended_fits, move_complemented_fits, move_negated_fits, convert_fits, move_address_fits, push_address_fits, push_long_fits, compare_fits, test_fits, bit_test_fits, two_operands_fits, three_operands_fits, increment_fits, decrement_fits, low_bit_fits, subtract_one_fits, add_one_fits, add_compare_fits, add_with_carry_fits, change_mode_fits, subtract_with_carry_fits, rotate_fits, move_psl_fits}
+use Rattle.micro_lower.proofs.RowsFit.{move_fits, clear_fits, move_zero_extended_fits, move_complemented_fits, move_negated_fits, convert_fits, move_address_fits, push_address_fits, push_long_fits, compare_fits, test_fits, bit_test_fits, two_operands_fits, three_operands_fits, increment_fits, decrement_fits, low_bit_fits, subtract_one_fits, add_one_fits, add_compare_fits, add_with_carry_fits, change_mode_fits, subtract_with_carry_fits, rotate_fits, arithmetic_shift_fits, set_psw_fits, clear_psw_fits, move_psl_fits}
 use Rattle.micro_lower.proofs.Tabled.{is_narrower}
 use Rattle.micro_lower.proofs.TestRows.{compare_all, test_all, bit_test_all, push_long_all, push_address_all}
 
@@ -218,3 +220,25 @@ move_psl_lowers instr program spelled long is made =
     let slots = slots_of operations.MovePsl instr (move_psl_plan instr) program spelled long is made refl refl (lit≤ tt) in
     let fit = first _ _ instr slots in
     lowers_by_plan operations.MovePsl instr (move_psl_plan instr) program spelled long is made slots refl (lit≤ tt) (move_psl_all instr fit.0.1) fit.1 (move_psl_fits instr fit.0.0)
+
+pub arithmetic_shift_lowers : (instr : Instr) (program : List Micro) → IsSpelled instr → AreLongOperands instr → operation_at instr.opcode ≡ Some operations.ArithmeticShift
+    → program ≡ program_of (sources_of operations.ArithmeticShift) (arithmetic_shift_plan instr) instr → Lowers operations.ArithmeticShift instr program
+unfolding operands_of evaluated_row
+arithmetic_shift_lowers instr program spelled long is made =
+    let slots = slots_of operations.ArithmeticShift instr (arithmetic_shift_plan instr) program spelled long is made refl refl (lit≤ tt) in
+    let fit = third _ _ _ _ instr slots in
+    lowers_by_plan operations.ArithmeticShift instr (arithmetic_shift_plan instr) program spelled long is made slots refl (lit≤ tt) (arithmetic_shift_all instr fit.0.1) fit.1 (arithmetic_shift_fits instr fit.0.0)
+
+pub set_psw_lowers : (instr : Instr) (program : List Micro) → IsSpelled instr → AreLongOperands instr → operation_at instr.opcode ≡ Some operations.BitSetPsw
+    → program ≡ program_of (sources_of operations.BitSetPsw) (change_psw_plan ops.Or) instr → Lowers operations.BitSetPsw instr program
+unfolding operands_of evaluated_row
+set_psw_lowers instr program spelled long is made =
+    let slots = slots_of operations.BitSetPsw instr (change_psw_plan ops.Or) program spelled long is made refl refl (lit≤ tt) in
+    lowers_by_plan operations.BitSetPsw instr (change_psw_plan ops.Or) program spelled long is made slots refl (lit≤ tt) (set_psw_all instr) tt (set_psw_fits instr)
+
+pub clear_psw_lowers : (instr : Instr) (program : List Micro) → IsSpelled instr → AreLongOperands instr → operation_at instr.opcode ≡ Some operations.BitClearPsw
+    → program ≡ program_of (sources_of operations.BitClearPsw) (change_psw_plan ops.AndNot) instr → Lowers operations.BitClearPsw instr program
+unfolding operands_of evaluated_row
+clear_psw_lowers instr program spelled long is made =
+    let slots = slots_of operations.BitClearPsw instr (change_psw_plan ops.AndNot) program spelled long is made refl refl (lit≤ tt) in
+    lowers_by_plan operations.BitClearPsw instr (change_psw_plan ops.AndNot) program spelled long is made slots refl (lit≤ tt) (clear_psw_all instr) tt (clear_psw_fits instr)

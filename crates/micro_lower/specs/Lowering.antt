@@ -4,6 +4,7 @@ use Rattle.std.specs.Prelude.{◌≡◌, ◌⊎◌, ◌<◌, ◌==◌, ℕ, Bool
 use Rattle.std.specs.List.{list_any}
 use Rattle.std.specs.Option.{option_map_or}
 use Rattle.vax_form.specs.Operation.{operation_at}
+use Rattle.vax_form.specs.Row.{class_at}
 use Rattle.vax_form.specs.State.{IsState}
 use Rattle.vax_form.specs.Targets.{fixed_targets}
 use Rattle.vax_form.specs.Tree.{Same}
@@ -11,6 +12,7 @@ use Rattle.vax_form.specs.declared.instr.Instr.{Instr}
 use Rattle.vax_form.specs.declared.instr.Operand.{Operand}
 use Rattle.vax_form.specs.declared.instr.Operand.TheVariants as operands
 use Rattle.vax_form.specs.declared.operation.Operation.{Operation}
+use Rattle.vax_form.specs.declared.row.Class.TheVariants.{Translated}
 use Rattle.vax_form.specs.declared.pages.Pages.{Pages}
 use Rattle.vax_form.specs.declared.state.Flags.{Flags}
 use Rattle.vax_form.specs.declared.state.VaxState.{VaxState}
@@ -26,6 +28,7 @@ use Rattle.micro_ops.specs.Uses.{reads_flag}
 use Rattle.micro_ops.specs.declared.codes.CodeSources.{CodeSources}
 use Rattle.micro_ops.specs.declared.program.Micro.{Micro}
 use Rattle.operand_programs.specs.Pieces.{service, IsLong}
+use Rattle.micro_lower.specs.Rows.{has_program}
 
 -- the program does what the instruction does, from every state
 abbrev pub Means : Instr → List Micro → Type 0
@@ -72,3 +75,7 @@ pub record KeepsTo (instr : Instr) (program : List Micro) : Type 0 where
 pub record IsLowered (instr : Instr) (program : List Micro) : Type 0 where
   pub lowers : (operation : Operation) → operation_at instr.opcode ≡ Some operation → Lowers operation instr program
   pub keeps : KeepsTo instr program
+
+-- what has a program is translated
+abbrev pub ProgramsAreTranslated : Type 0
+ProgramsAreTranslated = (instr : Instr) → has_program instr ≡ true → class_at instr.opcode ≡ Translated

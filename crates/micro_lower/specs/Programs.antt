@@ -1,11 +1,14 @@
 -- The programs of operations that evaluate no operand specifier.
 use Rattle.std.specs.Prelude.{ℕ, List, [], ◌∷◌, Bool, true, false, Option, Some, None, if◌then◌else◌}
 use Rattle.vax_form.specs.declared.instr.Size.TheVariants.{Byte, Long}
+use Rattle.vax_form.specs.declared.instr.Instr.{Instr}
 use Rattle.vax_form.specs.declared.operation.Condition.{Condition}
 use Rattle.vax_form.specs.declared.operation.Operation.{Operation}
 use Rattle.vax_form.specs.declared.operation.Operation.TheVariants as operations
 use Rattle.vax_form.specs.declared.operation.Operation.TheVariants.{NoOperation, Branch, BranchIf, BranchToSubroutine, ReturnFromSubroutine}
 use Rattle.vax_form.specs.declared.operation.Condition.TheVariants.{NotEqual, Equal, Greater, LessOrEqual, GreaterOrEqual, Less, GreaterUnsigned, LessOrEqualUnsigned, OverflowClear, OverflowSet, CarryClear, CarrySet}
+use Rattle.vax_meaning.specs.Branches.{target}
+use Rattle.vax_meaning.specs.Evaluation.{operand}
 use Rattle.micro_ops.specs.declared.program.Arg.TheVariants.{Temp, Register, Flag, Const}
 use Rattle.micro_ops.specs.declared.program.Exit.TheVariants.{Next, Fixed, Computed, Choice, Breakpoint}
 use Rattle.micro_ops.specs.declared.program.Micro.{Micro}
@@ -87,12 +90,12 @@ return_program =
     ∷ Leave (Computed 0)
     ∷ []
 
--- these operations evaluate no operand specifier
-unfoldable pub is_plain : Operation → Bool
-is_plain NoOperation = true
-is_plain operations.Breakpoint = true
-is_plain (Branch width) = true
-is_plain (BranchIf condition) = true
-is_plain (BranchToSubroutine width) = true
-is_plain ReturnFromSubroutine = true
-is_plain _ = false
+-- the program of an operation that evaluates no operand specifier
+unfoldable pub plain_program_of : Operation → Instr → Option (List Micro)
+plain_program_of NoOperation instr = Some no_operation_program
+plain_program_of operations.Breakpoint instr = Some breakpoint_program
+plain_program_of (Branch width) instr = Some (branch_program (target (operand instr 0)))
+plain_program_of (BranchIf condition) instr = Some (branch_if_program condition (target (operand instr 0)) instr.after)
+plain_program_of (BranchToSubroutine width) instr = Some (subroutine_program (target (operand instr 0)) instr.after)
+plain_program_of ReturnFromSubroutine instr = Some return_program
+plain_program_of _ instr = None

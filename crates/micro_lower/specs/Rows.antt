@@ -1,7 +1,8 @@
 -- The rows of the table of instructions: the plan of each operation.
 -- VAX Architecture Reference Manual, "Instruction Descriptions".
-use Rattle.std.specs.Prelude.{ℕ, List, [], ◌∷◌, ◌++◌, Bool, true, false, ◌||◌, Option, Some, None}
-use Rattle.std.specs.Option.{is_some, option_or}
+use Rattle.std.specs.Prelude.{ℕ, List, [], ◌∷◌, ◌++◌, Bool, true, false, not, Option, Some, None, option_and_then}
+use Rattle.std.specs.Option.{option_or, option_map_or}
+use Rattle.vax_form.specs.Operation.{operation_at}
 use Rattle.vax_form.specs.Size.{size_of}
 use Rattle.vax_form.specs.declared.instr.Access.{Access}
 use Rattle.vax_form.specs.declared.instr.Access.TheVariants as accesses
@@ -14,6 +15,9 @@ use Rattle.vax_form.specs.declared.instr.Size.TheVariants.{Byte, Word, Long, Qua
 use Rattle.vax_form.specs.declared.instr.Width.{Width}
 use Rattle.vax_form.specs.declared.operation.BinaryOperation.{BinaryOperation}
 use Rattle.vax_form.specs.declared.operation.BinaryOperation.TheVariants as binary
+use Rattle.vax_form.specs.declared.operation.BitBranch.{BitBranch}
+use Rattle.vax_form.specs.declared.operation.BitStore.{BitStore}
+use Rattle.vax_form.specs.declared.operation.BitStore.TheVariants as stores
 use Rattle.vax_form.specs.declared.operation.Operation.{Operation}
 use Rattle.vax_form.specs.declared.operation.Operation.TheVariants as operations
 use Rattle.vax_meaning.specs.Branches.{target}
@@ -21,15 +25,18 @@ use Rattle.vax_meaning.specs.Evaluation.{operand}
 use Rattle.micro_ops.specs.declared.program.Arg.TheVariants.{Temp, Const, Flag}
 use Rattle.micro_ops.specs.declared.program.Exit.{Exit}
 use Rattle.micro_ops.specs.declared.program.Exit.TheVariants.{Next, Fixed, Computed, Choice, Service}
+use Rattle.micro_ops.specs.declared.program.LockedOp.{LockedOp}
+use Rattle.micro_ops.specs.declared.program.LockedOp.TheVariants as locked
 use Rattle.micro_ops.specs.declared.program.Micro.{Micro}
-use Rattle.micro_ops.specs.declared.program.Micro.TheVariants.{Compute}
+use Rattle.micro_ops.specs.declared.program.Micro.TheVariants.{Compute, Probe, Refuse, Read, Write, Locked}
 use Rattle.micro_ops.specs.declared.program.MicroOp.{MicroOp}
 use Rattle.micro_ops.specs.declared.program.MicroOp.TheVariants as ops
 use Rattle.micro_ops.specs.Sources.{sources_of}
 use Rattle.micro_ops.specs.declared.codes.CodeSources.{CodeSources}
 use Rattle.micro_lower.specs.Plans.{Plan, unary, program_of}
-use Rattle.micro_lower.specs.Programs.{is_plain}
+use Rattle.micro_lower.specs.Programs.{plain_program_of}
 use Rattle.micro_lower.specs.declared.plans.Slot.{Slot}
+use Rattle.micro_lower.specs.declared.plans.Target.{Target}
 use Rattle.micro_lower.specs.declared.plans.Target.TheVariants as targets
 
 -- ---- operands
@@ -325,6 +332,70 @@ add_compare_plan width instr = record {
   exit = branch_exit instr 3;
 }
 
+-- ---- branches on a bit
+-- the longword of a register goes into 1, an address into 2
+abbrev pub field : Size → Slot
+field size = slot accesses.Field size 1 2
+
+-- whether the bit of that number in 0 of the value in 1 is as the branch wants it
+abbrev pub bit_tested : (state : Bool) → Size → List Micro
+bit_tested state size = Compute 0 ops.ShiftRight size (Temp 1) (Temp 0) ∷ unless state (Compute 0 ops.And Byte (Temp 0) (Const 1) ∷ [])
+
+-- sets a bit, or clears it
+abbrev pub storing : Bool → MicroOp
+storing true = ops.Or
+storing false = ops.AndNot
+
+-- the value in 1 with another bit
+abbrev pub with_bit_into : (to : ℕ) → Size → (value : Bool) → List Micro
+with_bit_into to size value = Compute 3 ops.ShiftLeft size (Const 1) (Temp 0) ∷ Compute to (storing value) size (Temp 1) (Temp 3) ∷ []
+
+-- what is left in a register
+abbrev pub bit_stored : BitStore → List Micro
+bit_stored stores.Nothing = []
+bit_stored (stores.Plain value) = with_bit_into 2 Long value
+bit_stored (stores.Interlocked value) = with_bit_into 2 Long value
+
+abbrev pub locked_op : Bool → LockedOp
+locked_op true = locked.SetBit
+locked_op false = locked.ClearBit
+
+-- the byte at the address in 2 goes into 1, and the bit in it is left so
+abbrev pub byte_program : BitStore → List Micro
+byte_program stores.Nothing = Probe 2 1 false ∷ Read 1 2 1 ∷ []
+byte_program (stores.Plain value) = Probe 2 1 true ∷ Read 1 2 1 ∷ with_bit_into 3 Byte value ++ Write 2 1 3 ∷ []
+byte_program (stores.Interlocked value) = Probe 2 1 true ∷ Locked 1 2 (locked_op value) 0 ∷ []
+
+-- a position above 31 is no bit of a register. In memory it is a signed number of bits from the base
+abbrev pub before_bit : Operand → BitBranch → List Micro
+before_bit (operands.Register n) branch =
+    Compute 4 ops.LessUnsigned Long (Const 31) (Temp 0)
+    ∷ Refuse 4
+    ∷ bit_stored branch.store ++ bit_tested branch.state Long
+before_bit base branch =
+    Compute 4 ops.ShiftSigned Long (Temp 0) (Const 3)
+    ∷ Compute 2 ops.Add Long (Temp 2) (Temp 4)
+    ∷ Compute 0 ops.And Byte (Temp 0) (Const 7)
+    ∷ byte_program branch.store ++ bit_tested branch.state Byte
+
+abbrev pub bit_target : Operand → BitStore → Target
+bit_target base stores.Nothing = targets.Nowhere
+bit_target (operands.Register n) store = targets.Replacement (operands.Register n) Long
+bit_target base store = targets.Nowhere
+
+abbrev pub bit_plan_for : Operand → BitBranch → Instr → Plan
+bit_plan_for base branch instr = record {
+  slots = read Long 0 1 ∷ field Byte ∷ displaced Byte ∷ [];
+  before = before_bit base branch;
+  target = bit_target base branch.store;
+  behind = [];
+  exit = branch_exit instr 2;
+}
+
+-- BBS, BBC, BBSS, BBCS, BBSC, BBCC, BBSSI, BBCCI
+abbrev pub bit_branch_plan : BitBranch → Instr → Plan
+bit_branch_plan branch instr = bit_plan_for (operand instr 1) branch instr
+
 -- ---- jumps
 -- an operand whose address the code fixes is a fixed target
 abbrev pub jump_exit : Operand → Exit
@@ -394,8 +465,23 @@ subtract_with_carry_plan instr = record {
 }
 
 -- ---- shifts
--- ASHL: a shift to the left by the unsigned count, or with a negative count to the right by what it lacks to 256. V: the source
--- as a signed quadword, shifted by at most 32, is not its low longword, and the count is not negative
+-- V of ASHL into 3: the source as a signed quadword, shifted by at most 32, is not its low longword, and the count is not
+-- negative
+abbrev pub overflow_of_shift : List Micro
+overflow_of_shift =
+    unary 4 ops.Move Byte (Temp 0)
+    ∷ Compute 5 ops.LessUnsigned Byte (Const 32) (Temp 0)
+    ∷ Compute 4 ops.SelectNonzero Byte (Temp 5) (Const 32)
+    ∷ unary 5 ops.SignExtend Long (Temp 1)
+    ∷ Compute 4 ops.ShiftLeft Quad (Temp 5) (Temp 4)
+    ∷ unary 5 ops.SignExtend Long (Temp 4)
+    ∷ Compute 3 ops.Equal Quad (Temp 4) (Temp 5)
+    ∷ inverted 3
+    ∷ Compute 4 ops.Less Byte (Temp 0) (Const 0)
+    ∷ Compute 3 ops.AndNot Byte (Temp 3) (Temp 4)
+    ∷ []
+
+-- ASHL: to the left by the unsigned count, or with a negative count to the right by what it lacks to 256
 abbrev pub arithmetic_shift_plan : Instr → Plan
 arithmetic_shift_plan instr = record {
   slots = read Byte 0 1 ∷ read Long 1 2 ∷ written Long ∷ [];
@@ -407,18 +493,7 @@ arithmetic_shift_plan instr = record {
       ∷ Compute 2 ops.SelectNonzero Long (Temp 4) (Temp 5)
       ∷ [];
   target = targets.Result (operand instr 2) Long;
-  behind =
-      unary 4 ops.Move Byte (Temp 0)
-      ∷ Compute 5 ops.LessUnsigned Byte (Const 32) (Temp 0)
-      ∷ Compute 4 ops.SelectNonzero Byte (Temp 5) (Const 32)
-      ∷ unary 5 ops.SignExtend Long (Temp 1)
-      ∷ Compute 4 ops.ShiftLeft Quad (Temp 5) (Temp 4)
-      ∷ unary 5 ops.SignExtend Long (Temp 4)
-      ∷ Compute 3 ops.Equal Quad (Temp 4) (Temp 5)
-      ∷ inverted 3
-      ∷ Compute 4 ops.Less Byte (Temp 0) (Const 0)
-      ∷ Compute 3 ops.AndNot Byte (Temp 3) (Temp 4)
-      ∷ [];
+  behind = overflow_of_shift;
   exit = Next;
 }
 
@@ -464,6 +539,19 @@ move_psl_plan instr = record {
   exit = Next;
 }
 
+-- BISPSW, BICPSW: a mask above 255 is refused; the new PSW goes into 2
+abbrev pub change_psw_plan : MicroOp → Plan
+change_psw_plan op = record {
+  slots = read Word 0 1 ∷ [];
+  before =
+      Compute 1 ops.LessUnsigned Word (Const 255) (Temp 0)
+      ∷ Refuse 1
+      ∷ status_program ++ Compute 2 op Byte (Temp 2) (Temp 0) ∷ [];
+  target = targets.Nowhere;
+  behind = [];
+  exit = Next;
+}
+
 -- CHMK
 abbrev pub change_mode_plan : Plan
 change_mode_plan = record {
@@ -475,6 +563,10 @@ change_mode_plan = record {
 }
 
 -- ---- the table
+abbrev pub divides : BinaryOperation → Bool
+divides binary.Divide = true
+divides operation = false
+
 abbrev pub binary_row : BinaryOperation → Plan → Option Plan
 binary_row binary.Divide plan = None
 binary_row operation plan = Some plan
@@ -491,6 +583,8 @@ move_row (operations.MoveAddress size) instr = Some (move_address_plan size inst
 move_row (operations.PushAddress size) instr = Some (push_address_plan size)
 move_row operations.PushLong instr = Some push_long_plan
 move_row operations.MovePsl instr = Some (move_psl_plan instr)
+move_row operations.BitSetPsw instr = Some (change_psw_plan ops.Or)
+move_row operations.BitClearPsw instr = Some (change_psw_plan ops.AndNot)
 move_row _ instr = None
 
 -- arithmetic, logical operations and tests
@@ -504,6 +598,7 @@ arithmetic_row (operations.Increment width) instr = Some (by_one_plan ops.Add wi
 arithmetic_row (operations.Decrement width) instr = Some (by_one_plan ops.Sub width instr)
 arithmetic_row operations.AddWithCarry instr = Some (add_with_carry_plan instr)
 arithmetic_row operations.SubtractWithCarry instr = Some (subtract_with_carry_plan instr)
+arithmetic_row operations.ArithmeticShift instr = Some (arithmetic_shift_plan instr)
 arithmetic_row operations.Rotate instr = Some (rotate_plan instr)
 arithmetic_row _ instr = None
 
@@ -531,6 +626,28 @@ program_where codes instr (Some plan) = Some (program_of codes plan instr)
 abbrev pub row_program_of : Operation → Instr → Option (List Micro)
 row_program_of operation instr = program_where (sources_of operation) instr (row_of operation instr)
 
--- the operations that have a program here
-abbrev pub is_lowered : Operation → Instr → Bool
-is_lowered operation instr = is_plain operation || is_some (row_of operation instr)
+-- the program of an operation that is translated
+abbrev pub program_of_operation : Operation → Instr → Option (List Micro)
+program_of_operation operation instr = option_or (plain_program_of operation instr) (row_program_of operation instr)
+
+-- ---- of an instruction
+-- the operations that have a program: none that is always interpreted
+unfoldable pub is_lowered : Operation → Bool
+is_lowered (operations.TwoOperands operation width) = not (divides operation)
+is_lowered (operations.ThreeOperands operation width) = not (divides operation)
+is_lowered operations.AddAlignedWord = false
+is_lowered operations.ExtendedMultiply = false
+is_lowered (operations.BranchOnBit branch) = false
+is_lowered (operations.ExtractField signed) = false
+is_lowered operations.InsertField = false
+is_lowered (operations.Case width) = false
+is_lowered (operations.Long operation) = false
+is_lowered _ = true
+
+-- the instruction has a program
+unfoldable pub has_program : Instr → Bool
+has_program instr = option_map_or is_lowered (operation_at instr.opcode) false
+
+-- the program of an instruction
+unfoldable pub program_for : Instr → Option (List Micro)
+program_for instr = option_and_then (λ operation. program_of_operation operation instr) (operation_at instr.opcode)

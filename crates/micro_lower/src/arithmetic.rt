@@ -4,11 +4,11 @@ ghost use Rattle.std.specs.Prelude.{◌≡◌, ◌≤◌, IfOk, length};
 ghost use Rattle.vax_form.specs.Size.{size_of};
 ghost use Rattle.micro_ops.specs.Sources.{sources_of};
 ghost use Rattle.micro_lower.specs.Plans.{plan_of, program_of};
-ghost use Rattle.micro_lower.specs.Rows.{compare_plan, test_plan, bit_test_plan, micro_of, behind_binary, two_operands_plan, three_operands_plan, by_one_plan, add_with_carry_plan, subtract_with_carry_plan, rotate_plan};
+ghost use Rattle.micro_lower.specs.Rows.{compare_plan, test_plan, bit_test_plan, micro_of, behind_binary, two_operands_plan, three_operands_plan, by_one_plan, add_with_carry_plan, subtract_with_carry_plan, overflow_of_shift, arithmetic_shift_plan, rotate_plan};
 
 use crate::micros::{binary, unary};
 use crate::plans::{Plan, Target, assemble};
-use crate::rows::{modified, operand, overflow_by, read, written};
+use crate::rows::{inverted, modified, operand, overflow_by, read, written};
 use micro_ops::{Arg, CodeSources, Exit, Micro, MicroOp, sources_of};
 use std::alloc::Global;
 use vax_form::{BinaryOperation, Instr, Operation, Size, WantOfMemory, Width};
@@ -310,6 +310,55 @@ pub(crate) fn subtract_with_carry(alloc: Global, instr: &Instr) -> Result<Vec<Mi
         exit: Exit::Next,
     };
     let codes = sources_of(Operation::SubtractWithCarry);
+    assemble(alloc, codes, plan, instr)
+}
+
+/// V of ASHL into 3: the source as a signed quadword, shifted by at most 32, is not its low longword, and the count is
+/// not negative.
+fn overflow_of_shift() -> [Micro; 10]
+    ensures { result ≡ overflow_of_shift }
+{
+    let (byte, quad) = (Size::Byte, Size::Quad);
+    let (count, made, other) = (Arg::Temp(0), Arg::Temp(4), Arg::Temp(5));
+    let most = Arg::Const(32);
+    [
+        unary(4, MicroOp::Move, byte, count),
+        binary(5, MicroOp::LessUnsigned, byte, most, count),
+        binary(4, MicroOp::SelectNonzero, byte, other, most),
+        unary(5, MicroOp::SignExtend, Size::Long, Arg::Temp(1)),
+        binary(4, MicroOp::ShiftLeft, quad, other, made),
+        unary(5, MicroOp::SignExtend, Size::Long, made),
+        binary(3, MicroOp::Equal, quad, made, other),
+        inverted(3),
+        binary(4, MicroOp::Less, byte, count, Arg::Const(0)),
+        binary(3, MicroOp::AndNot, byte, Arg::Temp(3), made),
+    ]
+}
+
+/// ASHL: to the left by the unsigned count, or with a negative count to the right by what it lacks to 256.
+pub(crate) fn arithmetic_shift(alloc: Global, instr: &Instr) -> Result<Vec<Micro>, WantOfMemory>
+    ensures { IfOk result (λ p. p.items ≡ program_of (sources_of Operation.ArithmeticShift) (arithmetic_shift_plan instr.now) instr.now) }
+{
+    let (long, none) = (Size::Long, Arg::Const(0));
+    let (count, source) = (Arg::Temp(0), Arg::Temp(1));
+    let (made, other) = (Arg::Temp(4), Arg::Temp(5));
+    let plan = Plan {
+        slots: &[read(Size::Byte, 0, 1), read(long, 1, 2), written(long)],
+        before: &[
+            binary(2, MicroOp::ShiftLeft, long, source, count),
+            binary(4, MicroOp::Sub, Size::Byte, none, count),
+            binary(5, MicroOp::ShiftSigned, long, source, made),
+            binary(4, MicroOp::Less, Size::Byte, count, none),
+            binary(2, MicroOp::SelectNonzero, long, made, other),
+        ],
+        target: Target::Result {
+            operand: operand(instr, 2),
+            size: long,
+        },
+        behind: &overflow_of_shift(),
+        exit: Exit::Next,
+    };
+    let codes = sources_of(Operation::ArithmeticShift);
     assemble(alloc, codes, plan, instr)
 }
 

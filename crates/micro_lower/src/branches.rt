@@ -1,11 +1,9 @@
-// Instructions that evaluate no operand: branches, BSB, RSB, NOP and BPT.
-ghost use Rattle.std.specs.Prelude.{◌≡◌, ◌↔◌, true, IfOk, IfSome, IsSome};
-ghost use Rattle.vax_form.specs.Grammar.{IsSpelled};
-ghost use Rattle.vax_form.specs.Operation.{operation_at};
+// Instructions that evaluate no operand specifier.
+// VAX Architecture Reference Manual, "Control Instructions".
+ghost use Rattle.std.specs.Prelude.{◌≡◌, IfOk, MatchOption};
 ghost use Rattle.vax_meaning.specs.Branches.{target};
 ghost use Rattle.vax_meaning.specs.Evaluation.{operand};
-ghost use Rattle.micro_lower.specs.Lowering.{Lowers};
-ghost use Rattle.micro_lower.specs.Programs.{no_operation_program, breakpoint_program, branch_program, flags_of, is_negated, flag_test, branch_if_program, subroutine_program, return_program, is_plain};
+ghost use Rattle.micro_lower.specs.Programs.{flags_of, is_negated, flag_test, branch_if_program, subroutine_program, return_program, plain_program_of};
 
 use crate::micros::{binary, unary};
 use micro_ops::{Arg, Exit, Micro, MicroOp};
@@ -144,16 +142,13 @@ fn subroutine_return(alloc: Global) -> Result<Vec<Micro>, AllocError>
 }
 
 /// The program of an operation that evaluates no operand specifier; None for any other.
-#[tactic(auto, unfolding(crate::specs::Programs::is_plain))]
+#[tactic(auto, unfolding(crate::specs::Programs::plain_program_of))]
 pub(crate) fn lower_plain(
     alloc: Global,
     operation: Operation,
     instr: &Instr,
 ) -> Result<Option<Vec<Micro>>, AllocError>
-    requires spelled { IsSpelled instr.now }
-    requires operation { operation_at instr.now.opcode ≡ Some operation }
-    ensures lowers { IfOk result (λ found. IfSome found (λ p. Lowers operation instr.now p.items)) }
-    ensures covered { IfOk result (λ found. IsSome found ↔ (is_plain operation ≡ true)) }
+    ensures { IfOk result (λ found. MatchOption found (plain_program_of operation instr.now ≡ None) (λ p. plain_program_of operation instr.now ≡ Some p.items)) }
 {
     match operation {
         Operation::NoOperation => Ok(Some(vec![in alloc; Micro::Leave(Exit::Next)]?)),

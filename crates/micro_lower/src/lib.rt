@@ -6,12 +6,15 @@ mod arithmetic;
 mod branches;
 mod codes;
 mod jumps;
+mod laws;
 mod lowering;
 mod micros;
 mod moves;
 mod plans;
 mod ranges;
 mod rows;
+mod status;
 mod table;
 
-pub use lowering::lower_operation;
+pub use laws::translated_law;
+pub use lowering::{LowerFault, has_program, lower};

@@ -1,32 +1,94 @@
 // The program of an instruction.
-ghost use Rattle.std.specs.Prelude.{◌≡◌, ◌↔◌, true, IfOk, IfSome, IsSome, Some};
+ghost use Rattle.std.specs.Prelude.{◌≡◌, ◌↔◌, true, false, IfOk, IfErr, MatchOption, Some, None};
 ghost use Rattle.vax_form.specs.Grammar.{IsSpelled};
-ghost use Rattle.vax_form.specs.Operation.{operation_at};
-ghost use Rattle.micro_lower.specs.Lowering.{Lowers};
-ghost use Rattle.micro_lower.specs.Rows.{is_lowered};
+ghost use Rattle.micro_lower.specs.Lowering.{IsLowered};
+ghost use Rattle.micro_lower.specs.Rows.{is_lowered, has_program, program_of_operation, program_for};
 
 use crate::branches::lower_plain;
 use crate::ranges::are_long;
 use crate::table::lower_row;
 use micro_ops::Micro;
 use std::alloc::Global;
-use vax_form::{Instr, Operation, WantOfMemory};
+use vax_form::{BinaryOperation, Instr, Operation, WantOfMemory, operation_of};
 
-/// The program of an instruction with that operation; None where the operation has none yet.
-pub fn lower_operation(
+/// Why an instruction was not lowered.
+#[derive(Clone, Copy, Debug, PartialEq, Eq)]
+pub enum LowerFault {
+    /// It has no program: it is always interpreted.
+    NotTranslated,
+    /// There was no memory for its program.
+    WantOfMemory,
+}
+
+/// Whether an operation has a program.
+#[tactic(auto, unfolding(crate::specs::Rows::is_lowered))]
+fn is_lowered(operation: Operation) -> bool
+    ensures { result ≡ is_lowered operation }
+{
+    match operation {
+        Operation::TwoOperands(BinaryOperation::Divide, _)
+        | Operation::ThreeOperands(BinaryOperation::Divide, _)
+        | Operation::AddAlignedWord
+        | Operation::ExtendedMultiply
+        | Operation::BranchOnBit(_)
+        | Operation::ExtractField { .. }
+        | Operation::InsertField
+        | Operation::Case(_)
+        | Operation::Long(_) => false,
+        _ => true,
+    }
+}
+
+/// Whether an instruction has a program.
+#[tactic(auto, unfolding(crate::specs::Rows::has_program))]
+pub fn has_program(instr: &Instr) -> bool
+    ensures { result ≡ has_program instr.now }
+{
+    match operation_of(instr.opcode) {
+        Some(operation) => is_lowered(operation),
+        None => false,
+    }
+}
+
+/// The program of an instruction with that operation; None where the operation has none.
+fn lower_operation(
     alloc: Global,
     operation: Operation,
     instr: &Instr,
 ) -> Result<Option<Vec<Micro>>, WantOfMemory>
-    requires spelled { IsSpelled instr.now }
-    requires operation { operation_at instr.now.opcode ≡ Some operation }
-    ensures lowers { IfOk result (λ found. IfSome found (λ p. Lowers operation instr.now p.items)) }
-    ensures covered { IfOk result (λ found. IsSome found ↔ (is_lowered operation instr.now ≡ true)) }
+    ensures { IfOk result (λ found. MatchOption found (program_of_operation operation instr.now ≡ None) (λ p. program_of_operation operation instr.now ≡ Some p.items)) }
 {
-    are_long(instr);
     match lower_plain(alloc, operation, instr) {
         Err(_) => Err(WantOfMemory),
         Ok(Some(program)) => Ok(Some(program)),
         Ok(None) => lower_row(alloc, operation, instr),
+    }
+}
+
+/// The program of an instruction: the same checks and references, and the same end, from every state. Where it leaves, the
+/// temporaries hold what the condition codes come from. It reads no other codes than the instruction, and leaves only to
+/// where the instruction may go on.
+///
+/// # Errors
+///
+/// `NotTranslated` just where the instruction has no program; `WantOfMemory`.
+pub fn lower(alloc: Global, instr: &Instr) -> Result<Vec<Micro>, LowerFault>
+    requires spelled { IsSpelled instr.now }
+    ensures lowered { IfOk result (λ program. IsLowered instr.now program.items) }
+    ensures program { IfOk result (λ program. program_for instr.now ≡ Some program.items) }
+    ensures translated { IfOk result (λ _. has_program instr.now ≡ true) }
+    ensures refused { IfErr result (λ fault. (fault ≡ LowerFault.NotTranslated) ↔ (has_program instr.now ≡ false)) }
+{
+    are_long(instr);
+    if !has_program(instr) {
+        return Err(LowerFault::NotTranslated);
+    }
+    let Some(operation) = operation_of(instr.opcode) else {
+        return Err(LowerFault::NotTranslated);
+    };
+    match lower_operation(alloc, operation, instr) {
+        Ok(Some(program)) => Ok(program),
+        Ok(None) => Err(LowerFault::NotTranslated),
+        Err(WantOfMemory) => Err(LowerFault::WantOfMemory),
     }
 }

@@ -3,7 +3,7 @@
 ghost use Rattle.std.specs.Prelude.{◌≡◌, IfOk};
 ghost use Rattle.micro_ops.specs.Sources.{sources_of};
 ghost use Rattle.micro_lower.specs.Plans.{program_of};
-ghost use Rattle.micro_lower.specs.Rows.{move_plan, move_zero_extended_plan, clear_plan, ones, move_complemented_plan, move_negated_plan, convert_plan, move_address_plan, push_address_plan, push_long_plan, doubled, flag_added, status_program, move_psl_plan};
+ghost use Rattle.micro_lower.specs.Rows.{move_plan, move_zero_extended_plan, clear_plan, ones, move_complemented_plan, move_negated_plan, convert_plan, move_address_plan, push_address_plan, push_long_plan};
 
 use crate::micros::{binary, unary};
 use crate::plans::{Plan, Target, assemble};
@@ -219,67 +219,4 @@ pub(crate) fn push_long(alloc: Global, instr: &Instr) -> Result<Vec<Micro>, Want
         exit: Exit::Next,
     };
     assemble(alloc, sources_of(Operation::PushLong), plan, instr)
-}
-
-/// User mode, now and before, in the processor status longword.
-const USER_MODE: u64 = 0x03C0_0000;
-
-fn doubled() -> Micro
-    ensures { result ≡ doubled }
-{
-    binary(2, MicroOp::Add, Size::Byte, Arg::Temp(2), Arg::Temp(2))
-}
-
-fn with_flag(flag: u8) -> Micro
-    ensures { result ≡ flag_added flag }
-{
-    binary(2, MicroOp::Add, Size::Byte, Arg::Temp(2), Arg::Flag(flag))
-}
-
-/// The low byte of the status into 2, from DV down to C.
-fn status() -> [Micro; 15]
-    ensures { result ≡ status_program }
-{
-    [
-        unary(2, MicroOp::Move, Size::Byte, Arg::Flag(7)),
-        doubled(),
-        with_flag(6),
-        doubled(),
-        with_flag(5),
-        doubled(),
-        with_flag(4),
-        doubled(),
-        with_flag(0),
-        doubled(),
-        with_flag(1),
-        doubled(),
-        with_flag(2),
-        doubled(),
-        with_flag(3),
-    ]
-}
-
-/// MOVPSL: user mode is added.
-pub(crate) fn move_psl(alloc: Global, instr: &Instr) -> Result<Vec<Micro>, WantOfMemory>
-    ensures { IfOk result (λ p. p.items ≡ program_of (sources_of Operation.MovePsl) (move_psl_plan instr.now) instr.now) }
-{
-    let [a, b, c, d, e, f, g, h, i, j, k, l, m, n, o] = status();
-    let mode = binary(
-        2,
-        MicroOp::Add,
-        Size::Long,
-        Arg::Temp(2),
-        Arg::Const(USER_MODE),
-    );
-    let plan = Plan {
-        slots: &[written(Size::Long)],
-        before: &[a, b, c, d, e, f, g, h, i, j, k, l, m, n, o, mode],
-        target: Target::Result {
-            operand: operand(instr, 0),
-            size: Size::Long,
-        },
-        behind: &[],
-        exit: Exit::Next,
-    };
-    assemble(alloc, sources_of(Operation::MovePsl), plan, instr)
 }

@@ -4,17 +4,18 @@ ghost use Rattle.micro_ops.specs.Sources.{sources_of};
 ghost use Rattle.micro_lower.specs.Rows.{program_where, move_row, arithmetic_row, control_row, row_of, row_program_of};
 
 use crate::arithmetic::{
-    add_with_carry, bit_test, compare, decrement, increment, rotate, subtract_with_carry,
-    test_value, three_operands, two_operands,
+    add_with_carry, arithmetic_shift, bit_test, compare, decrement, increment, rotate,
+    subtract_with_carry, test_value, three_operands, two_operands,
 };
 use crate::jumps::{
     add_compare_branch, add_one_branch, branch_on_low_bit, change_mode, jump, jump_to_subroutine,
     subtract_one_branch,
 };
 use crate::moves::{
-    clear, convert, move_address, move_complemented, move_negated, move_psl, move_value,
-    move_zero_extended, push_address, push_long,
+    clear, convert, move_address, move_complemented, move_negated, move_value, move_zero_extended,
+    push_address, push_long,
 };
+use crate::status::{bit_clear_psw, bit_set_psw, move_psl};
 use micro_ops::Micro;
 use std::alloc::Global;
 use vax_form::{BinaryOperation, Instr, Operation, WantOfMemory};
@@ -39,6 +40,8 @@ fn lower_move(
         Operation::PushAddress(size) => push_address(alloc, instr, size)?,
         Operation::PushLong => push_long(alloc, instr)?,
         Operation::MovePsl => move_psl(alloc, instr)?,
+        Operation::BitSetPsw => bit_set_psw(alloc, instr)?,
+        Operation::BitClearPsw => bit_clear_psw(alloc, instr)?,
         _ => return Ok(None),
     };
     Ok(Some(program))
@@ -67,6 +70,7 @@ fn lower_arithmetic(
         Operation::Decrement(width) => decrement(alloc, instr, width)?,
         Operation::AddWithCarry => add_with_carry(alloc, instr)?,
         Operation::SubtractWithCarry => subtract_with_carry(alloc, instr)?,
+        Operation::ArithmeticShift => arithmetic_shift(alloc, instr)?,
         Operation::Rotate => rotate(alloc, instr)?,
         _ => return Ok(None),
     };

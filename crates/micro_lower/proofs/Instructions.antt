@@ -1,0 +1,91 @@
+-- An instruction that has a program is translated, and lowered by it.
+use Rattle.std.proofs.Common.{◌≡◌, Bool, true, false, List, Some, None, Option, refl, sym, ◌∙◌, subst}
+use Rattle.std.specs.Option.{is_some, option_or, option_map_or}
+use Rattle.vax_form.specs.Grammar.{IsSpelled}
+use Rattle.vax_form.specs.Operation.{operation_at}
+use Rattle.vax_form.specs.Row.{class_where, class_of_operation}
+use Rattle.vax_form.specs.declared.instr.Instr.{Instr}
+use Rattle.vax_form.specs.declared.operation.BinaryOperation.TheVariants as binary
+use Rattle.vax_form.specs.declared.operation.Operation.{Operation}
+use Rattle.vax_form.specs.declared.operation.Operation.TheVariants as operations
+use Rattle.vax_form.specs.declared.row.Class.TheVariants.{Translated}
+use Rattle.micro_ops.specs.declared.program.Micro.{Micro}
+use Rattle.micro_lower.specs.Lowering.{Lowers, KeepsTo, IsLowered, AreLongOperands, ProgramsAreTranslated}
+use Rattle.micro_lower.specs.Programs.{plain_program_of}
+use Rattle.micro_lower.specs.Rows.{move_row, arithmetic_row, control_row, row_program_of, program_of_operation, is_lowered, has_program, program_for}
+use Rattle.micro_lower.proofs.ByRow.{rows_lower}
+use Rattle.micro_lower.proofs.Covered.{plain_lower}
+use Rattle.micro_lower.proofs.KeptRows.{plain_keep, rows_keep}
+
+-- it comes from the one, or from the other
+from_either : (plain row : Option (List Micro)) (program : List Micro) (X : Type 0) → option_or plain row ≡ Some program → (plain ≡ Some program → X) → (row ≡ Some program → X) → X
+from_either None row program X is by_plain by_row = by_row is
+from_either (Some made) row program X is by_plain by_row = by_plain is
+
+some_same : (x y : Operation) → Some x ≡ Some y → x ≡ y
+some_same x y is = cc
+
+pub is_lowered_by : (instr : Instr) (operation : Operation) (program : List Micro) → IsSpelled instr → AreLongOperands instr → operation_at instr.opcode ≡ Some operation
+    → program_of_operation operation instr ≡ Some program → IsLowered instr program
+is_lowered_by instr operation program spelled long is made = record {
+  lowers = λ other at. subst (λ o. Lowers o instr program) (some_same operation other (sym is ∙ at))
+      (from_either _ _ program (Lowers operation instr program) made (plain_lower operation instr program spelled is) (rows_lower operation instr program spelled long is));
+  keeps = from_either _ _ program (KeepsTo instr program) made (plain_keep operation instr program spelled long is) (rows_keep operation instr program spelled long is);
+}
+
+-- ---- what has a program
+pub lowered_has : (operation : Operation) (instr : Instr) → is_lowered operation ≡ true → program_of_operation operation instr ≡ None → ⊥
+unfolding is_lowered plain_program_of move_row arithmetic_row control_row
+lowered_has (operations.TwoOperands binary.Add width) instr has none = cc
+lowered_has (operations.TwoOperands binary.Subtract width) instr has none = cc
+lowered_has (operations.TwoOperands binary.Multiply width) instr has none = cc
+lowered_has (operations.TwoOperands binary.Divide width) instr has none = cc
+lowered_has (operations.TwoOperands binary.BitSet width) instr has none = cc
+lowered_has (operations.TwoOperands binary.BitClear width) instr has none = cc
+lowered_has (operations.TwoOperands binary.ExclusiveOr width) instr has none = cc
+lowered_has (operations.ThreeOperands binary.Add width) instr has none = cc
+lowered_has (operations.ThreeOperands binary.Subtract width) instr has none = cc
+lowered_has (operations.ThreeOperands binary.Multiply width) instr has none = cc
+lowered_has (operations.ThreeOperands binary.Divide width) instr has none = cc
+lowered_has (operations.ThreeOperands binary.BitSet width) instr has none = cc
+lowered_has (operations.ThreeOperands binary.BitClear width) instr has none = cc
+lowered_has (operations.ThreeOperands binary.ExclusiveOr width) instr has none = cc
+lowered_has _ instr has none = cc
+
+pub program_is : (instr : Instr) (operation : Operation) (program : List Micro) → operation_at instr.opcode ≡ Some operation → program_of_operation operation instr ≡ Some program → program_for instr ≡ Some program
+unfolding program_for
+program_is instr operation program is made = rw is made
+
+pub has_it : (instr : Instr) (operation : Operation) → operation_at instr.opcode ≡ Some operation → has_program instr ≡ true → program_of_operation operation instr ≡ None → ⊥
+unfolding has_program
+has_it instr operation is has none = lowered_has operation instr (rw is at has) none
+
+class_is : (operation : Operation) → is_lowered operation ≡ true → class_of_operation operation ≡ Translated
+unfolding is_lowered class_of_operation
+class_is (operations.TwoOperands binary.Add width) has = refl
+class_is (operations.TwoOperands binary.Subtract width) has = refl
+class_is (operations.TwoOperands binary.Multiply width) has = refl
+class_is (operations.TwoOperands binary.BitSet width) has = refl
+class_is (operations.TwoOperands binary.BitClear width) has = refl
+class_is (operations.TwoOperands binary.ExclusiveOr width) has = refl
+class_is (operations.TwoOperands binary.Divide width) has = cc
+class_is (operations.ThreeOperands binary.Add width) has = refl
+class_is (operations.ThreeOperands binary.Subtract width) has = refl
+class_is (operations.ThreeOperands binary.Multiply width) has = refl
+class_is (operations.ThreeOperands binary.BitSet width) has = refl
+class_is (operations.ThreeOperands binary.BitClear width) has = refl
+class_is (operations.ThreeOperands binary.ExclusiveOr width) has = refl
+class_is (operations.ThreeOperands binary.Divide width) has = cc
+class_is (operations.ExtractField signed) has = cc
+class_is operations.InsertField has = cc
+class_is (operations.Case width) has = cc
+class_is (operations.Long operation) has = cc
+class_is _ has = refl
+
+class_where_lowered : (found : Option Operation) → option_map_or is_lowered found false ≡ true → class_where found ≡ Translated
+class_where_lowered None has = cc
+class_where_lowered (Some operation) has = class_is operation has
+
+pub programs_are_translated : ProgramsAreTranslated
+unfolding has_program
+programs_are_translated instr has = class_where_lowered (operation_at instr.opcode) has

@@ -1,0 +1,193 @@
+-- The program of each operation keeps to its instruction.
+use Rattle.std.proofs.Common.{◌≡◌, ℕ, Bool, true, false, List, [], ◌∷◌, ◌++◌, Some, None, refl, sym, subst, lit≤}
+use Rattle.vax_form.specs.Grammar.{IsSpelled}
+use Rattle.vax_form.specs.Operation.{operation_at}
+use Rattle.vax_form.specs.Row.{operands_of, displacement}
+use Rattle.vax_form.specs.Size.{size_of}
+use Rattle.vax_form.specs.Targets.{jump_target}
+use Rattle.vax_form.specs.declared.instr.Instr.{Instr}
+use Rattle.vax_form.specs.declared.instr.Size.{Size}
+use Rattle.vax_form.specs.declared.instr.Size.TheVariants.{Byte, Long}
+use Rattle.vax_form.specs.declared.instr.Width.{Width}
+use Rattle.vax_form.specs.declared.operation.BinaryOperation.{BinaryOperation}
+use Rattle.vax_form.specs.declared.operation.BinaryOperation.TheVariants as binary
+use Rattle.vax_form.specs.declared.operation.Condition.{Condition}
+use Rattle.vax_form.specs.declared.operation.Condition.TheVariants as conditions
+use Rattle.vax_form.specs.declared.operation.Operation.{Operation}
+use Rattle.vax_form.specs.declared.operation.Operation.TheVariants as operations
+use Rattle.vax_form.specs.declared.state.Flags.{Flags}
+use Rattle.vax_meaning.specs.Branches.{target}
+use Rattle.vax_meaning.specs.Evaluation.{operand}
+use Rattle.cc_liveness.specs.Uses.{code_use_of, tested_by}
+use Rattle.micro_ops.specs.Sources.{sources_of}
+use Rattle.micro_ops.specs.declared.program.Arg.TheVariants.{Register, Const}
+use Rattle.micro_ops.specs.declared.program.Exit.TheVariants as exits
+use Rattle.micro_ops.specs.declared.program.Micro.{Micro}
+use Rattle.micro_ops.specs.declared.program.Micro.TheVariants.{Compute, Probe, Read, Write, Commit}
+use Rattle.micro_ops.specs.declared.program.MicroOp.TheVariants as ops
+use Rattle.operand_programs.specs.Operands.{IsTarget}
+use Rattle.micro_lower.specs.Lowering.{AreLongOperands, KeepsTo}
+use Rattle.micro_lower.specs.Plans.{Plan, program_of}
+use Rattle.micro_lower.specs.Programs.{flags_of, flag_test, inversion, branch_if_program, subroutine_program, return_program, plain_program_of}
+use Rattle.micro_lower.specs.Rows.{move_row, arithmetic_row, control_row, row_program_of, branch_exit, move_plan, clear_plan, move_zero_extended_plan, move_complemented_plan, move_negated_plan, convert_plan, move_address_plan, push_address_plan, push_long_plan, compare_plan, test_plan, bit_test_plan, by_one_plan, two_operands_plan, three_operands_plan, low_bit_plan, subtract_one_plan, add_one_plan, add_compare_plan, jump_plan, jump_to_subroutine_plan, add_with_carry_plan, change_mode_plan, subtract_with_carry_plan, rotate_plan, arithmetic_shift_plan, change_psw_plan, move_psl_plan}
+use Rattle.micro_lower.proofs.Covered.{targeted}
+use Rattle.micro_lower.proofs.Inner.{IsInner}
+use Rattle.micro_lower.proofs.Keeping.{Ends, ExitKeeps, keeps, ends_here, next_keeps, breakpoint_keeps, branch_fixed, fixed_keeps, choice_keeps, computed_keeps, jump_keeps, plan_keeps}
+use Rattle.micro_lower.proofs.Lowered.{slots_of, second, third, fourth}
+use Rattle.micro_lower.proofs.Spelled.{Given, given}
+
+some_same : (x y : List Micro) → Some x ≡ Some y → y ≡ x
+some_same x y is = cc
+
+-- for each operation
+abbrev Keeps : Operation → (Instr → List Micro → Type 0) → Type 0
+Keeps operation IsMade = (instr : Instr) (program : List Micro) → IsSpelled instr → AreLongOperands instr → operation_at instr.opcode ≡ Some operation → IsMade instr program → KeepsTo instr program
+
+abbrev KeepsByRow : Operation → Type 0
+KeepsByRow operation = Keeps operation (λ instr program. row_program_of operation instr ≡ Some program)
+
+-- ---- operations that evaluate no operand specifier
+-- a displacement is the operand
+displaced : (instr : Instr) (width : Size) (operation : Operation) → IsSpelled instr → operation_at instr.opcode ≡ Some operation
+    → operands_of operation ≡ (displacement width ∷ []) → IsTarget (operand instr 0)
+displaced instr width operation spelled is row =
+    let t = targeted instr width (subst (λ types. Given types instr) row (given instr operation spelled is)) in
+    subst (λ i. IsTarget (operand i 0)) (sym t.1) tt
+
+-- a program that is an exit alone, or a test and an exit
+branch_if_ends : (condition : Condition) (taken after : _) → Ends (code_use_of (operations.BranchIf condition)).reads (exits.Choice 0 taken after) (branch_if_program condition taken after)
+unfolding code_use_of tested_by
+branch_if_ends conditions.NotEqual taken after = ends_here _ (exits.Choice 0 taken after) (flag_test (flags_of conditions.NotEqual) ∷ inversion ∷ []) refl
+branch_if_ends conditions.Equal taken after = ends_here _ (exits.Choice 0 taken after) (flag_test (flags_of conditions.Equal) ∷ []) refl
+branch_if_ends conditions.Greater taken after = ends_here _ (exits.Choice 0 taken after) (flag_test (flags_of conditions.Greater) ∷ inversion ∷ []) refl
+branch_if_ends conditions.LessOrEqual taken after = ends_here _ (exits.Choice 0 taken after) (flag_test (flags_of conditions.LessOrEqual) ∷ []) refl
+branch_if_ends conditions.GreaterOrEqual taken after = ends_here _ (exits.Choice 0 taken after) (flag_test (flags_of conditions.GreaterOrEqual) ∷ inversion ∷ []) refl
+branch_if_ends conditions.Less taken after = ends_here _ (exits.Choice 0 taken after) (flag_test (flags_of conditions.Less) ∷ []) refl
+branch_if_ends conditions.GreaterUnsigned taken after = ends_here _ (exits.Choice 0 taken after) (flag_test (flags_of conditions.GreaterUnsigned) ∷ inversion ∷ []) refl
+branch_if_ends conditions.LessOrEqualUnsigned taken after = ends_here _ (exits.Choice 0 taken after) (flag_test (flags_of conditions.LessOrEqualUnsigned) ∷ []) refl
+branch_if_ends conditions.OverflowClear taken after = ends_here _ (exits.Choice 0 taken after) (flag_test (flags_of conditions.OverflowClear) ∷ inversion ∷ []) refl
+branch_if_ends conditions.OverflowSet taken after = ends_here _ (exits.Choice 0 taken after) (flag_test (flags_of conditions.OverflowSet) ∷ []) refl
+branch_if_ends conditions.CarryClear taken after = ends_here _ (exits.Choice 0 taken after) (flag_test (flags_of conditions.CarryClear) ∷ inversion ∷ []) refl
+branch_if_ends conditions.CarrySet taken after = ends_here _ (exits.Choice 0 taken after) (flag_test (flags_of conditions.CarrySet) ∷ []) refl
+
+subroutine_ends : (set : Flags) (to after : ℕ) → Ends set (exits.Fixed to) (subroutine_program to after)
+subroutine_ends set to after =
+    ends_here set (exits.Fixed to)
+    (Compute 1 ops.Add Long (Register 14) (Const 0xFFFFFFFC) ∷ Compute 2 ops.Move Long (Const after) (Const 0) ∷ Probe 1 4 true ∷ Write 1 4 2 ∷ Commit 14 1 ∷ []) refl
+
+return_ends : (set : Flags) → Ends set (exits.Computed 0) return_program
+return_ends set =
+    ends_here set (exits.Computed 0)
+    (Compute 1 ops.Move Long (Register 14) (Const 0) ∷ Probe 1 4 false ∷ Read 0 1 4 ∷ Compute 5 ops.Add Long (Register 14) (Const 4) ∷ Commit 14 5 ∷ []) refl
+
+pub plain_keep : (operation : Operation) → Keeps operation (λ instr program. plain_program_of operation instr ≡ Some program)
+unfolding plain_program_of code_use_of operands_of
+plain_keep operations.NoOperation instr program spelled long is made =
+    subst (KeepsTo instr) (sym (some_same _ _ made)) (keeps operations.NoOperation instr exits.Next _ is (ends_here _ exits.Next [] refl) (next_keeps instr exits.Next refl refl))
+plain_keep operations.Breakpoint instr program spelled long is made =
+    subst (KeepsTo instr) (sym (some_same _ _ made)) (keeps operations.Breakpoint instr exits.Breakpoint _ is (ends_here _ exits.Breakpoint [] refl) (breakpoint_keeps instr))
+plain_keep (operations.Branch width) instr program spelled long is made =
+    let fixed = branch_fixed instr 0 (displaced instr (size_of width) _ spelled is refl) in
+    let to = target (operand instr 0) in
+    subst (KeepsTo instr) (sym (some_same _ _ made)) (keeps (operations.Branch width) instr (exits.Fixed to) _ is (ends_here _ (exits.Fixed to) [] refl) (fixed_keeps _ instr is refl to fixed))
+plain_keep (operations.BranchIf condition) instr program spelled long is made =
+    let fixed = branch_fixed instr 0 (displaced instr Byte _ spelled is refl) in
+    let to = target (operand instr 0) in
+    subst (KeepsTo instr) (sym (some_same _ _ made)) (keeps (operations.BranchIf condition) instr (exits.Choice 0 to instr.after) _ is (branch_if_ends condition to instr.after) (choice_keeps _ instr is refl 0 to fixed))
+plain_keep (operations.BranchToSubroutine width) instr program spelled long is made =
+    let fixed = branch_fixed instr 0 (displaced instr (size_of width) _ spelled is refl) in
+    let to = target (operand instr 0) in
+    subst (KeepsTo instr) (sym (some_same _ _ made)) (keeps (operations.BranchToSubroutine width) instr (exits.Fixed to) _ is (subroutine_ends _ to instr.after) (fixed_keeps _ instr is refl to fixed))
+plain_keep operations.ReturnFromSubroutine instr program spelled long is made =
+    subst (KeepsTo instr) (sym (some_same _ _ made)) (keeps operations.ReturnFromSubroutine instr (exits.Computed 0) _ is (return_ends _) (computed_keeps _ instr is refl 0))
+plain_keep _ instr program spelled long is made = cc
+
+-- ---- rows
+-- inner operations of branches
+low_bit_inner : (set : Flags) (state : Bool) (instr : Instr) → (let plan = low_bit_plan state instr in IsInner set (plan.before ++ plan.behind))
+low_bit_inner set true instr = refl
+low_bit_inner set false instr = refl
+
+subtract_one_inner : (set : Flags) (or_equal : Bool) (instr : Instr) → (let plan = subtract_one_plan or_equal instr in IsInner set (plan.before ++ plan.behind))
+subtract_one_inner set true instr = refl
+subtract_one_inner set false instr = refl
+
+add_one_inner : (set : Flags) (or_equal : Bool) (instr : Instr) → (let plan = add_one_plan or_equal instr in IsInner set (plan.before ++ plan.behind))
+add_one_inner set true instr = refl
+add_one_inner set false instr = refl
+
+-- a branch by the operand of that number
+branch_keeps : (operation : Operation) (instr : Instr) → operation_at instr.opcode ≡ Some operation → (code_use_of operation).ends ≡ true
+    → (number : ℕ) → IsTarget (operand instr number) → ExitKeeps instr (branch_exit instr number)
+branch_keeps operation instr is ends number displaced = choice_keeps operation instr is ends 0 (target (operand instr number)) (branch_fixed instr number displaced)
+
+next_row : (operation : Operation) (instr : Instr) (plan : Plan) (program : List Micro) → operation_at instr.opcode ≡ Some operation
+    → IsInner (code_use_of operation).reads (plan.before ++ plan.behind) → plan.exit ≡ exits.Next
+    → Some (program_of (sources_of operation) plan instr) ≡ Some program → KeepsTo instr program
+next_row operation instr plan program is inner exit row =
+    plan_keeps operation instr plan program is inner (rw exit (next_keeps instr exits.Next refl refl)) (some_same _ _ row)
+
+two_operands_keep : (operation : BinaryOperation) (width : Width) → KeepsByRow (operations.TwoOperands operation width)
+unfolding move_row arithmetic_row control_row code_use_of
+two_operands_keep binary.Add width instr program spelled long is row = next_row (operations.TwoOperands binary.Add width) instr (two_operands_plan binary.Add width instr) program is refl refl row
+two_operands_keep binary.Subtract width instr program spelled long is row = next_row (operations.TwoOperands binary.Subtract width) instr (two_operands_plan binary.Subtract width instr) program is refl refl row
+two_operands_keep binary.Multiply width instr program spelled long is row = next_row (operations.TwoOperands binary.Multiply width) instr (two_operands_plan binary.Multiply width instr) program is refl refl row
+two_operands_keep binary.BitSet width instr program spelled long is row = next_row (operations.TwoOperands binary.BitSet width) instr (two_operands_plan binary.BitSet width instr) program is refl refl row
+two_operands_keep binary.BitClear width instr program spelled long is row = next_row (operations.TwoOperands binary.BitClear width) instr (two_operands_plan binary.BitClear width instr) program is refl refl row
+two_operands_keep binary.ExclusiveOr width instr program spelled long is row = next_row (operations.TwoOperands binary.ExclusiveOr width) instr (two_operands_plan binary.ExclusiveOr width instr) program is refl refl row
+two_operands_keep binary.Divide width instr program spelled long is row = cc
+
+three_operands_keep : (operation : BinaryOperation) (width : Width) → KeepsByRow (operations.ThreeOperands operation width)
+unfolding move_row arithmetic_row control_row code_use_of
+three_operands_keep binary.Add width instr program spelled long is row = next_row (operations.ThreeOperands binary.Add width) instr (three_operands_plan binary.Add width instr) program is refl refl row
+three_operands_keep binary.Subtract width instr program spelled long is row = next_row (operations.ThreeOperands binary.Subtract width) instr (three_operands_plan binary.Subtract width instr) program is refl refl row
+three_operands_keep binary.Multiply width instr program spelled long is row = next_row (operations.ThreeOperands binary.Multiply width) instr (three_operands_plan binary.Multiply width instr) program is refl refl row
+three_operands_keep binary.BitSet width instr program spelled long is row = next_row (operations.ThreeOperands binary.BitSet width) instr (three_operands_plan binary.BitSet width instr) program is refl refl row
+three_operands_keep binary.BitClear width instr program spelled long is row = next_row (operations.ThreeOperands binary.BitClear width) instr (three_operands_plan binary.BitClear width instr) program is refl refl row
+three_operands_keep binary.ExclusiveOr width instr program spelled long is row = next_row (operations.ThreeOperands binary.ExclusiveOr width) instr (three_operands_plan binary.ExclusiveOr width instr) program is refl refl row
+three_operands_keep binary.Divide width instr program spelled long is row = cc
+
+pub rows_keep : (operation : Operation) → KeepsByRow operation
+unfolding move_row arithmetic_row control_row code_use_of operands_of jump_target
+rows_keep (operations.Move size) instr program spelled long is row = next_row (operations.Move size) instr (move_plan size instr) program is refl refl row
+rows_keep (operations.MoveZeroExtended from to) instr program spelled long is row = next_row (operations.MoveZeroExtended from to) instr (move_zero_extended_plan from to instr) program is refl refl row
+rows_keep (operations.Clear size) instr program spelled long is row = next_row (operations.Clear size) instr (clear_plan size instr) program is refl refl row
+rows_keep (operations.MoveComplemented width) instr program spelled long is row = next_row (operations.MoveComplemented width) instr (move_complemented_plan width instr) program is refl refl row
+rows_keep (operations.MoveNegated width) instr program spelled long is row = next_row (operations.MoveNegated width) instr (move_negated_plan width instr) program is refl refl row
+rows_keep (operations.Convert from to) instr program spelled long is row = next_row (operations.Convert from to) instr (convert_plan from to instr) program is refl refl row
+rows_keep (operations.MoveAddress size) instr program spelled long is row = next_row (operations.MoveAddress size) instr (move_address_plan size instr) program is refl refl row
+rows_keep (operations.PushAddress size) instr program spelled long is row = next_row (operations.PushAddress size) instr (push_address_plan size) program is refl refl row
+rows_keep operations.PushLong instr program spelled long is row = next_row operations.PushLong instr (push_long_plan) program is refl refl row
+rows_keep (operations.Compare width) instr program spelled long is row = next_row (operations.Compare width) instr (compare_plan width) program is refl refl row
+rows_keep (operations.Test width) instr program spelled long is row = next_row (operations.Test width) instr (test_plan width) program is refl refl row
+rows_keep (operations.BitTest width) instr program spelled long is row = next_row (operations.BitTest width) instr (bit_test_plan width) program is refl refl row
+rows_keep (operations.Increment width) instr program spelled long is row = next_row (operations.Increment width) instr (by_one_plan ops.Add width instr) program is refl refl row
+rows_keep (operations.Decrement width) instr program spelled long is row = next_row (operations.Decrement width) instr (by_one_plan ops.Sub width instr) program is refl refl row
+rows_keep operations.SubtractWithCarry instr program spelled long is row = next_row operations.SubtractWithCarry instr (subtract_with_carry_plan instr) program is refl refl row
+rows_keep operations.AddWithCarry instr program spelled long is row = next_row operations.AddWithCarry instr (add_with_carry_plan instr) program is refl refl row
+rows_keep operations.Rotate instr program spelled long is row = next_row operations.Rotate instr (rotate_plan instr) program is refl refl row
+rows_keep operations.ArithmeticShift instr program spelled long is row = next_row operations.ArithmeticShift instr (arithmetic_shift_plan instr) program is refl refl row
+rows_keep operations.BitSetPsw instr program spelled long is row = next_row operations.BitSetPsw instr (change_psw_plan ops.Or) program is refl refl row
+rows_keep operations.BitClearPsw instr program spelled long is row = next_row operations.BitClearPsw instr (change_psw_plan ops.AndNot) program is refl refl row
+rows_keep operations.MovePsl instr program spelled long is row = next_row operations.MovePsl instr (move_psl_plan instr) program is refl refl row
+rows_keep operations.ChangeMode instr program spelled long is row =
+    plan_keeps operations.ChangeMode instr change_mode_plan program is refl (next_keeps instr (exits.Service 0) refl refl) (some_same _ _ row)
+rows_keep (operations.BranchOnLowBit state) instr program spelled long is row =
+    let slots = slots_of (operations.BranchOnLowBit state) instr (low_bit_plan state instr) program spelled long is (some_same _ _ row) refl refl (lit≤ tt) in
+    plan_keeps (operations.BranchOnLowBit state) instr (low_bit_plan state instr) program is (low_bit_inner _ state instr) (branch_keeps (operations.BranchOnLowBit state) instr is refl 1 (second _ _ _ instr slots).0.0) (some_same _ _ row)
+rows_keep (operations.SubtractOneBranch or_equal) instr program spelled long is row =
+    let slots = slots_of (operations.SubtractOneBranch or_equal) instr (subtract_one_plan or_equal instr) program spelled long is (some_same _ _ row) refl refl (lit≤ tt) in
+    plan_keeps (operations.SubtractOneBranch or_equal) instr (subtract_one_plan or_equal instr) program is (subtract_one_inner _ or_equal instr) (branch_keeps (operations.SubtractOneBranch or_equal) instr is refl 1 (second _ _ _ instr slots).0.0) (some_same _ _ row)
+rows_keep (operations.AddOneBranch or_equal) instr program spelled long is row =
+    let slots = slots_of (operations.AddOneBranch or_equal) instr (add_one_plan or_equal instr) program spelled long is (some_same _ _ row) refl refl (lit≤ tt) in
+    plan_keeps (operations.AddOneBranch or_equal) instr (add_one_plan or_equal instr) program is (add_one_inner _ or_equal instr) (branch_keeps (operations.AddOneBranch or_equal) instr is refl 2 (third _ _ _ _ instr slots).0.0) (some_same _ _ row)
+rows_keep (operations.AddCompareBranch width) instr program spelled long is row =
+    let slots = slots_of (operations.AddCompareBranch width) instr (add_compare_plan width instr) program spelled long is (some_same _ _ row) refl refl (lit≤ tt) in
+    plan_keeps (operations.AddCompareBranch width) instr (add_compare_plan width instr) program is refl (branch_keeps (operations.AddCompareBranch width) instr is refl 3 (fourth _ _ _ _ _ instr slots).0.0) (some_same _ _ row)
+rows_keep operations.Jump instr program spelled long is row =
+    plan_keeps operations.Jump instr (jump_plan instr) program is refl (jump_keeps _ instr is refl refl) (some_same _ _ row)
+rows_keep operations.JumpToSubroutine instr program spelled long is row =
+    plan_keeps operations.JumpToSubroutine instr (jump_to_subroutine_plan instr) program is refl (jump_keeps _ instr is refl refl) (some_same _ _ row)
+rows_keep (operations.TwoOperands operation width) instr program spelled long is row = two_operands_keep operation width instr program spelled long is row
+rows_keep (operations.ThreeOperands operation width) instr program spelled long is row = three_operands_keep operation width instr program spelled long is row
+rows_keep _ instr program spelled long is row = cc

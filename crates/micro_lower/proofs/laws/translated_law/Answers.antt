@@ -1,0 +1,6 @@
+-- What is lowered is translated.
+use Rattle.micro_lower.proofs.Instructions.{programs_are_translated}
+use Rattle.micro_lower.proofs.laws.translated_law.Goals as goal
+
+pub returns : goal.returns
+returns c = programs_are_translated
