@@ -11,7 +11,7 @@ use Rattle.vax_form.specs.declared.operation.Operation.TheVariants as operations
 use Rattle.micro_ops.specs.declared.program.Micro.{Micro}
 use Rattle.micro_lower.specs.Lowering.{Lowers, AreLongOperands}
 use Rattle.micro_lower.specs.Rows.{row_program_of, move_row, arithmetic_row, control_row}
-use Rattle.micro_lower.proofs.RowsLower.{move_lowers, clear_lowers, move_zero_extended_lowers, move_complemented_lowers, move_negated_lowers, convert_lowers, move_address_lowers, push_address_lowers, push_long_lowers, compare_lowers, test_lowers, bit_test_lowers, two_operands_lowers, three_operands_lowers, increment_lowers, decrement_lowers, low_bit_lowers, subtract_one_lowers, add_one_lowers, add_compare_lowers, add_with_carry_lowers, change_mode_lowers, subtract_with_carry_lowers, rotate_lowers, arithmetic_shift_lowers, set_psw_lowers, clear_psw_lowers, move_psl_lowers}
+use Rattle.micro_lower.proofs.RowsLower.{move_lowers, clear_lowers, move_zero_extended_lowers, move_complemented_lowers, move_negated_lowers, convert_lowers, move_address_lowers, push_address_lowers, push_long_lowers, compare_lowers, test_lowers, bit_test_lowers, two_operands_lowers, three_operands_lowers, increment_lowers, decrement_lowers, low_bit_lowers, subtract_one_lowers, add_one_lowers, add_compare_lowers, add_with_carry_lowers, change_mode_lowers, subtract_with_carry_lowers, rotate_lowers, arithmetic_shift_lowers, set_psw_lowers, clear_psw_lowers, bit_branch_lowers, move_psl_lowers}
 use Rattle.micro_lower.proofs.JumpsLower.{jump_lowers, call_lowers}
 use Rattle.micro_lower.proofs.Tabled.{is_in_table}
 
@@ -68,6 +68,7 @@ rows_lower operations.Rotate instr program spelled long is row = rotate_lowers i
 rows_lower operations.ArithmeticShift instr program spelled long is row = arithmetic_shift_lowers instr program spelled long is (sym (some_same _ _ row))
 rows_lower operations.BitSetPsw instr program spelled long is row = set_psw_lowers instr program spelled long is (sym (some_same _ _ row))
 rows_lower operations.BitClearPsw instr program spelled long is row = clear_psw_lowers instr program spelled long is (sym (some_same _ _ row))
+rows_lower (operations.BranchOnBit branch) instr program spelled long is row = bit_branch_lowers branch instr program spelled long is (sym (some_same _ _ row))
 rows_lower operations.MovePsl instr program spelled long is row = move_psl_lowers instr program spelled long is (sym (some_same _ _ row))
 rows_lower operations.AddWithCarry instr program spelled long is row = add_with_carry_lowers instr program spelled long is (sym (some_same _ _ row))
 rows_lower operations.Jump instr program spelled long is row = jump_lowers instr program spelled long is (sym (some_same _ _ row))

@@ -6,11 +6,15 @@ use Rattle.vax_form.specs.Row.{operands_of, displacement}
 use Rattle.vax_form.specs.Size.{size_of}
 use Rattle.vax_form.specs.Targets.{jump_target}
 use Rattle.vax_form.specs.declared.instr.Instr.{Instr}
+use Rattle.vax_form.specs.declared.instr.Operand.{Operand}
+use Rattle.vax_form.specs.declared.instr.Operand.TheVariants as operands
 use Rattle.vax_form.specs.declared.instr.Size.{Size}
 use Rattle.vax_form.specs.declared.instr.Size.TheVariants.{Byte, Long}
 use Rattle.vax_form.specs.declared.instr.Width.{Width}
 use Rattle.vax_form.specs.declared.operation.BinaryOperation.{BinaryOperation}
 use Rattle.vax_form.specs.declared.operation.BinaryOperation.TheVariants as binary
+use Rattle.vax_form.specs.declared.operation.BitStore.{BitStore}
+use Rattle.vax_form.specs.declared.operation.BitStore.TheVariants as stores
 use Rattle.vax_form.specs.declared.operation.Condition.{Condition}
 use Rattle.vax_form.specs.declared.operation.Condition.TheVariants as conditions
 use Rattle.vax_form.specs.declared.operation.Operation.{Operation}
@@ -29,9 +33,9 @@ use Rattle.operand_programs.specs.Operands.{IsTarget}
 use Rattle.micro_lower.specs.Lowering.{AreLongOperands, KeepsTo}
 use Rattle.micro_lower.specs.Plans.{Plan, program_of}
 use Rattle.micro_lower.specs.Programs.{flags_of, flag_test, inversion, branch_if_program, subroutine_program, return_program, plain_program_of}
-use Rattle.micro_lower.specs.Rows.{move_row, arithmetic_row, control_row, row_program_of, branch_exit, move_plan, clear_plan, move_zero_extended_plan, move_complemented_plan, move_negated_plan, convert_plan, move_address_plan, push_address_plan, push_long_plan, compare_plan, test_plan, bit_test_plan, by_one_plan, two_operands_plan, three_operands_plan, low_bit_plan, subtract_one_plan, add_one_plan, add_compare_plan, jump_plan, jump_to_subroutine_plan, add_with_carry_plan, change_mode_plan, subtract_with_carry_plan, rotate_plan, arithmetic_shift_plan, change_psw_plan, move_psl_plan}
+use Rattle.micro_lower.specs.Rows.{move_row, arithmetic_row, control_row, row_program_of, branch_exit, move_plan, clear_plan, move_zero_extended_plan, move_complemented_plan, move_negated_plan, convert_plan, move_address_plan, push_address_plan, push_long_plan, compare_plan, test_plan, bit_test_plan, by_one_plan, two_operands_plan, three_operands_plan, low_bit_plan, subtract_one_plan, add_one_plan, add_compare_plan, jump_plan, jump_to_subroutine_plan, add_with_carry_plan, change_mode_plan, subtract_with_carry_plan, rotate_plan, arithmetic_shift_plan, change_psw_plan, bit_tested, bit_stored, byte_program, before_bit, bit_branch_plan, move_psl_plan}
 use Rattle.micro_lower.proofs.Covered.{targeted}
-use Rattle.micro_lower.proofs.Inner.{IsInner}
+use Rattle.micro_lower.proofs.Inner.{IsInner, joined}
 use Rattle.micro_lower.proofs.Keeping.{Ends, ExitKeeps, keeps, ends_here, next_keeps, breakpoint_keeps, branch_fixed, fixed_keeps, choice_keeps, computed_keeps, jump_keeps, plan_keeps}
 use Rattle.micro_lower.proofs.Lowered.{slots_of, second, third, fourth}
 use Rattle.micro_lower.proofs.Spelled.{Given, given}
@@ -116,6 +120,30 @@ add_one_inner : (set : Flags) (or_equal : Bool) (instr : Instr) → (let plan = 
 add_one_inner set true instr = refl
 add_one_inner set false instr = refl
 
+tested_inner : (set : Flags) (state : Bool) (size : Size) → IsInner set (bit_tested state size)
+tested_inner set true size = refl
+tested_inner set false size = refl
+
+stored_inner : (set : Flags) (store : BitStore) → IsInner set (bit_stored store)
+stored_inner set stores.Nothing = refl
+stored_inner set (stores.Plain value) = refl
+stored_inner set (stores.Interlocked value) = refl
+
+byte_inner : (set : Flags) (store : BitStore) → IsInner set (byte_program store)
+byte_inner set stores.Nothing = refl
+byte_inner set (stores.Plain value) = refl
+byte_inner set (stores.Interlocked value) = refl
+
+before_inner : (set : Flags) (base : Operand) (state : Bool) (store : BitStore) → IsInner set (before_bit base (record { state = state; store = store }))
+before_inner set (operands.Register n) state store = joined set (bit_stored store) (bit_tested state Long) (stored_inner set store) (tested_inner set state Long)
+before_inner set operands.Unused state store = joined set (byte_program store) (bit_tested state Byte) (byte_inner set store) (tested_inner set state Byte)
+before_inner set (operands.Value value) state store = joined set (byte_program store) (bit_tested state Byte) (byte_inner set store) (tested_inner set state Byte)
+before_inner set (operands.Place base index) state store = joined set (byte_program store) (bit_tested state Byte) (byte_inner set store) (tested_inner set state Byte)
+before_inner set (operands.Target address) state store = joined set (byte_program store) (bit_tested state Byte) (byte_inner set store) (tested_inner set state Byte)
+
+bit_inner : (set : Flags) (base : Operand) (state : Bool) (store : BitStore) → IsInner set (before_bit base (record { state = state; store = store }) ++ [])
+bit_inner set base state store = joined set (before_bit base (record { state = state; store = store })) [] (before_inner set base state store) refl
+
 -- a branch by the operand of that number
 branch_keeps : (operation : Operation) (instr : Instr) → operation_at instr.opcode ≡ Some operation → (code_use_of operation).ends ≡ true
     → (number : ℕ) → IsTarget (operand instr number) → ExitKeeps instr (branch_exit instr number)
@@ -184,6 +212,10 @@ rows_keep (operations.AddOneBranch or_equal) instr program spelled long is row =
 rows_keep (operations.AddCompareBranch width) instr program spelled long is row =
     let slots = slots_of (operations.AddCompareBranch width) instr (add_compare_plan width instr) program spelled long is (some_same _ _ row) refl refl (lit≤ tt) in
     plan_keeps (operations.AddCompareBranch width) instr (add_compare_plan width instr) program is refl (branch_keeps (operations.AddCompareBranch width) instr is refl 3 (fourth _ _ _ _ _ instr slots).0.0) (some_same _ _ row)
+rows_keep (operations.BranchOnBit branch) instr program spelled long is row =
+    let slots = slots_of (operations.BranchOnBit branch) instr (bit_branch_plan branch instr) program spelled long is (some_same _ _ row) refl refl (lit≤ tt) in
+    plan_keeps (operations.BranchOnBit branch) instr (bit_branch_plan branch instr) program is (bit_inner _ (operand instr 1) branch.state branch.store)
+    (branch_keeps (operations.BranchOnBit branch) instr is refl 2 (third _ _ _ _ instr slots).0.0) (some_same _ _ row)
 rows_keep operations.Jump instr program spelled long is row =
     plan_keeps operations.Jump instr (jump_plan instr) program is refl (jump_keeps _ instr is refl refl) (some_same _ _ row)
 rows_keep operations.JumpToSubroutine instr program spelled long is row =

@@ -7,13 +7,16 @@ use Rattle.vax_form.specs.declared.instr.Width.{Width}
 use Rattle.vax_form.specs.declared.instr.Width.TheVariants as widths
 use Rattle.vax_form.specs.declared.operation.BinaryOperation.{BinaryOperation}
 use Rattle.vax_form.specs.declared.operation.BinaryOperation.TheVariants as binary
+use Rattle.vax_form.specs.declared.operation.BitBranch.{BitBranch}
+use Rattle.vax_form.specs.declared.operation.BitStore.{BitStore}
+use Rattle.vax_form.specs.declared.operation.BitStore.TheVariants as stores
 use Rattle.vax_form.specs.declared.operation.Operation.TheVariants as operations
 use Rattle.vax_meaning.specs.Evaluation.{operand}
 use Rattle.micro_ops.specs.Fits.{step}
 use Rattle.micro_ops.specs.Sources.{sources_of}
 use Rattle.micro_ops.specs.declared.program.MicroOp.TheVariants as ops
 use Rattle.operand_programs.specs.Operands.{IsLocated}
-use Rattle.micro_lower.specs.Rows.{divides, move_plan, clear_plan, move_zero_extended_plan, move_complemented_plan, move_negated_plan, convert_plan, move_address_plan, push_address_plan, push_long_plan, compare_plan, test_plan, bit_test_plan, by_one_plan, two_operands_plan, three_operands_plan, low_bit_plan, subtract_one_plan, add_one_plan, add_compare_plan, add_with_carry_plan, change_mode_plan, subtract_with_carry_plan, rotate_plan, arithmetic_shift_plan, change_psw_plan, move_psl_plan}
+use Rattle.micro_lower.specs.Rows.{divides, move_plan, clear_plan, move_zero_extended_plan, move_complemented_plan, move_negated_plan, convert_plan, move_address_plan, push_address_plan, push_long_plan, compare_plan, test_plan, bit_test_plan, by_one_plan, two_operands_plan, three_operands_plan, low_bit_plan, subtract_one_plan, add_one_plan, add_compare_plan, add_with_carry_plan, change_mode_plan, subtract_with_carry_plan, rotate_plan, arithmetic_shift_plan, change_psw_plan, bit_branch_plan, move_psl_plan}
 use Rattle.micro_lower.proofs.Fit.{plan_fits, located}
 
 pub move_fits : (size : Size) (instr : Instr) → IsLocated (operand instr 1) → plan_fits (sources_of (operations.Move size)) (move_plan size instr) instr ≡ true
@@ -210,3 +213,20 @@ set_psw_fits instr = refl
 pub clear_psw_fits : (instr : Instr) → plan_fits (sources_of operations.BitClearPsw) (change_psw_plan ops.AndNot) instr ≡ true
 unfolding sources_of step
 clear_psw_fits instr = refl
+
+bit_fits : (s : Bool) (store : BitStore) (instr : Instr) → IsLocated (operand instr 1)
+    → plan_fits (sources_of (operations.BranchOnBit (record { state = s; store = store }))) (bit_branch_plan (record { state = s; store = store }) instr) instr ≡ true
+unfolding sources_of step
+bit_fits true stores.Nothing instr is = located (operand instr 1) _ is (λ base index e. rw e refl) (λ n e. rw e refl)
+bit_fits true (stores.Plain true) instr is = located (operand instr 1) _ is (λ base index e. rw e refl) (λ n e. rw e refl)
+bit_fits true (stores.Plain false) instr is = located (operand instr 1) _ is (λ base index e. rw e refl) (λ n e. rw e refl)
+bit_fits true (stores.Interlocked true) instr is = located (operand instr 1) _ is (λ base index e. rw e refl) (λ n e. rw e refl)
+bit_fits true (stores.Interlocked false) instr is = located (operand instr 1) _ is (λ base index e. rw e refl) (λ n e. rw e refl)
+bit_fits false stores.Nothing instr is = located (operand instr 1) _ is (λ base index e. rw e refl) (λ n e. rw e refl)
+bit_fits false (stores.Plain true) instr is = located (operand instr 1) _ is (λ base index e. rw e refl) (λ n e. rw e refl)
+bit_fits false (stores.Plain false) instr is = located (operand instr 1) _ is (λ base index e. rw e refl) (λ n e. rw e refl)
+bit_fits false (stores.Interlocked true) instr is = located (operand instr 1) _ is (λ base index e. rw e refl) (λ n e. rw e refl)
+bit_fits false (stores.Interlocked false) instr is = located (operand instr 1) _ is (λ base index e. rw e refl) (λ n e. rw e refl)
+
+pub bit_branch_fits : (branch : BitBranch) (instr : Instr) → IsLocated (operand instr 1) → plan_fits (sources_of (operations.BranchOnBit branch)) (bit_branch_plan branch instr) instr ≡ true
+bit_branch_fits branch instr is = bit_fits branch.state branch.store instr is

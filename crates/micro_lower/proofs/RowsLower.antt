@@ -4,17 +4,26 @@ use Rattle.vax_form.specs.Grammar.{IsSpelled}
 use Rattle.vax_form.specs.Operation.{operation_at}
 use Rattle.vax_form.specs.Row.{operands_of}
 use Rattle.vax_form.specs.declared.instr.Instr.{Instr}
+use Rattle.vax_form.specs.declared.instr.Operand.{Operand}
+use Rattle.vax_form.specs.declared.instr.Operand.TheVariants as operands
 use Rattle.vax_form.specs.declared.instr.Size.{Size}
+use Rattle.vax_form.specs.declared.instr.Size.TheVariants.{Byte}
 use Rattle.vax_form.specs.declared.instr.Width.{Width}
 use Rattle.vax_form.specs.declared.operation.BinaryOperation.{BinaryOperation}
+use Rattle.vax_form.specs.declared.operation.BitBranch.{BitBranch}
+use Rattle.vax_form.specs.declared.operation.BitStore.{BitStore}
+use Rattle.vax_form.specs.declared.operation.BitStore.TheVariants as stores
 use Rattle.vax_form.specs.declared.operation.Operation.TheVariants as operations
-use Rattle.vax_meaning.specs.Evaluation.{evaluated_row}
+use Rattle.vax_meaning.specs.Evaluation.{operand, evaluated_row}
 use Rattle.micro_ops.specs.Sources.{sources_of}
 use Rattle.micro_ops.specs.declared.program.Micro.{Micro}
 use Rattle.micro_ops.specs.declared.program.MicroOp.TheVariants as ops
+use Rattle.operand_programs.specs.Registers.{NamesRegisters}
 use Rattle.micro_lower.specs.Lowering.{Lowers, AreLongOperands}
 use Rattle.micro_lower.specs.Plans.{program_of}
-use Rattle.micro_lower.specs.Rows.{divides, move_plan, clear_plan, move_zero_extended_plan, move_complemented_plan, move_negated_plan, convert_plan, move_address_plan, push_address_plan, push_long_plan, compare_plan, test_plan, bit_test_plan, by_one_plan, two_operands_plan, three_operands_plan, low_bit_plan, subtract_one_plan, add_one_plan, add_compare_plan, add_with_carry_plan, change_mode_plan, subtract_with_carry_plan, rotate_plan, arithmetic_shift_plan, change_psw_plan, move_psl_plan}
+use Rattle.micro_lower.specs.Rows.{divides, move_plan, clear_plan, move_zero_extended_plan, move_complemented_plan, move_negated_plan, convert_plan, move_address_plan, push_address_plan, push_long_plan, compare_plan, test_plan, bit_test_plan, by_one_plan, two_operands_plan, three_operands_plan, low_bit_plan, subtract_one_plan, add_one_plan, add_compare_plan, add_with_carry_plan, change_mode_plan, subtract_with_carry_plan, rotate_plan, arithmetic_shift_plan, change_psw_plan, register_target, bit_target, bit_branch_plan, move_psl_plan}
+use Rattle.micro_lower.proofs.BitRows.{bit_branch_all}
+use Rattle.micro_lower.proofs.Fit.{TargetIsNamed}
 use Rattle.micro_lower.proofs.PswRows.{set_psw_all, clear_psw_all}
 use Rattle.micro_lower.proofs.ShiftRows.{arithmetic_shift_all}
 use Rattle.micro_lower.proofs.BinaryRows.{convert_all, two_operands_all, three_operands_all, increment_all, decrement_all}
@@ -24,7 +33,7 @@ use Rattle.micro_lower.proofs.JumpRows.{low_bit_all, change_mode_all}
 use Rattle.micro_lower.proofs.LoopRows.{subtract_one_all, add_one_all, add_compare_all}
 use Rattle.micro_lower.proofs.Lowered.{slots_of, lowers_by_plan, first, second, third}
 use Rattle.micro_lower.proofs.MoveRows.{move_all, clear_all, move_zero_extended_all, move_complemented_all, move_negated_all, move_address_all}
-use Rattle.micro_lower.proofs.RowsFit.{move_fits, clear_fits, move_zero_extended_fits, move_complemented_fits, move_negated_fits, convert_fits, move_address_fits, push_address_fits, push_long_fits, compare_fits, test_fits, bit_test_fits, two_operands_fits, three_operands_fits, increment_fits, decrement_fits, low_bit_fits, subtract_one_fits, add_one_fits, add_compare_fits, add_with_carry_fits, change_mode_fits, subtract_with_carry_fits, rotate_fits, arithmetic_shift_fits, set_psw_fits, clear_psw_fits, move_psl_fits}
+use Rattle.micro_lower.proofs.RowsFit.{move_fits, clear_fits, move_zero_extended_fits, move_complemented_fits, move_negated_fits, convert_fits, move_address_fits, push_address_fits, push_long_fits, compare_fits, test_fits, bit_test_fits, two_operands_fits, three_operands_fits, increment_fits, decrement_fits, low_bit_fits, subtract_one_fits, add_one_fits, add_compare_fits, add_with_carry_fits, change_mode_fits, subtract_with_carry_fits, rotate_fits, arithmetic_shift_fits, set_psw_fits, clear_psw_fits, bit_branch_fits, move_psl_fits}
 use Rattle.micro_lower.proofs.Tabled.{is_narrower}
 use Rattle.micro_lower.proofs.TestRows.{compare_all, test_all, bit_test_all, push_long_all, push_address_all}
 
@@ -242,3 +251,25 @@ unfolding operands_of evaluated_row
 clear_psw_lowers instr program spelled long is made =
     let slots = slots_of operations.BitClearPsw instr (change_psw_plan ops.AndNot) program spelled long is made refl refl (lit≤ tt) in
     lowers_by_plan operations.BitClearPsw instr (change_psw_plan ops.AndNot) program spelled long is made slots refl (lit≤ tt) (clear_psw_all instr) tt (clear_psw_fits instr)
+
+-- a register of a byte is one of a longword
+register_named : (base : Operand) → NamesRegisters base Byte → TargetIsNamed (register_target base)
+register_named (operands.Register n) named = named
+register_named operands.Unused named = tt
+register_named (operands.Value value) named = tt
+register_named (operands.Place base index) named = tt
+register_named (operands.Target address) named = tt
+
+bit_named : (base : Operand) (store : BitStore) → NamesRegisters base Byte → TargetIsNamed (bit_target base store)
+bit_named base stores.Nothing named = tt
+bit_named base (stores.Plain value) named = register_named base named
+bit_named base (stores.Interlocked value) named = register_named base named
+
+pub bit_branch_lowers : (branch : BitBranch) (instr : Instr) (program : List Micro) → IsSpelled instr → AreLongOperands instr → operation_at instr.opcode ≡ Some (operations.BranchOnBit branch)
+    → program ≡ program_of (sources_of (operations.BranchOnBit branch)) (bit_branch_plan branch instr) instr → Lowers (operations.BranchOnBit branch) instr program
+unfolding operands_of evaluated_row
+bit_branch_lowers branch instr program spelled long is made =
+    let slots = slots_of (operations.BranchOnBit branch) instr (bit_branch_plan branch instr) program spelled long is made refl refl (lit≤ tt) in
+    let fit = second _ _ _ instr slots in
+    lowers_by_plan (operations.BranchOnBit branch) instr (bit_branch_plan branch instr) program spelled long is made slots refl (lit≤ tt) (bit_branch_all branch instr)
+    (bit_named (operand instr 1) branch.store fit.1) (bit_branch_fits branch instr fit.0.0)

@@ -378,10 +378,15 @@ before_bit base branch =
     ∷ Compute 0 ops.And Byte (Temp 0) (Const 7)
     ∷ byte_program branch.store ++ bit_tested branch.state Byte
 
+-- a register takes what is left in it
+abbrev pub register_target : Operand → Target
+register_target (operands.Register n) = targets.Replacement (operands.Register n) Long
+register_target base = targets.Nowhere
+
 abbrev pub bit_target : Operand → BitStore → Target
 bit_target base stores.Nothing = targets.Nowhere
-bit_target (operands.Register n) store = targets.Replacement (operands.Register n) Long
-bit_target base store = targets.Nowhere
+bit_target base (stores.Plain value) = register_target base
+bit_target base (stores.Interlocked value) = register_target base
 
 abbrev pub bit_plan_for : Operand → BitBranch → Instr → Plan
 bit_plan_for base branch instr = record {
@@ -605,6 +610,7 @@ arithmetic_row _ instr = None
 -- branches, loops, jumps and services
 unfoldable pub control_row : Operation → Instr → Option Plan
 control_row (operations.BranchOnLowBit state) instr = Some (low_bit_plan state instr)
+control_row (operations.BranchOnBit branch) instr = Some (bit_branch_plan branch instr)
 control_row (operations.SubtractOneBranch or_equal) instr = Some (subtract_one_plan or_equal instr)
 control_row (operations.AddOneBranch or_equal) instr = Some (add_one_plan or_equal instr)
 control_row (operations.AddCompareBranch width) instr = Some (add_compare_plan width instr)
@@ -637,7 +643,6 @@ is_lowered (operations.TwoOperands operation width) = not (divides operation)
 is_lowered (operations.ThreeOperands operation width) = not (divides operation)
 is_lowered operations.AddAlignedWord = false
 is_lowered operations.ExtendedMultiply = false
-is_lowered (operations.BranchOnBit branch) = false
 is_lowered (operations.ExtractField signed) = false
 is_lowered operations.InsertField = false
 is_lowered (operations.Case width) = false

@@ -3,6 +3,7 @@
 #![tactic(auto)]
 
 mod arithmetic;
+mod bits;
 mod branches;
 mod codes;
 mod jumps;

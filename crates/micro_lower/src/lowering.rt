@@ -30,7 +30,6 @@ fn is_lowered(operation: Operation) -> bool
         | Operation::ThreeOperands(BinaryOperation::Divide, _)
         | Operation::AddAlignedWord
         | Operation::ExtendedMultiply
-        | Operation::BranchOnBit(_)
         | Operation::ExtractField { .. }
         | Operation::InsertField
         | Operation::Case(_)

@@ -110,7 +110,7 @@ fn put_end(program: &mut Vec<Micro>, target: Target, steps: &Steps) -> Result<()
     }
 }
 
-fn add(program: &mut Vec<Micro>, operations: &[Micro]) -> Result<(), WantOfMemory>
+pub(crate) fn add(program: &mut Vec<Micro>, operations: &[Micro]) -> Result<(), WantOfMemory>
     ensures { OnOk result (program.new.items ≡ program.old.items ++ operations.now) }
 {
     program

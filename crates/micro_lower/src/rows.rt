@@ -2,7 +2,7 @@
 ghost use Rattle.std.specs.Prelude.{◌≡◌, ◌<◌};
 ghost use Rattle.vax_meaning.specs.Branches.{target};
 ghost use Rattle.vax_meaning.specs.Evaluation.{operand};
-ghost use Rattle.micro_lower.specs.Rows.{slot, read, written, modified, addressed, displaced, inverted, overflow_by, branch_exit};
+ghost use Rattle.micro_lower.specs.Rows.{slot, read, written, modified, field, addressed, displaced, inverted, overflow_by, branch_exit};
 
 use crate::micros::{binary, unary};
 use crate::plans::Slot;
@@ -38,6 +38,13 @@ pub(crate) fn modified(size: Size, to: u8) -> Slot
     ensures { result ≡ modified size to }
 {
     slot(Access::Modify, size, to, 3)
+}
+
+/// The longword of a register goes into 1, an address into 2.
+pub(crate) fn field(size: Size) -> Slot
+    ensures { result ≡ field size }
+{
+    slot(Access::Field, size, 1, 2)
 }
 
 /// The address goes into 0.

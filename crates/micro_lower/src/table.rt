@@ -7,6 +7,7 @@ use crate::arithmetic::{
     add_with_carry, arithmetic_shift, bit_test, compare, decrement, increment, rotate,
     subtract_with_carry, test_value, three_operands, two_operands,
 };
+use crate::bits::branch_on_bit;
 use crate::jumps::{
     add_compare_branch, add_one_branch, branch_on_low_bit, change_mode, jump, jump_to_subroutine,
     subtract_one_branch,
@@ -88,6 +89,7 @@ fn lower_control(
 {
     let program = match operation {
         Operation::BranchOnLowBit(state) => branch_on_low_bit(alloc, instr, state)?,
+        Operation::BranchOnBit(branch) => branch_on_bit(alloc, instr, branch)?,
         Operation::SubtractOneBranch { or_equal } => subtract_one_branch(alloc, instr, or_equal)?,
         Operation::AddOneBranch { or_equal } => add_one_branch(alloc, instr, or_equal)?,
         Operation::AddCompareBranch(width) => add_compare_branch(alloc, instr, width)?,

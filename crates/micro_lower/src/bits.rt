@@ -1,0 +1,195 @@
+// Branches on a bit.
+// VAX Architecture Reference Manual, "Control Instructions": Branch on Bit.
+ghost use Rattle.std.specs.Prelude.{◌≡◌, ◌++◌, IfOk, OnOk};
+ghost use Rattle.micro_ops.specs.Sources.{sources_of};
+ghost use Rattle.micro_lower.specs.Plans.{program_of};
+ghost use Rattle.micro_lower.specs.Rows.{bit_tested, storing, with_bit_into, bit_stored, locked_op, byte_program, before_bit, register_target, bit_target, bit_branch_plan};
+
+use crate::micros::binary;
+use crate::plans::{Plan, Target, add, assemble};
+use crate::rows::{branch_exit, displaced, field, inverted, operand, read};
+use micro_ops::{Arg, LockedOp, Micro, MicroOp, sources_of};
+use std::alloc::Global;
+use vax_form::{BitBranch, BitStore, Instr, Operand, Operation, Size, WantOfMemory};
+
+/// The greatest number of a bit in a register, and in a byte.
+const LAST_BIT: u64 = 31;
+
+const LAST_BIT_OF_BYTE: u64 = 7;
+
+/// Bytes to the number of bits: the power of two.
+const BITS_OF_BYTE: u64 = 3;
+
+/// Whether the bit of that number in 0 of the value in 1 is as the branch wants it.
+fn put_bit_tested(program: &mut Vec<Micro>, state: bool, size: Size) -> Result<(), WantOfMemory>
+    ensures { OnOk result (program.new.items ≡ program.old.items ++ bit_tested state size) }
+{
+    let shifted = binary(0, MicroOp::ShiftRight, size, Arg::Temp(1), Arg::Temp(0));
+    let bit = binary(0, MicroOp::And, Size::Byte, Arg::Temp(0), Arg::Const(1));
+    if state {
+        add(program, &[shifted, bit])
+    } else {
+        add(program, &[shifted, bit, inverted(0)])
+    }
+}
+
+/// Sets a bit, or clears it.
+fn storing(value: bool) -> MicroOp
+    ensures { result ≡ storing value }
+{
+    if value { MicroOp::Or } else { MicroOp::AndNot }
+}
+
+/// The value in 1 with another bit.
+fn with_bit_into(to: u8, size: Size, value: bool) -> [Micro; 2]
+    ensures { result ≡ with_bit_into to size value }
+{
+    [
+        binary(3, MicroOp::ShiftLeft, size, Arg::Const(1), Arg::Temp(0)),
+        binary(to, storing(value), size, Arg::Temp(1), Arg::Temp(3)),
+    ]
+}
+
+/// What is left in a register.
+fn put_bit_stored(program: &mut Vec<Micro>, store: BitStore) -> Result<(), WantOfMemory>
+    ensures { OnOk result (program.new.items ≡ program.old.items ++ bit_stored store) }
+{
+    match store {
+        BitStore::Nothing => Ok(()),
+        BitStore::Plain(value) | BitStore::Interlocked(value) => {
+            add(program, &with_bit_into(2, Size::Long, value))
+        }
+    }
+}
+
+fn locked_op(value: bool) -> LockedOp
+    ensures { result ≡ locked_op value }
+{
+    if value {
+        LockedOp::SetBit
+    } else {
+        LockedOp::ClearBit
+    }
+}
+
+/// The byte at the address in 2 goes into 1, and the bit in it is left so.
+fn put_byte(program: &mut Vec<Micro>, store: BitStore) -> Result<(), WantOfMemory>
+    ensures { OnOk result (program.new.items ≡ program.old.items ++ byte_program store) }
+{
+    let check = |write: bool| -> Micro {
+        Micro::Probe {
+            place: 2,
+            count: 1,
+            write,
+        }
+    };
+    let found = Micro::Read {
+        to: 1,
+        place: 2,
+        count: 1,
+    };
+    match store {
+        BitStore::Nothing => add(program, &[check(false), found]),
+        BitStore::Plain(value) => {
+            let [unit, made] = with_bit_into(3, Size::Byte, value);
+            let written = Micro::Write {
+                place: 2,
+                count: 1,
+                from: 3,
+            };
+            add(program, &[check(true), found, unit, made, written])
+        }
+        BitStore::Interlocked(value) => {
+            let locked = Micro::Locked {
+                to: 1,
+                place: 2,
+                kind: locked_op(value),
+                from: 0,
+            };
+            add(program, &[check(true), locked])
+        }
+    }
+}
+
+/// A position above 31 is no bit of a register. In memory it is a signed number of bits from the base.
+fn put_before_bit(
+    program: &mut Vec<Micro>,
+    base: Operand,
+    branch: BitBranch,
+) -> Result<(), WantOfMemory>
+    ensures { OnOk result (program.new.items ≡ program.old.items ++ before_bit base branch) }
+{
+    let (long, position) = (Size::Long, Arg::Temp(0));
+    match base {
+        Operand::Register(_) => {
+            let last = Arg::Const(LAST_BIT);
+            let above = binary(4, MicroOp::LessUnsigned, long, last, position);
+            add(program, &[above, Micro::Refuse { when: 4 }])?;
+            put_bit_stored(program, branch.store)?;
+            put_bit_tested(program, branch.state, long)
+        }
+        Operand::Unused | Operand::Value(_) | Operand::Place { .. } | Operand::Target(_) => {
+            let (bits, last) = (Arg::Const(BITS_OF_BYTE), Arg::Const(LAST_BIT_OF_BYTE));
+            add(
+                program,
+                &[
+                    binary(4, MicroOp::ShiftSigned, long, position, bits),
+                    binary(2, MicroOp::Add, long, Arg::Temp(2), Arg::Temp(4)),
+                    binary(0, MicroOp::And, Size::Byte, position, last),
+                ],
+            )?;
+            put_byte(program, branch.store)?;
+            put_bit_tested(program, branch.state, Size::Byte)
+        }
+    }
+}
+
+/// A register takes what is left in it.
+fn register_target(base: Operand) -> Target
+    ensures { result ≡ register_target base }
+{
+    match base {
+        Operand::Register(_) => Target::Replacement {
+            operand: base,
+            size: Size::Long,
+        },
+        Operand::Unused | Operand::Value(_) | Operand::Place { .. } | Operand::Target(_) => {
+            Target::Nowhere
+        }
+    }
+}
+
+fn bit_target(base: Operand, store: BitStore) -> Target
+    ensures { result ≡ bit_target base store }
+{
+    match store {
+        BitStore::Nothing => Target::Nowhere,
+        BitStore::Plain(_) | BitStore::Interlocked(_) => register_target(base),
+    }
+}
+
+/// BBS, BBC, BBSS, BBCS, BBSC, BBCC, BBSSI, BBCCI.
+pub(crate) fn branch_on_bit(
+    alloc: Global,
+    instr: &Instr,
+    branch: BitBranch,
+) -> Result<Vec<Micro>, WantOfMemory>
+    ensures { IfOk result (λ p. p.items ≡ program_of (sources_of (Operation.BranchOnBit branch)) (bit_branch_plan branch instr.now) instr.now) }
+{
+    let base = operand(instr, 1);
+    let mut before = Vec::new(alloc);
+    put_before_bit(&mut before, base, branch)?;
+    let plan = Plan {
+        slots: &[
+            read(Size::Long, 0, 1),
+            field(Size::Byte),
+            displaced(Size::Byte),
+        ],
+        before: &before,
+        target: bit_target(base, branch.store),
+        behind: &[],
+        exit: branch_exit(instr, 2),
+    };
+    let codes = sources_of(Operation::BranchOnBit(branch));
+    assemble(alloc, codes, plan, instr)
+}
