@@ -1,94 +1,157 @@
 -- Compiled blocks that are laid out do what their instructions mean.
-use Rattle.std.proofs.Common.{◌≡◌, ℕ, suc, ◌+◌, ◌-◌, ◌<◌, ◌≤◌, refl, sym, ◌∙◌, ap, subst, arith, add-zero, List, [], ◌∷◌, length, eqb, cond, get_or, All, Bool, true, false, Option, Some, None}
-use Rattle.std.specs.Prelude.{slice_get, find}
-use Rattle.std.specs.Option.{option_map}
-use Rattle.std.proofs.lemmas.Option.{slice_get-get_or}
-use Rattle.vax_form.specs.Grammar.{instruction}
-use Rattle.vax_form.specs.GrammarFound.{found}
+use Rattle.std.proofs.Common.{◌≡◌, ℕ, zero, suc, ◌<◌, ◌||◌, refl, sym, ◌∙◌, ap, subst, arith, List, [], ◌∷◌, length, get_or, Bool, true, false, Option, Some, None, cond, inl, inr}
+use Rattle.std.specs.Prelude.{slice_get}
+use Rattle.std.proofs.lemmas.Option.{slice_get-get_or, slice_get_within}
 use Rattle.vax_form.specs.declared.instr.Instr.{Instr}
 use Rattle.vax_form.specs.declared.pages.Pages.{Pages}
 use Rattle.address_map.specs.Pairs.{word_at}
-use Rattle.exception_records.specs.Codes.{all_ready}
-use Rattle.exception_records.specs.Points.{point_at, Entry}
+use Rattle.exception_records.specs.Points.{point_at}
 use Rattle.exception_records.specs.Shown.{Shows}
 use Rattle.exception_records.specs.declared.points.Point.{Point}
 use Rattle.exception_records.specs.declared.rules.Rules.{Rules}
 use Rattle.block_law.specs.Blocks.{Exit, RulesAt, RulesMeet, IsLaid}
-use Rattle.block_law.specs.Translations.{Code, IsBlock, Meets, fetch_of, end_of, done_at}
+use Rattle.block_law.specs.Translations.{Code, IsBlock, Meets}
 use Rattle.block_law.proofs.Laid.{first_point, is_block}
 use Rattle.image_meaning.specs.Meant.{image_meaning}
-use Rattle.alpha_codegen.specs.Promises.{MeansVax}
-use Rattle.branch_layout.specs.Exits.{idle}
 use Rattle.branch_layout.specs.Layouts.{Placed, IsLayout}
 use Rattle.branch_layout.proofs.Filling.{All_at, some_same}
 use Rattle.branch_layout.proofs.Places.{placed_of}
-use Rattle.translate.specs.Compiled.{AreFound, AreCompiled, IsCompiled}
-use Rattle.translate.proofs.Zipped.{instr_of}
+use Rattle.flow_discovery.specs.Reach.{has}
+use Rattle.cc_liveness.specs.Uses.{use_of}
+use Rattle.code_runs.specs.Codes.{codes_at}
+use Rattle.code_runs.specs.Promises as runs
+use Rattle.micro_lower.specs.Lowering.{GoesTo}
+use Rattle.vax_form.specs.Targets.{fixed_targets}
+use Rattle.code_runs.specs.Runs.{instr_at, is_target, joined_at, joined_to, no_instr, only, ending_at}
+use Rattle.translate.specs.Compiled.{AreCompiled, AreFound, ArePages, HasItsRules, IsCompiled}
+use Rattle.translate.proofs.Placing.{are_of}
 
-means_vax : (pages : Pages) → MeansVax (image_meaning pages)
-means_vax pages = record { tree = λ thread state. refl; serve = λ thread code state. refl; kinds = λ address reference kind bytes. refl }
-
--- all rules of a block are ready
-ready_at : (points : List Entry) (word : ℕ) (point : Point) → All (λ entry. entry.1.rules ≡ all_ready) points → point_at points word ≡ Some point → point.rules ≡ all_ready
-ready_at [] word point all e = cc
-ready_at (entry ∷ points) word point all e = by (eqb entry.0 word) (ready_at points word point (λ k d lt. all (suc k) d (omega arith))) e
+-- ---- fixed targets
+any_at : (instrs : List Instr) (address place : ℕ) → place < length instrs → has (fixed_targets (instr_at instrs place)) address ≡ true → is_target instrs address ≡ true
+any_at [] address place lt e = absurd (omega arith)
+any_at (i ∷ instrs) address zero lt e = rw e refl
+any_at (i ∷ instrs) address (suc place) lt e = rw (any_at instrs address place (omega arith) e) (or_true (has (fixed_targets i) address))
   where
-    by : (b : Bool) → (point_at points word ≡ Some point → point.rules ≡ all_ready) → option_map (λ (p : Entry). p.1) (cond b (Some entry) (find (λ p. eqb p.0 word) points)) ≡ Some point → point.rules ≡ all_ready
-    by true later e = let same : entry.1 ≡ point = cc in subst (λ (q : Point). q.rules ≡ all_ready) same (all 0 entry (omega arith))
-    by false later e = later e
+    or_true : (b : Bool) → (b || true) ≡ true
+    or_true true = refl
+    or_true false = refl
 
-rules_ready : (instr : Instr) (block : Placed) → IsCompiled instr block → (word : ℕ) (point : Point) → point_at block.1.points word ≡ Some point → point.rules ≡ all_ready
-rules_ready instr block compiled word point e = ready_at block.1.points word point compiled.rules e
+-- one is joined to none
+target_begins : (instrs : List Instr) (address place : ℕ) → place < length instrs → has (fixed_targets (instr_at instrs place)) address ≡ true → joined_at instrs address ≡ None
+unfolding joined_at
+target_begins instrs address place lt e = ap (λ b. cond b None (only (ending_at address 0 instrs))) (any_at instrs address place lt e)
 
-module _ (pages : Pages) (instrs : List Instr) (blocks : List Placed) (code : Code) (are : AreCompiled instrs blocks) (layout : IsLayout blocks code) (stand : AreFound pages instrs) where
+module _ (pages : Pages) (instrs : List Instr) (blocks : List Placed) (code : Code) (are : AreCompiled instrs blocks) (layout : IsLayout blocks code) (stand : AreFound pages instrs) (pages_are : ArePages pages) (meet : runs.RulesMeet instrs) where
   -- the instruction of a mapped address
   pub record IsOf (address first : ℕ) : Type 0 where
     pub place : ℕ
     pub block : Placed
-    pub instr : Instr
-    pub at : slice_get instrs place ≡ Some instr
-    pub its : instr.at ≡ address
-    pub compiled : IsCompiled instr block
-    pub laid : IsLaid code instr.at block.1
+    pub within : place < length instrs
+    pub its : (instr_at instrs place).at ≡ address
+    pub compiled : IsCompiled (instr_at instrs place) (codes_at instrs place) block
+    pub laid : IsLaid code (instr_at instrs place).at block.1
     pub first_is : laid.first ≡ first
 
   pub is_of : (address first : ℕ) → word_at code.map address ≡ Some first → IsOf address first
   is_of address first e =
       let h = placed_of 0 blocks address first (subst (λ pairs. word_at pairs address ≡ Some first) layout.places e) in
-      let r = instr_of instrs blocks h.place h.block are h.is in
-      let its : r.instr.at ≡ address = sym r.compiled.address ∙ h.its in
-      let laid = subst (λ n. IsLaid code n h.block.1) r.compiled.address (layout.laid h.place h.block h.is) in
+      let compiled = are.each h.place h.block h.is in
+      let its : (instr_at instrs h.place).at ≡ address = sym compiled.address ∙ h.its in
+      let laid = subst (λ n. IsLaid code n h.block.1) compiled.address (layout.laid h.place h.block h.is) in
+      let within = slice_get_within blocks h.place h.block h.is in
+      let many = are.many in
       record {
         place = h.place;
         block = h.block;
-        instr = r.instr;
-        at = r.at;
+        within = omega arith;
         its = its;
-        compiled = r.compiled;
+        compiled = compiled;
         laid = laid;
         first_is = some_same (sym laid.mapped ∙ ap (word_at code.map) its ∙ e);
       }
 
-  -- where a block begins all codes are ready
-  rules_meet : (exits : List Exit) → RulesMeet code exits all_ready
-  rules_meet exits place exit at = by (word_at code.map exit.1) refl
-    where
-      by : (o : Option ℕ) → word_at code.map exit.1 ≡ o → RulesAt code o all_ready
-      by None e = refl
-      by (Some first) e = λ point has.
-          let of = is_of exit.1 first e in
-          rules_ready of.instr of.block of.compiled 0 point
-          (of.compiled.shape.has_first ∙ sym (first_point (image_meaning pages) code of.instr.at of.block.1 of.compiled.shape of.laid) ∙ subst (λ w. point_at code.points w ≡ Some point) (sym of.first_is) has)
+  -- an instruction's address is mapped
+  mapped : (place : ℕ) → place < length instrs → word_at code.map (instr_at instrs place).at ≡ None → ⊥
+  mapped place lt e =
+      let many = are.many in
+      let none : Placed = (0, record { words = []; exits = []; points = [] }) in
+      let block = get_or blocks place none in
+      let at : slice_get blocks place ≡ Some block = slice_get-get_or blocks place none (omega arith) in
+      let compiled = are.each place block at in
+      let laid = layout.laid place block at in
+      let is : word_at code.map block.0 ≡ None = ap (word_at code.map) compiled.address ∙ e in
+      let there = laid.mapped in
+      cc
 
-  block_at : (address first : ℕ) (of : IsOf address first) → IsBlock (image_meaning pages) code of.instr.at of.laid.first
+  -- the rules at the first word of an instruction's block are those before it
+  begins_by : (address first : ℕ) (of : IsOf address first) (point : Point) → point_at code.points first ≡ Some point → point.rules ≡ (codes_at instrs of.place).before
+  begins_by address first of point has_point =
+      let shape = of.compiled.shape in
+      let there = first_point (image_meaning pages) code (instr_at instrs of.place).at of.block.1 shape of.laid in
+      let here : point_at code.points of.laid.first ≡ Some point = subst (λ w. point_at code.points w ≡ Some point) (sym of.first_is) has_point in
+      let same : shape.first ≡ point = some_same (sym there ∙ here) in
+      subst (λ (p : Point). p.rules ≡ (codes_at instrs of.place).before) same (of.compiled.first shape.first shape.has_first)
+
+  -- ---- the rules at the address to which an instruction goes are those behind it
+  module _ (place : ℕ) (lt : place < length instrs) where
+    behind : Rules
+    behind = (codes_at instrs place).behind
+
+    to_next : (address : ℕ) → address ≡ (instr_at instrs place).after → (o : Option ℕ) → word_at code.map address ≡ o → RulesAt code o (codes_at instrs place).behind
+    to_next address e None m =
+        meet.leaves place lt (λ next ln is. mapped next ln (ap (word_at code.map) (is ∙ sym e) ∙ m))
+    to_next address e (Some first) m = λ point has_point.
+        let of = is_of address first m in
+        begins_by address first of point has_point ∙ meet.onward place of.place lt of.within (of.its ∙ e)
+
+    to_target : (address : ℕ) → (use_of (instr_at instrs place)).ends ≡ true → has (fixed_targets (instr_at instrs place)) address ≡ true → (o : Option ℕ) → word_at code.map address ≡ o → RulesAt code o (codes_at instrs place).behind
+    to_target address ends target None m = meet.ends place lt ends
+    to_target address ends target (Some first) m = λ point has_point.
+        let of = is_of address first m in
+        let none : joined_to instrs of.place ≡ None = ap (joined_at instrs) of.its ∙ target_begins instrs address place lt target in
+        begins_by address first of point has_point ∙ meet.begins of.place of.within none ∙ sym (meet.ends place lt ends)
+
+    rules_at : (address : ℕ) → GoesTo (instr_at instrs place) address → RulesAt code (word_at code.map address) (codes_at instrs place).behind
+    rules_at address (inl e) = to_next address e (word_at code.map address) refl
+    rules_at address (inr h) = to_target address h.0 h.1 (word_at code.map address) refl
+
+  -- ---- the rules of an instruction's block
+  rules_first : (place : ℕ) → place < length instrs → (o : Option ℕ) → word_at code.map (instr_at instrs place).at ≡ o → RulesAt code o (codes_at instrs place).before
+  rules_first place lt None e = absurd (mapped place lt e)
+  rules_first place lt (Some first) e = λ point has_point.
+      let many = are.many in
+      let none : Placed = (0, record { words = []; exits = []; points = [] }) in
+      let block = get_or blocks place none in
+      let at : slice_get blocks place ≡ Some block = slice_get-get_or blocks place none (omega arith) in
+      let compiled = are.each place block at in
+      let laid = subst (λ n. IsLaid code n block.1) compiled.address (layout.laid place block at) in
+      let of : IsOf (instr_at instrs place).at first = record { place = place; block = block; within = lt; its = refl; compiled = compiled; laid = laid; first_is = some_same (sym laid.mapped ∙ e) } in
+      begins_by (instr_at instrs place).at first of point has_point
+
+  rules_onward : (place : ℕ) (block : Placed) → slice_get blocks place ≡ Some block → RulesMeet code block.1.exits (codes_at instrs place).behind
+  rules_onward place block at =
+      let many = are.many in
+      let within = slice_get_within blocks place block at in
+      let compiled = are.each place block at in
+      λ number exit has_exit. rules_at place (omega arith) exit.1 (All_at (λ (e : Exit). GoesTo (instr_at instrs place) e.1) block.1.exits number exit compiled.exits has_exit)
+
+  pub its_rules : HasItsRules instrs code
+  its_rules = record {
+    first = λ place lt. rules_first place lt (word_at code.map (instr_at instrs place).at) refl;
+    onward = λ place block at. rules_onward place block (subst (λ (bs : List Placed). slice_get bs place ≡ Some block) (sym (are_of instrs blocks are)) at);
+  }
+
+  block_at : (address first : ℕ) (of : IsOf address first) → IsBlock (image_meaning pages) code (instr_at instrs of.place).at of.laid.first
   block_at address first of =
       let shape = of.compiled.shape in
-      is_block (image_meaning pages) code of.instr.at of.block.1 shape of.laid
+      let at = (instr_at instrs of.place).at in
+      is_block (image_meaning pages) code at of.block.1 shape of.laid
       (λ thread n state held regs lt is_state pc form shows.
-      of.compiled.means (image_meaning pages) (means_vax pages) code of.laid.first thread n state held regs (All_at (λ instr. found pages instr.at ≡ instruction instr) instrs of.place of.instr stand of.at)
-      of.laid.stands lt is_state pc form
-      (subst (λ (rules : Rules). Shows regs of.instr.at rules held state) (rules_ready of.instr of.block of.compiled 0 shape.first shape.has_first) shows)
-      (of.laid.leads (image_meaning pages) thread state held all_ready (rules_meet of.block.1.exits)))
+      of.compiled.means pages pages_are (stand of.place no_instr of.within) code of.laid.first thread n state held regs
+      layout.few of.laid.stands lt is_state pc form
+      (subst (λ (rules : Rules). Shows regs at rules held state) (of.compiled.first shape.first shape.has_first) shows)
+      (of.laid.leads (image_meaning pages) thread state held (codes_at instrs of.place).behind
+      (λ number exit has_exit. rules_at of.place of.within exit.1 (All_at (λ (e : Exit). GoesTo (instr_at instrs of.place) e.1) of.block.1.exits number exit of.compiled.exits has_exit))))
 
   pub meets : Meets (image_meaning pages) code
   meets = record {
@@ -97,5 +160,5 @@ module _ (pages : Pages) (instrs : List Instr) (blocks : List Placed) (code : Co
     points_rise = layout.points_rise;
     blocks = λ address first e.
         let of = is_of address first e in
-        subst (λ a. IsBlock (image_meaning pages) code a first) of.its (subst (λ w. IsBlock (image_meaning pages) code of.instr.at w) of.first_is (block_at address first of));
+        subst (λ a. IsBlock (image_meaning pages) code a first) of.its (subst (λ w. IsBlock (image_meaning pages) code (instr_at instrs of.place).at w) of.first_is (block_at address first of));
   }

@@ -11,7 +11,6 @@ use Rattle.std.proofs.lemmas.List.Kept.{IsStrictlyIncreasing-filter}
 use Rattle.std.proofs.lemmas.List.Sums.{length-filter, count_by-le-length}
 use Rattle.std.proofs.lemmas.Map.Views.{any-filter_same}
 use Rattle.address_map.specs.Pairs.{Pair, word_at}
-use Rattle.alpha_codegen.specs.HasBlock.{has_block}
 use Rattle.block_law.specs.Translations.{Code}
 use Rattle.flow_discovery.specs.Reach.{IsReach, has, instruction_at, instruction_in, most}
 use Rattle.vax_form.specs.Grammar.{Found, instruction, past, reserved_instruction, reserved_mode}
@@ -20,7 +19,7 @@ use Rattle.vax_form.specs.declared.instr.Instr.{Instr}
 use Rattle.vax_form.specs.declared.pages.Pages.{Pages}
 use Rattle.translate.specs.Compiled.{AreFound, InOrder, addresses}
 use Rattle.translate.specs.Refusal.{AreFew}
-use Rattle.translate.specs.Mapped.{HasMapped, has_block_at}
+use Rattle.translate.specs.Mapped.{HasMapped, has_block, has_block_at}
 
 -- ---- numbers in lists
 same_test : (a b : ℕ) → nat_eq a b ≡ true → b ≡ a
@@ -35,7 +34,7 @@ in_order instrs rising k d lt =
     rw (← get_or-map (λ (i : Instr). i.at) instrs k d 0 (omega arith), ← get_or-map (λ (i : Instr). i.at) instrs (k + 1) d 0 lt) (rising k (omega arith))
 
 -- an address is in the map just where it is among the map's addresses
-is_mapped : (pairs : List Pair) (a : ℕ) → is_some (word_at pairs a) ≡ has (map (λ (p : Pair). p.0) pairs) a
+pub is_mapped : (pairs : List Pair) (a : ℕ) → is_some (word_at pairs a) ≡ has (map (λ (p : Pair). p.0) pairs) a
 is_mapped [] a = refl
 is_mapped (p ∷ pairs) a = by (nat_eq a p.0) (p.0 == a) (grind (arith, nat_tests)) (is_mapped pairs a)
   where

@@ -1,18 +1,44 @@
 -- The blocks of a list of instructions.
-use Rattle.std.specs.Prelude.{◌≡◌, ℕ, ◌<◌, false, All, List, length, map}
-use Rattle.std.specs.List.{AllAdjacentBelow, AllZip}
+use Rattle.std.specs.Prelude.{◌≡◌, ℕ, ◌<◌, ◌≤◌, ◌↔◌, true, false, All, IsTrue, List, [], Some, length, map, slice_get, unwrap_or}
+use Rattle.std.specs.List.{AllAdjacentBelow, range_with_len}
 use Rattle.vax_form.specs.Grammar.{instruction}
 use Rattle.vax_form.specs.GrammarFound.{found}
+use Rattle.vax_form.specs.GrammarLaws.{AreBytes}
+use Rattle.vax_form.specs.PageTable.{IsPageTable}
+use Rattle.vax_form.specs.State.{IsState}
 use Rattle.vax_form.specs.declared.instr.Instr.{Instr}
 use Rattle.vax_form.specs.declared.pages.Pages.{Pages}
+use Rattle.vax_form.specs.declared.state.Flags.{Flags}
+use Rattle.vax_form.specs.declared.state.VaxState.{VaxState}
+use Rattle.alpha_meaning.specs.Pieces.{Plain}
+use Rattle.alpha_meaning.specs.State.{Regs, at_place}
+use Rattle.exception_records.specs.Blocks.{BlockValue}
+use Rattle.exception_records.specs.Shown.{Shows}
+use Rattle.exception_records.specs.declared.rules.Rules.{Rules}
+use Rattle.block_law.specs.Blocks.{ExitsLead, IsBlockOf, RulesAt, RulesMeet, Stands}
+use Rattle.block_law.specs.Follows.{Follows}
+use Rattle.block_law.specs.Placements.{InForm}
+use Rattle.block_law.specs.Rounds.{block_steps, new_round}
+use Rattle.block_law.specs.Tidy.{codes_written}
+use Rattle.block_law.specs.Translations.{Code, most_words, placed}
+use Rattle.address_map.specs.Pairs.{word_at}
+use Rattle.image_meaning.specs.Meant.{image_meaning}
+use Rattle.branch_layout.specs.Layouts.{AddressesRise, AreBlocks, IsLayout, Placed, layout}
+use Rattle.flow_discovery.specs.Reach.{has}
+use Rattle.flag_codegen.specs.Promises.{AreReady}
+use Rattle.flag_codegen.specs.Rules.{codes_made, rules_behind}
+use Rattle.flag_codegen.specs.Words.{code_words}
+use Rattle.cc_liveness.specs.Uses.{use_of}
+use Rattle.code_runs.specs.Codes.{AreCodes, code_sources, codes_at, instruction_codes}
+use Rattle.code_runs.specs.Runs.{AreInOrder, instr_at}
+use Rattle.code_runs.specs.declared.codes.InstrCodes.{InstrCodes}
 use Rattle.exception_records.specs.Codes.{all_ready}
-use Rattle.block_law.specs.Blocks.{IsBlockOf}
-use Rattle.alpha_codegen.specs.Promises.{Compiles}
-use Rattle.branch_layout.specs.Layouts.{Placed}
-
--- addresses rise
-abbrev pub InOrder : List Instr → Type 0
-InOrder instrs = AllAdjacentBelow (λ i j. i.at < j.at) instrs (length instrs)
+use Rattle.program_codegen.specs.Programs.{is_narrow}
+use Rattle.micro_lower.specs.Lowering.{GoesTo}
+use Rattle.program_codegen.specs.Promises.{BeginsBy, HasRules}
+use Rattle.program_codegen.specs.Words.{program_block}
+use Rattle.translate.specs.Mapped.{Mapped}
+use Rattle.micro_lower.specs.Rows.{program_for}
 
 -- each stands in the pages at its address
 abbrev pub AreFound : Pages → List Instr → Type 0
@@ -21,13 +47,99 @@ AreFound pages instrs = All (λ instr. found pages instr.at ≡ instruction inst
 abbrev pub addresses : List Instr → List ℕ
 addresses instrs = map (λ (instr : Instr). instr.at) instrs
 
--- an instruction with its block
-pub record IsCompiled (instr : Instr) (block : Placed) : Type 0 where
+-- pages of an image
+pub record ArePages (pages : Pages) : Type 0 where
+  pub table : IsPageTable pages
+  pub bytes : AreBytes pages.code
+
+-- Wherever the block stands in the code of an image that has the instruction, it follows what that means: from registers
+-- in form that show the state by the rules before it, where its exits lead to their addresses by those behind it.
+abbrev pub Compiles : Instr → (before behind : Rules) → BlockValue → Type 0
+Compiles instr before behind block =
+    (pages : Pages) → ArePages pages → found pages instr.at ≡ instruction instr
+    → (code : Code) (first thread n : ℕ) (state : VaxState) (held : Flags) (regs : Regs)
+    → length code.words ≤ most_words → Stands code block first → thread < 256 → IsState state → state.pc ≡ instr.at
+    → InForm regs → Shows regs instr.at before held state
+    → ExitsLead (placed (image_meaning pages) code thread state held first) block.exits first behind
+    → Follows (placed (image_meaning pages) code thread state held first) n Plain block_steps new_round (at_place regs first) ((image_meaning pages).tree thread state)
+
+-- the block of an instruction that has these codes along its run, with its address
+unfoldable pub block_of : Instr → InstrCodes → Placed
+block_of instr codes = (
+  instr.at,
+  program_block instr (code_sources instr) (unwrap_or (program_for instr) []) (code_words (code_sources instr) codes.live) codes.before codes.behind,
+)
+
+-- an instruction with its block, which has these codes along its run
+pub record IsCompiled (instr : Instr) (codes : InstrCodes) (block : Placed) : Type 0 where
+  pub value : block ≡ block_of instr codes
   pub address : block.0 ≡ instr.at
   pub shape : IsBlockOf false instr.at block.1
-  pub exits : All (λ exit. exit.1 ≡ instr.after) block.1.exits
-  pub rules : All (λ entry. entry.1.rules ≡ all_ready) block.1.points
-  pub means : Compiles instr block.1
+  pub exits : All (λ exit. GoesTo instr exit.1) block.1.exits
+  pub first : BeginsBy codes.before block.1
+  pub rules : All (HasRules codes.before codes.behind) block.1.points
+  -- it writes the register of a code just where the instruction writes the code, and that is live or has no rule
+  pub written : codes_written block.1.words ≡ codes_made (code_sources instr) codes.live
+  pub means : Compiles instr codes.before codes.behind block.1
+
+-- so many instructions are compiled, each with its codes
+pub record AreCompiledTo (instrs : List Instr) (count : ℕ) (blocks : List Placed) : Type 0 where
+  pub many : length blocks ≡ count
+  pub each : (place : ℕ) (block : Placed) → slice_get blocks place ≡ Some block → IsCompiled (instr_at instrs place) (codes_at instrs place) block
 
 abbrev pub AreCompiled : List Instr → List Placed → Type 0
-AreCompiled instrs blocks = AllZip IsCompiled instrs blocks
+AreCompiled instrs blocks = AreCompiledTo instrs (length instrs) blocks
+
+-- along its run the instruction has codes of which a block can be made: those that it reads are ready before it, all are
+-- where it ends, and V is not that of a sum or difference of quadwords
+pub record AreReadyFor (instr : Instr) (codes : InstrCodes) : Type 0 where
+  pub reads : AreReady (use_of instr).reads codes.before
+  pub behind : codes.behind ≡ rules_behind (code_sources instr) codes.live codes.before
+  pub ends : (use_of instr).ends ≡ true → codes.behind ≡ all_ready
+  pub narrow : is_narrow codes.behind.v ≡ true
+
+-- ---- a translation
+-- addresses rise
+abbrev pub InOrder : List Instr → Type 0
+InOrder instrs = AllAdjacentBelow (λ i j. i.at < j.at) instrs (length instrs)
+
+-- blocks that can be laid out
+pub record CanBeLaid (blocks : List Placed) : Type 0 where
+  pub few : length blocks ≤ 32768
+  pub rising : AddressesRise blocks
+  pub are_blocks : AreBlocks blocks
+
+-- the code is that of the blocks one behind the other
+pub record IsLaidOut (blocks : List Placed) (code : Code) : Type 0 where
+  pub laid : IsLayout blocks code
+  pub value : code ≡ layout blocks
+
+-- the block of each instruction
+abbrev pub blocks_of : List Instr → List Placed
+blocks_of instrs = map (λ place. block_of (instr_at instrs place) (codes_at instrs place)) (range_with_len 0 (length instrs))
+
+-- The rules at the first word of each instruction's block are those before it in its run. Those behind it are the rules at
+-- each address to which its block leads.
+pub record HasItsRules (instrs : List Instr) (code : Code) : Type 0 where
+  pub first : (place : ℕ) → place < length instrs → RulesAt code (word_at code.map (instr_at instrs place).at) (codes_at instrs place).before
+  pub onward : (place : ℕ) (block : Placed) → slice_get (blocks_of instrs) place ≡ Some block → RulesMeet code block.1.exits (codes_at instrs place).behind
+
+-- the code is that of the blocks of the instructions
+pub record AreLaidOut (instrs : List Instr) (code : Code) : Type 0 where
+  pub order : AreInOrder instrs
+  -- along each run its codes
+  pub codes : AreCodes instrs (instruction_codes instrs)
+  pub compiled : AreCompiled instrs (blocks_of instrs)
+  pub rules : HasItsRules instrs code
+  pub laid : code ≡ layout (blocks_of instrs)
+
+-- the mapped instructions of an image in their order, and their blocks one behind the other
+pub record IsTranslation (pages : Pages) (starts : List ℕ) (code : Code) : Type 0 where
+  pub instrs : List Instr
+  pub found : AreFound pages instrs
+  pub mapped : (address : ℕ) → IsTrue (has (addresses instrs) address) ↔ Mapped pages starts address
+  pub made : AreLaidOut instrs code
+
+-- the translation of an image is a function of its pages and the starts
+abbrev pub IsFunction : Type 0
+IsFunction = (pages : Pages) (starts : List ℕ) (a b : Code) → IsTranslation pages starts a → IsTranslation pages starts b → a ≡ b

@@ -1,42 +1,82 @@
 //! The translator: the instructions of an image that can be reached, as far as they have blocks, become Alpha code that
 //! does what they mean.
 //!
-//! Each instruction is compiled into a block of its own, and the blocks are laid out in the order of their addresses.
+//! Each instruction is compiled into a block of its own, and the blocks are laid out in the order of their addresses. Along
+//! a run of instructions condition codes are made only where they are live.
 #![tactic(auto)]
 
+mod blocks;
+mod laws;
 mod refusal;
 
-ghost use Rattle.std.specs.Prelude.{◌≡◌, ◌≤◌, All, IfErr, IfOk, length, map, true};
+ghost use Rattle.std.specs.Prelude.{◌≡◌, ◌≤◌, ◌<◌, ◌^◌, All, IfErr, IfOk, length, map, true};
 ghost use Rattle.std.specs.List.{filter};
 ghost use Rattle.flow_discovery.specs.Starts.{starts};
 ghost use Rattle.block_law.specs.Translations.{Meets};
 ghost use Rattle.image_meaning.specs.Meant.{image_meaning};
-ghost use Rattle.alpha_codegen.specs.HasBlock.{has_block};
-ghost use Rattle.translate.specs.Compiled.{AreCompiled, AreFound, InOrder, addresses};
-ghost use Rattle.translate.specs.Mapped.{HasMapped};
+ghost use Rattle.branch_layout.specs.Layouts.{layout};
+ghost use Rattle.code_runs.specs.Runs.{AreInOrder};
+ghost use Rattle.translate.specs.Compiled.{AreCompiled, AreFound, AreLaidOut, ArePages, CanBeLaid, InOrder, IsLaidOut, IsTranslation, addresses};
+ghost use Rattle.translate.specs.Mapped.{HasMapped, has_block};
 ghost use Rattle.translate.specs.Refusal.{AreFew, IsRefused};
 
-use alpha_codegen::{block, has_block};
+use crate::blocks::compiled;
 use branch_layout::lay_out;
 use exception_records::Block;
 use flow_discovery::reach;
 use image_file::Image;
+use image_meaning::laws::page_table_has_bytes;
+pub use laws::translation_law;
+use micro_lower::has_program;
 pub use refusal::{Numbers, TranslateRefusal};
 use std::alloc::Global;
 use system_model::Translation;
 use vax_form::{Instr, Pages, WantOfMemory};
 
-/// The block of each instruction, with its address.
-fn compiled(alloc: Global, instrs: &[Instr]) -> Result<Vec<(u32, Block)>, WantOfMemory>
-    requires { All (λ instr. has_block instr ≡ true) instrs.now }
-    ensures { IfOk result (λ blocks. AreCompiled instrs.now blocks.items) }
+/// The processors for which code is made.
+#[derive(Clone, Copy, Debug, PartialEq, Eq)]
+pub enum Target {
+    /// The first Alpha processors, without loads and stores of bytes and words.
+    Original,
+}
+
+// An address is a longword.
+fn address_fits(instr: &Instr)
+    ensures { instr.now.at < 2 ^ 32 }
 {
-    let mut blocks = Vec::new(alloc);
+    let _address = instr.at;
+}
+
+fn addresses_fit(instrs: &[Instr])
+    ensures { All (λ instr. instr.at < 2 ^ 32) instrs.now }
+{
     for instr in instrs {
-        let block = block(alloc, instr)?;
-        blocks.push((instr.at, block)).map_err(|_| WantOfMemory)?;
+        address_fits(instr);
     }
-    Ok(blocks)
+}
+
+// The page table of an image is one, and its code has bytes.
+fn pages_are(pages: &Pages)
+    ensures { ArePages pages.now }
+{
+    let _ranges = &pages.ranges;
+    page_table_has_bytes(pages);
+}
+
+/// The translation of blocks, in the order of their addresses.
+fn laid_out(alloc: Global, blocks: &[(u32, Block)]) -> Result<Translation, WantOfMemory>
+    requires { CanBeLaid blocks.now }
+    ensures { IfOk result (IsLaidOut blocks.now) }
+{
+    let (words, map, points) = lay_out(alloc, blocks)?;
+    let Ok(mut points) = exception_records::build(points) else {
+        unreachable!()
+    };
+    points.prepare(alloc)?;
+    let Ok(map) = address_map::build(alloc, &map) else {
+        return Err(WantOfMemory);
+    };
+    Ok(Translation { words, map, points })
 }
 
 /// The translation of instructions of an image, in the order of their addresses, of which each has a block.
@@ -51,24 +91,19 @@ fn translate_instrs(
     requires built { All (λ instr. has_block instr ≡ true) instrs.now }
     ensures meets { IfOk result (Meets (image_meaning pages.now)) }
     ensures mapped { IfOk result (λ code. map (λ pair. pair.0) code.map ≡ addresses instrs.now) }
+    ensures blocks { IfOk result (AreLaidOut instrs.now) }
 {
+    pages_are(pages);
+    addresses_fit(instrs);
     let blocks = compiled(alloc, instrs)?;
-    let (words, map, points) = lay_out(alloc, &blocks)?;
-    let Ok(mut points) = exception_records::build(points) else {
-        unreachable!()
-    };
-    points.prepare(alloc)?;
-    let Ok(map) = address_map::build(alloc, &map) else {
-        return Err(WantOfMemory);
-    };
-    Ok(Translation { words, map, points })
+    laid_out(alloc, &blocks)
 }
 
 // Drops those that have no block.
 fn keep_built(instrs: &mut Vec<Instr>)
     ensures { instrs.new.items ≡ filter has_block instrs.old.items }
 {
-    instrs.retain(|instr| has_block(instr));
+    instrs.retain(|instr| has_program(instr));
 }
 
 /// The translation of an image, as far as its instructions can be reached from its threads, its entries and these hints,
@@ -77,15 +112,19 @@ pub fn translate(
     alloc: Global,
     image: &Image,
     hints: &[u32],
+    target: Target,
 ) -> Result<Translation, TranslateRefusal>
     // Each mapped instruction has its block, which does what the instruction means.
     ensures meets { IfOk result (Meets (image_meaning image.now.pages)) }
     // Mapped are just those of the reached instructions that have a block.
     ensures mapped { IfOk result (HasMapped image.now.pages (starts image.now hints.now)) }
+    // Each block is the instruction's, by the codes along its run.
+    ensures blocks { IfOk result (IsTranslation image.now.pages (starts image.now hints.now)) }
     // An image is refused exactly where too many instructions can be reached.
     ensures few { IfOk result (λ _. AreFew image.now.pages (starts image.now hints.now)) }
     ensures refused { IfErr result (IsRefused image.now.pages (starts image.now hints.now)) }
 {
+    let Target::Original = target;
     let mut instrs = reach(alloc, image, hints)?;
     keep_built(&mut instrs);
     Ok(translate_instrs(alloc, &image.pages, &instrs)?)

@@ -1,8 +1,13 @@
-use Rattle.std.proofs.Common.{sym, ap, ◌∙◌, subst}
+use Rattle.std.proofs.Common.{◌≡◌, ℕ, Bool, List, sym, ap, ◌∙◌, subst}
+use Rattle.std.specs.Prelude.{◌↔◌, IsTrue}
+use Rattle.std.specs.Option.{is_some}
+use Rattle.address_map.specs.Pairs.{word_at}
+use Rattle.flow_discovery.specs.Reach.{has}
+use Rattle.translate.specs.Mapped.{Mapped}
 use Rattle.vax_form.specs.declared.pages.Pages.{Pages}
 use Rattle.flow_discovery.specs.Starts.{starts}
-use Rattle.translate.specs.Compiled.{AreFound}
-use Rattle.translate.proofs.Reached.{reached_few, kept_few, kept_found, kept_rise, kept_built, kept_mapped}
+use Rattle.translate.specs.Compiled.{AreFound, addresses}
+use Rattle.translate.proofs.Reached.{reached_few, kept_few, kept_found, kept_rise, kept_built, kept_mapped, is_mapped}
 use Rattle.translate.proofs.translate.Goals as goal
 
 pub translate_instrs-requires-clause-few : goal.translate_instrs-requires-clause-few
@@ -30,3 +35,20 @@ returns-clause-mapped c =
 pub returns-clause-few : goal.returns-clause-few
 returns-clause-few c =
     reached_few c.args.image.now.pages (starts c.args.image.now c.args.hints.now) c.in_ok-instrs.instrs.items c.deref.result.now c.in_ok-instrs.ensures.reached (c.deref.ensures.value ∙ c.keep_built.ensures) c.in_ok-instrs.ensures.few
+
+pub returns-clause-blocks : goal.returns-clause-blocks
+returns-clause-blocks c =
+    let pages = c.args.image.now.pages in
+    let from = starts c.args.image.now c.args.hints.now in
+    let kept = c.deref.result.now in
+    let code = c.in_ok-translate_instrs.field-0 in
+    let is = c.deref.ensures.value ∙ c.keep_built.ensures in
+    let made = c.in_ok-translate_instrs.ensures.blocks in
+    let same : (address : ℕ) → is_some (word_at code.map address) ≡ has (addresses kept) address = λ address. is_mapped code.map address ∙ ap (λ (xs : List ℕ). has xs address) c.in_ok-translate_instrs.ensures.mapped in
+    record {
+      instrs = kept;
+      found = kept_found pages from c.in_ok-instrs.instrs.items kept c.in_ok-instrs.ensures.reached is;
+      mapped = λ address. subst (λ (b : Bool). IsTrue b ↔ Mapped pages from address) (same address)
+          (kept_mapped pages from c.in_ok-instrs.instrs.items kept c.in_ok-instrs.ensures.reached is code c.in_ok-translate_instrs.ensures.mapped address);
+      made = made;
+    }

@@ -1,33 +1,74 @@
-use Rattle.std.proofs.Common.{◌≡◌, map, ap, ◌∙◌}
+use Rattle.std.proofs.Common.{◌∙◌, List, Result, Ok, Err, ap, map, refl, sym, subst, get_or, arith}
+use Rattle.std.specs.Prelude.{IfOk}
 use Rattle.address_map.specs.Pairs.{Pair}
-use Rattle.block_law.specs.Translations.{Code}
-use Rattle.branch_layout.specs.Layouts.{IsLayout}
-use Rattle.translate.proofs.Zipped.{zip_length, are_blocks, blocks_rise, map_addresses, no_flaw}
-use Rattle.translate.proofs.Meeting.{meets}
+use Rattle.branch_layout.specs.Layouts.{Placed, layout}
+use Rattle.code_runs.specs.Runs.{AreInOrder}
+use Rattle.code_runs.specs.Codes.{instruction_codes}
+use Rattle.code_runs.proofs.Along.{are_codes}
+use Rattle.code_runs.proofs.Meeting.{rules_always_meet}
+use Rattle.translate.specs.Compiled.{AreCompiled, CanBeLaid, IsLaidOut}
+use Rattle.translate.proofs.Above.{goes_on_above, is_spelled}
+use Rattle.translate.proofs.Asked.{are_translated}
+use Rattle.translate.proofs.Meeting.{its_rules, meets}
+use Rattle.translate.proofs.Placing.{are_blocks, are_of, blocks_rise, map_addresses}
 use Rattle.translate.proofs.translate_instrs.Goals as goal
 
-pub lay_out-requires-clause-few : goal.lay_out-requires-clause-few
-lay_out-requires-clause-few c = rw (c.deref.ensures.value, zip_length c.args.instrs.now c.in_ok-blocks.blocks.items c.in_ok-blocks.ensures) c.requires.few
+ok_by : {A E : Type 0} (r : Result A E) (P Q : A → Type 0) → IfOk r P → ((x : A) → P x → Q x) → IfOk r Q
+ok_by (Ok x) P Q p f = f x p
+ok_by (Err e) P Q p f = tt
 
-pub lay_out-requires-clause-rising : goal.lay_out-requires-clause-rising
-lay_out-requires-clause-rising c = rw c.deref.ensures.value (blocks_rise c.args.instrs.now c.in_ok-blocks.blocks.items c.in_ok-blocks.ensures c.requires.rising)
+pub compiled-requires-clause-order : goal.compiled-requires-clause-order
+compiled-requires-clause-order c = record {
+  rising = c.requires.rising;
+  onward = λ k d lt. goes_on_above c.args.pages.now (get_or c.args.instrs.now k d) c.pages_are.ensures (c.addresses_fit.ensures k d lt) (c.requires.found k d lt);
+}
 
-pub lay_out-requires-clause-blocks : goal.lay_out-requires-clause-blocks
-lay_out-requires-clause-blocks c = rw c.deref.ensures.value (are_blocks c.args.instrs.now c.in_ok-blocks.blocks.items c.in_ok-blocks.ensures)
+pub compiled-requires-clause-spelled : goal.compiled-requires-clause-spelled
+compiled-requires-clause-spelled c = λ k d lt. is_spelled c.args.pages.now (get_or c.args.instrs.now k d) c.pages_are.ensures (c.requires.found k d lt)
 
-pub unreachable-requires : goal.unreachable-requires
-unreachable-requires c = no_flaw c.in_ok-words.points.items c.in_default.field-0 c.in_ok-words.ensures.laid.points_rise c.in_default.ensures.refused
-
-pub returns : goal.returns
-returns c =
-    let instrs = c.args.instrs.now in
-    let blocks = c.in_ok-blocks.blocks.items in
+pub laid_out-requires : goal.laid_out-requires
+laid_out-requires c =
+    let order : AreInOrder c.args.instrs.now = record {
+      rising = c.requires.rising;
+      onward = λ k d lt. goes_on_above c.args.pages.now (get_or c.args.instrs.now k d) c.pages_are.ensures (c.addresses_fit.ensures k d lt) (c.requires.found k d lt);
+    } in
     let are = c.in_ok-blocks.ensures in
-    let code : Code = record { words = c.in_ok-words.words.items; map = c.in-Ok-build.map; points = c.prepare.new.self } in
-    let map_is : c.in-Ok-build.map ≡ c.in_ok-words.map.items = c.in-Ok-build.ensures.map ∙ c.deref-2.ensures.value in
-    let points_is : c.prepare.new.self ≡ c.in_ok-words.points.items = c.prepare.ensures ∙ c.in-Ok.ensures.points in
-    let layout : IsLayout blocks code = rw (map_is, points_is, ← c.deref.ensures.value) c.in_ok-words.ensures.laid in
-    record {
-      meets = meets c.args.pages.now instrs blocks code are layout c.requires.found;
-      mapped = ap (map (λ (pair : Pair). pair.0)) layout.places ∙ map_addresses 0 instrs blocks are;
-    }
+    let blocks = c.in_ok-blocks.blocks.items in
+    let many = are.many in
+    let few = c.requires.few in
+    subst CanBeLaid (sym c.deref.ensures.value)
+    (record { few = omega arith; rising = blocks_rise c.args.instrs.now blocks are order; are_blocks = are_blocks c.args.instrs.now blocks are })
+
+pub returns-clause-meets : goal.returns-clause-meets
+returns-clause-meets c =
+    let instrs = c.args.instrs.now in
+    let order : AreInOrder instrs = record {
+      rising = c.requires.rising;
+      onward = λ k d lt. goes_on_above c.args.pages.now (get_or instrs k d) c.pages_are.ensures (c.addresses_fit.ensures k d lt) (c.requires.found k d lt);
+    } in
+    let blocks = c.in_ok-blocks.blocks.items in
+    ok_by c.laid_out.result (IsLaidOut blocks) _ (subst (λ (bs : List Placed). IfOk c.laid_out.result (IsLaidOut bs)) c.deref.ensures.value c.laid_out.ensures)
+    (λ code laid. meets c.args.pages.now instrs blocks code c.in_ok-blocks.ensures laid.laid c.requires.found c.pages_are.ensures (rules_always_meet instrs order (are_translated instrs c.requires.built)))
+
+pub returns-clause-mapped : goal.returns-clause-mapped
+returns-clause-mapped c =
+    let blocks = c.in_ok-blocks.blocks.items in
+    ok_by c.laid_out.result (IsLaidOut blocks) _ (subst (λ (bs : List Placed). IfOk c.laid_out.result (IsLaidOut bs)) c.deref.ensures.value c.laid_out.ensures)
+    (λ code laid. ap (map (λ (pair : Pair). pair.0)) laid.laid.places ∙ map_addresses c.args.instrs.now blocks c.in_ok-blocks.ensures)
+
+pub returns-clause-blocks : goal.returns-clause-blocks
+returns-clause-blocks c =
+    let instrs = c.args.instrs.now in
+    let order : AreInOrder instrs = record {
+      rising = c.requires.rising;
+      onward = λ k d lt. goes_on_above c.args.pages.now (get_or instrs k d) c.pages_are.ensures (c.addresses_fit.ensures k d lt) (c.requires.found k d lt);
+    } in
+    let blocks = c.in_ok-blocks.blocks.items in
+    ok_by c.laid_out.result (IsLaidOut blocks) _ (subst (λ (bs : List Placed). IfOk c.laid_out.result (IsLaidOut bs)) c.deref.ensures.value c.laid_out.ensures)
+    (λ code laid. record {
+      order = order;
+      codes = are_codes instrs order (instruction_codes instrs) refl;
+      compiled = subst (AreCompiled instrs) (are_of instrs blocks c.in_ok-blocks.ensures) c.in_ok-blocks.ensures;
+      rules = its_rules c.args.pages.now instrs blocks code c.in_ok-blocks.ensures laid.laid c.requires.found c.pages_are.ensures (rules_always_meet instrs order (are_translated instrs c.requires.built));
+      laid = laid.value ∙ ap layout (are_of instrs blocks c.in_ok-blocks.ensures);
+    })

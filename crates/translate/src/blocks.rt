@@ -1,0 +1,86 @@
+// The blocks of the instructions of a list.
+ghost use Rattle.std.specs.Prelude.{◌≡◌, All, IfOk, Some, true};
+ghost use Rattle.vax_form.specs.Grammar.{IsSpelled};
+ghost use Rattle.code_runs.specs.Codes.{instruction_codes};
+ghost use Rattle.code_runs.specs.Runs.{AreInOrder};
+ghost use Rattle.micro_lower.specs.Lowering.{IsLowered};
+ghost use Rattle.micro_lower.specs.Rows.{program_for};
+ghost use Rattle.translate.specs.Compiled.{AreCompiled, AreReadyFor, IsCompiled};
+ghost use Rattle.translate.specs.Mapped.{has_block};
+
+use code_runs::{InstrCodes, instruction_codes};
+use exception_records::Block;
+use flag_codegen::code_words;
+use micro_lower::lower;
+use micro_ops::{Micro, sources_of};
+use program_codegen::block;
+use std::alloc::Global;
+use vax_form::{Instr, WantOfMemory, operation_of};
+
+/// The program of an instruction.
+fn program(alloc: Global, instr: &Instr) -> Result<Vec<Micro>, WantOfMemory>
+    requires { IsSpelled instr.now }
+    ensures lowered { IfOk result (λ program. IsLowered instr.now program.items) }
+    ensures value { IfOk result (λ program. program_for instr.now ≡ Some program.items) }
+{
+    lower(alloc, instr).map_err(|_| WantOfMemory)
+}
+
+/// The block of an instruction, with its address, by the codes that it has along its run.
+fn compiled_instr(
+    alloc: Global,
+    instr: &Instr,
+    codes: &InstrCodes,
+) -> Result<(u32, Block), WantOfMemory>
+    requires spelled { IsSpelled instr.now }
+    requires built { has_block instr.now ≡ true }
+    requires ready { AreReadyFor instr.now codes.now }
+    ensures { IfOk result (IsCompiled instr.now codes.now) }
+{
+    let Some(operation) = operation_of(instr.opcode) else {
+        unreachable!()
+    };
+    let program = program(alloc, instr)?;
+    let words = code_words(alloc, operation, codes.live)?;
+    let sources = sources_of(operation);
+    let block = block(
+        alloc,
+        instr,
+        sources,
+        &program,
+        &words,
+        codes.before,
+        codes.behind,
+    )?;
+    Ok((instr.at, block))
+}
+
+fn compiled_all(
+    alloc: Global,
+    instrs: &[Instr],
+    codes: &[InstrCodes],
+) -> Result<Vec<(u32, Block)>, WantOfMemory>
+    requires order { AreInOrder instrs.now }
+    requires spelled { All IsSpelled instrs.now }
+    requires built { All (λ instr. has_block instr ≡ true) instrs.now }
+    requires codes { codes.now ≡ instruction_codes instrs.now }
+    ensures { IfOk result (λ blocks. AreCompiled instrs.now blocks.items) }
+{
+    let mut blocks = Vec::new(alloc);
+    for (place, instr) in instrs.iter().enumerate() {
+        let block = compiled_instr(alloc, instr, &codes[place])?;
+        blocks.push(block).map_err(|_| WantOfMemory)?;
+    }
+    Ok(blocks)
+}
+
+/// The block of each instruction, with its address.
+pub(crate) fn compiled(alloc: Global, instrs: &[Instr]) -> Result<Vec<(u32, Block)>, WantOfMemory>
+    requires order { AreInOrder instrs.now }
+    requires spelled { All IsSpelled instrs.now }
+    requires built { All (λ instr. has_block instr ≡ true) instrs.now }
+    ensures { IfOk result (λ blocks. AreCompiled instrs.now blocks.items) }
+{
+    let codes = instruction_codes(alloc, instrs)?;
+    compiled_all(alloc, instrs, &codes)
+}
