@@ -1,3 +1,0 @@
-pub mod HasBlock
-pub mod Words
-pub mod Promises
