@@ -15,7 +15,7 @@ use image_file::Image;
 use row_tally::{bytes, fields};
 use std::alloc::{AllocError, Global};
 use system_model::{Range, Translation};
-use translate::translate;
+use translate::{Target, translate};
 use vest_core::World;
 
 /// What is interpreted beside what has no block.
@@ -86,7 +86,7 @@ fn ranges_of(
 fn translated(alloc: Global, image: &Image) -> Result<Translation>
     ensures { IfOk result (Meets (image_meaning image.now.pages)) }
 {
-    match translate(alloc, image, &[]) {
+    match translate(alloc, image, &[], Target::Original) {
         Ok(translation) => Ok(translation),
         Err(_) => Err(anyhow!("no translation")),
     }
