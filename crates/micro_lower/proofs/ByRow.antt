@@ -10,8 +10,10 @@ use Rattle.vax_form.specs.declared.operation.Operation.{Operation}
 use Rattle.vax_form.specs.declared.operation.Operation.TheVariants as operations
 use Rattle.micro_ops.specs.declared.program.Micro.{Micro}
 use Rattle.micro_lower.specs.Lowering.{Lowers, AreLongOperands}
-use Rattle.micro_lower.specs.Rows.{row_program_of, move_row, arithmetic_row, control_row}
+use Rattle.micro_lower.specs.Rows.{row_program_of, own_program_of, move_row, arithmetic_row, control_row}
 use Rattle.micro_lower.proofs.RowsLower.{move_lowers, clear_lowers, move_zero_extended_lowers, move_complemented_lowers, move_negated_lowers, convert_lowers, move_address_lowers, push_address_lowers, push_long_lowers, compare_lowers, test_lowers, bit_test_lowers, two_operands_lowers, three_operands_lowers, increment_lowers, decrement_lowers, low_bit_lowers, subtract_one_lowers, add_one_lowers, add_compare_lowers, add_with_carry_lowers, change_mode_lowers, subtract_with_carry_lowers, rotate_lowers, arithmetic_shift_lowers, set_psw_lowers, clear_psw_lowers, bit_branch_lowers, move_psl_lowers}
+use Rattle.micro_lower.proofs.AlignedLower.{add_aligned_lowers}
+use Rattle.micro_lower.proofs.ProductLower.{product_lowers}
 use Rattle.micro_lower.proofs.JumpsLower.{jump_lowers, call_lowers}
 use Rattle.micro_lower.proofs.Tabled.{is_in_table}
 
@@ -24,7 +26,7 @@ LowersByRow operation = (instr : Instr) (program : List Micro) → IsSpelled ins
     → row_program_of operation instr ≡ Some program → Lowers operation instr program
 
 two_operands_lower : (operation : BinaryOperation) (width : Width) → LowersByRow (operations.TwoOperands operation width)
-unfolding move_row arithmetic_row control_row
+unfolding own_program_of move_row arithmetic_row control_row
 two_operands_lower binary.Add width instr program spelled long is row = two_operands_lowers binary.Add width instr program refl spelled long is (sym (some_same _ _ row))
 two_operands_lower binary.Subtract width instr program spelled long is row = two_operands_lowers binary.Subtract width instr program refl spelled long is (sym (some_same _ _ row))
 two_operands_lower binary.Multiply width instr program spelled long is row = two_operands_lowers binary.Multiply width instr program refl spelled long is (sym (some_same _ _ row))
@@ -34,7 +36,7 @@ two_operands_lower binary.ExclusiveOr width instr program spelled long is row = 
 two_operands_lower binary.Divide width instr program spelled long is row = cc
 
 three_operands_lower : (operation : BinaryOperation) (width : Width) → LowersByRow (operations.ThreeOperands operation width)
-unfolding move_row arithmetic_row control_row
+unfolding own_program_of move_row arithmetic_row control_row
 three_operands_lower binary.Add width instr program spelled long is row = three_operands_lowers binary.Add width instr program refl spelled long is (sym (some_same _ _ row))
 three_operands_lower binary.Subtract width instr program spelled long is row = three_operands_lowers binary.Subtract width instr program refl spelled long is (sym (some_same _ _ row))
 three_operands_lower binary.Multiply width instr program spelled long is row = three_operands_lowers binary.Multiply width instr program refl spelled long is (sym (some_same _ _ row))
@@ -44,7 +46,7 @@ three_operands_lower binary.ExclusiveOr width instr program spelled long is row 
 three_operands_lower binary.Divide width instr program spelled long is row = cc
 
 pub rows_lower : (operation : Operation) → LowersByRow operation
-unfolding move_row arithmetic_row control_row
+unfolding own_program_of move_row arithmetic_row control_row
 rows_lower (operations.Move size) instr program spelled long is row = move_lowers size instr program spelled long is (sym (some_same _ _ row))
 rows_lower (operations.MoveZeroExtended from to) instr program spelled long is row = move_zero_extended_lowers from to instr program (is_in_table instr.opcode (operations.MoveZeroExtended from to) is) spelled long is (sym (some_same _ _ row))
 rows_lower (operations.Clear size) instr program spelled long is row = clear_lowers size instr program spelled long is (sym (some_same _ _ row))
@@ -69,6 +71,8 @@ rows_lower operations.ArithmeticShift instr program spelled long is row = arithm
 rows_lower operations.BitSetPsw instr program spelled long is row = set_psw_lowers instr program spelled long is (sym (some_same _ _ row))
 rows_lower operations.BitClearPsw instr program spelled long is row = clear_psw_lowers instr program spelled long is (sym (some_same _ _ row))
 rows_lower (operations.BranchOnBit branch) instr program spelled long is row = bit_branch_lowers branch instr program spelled long is (sym (some_same _ _ row))
+rows_lower operations.AddAlignedWord instr program spelled long is row = add_aligned_lowers instr program spelled long is (sym (some_same _ _ row))
+rows_lower operations.ExtendedMultiply instr program spelled long is row = product_lowers instr program spelled long is (sym (some_same _ _ row))
 rows_lower operations.MovePsl instr program spelled long is row = move_psl_lowers instr program spelled long is (sym (some_same _ _ row))
 rows_lower operations.AddWithCarry instr program spelled long is row = add_with_carry_lowers instr program spelled long is (sym (some_same _ _ row))
 rows_lower operations.Jump instr program spelled long is row = jump_lowers instr program spelled long is (sym (some_same _ _ row))

@@ -1,18 +1,20 @@
 -- An instruction that has a program is translated, and lowered by it.
 use Rattle.std.proofs.Common.{◌≡◌, Bool, true, false, List, Some, None, Option, refl, sym, ◌∙◌, subst}
-use Rattle.std.specs.Option.{is_some, option_or, option_map_or}
+use Rattle.std.specs.Prelude.{◌↔◌}
+use Rattle.std.specs.Option.{option_or}
 use Rattle.vax_form.specs.Grammar.{IsSpelled}
 use Rattle.vax_form.specs.Operation.{operation_at}
-use Rattle.vax_form.specs.Row.{class_where, class_of_operation}
+use Rattle.vax_form.specs.Row.{class_at, class_of_operation}
 use Rattle.vax_form.specs.declared.instr.Instr.{Instr}
 use Rattle.vax_form.specs.declared.operation.BinaryOperation.TheVariants as binary
 use Rattle.vax_form.specs.declared.operation.Operation.{Operation}
 use Rattle.vax_form.specs.declared.operation.Operation.TheVariants as operations
-use Rattle.vax_form.specs.declared.row.Class.TheVariants.{Translated}
+use Rattle.vax_form.specs.declared.row.Class.{Class}
+use Rattle.vax_form.specs.declared.row.Class.TheVariants.{Translated, Tie, Reserved}
 use Rattle.micro_ops.specs.declared.program.Micro.{Micro}
 use Rattle.micro_lower.specs.Lowering.{Lowers, KeepsTo, IsLowered, AreLongOperands, ProgramsAreTranslated}
 use Rattle.micro_lower.specs.Programs.{plain_program_of}
-use Rattle.micro_lower.specs.Rows.{move_row, arithmetic_row, control_row, row_program_of, program_of_operation, is_lowered, has_program, program_for}
+use Rattle.micro_lower.specs.Rows.{move_row, arithmetic_row, control_row, own_program_of, row_program_of, program_of_operation, is_translated, has_program, program_for}
 use Rattle.micro_lower.proofs.ByRow.{rows_lower}
 use Rattle.micro_lower.proofs.Covered.{plain_lower}
 use Rattle.micro_lower.proofs.KeptRows.{plain_keep, rows_keep}
@@ -34,8 +36,8 @@ is_lowered_by instr operation program spelled long is made = record {
 }
 
 -- ---- what has a program
-pub lowered_has : (operation : Operation) (instr : Instr) → is_lowered operation ≡ true → program_of_operation operation instr ≡ None → ⊥
-unfolding is_lowered plain_program_of move_row arithmetic_row control_row
+lowered_has : (operation : Operation) (instr : Instr) → is_translated (class_of_operation operation) ≡ true → program_of_operation operation instr ≡ None → ⊥
+unfolding class_of_operation plain_program_of own_program_of move_row arithmetic_row control_row
 lowered_has (operations.TwoOperands binary.Add width) instr has none = cc
 lowered_has (operations.TwoOperands binary.Subtract width) instr has none = cc
 lowered_has (operations.TwoOperands binary.Multiply width) instr has none = cc
@@ -60,32 +62,11 @@ pub has_it : (instr : Instr) (operation : Operation) → operation_at instr.opco
 unfolding has_program
 has_it instr operation is has none = lowered_has operation instr (rw is at has) none
 
-class_is : (operation : Operation) → is_lowered operation ≡ true → class_of_operation operation ≡ Translated
-unfolding is_lowered class_of_operation
-class_is (operations.TwoOperands binary.Add width) has = refl
-class_is (operations.TwoOperands binary.Subtract width) has = refl
-class_is (operations.TwoOperands binary.Multiply width) has = refl
-class_is (operations.TwoOperands binary.BitSet width) has = refl
-class_is (operations.TwoOperands binary.BitClear width) has = refl
-class_is (operations.TwoOperands binary.ExclusiveOr width) has = refl
-class_is (operations.TwoOperands binary.Divide width) has = cc
-class_is (operations.ThreeOperands binary.Add width) has = refl
-class_is (operations.ThreeOperands binary.Subtract width) has = refl
-class_is (operations.ThreeOperands binary.Multiply width) has = refl
-class_is (operations.ThreeOperands binary.BitSet width) has = refl
-class_is (operations.ThreeOperands binary.BitClear width) has = refl
-class_is (operations.ThreeOperands binary.ExclusiveOr width) has = refl
-class_is (operations.ThreeOperands binary.Divide width) has = cc
-class_is (operations.ExtractField signed) has = cc
-class_is operations.InsertField has = cc
-class_is (operations.Case width) has = cc
-class_is (operations.Long operation) has = cc
-class_is _ has = refl
-
-class_where_lowered : (found : Option Operation) → option_map_or is_lowered found false ≡ true → class_where found ≡ Translated
-class_where_lowered None has = cc
-class_where_lowered (Some operation) has = class_is operation has
+is_class : (class : Class) → (is_translated class ≡ true) ↔ (class ≡ Translated)
+is_class Translated = (λ is. refl, λ is. refl)
+is_class Tie = (λ is. cc, λ is. cc)
+is_class Reserved = (λ is. cc, λ is. cc)
 
 pub programs_are_translated : ProgramsAreTranslated
 unfolding has_program
-programs_are_translated instr has = class_where_lowered (operation_at instr.opcode) has
+programs_are_translated instr = is_class (class_at instr.opcode)

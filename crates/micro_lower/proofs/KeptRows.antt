@@ -33,11 +33,12 @@ use Rattle.operand_programs.specs.Operands.{IsTarget}
 use Rattle.micro_lower.specs.Lowering.{AreLongOperands, KeepsTo}
 use Rattle.micro_lower.specs.Plans.{Plan, program_of}
 use Rattle.micro_lower.specs.Programs.{flags_of, flag_test, inversion, branch_if_program, subroutine_program, return_program, plain_program_of}
-use Rattle.micro_lower.specs.Rows.{move_row, arithmetic_row, control_row, row_program_of, branch_exit, move_plan, clear_plan, move_zero_extended_plan, move_complemented_plan, move_negated_plan, convert_plan, move_address_plan, push_address_plan, push_long_plan, compare_plan, test_plan, bit_test_plan, by_one_plan, two_operands_plan, three_operands_plan, low_bit_plan, subtract_one_plan, add_one_plan, add_compare_plan, jump_plan, jump_to_subroutine_plan, add_with_carry_plan, change_mode_plan, subtract_with_carry_plan, rotate_plan, arithmetic_shift_plan, change_psw_plan, bit_tested, bit_stored, byte_program, before_bit, bit_branch_plan, move_psl_plan}
+use Rattle.micro_lower.specs.Rows.{move_row, arithmetic_row, control_row, own_program_of, row_program_of, branch_exit, move_plan, clear_plan, move_zero_extended_plan, move_complemented_plan, move_negated_plan, convert_plan, move_address_plan, push_address_plan, push_long_plan, compare_plan, test_plan, bit_test_plan, by_one_plan, two_operands_plan, three_operands_plan, low_bit_plan, subtract_one_plan, add_one_plan, add_compare_plan, jump_plan, jump_to_subroutine_plan, add_with_carry_plan, change_mode_plan, subtract_with_carry_plan, rotate_plan, arithmetic_shift_plan, change_psw_plan, bit_tested, bit_stored, byte_program, before_bit, bit_branch_plan, before_aligned, add_aligned_plan, move_psl_plan}
 use Rattle.micro_lower.proofs.Covered.{targeted}
 use Rattle.micro_lower.proofs.Inner.{IsInner, joined}
 use Rattle.micro_lower.proofs.Keeping.{Ends, ExitKeeps, keeps, ends_here, next_keeps, breakpoint_keeps, branch_fixed, fixed_keeps, choice_keeps, computed_keeps, jump_keeps, plan_keeps}
 use Rattle.micro_lower.proofs.Lowered.{slots_of, second, third, fourth}
+use Rattle.micro_lower.proofs.ProductLower.{product_keeps}
 use Rattle.micro_lower.proofs.Spelled.{Given, given}
 
 some_same : (x y : List Micro) → Some x ≡ Some y → y ≡ x
@@ -144,6 +145,13 @@ before_inner set (operands.Target address) state store = joined set (byte_progra
 bit_inner : (set : Flags) (base : Operand) (state : Bool) (store : BitStore) → IsInner set (before_bit base (record { state = state; store = store }) ++ [])
 bit_inner set base state store = joined set (before_bit base (record { state = state; store = store })) [] (before_inner set base state store) refl
 
+aligned_inner : (set : Flags) (base : Operand) → IsInner set (before_aligned base ++ [])
+aligned_inner set (operands.Register n) = refl
+aligned_inner set operands.Unused = refl
+aligned_inner set (operands.Value value) = refl
+aligned_inner set (operands.Place base index) = refl
+aligned_inner set (operands.Target address) = refl
+
 -- a branch by the operand of that number
 branch_keeps : (operation : Operation) (instr : Instr) → operation_at instr.opcode ≡ Some operation → (code_use_of operation).ends ≡ true
     → (number : ℕ) → IsTarget (operand instr number) → ExitKeeps instr (branch_exit instr number)
@@ -156,7 +164,7 @@ next_row operation instr plan program is inner exit row =
     plan_keeps operation instr plan program is inner (rw exit (next_keeps instr exits.Next refl refl)) (some_same _ _ row)
 
 two_operands_keep : (operation : BinaryOperation) (width : Width) → KeepsByRow (operations.TwoOperands operation width)
-unfolding move_row arithmetic_row control_row code_use_of
+unfolding own_program_of move_row arithmetic_row control_row code_use_of
 two_operands_keep binary.Add width instr program spelled long is row = next_row (operations.TwoOperands binary.Add width) instr (two_operands_plan binary.Add width instr) program is refl refl row
 two_operands_keep binary.Subtract width instr program spelled long is row = next_row (operations.TwoOperands binary.Subtract width) instr (two_operands_plan binary.Subtract width instr) program is refl refl row
 two_operands_keep binary.Multiply width instr program spelled long is row = next_row (operations.TwoOperands binary.Multiply width) instr (two_operands_plan binary.Multiply width instr) program is refl refl row
@@ -166,7 +174,7 @@ two_operands_keep binary.ExclusiveOr width instr program spelled long is row = n
 two_operands_keep binary.Divide width instr program spelled long is row = cc
 
 three_operands_keep : (operation : BinaryOperation) (width : Width) → KeepsByRow (operations.ThreeOperands operation width)
-unfolding move_row arithmetic_row control_row code_use_of
+unfolding own_program_of move_row arithmetic_row control_row code_use_of
 three_operands_keep binary.Add width instr program spelled long is row = next_row (operations.ThreeOperands binary.Add width) instr (three_operands_plan binary.Add width instr) program is refl refl row
 three_operands_keep binary.Subtract width instr program spelled long is row = next_row (operations.ThreeOperands binary.Subtract width) instr (three_operands_plan binary.Subtract width instr) program is refl refl row
 three_operands_keep binary.Multiply width instr program spelled long is row = next_row (operations.ThreeOperands binary.Multiply width) instr (three_operands_plan binary.Multiply width instr) program is refl refl row
@@ -176,7 +184,7 @@ three_operands_keep binary.ExclusiveOr width instr program spelled long is row =
 three_operands_keep binary.Divide width instr program spelled long is row = cc
 
 pub rows_keep : (operation : Operation) → KeepsByRow operation
-unfolding move_row arithmetic_row control_row code_use_of operands_of jump_target
+unfolding own_program_of move_row arithmetic_row control_row code_use_of operands_of jump_target
 rows_keep (operations.Move size) instr program spelled long is row = next_row (operations.Move size) instr (move_plan size instr) program is refl refl row
 rows_keep (operations.MoveZeroExtended from to) instr program spelled long is row = next_row (operations.MoveZeroExtended from to) instr (move_zero_extended_plan from to instr) program is refl refl row
 rows_keep (operations.Clear size) instr program spelled long is row = next_row (operations.Clear size) instr (clear_plan size instr) program is refl refl row
@@ -194,9 +202,11 @@ rows_keep (operations.Decrement width) instr program spelled long is row = next_
 rows_keep operations.SubtractWithCarry instr program spelled long is row = next_row operations.SubtractWithCarry instr (subtract_with_carry_plan instr) program is refl refl row
 rows_keep operations.AddWithCarry instr program spelled long is row = next_row operations.AddWithCarry instr (add_with_carry_plan instr) program is refl refl row
 rows_keep operations.Rotate instr program spelled long is row = next_row operations.Rotate instr (rotate_plan instr) program is refl refl row
+rows_keep operations.AddAlignedWord instr program spelled long is row = next_row operations.AddAlignedWord instr (add_aligned_plan instr) program is (aligned_inner _ (operand instr 1)) refl row
 rows_keep operations.ArithmeticShift instr program spelled long is row = next_row operations.ArithmeticShift instr (arithmetic_shift_plan instr) program is refl refl row
 rows_keep operations.BitSetPsw instr program spelled long is row = next_row operations.BitSetPsw instr (change_psw_plan ops.Or) program is refl refl row
 rows_keep operations.BitClearPsw instr program spelled long is row = next_row operations.BitClearPsw instr (change_psw_plan ops.AndNot) program is refl refl row
+rows_keep operations.ExtendedMultiply instr program spelled long is row = product_keeps instr program is (some_same _ _ row)
 rows_keep operations.MovePsl instr program spelled long is row = next_row operations.MovePsl instr (move_psl_plan instr) program is refl refl row
 rows_keep operations.ChangeMode instr program spelled long is row =
     plan_keeps operations.ChangeMode instr change_mode_plan program is refl (next_keeps instr (exits.Service 0) refl refl) (some_same _ _ row)

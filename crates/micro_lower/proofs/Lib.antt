@@ -32,3 +32,7 @@ pub mod ShiftRows
 pub mod PswRows
 pub mod BitValues
 pub mod BitRows
+pub mod AlignedRows
+pub mod AlignedLower
+pub mod ProductRows
+pub mod ProductLower

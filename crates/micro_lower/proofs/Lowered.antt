@@ -75,19 +75,29 @@ types_length : (slots : List Slot) → length (types_of slots) ≡ length slots
 types_length [] = refl
 types_length (slot ∷ slots) = ap suc (types_length slots)
 
+-- the operands fit the slots, whatever the temporaries
+pub record AreFitting (slots : List Slot) (instr : Instr) : Type 0 where
+  pub operands : List Operand
+  pub fit : FitSlots slots operands
+  pub is_instr : instr ≡ with_operands instr.at instr.opcode instr.count instr.after operands
+
+pub fitting : (operation : Operation) (instr : Instr) (slots : List Slot) → IsSpelled instr → AreLongOperands instr → operation_at instr.opcode ≡ Some operation → types_of slots ≡ operands_of operation → length slots ≤ 4
+    → AreFitting slots instr
+fitting operation instr slots spelled long is types few =
+    let here : Given (operands_of operation) instr = given instr operation spelled is in
+    let specified : SpecifyAll (types_of slots) (instr.at + 1) here.bytes here.operands =
+    subst (λ (t : List (Access × Size)). SpecifyAll t (instr.at + 1) here.bytes here.operands) (sym types) here.are_operands in
+    let count : length here.operands ≤ 4 = omega (arith, few, counted (types_of slots) (instr.at + 1) here.bytes here.operands specified, types_length slots) in
+    let long_here : AreLong here.operands = are_long instr.at instr.opcode instr.count instr.after here.operands count (subst AreLongOperands here.is_instr long) in
+    record { operands = here.operands; fit = fit_slots slots (instr.at + 1) here.bytes here.operands specified long_here; is_instr = here.is_instr }
+
 -- ---- the law
 module _ (operation : Operation) (instr : Instr) (plan : Plan) (program : List Micro) (spelled : IsSpelled instr) (long : AreLongOperands instr) (is : operation_at instr.opcode ≡ Some operation)
     (made : program ≡ program_of (sources_of operation) plan instr) where
-  abbrev here : Given (operands_of operation) instr
-  here = given instr operation spelled is
-
   pub slots_of : types_of plan.slots ≡ operands_of operation → are_apart plan.slots ≡ true → length plan.slots ≤ 4 → AreSlots plan.slots instr
   slots_of types apart few =
-      let specified : SpecifyAll (types_of plan.slots) (instr.at + 1) here.bytes here.operands =
-      subst (λ (t : List (Access × Size)). SpecifyAll t (instr.at + 1) here.bytes here.operands) (sym types) here.are_operands in
-      let count : length here.operands ≤ 4 = omega (arith, few, counted (types_of plan.slots) (instr.at + 1) here.bytes here.operands specified, types_length plan.slots) in
-      let long_here : AreLong here.operands = are_long instr.at instr.opcode instr.count instr.after here.operands count (subst AreLongOperands here.is_instr long) in
-      are_slots plan.slots instr here.operands (fit_slots plan.slots (instr.at + 1) here.bytes here.operands specified long_here) apart few here.is_instr
+      let f = fitting operation instr plan.slots spelled long is types few in
+      are_slots plan.slots instr f.operands f.fit apart few f.is_instr
 
   pub lowers_by_plan : AreSlots plan.slots instr → evaluated_row operation ≡ row_with (types_of plan.slots) → length (specifiers_from 0 plan.slots instr) ≤ 6
       → AllDo operation instr plan → TargetIsNamed plan.target → plan_fits (sources_of operation) plan instr ≡ true → Lowers operation instr program

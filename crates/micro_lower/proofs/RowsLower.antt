@@ -7,7 +7,7 @@ use Rattle.vax_form.specs.declared.instr.Instr.{Instr}
 use Rattle.vax_form.specs.declared.instr.Operand.{Operand}
 use Rattle.vax_form.specs.declared.instr.Operand.TheVariants as operands
 use Rattle.vax_form.specs.declared.instr.Size.{Size}
-use Rattle.vax_form.specs.declared.instr.Size.TheVariants.{Byte}
+use Rattle.vax_form.specs.declared.instr.Size.TheVariants.{Byte, Long}
 use Rattle.vax_form.specs.declared.instr.Width.{Width}
 use Rattle.vax_form.specs.declared.operation.BinaryOperation.{BinaryOperation}
 use Rattle.vax_form.specs.declared.operation.BitBranch.{BitBranch}
@@ -253,7 +253,7 @@ clear_psw_lowers instr program spelled long is made =
     lowers_by_plan operations.BitClearPsw instr (change_psw_plan ops.AndNot) program spelled long is made slots refl (lit≤ tt) (clear_psw_all instr) tt (clear_psw_fits instr)
 
 -- a register of a byte is one of a longword
-register_named : (base : Operand) → NamesRegisters base Byte → TargetIsNamed (register_target base)
+register_named : (base : Operand) → NamesRegisters base Byte → TargetIsNamed (register_target base Long)
 register_named (operands.Register n) named = named
 register_named operands.Unused named = tt
 register_named (operands.Value value) named = tt

@@ -1,6 +1,6 @@
 -- What a lowered program has to meet: it does what the instruction does, the temporaries hold what its condition codes
 -- come from where it leaves, it fits a block, and it reads no other code and goes nowhere else than the instruction.
-use Rattle.std.specs.Prelude.{◌≡◌, ◌⊎◌, ◌<◌, ◌==◌, ℕ, Bool, true, false, All, List, Some, nat_eq, if◌then◌else◌}
+use Rattle.std.specs.Prelude.{◌≡◌, ◌↔◌, ◌⊎◌, ◌<◌, ◌==◌, ℕ, Bool, true, false, All, List, Some, nat_eq, if◌then◌else◌}
 use Rattle.std.specs.List.{list_any}
 use Rattle.std.specs.Option.{option_map_or}
 use Rattle.vax_form.specs.Operation.{operation_at}
@@ -76,6 +76,6 @@ pub record IsLowered (instr : Instr) (program : List Micro) : Type 0 where
   pub lowers : (operation : Operation) → operation_at instr.opcode ≡ Some operation → Lowers operation instr program
   pub keeps : KeepsTo instr program
 
--- what has a program is translated
+-- what has a program is just what is translated
 abbrev pub ProgramsAreTranslated : Type 0
-ProgramsAreTranslated = (instr : Instr) → has_program instr ≡ true → class_at instr.opcode ≡ Translated
+ProgramsAreTranslated = (instr : Instr) → (has_program instr ≡ true) ↔ (class_at instr.opcode ≡ Translated)

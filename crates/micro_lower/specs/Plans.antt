@@ -25,11 +25,14 @@ use Rattle.micro_lower.specs.declared.plans.Target.{Target}
 use Rattle.micro_lower.specs.declared.plans.Target.TheVariants.{Nowhere, Result, Replacement, Stack}
 
 -- ---- operands
+-- the operand of that number in its slot
+abbrev pub specifier_at : (number : ℕ) → Slot → Instr → Specifier
+specifier_at number slot instr = record { access = slot.access; size = slot.size; operand = operand instr number; to = slot.to; place = slot.place }
+
 -- the operands of an instruction, from that one on, in their slots
 abbrev pub specifiers_from : (number : ℕ) → List Slot → Instr → List Specifier
 specifiers_from number [] instr = []
-specifiers_from number (slot ∷ slots) instr =
-    record { access = slot.access; size = slot.size; operand = operand instr number; to = slot.to; place = slot.place } ∷ specifiers_from (number + 1) slots instr
+specifiers_from number (slot ∷ slots) instr = specifier_at number slot instr ∷ specifiers_from (number + 1) slots instr
 
 -- what the specifiers leave added to the registers
 abbrev pub steps_of : List Slot → Instr → List ℕ

@@ -1,8 +1,9 @@
 -- The rows of the table of instructions: the plan of each operation.
 -- VAX Architecture Reference Manual, "Instruction Descriptions".
-use Rattle.std.specs.Prelude.{ℕ, List, [], ◌∷◌, ◌++◌, Bool, true, false, not, Option, Some, None, option_and_then}
-use Rattle.std.specs.Option.{option_or, option_map_or}
+use Rattle.std.specs.Prelude.{ℕ, List, [], ◌∷◌, ◌++◌, Bool, true, false, Option, Some, None, option_and_then}
+use Rattle.std.specs.Option.{option_or}
 use Rattle.vax_form.specs.Operation.{operation_at}
+use Rattle.vax_form.specs.Row.{class_at}
 use Rattle.vax_form.specs.Size.{size_of}
 use Rattle.vax_form.specs.declared.instr.Access.{Access}
 use Rattle.vax_form.specs.declared.instr.Access.TheVariants as accesses
@@ -20,6 +21,8 @@ use Rattle.vax_form.specs.declared.operation.BitStore.{BitStore}
 use Rattle.vax_form.specs.declared.operation.BitStore.TheVariants as stores
 use Rattle.vax_form.specs.declared.operation.Operation.{Operation}
 use Rattle.vax_form.specs.declared.operation.Operation.TheVariants as operations
+use Rattle.vax_form.specs.declared.row.Class.{Class}
+use Rattle.vax_form.specs.declared.row.Class.TheVariants.{Translated}
 use Rattle.vax_meaning.specs.Branches.{target}
 use Rattle.vax_meaning.specs.Evaluation.{operand}
 use Rattle.micro_ops.specs.declared.program.Arg.TheVariants.{Temp, Const, Flag}
@@ -33,7 +36,8 @@ use Rattle.micro_ops.specs.declared.program.MicroOp.{MicroOp}
 use Rattle.micro_ops.specs.declared.program.MicroOp.TheVariants as ops
 use Rattle.micro_ops.specs.Sources.{sources_of}
 use Rattle.micro_ops.specs.declared.codes.CodeSources.{CodeSources}
-use Rattle.micro_lower.specs.Plans.{Plan, unary, program_of}
+use Rattle.operand_programs.specs.InOrder.{operands_program, steps_behind_all, no_steps}
+use Rattle.micro_lower.specs.Plans.{Plan, unary, specifiers_from, rest_program, program_of}
 use Rattle.micro_lower.specs.Programs.{plain_program_of}
 use Rattle.micro_lower.specs.declared.plans.Slot.{Slot}
 use Rattle.micro_lower.specs.declared.plans.Target.{Target}
@@ -70,6 +74,12 @@ inverted temp = Compute temp ops.Xor Byte (Temp temp) (Const 1)
 -- V into 3: a number that was extended into 4 is not the result extended
 abbrev pub overflow_by : Size → List Micro
 overflow_by size = unary 5 ops.SignExtend size (Temp 2) ∷ Compute 3 ops.Equal Quad (Temp 4) (Temp 5) ∷ inverted 3 ∷ []
+
+-- ---- results
+-- an operand in memory is written before, by a reference of its own; a register takes the result
+abbrev pub register_target : Operand → Size → Target
+register_target (operands.Register n) size = targets.Replacement (operands.Register n) size
+register_target base size = targets.Nowhere
 
 -- ---- moves
 -- MOV
@@ -248,6 +258,38 @@ by_one_plan op width instr = record {
   exit = Next;
 }
 
+-- ADAWI: the sum of the words in 0 and 1 goes into 2
+abbrev pub word_added : Micro
+word_added = Compute 2 ops.Add Word (Temp 0) (Temp 1)
+
+-- a register is modified, and in memory the one reference stands behind all operands
+abbrev pub aligned_slot : Operand → Slot
+aligned_slot (operands.Register n) = modified Word 0
+aligned_slot base = written Word
+
+-- an odd address is refused, before it is checked
+abbrev pub before_aligned : Operand → List Micro
+before_aligned (operands.Register n) = word_added ∷ []
+before_aligned base =
+    Compute 4 ops.And Byte (Temp 3) (Const 1)
+    ∷ Refuse 4
+    ∷ Probe 3 2 true
+    ∷ Locked 0 3 locked.AddWord 1
+    ∷ word_added
+    ∷ []
+
+abbrev pub add_aligned_plan_for : Operand → Instr → Plan
+add_aligned_plan_for base instr = record {
+  slots = read Word 1 2 ∷ aligned_slot base ∷ [];
+  before = before_aligned base;
+  target = register_target base Word;
+  behind = [];
+  exit = Next;
+}
+
+abbrev pub add_aligned_plan : Instr → Plan
+add_aligned_plan instr = add_aligned_plan_for (operand instr 1) instr
+
 -- ---- branches
 -- a branch, taken where 0 is not 0
 abbrev pub branch_exit : Instr → (number : ℕ) → Exit
@@ -378,15 +420,10 @@ before_bit base branch =
     ∷ Compute 0 ops.And Byte (Temp 0) (Const 7)
     ∷ byte_program branch.store ++ bit_tested branch.state Byte
 
--- a register takes what is left in it
-abbrev pub register_target : Operand → Target
-register_target (operands.Register n) = targets.Replacement (operands.Register n) Long
-register_target base = targets.Nowhere
-
 abbrev pub bit_target : Operand → BitStore → Target
 bit_target base stores.Nothing = targets.Nowhere
-bit_target base (stores.Plain value) = register_target base
-bit_target base (stores.Interlocked value) = register_target base
+bit_target base (stores.Plain value) = register_target base Long
+bit_target base (stores.Interlocked value) = register_target base Long
 
 abbrev pub bit_plan_for : Operand → BitBranch → Instr → Plan
 bit_plan_for base branch instr = record {
@@ -518,6 +555,35 @@ rotate_plan instr = record {
   exit = Next;
 }
 
+-- ---- EMUL: four operands are too many for the temporaries, so the factors are multiplied before the others are evaluated
+abbrev pub factors : List Slot
+factors = read Long 0 1 ∷ read Long 1 2 ∷ []
+
+-- the addend goes into 1
+abbrev pub others : List Slot
+others = read Long 1 2 ∷ written Quad ∷ []
+
+-- the product as a quadword goes into 0
+abbrev pub product_program : List Micro
+product_program = unary 4 ops.SignExtend Long (Temp 0) ∷ unary 5 ops.SignExtend Long (Temp 1) ∷ Compute 0 ops.Mul Quad (Temp 4) (Temp 5) ∷ []
+
+abbrev pub extended_multiply_plan : Instr → Plan
+extended_multiply_plan instr = record {
+  slots = others;
+  before = unary 4 ops.SignExtend Long (Temp 1) ∷ Compute 2 ops.Add Quad (Temp 0) (Temp 4) ∷ [];
+  target = targets.Result (operand instr 3) Quad;
+  behind = unary 0 ops.Move Quad (Temp 2) ∷ [];
+  exit = Next;
+}
+
+abbrev pub extended_multiply_program : Instr → List Micro
+extended_multiply_program instr =
+    let plan = extended_multiply_plan instr in
+    let first = specifiers_from 0 factors instr in
+    let steps = steps_behind_all first no_steps in
+    let later = specifiers_from 2 plan.slots instr in
+    operands_program first no_steps ++ (product_program ++ (operands_program later steps ++ rest_program (sources_of operations.ExtendedMultiply) plan (steps_behind_all later steps)))
+
 -- ---- the processor status
 -- the low byte of the status into 2, from DV down to C
 abbrev pub doubled : Micro
@@ -603,6 +669,7 @@ arithmetic_row (operations.Increment width) instr = Some (by_one_plan ops.Add wi
 arithmetic_row (operations.Decrement width) instr = Some (by_one_plan ops.Sub width instr)
 arithmetic_row operations.AddWithCarry instr = Some (add_with_carry_plan instr)
 arithmetic_row operations.SubtractWithCarry instr = Some (subtract_with_carry_plan instr)
+arithmetic_row operations.AddAlignedWord instr = Some (add_aligned_plan instr)
 arithmetic_row operations.ArithmeticShift instr = Some (arithmetic_shift_plan instr)
 arithmetic_row operations.Rotate instr = Some (rotate_plan instr)
 arithmetic_row _ instr = None
@@ -628,30 +695,27 @@ abbrev pub program_where : CodeSources → Instr → Option Plan → Option (Lis
 program_where codes instr None = None
 program_where codes instr (Some plan) = Some (program_of codes plan instr)
 
--- the program of an operation that has a row
+-- an operation that has no row, but a program
+unfoldable pub own_program_of : Operation → Instr → Option (List Micro)
+own_program_of operations.ExtendedMultiply instr = Some (extended_multiply_program instr)
+own_program_of _ instr = None
+
+-- the program of an operation that evaluates operands
 abbrev pub row_program_of : Operation → Instr → Option (List Micro)
-row_program_of operation instr = program_where (sources_of operation) instr (row_of operation instr)
+row_program_of operation instr = option_or (own_program_of operation instr) (program_where (sources_of operation) instr (row_of operation instr))
 
 -- the program of an operation that is translated
 abbrev pub program_of_operation : Operation → Instr → Option (List Micro)
 program_of_operation operation instr = option_or (plain_program_of operation instr) (row_program_of operation instr)
 
 -- ---- of an instruction
--- the operations that have a program: none that is always interpreted
-unfoldable pub is_lowered : Operation → Bool
-is_lowered (operations.TwoOperands operation width) = not (divides operation)
-is_lowered (operations.ThreeOperands operation width) = not (divides operation)
-is_lowered operations.AddAlignedWord = false
-is_lowered operations.ExtendedMultiply = false
-is_lowered (operations.ExtractField signed) = false
-is_lowered operations.InsertField = false
-is_lowered (operations.Case width) = false
-is_lowered (operations.Long operation) = false
-is_lowered _ = true
+abbrev pub is_translated : Class → Bool
+is_translated Translated = true
+is_translated class = false
 
--- the instruction has a program
+-- the instruction has a program: none that is always interpreted, and no reserved one
 unfoldable pub has_program : Instr → Bool
-has_program instr = option_map_or is_lowered (operation_at instr.opcode) false
+has_program instr = is_translated (class_at instr.opcode)
 
 -- the program of an instruction
 unfoldable pub program_for : Instr → Option (List Micro)

@@ -4,14 +4,14 @@ ghost use Rattle.std.specs.Prelude.{◌≡◌, ◌≤◌, IfOk, length};
 ghost use Rattle.vax_form.specs.Size.{size_of};
 ghost use Rattle.micro_ops.specs.Sources.{sources_of};
 ghost use Rattle.micro_lower.specs.Plans.{plan_of, program_of};
-ghost use Rattle.micro_lower.specs.Rows.{compare_plan, test_plan, bit_test_plan, micro_of, behind_binary, two_operands_plan, three_operands_plan, by_one_plan, add_with_carry_plan, subtract_with_carry_plan, overflow_of_shift, arithmetic_shift_plan, rotate_plan};
+ghost use Rattle.micro_lower.specs.Rows.{compare_plan, test_plan, bit_test_plan, micro_of, behind_binary, two_operands_plan, three_operands_plan, by_one_plan, add_with_carry_plan, subtract_with_carry_plan, aligned_slot, add_aligned_plan, overflow_of_shift, arithmetic_shift_plan, rotate_plan};
 
 use crate::micros::{binary, unary};
-use crate::plans::{Plan, Target, assemble};
-use crate::rows::{inverted, modified, operand, overflow_by, read, written};
-use micro_ops::{Arg, CodeSources, Exit, Micro, MicroOp, sources_of};
+use crate::plans::{Plan, Slot, Target, assemble};
+use crate::rows::{inverted, modified, operand, overflow_by, read, register_target, written};
+use micro_ops::{Arg, CodeSources, Exit, LockedOp, Micro, MicroOp, sources_of};
 use std::alloc::Global;
-use vax_form::{BinaryOperation, Instr, Operation, Size, WantOfMemory, Width};
+use vax_form::{BinaryOperation, Instr, Operand, Operation, Size, WantOfMemory, Width};
 
 /// CMP.
 pub(crate) fn compare(
@@ -311,6 +311,64 @@ pub(crate) fn subtract_with_carry(alloc: Global, instr: &Instr) -> Result<Vec<Mi
     };
     let codes = sources_of(Operation::SubtractWithCarry);
     assemble(alloc, codes, plan, instr)
+}
+
+/// A register is modified, and in memory the one reference stands behind all operands.
+fn aligned_slot(base: Operand) -> Slot
+    ensures { result ≡ aligned_slot base }
+{
+    match base {
+        Operand::Register(_) => modified(Size::Word, 0),
+        Operand::Unused | Operand::Value(_) | Operand::Place { .. } | Operand::Target(_) => {
+            written(Size::Word)
+        }
+    }
+}
+
+/// ADAWI: an odd address is refused, before it is checked.
+pub(crate) fn add_aligned_word(alloc: Global, instr: &Instr) -> Result<Vec<Micro>, WantOfMemory>
+    ensures { IfOk result (λ p. p.items ≡ program_of (sources_of Operation.AddAlignedWord) (add_aligned_plan instr.now) instr.now) }
+{
+    let base = operand(instr, 1);
+    let added = binary(2, MicroOp::Add, Size::Word, Arg::Temp(0), Arg::Temp(1));
+    let plan = Plan {
+        slots: &[read(Size::Word, 1, 2), aligned_slot(base)],
+        before: &[added],
+        target: register_target(base, Size::Word),
+        behind: &[],
+        exit: Exit::Next,
+    };
+    let codes = sources_of(Operation::AddAlignedWord);
+    match base {
+        Operand::Register(_) => assemble(alloc, codes, plan, instr),
+        Operand::Unused | Operand::Value(_) | Operand::Place { .. } | Operand::Target(_) => {
+            let before = [
+                binary(4, MicroOp::And, Size::Byte, Arg::Temp(3), Arg::Const(1)),
+                Micro::Refuse { when: 4 },
+                Micro::Probe {
+                    place: 3,
+                    count: 2,
+                    write: true,
+                },
+                Micro::Locked {
+                    to: 0,
+                    place: 3,
+                    kind: LockedOp::AddWord,
+                    from: 1,
+                },
+                added,
+            ];
+            assemble(
+                alloc,
+                codes,
+                Plan {
+                    before: &before,
+                    ..plan
+                },
+                instr,
+            )
+        }
+    }
 }
 
 /// V of ASHL into 3: the source as a signed quadword, shifted by at most 32, is not its low longword, and the count is

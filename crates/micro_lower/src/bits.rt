@@ -3,11 +3,11 @@
 ghost use Rattle.std.specs.Prelude.{◌≡◌, ◌++◌, IfOk, OnOk};
 ghost use Rattle.micro_ops.specs.Sources.{sources_of};
 ghost use Rattle.micro_lower.specs.Plans.{program_of};
-ghost use Rattle.micro_lower.specs.Rows.{bit_tested, storing, with_bit_into, bit_stored, locked_op, byte_program, before_bit, register_target, bit_target, bit_branch_plan};
+ghost use Rattle.micro_lower.specs.Rows.{bit_tested, storing, with_bit_into, bit_stored, locked_op, byte_program, before_bit, bit_target, bit_branch_plan};
 
 use crate::micros::binary;
 use crate::plans::{Plan, Target, add, assemble};
-use crate::rows::{branch_exit, displaced, field, inverted, operand, read};
+use crate::rows::{branch_exit, displaced, field, inverted, operand, read, register_target};
 use micro_ops::{Arg, LockedOp, Micro, MicroOp, sources_of};
 use std::alloc::Global;
 use vax_form::{BitBranch, BitStore, Instr, Operand, Operation, Size, WantOfMemory};
@@ -144,27 +144,12 @@ fn put_before_bit(
     }
 }
 
-/// A register takes what is left in it.
-fn register_target(base: Operand) -> Target
-    ensures { result ≡ register_target base }
-{
-    match base {
-        Operand::Register(_) => Target::Replacement {
-            operand: base,
-            size: Size::Long,
-        },
-        Operand::Unused | Operand::Value(_) | Operand::Place { .. } | Operand::Target(_) => {
-            Target::Nowhere
-        }
-    }
-}
-
 fn bit_target(base: Operand, store: BitStore) -> Target
     ensures { result ≡ bit_target base store }
 {
     match store {
         BitStore::Nothing => Target::Nowhere,
-        BitStore::Plain(_) | BitStore::Interlocked(_) => register_target(base),
+        BitStore::Plain(_) | BitStore::Interlocked(_) => register_target(base, Size::Long),
     }
 }
 

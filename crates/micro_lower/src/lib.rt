@@ -12,6 +12,7 @@ mod lowering;
 mod micros;
 mod moves;
 mod plans;
+mod products;
 mod ranges;
 mod rows;
 mod status;

@@ -2,14 +2,14 @@
 ghost use Rattle.std.specs.Prelude.{◌≡◌, ◌↔◌, true, false, IfOk, IfErr, MatchOption, Some, None};
 ghost use Rattle.vax_form.specs.Grammar.{IsSpelled};
 ghost use Rattle.micro_lower.specs.Lowering.{IsLowered};
-ghost use Rattle.micro_lower.specs.Rows.{is_lowered, has_program, program_of_operation, program_for};
+ghost use Rattle.micro_lower.specs.Rows.{has_program, program_of_operation, program_for};
 
 use crate::branches::lower_plain;
 use crate::ranges::are_long;
 use crate::table::lower_row;
 use micro_ops::Micro;
 use std::alloc::Global;
-use vax_form::{BinaryOperation, Instr, Operation, WantOfMemory, operation_of};
+use vax_form::{Class, Instr, Operation, WantOfMemory, class_of, operation_of};
 
 /// Why an instruction was not lowered.
 #[derive(Clone, Copy, Debug, PartialEq, Eq)]
@@ -20,32 +20,14 @@ pub enum LowerFault {
     WantOfMemory,
 }
 
-/// Whether an operation has a program.
-#[tactic(auto, unfolding(crate::specs::Rows::is_lowered))]
-fn is_lowered(operation: Operation) -> bool
-    ensures { result ≡ is_lowered operation }
-{
-    match operation {
-        Operation::TwoOperands(BinaryOperation::Divide, _)
-        | Operation::ThreeOperands(BinaryOperation::Divide, _)
-        | Operation::AddAlignedWord
-        | Operation::ExtendedMultiply
-        | Operation::ExtractField { .. }
-        | Operation::InsertField
-        | Operation::Case(_)
-        | Operation::Long(_) => false,
-        _ => true,
-    }
-}
-
-/// Whether an instruction has a program.
+/// Whether an instruction has a program: whether it is translated.
 #[tactic(auto, unfolding(crate::specs::Rows::has_program))]
 pub fn has_program(instr: &Instr) -> bool
     ensures { result ≡ has_program instr.now }
 {
-    match operation_of(instr.opcode) {
-        Some(operation) => is_lowered(operation),
-        None => false,
+    match class_of(instr.opcode) {
+        Class::Translated => true,
+        Class::Tie | Class::Reserved => false,
     }
 }
 

@@ -2,7 +2,7 @@
 // result goes, and the exit.
 ghost use Rattle.std.specs.Prelude.{◌≡◌, ◌≤◌, ◌++◌, ◌∷◌, [], IfOk, OnOk, length};
 ghost use Rattle.operand_programs.specs.InOrder.{operands_program, steps_behind_all, no_steps};
-ghost use Rattle.micro_lower.specs.Plans.{codes_program, specifiers_from, write_program, end_program, program_of, plan_of, steps_behind_target};
+ghost use Rattle.micro_lower.specs.Plans.{codes_program, specifiers_from, write_program, end_program, rest_program, program_of, plan_of, steps_behind_target};
 
 use crate::codes::put_codes;
 use micro_ops::{CodeSources, Exit, Micro};
@@ -50,7 +50,7 @@ pub(crate) struct Plan<'a> {
 }
 
 /// The operands in order.
-fn put_operands(
+pub(crate) fn put_operands(
     program: &mut Vec<Micro>,
     slots: &[Slot],
     instr: &Instr,
@@ -126,6 +126,22 @@ fn put_leave(program: &mut Vec<Micro>, codes: CodeSources, exit: Exit) -> Result
     add(program, &[Micro::Leave(exit)])
 }
 
+/// What comes behind the operands.
+pub(crate) fn put_rest(
+    program: &mut Vec<Micro>,
+    codes: CodeSources,
+    plan: Plan<'_>,
+    steps: &mut Steps,
+) -> Result<(), WantOfMemory>
+    ensures { OnOk result (program.new.items ≡ program.old.items ++ rest_program codes (plan_of plan.entry) steps.old) }
+{
+    add(program, plan.before)?;
+    put_target(program, plan.target, steps)?;
+    add(program, plan.behind)?;
+    put_end(program, plan.target, steps)?;
+    put_leave(program, codes, plan.exit)
+}
+
 /// The program of a plan.
 pub(crate) fn assemble(
     alloc: Global,
@@ -139,10 +155,6 @@ pub(crate) fn assemble(
     let mut program = Vec::new(alloc);
     let mut steps: Steps = [0; 15];
     put_operands(&mut program, plan.slots, instr, &mut steps)?;
-    add(&mut program, plan.before)?;
-    put_target(&mut program, plan.target, &mut steps)?;
-    add(&mut program, plan.behind)?;
-    put_end(&mut program, plan.target, &steps)?;
-    put_leave(&mut program, codes, plan.exit)?;
+    put_rest(&mut program, codes, plan, &mut steps)?;
     Ok(program)
 }

@@ -2,10 +2,10 @@
 ghost use Rattle.std.specs.Prelude.{◌≡◌, ◌<◌};
 ghost use Rattle.vax_meaning.specs.Branches.{target};
 ghost use Rattle.vax_meaning.specs.Evaluation.{operand};
-ghost use Rattle.micro_lower.specs.Rows.{slot, read, written, modified, field, addressed, displaced, inverted, overflow_by, branch_exit};
+ghost use Rattle.micro_lower.specs.Rows.{slot, read, written, modified, field, addressed, displaced, inverted, overflow_by, register_target, branch_exit};
 
 use crate::micros::{binary, unary};
-use crate::plans::Slot;
+use crate::plans::{Slot, Target};
 use micro_ops::{Arg, Exit, Micro, MicroOp};
 use vax_form::{Access, Instr, Operand, Size};
 
@@ -91,6 +91,21 @@ pub(crate) fn operand(instr: &Instr, number: usize) -> Operand
     ensures { result ≡ operand instr.now number }
 {
     instr.operands[number]
+}
+
+/// An operand that is written by an interlocked reference, if it is in memory: a register takes the result.
+pub(crate) fn register_target(base: Operand, size: Size) -> Target
+    ensures { result ≡ register_target base size }
+{
+    match base {
+        Operand::Register(_) => Target::Replacement {
+            operand: base,
+            size,
+        },
+        Operand::Unused | Operand::Value(_) | Operand::Place { .. } | Operand::Target(_) => {
+            Target::Nowhere
+        }
+    }
 }
 
 /// Where a branch goes.

@@ -1,11 +1,11 @@
 // The table of instructions that evaluate operands.
 ghost use Rattle.std.specs.Prelude.{◌≡◌, IfOk, MatchOption};
 ghost use Rattle.micro_ops.specs.Sources.{sources_of};
-ghost use Rattle.micro_lower.specs.Rows.{program_where, move_row, arithmetic_row, control_row, row_of, row_program_of};
+ghost use Rattle.micro_lower.specs.Rows.{program_where, move_row, arithmetic_row, control_row, row_of, own_program_of, row_program_of};
 
 use crate::arithmetic::{
-    add_with_carry, arithmetic_shift, bit_test, compare, decrement, increment, rotate,
-    subtract_with_carry, test_value, three_operands, two_operands,
+    add_aligned_word, add_with_carry, arithmetic_shift, bit_test, compare, decrement, increment,
+    rotate, subtract_with_carry, test_value, three_operands, two_operands,
 };
 use crate::bits::branch_on_bit;
 use crate::jumps::{
@@ -16,6 +16,7 @@ use crate::moves::{
     clear, convert, move_address, move_complemented, move_negated, move_value, move_zero_extended,
     push_address, push_long,
 };
+use crate::products::extended_multiply;
 use crate::status::{bit_clear_psw, bit_set_psw, move_psl};
 use micro_ops::Micro;
 use std::alloc::Global;
@@ -71,6 +72,7 @@ fn lower_arithmetic(
         Operation::Decrement(width) => decrement(alloc, instr, width)?,
         Operation::AddWithCarry => add_with_carry(alloc, instr)?,
         Operation::SubtractWithCarry => subtract_with_carry(alloc, instr)?,
+        Operation::AddAlignedWord => add_aligned_word(alloc, instr)?,
         Operation::ArithmeticShift => arithmetic_shift(alloc, instr)?,
         Operation::Rotate => rotate(alloc, instr)?,
         _ => return Ok(None),
@@ -101,7 +103,22 @@ fn lower_control(
     Ok(Some(program))
 }
 
-/// The program of an operation that has a row.
+/// EMUL, which has no row.
+#[tactic(auto, unfolding(crate::specs::Rows::own_program_of))]
+fn lower_own(
+    alloc: Global,
+    operation: Operation,
+    instr: &Instr,
+) -> Result<Option<Vec<Micro>>, WantOfMemory>
+    ensures { IfOk result (λ found. MatchOption found (own_program_of operation instr.now ≡ None) (λ p. own_program_of operation instr.now ≡ Some p.items)) }
+{
+    match operation {
+        Operation::ExtendedMultiply => Ok(Some(extended_multiply(alloc, instr)?)),
+        _ => Ok(None),
+    }
+}
+
+/// The program of an operation that evaluates operands.
 pub(crate) fn lower_row(
     alloc: Global,
     operation: Operation,
@@ -109,6 +126,9 @@ pub(crate) fn lower_row(
 ) -> Result<Option<Vec<Micro>>, WantOfMemory>
     ensures { IfOk result (λ found. MatchOption found (row_program_of operation instr.now ≡ None) (λ p. row_program_of operation instr.now ≡ Some p.items)) }
 {
+    if let Some(program) = lower_own(alloc, operation, instr)? {
+        return Ok(Some(program));
+    }
     if let Some(program) = lower_move(alloc, operation, instr)? {
         return Ok(Some(program));
     }
