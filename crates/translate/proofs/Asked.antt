@@ -36,6 +36,7 @@ use Rattle.vax_form.specs.declared.row.Class.TheVariants.{Translated}
 use Rattle.code_runs.specs.Promises.{AreTranslated}
 use Rattle.code_runs.proofs.Meeting.{rules_always_meet}
 use Rattle.translate.specs.Compiled.{AreReadyFor}
+use Rattle.micro_lower.specs.Rows.{has_program}
 use Rattle.micro_lower.proofs.Instructions.{programs_are_translated}
 use Rattle.translate.specs.Mapped.{has_block}
 
@@ -130,7 +131,8 @@ reads_ready instr program before lowered ready (suc (suc (suc (suc flag)))) lt e
 
 -- ---- an instruction that has a block is translated
 pub built_translated : (instr : Instr) → has_block instr ≡ true → class_at instr.opcode ≡ Translated
-built_translated instr h = programs_are_translated instr h
+unfolding has_program
+built_translated instr h = (programs_are_translated instr).0 h
 
 pub are_translated : (instrs : List Instr) → All (λ instr. has_block instr ≡ true) instrs → AreTranslated instrs
 are_translated instrs built k d lt = built_translated (get_or instrs k d) (built k d lt)

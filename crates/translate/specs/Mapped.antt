@@ -4,13 +4,14 @@ use Rattle.std.specs.Option.{option_map_or}
 use Rattle.vax_form.specs.declared.pages.Pages.{Pages}
 use Rattle.address_map.specs.Pairs.{word_at}
 use Rattle.block_law.specs.Translations.{Code}
+use Rattle.vax_form.specs.Row.{class_at}
 use Rattle.vax_form.specs.declared.instr.Instr.{Instr}
 use Rattle.flow_discovery.specs.Reach.{Member, instruction_at}
-use Rattle.micro_lower.specs.Rows.{has_program}
+use Rattle.micro_lower.specs.Rows.{is_translated}
 
--- an instruction has a block where it has a program, and else is left to the interpreter
+-- an instruction has a block where its class is Translated, and else is left to the interpreter
 abbrev pub has_block : Instr → Bool
-has_block instr = has_program instr
+has_block instr = is_translated (class_at instr.opcode)
 
 -- an instruction stands at the address, and has a block
 abbrev pub has_block_at : Pages → ℕ → Bool

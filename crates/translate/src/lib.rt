@@ -99,11 +99,19 @@ fn translate_instrs(
     laid_out(alloc, &blocks)
 }
 
+/// Whether the instruction has a block.
+#[tactic(auto, unfolding(micro_lower::specs::Rows::has_program))]
+fn has_block(instr: &Instr) -> bool
+    ensures { result ≡ has_block instr.now }
+{
+    has_program(instr)
+}
+
 // Drops those that have no block.
 fn keep_built(instrs: &mut Vec<Instr>)
     ensures { instrs.new.items ≡ filter has_block instrs.old.items }
 {
-    instrs.retain(|instr| has_program(instr));
+    instrs.retain(|instr| has_block(instr));
 }
 
 /// The translation of an image, as far as its instructions can be reached from its threads, its entries and these hints,
