@@ -36,3 +36,4 @@ pub mod AlignedRows
 pub mod AlignedLower
 pub mod ProductRows
 pub mod ProductLower
+pub mod Ends

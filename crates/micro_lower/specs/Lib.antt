@@ -2,3 +2,4 @@ pub mod Lowering
 pub mod Programs
 pub mod Plans
 pub mod Rows
+pub mod Ends

@@ -268,15 +268,18 @@ aligned_slot (operands.Register n) = modified Word 0
 aligned_slot base = written Word
 
 -- an odd address is refused, before it is checked
-abbrev pub before_aligned : Operand → List Micro
-before_aligned (operands.Register n) = word_added ∷ []
-before_aligned base =
+abbrev pub aligned_reference : List Micro
+aligned_reference =
     Compute 4 ops.And Byte (Temp 3) (Const 1)
     ∷ Refuse 4
     ∷ Probe 3 2 true
     ∷ Locked 0 3 locked.AddWord 1
     ∷ word_added
     ∷ []
+
+abbrev pub before_aligned : Operand → List Micro
+before_aligned (operands.Register n) = word_added ∷ []
+before_aligned base = aligned_reference
 
 abbrev pub add_aligned_plan_for : Operand → Instr → Plan
 add_aligned_plan_for base instr = record {

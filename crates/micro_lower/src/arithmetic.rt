@@ -4,7 +4,7 @@ ghost use Rattle.std.specs.Prelude.{◌≡◌, ◌≤◌, IfOk, length};
 ghost use Rattle.vax_form.specs.Size.{size_of};
 ghost use Rattle.micro_ops.specs.Sources.{sources_of};
 ghost use Rattle.micro_lower.specs.Plans.{plan_of, program_of};
-ghost use Rattle.micro_lower.specs.Rows.{compare_plan, test_plan, bit_test_plan, micro_of, behind_binary, two_operands_plan, three_operands_plan, by_one_plan, add_with_carry_plan, subtract_with_carry_plan, aligned_slot, add_aligned_plan, overflow_of_shift, arithmetic_shift_plan, rotate_plan};
+ghost use Rattle.micro_lower.specs.Rows.{compare_plan, test_plan, bit_test_plan, micro_of, behind_binary, two_operands_plan, three_operands_plan, by_one_plan, add_with_carry_plan, subtract_with_carry_plan, word_added, aligned_slot, aligned_reference, add_aligned_plan, overflow_of_shift, arithmetic_shift_plan, rotate_plan};
 
 use crate::micros::{binary, unary};
 use crate::plans::{Plan, Slot, Target, assemble};
@@ -325,15 +325,43 @@ fn aligned_slot(base: Operand) -> Slot
     }
 }
 
-/// ADAWI: an odd address is refused, before it is checked.
+/// The sum of the words in 0 and 1 goes into 2.
+fn word_added() -> Micro
+    ensures { result ≡ word_added }
+{
+    binary(2, MicroOp::Add, Size::Word, Arg::Temp(0), Arg::Temp(1))
+}
+
+/// An odd address is refused, before it is checked.
+fn aligned_reference() -> [Micro; 5]
+    ensures { result ≡ aligned_reference }
+{
+    [
+        binary(4, MicroOp::And, Size::Byte, Arg::Temp(3), Arg::Const(1)),
+        Micro::Refuse { when: 4 },
+        Micro::Probe {
+            place: 3,
+            count: 2,
+            write: true,
+        },
+        Micro::Locked {
+            to: 0,
+            place: 3,
+            kind: LockedOp::AddWord,
+            from: 1,
+        },
+        word_added(),
+    ]
+}
+
+/// ADAWI.
 pub(crate) fn add_aligned_word(alloc: Global, instr: &Instr) -> Result<Vec<Micro>, WantOfMemory>
     ensures { IfOk result (λ p. p.items ≡ program_of (sources_of Operation.AddAlignedWord) (add_aligned_plan instr.now) instr.now) }
 {
     let base = operand(instr, 1);
-    let added = binary(2, MicroOp::Add, Size::Word, Arg::Temp(0), Arg::Temp(1));
     let plan = Plan {
         slots: &[read(Size::Word, 1, 2), aligned_slot(base)],
-        before: &[added],
+        before: &[word_added()],
         target: register_target(base, Size::Word),
         behind: &[],
         exit: Exit::Next,
@@ -342,31 +370,12 @@ pub(crate) fn add_aligned_word(alloc: Global, instr: &Instr) -> Result<Vec<Micro
     match base {
         Operand::Register(_) => assemble(alloc, codes, plan, instr),
         Operand::Unused | Operand::Value(_) | Operand::Place { .. } | Operand::Target(_) => {
-            let before = [
-                binary(4, MicroOp::And, Size::Byte, Arg::Temp(3), Arg::Const(1)),
-                Micro::Refuse { when: 4 },
-                Micro::Probe {
-                    place: 3,
-                    count: 2,
-                    write: true,
-                },
-                Micro::Locked {
-                    to: 0,
-                    place: 3,
-                    kind: LockedOp::AddWord,
-                    from: 1,
-                },
-                added,
-            ];
-            assemble(
-                alloc,
-                codes,
-                Plan {
-                    before: &before,
-                    ..plan
-                },
-                instr,
-            )
+            let before = aligned_reference();
+            let plan = Plan {
+                before: &before,
+                ..plan
+            };
+            assemble(alloc, codes, plan, instr)
         }
     }
 }

@@ -1,4 +1,4 @@
--- What is lowered is translated.
+-- What has a program is just what is translated.
 use Rattle.micro_lower.proofs.Instructions.{programs_are_translated}
 use Rattle.micro_lower.proofs.laws.translated_law.Goals as goal
 
