@@ -1,4 +1,5 @@
 mod Digits
+mod GeneratedLaws
 mod Hexadecimal
 mod Lines
 mod Listings

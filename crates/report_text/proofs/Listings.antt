@@ -1,10 +1,12 @@
 -- The digits of numbers by those of their bytes, and the blocks of a listing.
-use Rattle.std.proofs.Common.{◌≡◌, ◌<◌, ◌≤◌, ◌+◌, ◌-◌, ◌*◌, ◌^◌, ◌/◌, ◌%◌, ◌++◌, ℕ, zero, suc, List, [], ◌∷◌, length, take, drop, get_or, refl, sym, ap, ◌∙◌, subst, arith, append_assoc, length-append, length-drop, add-one}
+use Rattle.std.proofs.Common.{true, ◌↔◌, nat_le, ◌≡◌, ◌<◌, ◌≤◌, ◌+◌, ◌-◌, ◌*◌, ◌^◌, ◌/◌, ◌%◌, ◌++◌, ℕ, zero, suc, List, [], ◌∷◌, length, take, drop, get_or, refl, sym, ap, ◌∙◌, subst, arith, append_assoc, length-append, length-drop, add-one}
 use Rattle.std.specs.Prelude.{codes, slice_index}
 use Rattle.std.specs.Int.{to_be_bytes, w32}
-use Rattle.std.specs.List.{AllByRecursion, flat_map}
+use Rattle.std.specs.List.{AllByRecursion, flat_map, list_all}
 use Rattle.std.proofs.lemmas.List.{drop-drop}
 use Rattle.std.proofs.Math.Seq.{drop-cons, take-length}
+use Rattle.std.proofs.lemmas.Bool.{le-leb, leb-true}
+use Rattle.image_file.proofs.ListLaws.{both_true}
 use Rattle.hex.specs.Hex.{encode_upper, encode_with, upper_digits}
 use Rattle.address_map.specs.Pairs.{AllRise, Pair}
 use Rattle.report_text.specs.Digits.{digits_from, eight_digits}
@@ -121,6 +123,19 @@ block_pushed address first words digits text so_far whole is pushed ended =
     ∙ ap (λ t. text ++ t) (append_assoc (eight_digits address) (longwords (first ∷ words)) (10 ∷ []))
 
 -- ---- blocks
+within_by : (words : List ℕ) (pairs : List Pair) → list_all (λ (pair : Pair). nat_le pair.1 (length words)) pairs ≡ true → AreWithin words pairs
+within_by words [] pass = tt
+within_by words (p ∷ pairs) pass =
+    let both = both_true (nat_le p.1 (length words)) (list_all (λ (pair : Pair). nat_le pair.1 (length words)) pairs) pass in
+    (leb-true _ _ both.0, within_by words pairs both.1)
+
+by_within : (words : List ℕ) (pairs : List Pair) → AreWithin words pairs → list_all (λ (pair : Pair). nat_le pair.1 (length words)) pairs ≡ true
+by_within words [] within = refl
+by_within words (p ∷ pairs) within = rw (le-leb p.1 (length words) within.0) (by_within words pairs within.1)
+
+pub tests_within : (words : List ℕ) (pairs : List Pair) → (list_all (λ (pair : Pair). nat_le pair.1 (length words)) pairs ≡ true) ↔ AreWithin words pairs
+tests_within words pairs = (within_by words pairs, by_within words pairs)
+
 pub block_begins : (words : List ℕ) (pairs : List Pair) (i : ℕ) (d : Pair) → AreWithin words pairs → i < length pairs
     → (get_or pairs i d).1 ≤ length words
 block_begins words [] i d within lt = absurd (omega arith)

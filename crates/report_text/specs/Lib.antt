@@ -3,5 +3,6 @@ pub mod Numbers
 pub mod Report
 pub mod Offer
 pub mod Refused
+pub mod Generated
 pub mod Generating
 pub mod Listing

@@ -1,7 +1,7 @@
 //! The listing of a translation.
-ghost use Rattle.std.specs.Prelude.{◌≡◌, ◌+◌, ◌*◌, ◌≤◌, ◌∷◌, ◌++◌, IfOk, OnOk, drop, length, take};
+ghost use Rattle.std.specs.Prelude.{◌≡◌, ◌+◌, ◌*◌, ◌≤◌, ◌↔◌, ◌∷◌, ◌++◌, IfOk, IsTrue, OnOk, drop, length, nat_le, take};
 ghost use Rattle.std.specs.Int.{to_be_bytes, w32};
-ghost use Rattle.std.specs.List.{flat_map};
+ghost use Rattle.std.specs.List.{flat_map, list_all};
 ghost use Rattle.std.specs.String.{string_bytes};
 ghost use Rattle.report_text.specs.Digits.{eight_digits};
 ghost use Rattle.report_text.specs.Listing.{AreWithin, block_text, block_words, end_before, listing_text, spaced_digits};
@@ -12,6 +12,19 @@ use vax_form::WantOfMemory;
 
 /// The digits of a longword.
 const DIGITS: usize = 8;
+
+/// Whether each block begins at one of the words, or behind the last, as `listing` asks.
+pub fn are_within(words: &[u32], map: &AddressMap) -> bool
+    ensures { IsTrue result ↔ AreWithin words.now map.now }
+{
+    all_within(words.len(), map.pairs())
+}
+
+fn all_within(count: usize, pairs: &[(u32, u32)]) -> bool
+    ensures { result ≡ list_all (λ pair. nat_le pair.1 count) pairs.now }
+{
+    pairs.iter().all(|pair| pair.1 as usize <= count)
+}
 
 /// A line for each mapped address in rising order: the VAX address, the number of the Alpha word at which its block begins,
 /// and the block's words, each in eight hexadecimal digits. Each block has to begin at one of the words, or behind the last.

@@ -1,4 +1,4 @@
-use Rattle.std.proofs.Common.{◌≡◌, ◌+◌, ◌≤◌, ◌++◌, List, get_or, length, ap, sym, subst, ◌∙◌}
+use Rattle.std.proofs.Common.{◌+◌, ◌≤◌, ◌++◌, List, get_or, length, ap, sym, subst, ◌∙◌}
 use Rattle.address_map.specs.Pairs.{AllRise, Pair}
 use Rattle.report_text.specs.Listing.{AreWithin, block_text, block_words, end_before}
 use Rattle.report_text.proofs.Listings.{block_ends, block_moved, block_rises, rest_of}

@@ -1,6 +1,4 @@
-use Rattle.std.proofs.Common.{◌≡◌, ◌+◌, ◌*◌, ◌∷◌, ap, length, ◌∙◌, arith}
-use Rattle.std.specs.List.{flat_map}
-use Rattle.report_text.specs.Digits.{eight_digits}
+use Rattle.std.proofs.Common.{◌∷◌, ap, length, ◌∙◌, arith}
 use Rattle.report_text.proofs.Listings.{block_pushed, length_digits}
 use Rattle.report_text.proofs.blocks.push_block.Goals as goal
 
