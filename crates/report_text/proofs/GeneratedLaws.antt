@@ -77,10 +77,10 @@ data_range = record { first = 8; count = 4; writable = true; place = 0 }
 abbrev pub code_range : List ℕ → PageRange
 code_range code = record { first = 128; count = page_count (length code); writable = false; place = 0 }
 
-abbrev table_with : List ℕ → PageTable
+abbrev pub table_with : List ℕ → PageTable
 table_with code = record { ranges = data_range ∷ code_range code ∷ []; code = section_bytes (code_section code) }
 
-pages_with : (code : List ℕ) → pages_of (sections_with code) ≡ table_with code
+pub pages_with : (code : List ℕ) → pages_of (sections_with code) ≡ table_with code
 unfolding pages_of
 pages_with code = λ i. record { ranges = data_range ∷ code_range code ∷ []; code = append-nil (section_bytes (code_section code)) i }
 

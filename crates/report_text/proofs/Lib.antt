@@ -1,5 +1,5 @@
 mod Digits
-mod GeneratedLaws
+pub mod GeneratedLaws
 mod Hexadecimal
 mod Lines
 mod Listings

@@ -12,6 +12,11 @@ use vax_form::{PageRange, Pages, WantOfMemory};
 /// The most groups of a generated image.
 pub const MOST_GROUPS: u32 = 32_000;
 
+/// The version of the format, and how many first registers a thread has in it.
+const VERSION: u16 = 1;
+
+const FIRST_REGISTERS: usize = 14;
+
 /// How the number behind another one comes from it, modulo 2^32.
 const FACTOR: u64 = 1_664_525;
 
@@ -65,16 +70,16 @@ const BACK: [u8; 5] = [0xD0, 0x52, 0x50, 0xBC, 0x01];
 /// The bytes of the image's file without any group.
 const BYTES_WITHOUT_GROUPS: u64 = 89;
 
-/// What the code does in a group, to R2 or to memory.
+/// What the code does in a group.
 #[derive(Clone, Copy, Debug, PartialEq, Eq)]
 enum Group {
-    /// Adds a byte to the low byte.
+    /// ADDB2: adds the byte to the low byte of R2.
     Add(u8),
-    /// Changes the low byte by exclusive or with a byte.
+    /// XORB2: changes the low byte of R2 by exclusive or with the byte.
     ExclusiveOr(u8),
-    /// Rotates left by 3.
+    /// ROTL: rotates R2 left by 3.
     Rotate,
-    /// Stores the low byte at the place of the thread.
+    /// MOVB: stores the low byte of R2 so far behind that address as the thread's number says.
     Store(u16),
 }
 
@@ -193,7 +198,7 @@ fn threads_of(alloc: Global) -> Result<Vec<Start>, AllocError>
     let start = Start {
         pc: CODE_START,
         sp: STACK,
-        first: [0; 14],
+        first: [0; FIRST_REGISTERS],
     };
     vec![in alloc; start; THREADS]
 }
@@ -206,7 +211,7 @@ fn image_of(alloc: Global, number: u32) -> Result<Image, AllocError>
     let code = generated_code(alloc, number)?;
     let pages = pages_of(alloc, &code)?;
     Ok(Image {
-        version: 1,
+        version: VERSION,
         threads: threads_of(alloc)?,
         sections: sections_of(alloc, code)?,
         entries: Vec::new(alloc),
