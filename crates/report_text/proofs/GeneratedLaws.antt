@@ -1,5 +1,6 @@
 -- What holds of generated images.
 use Rattle.std.proofs.Common.{◌≡◌, ℕ, zero, suc, ◌+◌, ◌-◌, ◌*◌, ◌^◌, ◌<◌, ◌≤◌, true, false, None, List, [], ◌∷◌, ◌++◌, length, map, take, replicate, refl, sym, ap, ◌∙◌, arith, add-one, append_assoc, length-append, lit<}
+use Rattle.std.specs.Int.{w16, to_le_bytes}
 use Rattle.std.specs.List.{list_all, AllByRecursion}
 use Rattle.std.proofs.lemmas.Bool.{le-leb, lt-ltb}
 use Rattle.std.proofs.lemmas.List.{append-nil, take_all}
@@ -48,6 +49,17 @@ groups_few number zero = omega arith
 groups_few number (suc count) =
     let group : Group = group_of (number_of_group number count) in
     omega (arith, length-append (groups number count) (group_bytes group), group_few group, groups_few number count)
+
+-- what holds of the bytes of each kind of group holds of the group of every number
+pub each_kind : (P : List ℕ → Type 0) → ((byte : ℕ) → P (0x80 ∷ 0x8F ∷ byte ∷ 0x52 ∷ [])) → ((byte : ℕ) → P (0x8C ∷ 0x8F ∷ byte ∷ 0x52 ∷ []))
+    → P (0x9C ∷ 0x03 ∷ 0x52 ∷ 0x52 ∷ []) → ((place : ℕ) → P (0x90 ∷ 0x52 ∷ 0xC1 ∷ to_le_bytes w16 place)) → (x : ℕ) → P (group_bytes (group_of x))
+each_kind P add exclusive_or rotate store x = by (group_of x)
+  where
+    by : (group : Group) → P (group_bytes group)
+    by (Add byte) = add byte
+    by (ExclusiveOr byte) = exclusive_or byte
+    by Rotate = rotate
+    by (Store place) = store place
 
 -- ---- the code
 

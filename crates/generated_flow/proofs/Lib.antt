@@ -1,0 +1,5 @@
+mod Counting
+mod Fetching
+mod Few
+mod Forms
+mod Pieces
