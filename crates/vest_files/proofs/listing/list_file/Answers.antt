@@ -1,3 +1,4 @@
+-- The listing is of a translation whose blocks lie within its words.
 use Rattle.vest_files.proofs.Sizes.{blocks_within}
 use Rattle.vest_files.proofs.listing.list_file.Goals as goal
 

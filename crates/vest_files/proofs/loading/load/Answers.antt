@@ -1,3 +1,4 @@
+-- A file is loaded by its first bytes.
 use Rattle.std.proofs.Common.{◌≡◌, ◌∙◌, ℕ, List, true, false, subst, sym}
 use Rattle.vest_files.specs.Loading.{is_translated}
 use Rattle.vest_files.specs.Stages.{IsFile}

@@ -1,3 +1,4 @@
+-- The tail may be compared: the translation is not too large.
 use Rattle.std.proofs.Common.{◌≤◌, length, subst, sym}
 use Rattle.block_law.specs.Translations.{Code}
 use Rattle.vest_files.proofs.Sizes.{few_pairs}

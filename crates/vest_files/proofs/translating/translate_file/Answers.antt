@@ -1,3 +1,4 @@
+-- What `translate` does and why it stops, by its stages.
 use Rattle.std.proofs.Common.{◌≡◌, IfErr, IfOk, ℕ, List, rules, subst, sym}
 use Rattle.vest_files.specs.Decided.{goes_on}
 use Rattle.vest_files.specs.Stages.{IsFile}

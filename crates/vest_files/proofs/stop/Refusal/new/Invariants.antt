@@ -1,3 +1,4 @@
+-- The numbers copied so far.
 use Rattle.std.proofs.Common.{◌≡◌, take}
 use Rattle.arrayvec.specs.ArrayVec.{array_vec_len}
 use Rattle.vest_files.proofs.stop.Refusal.new.Given as goal
