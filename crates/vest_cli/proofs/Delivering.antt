@@ -5,9 +5,9 @@ use Rattle.std.proofs.lemmas.List.{take_more, take-append-drop}
 use Rattle.system_model.specs.Processors.{Processor}
 use Rattle.tie_switch.specs.Processors.{Kept as ProcessorValue, processor_of}
 use Rattle.system_model.specs.Interpreted.{has_raised}
-use Rattle.vest_cli.specs.Report.{is_spent, lines_of, report_of, status_of_ends}
-use Rattle.vest_cli.specs.declared.status.Status.{Status}
-use Rattle.vest_cli.specs.declared.status.Status.TheVariants as status
+use Rattle.vest_cli.specs.Report.{is_spent, lines_of, report_of, done_by_ends}
+use Rattle.vest_files.specs.declared.status.Done.{Done}
+use Rattle.vest_files.specs.declared.status.Done.TheVariants as done
 use Rattle.vt_outside.proofs.Taking.{took_both, took_some_first, took_some_second}
 use Rattle.vt_outside.specs.Sink.{SinkMeaning}
 use Rattle.vt_outside.specs.Taking.{TookAll, TookSome}
@@ -50,27 +50,27 @@ pub any_of : (test : Processor → Bool) (ps : List ProcessorValue) → list_any
 any_of test [] = refl
 any_of test (p ∷ ps) = ap (λ (b : Bool). test (processor_of p) || b) (any_of test ps)
 
--- ---- the status by the ends
-by_tests : Bool → Bool → Status
-by_tests raised spent = if raised then status.Exception else if spent then status.Spent else status.Ok
+-- ---- how a run ends
+by_tests : Bool → Bool → Done
+by_tests raised spent = if raised then done.Exception else if spent then done.Spent else done.Ok
 
 tested : (ps : List ProcessorValue) (raised spent : Bool) → list_any (λ (p : ProcessorValue). has_raised (processor_of p).mode) ps ≡ raised
-    → list_any (λ (p : ProcessorValue). is_spent (processor_of p).mode) ps ≡ spent → by_tests raised spent ≡ status_of_ends (map processor_of ps)
+    → list_any (λ (p : ProcessorValue). is_spent (processor_of p).mode) ps ≡ spent → by_tests raised spent ≡ done_by_ends (map processor_of ps)
 unfolding by_tests
 tested ps raised spent e f =
     sym (ap₂ by_tests (any_of (λ (p : Processor). has_raised p.mode) ps ∙ e) (any_of (λ (p : Processor). is_spent p.mode) ps ∙ f))
 
-pub ends_raised : (ps : List ProcessorValue) → list_any (λ (p : ProcessorValue). has_raised (processor_of p).mode) ps ≡ true → status.Exception ≡ status_of_ends (map processor_of ps)
+pub ends_raised : (ps : List ProcessorValue) → list_any (λ (p : ProcessorValue). has_raised (processor_of p).mode) ps ≡ true → done.Exception ≡ done_by_ends (map processor_of ps)
 unfolding by_tests
 ends_raised ps e = tested ps true _ e refl
 
 pub ends_spent : (ps : List ProcessorValue) → list_any (λ (p : ProcessorValue). has_raised (processor_of p).mode) ps ≡ false
-    → list_any (λ (p : ProcessorValue). is_spent (processor_of p).mode) ps ≡ true → status.Spent ≡ status_of_ends (map processor_of ps)
+    → list_any (λ (p : ProcessorValue). is_spent (processor_of p).mode) ps ≡ true → done.Spent ≡ done_by_ends (map processor_of ps)
 unfolding by_tests
 ends_spent ps e f = tested ps false true e f
 
 pub all_exit : (ps : List ProcessorValue) → list_any (λ (p : ProcessorValue). has_raised (processor_of p).mode) ps ≡ false
-    → list_any (λ (p : ProcessorValue). is_spent (processor_of p).mode) ps ≡ false → status.Ok ≡ status_of_ends (map processor_of ps)
+    → list_any (λ (p : ProcessorValue). is_spent (processor_of p).mode) ps ≡ false → done.Ok ≡ done_by_ends (map processor_of ps)
 unfolding by_tests
 all_exit ps e f = tested ps false false e f
 

@@ -1,11 +1,9 @@
+mod Completing
+mod Deciding
 mod Delivering
-mod Digits
-mod Exactly
-mod Hexadecimal
-mod Lines
-mod Members
+mod Ending
+mod Obeying
 mod Outputs
 mod Progress
-mod Refusals
 mod Spelling
 mod Spent

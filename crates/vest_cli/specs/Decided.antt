@@ -1,49 +1,26 @@
 -- What the words, the files and the input decide on the status, with the checks in their order.
-use Rattle.std.specs.Prelude.{◌≡◌, ℕ, List, [], length, nat_lt, if◌then◌else◌, MatchBool, Option, None, Some, Result, Ok, Err}
-use Rattle.command_words.specs.Commands.{CommandValue, run}
+use Rattle.std.specs.Prelude.{◌≡◌, ◌<◌, ℕ, List, Option, None, Some}
+use Rattle.command_words.specs.Commands.{CommandValue, generate, list, run, translate}
+use Rattle.vt_outside.specs.Causes.{one_more}
 use Rattle.vt_outside.specs.Desk.{Files}
-use Rattle.image_file.specs.Values.{ImageValue}
-use Rattle.image_file.specs.Reading.{image_of}
-use Rattle.image_file.specs.declared.refusal.ImageRefusal.{ImageRefusal}
-use Rattle.flow_discovery.specs.Reach.{AreReached, most}
-use Rattle.flow_discovery.specs.Starts.{starts}
-use Rattle.vest_cli.specs.declared.stages.TheConstants.{FILE_LIMIT, INPUT_LIMIT}
-use Rattle.vest_cli.specs.declared.status.Status.{Status}
-use Rattle.vest_cli.specs.declared.status.Status.TheVariants as status
+use Rattle.vest_files.specs.Decided.{Decision, stops, goes_on}
+use Rattle.vest_files.specs.Loading.{DecidesLoad}
+use Rattle.vest_files.specs.Translate.{DecidesTranslate}
+use Rattle.vest_files.specs.declared.status.Status.{Status}
+use Rattle.vest_files.specs.declared.status.Status.TheVariants as status
+use Rattle.vest_cli.specs.Lent.{Lent}
+use Rattle.vest_cli.specs.Run.{DecidesRun}
 
--- either a status before a run, or a run
-pub data Decision : Type 0 where
-  stops : Status → Decision
-  runs : Decision
+-- what a command comes to; what is not told decides nothing
+abbrev pub DecidesOn : CommandValue → Option Files → (input : Option (List ℕ)) → Decision → Type 0
+DecidesOn (run name limits ranges) files input decision = DecidesRun files name input decision
+DecidesOn (translate image to) files input decision = DecidesTranslate files image decision
+DecidesOn (list name) files input decision = DecidesLoad files name decision
+DecidesOn (generate number) files input decision = ⊥
 
--- what is not told decides nothing
-
--- the input, and then the run
-abbrev pub DecidesInput : Option (List ℕ) → Decision → Type 0
-DecidesInput None decision = ⊥
-DecidesInput (Some input) decision = decision ≡ (if nat_lt INPUT_LIMIT (length input) then stops status.TooLong else runs)
-
--- the instructions that can be reached, and then the input
-pub record DecidesFlow (image : ImageValue) (input : Option (List ℕ)) (decision : Decision) : Type 0 where
-  pub addresses : List ℕ
-  pub reached : AreReached image.pages (starts image []) addresses
-  pub decides : MatchBool (nat_lt most (length addresses)) (decision ≡ stops status.Refused) (DecidesInput input decision)
-
--- the image, and then its flow
-abbrev pub DecidesImage : Result ImageValue ImageRefusal → Option (List ℕ) → Decision → Type 0
-DecidesImage (Err refusal) input decision = decision ≡ stops status.Refused
-DecidesImage (Ok image) input decision = DecidesFlow image input decision
-
--- the file, and then its image
-abbrev pub DecidesFile : Option (List ℕ) → Option (List ℕ) → Decision → Type 0
-DecidesFile None input decision = decision ≡ stops status.Absent
-DecidesFile (Some bytes) input decision =
-    MatchBool (nat_lt FILE_LIMIT (length bytes)) (decision ≡ stops status.TooLong) (DecidesImage (image_of bytes) input decision)
-
-abbrev pub Decides : Option CommandValue → Option Files → (input : Option (List ℕ)) → Decision → Type 0
-Decides None files input decision = decision ≡ stops status.Usage
-Decides (Some (run name limits ranges)) (Some files) input decision = DecidesFile (files name) input decision
-Decides (Some command) files input decision = ⊥
+abbrev pub DecidesCall : Option CommandValue → Option Files → (input : Option (List ℕ)) → Decision → Type 0
+DecidesCall None files input decision = decision ≡ stops status.Usage
+DecidesCall (Some command) files input decision = DecidesOn command files input decision
 
 -- behind a run: all threads exited, some raised an exception, or some was spent
 abbrev pub EndsARun : Status → Type 0
@@ -52,13 +29,37 @@ EndsARun status.Exception = Unit {0}
 EndsARun status.Spent = Unit {0}
 EndsARun result = ⊥
 
-abbrev pub IsDecided : Status → Decision → Type 0
-IsDecided result (stops expected) = result ≡ expected
-IsDecided result runs = EndsARun result
+-- how a command ends that goes on
+abbrev pub EndsWell : Option CommandValue → Status → Type 0
+EndsWell None result = ⊥
+EndsWell (Some (run name limits ranges)) result = EndsARun result
+EndsWell (Some command) result = result ≡ status.Ok
+
+abbrev pub IsStatus : Option CommandValue → Status → Decision → Type 0
+IsStatus command result (stops expected) = result ≡ expected
+IsStatus command result goes_on = EndsWell command result
 
 -- the status is one of those decided, unless the outside failed or memory ran out
-abbrev pub IsOrFault : Status → Decision → Type 0
-IsOrFault status.ReadFault decision = Unit {0}
-IsOrFault status.WriteFault decision = Unit {0}
-IsOrFault status.WantOfMemory decision = Unit {0}
-IsOrFault result decision = IsDecided result decision
+abbrev pub IsOrFault : Option CommandValue → Status → Decision → Type 0
+IsOrFault command status.ReadFault decision = Unit {0}
+IsOrFault command status.WriteFault decision = Unit {0}
+IsOrFault command status.WantOfMemory decision = Unit {0}
+IsOrFault command result decision = IsStatus command result decision
+
+-- ---- a call in which no call of the outside failed
+
+-- the count did not rise, and does not stand at its last value
+abbrev pub Stood : (old new : ℕ) → Type 0
+Stood old new = new < one_more old
+
+pub record NoneFailed (old new : Lent) : Type 0 where
+  pub desk_reads : Stood old.desk.read_faults new.desk.read_faults
+  pub desk_writes : Stood old.desk.write_faults new.desk.write_faults
+  pub input : Stood old.input.faults new.input.faults
+  pub out : Stood old.out.faults new.out.faults
+  pub report : Stood old.report.faults new.report.faults
+
+-- then the status is one of those decided, unless memory ran out
+abbrev pub IsOrWant : Option CommandValue → Status → Decision → Type 0
+IsOrWant command status.WantOfMemory decision = Unit {0}
+IsOrWant command result decision = IsStatus command result decision

@@ -3,15 +3,14 @@ use Rattle.std.specs.Prelude.{◌≡◌, ◌⊎◌, ℕ, List}
 use Rattle.vt_outside.specs.Sink.{SinkMeaning}
 use Rattle.vt_outside.specs.Taking.{TookAll, TookSome}
 use Rattle.system_model.specs.Processors.{Processor}
-use Rattle.vest_cli.specs.Report.{report_of, status_of_ends}
-use Rattle.vest_cli.specs.declared.status.Status.{Status}
-use Rattle.vest_cli.specs.declared.status.Status.TheVariants as status
+use Rattle.vest_cli.specs.Report.{report_of, done_by_ends}
+use Rattle.vest_files.specs.declared.status.Done.{Done}
+use Rattle.vest_files.specs.declared.status.Done.TheVariants as done
 
--- the output goes out and then the report of the ends, and the first fault of a sink ends it; else the ends decide on the
--- status
-abbrev pub Delivers : Status → (output : List ℕ) → List Processor → (out out' report report' : SinkMeaning) → Type 0
-Delivers status.WriteFault output processors out out' report report' =
+-- the output goes out and then the report of the ends, and the first fault of a sink ends it; else the ends decide
+abbrev pub Delivers : Done → (output : List ℕ) → List Processor → (out out' report report' : SinkMeaning) → Type 0
+Delivers done.WriteFault output processors out out' report report' =
     (TookSome out out' output × (report' ≡ report))
     ⊎ (TookAll out out' output × TookSome report report' (report_of processors))
 Delivers result output processors out out' report report' =
-    (result ≡ status_of_ends processors) × TookAll out out' output × TookAll report report' (report_of processors)
+    (result ≡ done_by_ends processors) × TookAll out out' output × TookAll report report' (report_of processors)

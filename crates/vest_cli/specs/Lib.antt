@@ -1,11 +1,9 @@
 pub mod Obeyed
 pub mod Lent
 pub mod Kept
-pub mod Digits
-pub mod Line
 pub mod Stopping
 pub mod Threads
-pub mod Stages
+pub mod Input
 pub mod Report
 pub mod Delivery
 pub mod Run

@@ -1,21 +1,20 @@
--- What a call leaves that stops before its run, whatever its command.
-use Rattle.std.specs.Prelude.{◌≡◌, ◌⊎◌}
-use Rattle.vest_cli.specs.Lent.{Lent, SameFiles}
+-- What a call leaves that stops before it has written anything, whatever its command.
+use Rattle.std.specs.Prelude.{◌≡◌, ◌⊎◌, ℕ, List, Result, Ok, Err, codes}
+use Rattle.vt_outside.specs.Sink.{SinkMeaning}
 use Rattle.vt_outside.specs.Taking.{TookAll, TookSome}
+use Rattle.command_words.specs.declared.WordsFault.{WordsFault}
+use Rattle.command_words.specs.declared.WordsFault.TheVariants.{Usage}
+use Rattle.command_words.specs.declared.WordsFault.TheVariants as faults
+use Rattle.vest_files.specs.Line.{line_of}
+use Rattle.vest_files.specs.Stages.{SameFiles}
+use Rattle.vest_files.specs.Status.{status_of, status_of_done}
+use Rattle.vest_files.specs.declared.status.Done.{Done}
+use Rattle.vest_files.specs.declared.status.Status.{Status}
+use Rattle.vest_files.specs.declared.status.Status.TheVariants as status
+use Rattle.vest_files.specs.declared.stop.Stop.{Stop}
+use Rattle.vest_files.specs.declared.stop.Stop.TheVariants.{WantOfMemory}
 use Rattle.vest_cli.specs.Kept.{KeptValue, nothing_kept}
-use Rattle.vest_cli.specs.Line.{line_of}
-use Rattle.vest_cli.specs.declared.stop.Stop.{Stop}
-use Rattle.vest_cli.specs.declared.stop.Stop.TheVariants.{Usage, Absent, Refused, ReadFault, TooLong, WantOfMemory}
-use Rattle.vest_cli.specs.declared.status.Status.{Status}
-use Rattle.vest_cli.specs.declared.status.Status.TheVariants as status
-
-abbrev pub status_of : Stop → Status
-status_of Usage = status.Usage
-status_of Absent = status.Absent
-status_of (Refused refusal) = status.Refused
-status_of ReadFault = status.ReadFault
-status_of TooLong = status.TooLong
-status_of WantOfMemory = status.WantOfMemory
+use Rattle.vest_cli.specs.Lent.{Lent}
 
 -- before the line: nothing was written, and nothing is kept
 pub record LeavesAll (old new : Lent) (kept : KeptValue) : Type 0 where
@@ -24,9 +23,25 @@ pub record LeavesAll (old new : Lent) (kept : KeptValue) : Type 0 where
   pub report : new.report ≡ old.report
   pub kept_nothing : kept ≡ nothing_kept
 
--- a stopped call: the report took the line, or failed in it
-pub record Stopped (stop : Stop) (old new : Lent) (kept : KeptValue) : Type 0 where
+-- the report took the line, or failed in it
+abbrev pub Says : (line : List ℕ) → (old new : SinkMeaning) → Type 0
+Says line old new = TookAll old new line ⊎ TookSome old new line
+
+pub record Stopped (line : List ℕ) (old new : Lent) (kept : KeptValue) : Type 0 where
   pub desk : SameFiles old.desk new.desk
   pub out : new.out ≡ old.out
   pub kept_nothing : kept ≡ nothing_kept
-  pub line : TookAll old.report new.report (line_of stop) ⊎ TookSome old.report new.report (line_of stop)
+  pub said : Says line old.report new.report
+
+abbrev pub usage_line : List ℕ
+usage_line = codes "usage: vest COMMAND WORDS\n"
+
+-- where the words spell no command, or memory runs out before that is seen
+abbrev pub RefusesWords : WordsFault → Status → (old new : SinkMeaning) → Type 0
+RefusesWords Usage result old new = (result ≡ status.Usage) × Says usage_line old new
+RefusesWords faults.WantOfMemory result old new = (result ≡ status.WantOfMemory) × Says (line_of WantOfMemory) old new
+
+-- what a command comes to at last: nothing is said where it is done
+abbrev pub Concludes : Result Done Stop → Status → (old new : SinkMeaning) → Type 0
+Concludes (Ok end) result old new = (result ≡ status_of_done end) × (new ≡ old)
+Concludes (Err stop) result old new = (result ≡ status_of stop) × Says (line_of stop) old new

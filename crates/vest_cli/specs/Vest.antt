@@ -1,30 +1,64 @@
 -- What one call of `vest` does.
-use Rattle.std.specs.Prelude.{◌≡◌, ◌⊎◌, Option, None, Some}
-use Rattle.command_words.specs.Commands.{CommandValue, run}
+use Rattle.std.specs.Prelude.{◌≡◌, ℕ, List, Option, None, Some}
+use Rattle.command_words.specs.Commands.{CommandValue, generate, list, run, translate}
 use Rattle.vt_outside.specs.Desk.{DeskMeaning}
 use Rattle.vt_outside.specs.Source.{SourceMeaning}
+use Rattle.vest_files.specs.Line.{line_of}
+use Rattle.vest_files.specs.List.{Lists}
+use Rattle.vest_files.specs.Loading.{StopsAtLoad}
+use Rattle.vest_files.specs.Stages.{SameFiles}
+use Rattle.vest_files.specs.Status.{status_of, status_of_done}
+use Rattle.vest_files.specs.Translate.{StopsTranslate, Translates}
+use Rattle.vest_files.specs.declared.status.Done.{Done}
+use Rattle.vest_files.specs.declared.status.Status.{Status}
+use Rattle.vest_files.specs.declared.status.Status.TheVariants as status
+use Rattle.vest_files.specs.declared.stop.Stop.{Stop}
+use Rattle.vest_files.specs.declared.stop.Stop.TheVariants.{WantOfMemory}
+use Rattle.vest_cli.specs.Kept.{KeptValue, nothing_kept}
 use Rattle.vest_cli.specs.Lent.{Lent}
-use Rattle.vest_cli.specs.Stopping.{status_of, Stopped}
-use Rattle.vest_cli.specs.Run.{StopsRun, Runs}
-use Rattle.vest_cli.specs.Kept.{KeptValue}
-use Rattle.vest_cli.specs.declared.stop.Stop.{Stop}
-use Rattle.vest_cli.specs.declared.stop.Stop.TheVariants.{Usage, WantOfMemory}
-use Rattle.vest_cli.specs.declared.status.Status.{Status}
+use Rattle.vest_cli.specs.Run.{Runs, StopsRun}
+use Rattle.vest_cli.specs.Stopping.{Stopped, usage_line}
 
--- why a call stops: its words spell no command, or there was no memory to see that; or the command says why
+-- why a command stops
+abbrev pub StopsAt : CommandValue → Stop → DeskMeaning → DeskMeaning → SourceMeaning → SourceMeaning → Type 0
+StopsAt (run name limits ranges) stop desk desk' input input' = StopsRun stop name desk desk' input input'
+StopsAt (translate image to) stop desk desk' input input' = StopsTranslate stop image desk desk'
+StopsAt (list name) stop desk desk' input input' = StopsAtLoad stop name desk desk'
+StopsAt (generate number) stop desk desk' input input' = ⊥
+
+-- why a call stops: there was no memory to read its words; or its command says why
 abbrev pub Stops : Option CommandValue → Stop → DeskMeaning → DeskMeaning → SourceMeaning → SourceMeaning → Type 0
-Stops None stop desk desk' input input' = (stop ≡ Usage) ⊎ (stop ≡ WantOfMemory)
-Stops (Some (run name limits ranges)) stop desk desk' input input' = StopsRun stop name desk desk' input input'
-Stops (Some command) stop desk desk' input input' = ⊥
+Stops command WantOfMemory desk desk' input input' = Unit {0}
+Stops None stop desk desk' input input' = ⊥
+Stops (Some command) stop desk desk' input input' = StopsAt command stop desk desk' input input'
 
--- what a call that doesn't stop does
-abbrev pub Does : Option CommandValue → Status → Lent → Lent → KeptValue → Type 0
-Does None result old new kept = ⊥
-Does (Some (run name limits ranges)) result old new kept = Runs result name limits ranges old new kept
-Does (Some command) result old new kept = ⊥
+-- `translate` writes the desk alone
+pub record OnlyTranslates (result : Done) (image to : List ℕ) (old new : Lent) (kept : KeptValue) : Type 0 where
+  pub translates : Translates result image to old.desk new.desk
+  pub out : new.out ≡ old.out
+  pub report : new.report ≡ old.report
+  pub input : new.input ≡ old.input
+  pub kept_nothing : kept ≡ nothing_kept
 
--- a call stops and says why, or does what its command says
+-- `list` writes to `out` alone
+pub record OnlyLists (result : Done) (name : List ℕ) (old new : Lent) (kept : KeptValue) : Type 0 where
+  pub lists : Lists result name old.desk old.out new.out
+  pub desk : SameFiles old.desk new.desk
+  pub report : new.report ≡ old.report
+  pub input : new.input ≡ old.input
+  pub kept_nothing : kept ≡ nothing_kept
+
+-- what a command does
+abbrev pub Does : CommandValue → Done → Lent → Lent → KeptValue → Type 0
+Does (run name limits ranges) result old new kept = Runs result name limits ranges old new kept
+Does (translate image to) result old new kept = OnlyTranslates result image to old new kept
+Does (list name) result old new kept = OnlyLists result name old new kept
+Does (generate number) result old new kept = ⊥
+
+-- no command was spelled; or a call stops and says why; or it does what its command says
 pub data Ends (command : Option CommandValue) (result : Status) (old new : Lent) (kept : KeptValue) : Type 0 where
+  unspelled : command ≡ None → result ≡ status.Usage → Stopped usage_line old new kept → Ends command result old new kept
   stopped : (stop : Stop) → result ≡ status_of stop → Stops command stop old.desk new.desk old.input new.input
-      → Stopped stop old new kept → Ends command result old new kept
-  done : Does command result old new kept → Ends command result old new kept
+      → Stopped (line_of stop) old new kept → Ends command result old new kept
+  done : (spelled : CommandValue) (end : Done) → command ≡ Some spelled → result ≡ status_of_done end → Does spelled end old new kept
+      → Ends command result old new kept

@@ -5,12 +5,11 @@ ghost use Rattle.system_model.specs.Interpreted.{has_raised};
 ghost use Rattle.tie_switch.specs.Processors.{processor_of};
 ghost use Rattle.vt_outside.specs.Taking.{TookAll, TookSome};
 ghost use Rattle.vest_cli.specs.Delivery.{Delivers};
-ghost use Rattle.vest_cli.specs.Report.{is_spent, lines_of, report_of, status_of_ends};
+ghost use Rattle.vest_cli.specs.Report.{is_spent, lines_of, report_of, done_by_ends};
 
-use crate::line::Line;
-use crate::report::thread_lines;
-use crate::status::Status;
+use report_text::{Line, thread_lines};
 use tie_switch::{End, Processor};
+use vest_files::Done;
 use vt_outside::{Failed, Sink, write_all};
 
 /// Writes the output, and then the report of the processors, which have ended, in their order.
@@ -19,17 +18,17 @@ pub fn deliver<K: Sink, E: Sink>(
     processors: &[Processor],
     out: &mut K,
     report: &mut E,
-) -> Status
+) -> Done
     ensures { Delivers result output.now (map processor_of processors.now) (K.meaning out.old) (K.meaning out.new)
         (E.meaning report.old) (E.meaning report.new) }
 {
     if write_all(out, output).is_err() {
-        return Status::WriteFault;
+        return Done::WriteFault;
     }
     if write_report(processors, report).is_err() {
-        return Status::WriteFault;
+        return Done::WriteFault;
     }
-    status_of_ends(processors)
+    done_by_ends(processors)
 }
 
 // The lines of each end.
@@ -49,7 +48,7 @@ fn lines_of(processor: &Processor) -> Line
 {
     match processor.end() {
         Some(end) => thread_lines(
-            processor.thread(),
+            u64::from(processor.thread()),
             end,
             &processor.shown(),
             processor.retired(),
@@ -58,15 +57,15 @@ fn lines_of(processor: &Processor) -> Line
     }
 }
 
-fn status_of_ends(processors: &[Processor]) -> Status
-    ensures { result ≡ status_of_ends (map processor_of processors.now) }
+fn done_by_ends(processors: &[Processor]) -> Done
+    ensures { result ≡ done_by_ends (map processor_of processors.now) }
 {
     if any_raised(processors) {
-        Status::Exception
+        Done::Exception
     } else if any_spent(processors) {
-        Status::Spent
+        Done::Spent
     } else {
-        Status::Ok
+        Done::Ok
     }
 }
 

@@ -9,13 +9,12 @@ ghost use Rattle.vest_cli.specs.Kept.{nothing_kept};
 ghost use Rattle.vest_cli.specs.Lent.{lent};
 ghost use Rattle.vest_cli.specs.Stopping.{LeavesAll};
 ghost use Rattle.vest_cli.specs.Threads.{HasRun};
-ghost use Rattle.vest_cli.specs.Run.{HasKept, Runs, StopsRun, range_of, running_of};
+ghost use Rattle.vest_cli.specs.Run.{DecidesRun, HasKept, Runs, StopsRun, range_of, running_of};
+ghost use Rattle.vest_files.specs.Decided.{Decision, IsDecided};
 
 use crate::deliver::deliver;
+use crate::input::read_input;
 use crate::kept::Kept;
-use crate::stages::{load, read_input, translated};
-use crate::status::Status;
-use crate::stop::Stop;
 use crate::threads::run_all;
 use command_words::Limits;
 use image_file::Image;
@@ -27,6 +26,7 @@ use std::sync::Wait;
 use std::thread::Threads;
 use system_model::{Range, Translation};
 use tie_switch::Processor;
+use vest_files::{Done, Stop, load};
 use vt_outside::{Desk, Gate, Sink, Source};
 
 // The addresses that threads interpret, of the words.
@@ -124,12 +124,12 @@ fn finish<K: Sink, E: Sink>(
     out: &mut K,
     report: &mut E,
     kept: &mut Kept,
-) -> Status
+) -> Done
     requires ran { HasRun (image_setting image.pages translation ranges.items) (running_of image taken.items limits).set_up limits.budget memory.history (map processor_of processors.items) }
     requires nothing { kept.old ≡ nothing_kept }
     ensures { HasKept result image translation taken.items limits ranges.items (K.meaning out.old) (K.meaning out.new) (E.meaning report.old) (E.meaning report.new) kept.new }
 {
-    let status = deliver(memory.output(), &processors, out, report);
+    let done = deliver(memory.output(), &processors, out, report);
     kept.image = Some(image);
     kept.input = taken;
     kept.history = memory.take_history();
@@ -139,7 +139,7 @@ fn finish<K: Sink, E: Sink>(
     kept.miss = limits.miss;
     kept.translation = Some(translation);
     kept.ranges = ranges;
-    status
+    done
 }
 
 /// Runs the image of a file on all the input, within the limits; threads interpret the ranges of addresses. From the first
@@ -156,9 +156,9 @@ pub fn run<R: Threads + Wait + Sync, D: Desk, I: Source, K: Sink, E: Sink, G: Ga
     report: &mut E,
     gate: &G,
     kept: &mut Kept,
-) -> Result<Status, Stop>
+) -> Result<Done, Stop>
     requires { kept.old ≡ nothing_kept }
-    ensures runs { IfOk result (λ status. Runs status name.now limits ranges.now
+    ensures runs { IfOk result (λ done. Runs done name.now limits ranges.now
         (lent (D.meaning desk.old) (I.meaning input.old) (K.meaning out.old) (E.meaning report.old))
         (lent (D.meaning desk.new) (I.meaning input.new) (K.meaning out.new) (E.meaning report.new))
         kept.new) }
@@ -168,25 +168,26 @@ pub fn run<R: Threads + Wait + Sync, D: Desk, I: Source, K: Sink, E: Sink, G: Ga
         (lent (D.meaning desk.old) (I.meaning input.old) (K.meaning out.old) (E.meaning report.old))
         (lent (D.meaning desk.new) (I.meaning input.new) (K.meaning out.new) (E.meaning report.new))
         kept.new) }
+    ensures decided { (decision : Decision) → DecidesRun (D.meaning desk.old).files name.now (I.meaning input.old).left decision
+        → IsDecided result decision }
 {
-    let image = load(alloc, desk, name)?;
-    let translation = translated(alloc, &image)?;
+    let loaded = load(alloc, desk, name)?;
     let taken = read_input(alloc, input)?;
     let ranges = ranges_of(alloc, ranges)?;
     let (memory, processors) = execute(
         rt,
         alloc,
-        &image,
+        &loaded.image,
         &taken,
-        &translation,
+        &loaded.translation,
         limits,
         &ranges,
         gate,
     )?;
     Ok(finish(
-        image,
+        loaded.image,
         taken,
-        translation,
+        loaded.translation,
         limits,
         ranges,
         memory,

@@ -1,21 +1,26 @@
 // The top call.
-ghost use Rattle.std.specs.Prelude.{◌≡◌, ◌⊎◌, IfOk, IfErr, None};
-ghost use Rattle.vest_cli.specs.Obeyed.{spelled};
+ghost use Rattle.std.specs.Prelude.{◌≡◌, ◌⊎◌, IfOk, IfErr, None, true};
+ghost use Rattle.command_words.specs.Answers.{AnswersTo, command_value};
+ghost use Rattle.command_words.specs.Obeyed.{title_of};
+ghost use Rattle.vest_files.specs.Decided.{Decision, IsDecided};
+ghost use Rattle.vest_files.specs.Line.{line_of};
+ghost use Rattle.vest_files.specs.Status.{status_of};
+ghost use Rattle.vest_cli.specs.Obeyed.{obeys, spelled};
 ghost use Rattle.vest_cli.specs.Lent.{lent};
 ghost use Rattle.vest_cli.specs.Kept.{nothing_kept};
-ghost use Rattle.vest_cli.specs.Stopping.{LeavesAll};
-ghost use Rattle.vest_cli.specs.Decided.{Decides, Decision, IsOrFault};
-ghost use Rattle.vest_cli.specs.Vest.{Does, Ends, Stops};
+ghost use Rattle.vest_cli.specs.Stopping.{Concludes, LeavesAll, RefusesWords, Says, usage_line};
+ghost use Rattle.vest_cli.specs.Decided.{DecidesCall, DecidesOn, IsOrFault, IsOrWant, NoneFailed};
+ghost use Rattle.vest_cli.specs.Vest.{Does, Ends, StopsAt};
 
 use crate::kept::Kept;
 use crate::run::run;
-use crate::status::Status;
-use crate::stop::{Stop, refuse};
 use command_words::{Command, WordsFault, read_words};
+use report_text::Line;
 use std::alloc::Global;
 use std::sync::Wait;
 use std::thread::Threads;
-use vt_outside::{Desk, Gate, Sink, Source};
+use vest_files::{Done, Status, Stop, list_file, translate_file};
+use vt_outside::{Desk, Gate, Sink, Source, write_all};
 
 /// Obeys one command line. `words` are the words after the program's name. It may wait, where the image has several threads.
 pub fn vest<R: Threads + Wait + Sync, D: Desk, I: Source, K: Sink, E: Sink, G: Gate + Sync>(
@@ -37,13 +42,92 @@ pub fn vest<R: Threads + Wait + Sync, D: Desk, I: Source, K: Sink, E: Sink, G: G
     // What that says of the status.
     ensures usage { result ≡ Status.Usage → spelled words.now ≡ None }
     ensures no_command { spelled words.now ≡ None → (result ≡ Status.Usage) ⊎ (result ≡ Status.WantOfMemory) }
-    ensures decided { (decision : Decision) → Decides (spelled words.now) (D.meaning desk.old).files (I.meaning input.old).left decision
-        → IsOrFault result decision }
+    ensures decided { (decision : Decision) → DecidesCall (spelled words.now) (D.meaning desk.old).files (I.meaning input.old).left decision
+        → IsOrFault (spelled words.now) result decision }
+    ensures complete { (decision : Decision) → DecidesCall (spelled words.now) (D.meaning desk.old).files (I.meaning input.old).left decision
+        → NoneFailed (lent (D.meaning desk.old) (I.meaning input.old) (K.meaning out.old) (E.meaning report.old))
+            (lent (D.meaning desk.new) (I.meaning input.new) (K.meaning out.new) (E.meaning report.new))
+        → IsOrWant (spelled words.now) result decision }
 {
     *kept = Kept::empty(alloc);
-    match obey(rt, alloc, words, desk, input, out, report, gate, kept) {
-        Ok(status) => status,
-        Err(stop) => refuse(stop, report),
+    match command_of(alloc, words) {
+        Ok(command) => {
+            let ended = obey(rt, alloc, command, desk, input, out, report, gate, kept);
+            conclude(ended, report)
+        }
+        Err(fault) => refuse_words(fault, report),
+    }
+}
+
+// The status, and where the command stopped, why.
+fn conclude<E: Sink>(ended: Result<Done, Stop>, report: &mut E) -> Status
+    ensures { Concludes ended result (E.meaning report.old) (E.meaning report.new) }
+{
+    match ended {
+        Ok(done) => done.status(),
+        Err(stop) => refuse(&stop, report),
+    }
+}
+
+/// Says why a call stops. A fault of the report changes no status.
+pub fn refuse<E: Sink>(stop: &Stop, report: &mut E) -> Status
+    ensures status { result ≡ status_of stop.now }
+    ensures line { Says (line_of stop.now) (E.meaning report.old) (E.meaning report.new) }
+{
+    let line = stop.line();
+    let _ = write_all(report, line.as_slice());
+    stop.status()
+}
+
+fn refuse_words<E: Sink>(fault: WordsFault, report: &mut E) -> Status
+    ensures { RefusesWords fault result (E.meaning report.old) (E.meaning report.new) }
+{
+    match fault {
+        WordsFault::Usage => tell_usage(report),
+        WordsFault::WantOfMemory => refuse(&Stop::WantOfMemory, report),
+    }
+}
+
+fn tell_usage<E: Sink>(report: &mut E) -> Status
+    ensures status { result ≡ Status.Usage }
+    ensures line { Says usage_line (E.meaning report.old) (E.meaning report.new) }
+{
+    let line = usage_line();
+    let _ = write_all(report, line.as_slice());
+    Status::Usage
+}
+
+fn usage_line() -> Line
+    ensures { result ≡ usage_line }
+{
+    let mut line = Line::new();
+    line.push_text(b"usage: vest COMMAND WORDS\n");
+    line
+}
+
+// The command that the words spell to this program, which does not obey `generate`.
+fn command_of<'a>(alloc: Global, words: &'a [String]) -> Result<Command<'a>, WordsFault>
+    ensures answers { AnswersTo (spelled words.entry.now) result }
+    ensures obeyed { IfOk result (λ command. obeys (title_of (command_value command)) ≡ true) }
+{
+    match read_words(alloc, words) {
+        Ok(command) => {
+            if is_obeyed(&command) {
+                Ok(command)
+            } else {
+                Err(WordsFault::Usage)
+            }
+        }
+        Err(fault) => Err(fault),
+    }
+}
+
+fn is_obeyed(command: &Command<'_>) -> bool
+    ensures { result ≡ obeys (title_of (command_value command.now)) }
+{
+    match command {
+        Command::Run { .. } | Command::Translate { .. } | Command::List { .. } => true,
+        Command::Generate { .. } => false,
     }
 }
 
@@ -51,37 +135,39 @@ pub fn vest<R: Threads + Wait + Sync, D: Desk, I: Source, K: Sink, E: Sink, G: G
 fn obey<R: Threads + Wait + Sync, D: Desk, I: Source, K: Sink, E: Sink, G: Gate + Sync>(
     rt: &R,
     alloc: Global,
-    words: &[String],
+    command: Command<'_>,
     desk: &mut D,
     input: &mut I,
     out: &mut K,
     report: &mut E,
     gate: &G,
     kept: &mut Kept,
-) -> Result<Status, Stop>
-    requires { kept.old ≡ nothing_kept }
-    ensures does { IfOk result (λ status. Does (spelled words.now) status
+) -> Result<Done, Stop>
+    requires nothing { kept.old ≡ nothing_kept }
+    requires obeyed { obeys (title_of (command_value command)) ≡ true }
+    ensures does { IfOk result (λ done. Does (command_value command.entry) done
         (lent (D.meaning desk.old) (I.meaning input.old) (K.meaning out.old) (E.meaning report.old))
         (lent (D.meaning desk.new) (I.meaning input.new) (K.meaning out.new) (E.meaning report.new))
         kept.new) }
-    ensures why { IfErr result (λ stop. Stops (spelled words.now) stop
+    ensures why { IfErr result (λ stop. StopsAt (command_value command.entry) stop
         (D.meaning desk.old) (D.meaning desk.new) (I.meaning input.old) (I.meaning input.new)) }
     ensures leaves { IfErr result (λ _. LeavesAll
         (lent (D.meaning desk.old) (I.meaning input.old) (K.meaning out.old) (E.meaning report.old))
         (lent (D.meaning desk.new) (I.meaning input.new) (K.meaning out.new) (E.meaning report.new))
         kept.new) }
+    ensures decided { (decision : Decision) → DecidesOn (command_value command.entry) (D.meaning desk.old).files (I.meaning input.old).left decision
+        → IsDecided result decision }
 {
-    match read_words(alloc, words) {
-        Ok(
-            Command::Run {
-                name,
-                limits,
-                ranges,
-            },
-        ) => run(
+    match command {
+        Command::Run {
+            name,
+            limits,
+            ranges,
+        } => run(
             rt, alloc, name, limits, &ranges, desk, input, out, report, gate, kept,
         ),
-        Ok(_) | Err(WordsFault::Usage) => Err(Stop::Usage),
-        Err(WordsFault::WantOfMemory) => Err(Stop::WantOfMemory),
+        Command::Translate { image, out: to } => translate_file(alloc, image, to, desk),
+        Command::List { name } => list_file(alloc, name, desk, out),
+        Command::Generate { .. } => unreachable!(),
     }
 }

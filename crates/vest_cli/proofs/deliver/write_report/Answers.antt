@@ -1,3 +1,4 @@
+-- The report takes the lines of each processor in turn.
 use Rattle.std.proofs.Common.{◌∙◌}
 use Rattle.vest_cli.proofs.Delivering.{failed_lines, on_err, took_lines}
 use Rattle.vest_cli.proofs.deliver.write_report.Goals as goal

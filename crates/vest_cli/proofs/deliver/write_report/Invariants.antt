@@ -1,3 +1,4 @@
+-- It took the lines of the processors so far.
 use Rattle.std.proofs.Common.{take}
 use Rattle.vt_outside.specs.Taking.{TookAll}
 use Rattle.vest_cli.proofs.Delivering.{report}

@@ -1,3 +1,4 @@
+-- The history and the processors are a legal run, and so have the headline.
 use Rattle.std.proofs.Common.{subst, arith, map, reverse}
 use Rattle.image_file.specs.Values.{ImageValue}
 use Rattle.vax_form.specs.GrammarLaws.{AreBytes}
@@ -23,6 +24,6 @@ returns g c =
     record {
       legal = c.go.ensures.legal;
       ended = c.go.ensures.ended;
-      spent = all_have_cause setting of c.args.running.budget history processors c.go.ensures.legal;
+      spent = all_have_cause setting of c.args.running.budget (reverse history) processors c.go.ensures.legal headline;
       driven = record { headline = headline; output = put_out history headline.history.made headline.history.output };
     }

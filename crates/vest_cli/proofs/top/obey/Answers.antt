@@ -1,22 +1,69 @@
--- The command is the one that the words spell, or they spell none.
-use Rattle.std.proofs.Common.{◌≡◌, ◌∙◌, Some, ap, map}
-use Rattle.std.specs.String.{string_bytes}
+-- The command is the one that was read.
+use Rattle.std.proofs.Common.{◌≡◌, IfOk, List, ap, subst}
 use Rattle.command_words.specs.Answers.{command_value}
-use Rattle.command_words.specs.declared.commands.Command.TheVariants as command
-use Rattle.command_words.specs.Commands.{forms, run, spells}
-use Rattle.vest_cli.proofs.Spelling.{does_run, stops_run}
+use Rattle.command_words.specs.Commands.{list, run, translate}
+use Rattle.command_words.specs.declared.numbers.Range.{Range}
+use Rattle.vest_cli.specs.Lent.{lent}
+use Rattle.vest_cli.specs.Run.{Runs}
+use Rattle.vest_cli.proofs.Obeying.{decided_as, does_as, list_leaves, only_lists, only_translates, stops_as, translate_leaves}
 use Rattle.vest_cli.proofs.top.obey.Goals as goal
 
-pub returns-in-Ok-Run-clause-does : goal.returns-in-Ok-Run-clause-does
-returns-in-Ok-Run-clause-does g c =
-    let read : spells forms (map string_bytes c.args.words.now) ≡ Some (command_value c.in-Ok-Run.field-0) = c.in-Ok-Run.ensures in
-    let is : c.in-Ok-Run.field-0 ≡ command.Run c.in-Ok-Run.name c.in-Ok-Run.limits c.in-Ok-Run.ranges = c.in-Ok-Run.field-0-is in
-    let e : spells forms (map string_bytes c.args.words.now) ≡ Some (run c.in-Ok-Run.name.now c.in-Ok-Run.limits c.in-Ok-Run.ranges.items) = read ∙ ap (λ k. Some (command_value k)) is in
-    does_run (map string_bytes c.args.words.now) c.in-Ok-Run.name.now c.in-Ok-Run.limits c.in-Ok-Run.ranges.items _ _ _ _ _ e c.deref.ensures.value c.run.ensures.runs
+pub returns-in-Run-clause-does : goal.returns-in-Run-clause-does
+returns-in-Run-clause-does g c =
+    does_as c.run.result (command_value c.args.command) (run c.in-Run.name.now c.in-Run.limits c.in-Run.ranges.items)
+    (lent (g.D.Desk.meaning c.args.desk.now) (g.I.Source.meaning c.args.input.now) (g.K.Sink.meaning c.args.out.now) (g.E.Sink.meaning c.args.report.now))
+    (lent (g.D.Desk.meaning c.run.new.desk) (g.I.Source.meaning c.run.new.input) (g.K.Sink.meaning c.run.new.out) (g.E.Sink.meaning c.run.new.report))
+    c.run.new.kept (ap command_value c.in-Run.is)
+    (subst (λ (ranges : List Range). IfOk c.run.result (λ end. Runs end c.in-Run.name.now c.in-Run.limits ranges (lent (g.D.Desk.meaning c.args.desk.now) (g.I.Source.meaning c.args.input.now) (g.K.Sink.meaning c.args.out.now) (g.E.Sink.meaning c.args.report.now)) (lent (g.D.Desk.meaning c.run.new.desk) (g.I.Source.meaning c.run.new.input) (g.K.Sink.meaning c.run.new.out) (g.E.Sink.meaning c.run.new.report)) c.run.new.kept)) c.deref.ensures.value c.run.ensures.runs)
 
-pub returns-in-Ok-Run-clause-why : goal.returns-in-Ok-Run-clause-why
-returns-in-Ok-Run-clause-why g c =
-    let read : spells forms (map string_bytes c.args.words.now) ≡ Some (command_value c.in-Ok-Run.field-0) = c.in-Ok-Run.ensures in
-    let is : c.in-Ok-Run.field-0 ≡ command.Run c.in-Ok-Run.name c.in-Ok-Run.limits c.in-Ok-Run.ranges = c.in-Ok-Run.field-0-is in
-    let e : spells forms (map string_bytes c.args.words.now) ≡ Some (run c.in-Ok-Run.name.now c.in-Ok-Run.limits c.in-Ok-Run.ranges.items) = read ∙ ap (λ k. Some (command_value k)) is in
-    stops_run (map string_bytes c.args.words.now) c.in-Ok-Run.name.now c.in-Ok-Run.limits c.in-Ok-Run.ranges.items _ _ _ _ _ e c.run.ensures.why
+pub returns-in-Run-clause-why : goal.returns-in-Run-clause-why
+returns-in-Run-clause-why g c =
+    stops_as c.run.result (command_value c.args.command) (run c.in-Run.name.now c.in-Run.limits c.in-Run.ranges.items)
+    (g.D.Desk.meaning c.args.desk.now) (g.D.Desk.meaning c.run.new.desk) (g.I.Source.meaning c.args.input.now) (g.I.Source.meaning c.run.new.input) (ap command_value c.in-Run.is) c.run.ensures.why
+
+pub returns-in-Run-clause-decided : goal.returns-in-Run-clause-decided
+returns-in-Run-clause-decided g c =
+    decided_as c.run.result (command_value c.args.command) (run c.in-Run.name.now c.in-Run.limits c.in-Run.ranges.items)
+    (g.D.Desk.meaning c.args.desk.now).files (g.I.Source.meaning c.args.input.now).left (ap command_value c.in-Run.is) c.run.ensures.decided
+
+pub returns-in-Translate-clause-does : goal.returns-in-Translate-clause-does
+returns-in-Translate-clause-does g c =
+    does_as c.translate_file.result (command_value c.args.command) (translate c.in-Translate.image.now c.in-Translate.to.now)
+    (lent (g.D.Desk.meaning c.args.desk.now) (g.I.Source.meaning c.args.input.now) (g.K.Sink.meaning c.args.out.now) (g.E.Sink.meaning c.args.report.now))
+    (lent (g.D.Desk.meaning c.translate_file.new.desk) (g.I.Source.meaning c.args.input.now) (g.K.Sink.meaning c.args.out.now) (g.E.Sink.meaning c.args.report.now))
+    c.args.kept.now (ap command_value c.in-Translate.is)
+    (only_translates c.translate_file.result (g.I.Source.meaning c.args.input.now) (g.E.Sink.meaning c.args.report.now) c.args.kept.now c.requires.nothing c.in-Translate.image.now c.in-Translate.to.now (g.D.Desk.meaning c.args.desk.now) (g.D.Desk.meaning c.translate_file.new.desk) (g.K.Sink.meaning c.args.out.now) c.translate_file.ensures.does)
+
+pub returns-in-Translate-clause-why : goal.returns-in-Translate-clause-why
+returns-in-Translate-clause-why g c =
+    stops_as c.translate_file.result (command_value c.args.command) (translate c.in-Translate.image.now c.in-Translate.to.now)
+    (g.D.Desk.meaning c.args.desk.now) (g.D.Desk.meaning c.translate_file.new.desk) (g.I.Source.meaning c.args.input.now) (g.I.Source.meaning c.args.input.now) (ap command_value c.in-Translate.is) c.translate_file.ensures.why
+
+pub returns-in-Translate-clause-decided : goal.returns-in-Translate-clause-decided
+returns-in-Translate-clause-decided g c =
+    decided_as c.translate_file.result (command_value c.args.command) (translate c.in-Translate.image.now c.in-Translate.to.now)
+    (g.D.Desk.meaning c.args.desk.now).files (g.I.Source.meaning c.args.input.now).left (ap command_value c.in-Translate.is) c.translate_file.ensures.decided
+
+pub returns-in-Translate-clause-leaves : goal.returns-in-Translate-clause-leaves
+returns-in-Translate-clause-leaves g c = translate_leaves c.translate_file.result (g.I.Source.meaning c.args.input.now) (g.E.Sink.meaning c.args.report.now) c.args.kept.now c.requires.nothing (g.D.Desk.meaning c.args.desk.now) (g.D.Desk.meaning c.translate_file.new.desk) (g.K.Sink.meaning c.args.out.now) c.translate_file.ensures.stays
+
+pub returns-in-List-clause-does : goal.returns-in-List-clause-does
+returns-in-List-clause-does g c =
+    does_as c.list_file.result (command_value c.args.command) (list c.in-List.name.now)
+    (lent (g.D.Desk.meaning c.args.desk.now) (g.I.Source.meaning c.args.input.now) (g.K.Sink.meaning c.args.out.now) (g.E.Sink.meaning c.args.report.now))
+    (lent (g.D.Desk.meaning c.list_file.new.desk) (g.I.Source.meaning c.args.input.now) (g.K.Sink.meaning c.list_file.new.out) (g.E.Sink.meaning c.args.report.now))
+    c.args.kept.now (ap command_value c.in-List.is)
+    (only_lists c.list_file.result (g.I.Source.meaning c.args.input.now) (g.E.Sink.meaning c.args.report.now) c.args.kept.now c.requires.nothing c.in-List.name.now (g.D.Desk.meaning c.args.desk.now) (g.D.Desk.meaning c.list_file.new.desk) (g.K.Sink.meaning c.args.out.now) (g.K.Sink.meaning c.list_file.new.out) c.list_file.ensures.stays c.list_file.ensures.does)
+
+pub returns-in-List-clause-why : goal.returns-in-List-clause-why
+returns-in-List-clause-why g c =
+    stops_as c.list_file.result (command_value c.args.command) (list c.in-List.name.now)
+    (g.D.Desk.meaning c.args.desk.now) (g.D.Desk.meaning c.list_file.new.desk) (g.I.Source.meaning c.args.input.now) (g.I.Source.meaning c.args.input.now) (ap command_value c.in-List.is) c.list_file.ensures.why
+
+pub returns-in-List-clause-decided : goal.returns-in-List-clause-decided
+returns-in-List-clause-decided g c =
+    decided_as c.list_file.result (command_value c.args.command) (list c.in-List.name.now)
+    (g.D.Desk.meaning c.args.desk.now).files (g.I.Source.meaning c.args.input.now).left (ap command_value c.in-List.is) c.list_file.ensures.decided
+
+pub returns-in-List-clause-leaves : goal.returns-in-List-clause-leaves
+returns-in-List-clause-leaves g c = list_leaves c.list_file.result (g.I.Source.meaning c.args.input.now) (g.E.Sink.meaning c.args.report.now) c.args.kept.now c.requires.nothing (g.D.Desk.meaning c.args.desk.now) (g.D.Desk.meaning c.list_file.new.desk) (g.K.Sink.meaning c.args.out.now) (g.K.Sink.meaning c.list_file.new.out) c.list_file.ensures.stays c.list_file.ensures.unsent

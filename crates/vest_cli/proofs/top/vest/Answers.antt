@@ -1,34 +1,71 @@
-use Rattle.vest_cli.specs.Vest.{stopped, done}
-use Rattle.vest_cli.proofs.Exactly.{usage_only, usage_there, exactly}
+-- What a call does and its status, by its words and by what its command came to.
+use Rattle.command_words.specs.Answers.{command_value}
+use Rattle.vest_cli.specs.Lent.{lent}
+use Rattle.vest_cli.specs.Obeyed.{spelled}
+use Rattle.vest_cli.proofs.Completing.{complete}
+use Rattle.vest_cli.proofs.Ending.{call_decided, call_ends, call_no_usage, call_spelled, words_decided, words_end, words_unspelled, words_usage}
 use Rattle.vest_cli.proofs.top.vest.Goals as goal
 
-pub returns-in-Err-clause-meaning : goal.returns-in-Err-clause-meaning
-returns-in-Err-clause-meaning g c =
-    stopped c.in-Err.stop c.refuse.ensures.status c.in-Err.ensures.why (record {
-      desk = c.in-Err.ensures.leaves.desk;
-      out = c.in-Err.ensures.leaves.out;
-      kept_nothing = c.in-Err.ensures.leaves.kept_nothing;
-      line = rw c.in-Err.ensures.leaves.report at c.refuse.ensures.line;
-    })
-
-pub returns-in-Err-clause-usage : goal.returns-in-Err-clause-usage
-returns-in-Err-clause-usage g c =
-    let meaning = returns-in-Err-clause-meaning g c in
-    usage_only _ _ _ _ _ meaning
-
-pub returns-in-Err-clause-no_command : goal.returns-in-Err-clause-no_command
-returns-in-Err-clause-no_command g c = usage_there _ _ _ _ _ (returns-in-Err-clause-meaning g c)
-
-pub returns-in-Err-clause-decided : goal.returns-in-Err-clause-decided
-returns-in-Err-clause-decided g c = exactly _ _ _ _ _ (returns-in-Err-clause-meaning g c)
+pub returns-in-Ok-clause-meaning : goal.returns-in-Ok-clause-meaning
+returns-in-Ok-clause-meaning g c =
+    call_ends (spelled c.args.words.now) (command_value c.in-Ok.command) c.in-Ok.ensures.answers c.obey-ended.result c.conclude.result
+    (lent (g.D.Desk.meaning c.args.desk.now) (g.I.Source.meaning c.args.input.now) (g.K.Sink.meaning c.args.out.now) (g.E.Sink.meaning c.args.report.now))
+    (g.D.Desk.meaning c.obey-ended.new.desk) (g.I.Source.meaning c.obey-ended.new.input) (g.K.Sink.meaning c.obey-ended.new.out)
+    (g.E.Sink.meaning c.obey-ended.new.report) (g.E.Sink.meaning c.conclude.new.report) c.obey-ended.new.kept
+    c.obey-ended.ensures.does c.obey-ended.ensures.why c.obey-ended.ensures.leaves c.conclude.ensures
 
 pub returns-in-Ok-clause-usage : goal.returns-in-Ok-clause-usage
 returns-in-Ok-clause-usage g c =
-    let meaning = done c.in-Ok.ensures.does in
-    usage_only _ _ _ _ _ meaning
+    call_no_usage (spelled c.args.words.now) (command_value c.in-Ok.command) c.in-Ok.ensures.answers c.obey-ended.result c.conclude.result
+    (g.E.Sink.meaning c.obey-ended.new.report) (g.E.Sink.meaning c.conclude.new.report) c.conclude.ensures
 
 pub returns-in-Ok-clause-no_command : goal.returns-in-Ok-clause-no_command
-returns-in-Ok-clause-no_command g c = usage_there _ _ _ _ _ (done c.in-Ok.ensures.does)
+returns-in-Ok-clause-no_command g c = call_spelled (spelled c.args.words.now) (command_value c.in-Ok.command) c.in-Ok.ensures.answers c.conclude.result
 
 pub returns-in-Ok-clause-decided : goal.returns-in-Ok-clause-decided
-returns-in-Ok-clause-decided g c = exactly _ _ _ _ _ (done c.in-Ok.ensures.does)
+returns-in-Ok-clause-decided g c =
+    call_decided (spelled c.args.words.now) (command_value c.in-Ok.command) c.in-Ok.ensures.answers c.obey-ended.result c.conclude.result
+    (lent (g.D.Desk.meaning c.args.desk.now) (g.I.Source.meaning c.args.input.now) (g.K.Sink.meaning c.args.out.now) (g.E.Sink.meaning c.args.report.now))
+    (lent (g.D.Desk.meaning c.obey-ended.new.desk) (g.I.Source.meaning c.obey-ended.new.input) (g.K.Sink.meaning c.obey-ended.new.out) (g.E.Sink.meaning c.obey-ended.new.report))
+    c.obey-ended.new.kept (g.E.Sink.meaning c.obey-ended.new.report) (g.E.Sink.meaning c.conclude.new.report)
+    (g.D.Desk.meaning c.args.desk.now).files (g.I.Source.meaning c.args.input.now).left
+    c.obey-ended.ensures.does c.obey-ended.ensures.decided c.conclude.ensures
+
+pub returns-in-Err-clause-usage : goal.returns-in-Err-clause-usage
+returns-in-Err-clause-usage g c =
+    words_usage (spelled c.args.words.now) c.in-Err.fault c.refuse_words.result (g.E.Sink.meaning c.args.report.now) (g.E.Sink.meaning c.refuse_words.new.report)
+    c.in-Err.ensures.answers c.refuse_words.ensures
+
+pub returns-in-Err-clause-no_command : goal.returns-in-Err-clause-no_command
+returns-in-Err-clause-no_command g c = λ none.
+    words_unspelled (spelled c.args.words.now) c.in-Err.fault c.refuse_words.result (g.E.Sink.meaning c.args.report.now) (g.E.Sink.meaning c.refuse_words.new.report)
+    c.refuse_words.ensures
+
+pub returns-in-Err-clause-decided : goal.returns-in-Err-clause-decided
+returns-in-Err-clause-decided g c =
+    words_decided (spelled c.args.words.now) c.in-Err.fault c.refuse_words.result (g.E.Sink.meaning c.args.report.now) (g.E.Sink.meaning c.refuse_words.new.report)
+    (g.D.Desk.meaning c.args.desk.now).files (g.I.Source.meaning c.args.input.now).left
+    c.in-Err.ensures.answers c.refuse_words.ensures
+
+pub returns-in-Err-clause-meaning : goal.returns-in-Err-clause-meaning
+returns-in-Err-clause-meaning g c =
+    words_end (spelled c.args.words.now) c.in-Err.fault c.refuse_words.result
+    (g.D.Desk.meaning c.args.desk.now) (g.I.Source.meaning c.args.input.now) (g.K.Sink.meaning c.args.out.now)
+    (g.E.Sink.meaning c.args.report.now) (g.E.Sink.meaning c.refuse_words.new.report) _
+    c.in-Err.ensures.answers c.empty.ensures c.refuse_words.ensures
+
+pub returns-in-Ok-clause-complete : goal.returns-in-Ok-clause-complete
+returns-in-Ok-clause-complete g c = λ d on none.
+    complete
+    (lent (g.D.Desk.meaning c.args.desk.now) (g.I.Source.meaning c.args.input.now) (g.K.Sink.meaning c.args.out.now) (g.E.Sink.meaning c.args.report.now))
+    (lent (g.D.Desk.meaning c.obey-ended.new.desk) (g.I.Source.meaning c.obey-ended.new.input) (g.K.Sink.meaning c.obey-ended.new.out) (g.E.Sink.meaning c.conclude.new.report))
+    c.obey-ended.new.kept none (spelled c.args.words.now) c.conclude.result d
+    (returns-in-Ok-clause-meaning g c) (returns-in-Ok-clause-decided g c d on)
+
+pub returns-in-Err-clause-complete : goal.returns-in-Err-clause-complete
+returns-in-Err-clause-complete g c = λ d on none.
+    complete
+    (lent (g.D.Desk.meaning c.args.desk.now) (g.I.Source.meaning c.args.input.now) (g.K.Sink.meaning c.args.out.now) (g.E.Sink.meaning c.args.report.now))
+    (lent (g.D.Desk.meaning c.args.desk.now) (g.I.Source.meaning c.args.input.now) (g.K.Sink.meaning c.args.out.now) (g.E.Sink.meaning c.refuse_words.new.report))
+    _ none (spelled c.args.words.now) c.refuse_words.result d
+    (returns-in-Err-clause-meaning g c) (returns-in-Err-clause-decided g c d on)

@@ -1,0 +1,139 @@
+-- Where no call of the outside failed, no fault is told.
+use Rattle.std.proofs.Common.{◌≡◌, ◌⊎◌, ◌<◌, ◌≤◌, ◌∙◌, ℕ, Bool, true, false, List, Option, None, Some, refl, sym, subst, arith, inl, inr}
+use Rattle.std.specs.Prelude.{MatchBool}
+use Rattle.vt_outside.specs.Causes.{Rose, one_more}
+use Rattle.vt_outside.specs.Desk.{DeskMeaning}
+use Rattle.vt_outside.specs.Source.{SourceMeaning}
+use Rattle.image_file.specs.Values.{ImageValue}
+use Rattle.translated_file.specs.Values.{PartsValue}
+use Rattle.block_law.specs.Translations.{Code}
+use Rattle.memory_core.specs.Contents.{output_of}
+use Rattle.system_model.specs.Processors.{Processor}
+use Rattle.command_words.specs.Commands.{CommandValue, run, translate, list, generate}
+use Rattle.vest_files.specs.Decided.{Decision}
+use Rattle.vest_files.specs.Loading.{StopsAtImageFile, StopsAtLoad, StopsAtTranslatedFile, is_translated}
+use Rattle.vest_files.specs.Stages.{HasParts, IsFile, IsImage, IsTranslated}
+use Rattle.vest_files.specs.Status.{status_of, status_of_done}
+use Rattle.vest_files.specs.Translate.{StopsTranslate}
+use Rattle.vest_files.specs.declared.status.Done.{Done}
+use Rattle.vest_files.specs.declared.status.Done.TheVariants as dones
+use Rattle.vest_files.specs.declared.status.Status.{Status}
+use Rattle.vest_files.specs.declared.status.Status.TheVariants as status
+use Rattle.vest_files.specs.declared.stop.Stop.{Stop}
+use Rattle.vest_files.specs.declared.stop.Stop.TheVariants.{Absent, Refused, ReadFault, TooLong, WantOfMemory}
+use Rattle.vest_cli.specs.Decided.{IsOrFault, IsOrWant, NoneFailed, Stood}
+use Rattle.vest_cli.specs.Delivery.{Delivers}
+use Rattle.vest_cli.specs.Kept.{KeptValue}
+use Rattle.vest_cli.specs.Lent.{Lent}
+use Rattle.vest_cli.specs.Run.{StopsRun, processors_of}
+use Rattle.vest_cli.specs.Vest.{Does, Ends, Stops, StopsAt, done, stopped, unspelled}
+
+below : (least n : ℕ) → least ≤ n → n < least → ⊥
+below least n h s = omega (arith, h, s)
+
+stood : (old new : ℕ) → Stood old new → Rose old new → ⊥
+stood old new s h = below (one_more old) new h s
+
+neither : (b : Bool) (A B : Type 0) → (A → ⊥) → (B → ⊥) → MatchBool b A B → ⊥
+neither true A B f g h = f h
+neither false A B f g h = g h
+
+-- ---- a read fault comes from a read of the desk, or of the input
+image_has_none : (bytes : List ℕ) → StopsAtImageFile ReadFault bytes → ⊥
+image_has_none bytes (inl h) = h
+image_has_none bytes (inr (image, meant, h)) = h
+
+translated_has_none : (bytes : List ℕ) → StopsAtTranslatedFile ReadFault bytes → ⊥
+translated_has_none bytes (inl h) = h
+translated_has_none bytes (inr (parts, has, inl h)) = h
+translated_has_none bytes (inr (parts, has, inr (code, translated, h))) = h
+
+load_rose : (name : List ℕ) (desk desk' : DeskMeaning) → StopsAtLoad ReadFault name desk desk' → Rose desk.read_faults desk'.read_faults
+load_rose name desk desk' (inl h) = h
+load_rose name desk desk' (inr (bytes, file, h)) =
+    absurd (neither (is_translated bytes) (StopsAtTranslatedFile ReadFault bytes) (StopsAtImageFile ReadFault bytes) (translated_has_none bytes) (image_has_none bytes) h)
+
+translate_rose : (name : List ℕ) (desk desk' : DeskMeaning) → StopsTranslate ReadFault name desk desk' → Rose desk.read_faults desk'.read_faults
+translate_rose name desk desk' (inl h) = h
+translate_rose name desk desk' (inr (bytes, file, h)) = absurd (image_has_none bytes h)
+
+module _ (old new : Lent) (kept : KeptValue) (none : NoneFailed old new) where
+  no_desk_read : Rose old.desk.read_faults new.desk.read_faults → ⊥
+  no_desk_read h = stood old.desk.read_faults new.desk.read_faults none.desk_reads h
+
+  run_reads : (name : List ℕ) → StopsRun ReadFault name old.desk new.desk old.input new.input → ⊥
+  run_reads name (inl h) = no_desk_read (load_rose name old.desk new.desk h)
+  run_reads name (inr (image, code, loads, h)) = stood old.input.faults new.input.faults none.input h
+
+  command_reads : (command : CommandValue) → StopsAt command ReadFault old.desk new.desk old.input new.input → ⊥
+  command_reads (run name limits ranges) h = run_reads name h
+  command_reads (translate image to) h = no_desk_read (translate_rose image old.desk new.desk h)
+  command_reads (list name) h = no_desk_read (load_rose name old.desk new.desk h)
+  command_reads (generate number) h = h
+
+  call_reads : (command : Option CommandValue) → Stops command ReadFault old.desk new.desk old.input new.input → ⊥
+  call_reads None h = h
+  call_reads (Some command) h = command_reads command h
+
+  stop_reads : (command : Option CommandValue) (stop : Stop) → status_of stop ≡ status.ReadFault → Stops command stop old.desk new.desk old.input new.input → ⊥
+  stop_reads command Absent e h = cc e
+  stop_reads command (Refused refusal) e h = cc e
+  stop_reads command ReadFault e h = call_reads command h
+  stop_reads command TooLong e h = cc e
+  stop_reads command WantOfMemory e h = cc e
+
+  done_reads : (end : Done) → status_of_done end ≡ status.ReadFault → ⊥
+  done_reads dones.Ok e = cc e
+  done_reads dones.Exception e = cc e
+  done_reads dones.Spent e = cc e
+  done_reads dones.WriteFault e = cc e
+
+  no_read_fault : (command : Option CommandValue) (result : Status) → Ends command result old new kept → result ≡ status.ReadFault → ⊥
+  no_read_fault command result (unspelled never is left) e = let same : status.Usage ≡ status.ReadFault = sym is ∙ e in cc same
+  no_read_fault command result (stopped stop is why left) e = stop_reads command stop (sym is ∙ e) why
+  no_read_fault command result (done spelled end so is does) e = done_reads end (sym is ∙ e)
+
+  -- ---- and a write fault from a write of the desk, of out or of report
+  no_out : Rose old.out.faults new.out.faults → ⊥
+  no_out h = stood old.out.faults new.out.faults none.out h
+
+  delivery_writes : (output : List ℕ) (processors : List Processor) → Delivers dones.WriteFault output processors old.out new.out old.report new.report → ⊥
+  delivery_writes output processors (inl h) = no_out h.0.failed
+  delivery_writes output processors (inr h) = stood old.report.faults new.report.faults none.report h.1.failed
+
+  command_writes : (command : CommandValue) → Does command dones.WriteFault old new kept → ⊥
+  command_writes (run name limits ranges) h = delivery_writes (output_of kept.history) (processors_of kept) h.has_kept.delivered
+  command_writes (translate image to) h = stood old.desk.write_faults new.desk.write_faults none.desk_writes h.translates.written.0
+  command_writes (list name) h = no_out h.lists.sent.failed
+  command_writes (generate number) h = h
+
+  stop_writes : (stop : Stop) → status_of stop ≡ status.WriteFault → ⊥
+  stop_writes Absent e = cc e
+  stop_writes (Refused refusal) e = cc e
+  stop_writes ReadFault e = cc e
+  stop_writes TooLong e = cc e
+  stop_writes WantOfMemory e = cc e
+
+  done_writes : (command : CommandValue) (end : Done) → status_of_done end ≡ status.WriteFault → Does command end old new kept → ⊥
+  done_writes command dones.Ok e h = cc e
+  done_writes command dones.Exception e h = cc e
+  done_writes command dones.Spent e h = cc e
+  done_writes command dones.WriteFault e h = command_writes command h
+
+  no_write_fault : (command : Option CommandValue) (result : Status) → Ends command result old new kept → result ≡ status.WriteFault → ⊥
+  no_write_fault command result (unspelled never is left) e = let same : status.Usage ≡ status.WriteFault = sym is ∙ e in cc same
+  no_write_fault command result (stopped stop is why left) e = stop_writes stop (sym is ∙ e)
+  no_write_fault command result (done spelled end so is does) e = done_writes spelled end (sym is ∙ e) does
+
+  -- ---- so the status is the decided one, or memory ran out
+  pub complete : (command : Option CommandValue) (result : Status) (d : Decision) → Ends command result old new kept → IsOrFault command result d → IsOrWant command result d
+  complete command status.Ok d ends h = h
+  complete command status.Usage d ends h = h
+  complete command status.Absent d ends h = h
+  complete command status.Refused d ends h = h
+  complete command status.Exception d ends h = h
+  complete command status.Spent d ends h = h
+  complete command status.ReadFault d ends h = absurd (no_read_fault command status.ReadFault ends refl)
+  complete command status.WriteFault d ends h = absurd (no_write_fault command status.WriteFault ends refl)
+  complete command status.TooLong d ends h = h
+  complete command status.WantOfMemory d ends h = h

@@ -1,0 +1,104 @@
+-- How a call ends, by its words and by what its command came to.
+use Rattle.std.proofs.Common.{◌≡◌, ◌≢◌, ◌⊎◌, ◌∙◌, List, Option, None, Some, Result, Ok, Err, IfErr, IfOk, refl, sym, ap, subst, inl, inr}
+use Rattle.std.specs.Prelude.{ℕ}
+use Rattle.command_words.specs.Commands.{CommandValue}
+use Rattle.command_words.specs.declared.WordsFault.{WordsFault}
+use Rattle.command_words.specs.declared.WordsFault.TheVariants.{Usage}
+use Rattle.command_words.specs.declared.WordsFault.TheVariants as faults
+use Rattle.vt_outside.specs.Desk.{DeskMeaning, Files}
+use Rattle.vt_outside.specs.Sink.{SinkMeaning}
+use Rattle.vt_outside.specs.Source.{SourceMeaning}
+use Rattle.vest_files.specs.Decided.{Decision, stops, goes_on, IsDecided}
+use Rattle.vest_files.specs.Line.{line_of}
+use Rattle.vest_files.specs.Status.{status_of, status_of_done}
+use Rattle.vest_files.specs.declared.status.Done.{Done}
+use Rattle.vest_files.specs.declared.status.Status.{Status}
+use Rattle.vest_files.specs.declared.status.Status.TheVariants as status
+use Rattle.vest_files.specs.declared.stop.Stop.{Stop}
+use Rattle.vest_files.specs.declared.stop.Stop.TheVariants.{Absent, Refused, ReadFault, TooLong, WantOfMemory}
+use Rattle.vest_cli.specs.Decided.{DecidesCall, DecidesOn, IsOrFault}
+use Rattle.vest_cli.specs.Kept.{KeptValue, nothing_kept}
+use Rattle.vest_cli.specs.Lent.{Lent, lent}
+use Rattle.vest_cli.specs.Stopping.{Concludes, LeavesAll, RefusesWords, Says, Stopped}
+use Rattle.vest_cli.specs.Vest.{Does, Ends, Stops, StopsAt, done, stopped, unspelled}
+use Rattle.vest_cli.proofs.Deciding.{done_as, done_no_usage, stop_no_usage, stopped_as}
+
+stops_some : (command : CommandValue) (stop : Stop) (desk desk' : DeskMeaning) (input input' : SourceMeaning) → StopsAt command stop desk desk' input input'
+    → Stops (Some command) stop desk desk' input input'
+stops_some command Absent desk desk' input input' h = h
+stops_some command (Refused refusal) desk desk' input input' h = h
+stops_some command ReadFault desk desk' input input' h = h
+stops_some command TooLong desk desk' input input' h = h
+stops_some command WantOfMemory desk desk' input input' h = tt
+
+-- ---- a command was spelled
+module _ (spelled : Option CommandValue) (command : CommandValue) (is : spelled ≡ Some command) where
+  pub call_ends : (ended : Result Done Stop) (result : Status) (old : Lent) (desk : DeskMeaning) (input : SourceMeaning) (out mid report : SinkMeaning) (kept : KeptValue)
+      → IfOk ended (λ end. Does command end old (lent desk input out mid) kept)
+      → IfErr ended (λ stop. StopsAt command stop old.desk desk old.input input)
+      → IfErr ended (λ _. LeavesAll old (lent desk input out mid) kept)
+      → Concludes ended result mid report → Ends spelled result old (lent desk input out report) kept
+  call_ends (Ok end) result old desk input out mid report kept does why leaves ends =
+      done command end is ends.0 (subst (λ (r : SinkMeaning). Does command end old (lent desk input out r) kept) (sym ends.1) does)
+  call_ends (Err stop) result old desk input out mid report kept does why leaves ends =
+      stopped stop ends.0
+      (subst (λ (c : Option CommandValue). Stops c stop old.desk desk old.input input) (sym is) (stops_some command stop old.desk desk old.input input why))
+      (record {
+        desk = leaves.desk;
+        out = leaves.out;
+        kept_nothing = leaves.kept_nothing;
+        said = subst (λ (r : SinkMeaning). Says (line_of stop) r report) leaves.report ends.1;
+      })
+
+  pub call_no_usage : (ended : Result Done Stop) (result : Status) (mid report : SinkMeaning) → Concludes ended result mid report → result ≡ status.Usage → spelled ≡ None
+  call_no_usage (Ok end) result mid report ends e = absurd (done_no_usage end (sym ends.0 ∙ e))
+  call_no_usage (Err stop) result mid report ends e = absurd (stop_no_usage stop (sym ends.0 ∙ e))
+
+  pub call_spelled : (result : Status) → spelled ≡ None → (result ≡ status.Usage) ⊎ (result ≡ status.WantOfMemory)
+  call_spelled result none = absurd (let same : None ≡ Some command = sym none ∙ is in cc same)
+
+  pub call_decided : (ended : Result Done Stop) (result : Status) (old new : Lent) (kept : KeptValue) (mid report : SinkMeaning) (files : Option Files) (left : Option (List ℕ))
+      → IfOk ended (λ end. Does command end old new kept) → ((d : Decision) → DecidesOn command files left d → IsDecided ended d)
+      → Concludes ended result mid report → (d : Decision) → DecidesCall spelled files left d → IsOrFault spelled result d
+  call_decided (Ok end) result old new kept mid report files left does decides ends d e =
+      subst (λ (s : Status). IsOrFault spelled s d) (sym ends.0)
+      (done_as spelled command end old new kept d is does (decides d (subst (λ (c : Option CommandValue). DecidesCall c files left d) is e)))
+  call_decided (Err stop) result old new kept mid report files left does decides ends d e =
+      subst (λ (s : Status). IsOrFault spelled s d) (sym ends.0)
+      (stopped_as spelled stop d (decides d (subst (λ (c : Option CommandValue). DecidesCall c files left d) is e)))
+
+-- ---- or none, or there was no memory to see that
+module _ (spelled : Option CommandValue) where
+  pub words_end : (fault : WordsFault) (result : Status) (desk : DeskMeaning) (input : SourceMeaning) (out mid report : SinkMeaning) (kept : KeptValue)
+      → (fault ≡ Usage → spelled ≡ None) → kept ≡ nothing_kept → RefusesWords fault result mid report
+      → Ends spelled result (lent desk input out mid) (lent desk input out report) kept
+  words_end Usage result desk input out mid report kept none nothing says =
+      unspelled (none refl) says.0 (record { desk = record { files = refl; write_faults = refl }; out = refl; kept_nothing = nothing; said = says.1 })
+  words_end faults.WantOfMemory result desk input out mid report kept none nothing says =
+      stopped WantOfMemory says.0 (stops_short spelled)
+      (record { desk = record { files = refl; write_faults = refl }; out = refl; kept_nothing = nothing; said = says.1 })
+    where
+      stops_short : (c : Option CommandValue) → Stops c WantOfMemory desk desk input input
+      stops_short None = tt
+      stops_short (Some command) = tt
+
+  pub words_usage : (fault : WordsFault) (result : Status) (mid report : SinkMeaning) → (fault ≡ Usage → spelled ≡ None) → RefusesWords fault result mid report
+      → result ≡ status.Usage → spelled ≡ None
+  words_usage Usage result mid report none says e = none refl
+  words_usage faults.WantOfMemory result mid report none says e = absurd (let same : status.WantOfMemory ≡ status.Usage = sym says.0 ∙ e in cc same)
+
+  pub words_unspelled : (fault : WordsFault) (result : Status) (mid report : SinkMeaning) → RefusesWords fault result mid report
+      → (result ≡ status.Usage) ⊎ (result ≡ status.WantOfMemory)
+  words_unspelled Usage result mid report says = inl says.0
+  words_unspelled faults.WantOfMemory result mid report says = inr says.0
+
+  pub words_decided : (fault : WordsFault) (result : Status) (mid report : SinkMeaning) (files : Option Files) (left : Option (List ℕ)) → (fault ≡ Usage → spelled ≡ None)
+      → RefusesWords fault result mid report → (d : Decision) → DecidesCall spelled files left d → IsOrFault spelled result d
+  words_decided Usage result mid report files left none says d e =
+      subst (λ (s : Status). IsOrFault spelled s d) (sym says.0) (usage_decided spelled (none refl) e)
+    where
+      usage_decided : (c : Option CommandValue) → c ≡ None → DecidesCall c files left d → IsOrFault c status.Usage d
+      usage_decided None is h = subst (λ (x : Decision). IsOrFault None status.Usage x) (sym h) refl
+      usage_decided (Some command) is h = absurd (cc is)
+  words_decided faults.WantOfMemory result mid report files left none says d e =
+      subst (λ (s : Status). IsOrFault spelled s d) (sym says.0) tt
