@@ -1,70 +1,34 @@
-// A call of `vest` over the outside in memory, and what it left.
-use memory_core::Entry;
+// A call of `vest`, with what it is lent.
+use crate::files::Files;
+use crate::gates::Holds;
+use crate::left::Left;
+use anyhow::{Result, bail};
 use std::alloc::{AllocError, Global};
 use std::sync::Wait;
 use std::thread::Threads;
-use vest_cli::{Kept, Status, vest};
-use vt_outside::{Gate, MemoryDesk, MemorySink, MemorySource, OpenGate};
+use vest_cli::{Kept, vest};
+use vt_outside::{MemoryDesk, MemorySink, MemorySource};
 
-// One thread that moves 5 to R0, writes it out and exits; a writable section behind its code.
-static FIRST: [u8; 59] = [
-    0x56, 0x58, 0x49, 0x4d, 0x01, 0x00, 0x01, 0x00, 0x02, 0x00, 0x00, 0x00, // header
-    0x00, 0x02, 0x00, 0x00, 0x00, 0x12, 0x00, 0x00, // thread
-    0x00, 0x02, 0x00, 0x00, 0x00, 0x02, 0x00, 0x00, 0x07, 0x00, 0x00, 0x00, 0x00, 0x00, 0x00, 0x00, // code
-    0x00, 0x10, 0x00, 0x00, 0x00, 0x02, 0x00, 0x00, 0x00, 0x00, 0x00, 0x00, 0x01, 0x00, 0x00, 0x00, // data
-    0xd0, 0x05, 0x50, 0xbc, 0x02, 0xbc, 0x01,
-];
+/// The bytes that a sink has room for.
+const ROOM: usize = 65_536;
 
-/// A file on the desk: that many bytes of the first image, some of them changed; an image; these bytes; or none.
-#[derive(Clone, Copy)]
-pub enum File<'a> {
-    Changed(usize, &'a [(usize, u8)]),
-    Of(Image<'a>),
-    Bytes(&'a [u8]),
-    Absent,
-}
+/// The most bytes that a call of a source gives, or a call of a sink takes, where a row doesn't say otherwise.
+const MOST: usize = 4096;
 
-pub const FIRST_IMAGE: File<'static> = File::Changed(59, &[]);
-
-/// An image: threads with their PC and SP, a section at 200 of one page, or of more where its stored code is longer, and a
-/// writable section, with its address, its size and its stored bytes.
-#[derive(Clone, Copy)]
-pub struct Image<'a> {
-    pub threads: &'a [(u32, u32)],
-    pub code: &'a [u8],
-    pub at: u32,
-    pub size: u32,
-    pub data: &'a [u8],
-}
-
-/// One thread at 200 with the stack pointer 1200, and a page at 1000.
-pub const ONE_THREAD: Image<'static> = Image {
-    threads: &[(0x200, 0x1200)],
-    code: &[],
-    at: 0x1000,
-    size: 512,
-    data: &[],
-};
-
-/// What fails outside, and what the input has: these bytes, or so many.
-#[derive(Clone, Copy)]
-pub enum Outside<'a> {
-    Sound,
-    DeskFails,
-    OutFails,
-    Input(&'a [u8]),
-    Long(usize),
-}
-
-/// What a call left.
+/// What a call is lent beside the files: the input, the numbers of the calls that fail, how many bytes a call of a source
+/// or a sink gives or takes at most, and the gate.
 #[derive(Drop)]
-pub struct Left {
-    pub status: Status,
-    pub out: MemorySink,
-    pub report: MemorySink,
-    pub history: Vec<Entry>,
+pub struct Outside {
+    pub input: Vec<u8>,
+    pub most: usize,
+    pub gate: Holds,
+    desk_fails: Vec<u64>,
+    input_fails: Vec<u64>,
+    out_fails: Vec<u64>,
+    report_fails: Vec<u64>,
 }
 
+// The words of a line.
 fn words_of(alloc: Global, line: &str) -> Result<Vec<String>, AllocError> {
     let mut words = Vec::new(alloc);
     for word in line.split_whitespace() {
@@ -73,173 +37,86 @@ fn words_of(alloc: Global, line: &str) -> Result<Vec<String>, AllocError> {
     Ok(words)
 }
 
-fn change(bytes: &mut [u8], changes: &[(usize, u8)]) {
-    for (at, byte) in changes {
-        if let Some(place) = bytes.get_mut(*at) {
-            *place = *byte;
+impl Outside {
+    pub fn sound(alloc: Global) -> Outside {
+        Outside {
+            input: Vec::new(alloc),
+            most: MOST,
+            gate: Holds::none(alloc),
+            desk_fails: Vec::new(alloc),
+            input_fails: Vec::new(alloc),
+            out_fails: Vec::new(alloc),
+            report_fails: Vec::new(alloc),
         }
     }
-}
 
-/// Appends longwords.
-pub fn push_longwords(bytes: &mut Vec<u8>, longwords: &[u32]) -> Result<(), AllocError> {
-    for longword in longwords {
-        bytes.extend_from_slice(&longword.to_le_bytes())?;
-    }
-    Ok(())
-}
-
-// The file of an image: version 1, two sections and no entries.
-fn file_of(alloc: Global, image: Image) -> Result<Vec<u8>, AllocError> {
-    let mut bytes = b"VXIM".to_vec(alloc)?;
-    for count in [1, (image.threads.len() % 256) as u8, 2, 0] {
-        bytes.extend_from_slice(&[count, 0])?;
-    }
-    for (pc, sp) in image.threads {
-        push_longwords(&mut bytes, &[*pc, *sp])?;
-    }
-    push_longwords(
-        &mut bytes,
-        &[
-            0x200,
-            low(image.code.len().max(512)),
-            low(image.code.len()),
-            0,
-        ],
-    )?;
-    push_longwords(
-        &mut bytes,
-        &[image.at, image.size, low(image.data.len()), 1],
-    )?;
-    bytes.extend_from_slice(image.code)?;
-    bytes.extend_from_slice(image.data)?;
-    Ok(bytes)
-}
-
-// The bytes of the file; None: there is none.
-fn bytes_of(alloc: Global, file: File) -> Result<Option<Vec<u8>>, AllocError> {
-    match file {
-        File::Absent => Ok(None),
-        File::Changed(length, changes) => {
-            let mut bytes = FIRST.to_vec(alloc)?;
-            bytes.resize(length, 0)?;
-            change(&mut bytes, changes);
-            Ok(Some(bytes))
+    /// That call of an object is to fail, counted from 0.
+    pub fn fail(&mut self, of: &str, call: u64) -> Result<()> {
+        match of {
+            "desk" => self.desk_fails.push(call)?,
+            "input" => self.input_fails.push(call)?,
+            "out" => self.out_fails.push(call)?,
+            "report" => self.report_fails.push(call)?,
+            _ => bail!("an unknown object: {of}"),
         }
-        File::Of(image) => Ok(Some(file_of(alloc, image)?)),
-        File::Bytes(bytes) => Ok(Some(bytes.to_vec(alloc)?)),
+        Ok(())
     }
-}
 
-fn low(number: usize) -> u32 {
-    (number % 65_536) as u32
-}
-
-fn desk_of(alloc: Global, file: File, fails: Vec<u64>) -> Result<MemoryDesk, AllocError> {
-    let mut files = Vec::new(alloc);
-    if let Some(bytes) = bytes_of(alloc, file)? {
-        files.push((String::from_str(alloc, "x")?, bytes))?;
+    fn source(&self) -> Result<MemorySource, AllocError> {
+        Ok(MemorySource::new(self.input.clone()?, self.input_fails.clone()?, self.most))
     }
-    Ok(MemoryDesk::new(files, fails))
-}
 
-fn sink(alloc: Global, fails: Vec<u64>) -> Result<MemorySink, AllocError> {
-    Ok(MemorySink::new(Vec::with_capacity(alloc, 4096)?, fails))
-}
-
-// The first call alone, where it is to fail.
-fn fails(alloc: Global, first: bool) -> Result<Vec<u64>, AllocError> {
-    vec![in alloc; 0u64; usize::from(first)]
-}
-
-fn input_of(alloc: Global, outside: Outside) -> Result<Vec<u8>, AllocError> {
-    match outside {
-        Outside::Input(bytes) => bytes.to_vec(alloc),
-        Outside::Long(length) => vec![in alloc; 7u8; length],
-        Outside::Sound | Outside::DeskFails | Outside::OutFails => Ok(Vec::new(alloc)),
+    fn sink(&self, alloc: Global, fails: &Vec<u64>) -> Result<MemorySink, AllocError> {
+        let room = Vec::with_capacity(alloc, ROOM)?;
+        Ok(MemorySink::slow(room, fails.clone()?, self.most))
     }
-}
 
-/// Calls `vest` with the words of a line, over a desk that has this file under the name x.
-pub fn call<R: Threads + Wait + Sync + AllocGlobal>(
-    rt: &R,
-    line: &str,
-    file: File,
-    outside: Outside,
-) -> Result<Left, AllocError> {
-    call_through(rt, line, file, outside, &OpenGate)
-}
-
-/// The same, with a gate before the memory.
-pub fn call_through<R: Threads + Wait + Sync + AllocGlobal, G: Gate + Sync>(
-    rt: &R,
-    line: &str,
-    file: File,
-    outside: Outside,
-    gate: &G,
-) -> Result<Left, AllocError> {
-    let alloc = rt.alloc();
-    let words = words_of(alloc, line)?;
-    let mut desk = desk_of(
-        alloc,
-        file,
-        fails(alloc, matches!(outside, Outside::DeskFails))?,
-    )?;
-    let mut input = MemorySource::new(input_of(alloc, outside)?, Vec::new(alloc), 4096);
-    let mut out = sink(alloc, fails(alloc, matches!(outside, Outside::OutFails))?)?;
-    let mut report = sink(alloc, Vec::new(alloc))?;
-    let mut kept = Kept::empty(alloc);
-    let status = vest(
-        rt,
-        alloc,
-        &words,
-        &mut desk,
-        &mut input,
-        &mut out,
-        &mut report,
-        gate,
-        &mut kept,
-    );
-    Ok(Left {
-        status,
-        out,
-        report,
-        history: kept.history,
-    })
-}
-
-/// Runs an image of one thread with this code, this stack pointer and these bytes of its writable page.
-pub fn run_one<R: Threads + Wait + Sync + AllocGlobal>(
-    rt: &R,
-    code: &[u8],
-    sp: u32,
-    data: &[u8],
-) -> Result<Left, AllocError> {
-    let image = Image {
-        threads: &[(0x200, sp)],
-        code,
-        data,
-        ..ONE_THREAD
-    };
-    call(rt, "run x", File::Of(image), Outside::Sound)
-}
-
-/// Whether a call left this status, these bytes and this report.
-pub fn is_left(left: &Left, status: Status, out: &[u8], report: &str) -> bool {
-    left.status == status && left.out.bytes() == out && left.report.bytes() == report.as_bytes()
-}
-
-/// The line of a thread that has not exited, and its registers: these, and else 0.
-pub fn lines_of(
-    alloc: Global,
-    line: &str,
-    registers: &[(usize, u32)],
-) -> Result<String, AllocError> {
-    let mut lines = format!(in alloc; "{line}\nregisters")?;
-    for number in 0..15usize {
-        let value = registers.iter().find(|(place, _)| *place == number);
-        write!(lines, " {:08X}", value.map_or(0, |(_, value)| *value))?;
+    /// Calls `vest` with the words of a line. The files are then those of the desk.
+    pub fn call<R: Threads + Wait + Sync>(
+        &self,
+        rt: &R,
+        alloc: Global,
+        files: &mut Files,
+        line: &str,
+    ) -> Result<Left> {
+        let words = words_of(alloc, line)?;
+        let mut desk = files.desk(alloc, self.desk_fails.clone()?)?;
+        let left = self.over(rt, alloc, &words, &mut desk)?;
+        for word in &words {
+            files.take(alloc, &mut desk, word.as_str())?;
+        }
+        Ok(left)
     }
-    lines.push('\n')?;
-    Ok(lines)
+
+    // Over a desk.
+    fn over<R: Threads + Wait + Sync>(
+        &self,
+        rt: &R,
+        alloc: Global,
+        words: &[String],
+        desk: &mut MemoryDesk,
+    ) -> Result<Left, AllocError> {
+        let mut input = self.source()?;
+        let mut out = self.sink(alloc, &self.out_fails)?;
+        let mut report = self.sink(alloc, &self.report_fails)?;
+        let mut kept = Kept::empty(alloc);
+        let status = vest(
+            rt,
+            alloc,
+            words,
+            desk,
+            &mut input,
+            &mut out,
+            &mut report,
+            &self.gate,
+            &mut kept,
+        );
+        Ok(Left {
+            status,
+            out,
+            report,
+            kept,
+            released: self.gate.are_released(),
+        })
+    }
 }
