@@ -336,14 +336,15 @@ fn word_added() -> Micro
 fn aligned_reference() -> [Micro; 5]
     ensures { result ≡ aligned_reference }
 {
+    let check = Micro::Probe {
+        place: 3,
+        count: 2,
+        write: true,
+    };
     [
         binary(4, MicroOp::And, Size::Byte, Arg::Temp(3), Arg::Const(1)),
         Micro::Refuse { when: 4 },
-        Micro::Probe {
-            place: 3,
-            count: 2,
-            write: true,
-        },
+        check,
         Micro::Locked {
             to: 0,
             place: 3,
