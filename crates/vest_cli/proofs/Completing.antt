@@ -4,15 +4,11 @@ use Rattle.std.specs.Prelude.{MatchBool}
 use Rattle.vt_outside.specs.Causes.{Rose, one_more}
 use Rattle.vt_outside.specs.Desk.{DeskMeaning}
 use Rattle.vt_outside.specs.Source.{SourceMeaning}
-use Rattle.image_file.specs.Values.{ImageValue}
-use Rattle.translated_file.specs.Values.{PartsValue}
-use Rattle.block_law.specs.Translations.{Code}
 use Rattle.memory_core.specs.Contents.{output_of}
 use Rattle.system_model.specs.Processors.{Processor}
 use Rattle.command_words.specs.Commands.{CommandValue, run, translate, list, generate}
 use Rattle.vest_files.specs.Decided.{Decision}
 use Rattle.vest_files.specs.Loading.{StopsAtImageFile, StopsAtLoad, StopsAtTranslatedFile, is_translated}
-use Rattle.vest_files.specs.Stages.{HasParts, IsFile, IsImage, IsTranslated}
 use Rattle.vest_files.specs.Status.{status_of, status_of_done}
 use Rattle.vest_files.specs.Translate.{StopsTranslate}
 use Rattle.vest_files.specs.declared.status.Done.{Done}

@@ -115,8 +115,8 @@ few_steps setting of entries processors headline thread p at =
     let counts = map (λ (q : Processor). q.retired) processors in
     let world = world_of (threads_of setting (starts of.image)) of in
     let there = run_at world.threads headline.history.made counts 0 headline.runs
-        (runs_driven world counts (walk world (order entries)) (record { made = headline.history.made; runs = headline.runs }) headline.driven)
-        thread p.retired (slice_get-map (λ (q : Processor). q.retired) processors thread ∙ ap (option_map (λ (q : Processor). q.retired)) at) in
+    (runs_driven world counts (walk world (order entries)) (record { made = headline.history.made; runs = headline.runs }) headline.driven)
+    thread p.retired (slice_get-map (λ (q : Processor). q.retired) processors thread ∙ ap (option_map (λ (q : Processor). q.retired)) at) in
     (headline.each thread p there.0 at there.1).steps
 
 -- ---- so a spent one has its cause

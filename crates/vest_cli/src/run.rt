@@ -171,7 +171,10 @@ pub fn run<R: Threads + Wait + Sync, D: Desk, I: Source, K: Sink, E: Sink, G: Ga
     ensures decided { (decision : Decision) → DecidesRun (D.meaning desk.old).files name.now (I.meaning input.old).left decision
         → IsDecided result decision }
 {
-    let loaded = load(alloc, desk, name)?;
+    let loaded = match load(alloc, desk, name) {
+        Ok(loaded) => loaded,
+        Err(stop) => return Err(stop),
+    };
     let taken = read_input(alloc, input)?;
     let ranges = ranges_of(alloc, ranges)?;
     let (memory, processors) = execute(

@@ -46,7 +46,7 @@ pub fn vest<R: Threads + Wait + Sync, D: Desk, I: Source, K: Sink, E: Sink, G: G
         → IsOrFault (spelled words.now) result decision }
     ensures complete { (decision : Decision) → DecidesCall (spelled words.now) (D.meaning desk.old).files (I.meaning input.old).left decision
         → NoneFailed (lent (D.meaning desk.old) (I.meaning input.old) (K.meaning out.old) (E.meaning report.old))
-            (lent (D.meaning desk.new) (I.meaning input.new) (K.meaning out.new) (E.meaning report.new))
+        (lent (D.meaning desk.new) (I.meaning input.new) (K.meaning out.new) (E.meaning report.new))
         → IsOrWant (spelled words.now) result decision }
 {
     *kept = Kept::empty(alloc);
