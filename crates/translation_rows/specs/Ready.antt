@@ -1,0 +1,21 @@
+-- Worlds whose processors may be picked.
+use Rattle.std.specs.Prelude.{◌≡◌}
+use Rattle.block_law.specs.Translations.{Meets}
+use Rattle.image_meaning.specs.Meant.{image_meaning}
+use Rattle.system_model.specs.Settings.{Setting}
+use Rattle.tie_switch.specs.Settings.{image_setting}
+use Rattle.vest_core.specs.Worlds.{IsLegalWorld, WorldValue}
+use Rattle.translation_rows.specs.declared.worlds.Program.{Program}
+
+abbrev pub setting_of : Program → Setting
+setting_of program = image_setting program.image.now.pages program.translation.now program.ranges.now
+
+-- its translation means what its image means
+abbrev pub CanRun : Program → Type 0
+CanRun program = Meets (image_meaning program.image.now.pages) program.translation.now
+
+-- the world is that of the program's image, and legal for it
+pub record IsReady (program : Program) (w : WorldValue) : Type 0 where
+  pub image : w.memory.set_up.image ≡ program.image.now
+  pub meets : CanRun program
+  pub legal : IsLegalWorld (setting_of program) w

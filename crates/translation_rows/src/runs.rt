@@ -1,0 +1,163 @@
+// Images that run with all of their translation, and with none.
+ghost use Rattle.std.specs.Prelude.{IfOk};
+ghost use Rattle.block_law.specs.Translations.{Meets};
+ghost use Rattle.image_file.specs.Whole.{IsWhole};
+ghost use Rattle.image_meaning.specs.Meant.{image_meaning};
+ghost use Rattle.translation_rows.specs.Ready.{CanRun, IsReady};
+
+use crate::images::{CODE, STACK, bytes_or_none, image_of, pairs_of};
+use crate::shown::{ends_text, left_text, states_text};
+use crate::translations::translated;
+use crate::worlds::{Program, pick_to_its_end, world_of};
+use anyhow::{Result, bail};
+use image_file::Image;
+use row_tally::{bytes, fields};
+use std::alloc::Global;
+use system_model::{Range, Translation};
+use vest_core::World;
+
+/// More turns than a thread of a row takes.
+const MOST_TURNS: u32 = 20_000;
+
+/// The threads of an image and its input, as a row has them.
+#[derive(Drop)]
+struct Case {
+    image: Image,
+    threads: u8,
+    input: Vec<u8>,
+    shown: Vec<(u32, u32)>,
+}
+
+/// Runs each thread to its end, one after the other.
+fn run_all(world: &mut World, program: Program<'_>, threads: u8) -> Result<()>
+    requires { IsReady program world.old }
+    ensures { IsReady program.entry world.new }
+{
+    for thread in 0..threads {
+        pick_to_its_end(world, program, thread, MOST_TURNS)?;
+    }
+    Ok(())
+}
+
+/// The world in which each thread ran to its end.
+fn ran(alloc: Global, program: Program<'_>, threads: u8, input: Vec<u8>) -> Result<World>
+    requires whole { IsWhole program.image.now }
+    requires meets { CanRun program }
+{
+    let mut world = world_of(alloc, program, input)?;
+    run_all(&mut world, program, threads)?;
+    Ok(world)
+}
+
+/// The world in which each thread of a case ran to its end, and interpreted these addresses.
+fn world_in(
+    alloc: Global,
+    case: &Case,
+    translation: &Translation,
+    ranges: &[Range],
+) -> Result<World>
+    requires whole { IsWhole case.now.image }
+    requires meets { Meets (image_meaning case.now.image.pages) translation.now }
+{
+    let program = Program {
+        image: &case.image,
+        translation,
+        ranges,
+    };
+    ran(alloc, program, case.threads, case.input.to_vec(alloc)?)
+}
+
+/// The case of a row: STARTS CODE WRITABLE INPUT SHOWN.
+fn case_of(alloc: Global, question: &str) -> Result<Case>
+    ensures { IfOk result (λ case. IsWhole case.image) }
+{
+    let fields = fields(alloc, question, 5)?;
+    let starts = pairs_of(alloc, fields[0])?;
+    let code = bytes(alloc, fields[1])?;
+    let input = bytes_or_none(alloc, fields[3])?;
+    let shown = pairs_of(alloc, fields[4])?;
+    let image = image_of(alloc, &starts, &code, fields[2])?;
+    let Ok(threads) = u8::try_from(starts.len()) else {
+        bail!("too many threads")
+    };
+    Ok(Case {
+        image,
+        threads,
+        input,
+        shown,
+    })
+}
+
+/// All addresses of a thread.
+fn all_of(thread: u8) -> Range {
+    Range {
+        thread,
+        first: 0,
+        last: u32::MAX,
+    }
+}
+
+/// The world of a case with its translation. What is left and each state have to be the same where all is interpreted.
+fn compared(alloc: Global, case: &Case) -> Result<World>
+    requires { IsWhole case.now.image }
+{
+    let translation = translated(alloc, &case.image)?;
+    let world = world_in(alloc, case, &translation, &[])?;
+    let ranges = [all_of(0), all_of(1)];
+    let interpreted = world_in(alloc, case, &translation, &ranges)?;
+    let found = whole_text(alloc, &world, &case.shown)?;
+    let other = whole_text(alloc, &interpreted, &case.shown)?;
+    if found.as_str() != other.as_str() {
+        bail!("{found}, but {other} where all is interpreted");
+    }
+    Ok(world)
+}
+
+/// What is left of a world, and each state.
+fn whole_text(alloc: Global, world: &World, shown: &[(u32, u32)]) -> Result<String> {
+    let mut text = left_text(alloc, world, shown)?;
+    let states = states_text(alloc, world)?;
+    text.push_str(states.as_str())?;
+    Ok(text)
+}
+
+/// What is left of a row: STARTS CODE WRITABLE INPUT SHOWN.
+pub fn left(alloc: Global, question: &str) -> Result<String> {
+    let case = case_of(alloc, question)?;
+    let world = compared(alloc, &case)?;
+    left_text(alloc, &world, &case.shown)
+}
+
+/// The case of one thread, with its code and what the writable section stores: CODE STORED.
+fn plain_case(alloc: Global, question: &str) -> Result<Case>
+    ensures { IfOk result (λ case. IsWhole case.image) }
+{
+    let fields = fields(alloc, question, 2)?;
+    let code = bytes(alloc, fields[0])?;
+    let writable = format!(in alloc; "1000={}", fields[1])?;
+    Ok(Case {
+        image: image_of(alloc, &[(CODE, STACK)], &code, writable.as_str())?,
+        threads: 1,
+        input: Vec::new(alloc),
+        shown: Vec::new(alloc),
+    })
+}
+
+/// How the thread of a row ends: CODE STORED.
+pub fn end(alloc: Global, question: &str) -> Result<String> {
+    let case = plain_case(alloc, question)?;
+    let world = compared(alloc, &case)?;
+    Ok(ends_text(alloc, &world)?)
+}
+
+/// How many steps of the thread of a row are interpreted: CODE STORED.
+pub fn interpreted(alloc: Global, question: &str) -> Result<String> {
+    let case = plain_case(alloc, question)?;
+    let translation = translated(alloc, &case.image)?;
+    let world = world_in(alloc, &case, &translation, &[])?;
+    let mut steps: u64 = 0;
+    for processor in world.processors() {
+        steps = steps.saturating_add(processor.tie_steps());
+    }
+    Ok(format!(in alloc; "{steps}")?)
+}

@@ -1,0 +1,119 @@
+// What translations have: the mapped addresses, and the rules of condition codes there.
+ghost use Rattle.std.specs.Prelude.{IfOk};
+ghost use Rattle.block_law.specs.Translations.{Meets};
+ghost use Rattle.image_meaning.specs.Meant.{image_meaning};
+
+use crate::images::code_alone;
+use anyhow::{Context, Result, bail};
+use exception_records::{CodeRule, Points, Rules};
+use image_file::Image;
+use row_tally::{bytes, longword};
+use std::alloc::{AllocError, Global};
+use system_model::Translation;
+use translate::{Target, TranslateRefusal, translate};
+use vax_form::Size;
+
+/// The opcode of NOP.
+const NOP: u8 = 0x01;
+
+/// The translation of an image.
+pub fn translated(alloc: Global, image: &Image) -> Result<Translation>
+    ensures { IfOk result (Meets (image_meaning image.now.pages)) }
+{
+    match translate(alloc, image, &[], Target::Original) {
+        Ok(translation) => Ok(translation),
+        Err(refusal) => bail!("no translation: {refusal:?}"),
+    }
+}
+
+fn addresses_text(alloc: Global, translation: &Translation) -> Result<String, AllocError> {
+    let map = &translation.map;
+    let mut text = String::new(alloc);
+    for (address, _) in map.pairs() {
+        if !text.is_empty() {
+            text.push_str(" ")?;
+        }
+        write!(text, "{address:X}")?;
+    }
+    if text.is_empty() {
+        text.push_str("none")?;
+    }
+    Ok(text)
+}
+
+/// The mapped addresses of a code, or that there are none.
+pub fn mapped(alloc: Global, question: &str) -> Result<String> {
+    let image = code_alone(alloc, &bytes(alloc, question)?)?;
+    let translation = translated(alloc, &image)?;
+    Ok(addresses_text(alloc, &translation)?)
+}
+
+fn size_text(size: Size) -> &'static str {
+    match size {
+        Size::Byte => "byte",
+        Size::Word => "word",
+        Size::Long => "long",
+        Size::Quad => "quad",
+    }
+}
+
+fn rule_text(alloc: Global, rule: CodeRule) -> Result<String, AllocError> {
+    match rule {
+        CodeRule::Ready => String::from_str(alloc, "ready"),
+        CodeRule::Zero => String::from_str(alloc, "zero"),
+        CodeRule::Result { size } => format!(in alloc; "result-{}", size_text(size)),
+        CodeRule::Add { size } => format!(in alloc; "add-{}", size_text(size)),
+        CodeRule::Sub { size } => format!(in alloc; "sub-{}", size_text(size)),
+        CodeRule::Compare { size } => format!(in alloc; "compare-{}", size_text(size)),
+    }
+}
+
+fn rules_text(alloc: Global, rules: Rules) -> Result<String, AllocError> {
+    let n = rule_text(alloc, rules.n)?;
+    let z = rule_text(alloc, rules.z)?;
+    let v = rule_text(alloc, rules.v)?;
+    let c = rule_text(alloc, rules.c)?;
+    format!(in alloc; "{n} {z} {v} {c}")
+}
+
+/// The rules at an address, whose block begins at a word.
+fn rules_at(alloc: Global, points: &Points, address: u32, word: u32) -> Result<String> {
+    let point = points.find(word).context("a point")?;
+    let rules = rules_text(alloc, point.rules)?;
+    Ok(format!(in alloc; "{address:X} {rules}")?)
+}
+
+fn all_rules(alloc: Global, translation: &Translation) -> Result<String> {
+    let (map, points) = (&translation.map, &translation.points);
+    let mut text = String::new(alloc);
+    for (address, word) in map.pairs() {
+        if !text.is_empty() {
+            text.push_str("; ")?;
+        }
+        let rules = rules_at(alloc, points, *address, *word)?;
+        text.push_str(rules.as_str())?;
+    }
+    Ok(text)
+}
+
+/// The rules of N, Z, V and C at each mapped address of a code.
+pub fn rules(alloc: Global, question: &str) -> Result<String> {
+    let image = code_alone(alloc, &bytes(alloc, question)?)?;
+    let translation = translated(alloc, &image)?;
+    all_rules(alloc, &translation)
+}
+
+/// How many instructions of a section of so many bytes, each a NOP, are mapped, or with which count they are refused.
+pub fn flow(alloc: Global, question: &str) -> Result<String> {
+    let count = longword(question)?;
+    let code = vec![in alloc; NOP; count as usize]?;
+    let image = code_alone(alloc, &code)?;
+    match translate(alloc, &image, &[], Target::Original) {
+        Ok(translation) => {
+            let map = &translation.map;
+            Ok(format!(in alloc; "mapped {}", map.pairs().len())?)
+        }
+        Err(TranslateRefusal::Flow { count }) => Ok(format!(in alloc; "refused {count}")?),
+        Err(TranslateRefusal::WantOfMemory) => bail!("want of memory"),
+    }
+}
