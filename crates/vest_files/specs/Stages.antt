@@ -17,6 +17,7 @@ use Rattle.flow_discovery.specs.Reach.{AreTooMany}
 use Rattle.flow_discovery.specs.Starts.{starts}
 use Rattle.block_law.specs.Translations.{Code, Meets}
 use Rattle.image_meaning.specs.Meant.{image_meaning}
+use Rattle.translate.specs.Compiled.{IsTranslation}
 use Rattle.translate.specs.Mapped.{HasMapped}
 use Rattle.translate.specs.Refusal.{AreFew, numbers_of as flow_numbers}
 use Rattle.translate.specs.declared.refusal.TranslateRefusal.TheVariants.{Flow as TooMuch}
@@ -81,6 +82,8 @@ pub record IsTranslated (image : ImageValue) (hints : List ℕ) (code : Code) : 
   pub few : AreFew image.pages (starts image hints)
   pub meets : Meets (image_meaning image.pages) code
   pub mapped : HasMapped image.pages (starts image hints) code
+  -- the only one that an image has with these hints
+  pub is : IsTranslation image.pages (starts image hints) code
 
 pub record RefusesFlow (image : ImageValue) (hints : List ℕ) (refusal : RefusalValue) : Type 0 where
   pub count : ℕ
