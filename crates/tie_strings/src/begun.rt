@@ -8,8 +8,8 @@ use crate::comparing::{Compared, Comparing, Pair};
 use crate::moving::{Fill, Moved, Moving};
 use crate::scanning::{Scanned, Scanning};
 use vax_form::{Instr, Size, Stop};
-use vax_long::{beginning, beyond, string_checked};
-use vax_meaning::{Cursor, Evaluated, value_at};
+use vax_long::{beginning, beyond, check_string};
+use vax_meaning::{Cursor, Evaluated, value_of_place};
 
 /// Checks both strings of a move.
 #[tactic(auto, unfolding(crate::specs::Begins::check_strings))]
@@ -23,8 +23,8 @@ fn strings_checked(
     ensures plays { Plays (check_strings source count destination room) cursor.old result cursor.new }
     ensures few { Uses 0 cursor.old result cursor.new }
 {
-    string_checked(cursor, source, count, false)?;
-    string_checked(cursor, destination, room, true)
+    check_string(cursor, source, count, false)?;
+    check_string(cursor, destination, room, true)
 }
 
 /// Whether a move goes downward.
@@ -104,9 +104,9 @@ pub(crate) fn move_begun(
 ) -> Result<Moving, Stop>
     ensures { BeginsMove MoveCharacters instr.now values.now cursor.old result cursor.new }
 {
-    let count = value_at(values, 0, Size::Word) as u16;
-    let source = value_at(values, 1, Size::Long) as u32;
-    let destination = value_at(values, 2, Size::Long) as u32;
+    let count = value_of_place(values, 0, Size::Word) as u16;
+    let source = value_of_place(values, 1, Size::Long) as u32;
+    let destination = value_of_place(values, 2, Size::Long) as u32;
     match strings_checked(cursor, source, count, destination, count) {
         Ok(()) => Ok(move_of(count, source, destination, instr.after)),
         Err(stop) => Err(stop),
@@ -121,11 +121,11 @@ pub(crate) fn filled_move_begun(
 ) -> Result<Moving, Stop>
     ensures { BeginsMove MoveCharactersFilled instr.now values.now cursor.old result cursor.new }
 {
-    let length = value_at(values, 0, Size::Word) as u16;
-    let source = value_at(values, 1, Size::Long) as u32;
-    let fill = value_at(values, 2, Size::Byte) as u8;
-    let room = value_at(values, 3, Size::Word) as u16;
-    let destination = value_at(values, 4, Size::Long) as u32;
+    let length = value_of_place(values, 0, Size::Word) as u16;
+    let source = value_of_place(values, 1, Size::Long) as u32;
+    let fill = value_of_place(values, 2, Size::Byte) as u8;
+    let room = value_of_place(values, 3, Size::Word) as u16;
+    let destination = value_of_place(values, 4, Size::Long) as u32;
     match strings_checked(cursor, source, length.min(room), destination, room) {
         Ok(()) => Ok(filled_move_of(length, source, fill, room, destination, instr.after)),
         Err(stop) => Err(stop),
@@ -136,9 +136,9 @@ pub(crate) fn filled_move_begun(
 pub(crate) fn comparison_begun(instr: &Instr, values: &[Evaluated; 6]) -> Comparing
     ensures { result ≡ compare_of instr.now values.now }
 {
-    let count = value_at(values, 0, Size::Word) as u16;
-    let first = value_at(values, 1, Size::Long) as u32;
-    let second = value_at(values, 2, Size::Long) as u32;
+    let count = value_of_place(values, 0, Size::Word) as u16;
+    let first = value_of_place(values, 1, Size::Long) as u32;
+    let second = value_of_place(values, 2, Size::Long) as u32;
     Comparing {
         left: count,
         first,
@@ -158,9 +158,9 @@ pub(crate) fn comparison_begun(instr: &Instr, values: &[Evaluated; 6]) -> Compar
 pub(crate) fn search_begun(instr: &Instr, locates: bool, values: &[Evaluated; 6]) -> Scanning
     ensures { result ≡ scan_of instr.now locates values.now }
 {
-    let character = value_at(values, 0, Size::Byte) as u8;
-    let count = value_at(values, 1, Size::Word) as u16;
-    let address = value_at(values, 2, Size::Long) as u32;
+    let character = value_of_place(values, 0, Size::Byte) as u8;
+    let count = value_of_place(values, 1, Size::Word) as u16;
+    let address = value_of_place(values, 2, Size::Long) as u32;
     Scanning {
         left: count,
         address,

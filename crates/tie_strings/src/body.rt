@@ -4,9 +4,7 @@ ghost use Rattle.tie_operands.specs.Replies.{replies_of};
 
 use tie_operands::{Replies, TieStep};
 use vax_form::{End, Instr, Stop, VaxState};
-use vax_long::{
-    called_general, called_stack, indexed, popped_by_mask, pushed_by_mask, returned_from_procedure,
-};
+use vax_long::{call_general, call_stack, index, pop_by_mask, push_by_mask, return_from_procedure};
 use vax_meaning::{Cursor, Evaluated};
 
 /// What comes behind the operands uses so many replies at most.
@@ -35,12 +33,12 @@ impl Plain {
         ensures few { Uses 36 cursor.old result cursor.new }
     {
         match self {
-            Plain::Index => indexed(cursor, instr, values),
-            Plain::CallGeneral => called_general(cursor, instr, values),
-            Plain::CallStack => called_stack(cursor, instr, values),
-            Plain::Return => returned_from_procedure(cursor),
-            Plain::PushRegisters => pushed_by_mask(cursor, instr, values),
-            Plain::PopRegisters => popped_by_mask(cursor, instr, values),
+            Plain::Index => index(cursor, instr, values),
+            Plain::CallGeneral => call_general(cursor, instr, values),
+            Plain::CallStack => call_stack(cursor, instr, values),
+            Plain::Return => return_from_procedure(cursor),
+            Plain::PushRegisters => push_by_mask(cursor, instr, values),
+            Plain::PopRegisters => pop_by_mask(cursor, instr, values),
         }
     }
 }

@@ -3,7 +3,7 @@ ghost use Rattle.vax_meaning.specs.Play.{Plays, Uses};
 ghost use Rattle.tie_strings.specs.Bytes.{next_byte};
 
 use vax_form::Stop;
-use vax_long::{byte_fetched, byte_read};
+use vax_long::{fetch_byte, read_byte};
 use vax_meaning::Cursor;
 
 /// Reads a byte, which is checked first unless it was.
@@ -13,8 +13,8 @@ pub(crate) fn next_byte(cursor: &mut Cursor, checked: bool, address: u32) -> Res
     ensures few { Uses 1 cursor.old result cursor.new }
 {
     if checked {
-        byte_read(cursor, address)
+        read_byte(cursor, address)
     } else {
-        byte_fetched(cursor, address)
+        fetch_byte(cursor, address)
     }
 }

@@ -4,8 +4,8 @@ ghost use Rattle.vax_meaning.specs.Play.{Plays, Uses};
 
 use crate::byte::next_byte;
 use vax_form::{End, Stop, Width};
-use vax_long::{beside, beyond, bytes_compared};
-use vax_meaning::{Cursor, gone_to, set_codes, set_compared, set_register_of};
+use vax_long::{beside, beyond, compare_bytes};
+use vax_meaning::{Cursor, go_to, set_codes, set_compared, set_register_of};
 
 /// How far the next two bytes are.
 #[derive(Clone, Copy, Debug, PartialEq, Eq)]
@@ -60,7 +60,7 @@ impl Comparing {
     {
         let other = next_byte(cursor, checked, self.second)?;
         if one == other {
-            bytes_compared(
+            compare_bytes(
                 cursor,
                 self.left.saturating_sub(1),
                 beside(false, self.first),
@@ -107,7 +107,7 @@ impl Comparing {
         set_register_of(cursor, 1, beyond(self.compared.first, done));
         set_register_of(cursor, 2, left as u32);
         set_register_of(cursor, 3, beyond(self.compared.second, done));
-        gone_to(cursor, self.compared.after)
+        go_to(cursor, self.compared.after)
     }
 
     /// Notes that the byte that is wanted was checked.

@@ -3,8 +3,8 @@ ghost use Rattle.std.specs.Prelude.{◌≡◌, ◌∷◌, []};
 ghost use Rattle.vax_meaning.specs.Play.{Plays, Uses};
 
 use vax_form::{End, Stop, Width};
-use vax_long::{beside, byte_written, bytes_filled, bytes_moved, set_moved};
-use vax_meaning::{Cursor, gone_to, set_compared};
+use vax_long::{beside, fill_bytes, move_bytes, set_moved, write_byte};
+use vax_meaning::{Cursor, go_to, set_compared};
 
 /// What is filled behind a move: how many bytes are left, where the next is written, and the byte.
 #[derive(Clone, Copy, Debug, PartialEq, Eq)]
@@ -54,10 +54,10 @@ impl Moving {
         ensures few { Uses 131071 cursor.old result cursor.new }
     {
         match self.byte {
-            None => bytes_moved(cursor, self.down, self.left, self.from, self.to),
+            None => move_bytes(cursor, self.down, self.left, self.from, self.to),
             Some(byte) => {
-                byte_written(cursor, self.to, byte)?;
-                bytes_moved(
+                write_byte(cursor, self.to, byte)?;
+                move_bytes(
                     cursor,
                     self.down,
                     self.left.saturating_sub(1),
@@ -75,11 +75,11 @@ impl Moving {
         ensures few { Uses 196607 cursor.old result cursor.new }
     {
         self.bytes_moved_on(cursor)?;
-        bytes_filled(cursor, self.fill.left, self.fill.to, self.fill.byte)?;
+        fill_bytes(cursor, self.fill.left, self.fill.to, self.fill.byte)?;
         let moved = self.moved;
         set_moved(cursor, moved.left, moved.source, moved.destination);
         set_compared(cursor, Width::Word, moved.length as u64, moved.room as u64);
-        gone_to(cursor, moved.after)
+        go_to(cursor, moved.after)
     }
 
     /// Takes the reply to the reference that is wanted.

@@ -4,8 +4,8 @@ ghost use Rattle.vax_meaning.specs.Play.{Plays, Uses};
 
 use crate::byte::next_byte;
 use vax_form::{End, Stop};
-use vax_long::{beside, beyond, bytes_scanned, stops_at};
-use vax_meaning::{Cursor, gone_to, set_codes, set_register_of};
+use vax_long::{beside, beyond, scan_bytes, stops_at};
+use vax_meaning::{Cursor, go_to, set_codes, set_register_of};
 
 /// A string as its search was begun, what stops it, and the PC behind it.
 #[derive(Clone, Copy, Debug, PartialEq, Eq)]
@@ -54,7 +54,7 @@ impl Scanning {
         if stops_at(self.scanned.locates, self.scanned.character, byte) {
             return Ok(self.left);
         }
-        bytes_scanned(
+        scan_bytes(
             cursor,
             self.scanned.locates,
             self.scanned.character,
@@ -74,7 +74,7 @@ impl Scanning {
         set_register_of(cursor, 0, left as u32);
         set_register_of(cursor, 1, beyond(self.scanned.address, done));
         set_codes(cursor, false, left == 0, false, false);
-        gone_to(cursor, self.scanned.after)
+        go_to(cursor, self.scanned.after)
     }
 
     /// Notes that the byte that is wanted was checked.

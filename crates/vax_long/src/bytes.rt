@@ -6,7 +6,7 @@ ghost use Rattle.vax_meaning.specs.Memory.{check, read_part, write_part};
 ghost use Rattle.vax_long.specs.Strings.{beyond, beside, fetch_byte};
 
 use vax_form::{Exception, Pages, RefKind, Reference, Stop};
-use vax_meaning::{Cursor, checked};
+use vax_meaning::{Cursor, check};
 
 /// So many bytes beyond an address.
 pub fn beyond(address: u32, count: u16) -> u32
@@ -41,12 +41,7 @@ pub(crate) fn first_bad(pages: &Pages, address: u32, count: u16, write: bool) ->
 }
 
 /// Checks a string.
-pub fn string_checked(
-    cursor: &mut Cursor,
-    address: u32,
-    count: u16,
-    write: bool,
-) -> Result<(), Stop>
+pub fn check_string(cursor: &mut Cursor, address: u32, count: u16, write: bool) -> Result<(), Stop>
     ensures plays { Plays (check address count write) cursor.old result cursor.new }
     ensures few { Uses 0 cursor.old result cursor.new }
 {
@@ -57,7 +52,7 @@ pub fn string_checked(
 }
 
 /// Reads a byte.
-pub fn byte_read(cursor: &mut Cursor, address: u32) -> Result<u8, Stop>
+pub fn read_byte(cursor: &mut Cursor, address: u32) -> Result<u8, Stop>
     ensures plays { Plays (read_part address 1) cursor.old result cursor.new }
     ensures few { Uses 1 cursor.old result cursor.new }
 {
@@ -70,7 +65,7 @@ pub fn byte_read(cursor: &mut Cursor, address: u32) -> Result<u8, Stop>
 }
 
 /// Writes a byte.
-pub fn byte_written(cursor: &mut Cursor, address: u32, byte: u8) -> Result<(), Stop>
+pub fn write_byte(cursor: &mut Cursor, address: u32, byte: u8) -> Result<(), Stop>
     ensures plays { Plays (write_part address 1 byte) cursor.old result cursor.new }
     ensures few { Uses 1 cursor.old result cursor.new }
 {
@@ -84,10 +79,10 @@ pub fn byte_written(cursor: &mut Cursor, address: u32, byte: u8) -> Result<(), S
 
 /// Checks a byte, and reads it.
 #[tactic(auto, unfolding(crate::specs::Strings::fetch_byte))]
-pub fn byte_fetched(cursor: &mut Cursor, address: u32) -> Result<u8, Stop>
+pub fn fetch_byte(cursor: &mut Cursor, address: u32) -> Result<u8, Stop>
     ensures plays { Plays (fetch_byte address) cursor.old result cursor.new }
     ensures few { Uses 1 cursor.old result cursor.new }
 {
-    checked(cursor, address, 1, false)?;
-    byte_read(cursor, address)
+    check(cursor, address, 1, false)?;
+    read_byte(cursor, address)
 }

@@ -5,13 +5,13 @@ ghost use Rattle.vax_meaning.specs.Play.{Plays, Uses, view};
 ghost use Rattle.vax_long.specs.Calls.{aligned, entry_mask, check_frame, frame_status, push_frame, entry_psw, enter, call_general, call_stack, with_released, release_arguments, leave, return_from_procedure};
 
 use crate::registers::{
-    is_in_mask, longword_popped, longword_pushed, push_allowed, register_popped, registers_allowed,
-    registers_popped, registers_pushed,
+    check_push, check_registers, is_in_mask, pop, pop_register, pop_registers, push_checked,
+    push_registers,
 };
 use vax_form::{End, Exception, Instr, Size, Stop};
 use vax_meaning::{
-    Cursor, Evaluated, code_word_read, fetched, gone_to, low, register_of, set_register_of,
-    value_at,
+    Cursor, Evaluated, code_word, fetch, go_to, low_bytes, register_of, set_register_of,
+    value_of_place,
 };
 
 /// The longword in which an address lies.
@@ -23,11 +23,11 @@ pub fn aligned(address: u32) -> u32
 
 /// The entry mask at a procedure's address; its bits 13:12 are 0.
 #[tactic(auto, unfolding(crate::specs::Calls::entry_mask))]
-pub fn entry_mask_read(cursor: &mut Cursor, destination: u32) -> Result<u32, Stop>
+pub fn entry_mask(cursor: &mut Cursor, destination: u32) -> Result<u32, Stop>
     ensures plays { Plays (entry_mask destination) cursor.old result cursor.new }
     ensures few { Uses 0 cursor.old result cursor.new }
 {
-    let mask = code_word_read(cursor, destination)?;
+    let mask = code_word(cursor, destination)?;
     if mask / 4096 % 4 == 0 {
         Ok(mask)
     } else {
@@ -37,16 +37,16 @@ pub fn entry_mask_read(cursor: &mut Cursor, destination: u32) -> Result<u32, Sto
 
 /// Checks the pushes of a call frame.
 #[tactic(auto, unfolding(crate::specs::Calls::check_frame))]
-pub fn frame_allowed(cursor: &mut Cursor, mask: u32, top: u32) -> Result<(), Stop>
+pub fn check_frame(cursor: &mut Cursor, mask: u32, top: u32) -> Result<(), Stop>
     ensures plays { Plays (check_frame mask top) cursor.old result cursor.new }
     ensures few { Uses 0 cursor.old result cursor.new }
 {
-    let saved = registers_allowed(cursor, 12, mask, top)?;
-    let pc = push_allowed(cursor, saved)?;
-    let fp = push_allowed(cursor, pc)?;
-    let ap = push_allowed(cursor, fp)?;
-    let status = push_allowed(cursor, ap)?;
-    push_allowed(cursor, status)?;
+    let saved = check_registers(cursor, 12, mask, top)?;
+    let pc = check_push(cursor, saved)?;
+    let fp = check_push(cursor, pc)?;
+    let ap = check_push(cursor, fp)?;
+    let status = check_push(cursor, ap)?;
+    check_push(cursor, status)?;
     Ok(())
 }
 
@@ -60,19 +60,19 @@ pub fn frame_status(low: u32, stack: bool, mask: u32, psw: u16) -> u32
 
 /// Aligns SP, and pushes a call frame.
 #[tactic(auto, unfolding(crate::specs::Calls::push_frame))]
-fn frame_pushed(cursor: &mut Cursor, pc: u32, stack: bool, mask: u32) -> Result<(), Stop>
+fn push_frame(cursor: &mut Cursor, pc: u32, stack: bool, mask: u32) -> Result<(), Stop>
     ensures plays { Plays (push_frame pc stack mask) cursor.old result cursor.new }
     ensures few { Uses 34 cursor.old result cursor.new }
 {
     let state = cursor.state;
     let top = state.register(14);
     set_register_of(cursor, 14, aligned(top));
-    registers_pushed(cursor, 12, mask, &state)?;
-    longword_pushed(cursor, pc)?;
-    longword_pushed(cursor, state.register(13))?;
-    longword_pushed(cursor, state.register(12))?;
-    longword_pushed(cursor, frame_status(top % 4, stack, mask, state.psw))?;
-    longword_pushed(cursor, 0)
+    push_registers(cursor, 12, mask, &state)?;
+    push_checked(cursor, pc)?;
+    push_checked(cursor, state.register(13))?;
+    push_checked(cursor, state.register(12))?;
+    push_checked(cursor, frame_status(top % 4, stack, mask, state.psw))?;
+    push_checked(cursor, 0)
 }
 
 /// The PSW in a procedure.
@@ -86,7 +86,7 @@ pub fn entry_psw(mask: u32, psw: u16) -> u16
 
 /// Enters a procedure behind its mask.
 #[tactic(auto, unfolding(crate::specs::Calls::enter))]
-pub fn entered(cursor: &mut Cursor, destination: u32, mask: u32, list: u32) -> Result<End, Stop>
+pub fn enter(cursor: &mut Cursor, destination: u32, mask: u32, list: u32) -> Result<End, Stop>
     ensures plays { Plays (enter destination mask list) cursor.old result cursor.new }
     ensures few { Uses 0 cursor.old result cursor.new }
 {
@@ -94,12 +94,12 @@ pub fn entered(cursor: &mut Cursor, destination: u32, mask: u32, list: u32) -> R
     set_register_of(cursor, 13, frame);
     set_register_of(cursor, 12, list);
     cursor.state.psw = entry_psw(mask, cursor.state.psw);
-    gone_to(cursor, destination.wrapping_add(2))
+    go_to(cursor, destination.wrapping_add(2))
 }
 
 /// CALLG.
 #[tactic(auto, unfolding(crate::specs::Calls::call_general))]
-pub fn called_general(
+pub fn call_general(
     cursor: &mut Cursor,
     instr: &Instr,
     values: &[Evaluated; 6],
@@ -107,33 +107,29 @@ pub fn called_general(
     ensures plays { Plays (call_general instr.now values.now) cursor.old result cursor.new }
     ensures few { Uses 34 cursor.old result cursor.new }
 {
-    let destination = value_at(values, 1, Size::Long) as u32;
-    let mask = entry_mask_read(cursor, destination)?;
+    let destination = value_of_place(values, 1, Size::Long) as u32;
+    let mask = entry_mask(cursor, destination)?;
     let top = register_of(cursor, 14);
-    frame_allowed(cursor, mask, aligned(top))?;
-    frame_pushed(cursor, instr.after, false, mask)?;
-    let list = value_at(values, 0, Size::Long) as u32;
-    entered(cursor, destination, mask, list)
+    check_frame(cursor, mask, aligned(top))?;
+    push_frame(cursor, instr.after, false, mask)?;
+    let list = value_of_place(values, 0, Size::Long) as u32;
+    enter(cursor, destination, mask, list)
 }
 
 /// CALLS.
 #[tactic(auto, unfolding(crate::specs::Calls::call_stack))]
-pub fn called_stack(
-    cursor: &mut Cursor,
-    instr: &Instr,
-    values: &[Evaluated; 6],
-) -> Result<End, Stop>
+pub fn call_stack(cursor: &mut Cursor, instr: &Instr, values: &[Evaluated; 6]) -> Result<End, Stop>
     ensures plays { Plays (call_stack instr.now values.now) cursor.old result cursor.new }
     ensures few { Uses 36 cursor.old result cursor.new }
 {
-    let destination = value_at(values, 1, Size::Long) as u32;
-    let mask = entry_mask_read(cursor, destination)?;
+    let destination = value_of_place(values, 1, Size::Long) as u32;
+    let mask = entry_mask(cursor, destination)?;
     let top = register_of(cursor, 14);
-    let list = push_allowed(cursor, top)?;
-    frame_allowed(cursor, mask, aligned(list))?;
-    longword_pushed(cursor, value_at(values, 0, Size::Long) as u32)?;
-    frame_pushed(cursor, instr.after, true, mask)?;
-    entered(cursor, destination, mask, list)
+    let list = check_push(cursor, top)?;
+    check_frame(cursor, mask, aligned(list))?;
+    push_checked(cursor, value_of_place(values, 0, Size::Long) as u32)?;
+    push_frame(cursor, instr.after, true, mask)?;
+    enter(cursor, destination, mask, list)
 }
 
 /// Raises SP.
@@ -146,12 +142,12 @@ pub fn release(cursor: &mut Cursor, bytes: u32)
 
 /// Takes the argument list of CALLS off the stack.
 #[tactic(auto, unfolding(crate::specs::Calls::release_arguments))]
-fn arguments_released(cursor: &mut Cursor, stack: bool) -> Result<(), Stop>
+fn release_arguments(cursor: &mut Cursor, stack: bool) -> Result<(), Stop>
     ensures plays { Plays (release_arguments stack) cursor.old result cursor.new }
     ensures few { Uses 2 cursor.old result cursor.new }
 {
     if stack {
-        let count = longword_popped(cursor)?;
+        let count = pop(cursor)?;
         release(cursor, count % 256 * 4);
     }
     Ok(())
@@ -159,32 +155,32 @@ fn arguments_released(cursor: &mut Cursor, stack: bool) -> Result<(), Stop>
 
 /// Leaves a frame by its status.
 #[tactic(auto, unfolding(crate::specs::Calls::leave))]
-fn frame_left(cursor: &mut Cursor, frame: u32, status: u32) -> Result<End, Stop>
+fn leave(cursor: &mut Cursor, frame: u32, status: u32) -> Result<End, Stop>
     ensures plays { Plays (leave frame status) cursor.old result cursor.new }
     ensures few { Uses 32 cursor.old result cursor.new }
 {
     set_register_of(cursor, 14, frame.wrapping_add(8));
-    register_popped(cursor, 12)?;
-    register_popped(cursor, 13)?;
-    let pc = longword_popped(cursor)?;
-    registers_popped(cursor, 12, status / 0x1_0000)?;
+    pop_register(cursor, 12)?;
+    pop_register(cursor, 13)?;
+    let pc = pop(cursor)?;
+    pop_registers(cursor, 12, status / 0x1_0000)?;
     release(cursor, status / 0x4000_0000);
-    arguments_released(cursor, is_in_mask(29, status))?;
+    release_arguments(cursor, is_in_mask(29, status))?;
     cursor.state.psw = (status % 0x1_0000) as u16;
-    gone_to(cursor, pc)
+    go_to(cursor, pc)
 }
 
 /// RET.
 #[tactic(auto, unfolding(crate::specs::Calls::return_from_procedure))]
-pub fn returned_from_procedure(cursor: &mut Cursor) -> Result<End, Stop>
+pub fn return_from_procedure(cursor: &mut Cursor) -> Result<End, Stop>
     ensures plays { Plays return_from_procedure cursor.old result cursor.new }
     ensures few { Uses 34 cursor.old result cursor.new }
 {
     let frame = register_of(cursor, 13);
-    let longword = fetched(cursor, frame.wrapping_add(4), 4)?;
-    let status = low(4, longword) as u32;
+    let longword = fetch(cursor, frame.wrapping_add(4), 4)?;
+    let status = low_bytes(4, longword) as u32;
     if status / 256 % 256 == 0 {
-        frame_left(cursor, frame, status)
+        leave(cursor, frame, status)
     } else {
         Err(Stop::Fails(Exception::ReservedOperand))
     }

@@ -3,13 +3,13 @@ ghost use Rattle.std.specs.Prelude.{◌≡◌};
 ghost use Rattle.vax_meaning.specs.Play.{Plays, Uses};
 ghost use Rattle.vax_long.specs.Instructions.{long_body, long_script, long_operation, long_at};
 
-use crate::calls::{called_general, called_stack, returned_from_procedure};
-use crate::index::indexed;
-use crate::moving::{characters_moved, characters_moved_filled};
-use crate::registers::{popped_by_mask, pushed_by_mask};
-use crate::searching::{characters_compared, characters_scanned};
+use crate::calls::{call_general, call_stack, return_from_procedure};
+use crate::indexing::index;
+use crate::moving::{move_characters, move_characters_filled};
+use crate::registers::{pop_by_mask, push_by_mask};
+use crate::searching::{compare_characters, scan_characters};
 use vax_form::{End, Instr, LongOperation, Operation, Stop, operation_of};
-use vax_meaning::{Cursor, Evaluated, operands_evaluated};
+use vax_meaning::{Cursor, Evaluated, operands_from};
 
 /// The long operation of an opcode; None where it has none.
 #[tactic(auto, unfolding(crate::specs::Instructions::long_operation))]
@@ -24,7 +24,7 @@ pub fn long_operation_of(opcode: u8) -> Option<LongOperation>
 
 /// Does what a long operation does once its operands are evaluated.
 #[tactic(auto, unfolding(crate::specs::Instructions::long_body))]
-pub fn long_body_run(
+pub fn long_body(
     cursor: &mut Cursor,
     operation: LongOperation,
     instr: &Instr,
@@ -34,17 +34,17 @@ pub fn long_body_run(
     ensures few { Uses 131070 cursor.old result cursor.new }
 {
     match operation {
-        LongOperation::Index => indexed(cursor, instr, values),
-        LongOperation::CallGeneral => called_general(cursor, instr, values),
-        LongOperation::CallStack => called_stack(cursor, instr, values),
-        LongOperation::Return => returned_from_procedure(cursor),
-        LongOperation::PushRegisters => pushed_by_mask(cursor, instr, values),
-        LongOperation::PopRegisters => popped_by_mask(cursor, instr, values),
-        LongOperation::MoveCharacters => characters_moved(cursor, instr, values),
-        LongOperation::MoveCharactersFilled => characters_moved_filled(cursor, instr, values),
-        LongOperation::CompareCharacters => characters_compared(cursor, instr, values),
-        LongOperation::LocateCharacter => characters_scanned(cursor, instr, true, values),
-        LongOperation::SkipCharacter => characters_scanned(cursor, instr, false, values),
+        LongOperation::Index => index(cursor, instr, values),
+        LongOperation::CallGeneral => call_general(cursor, instr, values),
+        LongOperation::CallStack => call_stack(cursor, instr, values),
+        LongOperation::Return => return_from_procedure(cursor),
+        LongOperation::PushRegisters => push_by_mask(cursor, instr, values),
+        LongOperation::PopRegisters => pop_by_mask(cursor, instr, values),
+        LongOperation::MoveCharacters => move_characters(cursor, instr, values),
+        LongOperation::MoveCharactersFilled => move_characters_filled(cursor, instr, values),
+        LongOperation::CompareCharacters => compare_characters(cursor, instr, values),
+        LongOperation::LocateCharacter => scan_characters(cursor, instr, true, values),
+        LongOperation::SkipCharacter => scan_characters(cursor, instr, false, values),
     }
 }
 
@@ -59,6 +59,6 @@ pub fn long_operation_run(
     ensures few { Uses 131094 cursor.old result cursor.new }
 {
     let row = Operation::Long(operation).row();
-    let values = operands_evaluated(cursor, &row, instr)?;
-    long_body_run(cursor, operation, instr, &values)
+    let values = operands_from(cursor, &row, instr)?;
+    long_body(cursor, operation, instr, &values)
 }

@@ -5,7 +5,7 @@
 
 mod bytes;
 mod calls;
-mod index;
+mod indexing;
 mod instructions;
 mod meaning;
 mod moving;
@@ -14,23 +14,21 @@ mod registers;
 mod searching;
 mod standing;
 
-pub use bytes::{beside, beyond, byte_fetched, byte_read, byte_written, string_checked};
+pub use bytes::{beside, beyond, check_string, fetch_byte, read_byte, write_byte};
 pub use calls::{
-    aligned, called_general, called_stack, entered, entry_mask_read, entry_psw, frame_allowed,
-    frame_status, release, returned_from_procedure,
+    aligned, call_general, call_stack, check_frame, enter, entry_mask, entry_psw, frame_status,
+    release, return_from_procedure,
 };
-pub use index::indexed;
-pub use instructions::{long_body_run, long_operation_of, long_operation_run};
+pub use indexing::index;
+pub use instructions::{long_body, long_operation_of, long_operation_run};
 pub use meaning::next_long;
 pub use moving::{
-    beginning, bytes_filled, bytes_moved, characters_moved, characters_moved_filled, set_moved,
+    beginning, fill_bytes, move_bytes, move_characters, move_characters_filled, set_moved,
 };
-pub use pending::{exception_pushed, frame_is_allowed, next_pending, resumed, settle};
+pub use pending::{frame_is_allowed, next_pending, push_exception, resume, settle};
 pub use registers::{
-    is_in_mask, longword_popped, longword_pushed, longword_taken, popped_by_mask, push_allowed,
-    pushed_by_mask, register_popped, registers_allowed,
+    check_push, check_registers, is_in_mask, pop, pop_by_mask, pop_checked, pop_register,
+    push_by_mask, push_checked,
 };
-pub use searching::{
-    bytes_compared, bytes_scanned, characters_compared, characters_scanned, stops_at,
-};
+pub use searching::{compare_bytes, compare_characters, scan_bytes, scan_characters, stops_at};
 pub use standing::laws_of_tree_at;

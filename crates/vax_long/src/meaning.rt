@@ -24,11 +24,11 @@ fn played(state: &VaxState, instr: &Instr, pages: &Pages, replies: &[u64]) -> Ou
         replies,
     };
     let run = long_operation_run(&mut cursor, operation, instr);
-    seen(state, &cursor.state, run)
+    seen_of(state, &cursor.state, run)
 }
 
 /// What is seen of a script that was run from one state to another.
-pub(crate) fn seen(before: &VaxState, after: &VaxState, run: Result<End, Stop>) -> Outcome
+pub(crate) fn seen_of(before: &VaxState, after: &VaxState, run: Result<End, Stop>) -> Outcome
     ensures { result ≡ seen_of before.now after.now run }
 {
     match run {

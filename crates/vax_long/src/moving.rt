@@ -4,9 +4,11 @@ ghost use Rattle.vax_form.specs.Script.{changed};
 ghost use Rattle.vax_meaning.specs.Play.{Plays, Uses, view};
 ghost use Rattle.vax_long.specs.Strings.{beginning, move_bytes, move_string, fill_bytes, with_moved, move_characters, move_characters_filled};
 
-use crate::bytes::{beside, beyond, byte_read, byte_written, string_checked};
+use crate::bytes::{beside, beyond, check_string, read_byte, write_byte};
 use vax_form::{End, Instr, Size, Stop, Width};
-use vax_meaning::{Cursor, Evaluated, gone_to, set_codes, set_compared, set_register_of, value_at};
+use vax_meaning::{
+    Cursor, Evaluated, go_to, set_codes, set_compared, set_register_of, value_of_place,
+};
 
 /// The byte at which a string is begun: its first, or its last.
 pub fn beginning(down: bool, address: u32, count: u16) -> u32
@@ -21,7 +23,7 @@ pub fn beginning(down: bool, address: u32, count: u16) -> u32
 
 /// Moves bytes upward or downward.
 #[tactic(auto, unfolding(crate::specs::Strings::move_bytes))]
-pub fn bytes_moved(
+pub fn move_bytes(
     cursor: &mut Cursor,
     down: bool,
     count: u16,
@@ -34,8 +36,8 @@ pub fn bytes_moved(
     let mut source = from;
     let mut target = to;
     for _ in 0..count {
-        let byte = byte_read(cursor, source)?;
-        byte_written(cursor, target, byte)?;
+        let byte = read_byte(cursor, source)?;
+        write_byte(cursor, target, byte)?;
         source = beside(down, source);
         target = beside(down, target);
     }
@@ -44,7 +46,7 @@ pub fn bytes_moved(
 
 /// Moves a string.
 #[tactic(auto, unfolding(crate::specs::Strings::move_string))]
-pub fn string_moved(
+pub fn move_string(
     cursor: &mut Cursor,
     count: u16,
     source: u32,
@@ -56,18 +58,18 @@ pub fn string_moved(
     let down = destination > source;
     let from = beginning(down, source, count);
     let to = beginning(down, destination, count);
-    bytes_moved(cursor, down, count, from, to)
+    move_bytes(cursor, down, count, from, to)
 }
 
 /// Writes a byte so many times, upward.
 #[tactic(auto, unfolding(crate::specs::Strings::fill_bytes))]
-pub fn bytes_filled(cursor: &mut Cursor, count: u16, to: u32, byte: u8) -> Result<(), Stop>
+pub fn fill_bytes(cursor: &mut Cursor, count: u16, to: u32, byte: u8) -> Result<(), Stop>
     ensures plays { Plays (fill_bytes count to byte) cursor.old result cursor.new }
     ensures few { Uses count cursor.old result cursor.new }
 {
     let mut target = to;
     for _ in 0..count {
-        byte_written(cursor, target, byte)?;
+        write_byte(cursor, target, byte)?;
         target = beside(false, target);
     }
     Ok(())
@@ -88,7 +90,7 @@ pub fn set_moved(cursor: &mut Cursor, left: u16, source: u32, destination: u32)
 
 /// MOVC3.
 #[tactic(auto, unfolding(crate::specs::Strings::move_characters))]
-pub fn characters_moved(
+pub fn move_characters(
     cursor: &mut Cursor,
     instr: &Instr,
     values: &[Evaluated; 6],
@@ -96,20 +98,20 @@ pub fn characters_moved(
     ensures plays { Plays (move_characters instr.now values.now) cursor.old result cursor.new }
     ensures few { Uses 131070 cursor.old result cursor.new }
 {
-    let count = value_at(values, 0, Size::Word) as u16;
-    let source = value_at(values, 1, Size::Long) as u32;
-    let destination = value_at(values, 2, Size::Long) as u32;
-    string_checked(cursor, source, count, false)?;
-    string_checked(cursor, destination, count, true)?;
-    string_moved(cursor, count, source, destination)?;
+    let count = value_of_place(values, 0, Size::Word) as u16;
+    let source = value_of_place(values, 1, Size::Long) as u32;
+    let destination = value_of_place(values, 2, Size::Long) as u32;
+    check_string(cursor, source, count, false)?;
+    check_string(cursor, destination, count, true)?;
+    move_string(cursor, count, source, destination)?;
     set_moved(cursor, 0, beyond(source, count), beyond(destination, count));
     set_codes(cursor, false, true, false, false);
-    gone_to(cursor, instr.after)
+    go_to(cursor, instr.after)
 }
 
 /// MOVC5.
 #[tactic(auto, unfolding(crate::specs::Strings::move_characters_filled))]
-pub fn characters_moved_filled(
+pub fn move_characters_filled(
     cursor: &mut Cursor,
     instr: &Instr,
     values: &[Evaluated; 6],
@@ -117,16 +119,16 @@ pub fn characters_moved_filled(
     ensures plays { Plays (move_characters_filled instr.now values.now) cursor.old result cursor.new }
     ensures few { Uses 131070 cursor.old result cursor.new }
 {
-    let length = value_at(values, 0, Size::Word) as u16;
-    let source = value_at(values, 1, Size::Long) as u32;
-    let fill = value_at(values, 2, Size::Byte) as u8;
-    let room = value_at(values, 3, Size::Word) as u16;
-    let destination = value_at(values, 4, Size::Long) as u32;
+    let length = value_of_place(values, 0, Size::Word) as u16;
+    let source = value_of_place(values, 1, Size::Long) as u32;
+    let fill = value_of_place(values, 2, Size::Byte) as u8;
+    let room = value_of_place(values, 3, Size::Word) as u16;
+    let destination = value_of_place(values, 4, Size::Long) as u32;
     let count = length.min(room);
-    string_checked(cursor, source, count, false)?;
-    string_checked(cursor, destination, room, true)?;
-    string_moved(cursor, count, source, destination)?;
-    bytes_filled(cursor, room - count, beyond(destination, count), fill)?;
+    check_string(cursor, source, count, false)?;
+    check_string(cursor, destination, room, true)?;
+    move_string(cursor, count, source, destination)?;
+    fill_bytes(cursor, room - count, beyond(destination, count), fill)?;
     set_moved(
         cursor,
         length - count,
@@ -134,5 +136,5 @@ pub fn characters_moved_filled(
         beyond(destination, room),
     );
     set_compared(cursor, Width::Word, length as u64, room as u64);
-    gone_to(cursor, instr.after)
+    go_to(cursor, instr.after)
 }

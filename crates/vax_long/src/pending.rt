@@ -6,11 +6,11 @@ ghost use Rattle.vax_form.specs.Tree.{answer, instruction_tree, outcome};
 ghost use Rattle.vax_meaning.specs.Play.{Plays, Uses, Within};
 ghost use Rattle.vax_long.specs.Pending.{frame_address, frame_bytes, go_on, push_exception, delivery, is_user_psl, resume, moment_at};
 
-use crate::bytes::{first_bad, string_checked};
-use crate::meaning::seen;
-use crate::registers::{longword_pushed, longword_taken};
+use crate::bytes::{check_string, first_bad};
+use crate::meaning::seen_of;
+use crate::registers::{pop_checked, push_checked};
 use vax_form::{End, Exception, Outcome, Pages, Pending, Stop, USER_MODE, VaxState};
-use vax_meaning::{Cursor, gone_to, register_of};
+use vax_meaning::{Cursor, go_to, register_of};
 
 /// The frame of an exception: five longwords.
 const FRAME_BYTES: u16 = 20;
@@ -25,28 +25,28 @@ pub fn frame_is_allowed(state: &VaxState, pages: &Pages) -> bool
 
 /// Goes on at an address with that PSW, and nothing pending.
 #[tactic(auto, unfolding(crate::specs::Pending::go_on))]
-fn gone_on(cursor: &mut Cursor, pc: u32, psw: u16) -> Result<End, Stop>
+fn go_on(cursor: &mut Cursor, pc: u32, psw: u16) -> Result<End, Stop>
     ensures plays { Plays (go_on pc psw) cursor.old result cursor.new }
     ensures few { Uses 0 cursor.old result cursor.new }
 {
     cursor.state.psw = psw;
     cursor.state.pending = Pending::Nothing;
-    gone_to(cursor, pc)
+    go_to(cursor, pc)
 }
 
 /// Pushes the frame of an exception, whose place was checked, and goes on at the handler.
 #[tactic(auto, unfolding(crate::specs::Pending::push_exception))]
-pub fn exception_pushed(cursor: &mut Cursor, exception: Exception) -> Result<End, Stop>
+pub fn push_exception(cursor: &mut Cursor, exception: Exception) -> Result<End, Stop>
     ensures plays { Plays (push_exception exception) cursor.old result cursor.new }
     ensures few { Uses 10 cursor.old result cursor.new }
 {
     let state = cursor.state;
-    longword_pushed(cursor, state.psl())?;
-    longword_pushed(cursor, state.pc)?;
-    longword_pushed(cursor, exception.intent())?;
-    longword_pushed(cursor, exception.parameter())?;
-    longword_pushed(cursor, exception.vector() as u32)?;
-    gone_on(cursor, state.handler, 0)
+    push_checked(cursor, state.psl())?;
+    push_checked(cursor, state.pc)?;
+    push_checked(cursor, exception.intent())?;
+    push_checked(cursor, exception.parameter())?;
+    push_checked(cursor, exception.vector() as u32)?;
+    go_on(cursor, state.handler, 0)
 }
 
 /// User mode, and a low word whose high byte is 0.
@@ -58,19 +58,19 @@ fn is_user_psl(psl: u32) -> bool
 
 /// Goes on as the frame at SP says.
 #[tactic(auto, unfolding(crate::specs::Pending::resume))]
-pub fn resumed(cursor: &mut Cursor) -> Result<End, Stop>
+pub fn resume(cursor: &mut Cursor) -> Result<End, Stop>
     ensures plays { Plays resume cursor.old result cursor.new }
     ensures few { Uses 10 cursor.old result cursor.new }
 {
     let frame = register_of(cursor, 14);
-    string_checked(cursor, frame, FRAME_BYTES, false)?;
-    longword_taken(cursor)?;
-    longword_taken(cursor)?;
-    longword_taken(cursor)?;
-    let pc = longword_taken(cursor)?;
-    let psl = longword_taken(cursor)?;
+    check_string(cursor, frame, FRAME_BYTES, false)?;
+    pop_checked(cursor)?;
+    pop_checked(cursor)?;
+    pop_checked(cursor)?;
+    let pc = pop_checked(cursor)?;
+    let psl = pop_checked(cursor)?;
     if is_user_psl(psl) {
-        gone_on(cursor, pc, (psl % 256) as u16)
+        go_on(cursor, pc, (psl % 256) as u16)
     } else {
         Err(Stop::Fails(Exception::ReservedOperand))
     }
@@ -89,8 +89,8 @@ fn delivered(state: &VaxState, pages: &Pages, exception: Exception, replies: &[u
         pages,
         replies,
     };
-    let end = exception_pushed(&mut cursor, exception);
-    seen(state, &cursor.state, end)
+    let end = push_exception(&mut cursor, exception);
+    seen_of(state, &cursor.state, end)
 }
 
 /// Resumes, whoever takes its exceptions.
@@ -103,8 +103,8 @@ fn resumption(state: &VaxState, pages: &Pages, replies: &[u64]) -> Outcome
         pages,
         replies,
     };
-    let end = resumed(&mut cursor);
-    seen(state, &cursor.state, end)
+    let end = resume(&mut cursor);
+    seen_of(state, &cursor.state, end)
 }
 
 /// What a thread comes to at a state where something is pending, with the replies to its references so far: a delivery

@@ -4,21 +4,21 @@ ghost use Rattle.vt_words.specs.Values.{IsSize, modulus};
 ghost use Rattle.vax_meaning.specs.Play.{Plays, Uses};
 ghost use Rattle.vax_meaning.specs.Arithmetic.{replace, give_coded, binary_of, divides_by_zero, finish_binary, two_operands, three_operands, increment, decrement, move_negated, convert, add_with_carry, subtract_with_carry, add_aligned, leave_aligned, add_aligned_word, extended_multiply, shift_of, arithmetic_shift, rotate};
 
-use crate::codes::{carry, finished, gone_to, set_all, set_codes, set_pc, sign};
+use crate::codes::{carry_of, finish, go_to, set_all, set_codes, set_pc, sign_of};
 use crate::cursor::Cursor;
-use crate::evaluation::{Evaluated, location_at, value_at};
-use crate::memory::{checked, locked, low};
-use crate::moves::given;
-use crate::operands::{Location, put_back, register_of, stored};
+use crate::evaluation::{Evaluated, location_of_place, value_of_place};
+use crate::memory::{check, lock, low_bytes};
+use crate::moves::give;
+use crate::operands::{Location, put, register_of, store};
 use vax_form::{BinaryOperation, End, Exception, Instr, RefKind, Size, Stop, Width};
 use vt_words::{
-    Coded, add, and_not, convert, divide, extended_product, mul, negate, or, rotate, shift_left,
-    shift_right, sub, with_signs, xor,
+    Coded, add, and_not, divide, extended_product, mul, negate, or, shift_left, shift_right, sub,
+    with_signs, xor,
 };
 
 /// Puts a result back where the operand of that place was read, and sets its codes.
 #[tactic(auto, unfolding(crate::specs::Arithmetic::replace))]
-pub fn replaced(
+pub fn replace(
     cursor: &mut Cursor,
     instr: &Instr,
     place: usize,
@@ -30,14 +30,14 @@ pub fn replaced(
     ensures plays { Plays (replace instr.now place size answer values.now) cursor.old result cursor.new }
     ensures few { Uses 2 cursor.old result cursor.new }
 {
-    put_back(cursor, location_at(values, place), size, answer.value)?;
+    put(cursor, location_of_place(values, place), size, answer.value)?;
     set_all(cursor, answer);
-    finished(cursor, instr.after)
+    finish(cursor, instr.after)
 }
 
 /// Writes a result to the operand of that place, and sets its codes.
 #[tactic(auto, unfolding(crate::specs::Arithmetic::give_coded))]
-pub fn coded_given(
+pub fn give_coded(
     cursor: &mut Cursor,
     instr: &Instr,
     place: usize,
@@ -49,14 +49,14 @@ pub fn coded_given(
     ensures plays { Plays (give_coded instr.now place size answer values.now) cursor.old result cursor.new }
     ensures few { Uses 2 cursor.old result cursor.new }
 {
-    stored(cursor, location_at(values, place), size, answer.value)?;
+    store(cursor, location_of_place(values, place), size, answer.value)?;
     set_all(cursor, answer);
-    finished(cursor, instr.after)
+    finish(cursor, instr.after)
 }
 
 /// What the operation makes of the second operand by the first.
 #[tactic(auto, unfolding(crate::specs::Arithmetic::binary_of))]
-fn binary(operation: BinaryOperation, bytes: u32, first: u64, second: u64, carry: bool) -> Coded
+fn binary_of(operation: BinaryOperation, bytes: u32, first: u64, second: u64, carry: bool) -> Coded
     requires size { IsSize bytes }
     requires first_fits { first < modulus bytes }
     requires second_fits { second < modulus bytes }
@@ -75,7 +75,7 @@ fn binary(operation: BinaryOperation, bytes: u32, first: u64, second: u64, carry
 
 /// Goes on behind the instruction, or traps where it divided by zero or overflowed.
 #[tactic(auto, unfolding(crate::specs::Arithmetic::finish_binary))]
-fn binary_finished(
+fn finish_binary(
     cursor: &mut Cursor,
     operation: BinaryOperation,
     first: u64,
@@ -88,13 +88,13 @@ fn binary_finished(
         set_pc(cursor, pc);
         Ok(End::Traps(2))
     } else {
-        finished(cursor, pc)
+        finish(cursor, pc)
     }
 }
 
 /// ADD2, SUB2, MUL2, DIV2, BIS2, BIC2 and XOR2.
 #[tactic(auto, unfolding(crate::specs::Arithmetic::two_operands))]
-pub fn two_combined(
+pub fn two_operands(
     cursor: &mut Cursor,
     instr: &Instr,
     operation: BinaryOperation,
@@ -105,17 +105,17 @@ pub fn two_combined(
     ensures few { Uses 2 cursor.old result cursor.new }
 {
     let size = width.size();
-    let first = value_at(values, 0, size);
-    let second = value_at(values, 1, size);
-    let answer = binary(operation, width.bytes(), first, second, carry(cursor));
-    put_back(cursor, location_at(values, 1), size, answer.value)?;
+    let first = value_of_place(values, 0, size);
+    let second = value_of_place(values, 1, size);
+    let answer = binary_of(operation, width.bytes(), first, second, carry_of(cursor));
+    put(cursor, location_of_place(values, 1), size, answer.value)?;
     set_all(cursor, answer);
-    binary_finished(cursor, operation, first, instr.after)
+    finish_binary(cursor, operation, first, instr.after)
 }
 
 /// ADD3, SUB3, MUL3, DIV3, BIS3, BIC3 and XOR3.
 #[tactic(auto, unfolding(crate::specs::Arithmetic::three_operands))]
-pub fn three_combined(
+pub fn three_operands(
     cursor: &mut Cursor,
     instr: &Instr,
     operation: BinaryOperation,
@@ -126,16 +126,16 @@ pub fn three_combined(
     ensures few { Uses 2 cursor.old result cursor.new }
 {
     let size = width.size();
-    let first = value_at(values, 0, size);
-    let second = value_at(values, 1, size);
-    let answer = binary(operation, width.bytes(), first, second, carry(cursor));
-    stored(cursor, location_at(values, 2), size, answer.value)?;
+    let first = value_of_place(values, 0, size);
+    let second = value_of_place(values, 1, size);
+    let answer = binary_of(operation, width.bytes(), first, second, carry_of(cursor));
+    store(cursor, location_of_place(values, 2), size, answer.value)?;
     set_all(cursor, answer);
-    binary_finished(cursor, operation, first, instr.after)
+    finish_binary(cursor, operation, first, instr.after)
 }
 
 /// INC.
-pub fn incremented(
+pub fn increment(
     cursor: &mut Cursor,
     instr: &Instr,
     width: Width,
@@ -145,12 +145,12 @@ pub fn incremented(
     ensures few { Uses 2 cursor.old result cursor.new }
 {
     let size = width.size();
-    let sum = add(width.bytes(), value_at(values, 0, size), 1, false);
-    replaced(cursor, instr, 0, size, sum, values)
+    let sum = add(width.bytes(), value_of_place(values, 0, size), 1, false);
+    replace(cursor, instr, 0, size, sum, values)
 }
 
 /// DEC.
-pub fn decremented(
+pub fn decrement(
     cursor: &mut Cursor,
     instr: &Instr,
     width: Width,
@@ -160,12 +160,12 @@ pub fn decremented(
     ensures few { Uses 2 cursor.old result cursor.new }
 {
     let size = width.size();
-    let difference = sub(width.bytes(), value_at(values, 0, size), 1, false);
-    replaced(cursor, instr, 0, size, difference, values)
+    let difference = sub(width.bytes(), value_of_place(values, 0, size), 1, false);
+    replace(cursor, instr, 0, size, difference, values)
 }
 
 /// MNEG.
-pub fn negation_moved(
+pub fn move_negated(
     cursor: &mut Cursor,
     instr: &Instr,
     width: Width,
@@ -175,12 +175,12 @@ pub fn negation_moved(
     ensures few { Uses 2 cursor.old result cursor.new }
 {
     let size = width.size();
-    let negation = negate(width.bytes(), value_at(values, 0, size));
-    coded_given(cursor, instr, 1, size, negation, values)
+    let negation = negate(width.bytes(), value_of_place(values, 0, size));
+    give_coded(cursor, instr, 1, size, negation, values)
 }
 
 /// CVT.
-pub fn converted(
+pub fn convert(
     cursor: &mut Cursor,
     instr: &Instr,
     from: Width,
@@ -190,26 +190,30 @@ pub fn converted(
     ensures plays { Plays (convert instr.now from to values.now) cursor.old result cursor.new }
     ensures few { Uses 2 cursor.old result cursor.new }
 {
-    let value = value_at(values, 0, from.size());
-    let answer = convert(from.bytes(), to.bytes(), value);
-    coded_given(cursor, instr, 1, to.size(), answer, values)
+    let value = value_of_place(values, 0, from.size());
+    let answer = vt_words::convert(from.bytes(), to.bytes(), value);
+    give_coded(cursor, instr, 1, to.size(), answer, values)
 }
 
 /// ADWC.
 #[tactic(auto, unfolding(crate::specs::Arithmetic::add_with_carry))]
-pub fn carry_added(cursor: &mut Cursor, instr: &Instr, values: &[Evaluated; 6]) -> Result<End, Stop>
+pub fn add_with_carry(
+    cursor: &mut Cursor,
+    instr: &Instr,
+    values: &[Evaluated; 6],
+) -> Result<End, Stop>
     ensures plays { Plays (add_with_carry instr.now values.now) cursor.old result cursor.new }
     ensures few { Uses 2 cursor.old result cursor.new }
 {
-    let first = value_at(values, 0, Size::Long);
-    let second = value_at(values, 1, Size::Long);
-    let sum = add(4, second, first, carry(cursor));
-    replaced(cursor, instr, 1, Size::Long, sum, values)
+    let first = value_of_place(values, 0, Size::Long);
+    let second = value_of_place(values, 1, Size::Long);
+    let sum = add(4, second, first, carry_of(cursor));
+    replace(cursor, instr, 1, Size::Long, sum, values)
 }
 
 /// SBWC.
 #[tactic(auto, unfolding(crate::specs::Arithmetic::subtract_with_carry))]
-pub fn carry_subtracted(
+pub fn subtract_with_carry(
     cursor: &mut Cursor,
     instr: &Instr,
     values: &[Evaluated; 6],
@@ -217,46 +221,46 @@ pub fn carry_subtracted(
     ensures plays { Plays (subtract_with_carry instr.now values.now) cursor.old result cursor.new }
     ensures few { Uses 2 cursor.old result cursor.new }
 {
-    let first = value_at(values, 0, Size::Long);
-    let second = value_at(values, 1, Size::Long);
-    let difference = sub(4, second, first, carry(cursor));
-    replaced(cursor, instr, 1, Size::Long, difference, values)
+    let first = value_of_place(values, 0, Size::Long);
+    let second = value_of_place(values, 1, Size::Long);
+    let difference = sub(4, second, first, carry_of(cursor));
+    replace(cursor, instr, 1, Size::Long, difference, values)
 }
 
 /// What ADAWI finds at its second operand; in memory it makes its one reference.
 #[tactic(auto, unfolding(crate::specs::Arithmetic::add_aligned))]
-fn aligned_found(cursor: &mut Cursor, location: Location, addend: u16) -> Result<u64, Stop>
+fn add_aligned(cursor: &mut Cursor, location: Location, addend: u16) -> Result<u64, Stop>
     ensures plays { Plays (add_aligned location addend) cursor.old result cursor.new }
     ensures few { Uses 1 cursor.old result cursor.new }
     ensures bound { IfOk result (λ value. value < 2 ^ 16) }
 {
     match location {
-        Location::InRegister(number) => Ok(low(2, register_of(cursor, number) as u64)),
+        Location::InRegister(number) => Ok(low_bytes(2, register_of(cursor, number) as u64)),
         Location::InMemory(address) => {
             if address % 2 == 1 {
                 return Err(Stop::Fails(Exception::ReservedOperand));
             }
-            checked(cursor, address, 2, true)?;
-            locked(cursor, address, 2, RefKind::Add(addend))
+            check(cursor, address, 2, true)?;
+            lock(cursor, address, 2, RefKind::Add(addend))
         }
     }
 }
 
 /// Leaves the sum of ADAWI in a register.
 #[tactic(auto, unfolding(crate::specs::Arithmetic::leave_aligned))]
-fn aligned_left(cursor: &mut Cursor, location: Location, value: u64) -> Result<(), Stop>
+fn leave_aligned(cursor: &mut Cursor, location: Location, value: u64) -> Result<(), Stop>
     ensures plays { Plays (leave_aligned location value) cursor.old result cursor.new }
     ensures few { Uses 2 cursor.old result cursor.new }
 {
     match location {
-        Location::InRegister(_) => put_back(cursor, location, Size::Word, value),
+        Location::InRegister(_) => put(cursor, location, Size::Word, value),
         Location::InMemory(_) => Ok(()),
     }
 }
 
 /// ADAWI.
 #[tactic(auto, unfolding(crate::specs::Arithmetic::add_aligned_word))]
-pub fn aligned_added(
+pub fn add_aligned_word(
     cursor: &mut Cursor,
     instr: &Instr,
     values: &[Evaluated; 6],
@@ -264,17 +268,17 @@ pub fn aligned_added(
     ensures plays { Plays (add_aligned_word instr.now values.now) cursor.old result cursor.new }
     ensures few { Uses 3 cursor.old result cursor.new }
 {
-    let addend = value_at(values, 0, Size::Word);
-    let found = aligned_found(cursor, location_at(values, 1), addend as u16)?;
+    let addend = value_of_place(values, 0, Size::Word);
+    let found = add_aligned(cursor, location_of_place(values, 1), addend as u16)?;
     let sum = add(2, found, addend, false);
-    aligned_left(cursor, location_at(values, 1), sum.value)?;
+    leave_aligned(cursor, location_of_place(values, 1), sum.value)?;
     set_all(cursor, sum);
-    finished(cursor, instr.after)
+    finish(cursor, instr.after)
 }
 
 /// EMUL.
 #[tactic(auto, unfolding(crate::specs::Arithmetic::extended_multiply))]
-pub fn extended_multiplied(
+pub fn extended_multiply(
     cursor: &mut Cursor,
     instr: &Instr,
     values: &[Evaluated; 6],
@@ -282,23 +286,23 @@ pub fn extended_multiplied(
     ensures plays { Plays (extended_multiply instr.now values.now) cursor.old result cursor.new }
     ensures few { Uses 2 cursor.old result cursor.new }
 {
-    let first = value_at(values, 0, Size::Long);
-    let second = value_at(values, 1, Size::Long);
-    let addend = value_at(values, 2, Size::Long);
+    let first = value_of_place(values, 0, Size::Long);
+    let second = value_of_place(values, 1, Size::Long);
+    let addend = value_of_place(values, 2, Size::Long);
     let product = extended_product(first, second, addend);
-    stored(cursor, location_at(values, 3), Size::Quad, product)?;
+    store(cursor, location_of_place(values, 3), Size::Quad, product)?;
     set_codes(
         cursor,
-        sign(Size::Quad, product),
+        sign_of(Size::Quad, product),
         product == 0,
         false,
         false,
     );
-    gone_to(cursor, instr.after)
+    go_to(cursor, instr.after)
 }
 
 /// A longword shifted by a signed byte.
-fn shifted(source: u64, count: u64) -> Coded
+fn shift_of(source: u64, count: u64) -> Coded
     requires source { source < 2 ^ 32 }
     requires count { count < 256 }
     ensures { result ≡ shift_of source count }
@@ -311,7 +315,7 @@ fn shifted(source: u64, count: u64) -> Coded
 }
 
 /// ASHL.
-pub fn arithmetic_shifted(
+pub fn arithmetic_shift(
     cursor: &mut Cursor,
     instr: &Instr,
     values: &[Evaluated; 6],
@@ -319,18 +323,25 @@ pub fn arithmetic_shifted(
     ensures plays { Plays (arithmetic_shift instr.now values.now) cursor.old result cursor.new }
     ensures few { Uses 2 cursor.old result cursor.new }
 {
-    let count = value_at(values, 0, Size::Byte);
-    let source = value_at(values, 1, Size::Long);
-    coded_given(cursor, instr, 2, Size::Long, shifted(source, count), values)
+    let count = value_of_place(values, 0, Size::Byte);
+    let source = value_of_place(values, 1, Size::Long);
+    give_coded(
+        cursor,
+        instr,
+        2,
+        Size::Long,
+        shift_of(source, count),
+        values,
+    )
 }
 
 /// ROTL.
-pub fn rotated(cursor: &mut Cursor, instr: &Instr, values: &[Evaluated; 6]) -> Result<End, Stop>
+pub fn rotate(cursor: &mut Cursor, instr: &Instr, values: &[Evaluated; 6]) -> Result<End, Stop>
     ensures plays { Plays (rotate instr.now values.now) cursor.old result cursor.new }
     ensures few { Uses 2 cursor.old result cursor.new }
 {
-    let count = value_at(values, 0, Size::Byte) % 32;
-    let source = value_at(values, 1, Size::Long);
-    let value = rotate(source as u32, count as u32) as u64;
-    given(cursor, instr, 2, Size::Long, value, values)
+    let count = value_of_place(values, 0, Size::Byte) % 32;
+    let source = value_of_place(values, 1, Size::Long);
+    let value = vt_words::rotate(source as u32, count as u32) as u64;
+    give(cursor, instr, 2, Size::Long, value, values)
 }

@@ -6,17 +6,17 @@ ghost use Rattle.vt_words.specs.Arithmetic.{sum_of, difference_of};
 ghost use Rattle.vax_meaning.specs.Play.{Plays, Uses};
 ghost use Rattle.vax_meaning.specs.Branches.{target, pc_after, holds, branch_if, branch, branch_on_low_bit, is_at_most, is_less, step_index, goes_up, goes_down, goes_by, add_one_branch, subtract_one_branch, add_compare_branch, branch_to_subroutine, jump_to_subroutine, jump, return_from_subroutine, signed_word, case_to, case_of};
 
-use crate::codes::{carry, finished, gone_to, negative, overflow, set_three, zero};
+use crate::codes::{carry_of, finish, go_to, negative_of, overflow_of, set_three, zero_of};
 use crate::cursor::Cursor;
-use crate::evaluation::{Evaluated, location_at, value_at};
-use crate::memory::{code_word_read, fetched, low};
-use crate::moves::{pushed, set_compared};
-use crate::operands::{put_back, register_of, set_register_of};
+use crate::evaluation::{Evaluated, location_of_place, value_of_place};
+use crate::memory::{code_word, fetch, low_bytes};
+use crate::moves::{push, set_compared};
+use crate::operands::{put, register_of, set_register_of};
 use vax_form::{Condition, End, Instr, Operand, Size, Stop, Width};
 use vt_words::{Coded, add, signed, sub};
 
 /// Where a branch goes.
-fn target_of(operand: Operand) -> u32
+fn target(operand: Operand) -> u32
     ensures { result ≡ target operand }
 {
     match operand {
@@ -26,12 +26,12 @@ fn target_of(operand: Operand) -> u32
 }
 
 /// Where it goes on: at the target of that operand, or behind the instruction.
-pub fn next_pc(instr: &Instr, place: usize, taken: bool) -> u32
+pub fn pc_after(instr: &Instr, place: usize, taken: bool) -> u32
     requires { place < 6 }
     ensures { result ≡ pc_after instr.now place taken }
 {
     if taken {
-        target_of(instr.operands[place])
+        target(instr.operands[place])
     } else {
         instr.after
     }
@@ -39,45 +39,45 @@ pub fn next_pc(instr: &Instr, place: usize, taken: bool) -> u32
 
 /// Whether the codes meet a condition.
 #[tactic(auto, unfolding(crate::specs::Branches::holds))]
-fn is_met(cursor: &Cursor, condition: Condition) -> bool
+fn holds(cursor: &Cursor, condition: Condition) -> bool
     ensures { result ≡ holds condition cursor.now.state }
 {
     match condition {
-        Condition::NotEqual => !zero(cursor),
-        Condition::Equal => zero(cursor),
-        Condition::Greater => !negative(cursor) && !zero(cursor),
-        Condition::LessOrEqual => negative(cursor) || zero(cursor),
-        Condition::GreaterOrEqual => !negative(cursor),
-        Condition::Less => negative(cursor),
-        Condition::GreaterUnsigned => !carry(cursor) && !zero(cursor),
-        Condition::LessOrEqualUnsigned => carry(cursor) || zero(cursor),
-        Condition::OverflowClear => !overflow(cursor),
-        Condition::OverflowSet => overflow(cursor),
-        Condition::CarryClear => !carry(cursor),
-        Condition::CarrySet => carry(cursor),
+        Condition::NotEqual => !zero_of(cursor),
+        Condition::Equal => zero_of(cursor),
+        Condition::Greater => !negative_of(cursor) && !zero_of(cursor),
+        Condition::LessOrEqual => negative_of(cursor) || zero_of(cursor),
+        Condition::GreaterOrEqual => !negative_of(cursor),
+        Condition::Less => negative_of(cursor),
+        Condition::GreaterUnsigned => !carry_of(cursor) && !zero_of(cursor),
+        Condition::LessOrEqualUnsigned => carry_of(cursor) || zero_of(cursor),
+        Condition::OverflowClear => !overflow_of(cursor),
+        Condition::OverflowSet => overflow_of(cursor),
+        Condition::CarryClear => !carry_of(cursor),
+        Condition::CarrySet => carry_of(cursor),
     }
 }
 
 /// The conditional branches.
 #[tactic(auto, unfolding(crate::specs::Branches::branch_if))]
-pub fn branched_if(cursor: &mut Cursor, instr: &Instr, condition: Condition) -> Result<End, Stop>
+pub fn branch_if(cursor: &mut Cursor, instr: &Instr, condition: Condition) -> Result<End, Stop>
     ensures plays { Plays (branch_if instr.now condition) cursor.old result cursor.new }
     ensures few { Uses 0 cursor.old result cursor.new }
 {
-    let taken = is_met(cursor, condition);
-    gone_to(cursor, next_pc(instr, 0, taken))
+    let taken = holds(cursor, condition);
+    go_to(cursor, pc_after(instr, 0, taken))
 }
 
 /// BRB and BRW.
-pub fn branched(cursor: &mut Cursor, instr: &Instr) -> Result<End, Stop>
+pub fn branch(cursor: &mut Cursor, instr: &Instr) -> Result<End, Stop>
     ensures plays { Plays (branch instr.now) cursor.old result cursor.new }
     ensures few { Uses 0 cursor.old result cursor.new }
 {
-    gone_to(cursor, next_pc(instr, 0, true))
+    go_to(cursor, pc_after(instr, 0, true))
 }
 
 /// BLBS and BLBC.
-pub fn branched_on_low_bit(
+pub fn branch_on_low_bit(
     cursor: &mut Cursor,
     instr: &Instr,
     state: bool,
@@ -86,12 +86,12 @@ pub fn branched_on_low_bit(
     ensures plays { Plays (branch_on_low_bit instr.now state values.now) cursor.old result cursor.new }
     ensures few { Uses 0 cursor.old result cursor.new }
 {
-    let bit = value_at(values, 0, Size::Long) % 2;
-    gone_to(cursor, next_pc(instr, 1, bit == state as u64))
+    let bit = value_of_place(values, 0, Size::Long) % 2;
+    go_to(cursor, pc_after(instr, 1, bit == state as u64))
 }
 
 /// Whether the first is at most the second, as signed numbers.
-fn at_most(bytes: u32, a: u64, b: u64) -> bool
+fn is_at_most(bytes: u32, a: u64, b: u64) -> bool
     requires size { IsSize bytes }
     requires a_fits { a < modulus bytes }
     requires b_fits { b < modulus bytes }
@@ -101,7 +101,7 @@ fn at_most(bytes: u32, a: u64, b: u64) -> bool
 }
 
 /// Whether the first is less than the second, as signed numbers.
-fn less(bytes: u32, a: u64, b: u64) -> bool
+fn is_less(bytes: u32, a: u64, b: u64) -> bool
     requires size { IsSize bytes }
     requires a_fits { a < modulus bytes }
     requires b_fits { b < modulus bytes }
@@ -136,7 +136,7 @@ fn stepped_down(bytes: u32, index: u64, step: u64) -> Coded
 
 /// Puts an index back, and goes on at the target of a branch or behind the instruction.
 #[tactic(auto, unfolding(crate::specs::Branches::step_index))]
-fn index_stepped(
+fn step_index(
     cursor: &mut Cursor,
     instr: &Instr,
     width: Width,
@@ -151,19 +151,19 @@ fn index_stepped(
     ensures plays { Plays (step_index instr.now width index branch answer taken values.now) cursor.old result cursor.new }
     ensures few { Uses 2 cursor.old result cursor.new }
 {
-    put_back(
+    put(
         cursor,
-        location_at(values, index),
+        location_of_place(values, index),
         width.size(),
         answer.value,
     )?;
     set_three(cursor, answer);
-    finished(cursor, next_pc(instr, branch, taken))
+    finish(cursor, pc_after(instr, branch, taken))
 }
 
 /// AOBLEQ, and AOBLSS where it is not `or_equal`.
 #[tactic(auto, unfolding(crate::specs::Branches::add_one_branch))]
-pub fn one_added(
+pub fn add_one_branch(
     cursor: &mut Cursor,
     instr: &Instr,
     or_equal: bool,
@@ -172,19 +172,19 @@ pub fn one_added(
     ensures plays { Plays (add_one_branch instr.now or_equal values.now) cursor.old result cursor.new }
     ensures few { Uses 2 cursor.old result cursor.new }
 {
-    let limit = value_at(values, 0, Size::Long);
-    let index = stepped_up(4, value_at(values, 1, Size::Long), 1);
+    let limit = value_of_place(values, 0, Size::Long);
+    let index = stepped_up(4, value_of_place(values, 1, Size::Long), 1);
     let taken = if or_equal {
-        at_most(4, index.value, limit)
+        is_at_most(4, index.value, limit)
     } else {
-        less(4, index.value, limit)
+        is_less(4, index.value, limit)
     };
-    index_stepped(cursor, instr, Width::Long, 1, 2, index, taken, values)
+    step_index(cursor, instr, Width::Long, 1, 2, index, taken, values)
 }
 
 /// SOBGEQ, and SOBGTR where it is not `or_equal`.
 #[tactic(auto, unfolding(crate::specs::Branches::subtract_one_branch))]
-pub fn one_subtracted(
+pub fn subtract_one_branch(
     cursor: &mut Cursor,
     instr: &Instr,
     or_equal: bool,
@@ -193,18 +193,18 @@ pub fn one_subtracted(
     ensures plays { Plays (subtract_one_branch instr.now or_equal values.now) cursor.old result cursor.new }
     ensures few { Uses 2 cursor.old result cursor.new }
 {
-    let index = stepped_down(4, value_at(values, 0, Size::Long), 1);
+    let index = stepped_down(4, value_of_place(values, 0, Size::Long), 1);
     let taken = if or_equal {
-        at_most(4, 0, index.value)
+        is_at_most(4, 0, index.value)
     } else {
-        less(4, 0, index.value)
+        is_less(4, 0, index.value)
     };
-    index_stepped(cursor, instr, Width::Long, 0, 1, index, taken, values)
+    step_index(cursor, instr, Width::Long, 0, 1, index, taken, values)
 }
 
 /// ACB.
 #[tactic(auto, unfolding(crate::specs::Branches::add_compare_branch))]
-pub fn added_and_compared(
+pub fn add_compare_branch(
     cursor: &mut Cursor,
     instr: &Instr,
     width: Width,
@@ -214,28 +214,28 @@ pub fn added_and_compared(
     ensures few { Uses 2 cursor.old result cursor.new }
 {
     let (size, bytes) = (width.size(), width.bytes());
-    let limit = value_at(values, 0, size);
-    let addend = value_at(values, 1, size);
-    let index = stepped_up(bytes, value_at(values, 2, size), addend);
-    let taken = if less(bytes, addend, 0) {
-        at_most(bytes, limit, index.value)
+    let limit = value_of_place(values, 0, size);
+    let addend = value_of_place(values, 1, size);
+    let index = stepped_up(bytes, value_of_place(values, 2, size), addend);
+    let taken = if is_less(bytes, addend, 0) {
+        is_at_most(bytes, limit, index.value)
     } else {
-        at_most(bytes, index.value, limit)
+        is_at_most(bytes, index.value, limit)
     };
-    index_stepped(cursor, instr, width, 2, 3, index, taken, values)
+    step_index(cursor, instr, width, 2, 3, index, taken, values)
 }
 
 /// BSBB and BSBW.
-pub fn branched_to_subroutine(cursor: &mut Cursor, instr: &Instr) -> Result<End, Stop>
+pub fn branch_to_subroutine(cursor: &mut Cursor, instr: &Instr) -> Result<End, Stop>
     ensures plays { Plays (branch_to_subroutine instr.now) cursor.old result cursor.new }
     ensures few { Uses 2 cursor.old result cursor.new }
 {
-    pushed(cursor, instr.after as u64)?;
-    gone_to(cursor, next_pc(instr, 0, true))
+    push(cursor, instr.after as u64)?;
+    go_to(cursor, pc_after(instr, 0, true))
 }
 
 /// JSB.
-pub fn jumped_to_subroutine(
+pub fn jump_to_subroutine(
     cursor: &mut Cursor,
     instr: &Instr,
     values: &[Evaluated; 6],
@@ -243,32 +243,32 @@ pub fn jumped_to_subroutine(
     ensures plays { Plays (jump_to_subroutine instr.now values.now) cursor.old result cursor.new }
     ensures few { Uses 2 cursor.old result cursor.new }
 {
-    pushed(cursor, instr.after as u64)?;
-    gone_to(cursor, value_at(values, 0, Size::Long) as u32)
+    push(cursor, instr.after as u64)?;
+    go_to(cursor, value_of_place(values, 0, Size::Long) as u32)
 }
 
 /// JMP.
-pub fn jumped(cursor: &mut Cursor, values: &[Evaluated; 6]) -> Result<End, Stop>
+pub fn jump(cursor: &mut Cursor, values: &[Evaluated; 6]) -> Result<End, Stop>
     ensures plays { Plays (jump values.now) cursor.old result cursor.new }
     ensures few { Uses 0 cursor.old result cursor.new }
 {
-    gone_to(cursor, value_at(values, 0, Size::Long) as u32)
+    go_to(cursor, value_of_place(values, 0, Size::Long) as u32)
 }
 
 /// RSB.
 #[tactic(auto, unfolding(crate::specs::Branches::return_from_subroutine))]
-pub fn returned(cursor: &mut Cursor) -> Result<End, Stop>
+pub fn return_from_subroutine(cursor: &mut Cursor) -> Result<End, Stop>
     ensures plays { Plays return_from_subroutine cursor.old result cursor.new }
     ensures few { Uses 2 cursor.old result cursor.new }
 {
     let top = register_of(cursor, 14);
-    let pc = fetched(cursor, top, 4)?;
+    let pc = fetch(cursor, top, 4)?;
     set_register_of(cursor, 14, top.wrapping_add(4));
-    gone_to(cursor, low(4, pc) as u32)
+    go_to(cursor, low_bytes(4, pc) as u32)
 }
 
 /// A signed word as a longword.
-fn word_extended(word: u32) -> u64
+fn signed_word(word: u32) -> u64
     requires { word < 65536 }
     ensures { result ≡ signed_word word }
 {
@@ -281,7 +281,7 @@ fn word_extended(word: u32) -> u64
 
 /// Goes on by a table of words, or behind it.
 #[tactic(auto, unfolding(crate::specs::Branches::case_to))]
-fn case_taken(cursor: &mut Cursor, table: u32, difference: u64, limit: u64) -> Result<End, Stop>
+fn case_to(cursor: &mut Cursor, table: u32, difference: u64, limit: u64) -> Result<End, Stop>
     requires difference { difference < 2 ^ 32 }
     requires limit { limit < 2 ^ 32 }
     ensures plays { Plays (case_to table difference limit) cursor.old result cursor.new }
@@ -290,18 +290,18 @@ fn case_taken(cursor: &mut Cursor, table: u32, difference: u64, limit: u64) -> R
     let table = table as u64;
     if difference <= limit {
         let at = (table + 2 * difference) % 0x1_0000_0000;
-        let word = code_word_read(cursor, at as u32)?;
-        let pc = (table + word_extended(word)) % 0x1_0000_0000;
-        gone_to(cursor, pc as u32)
+        let word = code_word(cursor, at as u32)?;
+        let pc = (table + signed_word(word)) % 0x1_0000_0000;
+        go_to(cursor, pc as u32)
     } else {
         let pc = (table + 2 * (limit + 1)) % 0x1_0000_0000;
-        gone_to(cursor, pc as u32)
+        go_to(cursor, pc as u32)
     }
 }
 
 /// CASE.
 #[tactic(auto, unfolding(crate::specs::Branches::case_of))]
-pub fn case_done(
+pub fn case_of(
     cursor: &mut Cursor,
     instr: &Instr,
     width: Width,
@@ -311,9 +311,9 @@ pub fn case_done(
     ensures few { Uses 0 cursor.old result cursor.new }
 {
     let (size, bytes) = (width.size(), width.bytes());
-    let selector = value_at(values, 0, size);
-    let difference = stepped_down(bytes, selector, value_at(values, 1, size)).value;
-    let limit = value_at(values, 2, size);
+    let selector = value_of_place(values, 0, size);
+    let difference = stepped_down(bytes, selector, value_of_place(values, 1, size)).value;
+    let limit = value_of_place(values, 2, size);
     set_compared(cursor, width, difference, limit);
-    case_taken(cursor, instr.after, difference, limit)
+    case_to(cursor, instr.after, difference, limit)
 }

@@ -10,35 +10,35 @@ use vax_form::{End, Size, Stop};
 use vt_words::Coded;
 
 /// The carry code.
-pub fn carry(cursor: &Cursor) -> bool
+pub fn carry_of(cursor: &Cursor) -> bool
     ensures { result ≡ carry_of cursor.now.state }
 {
     cursor.state.psw % 2 == 1
 }
 
 /// The overflow code.
-pub fn overflow(cursor: &Cursor) -> bool
+pub fn overflow_of(cursor: &Cursor) -> bool
     ensures { result ≡ overflow_of cursor.now.state }
 {
     cursor.state.psw / 2 % 2 == 1
 }
 
 /// The zero code.
-pub fn zero(cursor: &Cursor) -> bool
+pub fn zero_of(cursor: &Cursor) -> bool
     ensures { result ≡ zero_of cursor.now.state }
 {
     cursor.state.psw / 4 % 2 == 1
 }
 
 /// The negative code.
-pub fn negative(cursor: &Cursor) -> bool
+pub fn negative_of(cursor: &Cursor) -> bool
     ensures { result ≡ negative_of cursor.now.state }
 {
     cursor.state.psw / 8 % 2 == 1
 }
 
 /// Whether integer overflow traps.
-pub fn trap_is_enabled(cursor: &Cursor) -> bool
+pub fn trap_enabled(cursor: &Cursor) -> bool
     ensures { result ≡ trap_enabled cursor.now.state }
 {
     cursor.state.psw / 32 % 2 == 1
@@ -63,12 +63,12 @@ pub fn set_all(cursor: &mut Cursor, coded: Coded)
 pub fn set_three(cursor: &mut Cursor, coded: Coded)
     ensures { view cursor.new ≡ changed (with_three coded) (view cursor.old) }
 {
-    let c = carry(cursor);
+    let c = carry_of(cursor);
     set_codes(cursor, coded.n, coded.z, coded.v, c);
 }
 
 /// The sign of a value of that size.
-pub fn sign(size: Size, value: u64) -> bool
+pub fn sign_of(size: Size, value: u64) -> bool
     ensures { result ≡ sign_of size value }
 {
     match size {
@@ -83,8 +83,8 @@ pub fn sign(size: Size, value: u64) -> bool
 pub fn set_by_result(cursor: &mut Cursor, size: Size, value: u64)
     ensures { view cursor.new ≡ changed (with_result size value) (view cursor.old) }
 {
-    let c = carry(cursor);
-    set_codes(cursor, sign(size, value), value == 0, false, c);
+    let c = carry_of(cursor);
+    set_codes(cursor, sign_of(size, value), value == 0, false, c);
 }
 
 /// Sets the PC.
@@ -95,7 +95,7 @@ pub fn set_pc(cursor: &mut Cursor, pc: u32)
 }
 
 /// Goes on at an address.
-pub fn gone_to(cursor: &mut Cursor, pc: u32) -> Result<End, Stop>
+pub fn go_to(cursor: &mut Cursor, pc: u32) -> Result<End, Stop>
     ensures plays { Plays (go_to pc) cursor.old result cursor.new }
     ensures few { Uses 0 cursor.old result cursor.new }
 {
@@ -105,12 +105,12 @@ pub fn gone_to(cursor: &mut Cursor, pc: u32) -> Result<End, Stop>
 
 /// Goes on at an address, or traps where the instruction overflowed and integer overflow is enabled.
 #[tactic(auto, unfolding(crate::specs::Codes::finish))]
-pub fn finished(cursor: &mut Cursor, pc: u32) -> Result<End, Stop>
+pub fn finish(cursor: &mut Cursor, pc: u32) -> Result<End, Stop>
     ensures plays { Plays (finish pc) cursor.old result cursor.new }
     ensures few { Uses 0 cursor.old result cursor.new }
 {
     set_pc(cursor, pc);
-    if overflow(cursor) && trap_is_enabled(cursor) {
+    if overflow_of(cursor) && trap_enabled(cursor) {
         Ok(End::Traps(1))
     } else {
         Ok(End::Done)

@@ -6,7 +6,7 @@ ghost use Rattle.vax_meaning.specs.Control.{put_byte, get_byte, answer_with, exc
 
 use crate::codes::set_pc;
 use crate::cursor::Cursor;
-use crate::evaluation::{Evaluated, value_at};
+use crate::evaluation::{Evaluated, value_of_place};
 use crate::operands::{register_of, set_register_of};
 use vax_form::{End, Instr, Pending, RefKind, Reference, Size, Stop};
 
@@ -24,7 +24,7 @@ fn outside(cursor: &mut Cursor, kind: RefKind) -> Result<u64, Stop>
 
 /// Appends the low byte of R0 to the output.
 #[tactic(auto, unfolding(crate::specs::Control::put_byte))]
-fn byte_put(cursor: &mut Cursor) -> Result<End, Stop>
+fn put_byte(cursor: &mut Cursor) -> Result<End, Stop>
     ensures plays { Plays put_byte cursor.old result cursor.new }
     ensures few { Uses 1 cursor.old result cursor.new }
 {
@@ -35,7 +35,7 @@ fn byte_put(cursor: &mut Cursor) -> Result<End, Stop>
 
 /// Takes the next byte of the input into R0.
 #[tactic(auto, unfolding(crate::specs::Control::get_byte))]
-fn byte_got(cursor: &mut Cursor) -> Result<End, Stop>
+fn get_byte(cursor: &mut Cursor) -> Result<End, Stop>
     ensures plays { Plays get_byte cursor.old result cursor.new }
     ensures few { Uses 1 cursor.old result cursor.new }
 {
@@ -45,7 +45,7 @@ fn byte_got(cursor: &mut Cursor) -> Result<End, Stop>
 }
 
 /// Answers a service with a value in R0.
-fn answered(cursor: &mut Cursor, value: u32) -> Result<End, Stop>
+fn answer_with(cursor: &mut Cursor, value: u32) -> Result<End, Stop>
     ensures plays { Plays (answer_with value) cursor.old result cursor.new }
     ensures few { Uses 0 cursor.old result cursor.new }
 {
@@ -55,17 +55,17 @@ fn answered(cursor: &mut Cursor, value: u32) -> Result<End, Stop>
 
 /// Makes R0 the handler, and gives the handler before.
 #[tactic(auto, unfolding(crate::specs::Control::exchange_handler))]
-fn handler_exchanged(cursor: &mut Cursor) -> Result<End, Stop>
+fn exchange_handler(cursor: &mut Cursor) -> Result<End, Stop>
     ensures plays { Plays exchange_handler cursor.old result cursor.new }
     ensures few { Uses 0 cursor.old result cursor.new }
 {
     let before = cursor.state.handler;
     cursor.state.handler = register_of(cursor, 0);
-    answered(cursor, before)
+    answer_with(cursor, before)
 }
 
 /// Resumes behind the service.
-fn resumption_asked(cursor: &mut Cursor) -> Result<End, Stop>
+fn ask_to_resume(cursor: &mut Cursor) -> Result<End, Stop>
     ensures plays { Plays ask_to_resume cursor.old result cursor.new }
     ensures few { Uses 0 cursor.old result cursor.new }
 {
@@ -76,24 +76,24 @@ fn resumption_asked(cursor: &mut Cursor) -> Result<End, Stop>
 /// Does a service: 1 ends the thread, 2 puts out a byte, 3 gets one, 4 tells the thread's number, 5 exchanges R0 and
 /// the handler, 6 resumes, and any other gives 0.
 #[tactic(auto, unfolding(crate::specs::Control::serve))]
-pub fn served(cursor: &mut Cursor, code: u64, thread: u8) -> Result<End, Stop>
+pub fn serve(cursor: &mut Cursor, code: u64, thread: u8) -> Result<End, Stop>
     ensures plays { Plays (serve code thread) cursor.old result cursor.new }
     ensures few { Uses 1 cursor.old result cursor.new }
 {
     match code {
         1 => Ok(End::Exits),
-        2 => byte_put(cursor),
-        3 => byte_got(cursor),
-        4 => answered(cursor, thread as u32),
-        5 => handler_exchanged(cursor),
-        6 => resumption_asked(cursor),
-        _ => answered(cursor, 0),
+        2 => put_byte(cursor),
+        3 => get_byte(cursor),
+        4 => answer_with(cursor, thread as u32),
+        5 => exchange_handler(cursor),
+        6 => ask_to_resume(cursor),
+        _ => answer_with(cursor, 0),
     }
 }
 
 /// CHMK.
 #[tactic(auto, unfolding(crate::specs::Control::change_mode))]
-pub fn mode_changed(
+pub fn change_mode(
     cursor: &mut Cursor,
     instr: &Instr,
     thread: u8,
@@ -103,5 +103,5 @@ pub fn mode_changed(
     ensures few { Uses 1 cursor.old result cursor.new }
 {
     set_pc(cursor, instr.after);
-    served(cursor, value_at(values, 0, Size::Word), thread)
+    serve(cursor, value_of_place(values, 0, Size::Word), thread)
 }

@@ -31,7 +31,7 @@ impl<'a> Cursor<'a> {
     }
 
     /// A byte of the code.
-    pub fn code_byte(&mut self, address: u32) -> Result<u8, Stop>
+    pub fn read_code(&mut self, address: u32) -> Result<u8, Stop>
         ensures plays { Plays (read_code address) self.old result self.new }
         ensures few { Uses 0 self.old result self.new }
     {

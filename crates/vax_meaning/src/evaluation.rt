@@ -5,8 +5,8 @@ ghost use Rattle.vax_meaning.specs.Play.{Plays, Uses};
 ghost use Rattle.vax_meaning.specs.Evaluation.{nothing, nothings, find, read_found, address_of, field_registers, obtain, evaluate, evaluated_row, operands_from, value_of_place, location_of_place};
 
 use crate::cursor::Cursor;
-use crate::memory::{fetched, low};
-use crate::operands::{Location, located, taken, value_in_register};
+use crate::memory::{fetch, low_bytes};
+use crate::operands::{Location, locate, modify_at, register_value};
 use vax_form::{Access, Instr, Operand, Operation, Row, Size, Stop};
 
 /// An operand that was evaluated: where it is, its value, or both.
@@ -24,7 +24,7 @@ pub const NOTHING: Evaluated = Evaluated {
 
 /// Finds where an operand is.
 #[tactic(auto, unfolding(crate::specs::Evaluation::find))]
-pub fn operand_found(
+pub fn find(
     cursor: &mut Cursor,
     access: Access,
     size: Size,
@@ -36,14 +36,14 @@ pub fn operand_found(
     match access {
         Access::Branch => Ok(Location::InMemory(0)),
         Access::Read | Access::Write | Access::Modify | Access::Address | Access::Field => {
-            located(cursor, operand, size)
+            locate(cursor, operand, size)
         }
     }
 }
 
 /// Reads an operand that was found.
 #[tactic(auto, unfolding(crate::specs::Evaluation::read_found))]
-fn found_read(
+fn read_found(
     cursor: &mut Cursor,
     operand: Operand,
     location: Location,
@@ -54,12 +54,12 @@ fn found_read(
 {
     let bytes = size.bytes();
     match operand {
-        Operand::Value(value) => Ok(low(bytes, value)),
-        Operand::Register(number) => Ok(low(bytes, value_in_register(cursor, number, bytes))),
+        Operand::Value(value) => Ok(low_bytes(bytes, value)),
+        Operand::Register(number) => Ok(low_bytes(bytes, register_value(cursor, number, bytes))),
         Operand::Place { .. } => match location {
             Location::InMemory(address) => {
-                let value = fetched(cursor, address, bytes)?;
-                Ok(low(bytes, value))
+                let value = fetch(cursor, address, bytes)?;
+                Ok(low_bytes(bytes, value))
             }
             Location::InRegister(_) => Ok(0),
         },
@@ -68,7 +68,7 @@ fn found_read(
 }
 
 /// The address of an operand that was found.
-fn address_at(location: Location) -> u32
+fn address_of(location: Location) -> u32
     ensures { result ≡ address_of location }
 {
     match location {
@@ -78,19 +78,19 @@ fn address_at(location: Location) -> u32
 }
 
 /// The register and the next one, where a field has its base in registers.
-fn field_at(cursor: &mut Cursor, location: Location) -> Result<u64, Stop>
+fn field_registers(cursor: &mut Cursor, location: Location) -> Result<u64, Stop>
     ensures plays { Plays (field_registers location) cursor.old result cursor.new }
     ensures few { Uses 0 cursor.old result cursor.new }
 {
     match location {
-        Location::InRegister(number) => Ok(value_in_register(cursor, number, 8)),
+        Location::InRegister(number) => Ok(register_value(cursor, number, 8)),
         Location::InMemory(_) => Ok(0),
     }
 }
 
 /// Obtains an operand that was found: reads it, or checks it with write intent and reads it, or leaves it as it is.
 #[tactic(auto, unfolding(crate::specs::Evaluation::obtain))]
-pub fn operand_obtained(
+pub fn obtain(
     cursor: &mut Cursor,
     access: Access,
     size: Size,
@@ -102,7 +102,7 @@ pub fn operand_obtained(
 {
     match access {
         Access::Read => {
-            let value = found_read(cursor, operand, location, size)?;
+            let value = read_found(cursor, operand, location, size)?;
             Ok(Evaluated {
                 location: Location::InMemory(0),
                 value,
@@ -110,15 +110,15 @@ pub fn operand_obtained(
         }
         Access::Write => Ok(Evaluated { location, value: 0 }),
         Access::Modify => {
-            let value = taken(cursor, location, size)?;
+            let value = modify_at(cursor, location, size)?;
             Ok(Evaluated { location, value })
         }
         Access::Address => {
-            let value = address_at(location) as u64;
+            let value = address_of(location) as u64;
             Ok(Evaluated { location, value })
         }
         Access::Field => {
-            let value = field_at(cursor, location)?;
+            let value = field_registers(cursor, location)?;
             Ok(Evaluated { location, value })
         }
         Access::Branch => Ok(NOTHING),
@@ -126,7 +126,7 @@ pub fn operand_obtained(
 }
 
 /// Evaluates an operand.
-pub fn operand_evaluated(
+pub fn evaluate(
     cursor: &mut Cursor,
     access: Access,
     size: Size,
@@ -135,8 +135,8 @@ pub fn operand_evaluated(
     ensures plays { Plays (evaluate access size operand) cursor.old result cursor.new }
     ensures few { Uses 4 cursor.old result cursor.new }
 {
-    let location = operand_found(cursor, access, size, operand)?;
-    operand_obtained(cursor, access, size, operand, location)
+    let location = find(cursor, access, size, operand)?;
+    obtain(cursor, access, size, operand, location)
 }
 
 /// The operands as they are evaluated: ADAWI makes the one reference to its second operand behind all specifiers.
@@ -159,34 +159,30 @@ pub fn evaluated_row(operation: Operation) -> Row
 
 /// Evaluates the operands from left to right.
 #[tactic(auto, unfolding(crate::specs::Evaluation::operands_from))]
-pub fn operands_evaluated(
-    cursor: &mut Cursor,
-    row: &Row,
-    instr: &Instr,
-) -> Result<[Evaluated; 6], Stop>
+pub fn operands_from(cursor: &mut Cursor, row: &Row, instr: &Instr) -> Result<[Evaluated; 6], Stop>
     ensures plays { Plays (operands_from 6 row.now instr.now nothings) cursor.old result cursor.new }
     ensures few { Uses 24 cursor.old result cursor.new }
 {
-    let v0 = operand_evaluated(cursor, row.access[0], row.size[0], instr.operands[0])?;
-    let v1 = operand_evaluated(cursor, row.access[1], row.size[1], instr.operands[1])?;
-    let v2 = operand_evaluated(cursor, row.access[2], row.size[2], instr.operands[2])?;
-    let v3 = operand_evaluated(cursor, row.access[3], row.size[3], instr.operands[3])?;
-    let v4 = operand_evaluated(cursor, row.access[4], row.size[4], instr.operands[4])?;
-    let v5 = operand_evaluated(cursor, row.access[5], row.size[5], instr.operands[5])?;
+    let v0 = evaluate(cursor, row.access[0], row.size[0], instr.operands[0])?;
+    let v1 = evaluate(cursor, row.access[1], row.size[1], instr.operands[1])?;
+    let v2 = evaluate(cursor, row.access[2], row.size[2], instr.operands[2])?;
+    let v3 = evaluate(cursor, row.access[3], row.size[3], instr.operands[3])?;
+    let v4 = evaluate(cursor, row.access[4], row.size[4], instr.operands[4])?;
+    let v5 = evaluate(cursor, row.access[5], row.size[5], instr.operands[5])?;
     Ok([v0, v1, v2, v3, v4, v5])
 }
 
 /// The value of the operand of that place.
-pub fn value_at(values: &[Evaluated; 6], place: usize, size: Size) -> u64
+pub fn value_of_place(values: &[Evaluated; 6], place: usize, size: Size) -> u64
     requires { place < 6 }
     ensures value { result ≡ value_of_place values.now place size }
     ensures bound { result < 2 ^ (8 * bytes_of size) }
 {
-    low(size.bytes(), values[place].value)
+    low_bytes(size.bytes(), values[place].value)
 }
 
 /// Where the operand of that place is.
-pub fn location_at(values: &[Evaluated; 6], place: usize) -> Location
+pub fn location_of_place(values: &[Evaluated; 6], place: usize) -> Location
     requires { place < 6 }
     ensures { result ≡ location_of_place values.now place }
 {

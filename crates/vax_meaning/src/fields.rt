@@ -3,19 +3,19 @@ ghost use Rattle.std.specs.Prelude.{◌≡◌, ◌+◌, ◌<◌, ◌≤◌, ◌^
 ghost use Rattle.vax_meaning.specs.Play.{Plays, Uses};
 ghost use Rattle.vax_meaning.specs.Fields.{bits_of, with_bits, field_address, field_bytes, is_outside, field_value, extended, extract_field, put_bytes, put_field, insert_field, leave_bit, byte_found, bit_found, branch_on_bit};
 
-use crate::branches::next_pc;
-use crate::codes::gone_to;
+use crate::branches::pc_after;
+use crate::codes::go_to;
 use crate::cursor::Cursor;
-use crate::evaluation::{Evaluated, location_at, value_at};
-use crate::memory::{checked, fetched, locked, low, read_checked, written};
-use crate::moves::given;
-use crate::operands::{Location, put_back};
+use crate::evaluation::{Evaluated, location_of_place, value_of_place};
+use crate::memory::{check, fetch, lock, low_bytes, read, write};
+use crate::moves::give;
+use crate::operands::{Location, put};
 use vax_form::{BitBranch, BitStore, End, Exception, Instr, RefKind, Size, Stop};
 use vt_words::shift_right;
 
 /// So many bits of a number, from a bit on.
 #[tactic(auto, using(crate::proofs::Bits::bits_below))]
-fn bits(whole: u64, position: u32, size: u32) -> u64
+fn bits_of(whole: u64, position: u32, size: u32) -> u64
     requires position { position < 64 }
     requires size { size ≤ 32 }
     ensures value { result ≡ bits_of whole position size }
@@ -34,7 +34,7 @@ fn power(bit: u32) -> u64
 }
 
 /// The number with these bits replaced by the lowest of a value.
-fn replaced_bits(whole: u64, position: u32, size: u32, value: u64) -> u64
+fn with_bits(whole: u64, position: u32, size: u32, value: u64) -> u64
     requires { position + size < 64 }
     ensures { result ≡ with_bits whole position size value }
 {
@@ -43,15 +43,15 @@ fn replaced_bits(whole: u64, position: u32, size: u32, value: u64) -> u64
 }
 
 /// The byte that has the first bit of a field in memory.
-fn address_of_field(base: u32, position: u64) -> u32
+fn field_address(base: u32, position: u64) -> u32
     requires { position < 2 ^ 32 }
     ensures { result ≡ field_address base position }
 {
-    base.wrapping_add(low(4, shift_right(position, 3)) as u32)
+    base.wrapping_add(low_bytes(4, shift_right(position, 3)) as u32)
 }
 
 /// How many bytes have bits of a field.
-fn bytes_of_field(position: u64, size: u32) -> u32
+fn field_bytes(position: u64, size: u32) -> u32
     requires { size ≤ 32 }
     ensures value { result ≡ field_bytes position size }
     ensures bound { result ≤ 8 }
@@ -60,7 +60,7 @@ fn bytes_of_field(position: u64, size: u32) -> u32
 }
 
 /// Whether a field in registers begins behind the first one, or runs on from R14.
-fn runs_over(location: Location, position: u64, size: u32) -> bool
+fn is_outside(location: Location, position: u64, size: u32) -> bool
     requires position { position < 2 ^ 32 }
     requires size { size < 256 }
     ensures { result ≡ is_outside location position size }
@@ -75,7 +75,7 @@ fn runs_over(location: Location, position: u64, size: u32) -> bool
 
 /// The value of a field.
 #[tactic(auto, unfolding(crate::specs::Fields::field_value))]
-fn field_read(
+fn field_value(
     cursor: &mut Cursor,
     location: Location,
     registers: u64,
@@ -89,20 +89,20 @@ fn field_read(
     ensures bound { IfOk result (λ value. value < 2 ^ 32) }
 {
     match location {
-        Location::InRegister(_) => Ok(bits(registers, (position % 32) as u32, size)),
+        Location::InRegister(_) => Ok(bits_of(registers, (position % 32) as u32, size)),
         Location::InMemory(base) => {
             if size == 0 {
                 return Ok(0);
             }
-            let address = address_of_field(base, position);
-            let bytes = fetched(cursor, address, bytes_of_field(position, size))?;
-            Ok(bits(bytes, (position % 8) as u32, size))
+            let address = field_address(base, position);
+            let bytes = fetch(cursor, address, field_bytes(position, size))?;
+            Ok(bits_of(bytes, (position % 8) as u32, size))
         }
     }
 }
 
 /// A field as a longword.
-fn field_extended(signed: bool, value: u64, size: u32) -> u64
+fn extended(signed: bool, value: u64, size: u32) -> u64
     requires size { size ≤ 32 }
     requires value { value < 2 ^ 32 }
     ensures { result ≡ extended signed value size }
@@ -118,7 +118,7 @@ fn field_extended(signed: bool, value: u64, size: u32) -> u64
 
 /// EXTV, and EXTZV where it is not signed.
 #[tactic(auto, unfolding(crate::specs::Fields::extract_field))]
-pub fn field_extracted(
+pub fn extract_field(
     cursor: &mut Cursor,
     instr: &Instr,
     signed: bool,
@@ -127,20 +127,20 @@ pub fn field_extracted(
     ensures plays { Plays (extract_field instr.now signed values.now) cursor.old result cursor.new }
     ensures few { Uses 4 cursor.old result cursor.new }
 {
-    let position = value_at(values, 0, Size::Long);
-    let size = value_at(values, 1, Size::Byte) as u32;
-    let base = location_at(values, 2);
-    if size > 32 || runs_over(base, position, size) {
+    let position = value_of_place(values, 0, Size::Long);
+    let size = value_of_place(values, 1, Size::Byte) as u32;
+    let base = location_of_place(values, 2);
+    if size > 32 || is_outside(base, position, size) {
         return Err(Stop::Fails(Exception::ReservedOperand));
     }
-    let registers = value_at(values, 2, Size::Quad);
-    let value = field_read(cursor, base, registers, position, size)?;
-    let value = field_extended(signed, value, size);
-    given(cursor, instr, 3, Size::Long, value, values)
+    let registers = value_of_place(values, 2, Size::Quad);
+    let value = field_value(cursor, base, registers, position, size)?;
+    let value = extended(signed, value, size);
+    give(cursor, instr, 3, Size::Long, value, values)
 }
 
 /// Puts a value into a field in memory.
-fn memory_field_put(
+fn put_bytes(
     cursor: &mut Cursor,
     address: u32,
     count: u32,
@@ -153,19 +153,19 @@ fn memory_field_put(
     ensures plays { Plays (put_bytes address count position size value) cursor.old result cursor.new }
     ensures few { Uses 4 cursor.old result cursor.new }
 {
-    checked(cursor, address, count, true)?;
-    let bytes = read_checked(cursor, address, count)?;
-    written(
+    check(cursor, address, count, true)?;
+    let bytes = read(cursor, address, count)?;
+    write(
         cursor,
         address,
         count,
-        replaced_bits(bytes, position, size, value),
+        with_bits(bytes, position, size, value),
     )
 }
 
 /// Puts a value into a field.
 #[tactic(auto, unfolding(crate::specs::Fields::put_field))]
-fn field_put(
+fn put_field(
     cursor: &mut Cursor,
     location: Location,
     registers: u64,
@@ -180,23 +180,23 @@ fn field_put(
 {
     match location {
         Location::InRegister(_) => {
-            let bits = replaced_bits(registers, (position % 32) as u32, size, value);
-            put_back(cursor, location, Size::Quad, bits)
+            let bits = with_bits(registers, (position % 32) as u32, size, value);
+            put(cursor, location, Size::Quad, bits)
         }
         Location::InMemory(base) => {
             if size == 0 {
                 return Ok(());
             }
-            let address = address_of_field(base, position);
-            let count = bytes_of_field(position, size);
-            memory_field_put(cursor, address, count, (position % 8) as u32, size, value)
+            let address = field_address(base, position);
+            let count = field_bytes(position, size);
+            put_bytes(cursor, address, count, (position % 8) as u32, size, value)
         }
     }
 }
 
 /// INSV.
 #[tactic(auto, unfolding(crate::specs::Fields::insert_field))]
-pub fn field_inserted(
+pub fn insert_field(
     cursor: &mut Cursor,
     instr: &Instr,
     values: &[Evaluated; 6],
@@ -204,21 +204,21 @@ pub fn field_inserted(
     ensures plays { Plays (insert_field instr.now values.now) cursor.old result cursor.new }
     ensures few { Uses 4 cursor.old result cursor.new }
 {
-    let position = value_at(values, 1, Size::Long);
-    let size = value_at(values, 2, Size::Byte) as u32;
-    let base = location_at(values, 3);
-    if size > 32 || runs_over(base, position, size) {
+    let position = value_of_place(values, 1, Size::Long);
+    let size = value_of_place(values, 2, Size::Byte) as u32;
+    let base = location_of_place(values, 3);
+    if size > 32 || is_outside(base, position, size) {
         return Err(Stop::Fails(Exception::ReservedOperand));
     }
-    let registers = value_at(values, 3, Size::Quad);
-    let value = value_at(values, 0, Size::Long);
-    field_put(cursor, base, registers, position, size, value)?;
-    gone_to(cursor, instr.after)
+    let registers = value_of_place(values, 3, Size::Quad);
+    let value = value_of_place(values, 0, Size::Long);
+    put_field(cursor, base, registers, position, size, value)?;
+    go_to(cursor, instr.after)
 }
 
 /// Leaves a bit in a register.
 #[tactic(auto, unfolding(crate::specs::Fields::leave_bit))]
-fn bit_left(
+fn leave_bit(
     cursor: &mut Cursor,
     number: u8,
     registers: u64,
@@ -231,43 +231,43 @@ fn bit_left(
     match store {
         BitStore::Nothing => Ok(()),
         BitStore::Plain(value) | BitStore::Interlocked(value) => {
-            let bits = replaced_bits(registers, (position % 32) as u32, 1, value as u64);
-            put_back(cursor, Location::InRegister(number), Size::Long, bits)
+            let bits = with_bits(registers, (position % 32) as u32, 1, value as u64);
+            put(cursor, Location::InRegister(number), Size::Long, bits)
         }
     }
 }
 
 /// The byte that has a bit, in which the bit is then left.
 #[tactic(auto, unfolding(crate::specs::Fields::byte_found))]
-fn byte_taken(cursor: &mut Cursor, address: u32, number: u8, store: BitStore) -> Result<u64, Stop>
+fn byte_found(cursor: &mut Cursor, address: u32, number: u8, store: BitStore) -> Result<u64, Stop>
     requires { number < 8 }
     ensures plays { Plays (byte_found address number store) cursor.old result cursor.new }
     ensures few { Uses 4 cursor.old result cursor.new }
 {
     match store {
-        BitStore::Nothing => fetched(cursor, address, 1),
+        BitStore::Nothing => fetch(cursor, address, 1),
         BitStore::Plain(value) => {
-            checked(cursor, address, 1, true)?;
-            let byte = read_checked(cursor, address, 1)?;
-            let bits = replaced_bits(byte, number as u32, 1, value as u64);
-            written(cursor, address, 1, bits)?;
+            check(cursor, address, 1, true)?;
+            let byte = read(cursor, address, 1)?;
+            let bits = with_bits(byte, number as u32, 1, value as u64);
+            write(cursor, address, 1, bits)?;
             Ok(byte)
         }
         BitStore::Interlocked(value) => {
-            checked(cursor, address, 1, true)?;
+            check(cursor, address, 1, true)?;
             let kind = if value {
                 RefKind::SetBit(number)
             } else {
                 RefKind::ClearBit(number)
             };
-            locked(cursor, address, 1, kind)
+            lock(cursor, address, 1, kind)
         }
     }
 }
 
 /// The bit of a branch as it was found.
 #[tactic(auto, unfolding(crate::specs::Fields::bit_found))]
-fn bit_taken(
+fn bit_found(
     cursor: &mut Cursor,
     location: Location,
     registers: u64,
@@ -280,20 +280,20 @@ fn bit_taken(
 {
     match location {
         Location::InRegister(number) => {
-            bit_left(cursor, number, registers, position, store)?;
-            Ok(bits(registers, (position % 32) as u32, 1))
+            leave_bit(cursor, number, registers, position, store)?;
+            Ok(bits_of(registers, (position % 32) as u32, 1))
         }
         Location::InMemory(base) => {
-            let address = address_of_field(base, position);
-            let byte = byte_taken(cursor, address, (position % 8) as u8, store)?;
-            Ok(bits(byte, (position % 8) as u32, 1))
+            let address = field_address(base, position);
+            let byte = byte_found(cursor, address, (position % 8) as u8, store)?;
+            Ok(bits_of(byte, (position % 8) as u32, 1))
         }
     }
 }
 
 /// BBS, BBC, BBSS, BBCS, BBSC, BBCC, BBSSI and BBCCI.
 #[tactic(auto, unfolding(crate::specs::Fields::branch_on_bit))]
-pub fn branched_on_bit(
+pub fn branch_on_bit(
     cursor: &mut Cursor,
     instr: &Instr,
     branch: BitBranch,
@@ -302,12 +302,12 @@ pub fn branched_on_bit(
     ensures plays { Plays (branch_on_bit instr.now branch values.now) cursor.old result cursor.new }
     ensures few { Uses 4 cursor.old result cursor.new }
 {
-    let position = value_at(values, 0, Size::Long);
-    let base = location_at(values, 1);
-    if runs_over(base, position, 1) {
+    let position = value_of_place(values, 0, Size::Long);
+    let base = location_of_place(values, 1);
+    if is_outside(base, position, 1) {
         return Err(Stop::Fails(Exception::ReservedOperand));
     }
-    let registers = value_at(values, 1, Size::Quad);
-    let found = bit_taken(cursor, base, registers, position, branch.store)?;
-    gone_to(cursor, next_pc(instr, 2, found == branch.state as u64))
+    let registers = value_of_place(values, 1, Size::Quad);
+    let found = bit_found(cursor, base, registers, position, branch.store)?;
+    go_to(cursor, pc_after(instr, 2, found == branch.state as u64))
 }

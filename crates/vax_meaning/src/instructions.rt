@@ -4,27 +4,27 @@ ghost use Rattle.vax_meaning.specs.Play.{Plays, Uses};
 ghost use Rattle.vax_meaning.specs.Instructions.{body, operation_script};
 
 use crate::arithmetic::{
-    aligned_added, arithmetic_shifted, carry_added, carry_subtracted, converted, decremented,
-    extended_multiplied, incremented, negation_moved, rotated, three_combined, two_combined,
+    add_aligned_word, add_with_carry, arithmetic_shift, convert, decrement, extended_multiply,
+    increment, move_negated, rotate, subtract_with_carry, three_operands, two_operands,
 };
 use crate::branches::{
-    added_and_compared, branched, branched_if, branched_on_low_bit, branched_to_subroutine,
-    case_done, jumped, jumped_to_subroutine, one_added, one_subtracted, returned,
+    add_compare_branch, add_one_branch, branch, branch_if, branch_on_low_bit, branch_to_subroutine,
+    case_of, jump, jump_to_subroutine, return_from_subroutine, subtract_one_branch,
 };
-use crate::codes::gone_to;
-use crate::control::mode_changed;
+use crate::codes::go_to;
+use crate::control::change_mode;
 use crate::cursor::Cursor;
-use crate::evaluation::{Evaluated, evaluated_row, operands_evaluated};
-use crate::fields::{branched_on_bit, field_extracted, field_inserted};
+use crate::evaluation::{Evaluated, evaluated_row, operands_from};
+use crate::fields::{branch_on_bit, extract_field, insert_field};
 use crate::moves::{
-    address_moved, bits_tested, cleared, compared, complement_moved, moved, psl_moved, psw_changed,
-    tested, value_pushed, zero_extended,
+    bit_test, change_psw, clear, compare, move_address, move_complemented, move_psl, move_value,
+    move_zero_extended, push_value, test_value,
 };
 use vax_form::{End, Exception, Instr, Operation, Stop};
 
 /// Does what an operation does once its operands are evaluated. The long instructions have scripts of their own.
 #[tactic(auto, unfolding(crate::specs::Instructions::body))]
-pub fn body_run(
+pub fn body(
     cursor: &mut Cursor,
     operation: Operation,
     instr: &Instr,
@@ -35,51 +35,53 @@ pub fn body_run(
     ensures few { Uses 4 cursor.old result cursor.new }
 {
     match operation {
-        Operation::NoOperation => gone_to(cursor, instr.after),
+        Operation::NoOperation => go_to(cursor, instr.after),
         Operation::Breakpoint => Err(Stop::Fails(Exception::Breakpoint)),
-        Operation::ChangeMode => mode_changed(cursor, instr, thread, values),
-        Operation::Move(size) => moved(cursor, instr, size, values),
-        Operation::Clear(size) => cleared(cursor, instr, size, values),
-        Operation::MoveAddress(_) => address_moved(cursor, instr, values),
-        Operation::PushAddress(_) | Operation::PushLong => value_pushed(cursor, instr, values),
-        Operation::MoveZeroExtended { from, to } => zero_extended(cursor, instr, from, to, values),
-        Operation::Convert { from, to } => converted(cursor, instr, from, to, values),
-        Operation::MoveComplemented(width) => complement_moved(cursor, instr, width, values),
-        Operation::MoveNegated(width) => negation_moved(cursor, instr, width, values),
-        Operation::MovePsl => psl_moved(cursor, instr, values),
-        Operation::BitSetPsw => psw_changed(cursor, instr, true, values),
-        Operation::BitClearPsw => psw_changed(cursor, instr, false, values),
-        Operation::Compare(width) => compared(cursor, instr, width, values),
-        Operation::Test(width) => tested(cursor, instr, width, values),
-        Operation::BitTest(width) => bits_tested(cursor, instr, width, values),
-        Operation::TwoOperands(binary, width) => two_combined(cursor, instr, binary, width, values),
+        Operation::ChangeMode => change_mode(cursor, instr, thread, values),
+        Operation::Move(size) => move_value(cursor, instr, size, values),
+        Operation::Clear(size) => clear(cursor, instr, size, values),
+        Operation::MoveAddress(_) => move_address(cursor, instr, values),
+        Operation::PushAddress(_) | Operation::PushLong => push_value(cursor, instr, values),
+        Operation::MoveZeroExtended { from, to } => move_zero_extended(
+            cursor, instr, from, to, values,
+        ),
+        Operation::Convert { from, to } => convert(cursor, instr, from, to, values),
+        Operation::MoveComplemented(width) => move_complemented(cursor, instr, width, values),
+        Operation::MoveNegated(width) => move_negated(cursor, instr, width, values),
+        Operation::MovePsl => move_psl(cursor, instr, values),
+        Operation::BitSetPsw => change_psw(cursor, instr, true, values),
+        Operation::BitClearPsw => change_psw(cursor, instr, false, values),
+        Operation::Compare(width) => compare(cursor, instr, width, values),
+        Operation::Test(width) => test_value(cursor, instr, width, values),
+        Operation::BitTest(width) => bit_test(cursor, instr, width, values),
+        Operation::TwoOperands(binary, width) => two_operands(cursor, instr, binary, width, values),
         Operation::ThreeOperands(binary, width) => {
-            three_combined(cursor, instr, binary, width, values)
+            three_operands(cursor, instr, binary, width, values)
         }
-        Operation::Increment(width) => incremented(cursor, instr, width, values),
-        Operation::Decrement(width) => decremented(cursor, instr, width, values),
-        Operation::AddWithCarry => carry_added(cursor, instr, values),
-        Operation::SubtractWithCarry => carry_subtracted(cursor, instr, values),
-        Operation::AddAlignedWord => aligned_added(cursor, instr, values),
-        Operation::ExtendedMultiply => extended_multiplied(cursor, instr, values),
-        Operation::ArithmeticShift => arithmetic_shifted(cursor, instr, values),
-        Operation::Rotate => rotated(cursor, instr, values),
-        Operation::ExtractField { signed } => field_extracted(cursor, instr, signed, values),
-        Operation::InsertField => field_inserted(cursor, instr, values),
-        Operation::Branch(_) => branched(cursor, instr),
-        Operation::BranchIf(condition) => branched_if(cursor, instr, condition),
-        Operation::BranchOnLowBit(state) => branched_on_low_bit(cursor, instr, state, values),
-        Operation::BranchOnBit(branch) => branched_on_bit(cursor, instr, branch, values),
-        Operation::AddOneBranch { or_equal } => one_added(cursor, instr, or_equal, values),
-        Operation::SubtractOneBranch { or_equal } => one_subtracted(
+        Operation::Increment(width) => increment(cursor, instr, width, values),
+        Operation::Decrement(width) => decrement(cursor, instr, width, values),
+        Operation::AddWithCarry => add_with_carry(cursor, instr, values),
+        Operation::SubtractWithCarry => subtract_with_carry(cursor, instr, values),
+        Operation::AddAlignedWord => add_aligned_word(cursor, instr, values),
+        Operation::ExtendedMultiply => extended_multiply(cursor, instr, values),
+        Operation::ArithmeticShift => arithmetic_shift(cursor, instr, values),
+        Operation::Rotate => rotate(cursor, instr, values),
+        Operation::ExtractField { signed } => extract_field(cursor, instr, signed, values),
+        Operation::InsertField => insert_field(cursor, instr, values),
+        Operation::Branch(_) => branch(cursor, instr),
+        Operation::BranchIf(condition) => branch_if(cursor, instr, condition),
+        Operation::BranchOnLowBit(state) => branch_on_low_bit(cursor, instr, state, values),
+        Operation::BranchOnBit(branch) => branch_on_bit(cursor, instr, branch, values),
+        Operation::AddOneBranch { or_equal } => add_one_branch(cursor, instr, or_equal, values),
+        Operation::SubtractOneBranch { or_equal } => subtract_one_branch(
             cursor, instr, or_equal, values,
         ),
-        Operation::AddCompareBranch(width) => added_and_compared(cursor, instr, width, values),
-        Operation::BranchToSubroutine(_) => branched_to_subroutine(cursor, instr),
-        Operation::Jump => jumped(cursor, values),
-        Operation::JumpToSubroutine => jumped_to_subroutine(cursor, instr, values),
-        Operation::ReturnFromSubroutine => returned(cursor),
-        Operation::Case(width) => case_done(cursor, instr, width, values),
+        Operation::AddCompareBranch(width) => add_compare_branch(cursor, instr, width, values),
+        Operation::BranchToSubroutine(_) => branch_to_subroutine(cursor, instr),
+        Operation::Jump => jump(cursor, values),
+        Operation::JumpToSubroutine => jump_to_subroutine(cursor, instr, values),
+        Operation::ReturnFromSubroutine => return_from_subroutine(cursor),
+        Operation::Case(width) => case_of(cursor, instr, width, values),
         Operation::Long(_) => Err(Stop::Fails(Exception::ReservedInstruction)),
     }
 }
@@ -96,6 +98,6 @@ pub fn operation_run(
     ensures few { Uses 28 cursor.old result cursor.new }
 {
     let row = evaluated_row(operation);
-    let values = operands_evaluated(cursor, &row, instr)?;
-    body_run(cursor, operation, instr, thread, &values)
+    let values = operands_from(cursor, &row, instr)?;
+    body(cursor, operation, instr, thread, &values)
 }

@@ -17,20 +17,20 @@ mod operands;
 mod steps;
 
 pub use codes::{
-    carry, finished, gone_to, negative, overflow, set_all, set_by_result, set_codes, set_pc,
-    set_three, sign, trap_is_enabled, zero,
+    carry_of, finish, go_to, negative_of, overflow_of, set_all, set_by_result, set_codes, set_pc,
+    set_three, sign_of, trap_enabled, zero_of,
 };
 pub use cursor::Cursor;
 pub use evaluation::{
-    Evaluated, NOTHING, evaluated_row, location_at, operand_evaluated, operand_found,
-    operand_obtained, operands_evaluated, value_at,
+    Evaluated, NOTHING, evaluate, evaluated_row, find, location_of_place, obtain, operands_from,
+    value_of_place,
 };
-pub use instructions::{body_run, operation_run};
+pub use instructions::{body, operation_run};
 pub use meaning::next;
-pub use memory::{checked, code_word_read, fetched, locked, low, read_checked, written};
-pub use moves::{pushed, set_compared};
+pub use memory::{check, code_word, fetch, lock, low_bytes, read, write};
+pub use moves::{push, set_compared};
 pub use operands::{
-    Location, located, put_back, register_of, set_register_of, stored, taken, value_in_register,
+    Location, locate, modify_at, put, register_of, register_value, set_register_of, store,
 };
 pub use steps::{body_fed, find_fed, obtain_fed};
 pub use vax_form::{Outcome, Pick, RefKind, Reference, VaxState};

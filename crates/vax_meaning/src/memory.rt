@@ -8,7 +8,7 @@ use crate::cursor::Cursor;
 use vax_form::{Exception, RefKind, Reference, Stop};
 
 /// The low bytes of a value.
-pub fn low(bytes: u32, value: u64) -> u64
+pub fn low_bytes(bytes: u32, value: u64) -> u64
     requires { bytes ≤ 8 }
     ensures value { result ≡ low_bytes bytes value }
     ensures bound { result < 2 ^ (8 * bytes) }
@@ -21,17 +21,17 @@ pub fn low(bytes: u32, value: u64) -> u64
 }
 
 /// How many of the bytes from the address on stand in its aligned quadword.
-fn front(address: u32, count: u32) -> u32
+fn front_count(address: u32, count: u32) -> u32
     ensures { result ≡ front_count address count }
 {
     count.min(8 - address % 8)
 }
 
 /// Where the second part of an operand begins.
-fn behind(address: u32, count: u32) -> u32
+fn next_part(address: u32, count: u32) -> u32
     ensures { result ≡ next_part address count }
 {
-    address.wrapping_add(front(address, count))
+    address.wrapping_add(front_count(address, count))
 }
 
 /// What the byte of that number counts.
@@ -56,7 +56,7 @@ fn joined(low: u64, front: u32, high: u64, rest: u32) -> u64
 }
 
 /// Checks an operand's bytes.
-pub fn checked(cursor: &mut Cursor, address: u32, count: u32, write: bool) -> Result<(), Stop>
+pub fn check(cursor: &mut Cursor, address: u32, count: u32, write: bool) -> Result<(), Stop>
     requires { count ≤ 8 }
     ensures plays { Plays (check address count write) cursor.old result cursor.new }
     ensures few { Uses 0 cursor.old result cursor.new }
@@ -67,7 +67,7 @@ pub fn checked(cursor: &mut Cursor, address: u32, count: u32, write: bool) -> Re
     }
 }
 
-fn part_read(cursor: &mut Cursor, address: u32, count: u32) -> Result<u64, Stop>
+fn read_part(cursor: &mut Cursor, address: u32, count: u32) -> Result<u64, Stop>
     requires { count ≤ 8 }
     ensures plays { Plays (read_part address count) cursor.old result cursor.new }
     ensures few { Uses 1 cursor.old result cursor.new }
@@ -78,28 +78,28 @@ fn part_read(cursor: &mut Cursor, address: u32, count: u32) -> Result<u64, Stop>
         count: count as u8,
         kind: RefKind::Read,
     })?;
-    Ok(low(count, reply))
+    Ok(low_bytes(count, reply))
 }
 
 /// Reads an operand that was checked.
 #[tactic(auto, unfolding(crate::specs::Memory::read))]
-pub fn read_checked(cursor: &mut Cursor, address: u32, count: u32) -> Result<u64, Stop>
+pub fn read(cursor: &mut Cursor, address: u32, count: u32) -> Result<u64, Stop>
     requires { count ≤ 8 }
     ensures plays { Plays (read address count) cursor.old result cursor.new }
     ensures few { Uses 2 cursor.old result cursor.new }
 {
-    let first = front(address, count);
-    let low = part_read(cursor, address, first)?;
+    let first = front_count(address, count);
+    let low = read_part(cursor, address, first)?;
     if first < count {
         let rest = count - first;
-        let high = part_read(cursor, behind(address, count), rest)?;
+        let high = read_part(cursor, next_part(address, count), rest)?;
         Ok(joined(low, first, high, rest))
     } else {
         Ok(low)
     }
 }
 
-fn part_written(cursor: &mut Cursor, address: u32, count: u32, value: u64) -> Result<(), Stop>
+fn write_part(cursor: &mut Cursor, address: u32, count: u32, value: u64) -> Result<(), Stop>
     requires { count ≤ 8 }
     ensures plays { Plays (write_part address count value) cursor.old result cursor.new }
     ensures few { Uses 1 cursor.old result cursor.new }
@@ -107,39 +107,39 @@ fn part_written(cursor: &mut Cursor, address: u32, count: u32, value: u64) -> Re
     cursor.ask(Reference {
         address,
         count: count as u8,
-        kind: RefKind::Write(low(count, value)),
+        kind: RefKind::Write(low_bytes(count, value)),
     })?;
     Ok(())
 }
 
 /// Writes an operand that was checked.
 #[tactic(auto, unfolding(crate::specs::Memory::write))]
-pub fn written(cursor: &mut Cursor, address: u32, count: u32, value: u64) -> Result<(), Stop>
+pub fn write(cursor: &mut Cursor, address: u32, count: u32, value: u64) -> Result<(), Stop>
     requires { count ≤ 8 }
     ensures plays { Plays (write address count value) cursor.old result cursor.new }
     ensures few { Uses 2 cursor.old result cursor.new }
 {
-    let first = front(address, count);
-    part_written(cursor, address, first, value)?;
+    let first = front_count(address, count);
+    write_part(cursor, address, first, value)?;
     if first < count {
         let rest = value / unit(first);
-        part_written(cursor, behind(address, count), count - first, rest)?;
+        write_part(cursor, next_part(address, count), count - first, rest)?;
     }
     Ok(())
 }
 
 /// Checks and reads an operand in memory.
-pub fn fetched(cursor: &mut Cursor, address: u32, count: u32) -> Result<u64, Stop>
+pub fn fetch(cursor: &mut Cursor, address: u32, count: u32) -> Result<u64, Stop>
     requires { count ≤ 8 }
     ensures plays { Plays (fetch address count) cursor.old result cursor.new }
     ensures few { Uses 2 cursor.old result cursor.new }
 {
-    checked(cursor, address, count, false)?;
-    read_checked(cursor, address, count)
+    check(cursor, address, count, false)?;
+    read(cursor, address, count)
 }
 
 /// Makes one interlocked reference, within an aligned quadword.
-pub fn locked(cursor: &mut Cursor, address: u32, count: u32, kind: RefKind) -> Result<u64, Stop>
+pub fn lock(cursor: &mut Cursor, address: u32, count: u32, kind: RefKind) -> Result<u64, Stop>
     requires { count ≤ 8 }
     ensures plays { Plays (lock address count kind) cursor.old result cursor.new }
     ensures few { Uses 1 cursor.old result cursor.new }
@@ -150,17 +150,17 @@ pub fn locked(cursor: &mut Cursor, address: u32, count: u32, kind: RefKind) -> R
         count: count as u8,
         kind,
     })?;
-    Ok(low(count, reply))
+    Ok(low_bytes(count, reply))
 }
 
 /// A word of the code.
 #[tactic(auto, unfolding(crate::specs::Memory::code_word))]
-pub fn code_word_read(cursor: &mut Cursor, address: u32) -> Result<u32, Stop>
+pub fn code_word(cursor: &mut Cursor, address: u32) -> Result<u32, Stop>
     ensures plays { Plays (code_word address) cursor.old result cursor.new }
     ensures few { Uses 0 cursor.old result cursor.new }
     ensures bound { IfOk result (λ word. word < 65536) }
 {
-    let low = cursor.code_byte(address)?;
-    let high = cursor.code_byte(address.wrapping_add(1))?;
+    let low = cursor.read_code(address)?;
+    let high = cursor.read_code(address.wrapping_add(1))?;
     Ok(low as u32 + high as u32 * 256)
 }

@@ -5,17 +5,17 @@ ghost use Rattle.vax_form.specs.Script.{changed};
 ghost use Rattle.vax_meaning.specs.Play.{Plays, Uses, view};
 ghost use Rattle.vax_meaning.specs.Moves.{give, move_value, clear, move_address, move_complemented, move_zero_extended, push, push_value, with_comparison, compare, test_value, bit_test, move_psl, change_psw};
 
-use crate::codes::{carry, gone_to, set_by_result, set_codes, sign};
+use crate::codes::{carry_of, go_to, set_by_result, set_codes, sign_of};
 use crate::cursor::Cursor;
-use crate::evaluation::{Evaluated, location_at, value_at};
-use crate::memory::{checked, written};
-use crate::operands::{register_of, set_register_of, stored};
+use crate::evaluation::{Evaluated, location_of_place, value_of_place};
+use crate::memory::{check, write};
+use crate::operands::{register_of, set_register_of, store};
 use vax_form::{End, Exception, Instr, Size, Stop, Width};
 use vt_words::{and, complement, signed};
 
 /// Writes a result to the operand of that place, and sets the codes by it.
 #[tactic(auto, unfolding(crate::specs::Moves::give))]
-pub fn given(
+pub fn give(
     cursor: &mut Cursor,
     instr: &Instr,
     place: usize,
@@ -27,13 +27,13 @@ pub fn given(
     ensures plays { Plays (give instr.now place size value values.now) cursor.old result cursor.new }
     ensures few { Uses 2 cursor.old result cursor.new }
 {
-    stored(cursor, location_at(values, place), size, value)?;
+    store(cursor, location_of_place(values, place), size, value)?;
     set_by_result(cursor, size, value);
-    gone_to(cursor, instr.after)
+    go_to(cursor, instr.after)
 }
 
 /// MOV.
-pub fn moved(
+pub fn move_value(
     cursor: &mut Cursor,
     instr: &Instr,
     size: Size,
@@ -42,11 +42,18 @@ pub fn moved(
     ensures plays { Plays (move_value instr.now size values.now) cursor.old result cursor.new }
     ensures few { Uses 2 cursor.old result cursor.new }
 {
-    given(cursor, instr, 1, size, value_at(values, 0, size), values)
+    give(
+        cursor,
+        instr,
+        1,
+        size,
+        value_of_place(values, 0, size),
+        values,
+    )
 }
 
 /// CLR.
-pub fn cleared(
+pub fn clear(
     cursor: &mut Cursor,
     instr: &Instr,
     size: Size,
@@ -55,11 +62,11 @@ pub fn cleared(
     ensures plays { Plays (clear instr.now size values.now) cursor.old result cursor.new }
     ensures few { Uses 2 cursor.old result cursor.new }
 {
-    given(cursor, instr, 0, size, 0, values)
+    give(cursor, instr, 0, size, 0, values)
 }
 
 /// MOVA.
-pub fn address_moved(
+pub fn move_address(
     cursor: &mut Cursor,
     instr: &Instr,
     values: &[Evaluated; 6],
@@ -67,12 +74,12 @@ pub fn address_moved(
     ensures plays { Plays (move_address instr.now values.now) cursor.old result cursor.new }
     ensures few { Uses 2 cursor.old result cursor.new }
 {
-    let address = value_at(values, 0, Size::Long);
-    given(cursor, instr, 1, Size::Long, address, values)
+    let address = value_of_place(values, 0, Size::Long);
+    give(cursor, instr, 1, Size::Long, address, values)
 }
 
 /// MCOM.
-pub fn complement_moved(
+pub fn move_complemented(
     cursor: &mut Cursor,
     instr: &Instr,
     width: Width,
@@ -82,13 +89,13 @@ pub fn complement_moved(
     ensures few { Uses 2 cursor.old result cursor.new }
 {
     let size = width.size();
-    let value = complement(width.bytes(), value_at(values, 0, size));
-    given(cursor, instr, 1, size, value, values)
+    let value = complement(width.bytes(), value_of_place(values, 0, size));
+    give(cursor, instr, 1, size, value, values)
 }
 
 /// MOVZ.
 #[tactic(auto, unfolding(crate::specs::Moves::move_zero_extended))]
-pub fn zero_extended(
+pub fn move_zero_extended(
     cursor: &mut Cursor,
     instr: &Instr,
     from: Width,
@@ -98,40 +105,36 @@ pub fn zero_extended(
     ensures plays { Plays (move_zero_extended instr.now from to values.now) cursor.old result cursor.new }
     ensures few { Uses 2 cursor.old result cursor.new }
 {
-    let value = value_at(values, 0, from.size());
-    stored(cursor, location_at(values, 1), to.size(), value)?;
-    let c = carry(cursor);
+    let value = value_of_place(values, 0, from.size());
+    store(cursor, location_of_place(values, 1), to.size(), value)?;
+    let c = carry_of(cursor);
     set_codes(cursor, false, value == 0, false, c);
-    gone_to(cursor, instr.after)
+    go_to(cursor, instr.after)
 }
 
 /// Pushes a longword.
 #[tactic(auto, unfolding(crate::specs::Moves::push))]
-pub fn pushed(cursor: &mut Cursor, value: u64) -> Result<(), Stop>
+pub fn push(cursor: &mut Cursor, value: u64) -> Result<(), Stop>
     ensures plays { Plays (push value) cursor.old result cursor.new }
     ensures few { Uses 2 cursor.old result cursor.new }
 {
     let top = register_of(cursor, 14).wrapping_sub(4);
-    checked(cursor, top, 4, true)?;
-    written(cursor, top, 4, value)?;
+    check(cursor, top, 4, true)?;
+    write(cursor, top, 4, value)?;
     set_register_of(cursor, 14, top);
     Ok(())
 }
 
 /// PUSHL and PUSHA.
 #[tactic(auto, unfolding(crate::specs::Moves::push_value))]
-pub fn value_pushed(
-    cursor: &mut Cursor,
-    instr: &Instr,
-    values: &[Evaluated; 6],
-) -> Result<End, Stop>
+pub fn push_value(cursor: &mut Cursor, instr: &Instr, values: &[Evaluated; 6]) -> Result<End, Stop>
     ensures plays { Plays (push_value instr.now values.now) cursor.old result cursor.new }
     ensures few { Uses 2 cursor.old result cursor.new }
 {
-    let value = value_at(values, 0, Size::Long);
-    pushed(cursor, value)?;
+    let value = value_of_place(values, 0, Size::Long);
+    push(cursor, value)?;
     set_by_result(cursor, Size::Long, value);
-    gone_to(cursor, instr.after)
+    go_to(cursor, instr.after)
 }
 
 /// Sets the codes as a comparison of two values does.
@@ -146,7 +149,7 @@ pub fn set_compared(cursor: &mut Cursor, width: Width, first: u64, second: u64)
 
 /// CMP.
 #[tactic(auto, unfolding(crate::specs::Moves::compare))]
-pub fn compared(
+pub fn compare(
     cursor: &mut Cursor,
     instr: &Instr,
     width: Width,
@@ -155,15 +158,15 @@ pub fn compared(
     ensures plays { Plays (compare instr.now width values.now) cursor.old result cursor.new }
     ensures few { Uses 0 cursor.old result cursor.new }
 {
-    let first = value_at(values, 0, width.size());
-    let second = value_at(values, 1, width.size());
+    let first = value_of_place(values, 0, width.size());
+    let second = value_of_place(values, 1, width.size());
     set_compared(cursor, width, first, second);
-    gone_to(cursor, instr.after)
+    go_to(cursor, instr.after)
 }
 
 /// TST.
 #[tactic(auto, unfolding(crate::specs::Moves::test_value))]
-pub fn tested(
+pub fn test_value(
     cursor: &mut Cursor,
     instr: &Instr,
     width: Width,
@@ -172,14 +175,20 @@ pub fn tested(
     ensures plays { Plays (test_value instr.now width values.now) cursor.old result cursor.new }
     ensures few { Uses 0 cursor.old result cursor.new }
 {
-    let value = value_at(values, 0, width.size());
-    set_codes(cursor, sign(width.size(), value), value == 0, false, false);
-    gone_to(cursor, instr.after)
+    let value = value_of_place(values, 0, width.size());
+    set_codes(
+        cursor,
+        sign_of(width.size(), value),
+        value == 0,
+        false,
+        false,
+    );
+    go_to(cursor, instr.after)
 }
 
 /// BIT.
 #[tactic(auto, unfolding(crate::specs::Moves::bit_test))]
-pub fn bits_tested(
+pub fn bit_test(
     cursor: &mut Cursor,
     instr: &Instr,
     width: Width,
@@ -188,26 +197,26 @@ pub fn bits_tested(
     ensures plays { Plays (bit_test instr.now width values.now) cursor.old result cursor.new }
     ensures few { Uses 0 cursor.old result cursor.new }
 {
-    let first = value_at(values, 0, width.size());
-    let second = value_at(values, 1, width.size());
+    let first = value_of_place(values, 0, width.size());
+    let second = value_of_place(values, 1, width.size());
     set_by_result(cursor, width.size(), and(width.bytes(), first, second));
-    gone_to(cursor, instr.after)
+    go_to(cursor, instr.after)
 }
 
 /// MOVPSL.
 #[tactic(auto, unfolding(crate::specs::Moves::move_psl))]
-pub fn psl_moved(cursor: &mut Cursor, instr: &Instr, values: &[Evaluated; 6]) -> Result<End, Stop>
+pub fn move_psl(cursor: &mut Cursor, instr: &Instr, values: &[Evaluated; 6]) -> Result<End, Stop>
     ensures plays { Plays (move_psl instr.now values.now) cursor.old result cursor.new }
     ensures few { Uses 2 cursor.old result cursor.new }
 {
     let value = cursor.state.psl() as u64;
-    stored(cursor, location_at(values, 0), Size::Long, value)?;
-    gone_to(cursor, instr.after)
+    store(cursor, location_of_place(values, 0), Size::Long, value)?;
+    go_to(cursor, instr.after)
 }
 
 /// BISPSW, and BICPSW where the bits are not set but cleared.
 #[tactic(auto, unfolding(crate::specs::Moves::change_psw))]
-pub fn psw_changed(
+pub fn change_psw(
     cursor: &mut Cursor,
     instr: &Instr,
     set: bool,
@@ -216,7 +225,7 @@ pub fn psw_changed(
     ensures plays { Plays (change_psw instr.now set values.now) cursor.old result cursor.new }
     ensures few { Uses 0 cursor.old result cursor.new }
 {
-    let mask = value_at(values, 0, Size::Word);
+    let mask = value_of_place(values, 0, Size::Word);
     if mask > 255 {
         return Err(Stop::Fails(Exception::ReservedOperand));
     }
@@ -226,5 +235,5 @@ pub fn psw_changed(
     } else {
         cursor.state.psw &= 65535 - mask;
     }
-    gone_to(cursor, instr.after)
+    go_to(cursor, instr.after)
 }

@@ -7,7 +7,7 @@ ghost use Rattle.vax_meaning.specs.Play.{Plays, Uses, view};
 ghost use Rattle.vax_meaning.specs.Operands.{base_address, through, place_address, register_value, locate, modify_at, put, store};
 
 use crate::cursor::Cursor;
-use crate::memory::{checked, fetched, low, read_checked, written};
+use crate::memory::{check, fetch, low_bytes, read, write};
 use vax_form::{Base, Operand, Size, Stop};
 
 /// Where an operand is that is written.
@@ -32,13 +32,13 @@ pub fn set_register_of(cursor: &mut Cursor, number: u8, value: u32)
 }
 
 /// The address itself, or the one that the longword there has.
-fn pointed(cursor: &mut Cursor, address: u32, deferred: bool) -> Result<u32, Stop>
+fn through(cursor: &mut Cursor, address: u32, deferred: bool) -> Result<u32, Stop>
     ensures plays { Plays (through address deferred) cursor.old result cursor.new }
     ensures few { Uses 2 cursor.old result cursor.new }
 {
     if deferred {
-        let longword = fetched(cursor, address, 4)?;
-        Ok(low(4, longword) as u32)
+        let longword = fetch(cursor, address, 4)?;
+        Ok(low_bytes(4, longword) as u32)
     } else {
         Ok(address)
     }
@@ -46,7 +46,7 @@ fn pointed(cursor: &mut Cursor, address: u32, deferred: bool) -> Result<u32, Sto
 
 /// The address of a base, with its side effect.
 #[tactic(auto, unfolding(crate::specs::Operands::base_address))]
-fn address_of_base(cursor: &mut Cursor, base: Base, size: u32) -> Result<u32, Stop>
+fn base_address(cursor: &mut Cursor, base: Base, size: u32) -> Result<u32, Stop>
     requires { size ≤ 8 }
     ensures plays { Plays (base_address base size) cursor.old result cursor.new }
     ensures few { Uses 2 cursor.old result cursor.new }
@@ -66,7 +66,7 @@ fn address_of_base(cursor: &mut Cursor, base: Base, size: u32) -> Result<u32, St
         Base::IncrementDeferred(register) => {
             let address = register_of(cursor, register);
             set_register_of(cursor, register, address.wrapping_add(4));
-            pointed(cursor, address, true)
+            through(cursor, address, true)
         }
         Base::Offset {
             register,
@@ -74,25 +74,20 @@ fn address_of_base(cursor: &mut Cursor, base: Base, size: u32) -> Result<u32, St
             deferred,
         } => {
             let address = register_of(cursor, register).wrapping_add(offset);
-            pointed(cursor, address, deferred)
+            through(cursor, address, deferred)
         }
-        Base::Fixed { address, deferred } => pointed(cursor, address, deferred),
+        Base::Fixed { address, deferred } => through(cursor, address, deferred),
     }
 }
 
 /// The address of an operand in memory, with the side effect of its base.
 #[tactic(auto, unfolding(crate::specs::Operands::place_address))]
-fn address_of_place(
-    cursor: &mut Cursor,
-    base: Base,
-    index: Option<u8>,
-    size: u32,
-) -> Result<u32, Stop>
+fn place_address(cursor: &mut Cursor, base: Base, index: Option<u8>, size: u32) -> Result<u32, Stop>
     requires { size ≤ 8 }
     ensures plays { Plays (place_address base index size) cursor.old result cursor.new }
     ensures few { Uses 2 cursor.old result cursor.new }
 {
-    let address = address_of_base(cursor, base, size)?;
+    let address = base_address(cursor, base, size)?;
     match index {
         None => Ok(address),
         Some(register) => {
@@ -103,13 +98,13 @@ fn address_of_place(
 }
 
 /// What a register operand has.
-pub fn value_in_register(cursor: &Cursor, number: u8, size: u32) -> u64
+pub fn register_value(cursor: &Cursor, number: u8, size: u32) -> u64
     requires { size ≤ 8 }
     ensures { result ≡ register_value number size cursor.now.state }
 {
     let first = register_of(cursor, number) as u64;
     if size < 8 {
-        low(size, first)
+        low_bytes(size, first)
     } else {
         let second = register_of(cursor, number.saturating_add(1)) as u64;
         first + second * 0x1_0000_0000
@@ -118,14 +113,14 @@ pub fn value_in_register(cursor: &Cursor, number: u8, size: u32) -> u64
 
 /// Finds where an operand is.
 #[tactic(auto, unfolding(crate::specs::Operands::locate))]
-pub fn located(cursor: &mut Cursor, operand: Operand, size: Size) -> Result<Location, Stop>
+pub fn locate(cursor: &mut Cursor, operand: Operand, size: Size) -> Result<Location, Stop>
     ensures plays { Plays (locate operand size) cursor.old result cursor.new }
     ensures few { Uses 2 cursor.old result cursor.new }
 {
     match operand {
         Operand::Register(number) => Ok(Location::InRegister(number)),
         Operand::Place { base, index } => {
-            let address = address_of_place(cursor, base, index, size.bytes())?;
+            let address = place_address(cursor, base, index, size.bytes())?;
             Ok(Location::InMemory(address))
         }
         Operand::Unused | Operand::Value(_) | Operand::Target(_) => Ok(Location::InMemory(0)),
@@ -134,25 +129,25 @@ pub fn located(cursor: &mut Cursor, operand: Operand, size: Size) -> Result<Loca
 
 /// Checks with write intent, and reads, what is at a place.
 #[tactic(auto, unfolding(crate::specs::Operands::modify_at))]
-pub fn taken(cursor: &mut Cursor, location: Location, size: Size) -> Result<u64, Stop>
+pub fn modify_at(cursor: &mut Cursor, location: Location, size: Size) -> Result<u64, Stop>
     ensures plays { Plays (modify_at location size) cursor.old result cursor.new }
     ensures few { Uses 2 cursor.old result cursor.new }
     ensures bound { IfOk result (λ value. value < 2 ^ (8 * bytes_of size)) }
 {
     let bytes = size.bytes();
     match location {
-        Location::InRegister(number) => Ok(low(bytes, value_in_register(cursor, number, bytes))),
+        Location::InRegister(number) => Ok(low_bytes(bytes, register_value(cursor, number, bytes))),
         Location::InMemory(address) => {
-            checked(cursor, address, bytes, true)?;
-            let value = read_checked(cursor, address, bytes)?;
-            Ok(low(bytes, value))
+            check(cursor, address, bytes, true)?;
+            let value = read(cursor, address, bytes)?;
+            Ok(low_bytes(bytes, value))
         }
     }
 }
 
 /// Puts a value where an operand is, which was checked.
 #[tactic(auto, unfolding(crate::specs::Operands::put))]
-pub fn put_back(cursor: &mut Cursor, location: Location, size: Size, value: u64) -> Result<(), Stop>
+pub fn put(cursor: &mut Cursor, location: Location, size: Size, value: u64) -> Result<(), Stop>
     ensures plays { Plays (put location size value) cursor.old result cursor.new }
     ensures few { Uses 2 cursor.old result cursor.new }
 {
@@ -171,21 +166,21 @@ pub fn put_back(cursor: &mut Cursor, location: Location, size: Size, value: u64)
             }
             Ok(())
         }
-        Location::InMemory(address) => written(cursor, address, size.bytes(), value),
+        Location::InMemory(address) => write(cursor, address, size.bytes(), value),
     }
 }
 
 /// Checks where an operand is, and puts a value there.
 #[tactic(auto, unfolding(crate::specs::Operands::store))]
-pub fn stored(cursor: &mut Cursor, location: Location, size: Size, value: u64) -> Result<(), Stop>
+pub fn store(cursor: &mut Cursor, location: Location, size: Size, value: u64) -> Result<(), Stop>
     ensures plays { Plays (store location size value) cursor.old result cursor.new }
     ensures few { Uses 2 cursor.old result cursor.new }
 {
     match location {
-        Location::InRegister(_) => put_back(cursor, location, size, value),
+        Location::InRegister(_) => put(cursor, location, size, value),
         Location::InMemory(address) => {
-            checked(cursor, address, size.bytes(), true)?;
-            put_back(cursor, location, size, value)
+            check(cursor, address, size.bytes(), true)?;
+            put(cursor, location, size, value)
         }
     }
 }

@@ -5,8 +5,8 @@ ghost use Rattle.vax_meaning.specs.Evaluation.{find, obtain};
 ghost use Rattle.vax_meaning.specs.Instructions.{body};
 
 use crate::cursor::Cursor;
-use crate::evaluation::{Evaluated, operand_found, operand_obtained};
-use crate::instructions::body_run;
+use crate::evaluation::{Evaluated, find, obtain};
+use crate::instructions::body;
 use crate::operands::Location;
 use vax_form::{Access, End, Instr, Operand, Operation, Size, Stop};
 
@@ -20,7 +20,7 @@ pub fn find_fed(
     ensures fed { Fed (find access size operand) cursor.old result cursor.new }
     ensures few { Uses 2 cursor.old result cursor.new }
 {
-    operand_found(cursor, access, size, operand)
+    find(cursor, access, size, operand)
 }
 
 /// Obtains an operand that was found, with a contract by the tree.
@@ -34,7 +34,7 @@ pub fn obtain_fed(
     ensures fed { Fed (obtain access size operand location) cursor.old result cursor.new }
     ensures few { Uses 2 cursor.old result cursor.new }
 {
-    operand_obtained(cursor, access, size, operand, location)
+    obtain(cursor, access, size, operand, location)
 }
 
 /// Does what an operation does once its operands are evaluated, with a contract by the tree.
@@ -48,5 +48,5 @@ pub fn body_fed(
     ensures fed { Fed (body operation instr.now thread values.now) cursor.old result cursor.new }
     ensures few { Uses 4 cursor.old result cursor.new }
 {
-    body_run(cursor, operation, instr, thread, values)
+    body(cursor, operation, instr, thread, values)
 }

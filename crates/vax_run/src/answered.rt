@@ -9,9 +9,7 @@ ghost use Rattle.vax_run.specs.Answered.{answer_of, answer_to, handled_answer, I
 
 use vax_decode::{Decoded, decode_at};
 use vax_form::{End, Exception, Instr, Pages, Pending, Reference, Stop, VaxState, operation_of};
-use vax_long::{
-    exception_pushed, frame_is_allowed, long_operation_of, long_operation_run, resumed,
-};
+use vax_long::{frame_is_allowed, long_operation_of, long_operation_run, push_exception, resume};
 use vax_meaning::{Cursor, operation_run};
 
 /// What a thread comes to at a state with some replies.
@@ -67,7 +65,7 @@ fn delivery_answered(
         pages,
         replies,
     };
-    let end = exception_pushed(&mut cursor, exception);
+    let end = push_exception(&mut cursor, exception);
     let taken = replies.len().saturating_sub(cursor.replies.len());
     answer_of(end, cursor.state, taken)
 }
@@ -81,7 +79,7 @@ fn resumption_answered(pages: &Pages, state: &VaxState, replies: &[u64]) -> Answ
         pages,
         replies,
     };
-    let end = resumed(&mut cursor);
+    let end = resume(&mut cursor);
     let taken = replies.len().saturating_sub(cursor.replies.len());
     handled_answer(state, cursor.state, end, taken)
 }

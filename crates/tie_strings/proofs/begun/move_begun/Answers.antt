@@ -9,16 +9,16 @@ returns-in-Ok c =
     let instr = c.args.instr.now in
     let values = c.args.values.now in
     rw c.move_of.ensures
-    (begins MoveCharacters instr values c.value_at-source.result c.value_at-count.result c.value_at-destination.result c.value_at-count.result
-    (move_of c.value_at-count.result c.value_at-source.result c.value_at-destination.result instr.after) c.args.cursor.now c.strings_checked.new.cursor
-    (is_move instr values c.value_at-count.result c.value_at-source.result c.value_at-destination.result c.value_at-count.ensures.value c.value_at-source.ensures.value c.value_at-destination.ensures.value)
+    (begins MoveCharacters instr values c.value_of_place-source.result c.value_of_place-count.result c.value_of_place-destination.result c.value_of_place-count.result
+    (move_of c.value_of_place-count.result c.value_of_place-source.result c.value_of_place-destination.result instr.after) c.args.cursor.now c.strings_checked.new.cursor
+    (is_move instr values c.value_of_place-count.result c.value_of_place-source.result c.value_of_place-destination.result c.value_of_place-count.ensures.value c.value_of_place-source.ensures.value c.value_of_place-destination.ensures.value)
     c.in-Ok.ensures.plays)
 
 pub returns-in-Err : goal.returns-in-Err
 returns-in-Err c =
     let instr = c.args.instr.now in
     let values = c.args.values.now in
-    fails MoveCharacters instr values c.value_at-source.result c.value_at-count.result c.value_at-destination.result c.value_at-count.result
-    (move_of c.value_at-count.result c.value_at-source.result c.value_at-destination.result instr.after) c.args.cursor.now c.strings_checked.new.cursor c.in-Err.stop
-    (is_move instr values c.value_at-count.result c.value_at-source.result c.value_at-destination.result c.value_at-count.ensures.value c.value_at-source.ensures.value c.value_at-destination.ensures.value)
+    fails MoveCharacters instr values c.value_of_place-source.result c.value_of_place-count.result c.value_of_place-destination.result c.value_of_place-count.result
+    (move_of c.value_of_place-count.result c.value_of_place-source.result c.value_of_place-destination.result instr.after) c.args.cursor.now c.strings_checked.new.cursor c.in-Err.stop
+    (is_move instr values c.value_of_place-count.result c.value_of_place-source.result c.value_of_place-destination.result c.value_of_place-count.ensures.value c.value_of_place-source.ensures.value c.value_of_place-destination.ensures.value)
     c.in-Err.ensures.plays c.in-Err.ensures.few

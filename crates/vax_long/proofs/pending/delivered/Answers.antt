@@ -14,6 +14,6 @@ returns-clause-value c =
     let tree = instruction_tree pages (push_exception c.args.exception) state in
     let bad = first_bad pages true (frame_address state) frame_bytes in
     let allowed : is_none bad ≡ true = sym c.frame_is_allowed.ensures ∙ c.if-not-frame_is_allowed.false in
-    c.seen.ensures
-    ∙ seen_by_tree (push_exception c.args.exception) (record { state = state; pages = c.args.pages; replies = c.args.replies }) c.exception_pushed-end.new.cursor c.exception_pushed-end.result c.exception_pushed-end.ensures.plays
+    c.seen_of.ensures
+    ∙ seen_by_tree (push_exception c.args.exception) (record { state = state; pages = c.args.pages; replies = c.args.replies }) c.push_exception-end.new.cursor c.push_exception-end.result c.push_exception-end.ensures.plays
     ∙ ap (λ (t : Tree). outcome state (answer pages t c.args.replies.now)) (sym (delivers bad c.args.exception tree allowed))

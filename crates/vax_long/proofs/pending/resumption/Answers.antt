@@ -5,5 +5,5 @@ use Rattle.vax_long.proofs.pending.resumption.Goals as goal
 
 pub returns-clause-value : goal.returns-clause-value
 returns-clause-value c =
-    c.seen.ensures
-    ∙ seen_by_tree resume (record { state = c.args.state.now; pages = c.args.pages; replies = c.args.replies }) c.resumed-end.new.cursor c.resumed-end.result c.resumed-end.ensures.plays
+    c.seen_of.ensures
+    ∙ seen_by_tree resume (record { state = c.args.state.now; pages = c.args.pages; replies = c.args.replies }) c.resume-end.new.cursor c.resume-end.result c.resume-end.ensures.plays

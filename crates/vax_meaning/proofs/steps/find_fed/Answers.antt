@@ -4,4 +4,4 @@ use Rattle.vax_meaning.proofs.Feeding.{fed_of_plays}
 use Rattle.vax_meaning.proofs.steps.find_fed.Goals as goal
 
 pub returns-clause-fed : goal.returns-clause-fed
-returns-clause-fed c = fed_of_plays (find c.args.access c.args.size c.args.operand) c.args.cursor.now c.operand_found.new.cursor c.operand_found.result c.operand_found.ensures.plays
+returns-clause-fed c = fed_of_plays (find c.args.access c.args.size c.args.operand) c.args.cursor.now c.find.new.cursor c.find.result c.find.ensures.plays

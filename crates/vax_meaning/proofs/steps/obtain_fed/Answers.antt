@@ -4,4 +4,4 @@ use Rattle.vax_meaning.proofs.Feeding.{fed_of_plays}
 use Rattle.vax_meaning.proofs.steps.obtain_fed.Goals as goal
 
 pub returns-clause-fed : goal.returns-clause-fed
-returns-clause-fed c = fed_of_plays (obtain c.args.access c.args.size c.args.operand c.args.location) c.args.cursor.now c.operand_obtained.new.cursor c.operand_obtained.result c.operand_obtained.ensures.plays
+returns-clause-fed c = fed_of_plays (obtain c.args.access c.args.size c.args.operand c.args.location) c.args.cursor.now c.obtain.new.cursor c.obtain.result c.obtain.ensures.plays

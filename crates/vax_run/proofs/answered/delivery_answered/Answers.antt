@@ -16,7 +16,7 @@ returns-clause-value c =
     let tree = instruction_tree pages (push_exception c.args.exception) state in
     let bad = first_bad pages true (frame_address state) frame_bytes in
     let allowed : is_none bad ≡ true = sym c.frame_is_allowed.ensures ∙ c.if-not-frame_is_allowed.false in
-    let is = answer_is (push_exception c.args.exception) (record { state = state; pages = c.args.pages; replies = c.args.replies }) c.exception_pushed-end.new.cursor c.exception_pushed-end.result c.exception_pushed-end.ensures.plays in
+    let is = answer_is (push_exception c.args.exception) (record { state = state; pages = c.args.pages; replies = c.args.replies }) c.push_exception-end.new.cursor c.push_exception-end.result c.push_exception-end.ensures.plays in
     ap (answer_to replies) c.answer_of.ensures
-    ∙ ap (λ n. answer_to replies (answer_of c.exception_pushed-end.result c.exception_pushed-end.new.cursor.state n)) c.saturating_sub-taken.ensures
+    ∙ ap (λ n. answer_to replies (answer_of c.push_exception-end.result c.push_exception-end.new.cursor.state n)) c.saturating_sub-taken.ensures
     ∙ is.value ∙ ap (λ (t : Tree). answer pages t replies) (sym (delivers bad c.args.exception tree allowed))

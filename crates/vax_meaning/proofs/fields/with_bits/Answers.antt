@@ -1,7 +1,7 @@
 -- Each part is below the whole, which is a quadword.
 use Rattle.std.proofs.Common.{arith}
 use Rattle.vax_meaning.proofs.Bits.{with_bits_below}
-use Rattle.vax_meaning.proofs.fields.replaced_bits.Goals as goal
+use Rattle.vax_meaning.proofs.fields.with_bits.Goals as goal
 
 pub overflow_mul-result-2 : goal.overflow_mul-result-2
 overflow_mul-result-2 c =

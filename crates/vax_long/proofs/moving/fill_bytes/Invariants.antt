@@ -3,7 +3,7 @@ use Rattle.std.proofs.Common.{◌≡◌, ◌-◌, ◌≤◌, length, ◌+◌}
 use Rattle.vax_form.specs.Script.{run}
 use Rattle.vax_meaning.specs.Play.{view}
 use Rattle.vax_long.specs.Strings.{fill_bytes}
-use Rattle.vax_long.proofs.moving.bytes_filled.Given as goal
+use Rattle.vax_long.proofs.moving.fill_bytes.Given as goal
 
 abbrev pub invariant-loop : goal.invariant-loop
 invariant-loop l = record {

@@ -3,7 +3,7 @@ use Rattle.std.proofs.Common.{◌≡◌, ◌-◌, ◌≤◌, length, ◌+◌}
 use Rattle.vax_form.specs.Script.{run}
 use Rattle.vax_meaning.specs.Play.{view}
 use Rattle.vax_long.specs.Strings.{scan_bytes}
-use Rattle.vax_long.proofs.searching.bytes_scanned.Given as goal
+use Rattle.vax_long.proofs.searching.scan_bytes.Given as goal
 
 abbrev pub invariant-loop-done : goal.invariant-loop-done
 invariant-loop-done l = record {

@@ -3,7 +3,7 @@ use Rattle.std.proofs.Common.{◌≡◌, ◌-◌, ◌≤◌, length, ◌+◌, �
 use Rattle.vax_form.specs.Script.{run}
 use Rattle.vax_meaning.specs.Play.{view}
 use Rattle.vax_long.specs.Registers.{pop_registers}
-use Rattle.vax_long.proofs.registers.registers_popped.Given as goal
+use Rattle.vax_long.proofs.registers.pop_registers.Given as goal
 
 abbrev pub invariant-loop-number : goal.invariant-loop-number
 invariant-loop-number l = record {

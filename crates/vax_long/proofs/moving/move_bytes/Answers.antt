@@ -2,12 +2,12 @@
 use Rattle.std.proofs.Common.{◌≡◌, ◌+◌, ◌-◌, suc, arith, sym, ◌∙◌}
 use Rattle.vax_meaning.specs.Play.{view}
 use Rattle.vax_long.proofs.StringSteps.{move_step}
-use Rattle.vax_long.proofs.moving.bytes_moved.Goals as goal
+use Rattle.vax_long.proofs.moving.move_bytes.Goals as goal
 
 pub loop-preserved : goal.loop-preserved
 loop-preserved c =
     let left : c.args.count - c.loop.counter ≡ suc (c.args.count - (c.loop.counter + 1)) = omega arith in
     let step = move_step c.args.down _ _ c.loop.source c.loop.target (view c.loop.cursor) left in
     let read = rw c.in_ok-byte.ensures.plays at step in
-    let written = rw c.in_ok-byte_written.ensures.plays at read in
-    record { plays = rw (c.beside-source.ensures, c.beside-target.ensures) (sym written ∙ c.loop.invariant.plays); few = omega (arith, c.loop.invariant.few, c.in_ok-byte.ensures.few, c.in_ok-byte_written.ensures.few) }
+    let written = rw c.in_ok-write_byte.ensures.plays at read in
+    record { plays = rw (c.beside-source.ensures, c.beside-target.ensures) (sym written ∙ c.loop.invariant.plays); few = omega (arith, c.loop.invariant.few, c.in_ok-byte.ensures.few, c.in_ok-write_byte.ensures.few) }

@@ -3,7 +3,7 @@ use Rattle.std.proofs.Common.{◌≡◌, ◌-◌, ◌≤◌, length}
 use Rattle.vax_form.specs.Script.{run}
 use Rattle.vax_meaning.specs.Play.{view}
 use Rattle.vax_long.specs.Registers.{check_registers}
-use Rattle.vax_long.proofs.registers.registers_allowed.Given as goal
+use Rattle.vax_long.proofs.registers.check_registers.Given as goal
 
 abbrev pub invariant-loop-done : goal.invariant-loop-done
 invariant-loop-done l = record {
