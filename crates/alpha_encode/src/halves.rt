@@ -3,8 +3,7 @@ ghost use Rattle.std.specs.Prelude.{◌≡◌};
 ghost use Rattle.alpha_encode.specs.Halves.{high_half, low_half, load_high, load_low};
 
 use crate::instr::{AlphaInstr, MemoryOp};
-
-const ZERO: u8 = 31;
+use crate::registers::ZERO;
 
 fn high_half(value: u32) -> i16
     ensures { result ≡ high_half value }

@@ -12,7 +12,7 @@ pub const OVERFLOW: u8 = 18;
 pub const CARRY: u8 = 19;
 /// Bits 7:4 of the processor status word, in place.
 pub const STATUS: u8 = 20;
-/// The temporaries are five registers, from this one on.
+/// The first of the registers that hold temporaries, up to `TARGET`.
 pub const TEMPORARIES: u8 = 21;
 /// A VAX address to go on at; inside a block a temporary.
 pub const TARGET: u8 = 26;

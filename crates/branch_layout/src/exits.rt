@@ -5,20 +5,14 @@ ghost use Rattle.block_law.specs.Translations.{most_words};
 ghost use Rattle.branch_layout.specs.Exits.{code_to, exit_code, is_near, displacement, idle};
 
 use address_map::AddressMap;
-use alpha_encode::{AlphaInstr, BranchOp, OperateOp, Second, load_high, load_low};
+use alpha_encode::registers::{ADDRESS, TARGET, ZERO};
+use alpha_encode::{AlphaInstr, BranchOp, OperateOp, Second, load_high, load_low, pal};
 
 /// How many words an exit has.
 pub(crate) const EXIT_WORDS: usize = 3;
 
-/// The VAX address at which the interpreter goes on.
-const TARGET: u8 = 26;
 /// Where a jump goes.
-const JUMP: u8 = 27;
-
-const ZERO: u8 = 31;
-
-/// The PALcode entry that goes on in the interpreter.
-const SWITCH: u8 = 0x86;
+const JUMP: u8 = ADDRESS;
 
 /// How far a branch reaches, in words.
 const REACH: u32 = 1 << 20;
@@ -74,7 +68,7 @@ pub(crate) fn exit_code(map: &AddressMap, word: u32, address: u32) -> [AlphaInst
         None => [
             load_high(TARGET, address),
             load_low(TARGET, address),
-            AlphaInstr::Pal(SWITCH),
+            AlphaInstr::Pal(pal::SWITCH),
         ],
     }
 }

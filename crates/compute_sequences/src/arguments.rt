@@ -3,24 +3,18 @@ ghost use Rattle.std.specs.Prelude.{◌≡◌, ◌≤◌, ◌++◌, ℕ, length,
 ghost use Rattle.compute_sequences.specs.Registers.{IsTarget, IsArgument, register_at, is_loaded};
 ghost use Rattle.compute_sequences.specs.Words.{load_code, first_register, second_target, second_register, free_of, other_of};
 
-use crate::constants::{ZERO, constant_length, push_constant};
-use crate::instructions::operate_by;
+use crate::constants::{constant_length, push_constant};
 use crate::parts::narrow;
-use alpha_encode::{AlphaInstr, OperateOp};
+use alpha_encode::registers::{ADDRESS, NEGATIVE, STATUS, TEMPORARIES, ZERO};
+use alpha_encode::{AlphaInstr, OperateOp, operate_by};
 use micro_ops::Arg;
 use std::alloc::AllocError;
 use vax_form::Size;
 
-pub(crate) const SCRATCH: u8 = 27;
+pub(crate) const SCRATCH: u8 = ADDRESS;
 
-/// The register of temporary 0.
-const FIRST_TEMPORARY: u8 = 21;
-/// The register of N.
-const FIRST_CODE: u8 = 16;
 /// How many flags have a register of their own.
 const CODES: u8 = 4;
-/// The register of the other flags.
-const STATUS: u8 = 20;
 
 /// The register in which an argument stands, or where its words take it from.
 pub(crate) fn register_at(arg: Arg) -> u8
@@ -29,9 +23,9 @@ pub(crate) fn register_at(arg: Arg) -> u8
     ensures most { result ≤ 31 }
 {
     match arg {
-        Arg::Temp(temp) => FIRST_TEMPORARY + temp,
+        Arg::Temp(temp) => TEMPORARIES + temp,
         Arg::Register(number) => number,
-        Arg::Flag(flag) if flag < CODES => FIRST_CODE + flag,
+        Arg::Flag(flag) if flag < CODES => NEGATIVE + flag,
         Arg::Flag(_) => STATUS,
         Arg::Const(_) => ZERO,
     }

@@ -16,9 +16,8 @@ use crate::forms::{
     Registers, push_compared, push_high_product, push_left_shift, push_lowered, push_right_shift,
     push_signed_shift,
 };
-use crate::instructions::operate;
 use crate::parts::{narrow, push_extended};
-use alpha_encode::{AlphaInstr, BranchOp, OperateOp};
+use alpha_encode::{AlphaInstr, BranchOp, OperateOp, operate};
 use micro_ops::{Arg, Micro, MicroOp};
 use std::alloc::{AllocError, Global};
 use vax_form::{Size, WantOfMemory};

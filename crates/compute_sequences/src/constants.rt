@@ -7,13 +7,11 @@ ghost use Rattle.compute_sequences.specs.Registers.{IsTarget, may_change};
 ghost use Rattle.compute_sequences.specs.Constants.{low_long, high_long, load_short, add_high, least_size, constant_code};
 ghost use Rattle.compute_sequences.specs.Promises.{LeavesConstant, changes_only};
 
-use crate::instructions::operate_by;
-use alpha_encode::{AlphaInstr, MemoryOp, OperateOp, load_high, load_low};
+use alpha_encode::registers::ZERO;
+use alpha_encode::{AlphaInstr, MemoryOp, OperateOp, load_high, load_low, operate_by};
 use micro_ops::Arg;
 use std::alloc::{AllocError, Global};
 use vax_form::{Size, WantOfMemory};
-
-pub(crate) const ZERO: u8 = 31;
 
 fn low_long(value: u64) -> u32
     ensures { result ≡ low_long value }

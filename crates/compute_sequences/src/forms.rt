@@ -3,9 +3,8 @@
 ghost use Rattle.std.specs.Prelude.{◌≡◌, ◌++◌, OnOk};
 ghost use Rattle.compute_sequences.specs.Words.{lowered, compared, counted, within_size, left_shift, right_shift, signed_start, signed_rest, signed_shift, high_product};
 
-use crate::instructions::{operate, operate_by};
 use crate::parts::{QUAD_BITS, bits_of, narrow, push_extended, raise};
-use alpha_encode::{AlphaInstr, OperateOp};
+use alpha_encode::{AlphaInstr, OperateOp, operate, operate_by};
 use std::alloc::AllocError;
 use vax_form::Size;
 

@@ -6,7 +6,6 @@ mod arguments;
 mod compute;
 mod constants;
 mod forms;
-mod instructions;
 mod laws;
 mod overflow;
 mod parts;

@@ -7,9 +7,8 @@ ghost use Rattle.compute_sequences.specs.Promises.{changes_only};
 ghost use Rattle.compute_sequences.specs.Overflow.{quad_operation, overflow_code, LeavesOverflow, most_overflow_words};
 
 use crate::arguments::SCRATCH;
-use crate::instructions::{operate, operate_by};
 use crate::parts::push_extended;
-use alpha_encode::{AlphaInstr, OperateOp};
+use alpha_encode::{AlphaInstr, OperateOp, operate, operate_by};
 use std::alloc::{AllocError, Global};
 use vax_form::{WantOfMemory, Width};
 

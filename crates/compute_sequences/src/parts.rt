@@ -3,8 +3,7 @@ ghost use Rattle.std.specs.Prelude.{◌≡◌, ◌≤◌, ◌++◌, OnOk};
 ghost use Rattle.micro_ops.specs.Values.{bits_of};
 ghost use Rattle.compute_sequences.specs.Words.{mask_of, narrow, raise, extend};
 
-use crate::instructions::operate_by;
-use alpha_encode::{AlphaInstr, OperateOp};
+use alpha_encode::{AlphaInstr, OperateOp, operate_by};
 use std::alloc::AllocError;
 use vax_form::Size;
 

@@ -10,28 +10,22 @@ ghost use Rattle.flag_codegen.specs.Words.{negative_words, zero_words, overflow_
 ghost use Rattle.flag_codegen.specs.Promises.{most_words};
 
 use crate::instructions::{
-    FIRST, RESULT, SECOND, clear, move_to, operate, operate_by, push_bit, push_less, push_unlike,
-    sign,
+    FIRST, RESULT, SECOND, clear, move_to, push_bit, push_less, push_unlike, sign,
 };
 use crate::rules::is_made;
-use alpha_encode::{AlphaInstr, OperateOp};
+use alpha_encode::registers::{
+    CARRY, CARRY_FIRST, CARRY_SECOND, IS_ZERO, NEGATIVE, OVERFLOW, RULE_FIRST, RULE_SECOND,
+    TEMPORARIES,
+};
+use alpha_encode::{AlphaInstr, OperateOp, operate, operate_by};
 use micro_ops::{CodeSource, sources_of};
 use std::alloc::{AllocError, Global};
 use vax_form::{Flags, Operation, WantOfMemory};
 
-/// The registers of the codes.
-const NEGATIVE: u8 = 16;
-
-const ZERO: u8 = 17;
-
-const OVERFLOW: u8 = 18;
-
-const CARRY: u8 = 19;
-
 /// The temporaries that hold V and C where they have no rule.
-const COMPUTED_OVERFLOW: u8 = 24;
+const COMPUTED_OVERFLOW: u8 = TEMPORARIES + 3;
 
-const COMPUTED_CARRY: u8 = 25;
+const COMPUTED_CARRY: u8 = TEMPORARIES + 4;
 
 /// The places of N, Z and V in the PSW; C is bit 0.
 const NEGATIVE_PLACE: u8 = 3;
@@ -39,15 +33,6 @@ const NEGATIVE_PLACE: u8 = 3;
 const ZERO_PLACE: u8 = 2;
 
 const OVERFLOW_PLACE: u8 = 1;
-
-/// The registers that keep the operands of the rule of N, Z and V, and of that of C.
-const KEPT_FIRST: u8 = 28;
-
-const KEPT_SECOND: u8 = 29;
-
-const CARRY_FIRST: u8 = 15;
-
-const CARRY_SECOND: u8 = 30;
 
 fn push_negative(words: &mut Vec<AlphaInstr>, source: CodeSource) -> Result<(), AllocError>
     ensures { OnOk result (words.new.items ≡ words.old.items ++ negative_words source) }
@@ -71,12 +56,12 @@ fn push_zero(words: &mut Vec<AlphaInstr>, source: CodeSource) -> Result<(), Allo
     use CodeSource::{Add, Compare, Computed, Kept, Psw, Result, Sub, Zero};
     match source {
         Kept => {}
-        Zero => words.push(clear(ZERO))?,
+        Zero => words.push(clear(IS_ZERO))?,
         Result(_) | Add(_) | Sub(_) | Computed(_) => {
-            words.push(operate_by(OperateOp::Cmpeq, RESULT, 0, ZERO))?
+            words.push(operate_by(OperateOp::Cmpeq, RESULT, 0, IS_ZERO))?
         }
-        Compare(_) => words.push(operate(OperateOp::Cmpeq, FIRST, SECOND, ZERO))?,
-        Psw => push_bit(words, ZERO_PLACE, ZERO)?,
+        Compare(_) => words.push(operate(OperateOp::Cmpeq, FIRST, SECOND, IS_ZERO))?,
+        Psw => push_bit(words, ZERO_PLACE, IS_ZERO)?,
     }
     Ok(())
 }
@@ -156,7 +141,7 @@ fn push_signs_code(
     ensures { OnOk result (words.new.items ≡ words.old.items ++ signs_code source live) }
 {
     if !(live.n && live.z && live.v) {
-        push_operands(words, source, KEPT_FIRST, KEPT_SECOND)?;
+        push_operands(words, source, RULE_FIRST, RULE_SECOND)?;
     }
     if is_made(source, live.v) {
         push_overflow(words, source)?;

@@ -1,60 +1,37 @@
-// Instructions of the operate format, and rows of a few of them.
+// Rows of a few instructions of the operate format.
 ghost use Rattle.std.specs.Prelude.{◌≡◌, ◌++◌, ◌-◌, ◌<◌, OnOk};
 ghost use Rattle.micro_ops.specs.Values.{bits_of};
 ghost use Rattle.compute_sequences.specs.Words.{raise};
 ghost use Rattle.flag_codegen.specs.Words.{move, clear, sign, bit_words, less_words, unlike_words};
 
-use alpha_encode::{AlphaInstr, OperateOp, Second};
+use alpha_encode::registers::{TEMPORARIES, ZERO};
+use alpha_encode::{AlphaInstr, OperateOp, operate, operate_by};
 use std::alloc::AllocError;
 use vax_form::Size;
 
 /// The first temporary of a micro program, and the next two: the operands of a rule, and the result.
-pub(crate) const FIRST: u8 = 21;
+pub(crate) const FIRST: u8 = TEMPORARIES;
 
-pub(crate) const SECOND: u8 = 22;
+pub(crate) const SECOND: u8 = TEMPORARIES + 1;
 
-pub(crate) const RESULT: u8 = 23;
-/// Two registers that no rule needs.
-const SCRATCH: u8 = 24;
+pub(crate) const RESULT: u8 = TEMPORARIES + 2;
+/// The next two, which no rule needs.
+const SCRATCH: u8 = TEMPORARIES + 3;
 
-const OTHER_SCRATCH: u8 = 25;
-/// It reads zero.
-const NOTHING: u8 = 31;
+const OTHER_SCRATCH: u8 = TEMPORARIES + 4;
 
 const QUAD_BITS: u8 = 64;
-
-pub(crate) fn operate(op: OperateOp, ra: u8, rb: u8, rc: u8) -> AlphaInstr
-    ensures { result ≡ AlphaInstr.Operate op ra (Second.Register rb) rc }
-{
-    AlphaInstr::Operate {
-        op,
-        ra,
-        rb: Second::Register(rb),
-        rc,
-    }
-}
-
-pub(crate) fn operate_by(op: OperateOp, ra: u8, literal: u8, rc: u8) -> AlphaInstr
-    ensures { result ≡ AlphaInstr.Operate op ra (Second.Literal literal) rc }
-{
-    AlphaInstr::Operate {
-        op,
-        ra,
-        rb: Second::Literal(literal),
-        rc,
-    }
-}
 
 pub(crate) fn move_to(from: u8, to: u8) -> AlphaInstr
     ensures { result ≡ move from to }
 {
-    operate(OperateOp::Bis, NOTHING, from, to)
+    operate(OperateOp::Bis, ZERO, from, to)
 }
 
 pub(crate) fn clear(to: u8) -> AlphaInstr
     ensures { result ≡ clear to }
 {
-    move_to(NOTHING, to)
+    move_to(ZERO, to)
 }
 
 // The bits of a size but for the highest.

@@ -3,47 +3,36 @@ ghost use Rattle.std.specs.Prelude.{◌≡◌, ◌++◌, ◌≤◌, length, map,
 ghost use Rattle.program_codegen.specs.Words.{plain, width_of, overflow_made, overflow_register, tells_overflow, may_overflow, load_pc, overflow_lines, tested_lines, may_trap, trap_lines, departing, leaving};
 ghost use Rattle.program_codegen.specs.Programs.{IsExit, is_narrow};
 
-use crate::lines::{
-    Line, branch, copy, holder, load_address, marked, operate_by, plain, push_exit, push_words,
-};
+use crate::lines::{Line, copy, holder, load_address, marked, plain, push_exit, push_words};
 use crate::points::{BREAKPOINT, Site, point_of, raising, trapping};
-use alpha_encode::{AlphaInstr, BranchOp, MemoryOp, OperateOp};
+use alpha_encode::registers::{
+    ADDRESS, OVERFLOW, RULE_FIRST, RULE_SECOND, STATUS, TARGET, TEMPORARIES, ZERO,
+};
+use alpha_encode::{AlphaInstr, BranchOp, MemoryOp, OperateOp, branch, operate_by, pal};
 use compute_sequences::{Arithmetic, overflow_words};
 use exception_records::CodeRule;
 use micro_ops::{CodeSource, Exit};
 use std::alloc::{AllocError, Global};
 use vax_form::{Size, WantOfMemory, Width};
 
-/// V.
-const OVERFLOW: u8 = 18;
-/// Bits 7:4 of the processor status word, and IV among them.
-const STATUS: u8 = 20;
-
+/// IV in R20.
 const OVERFLOW_TRAPS: u8 = 1 << 5;
 /// The code of a service, and the type of a trap.
-const CODE: u8 = 21;
+const CODE: u8 = TEMPORARIES;
 /// V where it is made for the trap alone.
-const MADE_OVERFLOW: u8 = 24;
-/// The VAX address at which the code goes on.
-const TARGET: u8 = 26;
+const MADE_OVERFLOW: u8 = TEMPORARIES + 3;
 
-const SCRATCH: u8 = 27;
-/// The operands of the rule of N, Z and V.
-const FIRST: u8 = 28;
-
-const SECOND: u8 = 29;
-
-const ZERO: u8 = 31;
+const SCRATCH: u8 = ADDRESS;
 /// The type of the trap on integer overflow.
 const INTEGER_OVERFLOW: i16 = 1;
 
-const LOOK_UP: AlphaInstr = AlphaInstr::Pal(0x81);
+const LOOK_UP: AlphaInstr = AlphaInstr::Pal(pal::LOOK_UP);
 
-const SERVE: AlphaInstr = AlphaInstr::Pal(0x82);
+const SERVE: AlphaInstr = AlphaInstr::Pal(pal::SERVE);
 
-const RAISE: AlphaInstr = AlphaInstr::Pal(0x83);
+const RAISE: AlphaInstr = AlphaInstr::Pal(pal::RAISE);
 
-const TRAP: AlphaInstr = AlphaInstr::Pal(0x84);
+const TRAP: AlphaInstr = AlphaInstr::Pal(pal::TRAP);
 
 fn width_of(size: Size) -> Width
     ensures { result ≡ width_of size }
@@ -69,8 +58,8 @@ fn overflow_made(alloc: Global, rule: CodeRule) -> Result<Vec<AlphaInstr>, WantO
         alloc,
         arithmetic,
         width_of(size),
-        FIRST,
-        SECOND,
+        RULE_FIRST,
+        RULE_SECOND,
         MADE_OVERFLOW,
     )
 }

@@ -2,14 +2,10 @@
 ghost use Rattle.std.specs.Prelude.{◌≡◌, ◌++◌, ◌≤◌, Some, None, length, map, IfOk, OnOk, []};
 ghost use Rattle.program_codegen.specs.Words.{plain, marked, idle, exit_lines, holder, copy, load_address, with_first, words_of, points_from, exits_from, block_of};
 
-use alpha_encode::{AlphaInstr, BranchOp, OperateOp, Second, load_high, load_low};
+use alpha_encode::registers::{TEMPORARIES, ZERO};
+use alpha_encode::{AlphaInstr, OperateOp, load_high, load_low, operate, operate_by};
 use exception_records::{Block, Point};
 use std::alloc::{AllocError, Global};
-
-/// The first of the registers that hold temporaries.
-const TEMPORARIES: u8 = 21;
-
-const ZERO: u8 = 31;
 
 /// A word of a block, with its point, and the address to which the exit goes that begins there.
 #[derive(Clone, Copy)]
@@ -47,23 +43,6 @@ pub(crate) fn holder(temp: u8) -> u8
     TEMPORARIES + temp
 }
 
-pub(crate) fn branch(op: BranchOp, ra: u8, disp: i32) -> AlphaInstr
-    ensures { result ≡ AlphaInstr.Branch op ra disp }
-{
-    AlphaInstr::Branch { op, ra, disp }
-}
-
-pub(crate) fn operate_by(op: OperateOp, ra: u8, literal: u8, rc: u8) -> AlphaInstr
-    ensures { result ≡ AlphaInstr.Operate op ra (Second.Literal literal) rc }
-{
-    AlphaInstr::Operate {
-        op,
-        ra,
-        rb: Second::Literal(literal),
-        rc,
-    }
-}
-
 pub(crate) fn copy(from: u8, to: u8) -> AlphaInstr
     ensures { result ≡ copy from to }
 {
@@ -74,12 +53,7 @@ pub(crate) fn copy(from: u8, to: u8) -> AlphaInstr
 fn idle() -> AlphaInstr
     ensures { result ≡ idle }
 {
-    AlphaInstr::Operate {
-        op: OperateOp::Bis,
-        ra: ZERO,
-        rb: Second::Register(ZERO),
-        rc: ZERO,
-    }
+    operate(OperateOp::Bis, ZERO, ZERO, ZERO)
 }
 
 /// A constant, of which the low longword counts.

@@ -4,9 +4,10 @@ ghost use Rattle.program_codegen.specs.Words.{plain, lines_of, program_lines};
 ghost use Rattle.program_codegen.specs.Programs.{IsRanged, AllRanged, HasWords, AllFitWords, is_narrow};
 
 use crate::leaving::push_leaving;
-use crate::lines::{Line, branch, copy, holder, marked, operate_by, plain, push_words};
+use crate::lines::{Line, copy, holder, marked, plain, push_words};
 use crate::points::{RESERVED_OPERAND, Site, probing, raising};
-use alpha_encode::{AlphaInstr, BranchOp, OperateOp};
+use alpha_encode::registers::{ADDRESS, STATUS};
+use alpha_encode::{AlphaInstr, BranchOp, OperateOp, branch, operate_by, pal};
 use byte_sequences::{locked_words, read_words, write_words};
 use compute_sequences::compute_words;
 use micro_ops::{Micro, is_left_out};
@@ -14,15 +15,11 @@ use std::alloc::Global;
 use vax_form::WantOfMemory;
 
 /// Bits 7:4 of the processor status word.
-const STATUS: u8 = 20;
-
 const STATUS_BITS: u8 = 0xF0;
-/// The address of a probe.
-const PROBED: u8 = 27;
 
-const PROBE: AlphaInstr = AlphaInstr::Pal(0x80);
+const PROBE: AlphaInstr = AlphaInstr::Pal(pal::PROBE);
 
-const RAISE: AlphaInstr = AlphaInstr::Pal(0x83);
+const RAISE: AlphaInstr = AlphaInstr::Pal(pal::RAISE);
 
 fn push_line(lines: &mut Vec<Line>, line: Line) -> Result<(), WantOfMemory>
     ensures { OnOk result (lines.new.items ≡ lines.old.items ++ (line ∷ [])) }
@@ -73,7 +70,7 @@ fn push_operation(
             write,
         } => push_two(
             lines,
-            plain(copy(holder(place), PROBED)),
+            plain(copy(holder(place), ADDRESS)),
             marked(PROBE, probing(site, count, write)),
         ),
         Micro::Refuse { when } => push_two(
