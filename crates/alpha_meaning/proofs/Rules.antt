@@ -181,9 +181,6 @@ effects_only (i ∷ is) may old f ok o =
     let here = and_true (is_operate i) (may (written i)) parts.0 in
     effects_only is may old (effect i f) parts.1 (effect_only may old f i here.0 here.1 o)
 
-pub only_then : (may : ℕ → Bool) (f g h : Regs) → Only may f g → Only may g h → Only may f h
-only_then may f g h a b n out = b n out ∙ a n out
-
 -- ---- where words stand
 pub has_front : (fetch : Fetch) (pc : ℕ) (a b : List AlphaInstr) → HasAt fetch pc (a ++ b) → HasAt fetch pc a
 has_front fetch pc [] b h = tt

@@ -39,9 +39,6 @@ fetch_back words instrs j i at fits =
     rw (yes, get_or-append-add words (map word_of instrs) j 0, its) (again i fits)
 
 -- ---- points
-AllUnder : ℕ → List Entry → Type 0
-AllUnder bound points = All (λ entry. entry.0 < bound) points
-
 abbrev is_at : ℕ → Entry → Bool
 is_at word entry = eqb entry.0 word
 

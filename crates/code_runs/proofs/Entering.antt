@@ -171,7 +171,3 @@ joined_is instrs address = by (is_target instrs address) (ending_at address 0 in
     by false [] = refl
     by false (p ∷ []) = refl
     by false (p ∷ q ∷ ps) = refl
-
--- before any instruction
-pub entrances_none : (instrs : List Instr) (entrances : List Entrance) → length entrances ≡ length instrs → ((k : ℕ) → k < length instrs → entrance_at entrances k ≡ Nowhere) → AreEntrances instrs [] entrances
-entrances_none instrs entrances count each = record { count = count; each = each }

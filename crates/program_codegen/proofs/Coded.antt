@@ -125,9 +125,6 @@ low_stays sources n lt = others_stay sources n (no 24 (lit≤ tt)) (no 25 (lit�
 status_stays : (sources : CodeSources) → may_be_written sources 20 ≡ false
 status_stays sources = others_stay sources 20 refl refl refl refl refl refl refl refl refl refl
 
-zero_stays : (sources : CodeSources) → may_be_written sources 31 ≡ false
-zero_stays sources = others_stay sources 31 refl refl refl refl refl refl refl refl refl refl
-
 temp_stays : (sources : CodeSources) (temp : ℕ) → temp < 6 → (temp == 3) ≡ false → (temp == 4) ≡ false → may_be_written sources (21 + temp) ≡ false
 temp_stays sources temp lt three four =
     others_stay sources (21 + temp) (shifted 3 three) (shifted 4 four) (low 16 (lit≤ tt)) (low 17 (lit≤ tt)) (low 18 (lit≤ tt)) (high 28 (lit≤ tt)) (high 29 (lit≤ tt)) (low 19 (lit≤ tt)) (low 15 (lit≤ tt)) (high 30 (lit≤ tt))

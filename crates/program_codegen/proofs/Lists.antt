@@ -58,12 +58,3 @@ module _ (lines : List Line) (k : ℕ) (d : Line) (lt : k < length lines) where
       ∙ (ap (λ n. exits_from 0 (take k lines) ++ with_entry (get_or lines k d).exit n []) (sym here) ∙ (sym (exits_more 0 (take k lines) (get_or lines k d)) ∙ ap (exits_from 0) (sym (take_more lines k d lt)))))
 
 -- ---- and over words
-plain_more : (is : List AlphaInstr) (i : AlphaInstr) → map plain (is ++ i ∷ []) ≡ map plain is ++ plain i ∷ []
-plain_more [] i = refl
-plain_more (j ∷ is) i = ap (λ xs. plain j ∷ xs) (plain_more is i)
-
-pub step_plain : (words : List AlphaInstr) (k : ℕ) (d : AlphaInstr) → k < length words → (start old new : List Line) → old ≡ start ++ map plain (take k words) → new ≡ old ++ plain (get_or words k d) ∷ [] → new ≡ start ++ map plain (take (k + 1) words)
-step_plain words k d lt start old new before is =
-    is ∙ (ap (λ (xs : List Line). xs ++ plain (get_or words k d) ∷ []) before
-    ∙ (append_assoc start (map plain (take k words)) (plain (get_or words k d) ∷ [])
-    ∙ ap (λ xs. start ++ xs) (sym (plain_more (take k words) (get_or words k d)) ∙ ap (map plain) (sym (take_more words k d lt)))))

@@ -115,9 +115,6 @@ two_ranges code count none one two pages empty first second =
     let front = first ∙ ap (λ ranges. ranges ++ data_range ∷ []) empty in
     second ∙ (λ i. front i ++ record { first = 128; count = pages i; writable = false; place = 0 } ∷ [])
 
-pub table_sound : (code : List ℕ) → 1 ≤ length code → length code ≤ 2 ^ 19 → IsPageTable (pages_of (sections_with code))
-table_sound code some few = pages_sound (sections_with code) (sound_with code some few) (apart_with code)
-
 -- ---- the image
 
 zeros : (count : ℕ) → AllByRecursion (λ (value : ℕ). value < 2 ^ 32) (replicate count 0)

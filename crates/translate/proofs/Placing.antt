@@ -82,16 +82,3 @@ module _ (instrs : List Instr) (blocks : List Placed) (are : AreCompiled instrs 
       get_or-map (λ (b : Placed). b.0) blocks k none d (omega arith)
       ∙ its_address k none (omega arith)
       ∙ sym (get_or-map (λ (i : Instr). i.at) instrs k no_instr d (omega arith)))
-
--- points that rise have no flaw
-pub no_flaw : (points : List Entry) (refusal : PointRefusal) → WordsRise points → HasFlaw points refusal → ⊥
-no_flaw points (OutOfOrder place) rise flaw =
-    let p = flaw.0 in
-    let q = flaw.1 in
-    let fall = flaw.2 in
-    let behind = fall.behind in
-    let back : place - 1 + 1 ≡ place = omega arith in
-    let within = slice_get_within points place q fall.pair in
-    let step = rw (back, get_or_from_slice_get points place q p fall.pair, get_or_from_slice_get points (place - 1) p p fall.predecessor) at (rise (place - 1) p (omega arith)) in
-    let falls = fall.falls in
-    absurd (omega arith)
