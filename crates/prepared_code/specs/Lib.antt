@@ -3,3 +3,4 @@ pub mod Sources
 pub mod Inside
 pub mod Prepared
 pub mod Landings
+pub mod Probes

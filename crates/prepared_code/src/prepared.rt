@@ -163,6 +163,13 @@ impl<'a> Prepared<'a> {
         self.pages
     }
 
+    // What is known of its words.
+    pub(crate) fn points(&self) -> &'a Points
+        ensures { result.now ≡ self.now.code.points }
+    {
+        self.points
+    }
+
     #[inline(always)]
     fn word(&self, word: u32) -> Option<Word>
         ensures ready { MatchOption result (length self.now.code.words ≤ word) (λ w. IsReady self.now.code.words self.now.code.map word w) }

@@ -11,6 +11,7 @@ use Rattle.vax_form.specs.declared.state.Pending.{Pending}
 use Rattle.vax_form.specs.declared.state.Pending.TheVariants.{Nothing}
 use Rattle.vax_form.specs.declared.state.VaxState.{VaxState}
 use Rattle.prepared_code.specs.Inside.{steps_in, landing, landed}
+use Rattle.prepared_code.specs.Probes.{Passes}
 use Rattle.prepared_code.specs.declared.blocks.Block.{Block}
 use Rattle.system_model.specs.Processors.{Mode, Runs, Processor, mode_at, mode_by, mode_of, moment_of, stepped, placed, left, alpha_turn, turn, turn_in}
 use Rattle.system_model.specs.Ranges.{word_for}
@@ -18,7 +19,7 @@ use Rattle.system_model.specs.Settings.{Setting, unless_pending}
 use Rattle.system_model.specs.Steps.{Last, Comes, Fails, Place, Inside, Lands, Leaves, Next, Moves, Wants, Stuck, next, settled_last}
 use Rattle.vax_form.specs.Tree.{Finish, Exit, Trap}
 use Rattle.tie_switch.specs.Courses.{Begins, boundary_by, course_of, Goes}
-use Rattle.tie_switch.specs.Inside.{went, went_by, state_there, source_in, StepsAreTurns, LandingsAreTurns}
+use Rattle.tie_switch.specs.Inside.{went, went_by, state_there, source_in, StepsAreTurns, LandingsAreTurns, ProbesAreTurns}
 use Rattle.tie_switch.specs.declared.course.Course.{Course}
 use Rattle.tie_switch.specs.declared.course.Landed.{Landed}
 
@@ -71,6 +72,16 @@ stood s thread before old new goes = same_place (course_of thread before 0 old 0
 pub goes_inside : (s : Setting) (thread : ℕ) (before : VaxState) (old : Course) (cpu : Cpu) (n : ℕ) → StepsAreTurns → steps_in s.code (state_of old.cpu) n ≡ Some (state_of cpu)
     → Goes s thread before old (record old { cpu = cpu }) n
 goes_inside s thread before old cpu n law h = λ ties steps. law s (course_of thread before ties old steps) (state_of old.cpu) (state_of cpu) n refl h
+
+pub goes_behind_probe : (s : Setting) (thread : ℕ) (before : VaxState) (old : Course) (cpu : Cpu) → ProbesAreTurns → Passes (source_in s s.meaning.pages) (state_of old.cpu)
+    → state_of cpu ≡ at_place (state_of old.cpu).regs (old.cpu.pc + 1)
+    → Goes s thread before old (record old { cpu = cpu }) 1
+goes_behind_probe s thread before old cpu law passes there = λ ties steps.
+    let p = course_of thread before ties old steps in
+    let next : suc steps ≡ steps + 1 = omega arith in
+    ap went_by (law s p (state_of old.cpu) refl passes)
+    ∙ ap (λ (c : Alpha). Some (record (stepped p) { mode = Runs c })) (sym there)
+    ∙ ap (λ (n : ℕ). Some (record p { mode = Runs (state_of cpu); steps = n })) next
 
 -- ---- to the next block
 -- the state there is the same, whatever was not worked out

@@ -4,20 +4,22 @@ use Rattle.std.specs.Prelude.{option_and_then, option_map}
 use Rattle.address_map.specs.Pairs.{address_at}
 use Rattle.alpha_encode.specs.declared.instr.AlphaInstr.{AlphaInstr}
 use Rattle.alpha_meaning.specs.Act.{Does, Goes, Asks, Calls, act}
-use Rattle.alpha_meaning.specs.State.{Alpha}
+use Rattle.alpha_meaning.specs.State.{Alpha, at_place}
+use Rattle.block_law.specs.Follows.{Probe}
 use Rattle.block_law.specs.Translations.{fetch_of}
 use Rattle.exception_records.specs.Points.{point_at}
 use Rattle.exception_records.specs.declared.points.Point.{Point}
 use Rattle.vax_form.specs.declared.pages.Pages.{Pages}
 use Rattle.prepared_code.specs.Effects.{local}
 use Rattle.prepared_code.specs.Inside.{local_by, local_at, unless_begun, step_in, steps_in, landed}
+use Rattle.prepared_code.specs.Probes.{Passes}
 use Rattle.prepared_code.specs.Sources.{block_by, block_at}
 use Rattle.prepared_code.specs.declared.blocks.Block.{Block}
 use Rattle.system_model.specs.Processors.{Mode, Runs, Processor, alpha_turn, moment_of, stepped, arrived, turn, placed}
 use Rattle.system_model.specs.Processors as model
 use Rattle.system_model.specs.Settings.{Setting}
-use Rattle.system_model.specs.Steps.{Next, Moves, Inside, Moment, place_by, place_of, does, next_by, next, held_behind, rules_of, state_at}
-use Rattle.tie_switch.specs.Inside.{went, went_by, ran, block_rules, state_there, source_in, StepsAreTurns, LandingsAreTurns}
+use Rattle.system_model.specs.Steps.{Next, Moves, Inside, Moment, place_by, place_of, does, next_by, next, called, probed, held_behind, rules_of, state_at}
+use Rattle.tie_switch.specs.Inside.{went, went_by, ran, block_rules, state_there, source_in, StepsAreTurns, LandingsAreTurns, ProbesAreTurns}
 
 same_alpha : (c d : Alpha) → Some c ≡ Some d → c ≡ d
 same_alpha c d e = cc e
@@ -104,3 +106,17 @@ landing_by s pages p (Some e) c d block h k =
 pub landings_are_turns : LandingsAreTurns
 landings_are_turns s pages p c d block e h =
     ap (λ (m : Mode). model.turn_in s p (model.mode_of s p m)) e ∙ landing_by s pages p (local_at s.code c) c d block refl h
+
+-- ---- a probe inside a block
+probe_next : (s : Setting) (m : Moment) (c : Alpha) → Passes (source_in s s.meaning.pages) c → next s m c ≡ Moves (Inside (at_place c.regs (c.pc + 1)))
+unfolding next
+probe_next s m c w =
+    let d = at_place c.regs (c.pc + 1) in
+    ap (λ (o : Option AlphaInstr). next_by s m o c) w.calls
+    ∙ ap (λ (o : Option Point). called s m Probe o c) w.known
+    ∙ ap (λ (o : Option ℕ). Moves (probed s m c w.point.write o)) w.allowed
+    ∙ ap (λ (o : Option ℕ). Moves (place_by s m o d)) w.inside
+
+pub probes_are_turns : ProbesAreTurns
+probes_are_turns s p c e w =
+    ap (λ (m : Mode). model.turn_in s p (model.mode_of s p m)) e ∙ ap (alpha_turn s p) (probe_next s (moment_of p) c w)

@@ -1,13 +1,14 @@
 -- Turns that ask nothing: what the local steps of a processor are, told by the code alone.
 use Rattle.std.specs.Prelude.{◌≡◌, ℕ, zero, suc, ◌+◌, Bool, true, false, Option, Some, None, is_some, option_and_then}
 use Rattle.address_map.specs.Pairs.{address_at}
-use Rattle.alpha_meaning.specs.State.{Alpha}
+use Rattle.alpha_meaning.specs.State.{Alpha, at_place}
 use Rattle.exception_records.specs.Codes.{all_ready}
 use Rattle.exception_records.specs.declared.rules.Rules.{Rules}
 use Rattle.vax_form.specs.declared.pages.Pages.{Pages}
 use Rattle.vax_form.specs.declared.state.Flags.{Flags}
 use Rattle.vax_form.specs.declared.state.VaxState.{VaxState}
 use Rattle.prepared_code.specs.Inside.{local_at, steps_in, landing, landed}
+use Rattle.prepared_code.specs.Probes.{Passes}
 use Rattle.prepared_code.specs.Sources.{Source}
 use Rattle.prepared_code.specs.declared.blocks.Block.{Block}
 use Rattle.system_model.specs.Processors.{Mode, New, Runs, Interprets, Ended, Processor, Turn, Went, Asks, Over, Lost, turn, mode_of, moment_of, stepped, arrived}
@@ -78,3 +79,9 @@ LandingsAreTurns = (setting : Setting) (pages : Pages) (p : Processor) (c d : Al
     → landing (source_in setting pages) c ≡ Some (landed d block)
     → turn setting p
     ≡ Went (arrived setting (stepped p) (state_there p.boundary d block (held_behind setting (moment_of p))) (held_behind setting (moment_of p)) d.regs)
+
+-- ---- a probe inside a block
+-- it is a turn that goes on at the next word
+abbrev pub ProbesAreTurns : Type 0
+ProbesAreTurns = (setting : Setting) (p : Processor) (c : Alpha) → p.mode ≡ Runs c → Passes (source_in setting setting.meaning.pages) c
+    → turn setting p ≡ Went (record (stepped p) { mode = Runs (at_place c.regs (c.pc + 1)) })

@@ -22,6 +22,7 @@ use crate::setting::{READY, Setting};
 use alpha_machine::Cpu;
 use exception_records::{Point, Rules};
 use memory_core::{Change, Kind, Request};
+use prepared_code::probe_count;
 use vax_form::{Exception, Pending, VaxState};
 
 /// A PALcode call, by its number.
@@ -47,18 +48,6 @@ pub(crate) fn call_of(number: u8) -> PalCall
         0x84 => PalCall::Arithmetic,
         0x86 => PalCall::Switch,
         _ => PalCall::Other,
-    }
-}
-
-/// How many bytes a probe checks: the point's count, or where it is 0 the low word of R21.
-#[tactic(auto, unfolding(alpha_meaning::specs::State::regs_of))]
-fn probe_count(point: &Point, cpu: &Cpu) -> u16
-    ensures { result ≡ probe_count point.now (state_of cpu.now).regs }
-{
-    if point.count == 0 {
-        (cpu.r[21] % (1 << 16)) as u16
-    } else {
-        u16::from(point.count)
     }
 }
 

@@ -12,7 +12,7 @@ ghost use Rattle.tie_switch.specs.Settings.{image_setting};
 ghost use Rattle.vax_form.specs.Pages.{code_byte_at};
 ghost use Rattle.vax_form.specs.declared.state.Pending.TheVariants.{Nothing};
 
-use crate::laws::{landings_are_turns, steps_are_turns};
+use crate::laws::{landings_are_turns, probes_are_turns, steps_are_turns};
 use crate::setting::{READY, codes_by};
 use alpha_machine::Cpu;
 use exception_records::Rules;
@@ -150,7 +150,54 @@ impl Course {
         true
     }
 
-    // Makes steps inside a block and the one that leads to the next. Tells how many, and whether it landed.
+    // Makes a probe that goes on inside its block.
+    fn probe(
+        &mut self,
+        prepared: &Prepared<'_>,
+        ranges: &[Range],
+        thread: u8,
+        before: &VaxState,
+    ) -> bool
+        ensures landed { self.new.landed ≡ self.old.landed }
+        ensures retired { self.new.retired ≡ self.old.retired }
+        ensures passes { result ≡ true → Goes (image_setting prepared.now.pages prepared.now.code ranges.now) thread before.now self.old self.new 1 }
+        ensures stays { result ≡ false → self.new ≡ self.old }
+    {
+        probes_are_turns();
+        if prepared.passes(&self.cpu) {
+            self.cpu.pc += 1;
+            return true;
+        }
+        false
+    }
+
+    // Makes a step that leads to the next block, or a probe. Any other step is left to be made.
+    fn step_on(
+        &mut self,
+        prepared: &Prepared<'_>,
+        ranges: &[Range],
+        thread: u8,
+        before: &VaxState,
+    ) -> bool
+        requires zero { slice_index self.old.cpu.r 31 ≡ 0 }
+        requires nothing { before.now.pending ≡ Nothing }
+        requires room { self.old.retired + 1 < 2 ^ 64 }
+        requires inside { step_in prepared.now.code (state_of self.old.cpu) ≡ None }
+        requires opcode { HasOpcode prepared.now.pages self.old.landed }
+        ensures opcode { HasOpcode prepared.now.pages self.new.landed }
+        ensures goes { result ≡ true → Goes (image_setting prepared.now.pages prepared.now.code ranges.now) thread before.now self.old self.new 1 }
+        ensures retired { self.new.retired ≤ self.old.retired + 1 }
+        ensures stays { result ≡ false → self.new ≡ self.old }
+        ensures stops { result ≡ false → goes_on_locally (image_setting prepared.now.pages prepared.now.code ranges.now) thread (state_of self.new.cpu) ≡ false }
+    {
+        if self.land(prepared, ranges, thread, before) {
+            true
+        } else {
+            self.probe(prepared, ranges, thread, before)
+        }
+    }
+
+    // Makes steps inside a block and the one that leads to the next, or a probe. Tells how many, and whether it goes on.
     fn cross(
         &mut self,
         prepared: &Prepared<'_>,
@@ -171,15 +218,15 @@ impl Course {
     {
         steps_are_turns();
         let inside = prepared.run_inside(&mut self.cpu, most);
-        if inside < most && self.land(prepared, ranges, thread, before) {
+        if inside < most && self.step_on(prepared, ranges, thread, before) {
             (inside + 1, true)
         } else {
             (inside, false)
         }
     }
 
-    /// Makes local steps, inside blocks and from block to block, and tells how many: at most so many, and only those behind
-    /// which the thread goes on in Alpha code. Fewer are made only where the next is none of these.
+    /// Makes local steps and probes, inside blocks and from block to block, and tells how many: at most so many, and only
+    /// those behind which the thread goes on in Alpha code. Fewer are made only where the next is no such local step.
     pub(crate) fn run(
         &mut self,
         prepared: &Prepared<'_>,
@@ -198,9 +245,9 @@ impl Course {
     {
         let mut made = 0;
         while made < most {
-            let (steps, landed) = self.cross(prepared, ranges, thread, before, most - made);
+            let (steps, goes_on) = self.cross(prepared, ranges, thread, before, most - made);
             made += steps;
-            if !landed {
+            if !goes_on {
                 return made;
             }
         }

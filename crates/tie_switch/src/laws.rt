@@ -1,5 +1,5 @@
 //! What a turn keeps, for the proofs of the crates above. Its functions do nothing.
-ghost use Rattle.tie_switch.specs.Inside.{LandingsAreTurns, StepsAreTurns};
+ghost use Rattle.tie_switch.specs.Inside.{LandingsAreTurns, ProbesAreTurns, StepsAreTurns};
 ghost use Rattle.tie_switch.specs.Laws.{LocalTurnsKeepReached, ManyTurnsKeepReached, TurnsKeepReached, TurnsStayLegal};
 
 use system_model::laws::{
@@ -47,4 +47,9 @@ pub fn steps_are_turns()
 #[tactic(auto, using(crate::proofs::Inside::landings_are_turns))]
 pub fn landings_are_turns()
     ensures { LandingsAreTurns }
+{}
+
+/// A probe that goes on inside its block is a turn that goes on at the next word.
+pub fn probes_are_turns()
+    ensures { ProbesAreTurns }
 {}

@@ -9,8 +9,8 @@ loop-made-init c =
     let p = c.args.prepared.now in
     record { most = omega arith; goes = goes_nowhere (image_setting p.pages p.code c.args.ranges.now) c.args.thread c.args.before.now c.args.self.now; opcode = c.requires.opcode; retired = omega arith }
 
-pub returns-then-not-landed-clause-goes : goal.returns-then-not-landed-clause-goes
-returns-then-not-landed-clause-goes c =
+pub returns-then-not-goes_on-clause-goes : goal.returns-then-not-goes_on-clause-goes
+returns-then-not-goes_on-clause-goes c =
     let p = c.args.prepared.now in
     goes_more (image_setting p.pages p.code c.args.ranges.now) c.args.thread c.args.before.now c.args.self.now c.loop-made.self c.cross-steps.new.self c.loop-made.made c.cross-steps.result.0
     c.loop-made.invariant.goes c.cross-steps.ensures.goes
