@@ -146,7 +146,7 @@ impl Processor {
     {
         self.steps += 1;
         match place {
-            Place::Inside(cpu) => self.mode = Mode::Runs(cpu),
+            Place::Inside(cpu) => self.mode.run(&cpu),
             Place::Lands { state, held, cpu } => {
                 let mode = mode_with(setting, self.thread, &state, cpu.r);
                 self.arrive(mode, state, held);

@@ -111,10 +111,18 @@ impl Course {
     {
         landing.make(&mut self.cpu);
         self.cpu.pc = word;
-        self.landed = Some(Landed {
-            cpu: self.cpu,
-            block: landing.block,
-        });
+        match &mut self.landed {
+            Some(landed) => {
+                landed.cpu = self.cpu;
+                landed.block = landing.block;
+            }
+            None => {
+                self.landed = Some(Landed {
+                    cpu: self.cpu,
+                    block: landing.block,
+                });
+            }
+        }
         self.held = held;
         self.retired += 1;
     }

@@ -82,7 +82,7 @@ impl Processor {
         ensures steps { self.new.steps ≡ self.old.steps + made }
     {
         self.boundary = course.boundary(&self.boundary);
-        self.mode = Mode::Runs(course.cpu);
+        self.mode.run(&course.cpu);
         self.held = course.held;
         self.retired = course.retired;
         self.steps += made;

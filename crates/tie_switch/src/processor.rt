@@ -3,6 +3,7 @@ ghost use Rattle.std.specs.Prelude.{◌≡◌, ◌<◌, suc};
 ghost use Rattle.image_file.specs.Start.{start_state};
 ghost use Rattle.vax_form.specs.declared.pages.Pages.{Pages};
 ghost use Rattle.system_model.specs.Processors.{begun};
+ghost use Rattle.tie_switch.specs.declared.processor.Mode.TheVariants.{Runs};
 
 use crate::interpreted::Interpreted;
 use alpha_machine::Cpu;
@@ -45,6 +46,19 @@ impl Model for Processor {
     ghost view = { kept_of };
 
     ghost invariant = { IsCounted };
+}
+
+impl Mode {
+    /// It goes on in translated code. Registers that stand there are written in place.
+    #[inline(always)]
+    pub(crate) fn run(&mut self, cpu: &Cpu)
+        ensures { self.new ≡ Runs cpu.now }
+    {
+        match self {
+            Mode::Runs(place) => *place = *cpu,
+            Mode::New | Mode::Interprets(..) | Mode::Ended(_) => *self = Mode::Runs(*cpu),
+        }
+    }
 }
 
 pub(crate) const ALL_HELD: Flags = Flags {
