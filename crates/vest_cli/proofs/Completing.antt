@@ -1,10 +1,10 @@
 -- Where no call of the outside failed, no fault is told.
-use Rattle.std.proofs.Common.{◌≡◌, ◌⊎◌, ◌<◌, ◌≤◌, ◌∙◌, ℕ, Bool, true, false, List, Option, None, Some, refl, sym, subst, arith, inl, inr}
+use Rattle.std.proofs.Common.{◌≡◌, ◌<◌, ◌≤◌, ◌∙◌, ℕ, Bool, true, false, List, Option, None, Some, refl, sym, arith, inl, inr}
 use Rattle.std.specs.Prelude.{MatchBool}
 use Rattle.vt_outside.specs.Causes.{Rose, one_more}
 use Rattle.vt_outside.specs.Desk.{DeskMeaning}
-use Rattle.vt_outside.specs.Source.{SourceMeaning}
 use Rattle.memory_core.specs.Contents.{output_of}
+use Rattle.report_text.specs.Generated.{generated_image}
 use Rattle.system_model.specs.Processors.{Processor}
 use Rattle.command_words.specs.Commands.{CommandValue, run, translate, list, generate}
 use Rattle.vest_files.specs.Decided.{Decision}
@@ -19,9 +19,11 @@ use Rattle.vest_files.specs.declared.stop.Stop.{Stop}
 use Rattle.vest_files.specs.declared.stop.Stop.TheVariants.{Absent, Refused, ReadFault, TooLong, WantOfMemory}
 use Rattle.vest_cli.specs.Decided.{IsOrFault, IsOrWant, NoneFailed, Stood}
 use Rattle.vest_cli.specs.Delivery.{Delivers}
+use Rattle.vest_cli.specs.Generate.{lines_of}
 use Rattle.vest_cli.specs.Kept.{KeptValue}
 use Rattle.vest_cli.specs.Lent.{Lent}
-use Rattle.vest_cli.specs.Run.{StopsRun, processors_of}
+use Rattle.vest_cli.specs.Keeping.{processors_of, set_up_of}
+use Rattle.vest_cli.specs.Run.{StopsRun}
 use Rattle.vest_cli.specs.Vest.{Does, Ends, Stops, StopsAt, done, stopped, unspelled}
 
 below : (least n : ℕ) → least ≤ n → n < least → ⊥
@@ -65,7 +67,7 @@ module _ (old new : Lent) (kept : KeptValue) (none : NoneFailed old new) where
   command_reads (run name limits ranges) h = run_reads name h
   command_reads (translate image to) h = no_desk_read (translate_rose image old.desk new.desk h)
   command_reads (list name) h = no_desk_read (load_rose name old.desk new.desk h)
-  command_reads (generate number) h = h
+  command_reads (generate number) h = let same : ReadFault ≡ WantOfMemory = h.want in cc same
 
   call_reads : (command : Option CommandValue) → Stops command ReadFault old.desk new.desk old.input new.input → ⊥
   call_reads None h = h
@@ -98,10 +100,11 @@ module _ (old new : Lent) (kept : KeptValue) (none : NoneFailed old new) where
   delivery_writes output processors (inr h) = stood old.report.faults new.report.faults none.report h.1.failed
 
   command_writes : (command : CommandValue) → Does command dones.WriteFault old new kept → ⊥
-  command_writes (run name limits ranges) h = delivery_writes (output_of kept.history) (processors_of kept) h.has_kept.delivered
+  command_writes (run name limits ranges) h = delivery_writes (output_of kept.history) (processors_of kept) h.delivered
   command_writes (translate image to) h = stood old.desk.write_faults new.desk.write_faults none.desk_writes h.translates.written.0
   command_writes (list name) h = no_out h.lists.sent.failed
-  command_writes (generate number) h = h
+  command_writes (generate number) h =
+      delivery_writes (lines_of number h.generates.code (set_up_of (generated_image number) kept) kept.history) (processors_of kept) h.generates.delivered
 
   stop_writes : (stop : Stop) → status_of stop ≡ status.WriteFault → ⊥
   stop_writes Absent e = cc e

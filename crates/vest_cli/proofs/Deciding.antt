@@ -1,5 +1,5 @@
 -- What the meaning of a call says of its status.
-use Rattle.std.proofs.Common.{◌≡◌, ◌≢◌, ◌<◌, ◌≤◌, ℕ, List, [], ◌++◌, length, true, false, nat_lt, Option, None, Some, refl, sym, ap, ◌∙◌, subst, append-nil, inl, inr, arith, Result, Ok, Err, IfErr, IfOk}
+use Rattle.std.proofs.Common.{◌≡◌, ◌≢◌, ◌<◌, ◌≤◌, ℕ, List, ◌++◌, length, true, false, nat_lt, Option, None, Some, refl, sym, ap, ◌∙◌, subst, append-nil, inl, inr, arith, Result, Ok, Err, IfErr, IfOk}
 use Rattle.std.proofs.lemmas.Bool.Decides.{nat_tests}
 use Rattle.std.specs.Io.KnownBytes.{Consumes, IsAtEnd}
 use Rattle.vt_outside.specs.Desk.{DeskMeaning, Files}
@@ -7,13 +7,12 @@ use Rattle.vt_outside.specs.Source.{SourceMeaning}
 use Rattle.image_file.specs.Values.{ImageValue}
 use Rattle.block_law.specs.Translations.{Code}
 use Rattle.command_words.specs.Commands.{CommandValue, run, translate, list, generate}
-use Rattle.vest_files.specs.Decided.{Decision, stops, goes_on, IsDecided, StopsAsDecided}
+use Rattle.vest_files.specs.Decided.{Decision, goes_on, IsDecided, StopsAsDecided}
 use Rattle.vest_files.specs.Loading.{Loads}
 use Rattle.vest_files.proofs.Deciding.{load_goes, load_stops}
 use Rattle.vest_files.specs.Status.{status_of, status_of_done}
 use Rattle.vest_files.specs.declared.status.Done.{Done}
 use Rattle.vest_files.specs.declared.status.Done.TheVariants as dones
-use Rattle.vest_files.specs.declared.status.Status.{Status}
 use Rattle.vest_files.specs.declared.status.Status.TheVariants as status
 use Rattle.vest_files.specs.declared.stop.Stop.{Stop}
 use Rattle.vest_files.specs.declared.stop.Stop.TheVariants.{Absent, Refused, ReadFault, TooLong, WantOfMemory}
@@ -110,7 +109,10 @@ ends_well (list name) dones.Ok old new kept h = refl
 ends_well (list name) dones.Exception old new kept h = absurd h.lists.sent
 ends_well (list name) dones.Spent old new kept h = absurd h.lists.sent
 ends_well (list name) dones.WriteFault old new kept h = tt
-ends_well (generate number) end old new kept h = absurd h
+ends_well (generate number) dones.Ok old new kept h = tt
+ends_well (generate number) dones.Exception old new kept h = tt
+ends_well (generate number) dones.Spent old new kept h = tt
+ends_well (generate number) dones.WriteFault old new kept h = tt
 
 pub done_as : (spelled : Option CommandValue) (command : CommandValue) (end : Done) (old new : Lent) (kept : KeptValue) (d : Decision)
     → spelled ≡ Some command → Does command end old new kept → d ≡ goes_on → IsOrFault spelled (status_of_done end) d

@@ -1,35 +1,26 @@
 -- How a call ends, by its words and by what its command came to.
-use Rattle.std.proofs.Common.{◌≡◌, ◌≢◌, ◌⊎◌, ◌∙◌, List, Option, None, Some, Result, Ok, Err, IfErr, IfOk, refl, sym, ap, subst, inl, inr}
+use Rattle.std.proofs.Common.{◌≡◌, ◌⊎◌, ◌∙◌, List, Option, None, Some, Result, Ok, Err, IfErr, IfOk, refl, sym, subst, inl, inr}
 use Rattle.std.specs.Prelude.{ℕ}
-use Rattle.command_words.specs.Commands.{CommandValue}
+use Rattle.command_words.specs.Commands.{CommandValue, generate, list, run, translate}
 use Rattle.command_words.specs.declared.WordsFault.{WordsFault}
 use Rattle.command_words.specs.declared.WordsFault.TheVariants.{Usage}
 use Rattle.command_words.specs.declared.WordsFault.TheVariants as faults
 use Rattle.vt_outside.specs.Desk.{DeskMeaning, Files}
 use Rattle.vt_outside.specs.Sink.{SinkMeaning}
 use Rattle.vt_outside.specs.Source.{SourceMeaning}
-use Rattle.vest_files.specs.Decided.{Decision, stops, goes_on, IsDecided}
+use Rattle.vest_files.specs.Decided.{Decision, IsDecided}
 use Rattle.vest_files.specs.Line.{line_of}
-use Rattle.vest_files.specs.Status.{status_of, status_of_done}
 use Rattle.vest_files.specs.declared.status.Done.{Done}
 use Rattle.vest_files.specs.declared.status.Status.{Status}
 use Rattle.vest_files.specs.declared.status.Status.TheVariants as status
 use Rattle.vest_files.specs.declared.stop.Stop.{Stop}
-use Rattle.vest_files.specs.declared.stop.Stop.TheVariants.{Absent, Refused, ReadFault, TooLong, WantOfMemory}
+use Rattle.vest_files.specs.declared.stop.Stop.TheVariants.{WantOfMemory}
 use Rattle.vest_cli.specs.Decided.{DecidesCall, DecidesOn, IsOrFault}
 use Rattle.vest_cli.specs.Kept.{KeptValue, nothing_kept}
 use Rattle.vest_cli.specs.Lent.{Lent, lent}
-use Rattle.vest_cli.specs.Stopping.{Concludes, LeavesAll, RefusesWords, Says, Stopped}
+use Rattle.vest_cli.specs.Stopping.{Concludes, LeavesAll, RefusesWords, Says}
 use Rattle.vest_cli.specs.Vest.{Does, Ends, Stops, StopsAt, done, stopped, unspelled}
 use Rattle.vest_cli.proofs.Deciding.{done_as, done_no_usage, stop_no_usage, stopped_as}
-
-stops_some : (command : CommandValue) (stop : Stop) (desk desk' : DeskMeaning) (input input' : SourceMeaning) → StopsAt command stop desk desk' input input'
-    → Stops (Some command) stop desk desk' input input'
-stops_some command Absent desk desk' input input' h = h
-stops_some command (Refused refusal) desk desk' input input' h = h
-stops_some command ReadFault desk desk' input input' h = h
-stops_some command TooLong desk desk' input input' h = h
-stops_some command WantOfMemory desk desk' input input' h = tt
 
 -- ---- a command was spelled
 module _ (spelled : Option CommandValue) (command : CommandValue) (is : spelled ≡ Some command) where
@@ -42,7 +33,7 @@ module _ (spelled : Option CommandValue) (command : CommandValue) (is : spelled 
       done command end is ends.0 (subst (λ (r : SinkMeaning). Does command end old (lent desk input out r) kept) (sym ends.1) does)
   call_ends (Err stop) result old desk input out mid report kept does why leaves ends =
       stopped stop ends.0
-      (subst (λ (c : Option CommandValue). Stops c stop old.desk desk old.input input) (sym is) (stops_some command stop old.desk desk old.input input why))
+      (subst (λ (c : Option CommandValue). Stops c stop old.desk desk old.input input) (sym is) why)
       (record {
         desk = leaves.desk;
         out = leaves.out;
@@ -80,7 +71,10 @@ module _ (spelled : Option CommandValue) where
     where
       stops_short : (c : Option CommandValue) → Stops c WantOfMemory desk desk input input
       stops_short None = tt
-      stops_short (Some command) = tt
+      stops_short (Some (run name limits ranges)) = inl (inl tt)
+      stops_short (Some (translate image to)) = inl tt
+      stops_short (Some (list name)) = inl tt
+      stops_short (Some (generate number)) = record { want = refl; same_desk = refl; same_input = refl }
 
   pub words_usage : (fault : WordsFault) (result : Status) (mid report : SinkMeaning) → (fault ≡ Usage → spelled ≡ None) → RefusesWords fault result mid report
       → result ≡ status.Usage → spelled ≡ None

@@ -1,3 +1,4 @@
+mod Bounds
 mod Completing
 mod Deciding
 mod Delivering
@@ -5,5 +6,5 @@ mod Ending
 mod Obeying
 mod Outputs
 mod Progress
-mod Spelling
 mod Spent
+mod Summing

@@ -6,17 +6,19 @@ use Rattle.command_words.specs.Commands.{CommandValue}
 use Rattle.vt_outside.specs.Desk.{DeskMeaning, Files}
 use Rattle.vt_outside.specs.Sink.{SinkMeaning}
 use Rattle.vt_outside.specs.Source.{SourceMeaning}
-use Rattle.vest_files.specs.Decided.{Decision, IsDecided}
+use Rattle.vest_files.specs.Decided.{Decision, goes_on, IsDecided, StopsAsDecided}
 use Rattle.vest_files.specs.List.{Lists}
 use Rattle.vest_files.specs.Stages.{SameFiles}
 use Rattle.vest_files.specs.Translate.{Translates}
 use Rattle.vest_files.specs.declared.status.Done.{Done}
 use Rattle.vest_files.specs.declared.stop.Stop.{Stop}
+use Rattle.vest_files.specs.declared.stop.Stop.TheVariants.{WantOfMemory}
 use Rattle.vest_cli.specs.Decided.{DecidesOn}
+use Rattle.vest_cli.specs.Generate.{Generates}
 use Rattle.vest_cli.specs.Kept.{KeptValue, nothing_kept}
 use Rattle.vest_cli.specs.Lent.{Lent, lent}
 use Rattle.vest_cli.specs.Stopping.{LeavesAll}
-use Rattle.vest_cli.specs.Vest.{Does, OnlyLists, OnlyTranslates, StopsAt}
+use Rattle.vest_cli.specs.Vest.{Does, OnlyGenerates, OnlyLists, OnlyTranslates, StopsAt, StopsGenerate}
 
 module _ (r : Result Done Stop) where
   -- ---- of a command that is this one
@@ -50,3 +52,23 @@ module _ (r : Result Done Stop) where
     pub list_leaves : (desk desk' : DeskMeaning) (out out' : SinkMeaning) → SameFiles desk desk' → IfErr r (λ _. out' ≡ out)
         → IfErr r (λ _. LeavesAll (lent desk input out report) (lent desk' input out' report) kept)
     list_leaves desk desk' out out' same h = IfErr-weaker r _ _ (λ stop unsent. record { desk = same; out = unsent; report = refl; kept_nothing = nothing }) h
+
+  pub only_generates : (number : ℕ) (desk : DeskMeaning) (input : SourceMeaning) (out out' report report' : SinkMeaning) (kept : KeptValue) → IfOk r (λ end. Generates end number out out' report report' kept)
+      → IfOk r (λ end. OnlyGenerates end number (lent desk input out report) (lent desk input out' report') kept)
+  only_generates number desk input out out' report report' kept h =
+      IfOk-weaker r _ _ (λ end generates. record { generates = generates; desk = refl; input = refl }) h
+
+  pub generate_stops : (desk : DeskMeaning) (input : SourceMeaning) → IfErr r (λ stop. stop ≡ WantOfMemory) → IfErr r (λ stop. StopsGenerate stop desk desk input input)
+  generate_stops desk input h = IfErr-weaker r _ _ (λ stop want. record { want = want; same_desk = refl; same_input = refl }) h
+
+-- it is only stopped for want of memory, which decides nothing
+pub generate_decided : (r : Result Done Stop) → IfErr r (λ stop. stop ≡ WantOfMemory) → (d : Decision) → d ≡ goes_on → IsDecided r d
+generate_decided (Ok end) why d on = on
+generate_decided (Err stop) why d on = subst (λ (s : Stop). StopsAsDecided s d) (sym why) tt
+
+pub generate_leaves : (r : Result Done Stop) (desk : DeskMeaning) (input : SourceMeaning) (out out' report report' : SinkMeaning) (kept : KeptValue)
+    → IfErr r (λ _. out' ≡ out) → IfErr r (λ _. report' ≡ report) → IfErr r (λ _. kept ≡ nothing_kept)
+    → IfErr r (λ _. LeavesAll (lent desk input out report) (lent desk input out' report') kept)
+generate_leaves (Ok end) desk input out out' report report' kept unsent unsaid unkept = tt
+generate_leaves (Err stop) desk input out out' report report' kept unsent unsaid unkept =
+    record { desk = record { files = refl; write_faults = refl }; out = unsent; report = unsaid; kept_nothing = unkept }

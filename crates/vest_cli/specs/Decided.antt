@@ -11,12 +11,12 @@ use Rattle.vest_files.specs.declared.status.Status.TheVariants as status
 use Rattle.vest_cli.specs.Lent.{Lent}
 use Rattle.vest_cli.specs.Run.{DecidesRun}
 
--- what a command comes to; what is not told decides nothing
+-- what a command comes to; what is not told decides nothing, and on `generate` nothing has to be told
 abbrev pub DecidesOn : CommandValue → Option Files → (input : Option (List ℕ)) → Decision → Type 0
 DecidesOn (run name limits ranges) files input decision = DecidesRun files name input decision
 DecidesOn (translate image to) files input decision = DecidesTranslate files image decision
 DecidesOn (list name) files input decision = DecidesLoad files name decision
-DecidesOn (generate number) files input decision = ⊥
+DecidesOn (generate number) files input decision = decision ≡ goes_on
 
 abbrev pub DecidesCall : Option CommandValue → Option Files → (input : Option (List ℕ)) → Decision → Type 0
 DecidesCall None files input decision = decision ≡ stops status.Usage
@@ -33,6 +33,7 @@ EndsARun result = ⊥
 abbrev pub EndsWell : Option CommandValue → Status → Type 0
 EndsWell None result = ⊥
 EndsWell (Some (run name limits ranges)) result = EndsARun result
+EndsWell (Some (generate number)) result = EndsARun result
 EndsWell (Some command) result = result ≡ status.Ok
 
 abbrev pub IsStatus : Option CommandValue → Status → Decision → Type 0

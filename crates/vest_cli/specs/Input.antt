@@ -6,7 +6,7 @@ use Rattle.vt_outside.specs.Source.{SourceMeaning}
 use Rattle.vest_files.specs.Decided.{Decision, stops, goes_on}
 use Rattle.vest_files.specs.declared.status.Status.TheVariants as status
 use Rattle.vest_files.specs.declared.stop.Stop.{Stop}
-use Rattle.vest_files.specs.declared.stop.Stop.TheVariants.{Absent, Refused, ReadFault, TooLong, WantOfMemory}
+use Rattle.vest_files.specs.declared.stop.Stop.TheVariants.{ReadFault, TooLong, WantOfMemory}
 use Rattle.vest_cli.specs.declared.input.TheConstants.{INPUT_LIMIT}
 
 -- these bytes are all that the source had left, where it tells them, and nothing is left

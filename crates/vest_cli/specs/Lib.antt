@@ -1,4 +1,4 @@
-pub mod Obeyed
+pub mod Words
 pub mod Lent
 pub mod Kept
 pub mod Stopping
@@ -6,6 +6,8 @@ pub mod Threads
 pub mod Input
 pub mod Report
 pub mod Delivery
+pub mod Keeping
 pub mod Run
+pub mod Generate
 pub mod Vest
 pub mod Decided

@@ -14,21 +14,28 @@ use Rattle.vest_files.specs.declared.status.Status.{Status}
 use Rattle.vest_files.specs.declared.status.Status.TheVariants as status
 use Rattle.vest_files.specs.declared.stop.Stop.{Stop}
 use Rattle.vest_files.specs.declared.stop.Stop.TheVariants.{WantOfMemory}
+use Rattle.vest_cli.specs.Generate.{Generates}
 use Rattle.vest_cli.specs.Kept.{KeptValue, nothing_kept}
 use Rattle.vest_cli.specs.Lent.{Lent}
 use Rattle.vest_cli.specs.Run.{Runs, StopsRun}
 use Rattle.vest_cli.specs.Stopping.{Stopped, usage_line}
+
+-- `generate` stops only for want of memory, and touches neither desk nor input
+pub record StopsGenerate (stop : Stop) (desk desk' : DeskMeaning) (input input' : SourceMeaning) : Type 0 where
+  pub want : stop ≡ WantOfMemory
+  pub same_desk : desk' ≡ desk
+  pub same_input : input' ≡ input
 
 -- why a command stops
 abbrev pub StopsAt : CommandValue → Stop → DeskMeaning → DeskMeaning → SourceMeaning → SourceMeaning → Type 0
 StopsAt (run name limits ranges) stop desk desk' input input' = StopsRun stop name desk desk' input input'
 StopsAt (translate image to) stop desk desk' input input' = StopsTranslate stop image desk desk'
 StopsAt (list name) stop desk desk' input input' = StopsAtLoad stop name desk desk'
-StopsAt (generate number) stop desk desk' input input' = ⊥
+StopsAt (generate number) stop desk desk' input input' = StopsGenerate stop desk desk' input input'
 
 -- why a call stops: there was no memory to read its words; or its command says why
 abbrev pub Stops : Option CommandValue → Stop → DeskMeaning → DeskMeaning → SourceMeaning → SourceMeaning → Type 0
-Stops command WantOfMemory desk desk' input input' = Unit {0}
+Stops None WantOfMemory desk desk' input input' = Unit {0}
 Stops None stop desk desk' input input' = ⊥
 Stops (Some command) stop desk desk' input input' = StopsAt command stop desk desk' input input'
 
@@ -48,12 +55,18 @@ pub record OnlyLists (result : Done) (name : List ℕ) (old new : Lent) (kept : 
   pub input : new.input ≡ old.input
   pub kept_nothing : kept ≡ nothing_kept
 
+-- `generate` touches neither desk nor input
+pub record OnlyGenerates (result : Done) (number : ℕ) (old new : Lent) (kept : KeptValue) : Type 0 where
+  pub generates : Generates result number old.out new.out old.report new.report kept
+  pub desk : new.desk ≡ old.desk
+  pub input : new.input ≡ old.input
+
 -- what a command does
 abbrev pub Does : CommandValue → Done → Lent → Lent → KeptValue → Type 0
 Does (run name limits ranges) result old new kept = Runs result name limits ranges old new kept
 Does (translate image to) result old new kept = OnlyTranslates result image to old new kept
 Does (list name) result old new kept = OnlyLists result name old new kept
-Does (generate number) result old new kept = ⊥
+Does (generate number) result old new kept = OnlyGenerates result number old new kept
 
 -- no command was spelled; or a call stops and says why; or it does what its command says
 pub data Ends (command : Option CommandValue) (result : Status) (old new : Lent) (kept : KeptValue) : Type 0 where

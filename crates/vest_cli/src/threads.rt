@@ -36,7 +36,8 @@ pub fn run_all<R: Threads + Wait + Sync, G: Gate + Sync>(
     requires code { prepared.now.code ≡ translation.now }
     requires pages { prepared.now.pages ≡ image.now.pages }
     requires meets { Meets (image_meaning image.now.pages) translation.now }
-    ensures { HasRun (image_setting image.now.pages translation.now ranges.now) running.set_up running.budget result.0.history (map processor_of result.1.items) }
+    ensures set_up { result.0.set_up ≡ running.set_up }
+    ensures ran { HasRun (image_setting image.now.pages translation.now ranges.now) running.set_up running.budget result.0.history (map processor_of result.1.items) }
 {
     page_table_has_bytes(&image.pages);
     images_are_runs(image, input);

@@ -1,17 +1,17 @@
 // The top call.
-ghost use Rattle.std.specs.Prelude.{◌≡◌, ◌⊎◌, IfOk, IfErr, None, true};
-ghost use Rattle.command_words.specs.Answers.{AnswersTo, command_value};
-ghost use Rattle.command_words.specs.Obeyed.{title_of};
+ghost use Rattle.std.specs.Prelude.{◌≡◌, ◌⊎◌, IfOk, IfErr, None};
+ghost use Rattle.command_words.specs.Answers.{command_value};
 ghost use Rattle.vest_files.specs.Decided.{Decision, IsDecided};
 ghost use Rattle.vest_files.specs.Line.{line_of};
 ghost use Rattle.vest_files.specs.Status.{status_of};
-ghost use Rattle.vest_cli.specs.Obeyed.{obeys, spelled};
+ghost use Rattle.vest_cli.specs.Words.{CanBeObeyed, spelled};
 ghost use Rattle.vest_cli.specs.Lent.{lent};
 ghost use Rattle.vest_cli.specs.Kept.{nothing_kept};
 ghost use Rattle.vest_cli.specs.Stopping.{Concludes, LeavesAll, RefusesWords, Says, usage_line};
 ghost use Rattle.vest_cli.specs.Decided.{DecidesCall, DecidesOn, IsOrFault, IsOrWant, NoneFailed};
 ghost use Rattle.vest_cli.specs.Vest.{Does, Ends, StopsAt};
 
+use crate::generate::generate;
 use crate::kept::Kept;
 use crate::run::run;
 use command_words::{Command, WordsFault, read_words};
@@ -50,7 +50,7 @@ pub fn vest<R: Threads + Wait + Sync, D: Desk, I: Source, K: Sink, E: Sink, G: G
         → IsOrWant (spelled words.now) result decision }
 {
     *kept = Kept::empty(alloc);
-    match command_of(alloc, words) {
+    match read_words(alloc, words) {
         Ok(command) => {
             let ended = obey(rt, alloc, command, desk, input, out, report, gate, kept);
             conclude(ended, report)
@@ -105,32 +105,6 @@ fn usage_line() -> Line
     line
 }
 
-// The command that the words spell to this program, which does not obey `generate`.
-fn command_of<'a>(alloc: Global, words: &'a [String]) -> Result<Command<'a>, WordsFault>
-    ensures answers { AnswersTo (spelled words.entry.now) result }
-    ensures obeyed { IfOk result (λ command. obeys (title_of (command_value command)) ≡ true) }
-{
-    match read_words(alloc, words) {
-        Ok(command) => {
-            if is_obeyed(&command) {
-                Ok(command)
-            } else {
-                Err(WordsFault::Usage)
-            }
-        }
-        Err(fault) => Err(fault),
-    }
-}
-
-fn is_obeyed(command: &Command<'_>) -> bool
-    ensures { result ≡ obeys (title_of (command_value command.now)) }
-{
-    match command {
-        Command::Run { .. } | Command::Translate { .. } | Command::List { .. } => true,
-        Command::Generate { .. } => false,
-    }
-}
-
 // What the command does, or why it stops before it has written anything.
 fn obey<R: Threads + Wait + Sync, D: Desk, I: Source, K: Sink, E: Sink, G: Gate + Sync>(
     rt: &R,
@@ -144,7 +118,7 @@ fn obey<R: Threads + Wait + Sync, D: Desk, I: Source, K: Sink, E: Sink, G: Gate 
     kept: &mut Kept,
 ) -> Result<Done, Stop>
     requires nothing { kept.old ≡ nothing_kept }
-    requires obeyed { obeys (title_of (command_value command)) ≡ true }
+    requires few { CanBeObeyed (command_value command) }
     ensures does { IfOk result (λ done. Does (command_value command.entry) done
         (lent (D.meaning desk.old) (I.meaning input.old) (K.meaning out.old) (E.meaning report.old))
         (lent (D.meaning desk.new) (I.meaning input.new) (K.meaning out.new) (E.meaning report.new))
@@ -168,6 +142,6 @@ fn obey<R: Threads + Wait + Sync, D: Desk, I: Source, K: Sink, E: Sink, G: Gate 
         ),
         Command::Translate { image, out: to } => translate_file(alloc, image, to, desk),
         Command::List { name } => list_file(alloc, name, desk, out),
-        Command::Generate { .. } => unreachable!(),
+        Command::Generate { number } => generate(rt, alloc, number, out, report, gate, kept),
     }
 }

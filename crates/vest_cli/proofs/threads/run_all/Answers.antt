@@ -10,8 +10,8 @@ use Rattle.vest_cli.proofs.Outputs.{put_out}
 use Rattle.vest_cli.proofs.Spent.{all_have_cause}
 use Rattle.vest_cli.proofs.threads.run_all.Goals as goal
 
-pub returns : goal.returns
-returns g c =
+pub returns-clause-ran : goal.returns-clause-ran
+returns-clause-ran g c =
     let image = c.args.image.now in
     let setting = image_setting c.args.image.now.pages c.args.translation.now c.args.ranges.now in
     let of = c.args.running.set_up in

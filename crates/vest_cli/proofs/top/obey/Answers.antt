@@ -1,11 +1,11 @@
 -- The command is the one that was read.
-use Rattle.std.proofs.Common.{◌≡◌, IfOk, List, ap, subst}
+use Rattle.std.proofs.Common.{IfOk, List, ap, subst}
 use Rattle.command_words.specs.Answers.{command_value}
-use Rattle.command_words.specs.Commands.{list, run, translate}
+use Rattle.command_words.specs.Commands.{generate, list, run, translate}
 use Rattle.command_words.specs.declared.numbers.Range.{Range}
 use Rattle.vest_cli.specs.Lent.{lent}
 use Rattle.vest_cli.specs.Run.{Runs}
-use Rattle.vest_cli.proofs.Obeying.{decided_as, does_as, list_leaves, only_lists, only_translates, stops_as, translate_leaves}
+use Rattle.vest_cli.proofs.Obeying.{decided_as, does_as, generate_decided, generate_leaves, generate_stops, list_leaves, only_generates, only_lists, only_translates, stops_as, translate_leaves}
 use Rattle.vest_cli.proofs.top.obey.Goals as goal
 
 pub returns-in-Run-clause-does : goal.returns-in-Run-clause-does
@@ -67,3 +67,27 @@ returns-in-List-clause-decided g c =
 
 pub returns-in-List-clause-leaves : goal.returns-in-List-clause-leaves
 returns-in-List-clause-leaves g c = list_leaves c.list_file.result (g.I.Source.meaning c.args.input.now) (g.E.Sink.meaning c.args.report.now) c.args.kept.now c.requires.nothing (g.D.Desk.meaning c.args.desk.now) (g.D.Desk.meaning c.list_file.new.desk) (g.K.Sink.meaning c.args.out.now) (g.K.Sink.meaning c.list_file.new.out) c.list_file.ensures.stays c.list_file.ensures.unsent
+
+pub returns-in-Generate-clause-does : goal.returns-in-Generate-clause-does
+returns-in-Generate-clause-does g c =
+    does_as c.generate.result (command_value c.args.command) (generate c.in-Generate.number)
+    (lent (g.D.Desk.meaning c.args.desk.now) (g.I.Source.meaning c.args.input.now) (g.K.Sink.meaning c.args.out.now) (g.E.Sink.meaning c.args.report.now))
+    (lent (g.D.Desk.meaning c.args.desk.now) (g.I.Source.meaning c.args.input.now) (g.K.Sink.meaning c.generate.new.out) (g.E.Sink.meaning c.generate.new.report))
+    c.generate.new.kept (ap command_value c.in-Generate.is)
+    (only_generates c.generate.result c.in-Generate.number (g.D.Desk.meaning c.args.desk.now) (g.I.Source.meaning c.args.input.now) (g.K.Sink.meaning c.args.out.now) (g.K.Sink.meaning c.generate.new.out) (g.E.Sink.meaning c.args.report.now) (g.E.Sink.meaning c.generate.new.report) c.generate.new.kept c.generate.ensures.does)
+
+pub returns-in-Generate-clause-why : goal.returns-in-Generate-clause-why
+returns-in-Generate-clause-why g c =
+    stops_as c.generate.result (command_value c.args.command) (generate c.in-Generate.number)
+    (g.D.Desk.meaning c.args.desk.now) (g.D.Desk.meaning c.args.desk.now) (g.I.Source.meaning c.args.input.now) (g.I.Source.meaning c.args.input.now) (ap command_value c.in-Generate.is)
+    (generate_stops c.generate.result (g.D.Desk.meaning c.args.desk.now) (g.I.Source.meaning c.args.input.now) c.generate.ensures.why)
+
+pub returns-in-Generate-clause-decided : goal.returns-in-Generate-clause-decided
+returns-in-Generate-clause-decided g c =
+    decided_as c.generate.result (command_value c.args.command) (generate c.in-Generate.number)
+    (g.D.Desk.meaning c.args.desk.now).files (g.I.Source.meaning c.args.input.now).left (ap command_value c.in-Generate.is) (generate_decided c.generate.result c.generate.ensures.why)
+
+pub returns-in-Generate-clause-leaves : goal.returns-in-Generate-clause-leaves
+returns-in-Generate-clause-leaves g c =
+    generate_leaves c.generate.result (g.D.Desk.meaning c.args.desk.now) (g.I.Source.meaning c.args.input.now) (g.K.Sink.meaning c.args.out.now) (g.K.Sink.meaning c.generate.new.out) (g.E.Sink.meaning c.args.report.now) (g.E.Sink.meaning c.generate.new.report) c.generate.new.kept
+    c.generate.ensures.unsent c.generate.ensures.unsaid c.generate.ensures.unkept
