@@ -6,4 +6,3 @@ pub mod Parsed
 pub mod Getters
 pub mod Readings
 pub mod Worked
-pub mod Obeyed

@@ -4,4 +4,3 @@ pub mod Numbers
 pub mod Commands
 pub mod App
 pub mod Answers
-pub mod Obeyed
