@@ -1,9 +1,8 @@
 // Two threads that can only go on beside each other.
 ghost use Rattle.thread_rows.specs.Empty.{IsEmpty};
 
-use crate::outcome::agrees;
 use crate::row::{image_of, row_of};
-use crate::run;
+use crate::run::run_agrees;
 use anyhow::Result;
 use std::alloc::Global;
 use std::sync::Wait;
@@ -29,6 +28,14 @@ struct Holds {
 }
 
 impl Holds {
+    fn new() -> Holds {
+        Holds {
+            second_of_0: AtomicU64::new(0),
+            second_of_1: AtomicU64::new(0),
+            missed: AtomicU64::new(0),
+        }
+    }
+
     fn wait(&self, asked: &AtomicU64) {
         for _ in 0..MOST_TURNS {
             if asked.load(Ordering::SeqCst) > 0 {
@@ -56,6 +63,13 @@ impl Gate for Holds {
     }
 }
 
+/// Whether no hold came to its end.
+fn none_missed(rt: &impl Print, holds: &Holds) -> Result<bool> {
+    let missed = holds.missed.load(Ordering::SeqCst);
+    println!(rt; "holds that came to their end: {missed}")?;
+    Ok(missed == 0)
+}
+
 /// Whether both threads end without reaching the end of a hold.
 pub fn are_beside<R: Print + Threads + Wait + Sync>(
     rt: &R,
@@ -66,13 +80,7 @@ pub fn are_beside<R: Print + Threads + Wait + Sync>(
 {
     let row = row_of(alloc, ROW)?;
     let image = image_of(alloc, &row)?;
-    let holds = Holds {
-        second_of_0: AtomicU64::new(0),
-        second_of_1: AtomicU64::new(0),
-        missed: AtomicU64::new(0),
-    };
-    let (memory, processors) = run(rt, alloc, &image, translation, &row, &holds)?;
-    let missed = holds.missed.load(Ordering::SeqCst);
-    println!(rt; "holds that came to their end: {missed}")?;
-    Ok(agrees(rt, alloc, &row, &memory, &processors)? && missed == 0)
+    let holds = Holds::new();
+    let agree = run_agrees(rt, alloc, &image, translation, &row, &holds)?;
+    Ok(none_missed(rt, &holds)? && agree)
 }

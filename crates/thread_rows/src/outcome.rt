@@ -1,35 +1,45 @@
 // What a run left, beside what its row wants.
-use crate::row::Row;
+use crate::row::Wanted;
 use anyhow::Result;
 use memory_core::MemState;
 use row_tally::pieces;
-use std::alloc::Global;
+use std::alloc::{AllocError, Global};
 use tie_switch::{End, Processor};
 
-fn end_text(alloc: Global, end: Option<End>) -> Result<String> {
+fn end_text(alloc: Global, end: Option<End>) -> Result<String, AllocError> {
     match end {
-        Some(End::Exit(value)) => Ok(format!(in alloc; "exit={value:X}")?),
-        Some(End::Raised(exception)) => Ok(format!(in alloc; "{exception:?}")?),
-        Some(End::Spent) => Ok(format!(in alloc; "spent")?),
-        None => Ok(format!(in alloc; "none")?),
+        Some(End::Exit(value)) => format!(in alloc; "exit={value:X}"),
+        Some(End::Raised(exception)) => format!(in alloc; "{exception:?}"),
+        Some(End::Spent) => String::from_str(alloc, "spent"),
+        None => String::from_str(alloc, "none"),
     }
 }
 
-/// Whether each processor has one of the ends that its place wants.
+/// Whether an end is one of those that are wanted.
+fn is_wanted(wanted: &str, found: &str) -> bool {
+    wanted.split('|').any(|end| end == found)
+}
+
+/// Whether a processor has one of the ends that its place wants.
+fn end_agrees(rt: &impl Print, alloc: Global, wanted: &str, processor: &Processor) -> Result<bool> {
+    let found = end_text(alloc, processor.end())?;
+    let agrees = is_wanted(wanted, found.as_str());
+    if !agrees {
+        println!(rt; "thread {}: {found}, not {wanted}", processor.thread())?;
+    }
+    Ok(agrees)
+}
+
 fn ends_agree(
     rt: &impl Print,
     alloc: Global,
-    row: &Row<'_>,
+    wanted: &str,
     processors: &[Processor],
 ) -> Result<bool> {
-    let wanted = pieces(alloc, row.ends)?;
+    let wanted = pieces(alloc, wanted)?;
     let mut agree = wanted.len() == processors.len();
     for (wanted, processor) in wanted.iter().zip(processors) {
-        let found = end_text(alloc, processor.end())?;
-        if !wanted.split('|').any(|end| end == found.as_str()) {
-            println!(rt; "thread {}: {found}, not {wanted}", processor.thread())?;
-            agree = false;
-        }
+        agree = end_agrees(rt, alloc, wanted, processor)? && agree;
     }
     Ok(agree)
 }
@@ -37,23 +47,26 @@ fn ends_agree(
 /// The first address of the writable page.
 const FIRST: u32 = 0x1000;
 
-fn bytes_agree(rt: &impl Print, row: &Row<'_>, memory: &MemState) -> Result<bool> {
+fn byte_agrees(rt: &impl Print, address: u32, wanted: u8, found: Option<u8>) -> Result<bool> {
+    let agrees = found == Some(wanted);
+    if !agrees {
+        println!(rt; "byte {address:X}: {found:?}, not {wanted:X}")?;
+    }
+    Ok(agrees)
+}
+
+fn bytes_agree(rt: &impl Print, wanted: &[u8], memory: &MemState) -> Result<bool> {
     let mut address = FIRST;
     let mut agree = true;
-    for wanted in &row.bytes {
-        let found = memory.byte(address);
-        if found != Some(*wanted) {
-            println!(rt; "byte {address:X}: {found:?}, not {wanted:X}")?;
-            agree = false;
-        }
+    for wanted in wanted {
+        agree = byte_agrees(rt, address, *wanted, memory.byte(address))? && agree;
         address = address.wrapping_add(1);
     }
     Ok(agree)
 }
 
-fn entries_agree(rt: &impl Print, row: &Row<'_>, memory: &MemState) -> Result<bool> {
-    let found = memory.history().len();
-    match row.entries {
+fn entries_agree(rt: &impl Print, wanted: Option<usize>, found: usize) -> Result<bool> {
+    match wanted {
         Some(wanted) if wanted != found => {
             println!(rt; "{found} entries, not {wanted}")?;
             Ok(false)
@@ -62,26 +75,29 @@ fn entries_agree(rt: &impl Print, row: &Row<'_>, memory: &MemState) -> Result<bo
     }
 }
 
-fn output_agrees(rt: &impl Print, row: &Row<'_>, memory: &MemState) -> Result<bool> {
-    let found = memory.output();
-    let agrees = found == row.output.as_slice();
+fn output_agrees(rt: &impl Print, wanted: &[u8], found: &[u8]) -> Result<bool> {
+    let agrees = found == wanted;
     if !agrees {
-        println!(rt; "output {found:?}, not {:?}", row.output)?;
+        println!(rt; "output {found:?}, not {wanted:?}")?;
     }
     Ok(agrees)
+}
+
+fn memory_agrees(rt: &impl Print, wanted: &Wanted<'_>, memory: &MemState) -> Result<bool> {
+    let bytes = bytes_agree(rt, &wanted.bytes, memory)?;
+    let entries = entries_agree(rt, wanted.entries, memory.history().len())?;
+    let output = output_agrees(rt, &wanted.output, memory.output())?;
+    Ok(bytes && entries && output)
 }
 
 /// Whether a run left what its row wants; what differs is printed.
 pub fn agrees(
     rt: &impl Print,
     alloc: Global,
-    row: &Row<'_>,
+    wanted: &Wanted<'_>,
     memory: &MemState,
     processors: &[Processor],
 ) -> Result<bool> {
-    let ends = ends_agree(rt, alloc, row, processors)?;
-    let bytes = bytes_agree(rt, row, memory)?;
-    let entries = entries_agree(rt, row, memory)?;
-    let output = output_agrees(rt, row, memory)?;
-    Ok(ends && bytes && entries && output)
+    let ends = ends_agree(rt, alloc, wanted.ends, processors)?;
+    Ok(memory_agrees(rt, wanted, memory)? && ends)
 }

@@ -7,20 +7,31 @@ use image_file::{Image, read_image};
 use row_tally::{bytes, fields, longword, number, pieces};
 use std::alloc::Global;
 
-/// What a run starts with, each thread with its PC and SP; what is wanted of its ends, of the bytes from 1000 on, of the
-/// number of entries and of the output; and how often it is run.
-#[derive(Drop)]
-pub struct Row<'a> {
-    pub starts: Vec<(u32, u32)>,
+/// The most steps of a thread, the most entries of the history, which store conditional fails, and how often a row is run.
+#[derive(Clone, Copy)]
+pub struct Settings {
     pub budget: u64,
     pub limit: u32,
     pub miss: u16,
-    pub code: Vec<u8>,
+    pub runs: u32,
+}
+
+/// What is wanted of the ends of threads, of the bytes from 1000 on, of the number of entries and of the output.
+#[derive(Drop)]
+pub struct Wanted<'a> {
     pub ends: &'a str,
     pub bytes: Vec<u8>,
     pub entries: Option<usize>,
     pub output: Vec<u8>,
-    pub runs: u32,
+}
+
+/// Each thread with its PC and SP, the code, how it is run, and what is wanted of what is left.
+#[derive(Drop)]
+pub struct Row<'a> {
+    pub starts: Vec<(u32, u32)>,
+    pub settings: Settings,
+    pub code: Vec<u8>,
+    pub wanted: Wanted<'a>,
 }
 
 const FIELDS: usize = 10;
@@ -36,29 +47,72 @@ fn start_of(text: &str) -> Result<(u32, u32)> {
     }
 }
 
-pub fn row_of<'a>(alloc: Global, line: &'a str) -> Result<Row<'a>> {
-    let fields = fields(alloc, line, FIELDS)?;
+fn starts_of(alloc: Global, text: &str) -> Result<Vec<(u32, u32)>> {
     let mut starts = Vec::new(alloc);
-    for start in &pieces(alloc, fields[0])? {
+    for start in &pieces(alloc, text)? {
         starts.push(start_of(start)?)?;
     }
+    Ok(starts)
+}
+
+fn settings_of(budget: &str, limit: &str, miss: &str, runs: &str) -> Result<Settings> {
+    let budget = number(budget)?;
+    let limit = longword(limit)?;
+    let miss = u16::try_from(longword(miss)?)?;
+    let runs = longword(runs)?;
+    Ok(Settings {
+        budget,
+        limit,
+        miss,
+        runs,
+    })
+}
+
+/// The number of entries, if not any number will do.
+fn entries_of(text: &str) -> Result<Option<usize>> {
+    if text == "any" {
+        return Ok(None);
+    }
+    Ok(Some(usize::try_from(number(text)?)?))
+}
+
+/// The bytes of a field, none for `-`.
+fn bytes_or_none(alloc: Global, text: &str) -> Result<Vec<u8>> {
+    if text == "-" {
+        return Ok(Vec::new(alloc));
+    }
+    Ok(bytes(alloc, text)?)
+}
+
+fn wanted_of<'a>(
+    alloc: Global,
+    ends: &'a str,
+    left: &str,
+    entries: &str,
+    output: &str,
+) -> Result<Wanted<'a>> {
+    let entries = entries_of(entries)?;
+    let left = bytes(alloc, left)?;
+    let output = bytes_or_none(alloc, output)?;
+    Ok(Wanted {
+        ends,
+        bytes: left,
+        entries,
+        output,
+    })
+}
+
+pub fn row_of<'a>(alloc: Global, line: &'a str) -> Result<Row<'a>> {
+    let fields = fields(alloc, line, FIELDS)?;
+    let settings = settings_of(fields[1], fields[2], fields[3], fields[9])?;
+    let wanted = wanted_of(alloc, fields[5], fields[6], fields[7], fields[8])?;
+    let starts = starts_of(alloc, fields[0])?;
+    let code = bytes(alloc, fields[4])?;
     Ok(Row {
         starts,
-        budget: number(fields[1])?,
-        limit: longword(fields[2])?,
-        miss: u16::try_from(longword(fields[3])?)?,
-        code: bytes(alloc, fields[4])?,
-        ends: fields[5],
-        bytes: bytes(alloc, fields[6])?,
-        entries: match fields[7] {
-            "any" => None,
-            text => Some(usize::try_from(number(text)?)?),
-        },
-        output: match fields[8] {
-            "-" => Vec::new(alloc),
-            text => bytes(alloc, text)?,
-        },
-        runs: longword(fields[9])?,
+        settings,
+        code,
+        wanted,
     })
 }
 
