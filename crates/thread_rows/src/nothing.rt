@@ -1,28 +1,41 @@
 // A translation of nothing, so that all is interpreted.
-ghost use Rattle.std.specs.Prelude.{◌≡◌, IfOk};
+ghost use Rattle.std.specs.Prelude.{◌≡◌, [], IfOk};
 ghost use Rattle.thread_rows.specs.Empty.{IsEmpty};
 
-use anyhow::{Result, anyhow};
+use address_map::AddressMap;
+use anyhow::{Result, bail};
+use exception_records::Points;
 use image_file::Image;
 use prepared_code::{Prepared, prepare};
 use std::alloc::Global;
 use system_model::Translation;
 
+fn no_addresses(alloc: Global) -> Result<AddressMap>
+    ensures { IfOk result (λ map. map ≡ []) }
+{
+    match address_map::build(alloc, &[]) {
+        Ok(map) => Ok(map),
+        Err(_) => bail!("no map"),
+    }
+}
+
+fn no_points(alloc: Global) -> Result<Points>
+    ensures { IfOk result (λ points. points ≡ []) }
+{
+    match exception_records::build(Vec::new(alloc)) {
+        Ok(points) => Ok(points),
+        Err(_) => bail!("no points"),
+    }
+}
+
 /// It has no words, no mapped addresses and no points, so it meets the judgement for each image.
 pub fn nothing(alloc: Global) -> Result<Translation>
     ensures { IfOk result IsEmpty }
 {
-    let Ok(map) = address_map::build(alloc, &[]) else {
-        return Err(anyhow!("no map"));
-    };
-    let Ok(points) = exception_records::build(Vec::new(alloc)) else {
-        return Err(anyhow!("no points"));
-    };
-    Ok(Translation {
-        words: Vec::new(alloc),
-        map,
-        points,
-    })
+    let map = no_addresses(alloc)?;
+    let points = no_points(alloc)?;
+    let words = Vec::new(alloc);
+    Ok(Translation { words, map, points })
 }
 
 /// The same made ready to be run.
@@ -38,6 +51,6 @@ pub fn made_ready<'a>(
     let Translation { words, map, points } = translation;
     match prepare(alloc, words, map, points, &image.pages) {
         Ok(prepared) => Ok(prepared),
-        Err(_) => Err(anyhow!("no memory")),
+        Err(_) => bail!("no memory"),
     }
 }
