@@ -2,10 +2,10 @@
 ghost use Rattle.std.specs.Prelude.{◌≡◌, ◌<◌, ◌+◌, suc, true, []};
 ghost use Rattle.alpha_machine.specs.Step.{state_of};
 ghost use Rattle.alpha_meaning.specs.State.{regs_of};
-ghost use Rattle.system_model.specs.Processors.{mode_at, stepped, left, placed, registers_of};
+ghost use Rattle.system_model.specs.Processors.{mode_at, moment_of, stepped, left, placed, registers_of};
 ghost use Rattle.system_model.specs.Processors as model;
 ghost use Rattle.system_model.specs.Legal.{spent};
-ghost use Rattle.system_model.specs.Steps.{settled_last};
+ghost use Rattle.system_model.specs.Steps.{Inside, place_of, settled_last};
 ghost use Rattle.tie_switch.specs.Processors.{IsMode};
 ghost use Rattle.tie_switch.specs.Seen as seen;
 ghost use Rattle.tie_switch.specs.Seen.{setting_of};
@@ -133,6 +133,36 @@ impl Processor {
                 self.retire_and_end(state, End::Raised(Exception::Arithmetic(kind)));
             }
             Last::Fault(exception) => self.mode = Mode::Ended(End::Raised(exception)),
+        }
+    }
+
+    // Goes on inside a block with those registers, and counts the step.
+    fn go_inside(&mut self, setting: Setting<'_>, cpu: &Cpu)
+        requires { self.old.steps < self.old.budget }
+        ensures stands { (mode : model.Mode) → StandsFor setting.entry.pages.now self.new (placed (setting_of setting.entry) (stepped (in_mode self.old mode)) (Inside (state_of cpu.now))) }
+        ensures budget { self.new.budget ≡ self.old.budget }
+        ensures thread { self.new.thread ≡ self.old.thread }
+        ensures steps { self.new.steps ≡ self.old.steps + 1 }
+    {
+        let _ = setting;
+        self.steps += 1;
+        self.mode.run(cpu);
+    }
+
+    /// Goes where a step leads that left those registers, which it counts.
+    pub(crate) fn go_on(&mut self, setting: Setting<'_>, cpu: &Cpu)
+        requires { self.old.steps < self.old.budget }
+        ensures stands { (mode : model.Mode) → StandsFor setting.entry.pages.now self.new (placed (setting_of setting.entry) (stepped (in_mode self.old mode)) (place_of (setting_of setting.entry) (moment_of (processor_of self.old)) (state_of cpu.now))) }
+        ensures budget { self.new.budget ≡ self.old.budget }
+        ensures thread { self.new.thread ≡ self.old.thread }
+        ensures steps { self.new.steps ≡ self.old.steps + 1 }
+    {
+        let code = setting.code;
+        if code.map.vax_of(cpu.pc).is_some() {
+            let place = self.place(setting, *cpu);
+            self.go_to(setting, place);
+        } else {
+            self.go_inside(setting, cpu);
         }
     }
 

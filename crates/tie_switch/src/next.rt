@@ -1,12 +1,13 @@
 // What the word at which a processor stands does.
 ghost use Rattle.std.specs.Prelude.{◌≡◌, ◌≢◌, ◌≤◌, ◌<◌, length};
 ghost use Rattle.alpha_machine.specs.Step.{state_of};
-ghost use Rattle.block_law.specs.Translations.{most_words};
+ghost use Rattle.alpha_meaning.specs.Pieces.{loaded};
+ghost use Rattle.block_law.specs.Translations.{fetch_of, most_words};
 ghost use Rattle.system_model.specs.Processors.{moment_of};
 ghost use Rattle.system_model.specs.Steps.{Stuck, next, held_behind, place_of, behind, state_at};
 ghost use Rattle.tie_switch.specs.Accesses.{AllCanAsk, Fits, IsFetched, IsNextBy};
 ghost use Rattle.tie_switch.specs.Seen as seen;
-ghost use Rattle.tie_switch.specs.Seen.{setting_of, next_of, place_behind};
+ghost use Rattle.tie_switch.specs.Seen.{finished_by, setting_of, next_of, place_behind};
 
 use crate::place::{Next, Place, Wanted};
 use crate::processor::Processor;
@@ -18,6 +19,25 @@ use exception_records::Rules;
 use system_model::shown;
 use vax_form::{Flags, VaxState};
 use vt_words::field;
+
+/// Finishes an access that found that, with the registers in place.
+pub(crate) fn finish_access(
+    setting: Setting<'_>,
+    cpu: &mut Cpu,
+    access: AlphaAccess,
+    before: u64,
+    success: bool,
+)
+    requires few { length setting.code.now.words ≤ most_words }
+    requires fetched { IsFetched setting.code.now.words cpu.old.pc }
+    requires fits { Fits (Wanted.Access access) }
+    ensures { state_of cpu.new ≡ finished_by (fetch_of setting.entry.code.now.words cpu.old.pc) (loaded access before) success (state_of cpu.old) }
+{
+    let at = (access.address % 8) as u32;
+    let value = field(before, at, u32::from(access.bytes));
+    let code = setting.code;
+    finish(cpu, &code.words, value, success);
+}
 
 impl Processor {
     ghost use Rattle.tie_switch.specs.Processors.{processor_of};
@@ -120,11 +140,8 @@ impl Processor {
         requires fits { Fits (Wanted.Access access) }
         ensures { seen.place_of result ≡ place_behind (setting_of setting.entry) (moment_of (processor_of self.now)) (state_of cpu) (Wanted.Access access) before success }
     {
-        let at = (access.address % 8) as u32;
-        let value = field(before, at, u32::from(access.bytes));
-        let code = setting.code;
         let mut finished = cpu;
-        finish(&mut finished, &code.words, value, success);
+        finish_access(setting, &mut finished, access, before, success);
         self.place(setting, finished)
     }
 

@@ -2,16 +2,18 @@
 ghost use Rattle.std.specs.Prelude.{◌≡◌, ◌≢◌, ◌≤◌, ◌<◌, ◌+◌, ◌↔◌, ◌⊎◌, ℕ, false, true, length};
 ghost use Rattle.alpha_machine.specs.Step.{state_of};
 ghost use Rattle.block_law.specs.Translations.{most_words};
-ghost use Rattle.system_model.specs.Processors.{mode_of, alpha_turn, moment_of};
+ghost use Rattle.system_model.specs.Processors.{mode_of, alpha_turn, moment_of, placed, stepped};
 ghost use Rattle.system_model.specs.Processors as model;
 ghost use Rattle.system_model.specs.Steps.{Stuck, next};
 ghost use Rattle.tie_switch.specs.Processors.{HasMade, HasStep, HasTurned, IsMode, IsStarted};
-ghost use Rattle.tie_switch.specs.Seen.{setting_of};
+ghost use Rattle.tie_switch.specs.Accesses.{Fits, IsFetched};
+ghost use Rattle.tie_switch.specs.Seen.{place_behind, setting_of};
 ghost use Rattle.tie_switch.specs.Settings.{image_setting};
 ghost use Rattle.tie_switch.specs.Turns.{has_ended};
 
 use crate::arrive::mode_at;
-use crate::place::Next;
+use crate::next::finish_access;
+use crate::place::{Next, Wanted};
 use crate::processor::{Mode, Processor};
 use crate::setting::Setting;
 use alpha_machine::Cpu;
@@ -44,6 +46,35 @@ impl Processor {
         }
     }
 
+    // Goes where the step leads by the reply to what it wants. Behind an access the registers stay in place.
+    fn go_behind(
+        &mut self,
+        setting: Setting<'_>,
+        cpu: Cpu,
+        wanted: Wanted,
+        before: u64,
+        success: bool,
+    )
+        requires few { length setting.code.now.words ≤ most_words }
+        requires fetched { IsFetched setting.code.now.words cpu.pc }
+        requires fits { Fits wanted }
+        requires steps { self.old.steps < self.old.budget }
+        ensures stands { (mode : model.Mode) → StandsFor setting.entry.pages.now self.new (placed (setting_of setting.entry) (stepped (in_mode self.old mode))
+            (place_behind (setting_of setting.entry) (moment_of (processor_of self.old)) (state_of cpu) wanted before success)) }
+        ensures budget { self.new.budget ≡ self.old.budget }
+        ensures thread { self.new.thread ≡ self.old.thread }
+        ensures steps { self.new.steps ≡ self.old.steps + 1 }
+    {
+        if let Wanted::Access(access) = wanted {
+            let mut finished = cpu;
+            finish_access(setting, &mut finished, access, before, success);
+            self.go_on(setting, &finished);
+        } else {
+            let place = self.place_behind(setting, cpu, wanted, before, success);
+            self.go_to(setting, place);
+        }
+    }
+
     // Makes one step in Alpha code, with at most one access.
     fn alpha_step<M: Memory>(&mut self, setting: Setting<'_>, cpu: Cpu, memory: &mut M)
         requires few { length setting.code.now.words ≤ most_words }
@@ -65,8 +96,7 @@ impl Processor {
             Next::Moves(place) => self.go_to(setting, place),
             Next::Wants(request, wanted) => match memory.access(&request) {
                 Reply::Made { before, success } => {
-                    let place = self.place_behind(setting, cpu, wanted, before, success);
-                    self.go_to(setting, place);
+                    self.go_behind(setting, cpu, wanted, before, success);
                 }
                 Reply::Full => self.spend(),
             },

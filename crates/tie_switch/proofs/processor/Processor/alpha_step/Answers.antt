@@ -4,7 +4,7 @@ use Rattle.alpha_machine.specs.Step.{state_of}
 use Rattle.system_model.specs.Legal.{spent}
 use Rattle.system_model.specs.Processors.{alpha_turn, moment_of, placed, stepped}
 use Rattle.system_model.specs.Steps as model
-use Rattle.tie_switch.specs.Processors.{HasMade, StandsFor, in_mode}
+use Rattle.tie_switch.specs.Processors.{HasMade, in_mode}
 use Rattle.tie_switch.specs.Seen.{place_behind, setting_of}
 use Rattle.tie_switch.proofs.processor.Processor.alpha_step.Goals as goal
 
@@ -25,10 +25,10 @@ returns-in-Made-clause-turned g c mode =
     let between = g.M.Memory.between c.args.memory.now in
     let old = g.M.Memory.seen c.args.memory.now in
     let new = g.M.Memory.seen c.access.new.self in
-    subst (λ (n : model.Next). HasMade setting set_up between (alpha_turn setting p n) p c.go_to-in-Made.new.self old new) c.in-Wants.ensures.next
+    subst (λ (n : model.Next). HasMade setting set_up between (alpha_turn setting p n) p c.go_behind.new.self old new) c.in-Wants.ensures.next
     (record {
       processor = placed setting (stepped p) place;
-      stands = subst (λ (x : model.Place). StandsFor c.args.setting.pages.now c.go_to-in-Made.new.self (placed setting (stepped p) x)) c.place_behind-place.ensures (c.go_to-in-Made.ensures.stands mode);
+      stands = c.go_behind.ensures.stands mode;
       makes = inl (record { before = c.in-Made.before; success = c.in-Made.success; entry = c.in-Made.ensures.reply; goes = refl });
     })
 
