@@ -1,6 +1,7 @@
 #!/usr/bin/env python3
 """Measures loops in the built program and in SIMH's VAX, turn by turn, and prints a table: instructions a second of both (the
 median of five runs), their ratio, Alpha words and steps for each VAX instruction, and entries of the history for each.
+Processor time counts where one thread runs, so that other work on the machine weighs less, and wall time where several do.
 
 tools/measure_simulator.py PROGRAM
 
@@ -9,6 +10,7 @@ import dataclasses
 import os
 import pathlib
 import re
+import resource
 import shutil
 import statistics
 import struct
@@ -75,6 +77,11 @@ def image(code, threads):
     return head + starts + rows + code
 
 
+def clock(threads=1):
+    """What time is counted by."""
+    return time.perf_counter() if threads > 1 else resource.getrusage(resource.RUSAGE_CHILDREN).ru_utime
+
+
 class Program:
     """The built program."""
 
@@ -93,9 +100,9 @@ class Program:
         return found.returncode, found.stderr
 
     def seconds(self, loop):
-        begun = time.perf_counter()
+        begun = clock(loop.threads)
         status, report = self.run(loop, loop.turns, "--budget", str(MOST_STEPS))
-        taken = time.perf_counter() - begun
+        taken = clock(loop.threads) - begun
         if status != 0:
             sys.exit(f"{loop.name}: status {status}: {report}")
         return taken
@@ -130,9 +137,9 @@ class Simulator:
         lines = ["set cpu 16m", "set cpu simhalt", "d psl 041F0000", f"d sp {STACK:X}"]
         lines += [f"d -b {CODE + place:X} {byte:02X}" for place, byte in enumerate(code)]
         self.script.write_text("\n".join([*lines, f"go {CODE:X}", "quit", ""]))
-        begun = time.perf_counter()
+        begun = clock()
         found = subprocess.run([self.path, self.script], capture_output=True, text=True, check=False, stdin=subprocess.DEVNULL)
-        taken = time.perf_counter() - begun
+        taken = clock() - begun
         if "HALT instruction" not in found.stdout:
             sys.exit(f"the simulator says {found.stdout}")
         return taken
