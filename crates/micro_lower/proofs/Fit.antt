@@ -1,5 +1,6 @@
 -- A program by a plan fits a block where its row does.
-use Rattle.std.proofs.Common.{◌≡◌, ℕ, Bool, true, List, [], ◌∷◌, ◌++◌, refl, subst}
+use Rattle.std.proofs.Common.{◌≡◌, ℕ, Bool, true, List, [], ◌∷◌, ◌++◌, Option, refl, subst}
+use Rattle.std.specs.Prelude.{slice_index_or}
 use Rattle.vax_form.specs.declared.instr.Base.{Base}
 use Rattle.vax_form.specs.declared.instr.Instr.{Instr}
 use Rattle.vax_form.specs.declared.instr.Operand.{Operand}
@@ -76,3 +77,45 @@ located (operands.Register n) X is place register = register n refl
 located operands.Unused X is place register = absurd is
 located (operands.Value value) X is place register = absurd is
 located (operands.Target address) X is place register = absurd is
+
+-- what computes of an instruction with an operand in memory, and of one with an operand in a register, without the others
+first_in : (X : List Operand → Type 0) (list : List Operand) → IsLocated (slice_index_or list 0 operands.Unused)
+    → ((base : Base) (index : Option ℕ) (more : List Operand) → X (operands.Place base index ∷ more)) → ((n : ℕ) (more : List Operand) → X (operands.Register n ∷ more)) → X list
+first_in X [] is place register = absurd is
+first_in X (operands.Place base index ∷ more) is place register = place base index more
+first_in X (operands.Register n ∷ more) is place register = register n more
+first_in X (operands.Unused ∷ more) is place register = absurd is
+first_in X (operands.Value value ∷ more) is place register = absurd is
+first_in X (operands.Target address ∷ more) is place register = absurd is
+
+second_in : (X : List Operand → Type 0) (list : List Operand) → IsLocated (slice_index_or list 1 operands.Unused)
+    → ((a : Operand) (base : Base) (index : Option ℕ) (more : List Operand) → X (a ∷ operands.Place base index ∷ more))
+    → ((a : Operand) (n : ℕ) (more : List Operand) → X (a ∷ operands.Register n ∷ more)) → X list
+second_in X [] is place register = absurd is
+second_in X (a ∷ list) is place register = first_in (λ rest. X (a ∷ rest)) list is (place a) (register a)
+
+third_in : (X : List Operand → Type 0) (list : List Operand) → IsLocated (slice_index_or list 2 operands.Unused)
+    → ((a b : Operand) (base : Base) (index : Option ℕ) (more : List Operand) → X (a ∷ b ∷ operands.Place base index ∷ more))
+    → ((a b : Operand) (n : ℕ) (more : List Operand) → X (a ∷ b ∷ operands.Register n ∷ more)) → X list
+third_in X [] is place register = absurd is
+third_in X (a ∷ list) is place register = second_in (λ rest. X (a ∷ rest)) list is (place a) (register a)
+
+-- the instruction with these operands in place of its own
+abbrev pub having : Instr → List Operand → Instr
+having instr list = record { at = instr.at; opcode = instr.opcode; count = instr.count; operands = list; after = instr.after }
+
+abbrev pub PlanFits : CodeSources → (Instr → Plan) → Instr → Type 0
+PlanFits codes plan instr = plan_fits codes (plan instr) instr ≡ true
+
+module _ (X : Instr → Type 0) (instr : Instr) where
+  pub first_located : IsLocated (operand instr 0) → ((base : Base) (index : Option ℕ) (more : List Operand) → X (having instr (operands.Place base index ∷ more)))
+      → ((n : ℕ) (more : List Operand) → X (having instr (operands.Register n ∷ more))) → X instr
+  first_located is place register = first_in (λ list. X (having instr list)) instr.operands is place register
+
+  pub second_located : IsLocated (operand instr 1) → ((a : Operand) (base : Base) (index : Option ℕ) (more : List Operand) → X (having instr (a ∷ operands.Place base index ∷ more)))
+      → ((a : Operand) (n : ℕ) (more : List Operand) → X (having instr (a ∷ operands.Register n ∷ more))) → X instr
+  second_located is place register = second_in (λ list. X (having instr list)) instr.operands is place register
+
+  pub third_located : IsLocated (operand instr 2) → ((a b : Operand) (base : Base) (index : Option ℕ) (more : List Operand) → X (having instr (a ∷ b ∷ operands.Place base index ∷ more)))
+      → ((a b : Operand) (n : ℕ) (more : List Operand) → X (having instr (a ∷ b ∷ operands.Register n ∷ more))) → X instr
+  third_located is place register = third_in (λ list. X (having instr list)) instr.operands is place register

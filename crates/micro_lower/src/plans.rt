@@ -18,7 +18,7 @@ const RESULT: u8 = 2;
 const PLACE: u8 = 3;
 
 /// An operand of a row of the table: how it is used, its size, and the temporaries for its value and for its address.
-#[derive(Clone, Copy, Debug, PartialEq, Eq)]
+#[derive(Clone, Copy)]
 pub(crate) struct Slot {
     pub access: Access,
     pub size: Size,
@@ -27,7 +27,7 @@ pub(crate) struct Slot {
 }
 
 /// Where the result in temporary 2 goes. The address of an operand in memory is in temporary 3.
-#[derive(Clone, Copy, Debug, PartialEq, Eq)]
+#[derive(Clone, Copy)]
 pub(crate) enum Target {
     /// There is none.
     Nowhere,
