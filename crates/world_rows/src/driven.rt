@@ -66,8 +66,8 @@ fn is_as(world: &World, run: &DrivenRun) -> bool {
         && are_at(world.processors(), run.threads.as_slice())
 }
 
-/// Refuses a world that is not what the threads do that are driven by its order.
-pub fn check_driven(alloc: Global, image: &Image, input: &[u8], world: &World) -> Result<()>
+/// What the threads do that are driven by a world's order.
+fn driven_by(alloc: Global, image: &Image, input: &[u8], world: &World) -> Result<Option<DrivenRun>>
     requires { IsWhole image.now }
 {
     let order = order_in(alloc, world)?;
@@ -76,8 +76,17 @@ pub fn check_driven(alloc: Global, image: &Image, input: &[u8], world: &World) -
         bail!("another number of processors");
     }
     match driven(alloc, image, input, &order, &counts) {
-        Ok(Some(run)) if is_as(world, &run) => Ok(()),
-        Ok(_) => bail!("not as driven"),
+        Ok(run) => Ok(run),
         Err(_) => bail!("want of memory"),
+    }
+}
+
+/// Refuses a world that is not what the threads do that are driven by its order.
+pub fn check_driven(alloc: Global, image: &Image, input: &[u8], world: &World) -> Result<()>
+    requires { IsWhole image.now }
+{
+    match driven_by(alloc, image, input, world)? {
+        Some(run) if is_as(world, &run) => Ok(()),
+        _ => bail!("not as driven"),
     }
 }

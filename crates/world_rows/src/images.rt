@@ -4,7 +4,7 @@ ghost use Rattle.image_file.specs.Whole.{IsWhole};
 
 use anyhow::{Context, Result, anyhow};
 use image_file::{Image, read_image};
-use row_tally::{longword, pieces};
+use row_tally::{bytes, longword, pieces};
 use std::alloc::{AllocError, Global};
 
 /// The bytes of a section.
@@ -18,6 +18,14 @@ pub fn pairs_of(alloc: Global, text: &str) -> Result<Vec<(u32, u32)>> {
         pairs.push((longword(first)?, longword(second)?))?;
     }
     Ok(pairs)
+}
+
+/// The bytes of a field, none for `-`.
+pub fn bytes_or_none(alloc: Global, field: &str) -> Result<Vec<u8>> {
+    if field == "-" {
+        return Ok(Vec::new(alloc));
+    }
+    Ok(bytes(alloc, field)?)
 }
 
 /// A count, of threads or of bytes.
@@ -51,7 +59,7 @@ fn file_of(alloc: Global, starts: &[(u32, u32)], code: &[u8], stored: &[u8]) -> 
 }
 
 /// The image of threads that start at a PC with an SP each, the code, and what the writable section stores.
-pub fn image_of(alloc: Global, starts: &[(u32, u32)], code: &[u8], stored: &[u8]) -> Result<Image>
+fn image_of(alloc: Global, starts: &[(u32, u32)], code: &[u8], stored: &[u8]) -> Result<Image>
     ensures { IfOk result IsWhole }
 {
     let file = file_of(alloc, starts, code, stored)?;
@@ -59,4 +67,13 @@ pub fn image_of(alloc: Global, starts: &[(u32, u32)], code: &[u8], stored: &[u8]
         Ok(image) => Ok(image),
         Err(refusal) => Err(anyhow!("no image: {refusal:?}")),
     }
+}
+
+/// The same of the fields with the code and with what is stored.
+pub fn image_in(alloc: Global, starts: &[(u32, u32)], code: &str, stored: &str) -> Result<Image>
+    ensures { IfOk result IsWhole }
+{
+    let code = bytes(alloc, code)?;
+    let stored = bytes_or_none(alloc, stored)?;
+    image_of(alloc, starts, &code, &stored)
 }

@@ -3,12 +3,13 @@ ghost use Rattle.image_file.specs.Whole.{IsWhole};
 ghost use Rattle.world_rows.specs.Ready.{CanRun};
 
 use crate::driven::check_driven;
-use crate::images::{image_of, pairs_of};
+use crate::images::{image_in, pairs_of};
+use crate::nothing::nothing_translated;
 use crate::shown::bytes_text;
-use crate::worlds::{Limits, Program, nothing_translated, pick, world_of};
+use crate::worlds::{Limits, Program, pick, world_of};
 use anyhow::{Context, Result};
 use image_file::Image;
-use row_tally::{bytes, fields, longword};
+use row_tally::{fields, longword};
 use std::alloc::{AllocError, Global};
 use system_model::End;
 use vest_core::World;
@@ -73,7 +74,23 @@ fn count(outcomes: &mut Vec<Outcome>, text: String) -> Result<(), AllocError> {
     Ok(())
 }
 
-/// What is left behind every list of so many picks that ends both threads. Each list is compared with the driven threads.
+/// What is left behind a list of picks, which is compared with the driven threads.
+fn left_behind(
+    alloc: Global,
+    program: Program<'_>,
+    picks: u32,
+    turns: u32,
+    shown: Shown,
+) -> Result<Option<String>>
+    requires whole { IsWhole program.image.now }
+    requires meets { CanRun program }
+{
+    let world = ran(alloc, program, picks, turns)?;
+    check_driven(alloc, program.image, &[], &world)?;
+    Ok(left_text(alloc, &world, shown)?)
+}
+
+/// What is left behind every list of so many picks that ends both threads.
 fn outcomes_of(alloc: Global, image: &Image, length: u32, shown: Shown) -> Result<Vec<Outcome>>
     requires { IsWhole image.now }
 {
@@ -85,9 +102,7 @@ fn outcomes_of(alloc: Global, image: &Image, length: u32, shown: Shown) -> Resul
     };
     let mut outcomes = Vec::new(alloc);
     for picks in 0..1u32 << length.min(MOST_PICKS) {
-        let world = ran(alloc, program, picks, length)?;
-        check_driven(alloc, image, &[], &world)?;
-        if let Some(text) = left_text(alloc, &world, shown)? {
+        if let Some(text) = left_behind(alloc, program, picks, length, shown)? {
             count(&mut outcomes, text)?;
         }
     }
@@ -105,17 +120,20 @@ fn outcomes_text(alloc: Global, outcomes: &[Outcome]) -> Result<String, AllocErr
     Ok(text)
 }
 
+/// The first bytes that a field asks for.
+fn shown_of(alloc: Global, field: &str) -> Result<Shown> {
+    let pairs = pairs_of(alloc, field)?;
+    let (first, count) = *pairs.first().context("bytes to show")?;
+    Ok(Shown { first, count })
+}
+
 /// How often what is left behind the lists of picks of a row, in the order in which they come: STARTS CODE LENGTH SHOWN.
 pub fn answer(alloc: Global, question: &str) -> Result<String> {
     let fields = fields(alloc, question, 4)?;
-    let image = image_of(
-        alloc,
-        &pairs_of(alloc, fields[0])?,
-        &bytes(alloc, fields[1])?,
-        &[],
-    )?;
-    let pairs = pairs_of(alloc, fields[3])?;
-    let (first, count) = *pairs.first().context("bytes to show")?;
-    let outcomes = outcomes_of(alloc, &image, longword(fields[2])?, Shown { first, count })?;
+    let length = longword(fields[2])?;
+    let shown = shown_of(alloc, fields[3])?;
+    let starts = pairs_of(alloc, fields[0])?;
+    let image = image_in(alloc, &starts, fields[1], "-")?;
+    let outcomes = outcomes_of(alloc, &image, length, shown)?;
     Ok(outcomes_text(alloc, &outcomes)?)
 }

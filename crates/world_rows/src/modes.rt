@@ -6,13 +6,12 @@ ghost use Rattle.image_meaning.specs.Meant.{image_meaning};
 ghost use Rattle.world_rows.specs.Ready.{CanRun, IsReady};
 
 use crate::driven::check_driven;
-use crate::images::{image_of, pairs_of};
-use crate::shown::{bytes_text, ends_text, output_text};
-use crate::turns::bytes_or_none;
+use crate::images::{bytes_or_none, image_in, pairs_of};
+use crate::shown::{ends_text, memory_text, output_text};
 use crate::worlds::{Limits, Program, pick_to_its_end, world_of};
 use anyhow::{Result, anyhow, bail};
 use image_file::Image;
-use row_tally::{bytes, fields};
+use row_tally::fields;
 use std::alloc::{AllocError, Global};
 use system_model::{Range, Translation};
 use translate::{Target, translate};
@@ -113,17 +112,6 @@ fn ran(alloc: Global, program: Program<'_>, threads: u8, input: Vec<u8>) -> Resu
     Ok(world)
 }
 
-/// The bytes that a row asks for, in text.
-fn memory_text(alloc: Global, world: &World, shown: &[(u32, u32)]) -> Result<String, AllocError> {
-    let mut text = String::new(alloc);
-    for (first, count) in shown {
-        let bytes = bytes_text(alloc, world, *first, *count)?;
-        text.push_str("; ")?;
-        text.push_str(bytes.as_str())?;
-    }
-    Ok(text)
-}
-
 /// The ends and the whole states of all processors, the output, and the bytes that the row asks for, in text.
 fn left_text(alloc: Global, world: &World, shown: &[(u32, u32)]) -> Result<String> {
     let mut text = ends_text(alloc, world)?;
@@ -143,27 +131,28 @@ struct Case {
     shown: Vec<(u32, u32)>,
 }
 
+fn threads_in(starts: &[(u32, u32)]) -> Result<u8> {
+    match u8::try_from(starts.len()) {
+        Ok(threads) => Ok(threads),
+        Err(_) => bail!("too many threads"),
+    }
+}
+
 fn case_of(alloc: Global, question: &str) -> Result<(Case, u8)>
     ensures { IfOk result (λ r. IsWhole r.0.image) }
 {
     let fields = fields(alloc, question, 5)?;
     let starts = pairs_of(alloc, fields[0])?;
-    let code = bytes(alloc, fields[1])?;
-    let stored = bytes_or_none(alloc, fields[2])?;
+    let threads = threads_in(&starts)?;
     let input = bytes_or_none(alloc, fields[3])?;
     let shown = pairs_of(alloc, fields[4])?;
-    let image = image_of(alloc, &starts, &code, &stored)?;
-    let Ok(threads) = u8::try_from(starts.len()) else {
-        bail!("too many threads")
+    let image = image_in(alloc, &starts, fields[1], fields[2])?;
+    let case = Case {
+        image,
+        input,
+        shown,
     };
-    Ok((
-        Case {
-            image,
-            input,
-            shown,
-        },
-        threads,
-    ))
+    Ok((case, threads))
 }
 
 /// What is left of the world of a case.

@@ -132,3 +132,18 @@ pub fn bytes_text(
     }
     Ok(text)
 }
+
+/// The bytes that a row asks for.
+pub fn memory_text(
+    alloc: Global,
+    world: &World,
+    shown: &[(u32, u32)],
+) -> Result<String, AllocError> {
+    let mut text = String::new(alloc);
+    for (first, count) in shown {
+        let bytes = bytes_text(alloc, world, *first, *count)?;
+        text.push_str("; ")?;
+        text.push_str(bytes.as_str())?;
+    }
+    Ok(text)
+}

@@ -3,22 +3,15 @@ ghost use Rattle.image_file.specs.Whole.{IsWhole};
 ghost use Rattle.world_rows.specs.Ready.{IsReady};
 
 use crate::driven::check_driven;
-use crate::images::{image_of, pairs_of};
-use crate::shown::{bytes_text, order_text, output_text, processors_text};
-use crate::worlds::{Limits, Program, nothing_translated, pick_often, world_of};
+use crate::images::{bytes_or_none, image_in, pairs_of};
+use crate::nothing::nothing_translated;
+use crate::shown::{memory_text, order_text, output_text, processors_text};
+use crate::worlds::{Limits, Program, pick_often, world_of};
 use anyhow::{Result, anyhow};
 use image_file::Image;
-use row_tally::{bytes, fields, longword, number};
+use row_tally::{fields, longword, number};
 use std::alloc::Global;
 use vest_core::World;
-
-/// The bytes of a field, none for `-`.
-pub fn bytes_or_none(alloc: Global, field: &str) -> Result<Vec<u8>> {
-    if field == "-" {
-        return Ok(Vec::new(alloc));
-    }
-    Ok(bytes(alloc, field)?)
-}
 
 /// Picks threads, each so many times.
 fn run(world: &mut World, program: Program<'_>, picks: &[(u32, u32)]) -> Result<()>
@@ -37,15 +30,14 @@ fn run(world: &mut World, program: Program<'_>, picks: &[(u32, u32)]) -> Result<
 /// What is left of a world: its processors, its order, its output, and the bytes that the row asks for.
 fn left_text(alloc: Global, world: &World, shown: &[(u32, u32)]) -> Result<String> {
     let mut text = processors_text(alloc, world)?;
-    write!(
-        text,
-        "; {}; {}",
-        order_text(alloc, world)?,
-        output_text(alloc, world)?
-    )?;
-    for (first, count) in shown {
-        write!(text, "; {}", bytes_text(alloc, world, *first, *count)?)?;
-    }
+    let order = order_text(alloc, world)?;
+    let output = output_text(alloc, world)?;
+    let memory = memory_text(alloc, world, shown)?;
+    text.push_str("; ")?;
+    text.push_str(order.as_str())?;
+    text.push_str("; ")?;
+    text.push_str(output.as_str())?;
+    text.push_str(memory.as_str())?;
     Ok(text)
 }
 
@@ -69,25 +61,37 @@ fn ran(
     Ok(world)
 }
 
+fn limits_of(budget: &str, entries: &str) -> Result<Limits> {
+    Ok(Limits {
+        budget: number(budget)?,
+        entries: longword(entries)?,
+    })
+}
+
+/// What is left of an image's world, by the fields with the input, the picks and what is asked for.
+fn left_in(
+    alloc: Global,
+    image: &Image,
+    limits: Limits,
+    input: &str,
+    picks: &str,
+    shown: &str,
+) -> Result<String>
+    requires { IsWhole image.now }
+{
+    let input = bytes_or_none(alloc, input)?;
+    let picks = pairs_of(alloc, picks)?;
+    let shown = pairs_of(alloc, shown)?;
+    let world = ran(alloc, image, input.to_vec(alloc)?, limits, &picks)?;
+    check_driven(alloc, image, &input, &world)?;
+    left_text(alloc, &world, &shown)
+}
+
 /// What is left of the world of a row: STARTS CODE STORED INPUT BUDGET LIMIT PICKS SHOWN.
 pub fn answer(alloc: Global, question: &str) -> Result<String> {
     let fields = fields(alloc, question, 8)?;
+    let limits = limits_of(fields[4], fields[5])?;
     let starts = pairs_of(alloc, fields[0])?;
-    let code = bytes(alloc, fields[1])?;
-    let stored = bytes_or_none(alloc, fields[2])?;
-    let image = image_of(alloc, &starts, &code, &stored)?;
-    let limits = Limits {
-        budget: number(fields[4])?,
-        entries: longword(fields[5])?,
-    };
-    let picks = pairs_of(alloc, fields[6])?;
-    let world = ran(
-        alloc,
-        &image,
-        bytes_or_none(alloc, fields[3])?,
-        limits,
-        &picks,
-    )?;
-    check_driven(alloc, &image, &bytes_or_none(alloc, fields[3])?, &world)?;
-    left_text(alloc, &world, &pairs_of(alloc, fields[7])?)
+    let image = image_in(alloc, &starts, fields[1], fields[2])?;
+    left_in(alloc, &image, limits, fields[3], fields[6], fields[7])
 }

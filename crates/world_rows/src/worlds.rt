@@ -1,9 +1,6 @@
 // Worlds of images, in which processors are picked.
-ghost use Rattle.std.specs.Prelude.{◌≡◌, IfOk};
-ghost use Rattle.block_law.specs.Translations.{Meets};
+ghost use Rattle.std.specs.Prelude.{IfOk};
 ghost use Rattle.image_file.specs.Whole.{IsWhole};
-ghost use Rattle.image_meaning.specs.Meant.{image_meaning};
-ghost use Rattle.world_rows.specs.Empty.{IsEmpty};
 ghost use Rattle.world_rows.specs.Ready.{CanRun, IsReady};
 
 use anyhow::{Result, bail};
@@ -11,31 +8,6 @@ use image_file::Image;
 use std::alloc::Global;
 use system_model::{Range, Translation};
 use vest_core::{Turn, World};
-
-/// A translation of no instruction: everything is interpreted.
-#[tactic(auto, using(crate::proofs::EmptyCode::empty_meets))]
-pub fn nothing_translated(alloc: Global, image: &Image) -> Result<Translation>
-    ensures { IfOk result (Meets (image_meaning image.now.pages)) }
-{
-    let _ = image;
-    nothing(alloc)
-}
-
-fn nothing(alloc: Global) -> Result<Translation>
-    ensures { IfOk result IsEmpty }
-{
-    let Ok(map) = address_map::build(alloc, &[]) else {
-        bail!("no map");
-    };
-    let Ok(points) = exception_records::build(Vec::new(alloc)) else {
-        bail!("no points");
-    };
-    Ok(Translation {
-        words: Vec::new(alloc),
-        map,
-        points,
-    })
-}
 
 /// The most steps of a processor, and the most entries of the history.
 #[derive(Clone, Copy)]
