@@ -1,0 +1,174 @@
+// What rows do.
+use crate::call::call;
+use crate::cuts::{refuses_changes, refuses_longer, refuses_prefixes};
+use crate::files::Files;
+use crate::left::Left;
+use crate::lent::{Lent, object_of};
+use crate::pieces::{first_word, parted, place_of, spelled};
+use crate::turns::Turns;
+use anyhow::{Context, Result, bail};
+use std::alloc::Global;
+use std::sync::Wait;
+use std::thread::Threads;
+
+/// What rows have made so far: the files, what the next call is lent beside them, and what the last one left.
+#[derive(Drop)]
+pub struct Bench {
+    files: Files,
+    lent: Lent,
+    left: Option<Left>,
+}
+
+/// Whether a row with that verb asks for nothing.
+pub fn is_setting(verb: &str) -> bool {
+    matches!(
+        verb,
+        "empty" | "file" | "input" | "fails" | "bytewise" | "holds"
+    )
+}
+
+impl Bench {
+    pub fn empty(alloc: Global) -> Bench {
+        Bench {
+            files: Files::none(alloc),
+            lent: Lent::sound(alloc),
+            left: None,
+        }
+    }
+
+    fn clear(&mut self, alloc: Global) -> Result<()> {
+        self.files = Files::none(alloc);
+        Ok(())
+    }
+
+    // NAME PIECES.
+    fn put(&mut self, alloc: Global, rest: &str) -> Result<()> {
+        let (name, pieces) = first_word(rest);
+        let bytes = spelled(alloc, &self.files, pieces)?;
+        self.files.put(alloc, name, bytes)
+    }
+
+    // PIECES.
+    fn give(&mut self, alloc: Global, pieces: &str) -> Result<()> {
+        self.lent.input = spelled(alloc, &self.files, pieces)?;
+        Ok(())
+    }
+
+    fn slow(&mut self) -> Result<()> {
+        self.lent.bytewise = true;
+        Ok(())
+    }
+
+    /// A row that asks for nothing.
+    pub fn set(&mut self, alloc: Global, verb: &str, rest: &str) -> Result<()> {
+        match verb {
+            "empty" => self.clear(alloc),
+            "file" => self.put(alloc, rest),
+            "input" => self.give(alloc, rest),
+            "fails" => self.lent.add_fault(rest),
+            "bytewise" => self.slow(),
+            "holds" => self.lent.add_hold(rest),
+            _ => bail!("an unknown row"),
+        }
+    }
+
+    // LINE: STATUS OUT REPORT, so many times.
+    fn calls<R: Threads + Wait + Sync + Print>(
+        &mut self,
+        rt: &R,
+        alloc: Global,
+        rest: &str,
+        times: usize,
+    ) -> Result<bool> {
+        let (line, wanted) = parted(rest, ": ")?;
+        for _ in 0..times {
+            let left = call(rt, alloc, &self.lent, &mut self.files, line)?;
+            if !left.is(alloc, wanted)? {
+                left.print(rt, alloc)?;
+                return Ok(false);
+            }
+            self.left = Some(left);
+        }
+        self.lent = Lent::sound(alloc);
+        Ok(true)
+    }
+
+    // COUNT LINE: STATUS OUT REPORT.
+    fn calls_again<R: Threads + Wait + Sync + Print>(
+        &mut self,
+        rt: &R,
+        alloc: Global,
+        rest: &str,
+    ) -> Result<bool> {
+        let (count, rest) = first_word(rest);
+        self.calls(rt, alloc, rest, place_of(count)?)
+    }
+
+    // OBJECT COUNT LINE, with the input that stands.
+    fn fails_in_turn<R: Threads + Wait + Sync>(
+        &mut self,
+        rt: &R,
+        alloc: Global,
+        rest: &str,
+    ) -> Result<bool> {
+        let (object, rest) = first_word(rest);
+        let (count, line) = first_word(rest);
+        let turns = Turns {
+            files: &self.files,
+            input: self.lent.input.as_slice(),
+            object: object_of(object)?,
+            line,
+        };
+        let agrees = turns.agree(rt, alloc, count)?;
+        self.lent = Lent::sound(alloc);
+        Ok(agrees)
+    }
+
+    // NAME PIECES: whether the name has these bytes.
+    fn has(&self, alloc: Global, rest: &str) -> Result<bool> {
+        let (name, pieces) = first_word(rest);
+        let wanted = spelled(alloc, &self.files, pieces)?;
+        Ok(self.files.get(name)? == wanted.as_slice())
+    }
+
+    fn left(&self) -> Result<&Left> {
+        self.left.as_ref().context("a call before")
+    }
+
+    // PIECES: whether `out` begins so.
+    fn begins(&self, alloc: Global, pieces: &str) -> Result<bool> {
+        let wanted = spelled(alloc, &self.files, pieces)?;
+        Ok(self.left()?.out.starts_with(&wanted))
+    }
+
+    // A row about what stands.
+    fn stands<R: Print>(&self, rt: &R, alloc: Global, verb: &str, rest: &str) -> Result<bool> {
+        match verb {
+            "has" => self.has(alloc, rest),
+            "absent" => Ok(self.files.find(rest).is_none()),
+            "left" => self.left()?.agrees(rt, alloc, rest),
+            "history" => self.left()?.has_history(alloc, rest),
+            "begins" => self.begins(alloc, rest),
+            _ => bail!("an unknown row"),
+        }
+    }
+
+    /// Whether what a row says is so.
+    pub fn agrees<R: Threads + Wait + Sync + Print>(
+        &mut self,
+        rt: &R,
+        alloc: Global,
+        verb: &str,
+        rest: &str,
+    ) -> Result<bool> {
+        match verb {
+            "call" => self.calls(rt, alloc, rest, 1),
+            "again" => self.calls_again(rt, alloc, rest),
+            "turns" => self.fails_in_turn(rt, alloc, rest),
+            "prefixes" => refuses_prefixes(rt, alloc, self.files.get(rest)?),
+            "changes" => refuses_changes(rt, alloc, self.files.get(rest)?),
+            "longer" => refuses_longer(rt, alloc, self.files.get(rest)?),
+            _ => self.stands(rt, alloc, verb, rest),
+        }
+    }
+}

@@ -1,0 +1,127 @@
+// A call of `vest`, with what it is lent.
+use crate::files::Files;
+use crate::gates::Holds;
+use crate::left::{Left, Run, Steps};
+use crate::lent::{Lent, Object};
+use crate::pieces::words_of;
+use anyhow::Result;
+use std::alloc::{AllocError, Global};
+use std::sync::Wait;
+use std::thread::Threads;
+use vest_cli::{Kept, Status, vest};
+use vt_outside::{MemoryDesk, MemorySink, MemorySource};
+
+/// What a call is lent beside the desk.
+#[derive(Drop)]
+struct Objects {
+    input: MemorySource,
+    out: MemorySink,
+    report: MemorySink,
+    gate: Holds,
+}
+
+fn objects_of(alloc: Global, lent: &Lent) -> Result<Objects, AllocError> {
+    let input = lent.source(alloc)?;
+    let out = lent.sink(alloc, Object::Out)?;
+    let report = lent.sink(alloc, Object::Report)?;
+    let gate = lent.gate(alloc)?;
+    Ok(Objects {
+        input,
+        out,
+        report,
+        gate,
+    })
+}
+
+// The call alone.
+fn obey<R: Threads + Wait + Sync>(
+    rt: &R,
+    alloc: Global,
+    words: &[String],
+    desk: &mut MemoryDesk,
+    objects: &mut Objects,
+    kept: &mut Kept,
+) -> Status {
+    let Objects {
+        input,
+        out,
+        report,
+        gate,
+    } = objects;
+    vest(rt, alloc, words, desk, input, out, report, gate, kept)
+}
+
+// Obeys the words, and says what rows look at of what was kept.
+fn run_of<R: Threads + Wait + Sync>(
+    rt: &R,
+    alloc: Global,
+    words: &[String],
+    desk: &mut MemoryDesk,
+    objects: &mut Objects,
+) -> Result<Run, AllocError> {
+    let mut kept = Kept::empty(alloc);
+    let status = obey(rt, alloc, words, desk, objects, &mut kept);
+    seen(alloc, status, &kept)
+}
+
+fn seen(alloc: Global, status: Status, kept: &Kept) -> Result<Run, AllocError> {
+    let steps = steps_of(alloc, kept)?;
+    let history = kept.history.as_slice().to_vec(alloc)?;
+    Ok(Run {
+        status: status as u64,
+        is_kept: kept.image.is_some(),
+        steps,
+        history,
+    })
+}
+
+fn steps_of(alloc: Global, kept: &Kept) -> Result<Vec<Steps>, AllocError> {
+    let mut steps = Vec::new(alloc);
+    for processor in &kept.processors {
+        steps.push(Steps {
+            retired: processor.retired(),
+            interpreted: processor.tie_steps(),
+        })?;
+    }
+    Ok(steps)
+}
+
+// What the objects took.
+fn left_of(alloc: Global, objects: &Objects, run: Run) -> Result<Left, AllocError> {
+    let out = objects.out.bytes().to_vec(alloc)?;
+    let report = objects.report.bytes().to_vec(alloc)?;
+    Ok(Left {
+        run,
+        out,
+        report,
+        released: objects.gate.are_released(),
+    })
+}
+
+fn call_over<R: Threads + Wait + Sync>(
+    rt: &R,
+    alloc: Global,
+    lent: &Lent,
+    words: &[String],
+    desk: &mut MemoryDesk,
+) -> Result<Left, AllocError> {
+    let mut objects = objects_of(alloc, lent)?;
+    let run = run_of(rt, alloc, words, desk, &mut objects)?;
+    left_of(alloc, &objects, run)
+}
+
+/// Calls `vest` with the words of a line. The files are then those of the desk.
+pub fn call<R: Threads + Wait + Sync>(
+    rt: &R,
+    alloc: Global,
+    lent: &Lent,
+    files: &mut Files,
+    line: &str,
+) -> Result<Left> {
+    let words = words_of(alloc, line)?;
+    let mut desk = files.desk(alloc, lent.fails_of(alloc, Object::Desk)?)?;
+    let left = call_over(rt, alloc, lent, &words, &mut desk)?;
+    files.take_known(alloc, &mut desk)?;
+    files.take(alloc, &mut desk, &words)?;
+    Ok(left)
+}
