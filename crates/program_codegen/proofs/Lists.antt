@@ -56,5 +56,3 @@ module _ (lines : List Line) (k : ℕ) (d : Line) (lt : k < length lines) where
   step_exits old new before is =
       is ∙ (ap (λ (xs : List (ℕ × ℕ)). xs ++ with_entry (get_or lines k d).exit k []) before
       ∙ (ap (λ n. exits_from 0 (take k lines) ++ with_entry (get_or lines k d).exit n []) (sym here) ∙ (sym (exits_more 0 (take k lines) (get_or lines k d)) ∙ ap (exits_from 0) (sym (take_more lines k d lt)))))
-
--- ---- and over words
