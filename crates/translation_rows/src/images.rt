@@ -8,10 +8,13 @@ use row_tally::{bytes, longword, pieces};
 use std::alloc::{AllocError, Global};
 
 /// Where the code stands.
-pub const CODE: u32 = 0x200;
+const CODE: u32 = 0x200;
+
+/// Where a writable section stands, where a row names no place.
+const WRITABLE: u32 = 0x1000;
 
 /// The SP of a thread, where a row names none.
-pub const STACK: u32 = 0x1200;
+const STACK: u32 = 0x1200;
 
 /// The bytes of a section.
 const SIZE: u32 = 0x200;
@@ -61,22 +64,25 @@ fn push_longwords(file: &mut Vec<u8>, longwords: &[u32]) -> Result<(), AllocErro
     Ok(())
 }
 
-/// The file of threads that start at a PC with an SP each, and sections.
-fn file_of(alloc: Global, starts: &[(u32, u32)], sections: &[Section<'_>]) -> Result<Vec<u8>> {
-    let mut file = Vec::new(alloc);
-    file.extend_from_slice(b"VXIM")?;
-    push_longwords(
-        &mut file,
-        &[count_of(starts.len())? << 16 | 1, count_of(sections.len())?],
-    )?;
-    for (pc, sp) in starts {
-        push_longwords(&mut file, &[*pc, *sp])?;
-    }
+/// The places of sections, and how many bytes each stores.
+fn push_places(file: &mut Vec<u8>, sections: &[Section<'_>]) -> Result<()> {
     for section in sections {
         let stored = count_of(section.stored.len())?;
         let flags = u32::from(section.writable);
-        push_longwords(&mut file, &[section.first, section.size, stored, flags])?;
+        push_longwords(file, &[section.first, section.size, stored, flags])?;
     }
+    Ok(())
+}
+
+/// The file of threads that start at a PC with an SP each, and sections.
+fn file_of(alloc: Global, starts: &[(u32, u32)], sections: &[Section<'_>]) -> Result<Vec<u8>> {
+    let counts = [count_of(starts.len())? << 16 | 1, count_of(sections.len())?];
+    let mut file = Vec::from_slice(alloc, b"VXIM")?;
+    push_longwords(&mut file, &counts)?;
+    for (pc, sp) in starts {
+        push_longwords(&mut file, &[*pc, *sp])?;
+    }
+    push_places(&mut file, sections)?;
     for section in sections {
         file.extend_from_slice(section.stored)?;
     }
@@ -92,12 +98,16 @@ fn read(alloc: Global, file: &[u8]) -> Result<Image>
     }
 }
 
-/// The image of threads that start at a PC with an SP each, the code, and a writable section, written as FIRST=BYTES.
-pub fn image_of(alloc: Global, starts: &[(u32, u32)], code: &[u8], writable: &str) -> Result<Image>
+/// The image of threads that start at a PC with an SP each, the code, and a writable section from an address on.
+fn image_with(
+    alloc: Global,
+    starts: &[(u32, u32)],
+    code: &[u8],
+    first: u32,
+    stored: &[u8],
+) -> Result<Image>
     ensures { IfOk result IsWhole }
 {
-    let (first, stored) = writable.split_once('=').context("a section")?;
-    let stored = bytes_or_none(alloc, stored)?;
     let sections = [
         Section {
             first: CODE,
@@ -106,14 +116,34 @@ pub fn image_of(alloc: Global, starts: &[(u32, u32)], code: &[u8], writable: &st
             stored: code,
         },
         Section {
-            first: longword(first)?,
+            first,
             size: SIZE,
             writable: true,
-            stored: &stored,
+            stored,
         },
     ];
     let file = file_of(alloc, starts, &sections)?;
     read(alloc, &file)
+}
+
+/// The image of threads, by the fields with the code and with the writable section, written as FIRST=BYTES.
+pub fn image_of(alloc: Global, starts: &[(u32, u32)], code: &str, writable: &str) -> Result<Image>
+    ensures { IfOk result IsWhole }
+{
+    let (first, stored) = writable.split_once('=').context("a section")?;
+    let first = longword(first)?;
+    let code = bytes(alloc, code)?;
+    let stored = bytes_or_none(alloc, stored)?;
+    image_with(alloc, starts, &code, first, &stored)
+}
+
+/// The image of one thread, by the fields with the code and with what the writable section stores.
+pub fn plain_image(alloc: Global, code: &str, stored: &str) -> Result<Image>
+    ensures { IfOk result IsWhole }
+{
+    let code = bytes(alloc, code)?;
+    let stored = bytes_or_none(alloc, stored)?;
+    image_with(alloc, &[(CODE, STACK)], &code, WRITABLE, &stored)
 }
 
 /// The image of one thread, whose code fills its only section.

@@ -12,7 +12,7 @@ mod translations;
 mod worlds;
 
 use anyhow::{Context, Result, bail};
-use row_tally::{Families, rows};
+use row_tally::{Families, Tally, rows};
 use std::alloc::Global;
 use std::fs;
 
@@ -43,15 +43,29 @@ fn agrees(rt: &(impl Print + AllocGlobal), row: &str) -> Result<bool> {
     Ok(agrees)
 }
 
+/// Begins a family, or answers the question of a row.
+fn run<'a>(
+    rt: &(impl Print + AllocGlobal),
+    families: &mut Families<'a>,
+    row: &'a str,
+) -> Result<()> {
+    match row.strip_prefix("family ") {
+        Some(name) => families.begin(rt, name)?,
+        None => families.count(agrees(rt, row)?),
+    }
+    Ok(())
+}
+
+/// Answers the questions of a table.
+fn run_all(rt: &(impl Print + AllocGlobal), table: &str) -> Result<Tally> {
+    let mut families = Families::NONE;
+    for row in &rows(rt.alloc(), table)? {
+        run(rt, &mut families, row)?;
+    }
+    families.end(rt)
+}
+
 fn main(rt: HostRuntime) -> Result<()> {
     let table = fs::read_to_string(&rt, TABLE).context(TABLE)?;
-    let mut families = Families::NONE;
-    for row in &rows(rt.alloc(), table.as_str())? {
-        if let Some(name) = row.strip_prefix("family ") {
-            families.begin(&rt, name)?;
-        } else {
-            families.count(agrees(&rt, row)?);
-        }
-    }
-    families.end(&rt)?.verdict()
+    run_all(&rt, table.as_str())?.verdict()
 }

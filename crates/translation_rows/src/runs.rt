@@ -1,23 +1,26 @@
-// Images that run with all of their translation, and with none.
+// Images that run with all of their translation, with stores that fail, and with none.
 ghost use Rattle.std.specs.Prelude.{IfOk};
 ghost use Rattle.block_law.specs.Translations.{Meets};
 ghost use Rattle.image_file.specs.Whole.{IsWhole};
 ghost use Rattle.image_meaning.specs.Meant.{image_meaning};
 ghost use Rattle.translation_rows.specs.Ready.{CanRun, IsReady};
 
-use crate::images::{CODE, STACK, bytes_or_none, image_of, pairs_of};
+use crate::images::{bytes_or_none, image_of, pairs_of, plain_image};
 use crate::shown::{ends_text, left_text, states_text};
 use crate::translations::translated;
 use crate::worlds::{Program, pick_to_its_end, world_of};
 use anyhow::{Result, bail};
 use image_file::Image;
-use row_tally::{bytes, fields};
+use row_tally::fields;
 use std::alloc::Global;
 use system_model::{Range, Translation};
 use vest_core::World;
 
 /// More turns than a thread of a row takes.
 const MOST_TURNS: u32 = 20_000;
+
+/// Every second store conditional of a processor fails.
+const MISS: u16 = 2;
 
 /// The threads of an image and its input, as a row has them.
 #[derive(Drop)]
@@ -49,12 +52,13 @@ fn ran(alloc: Global, program: Program<'_>, threads: u8, input: Vec<u8>) -> Resu
     Ok(world)
 }
 
-/// The world in which each thread of a case ran to its end, and interpreted these addresses.
+/// The world in which each thread of a case ran to its end and interpreted these addresses, where a store fails by that number.
 fn world_in(
     alloc: Global,
     case: &Case,
     translation: &Translation,
     ranges: &[Range],
+    miss: u16,
 ) -> Result<World>
     requires whole { IsWhole case.now.image }
     requires meets { Meets (image_meaning case.now.image.pages) translation.now }
@@ -63,8 +67,16 @@ fn world_in(
         image: &case.image,
         translation,
         ranges,
+        miss,
     };
     ran(alloc, program, case.threads, case.input.to_vec(alloc)?)
+}
+
+fn threads_in(starts: &[(u32, u32)]) -> Result<u8> {
+    match u8::try_from(starts.len()) {
+        Ok(threads) => Ok(threads),
+        Err(_) => bail!("too many threads"),
+    }
 }
 
 /// The case of a row: STARTS CODE WRITABLE INPUT SHOWN.
@@ -73,13 +85,10 @@ fn case_of(alloc: Global, question: &str) -> Result<Case>
 {
     let fields = fields(alloc, question, 5)?;
     let starts = pairs_of(alloc, fields[0])?;
-    let code = bytes(alloc, fields[1])?;
+    let threads = threads_in(&starts)?;
     let input = bytes_or_none(alloc, fields[3])?;
     let shown = pairs_of(alloc, fields[4])?;
-    let image = image_of(alloc, &starts, &code, fields[2])?;
-    let Ok(threads) = u8::try_from(starts.len()) else {
-        bail!("too many threads")
-    };
+    let image = image_of(alloc, &starts, fields[1], fields[2])?;
     Ok(Case {
         image,
         threads,
@@ -97,28 +106,54 @@ fn all_of(thread: u8) -> Range {
     }
 }
 
-/// The world of a case with its translation. What is left and each state have to be the same where all is interpreted.
-fn compared(alloc: Global, case: &Case) -> Result<World>
-    requires { IsWhole case.now.image }
-{
-    let translation = translated(alloc, &case.image)?;
-    let world = world_in(alloc, case, &translation, &[])?;
-    let ranges = [all_of(0), all_of(1)];
-    let interpreted = world_in(alloc, case, &translation, &ranges)?;
-    let found = whole_text(alloc, &world, &case.shown)?;
-    let other = whole_text(alloc, &interpreted, &case.shown)?;
-    if found.as_str() != other.as_str() {
-        bail!("{found}, but {other} where all is interpreted");
-    }
-    Ok(world)
-}
-
 /// What is left of a world, and each state.
 fn whole_text(alloc: Global, world: &World, shown: &[(u32, u32)]) -> Result<String> {
     let mut text = left_text(alloc, world, shown)?;
     let states = states_text(alloc, world)?;
     text.push_str(states.as_str())?;
     Ok(text)
+}
+
+/// What is left of the world of a case in which all is interpreted, and each state.
+fn interpreted_text(alloc: Global, case: &Case, translation: &Translation) -> Result<String>
+    requires whole { IsWhole case.now.image }
+    requires meets { Meets (image_meaning case.now.image.pages) translation.now }
+{
+    let ranges = [all_of(0), all_of(1)];
+    let world = world_in(alloc, case, translation, &ranges, 0)?;
+    whole_text(alloc, &world, &case.shown)
+}
+
+/// The same where stores fail.
+fn missed_text(alloc: Global, case: &Case, translation: &Translation) -> Result<String>
+    requires whole { IsWhole case.now.image }
+    requires meets { Meets (image_meaning case.now.image.pages) translation.now }
+{
+    let world = world_in(alloc, case, translation, &[], MISS)?;
+    whole_text(alloc, &world, &case.shown)
+}
+
+/// Refuses what is left where that is not the same in another world.
+fn check_same(found: &str, other: &str, when: &str) -> Result<()> {
+    if found != other {
+        bail!("{found}, but {other} where {when}");
+    }
+    Ok(())
+}
+
+/// The world of a case with its translation. What is left and each state have to be the same where all is interpreted, and where
+/// stores fail.
+fn compared(alloc: Global, case: &Case) -> Result<World>
+    requires { IsWhole case.now.image }
+{
+    let translation = translated(alloc, &case.image)?;
+    let interpreted = interpreted_text(alloc, case, &translation)?;
+    let missed = missed_text(alloc, case, &translation)?;
+    let world = world_in(alloc, case, &translation, &[], 0)?;
+    let found = whole_text(alloc, &world, &case.shown)?;
+    check_same(found.as_str(), interpreted.as_str(), "all is interpreted")?;
+    check_same(found.as_str(), missed.as_str(), "stores fail")?;
+    Ok(world)
 }
 
 /// What is left of a row: STARTS CODE WRITABLE INPUT SHOWN.
@@ -133,10 +168,9 @@ fn plain_case(alloc: Global, question: &str) -> Result<Case>
     ensures { IfOk result (λ case. IsWhole case.image) }
 {
     let fields = fields(alloc, question, 2)?;
-    let code = bytes(alloc, fields[0])?;
-    let writable = format!(in alloc; "1000={}", fields[1])?;
+    let image = plain_image(alloc, fields[0], fields[1])?;
     Ok(Case {
-        image: image_of(alloc, &[(CODE, STACK)], &code, writable.as_str())?,
+        image,
         threads: 1,
         input: Vec::new(alloc),
         shown: Vec::new(alloc),
@@ -150,14 +184,19 @@ pub fn end(alloc: Global, question: &str) -> Result<String> {
     Ok(ends_text(alloc, &world)?)
 }
 
-/// How many steps of the thread of a row are interpreted: CODE STORED.
-pub fn interpreted(alloc: Global, question: &str) -> Result<String> {
-    let case = plain_case(alloc, question)?;
-    let translation = translated(alloc, &case.image)?;
-    let world = world_in(alloc, &case, &translation, &[])?;
+fn steps_of(world: &World) -> u64 {
     let mut steps: u64 = 0;
     for processor in world.processors() {
         steps = steps.saturating_add(processor.tie_steps());
     }
+    steps
+}
+
+/// How many steps of the thread of a row are interpreted: CODE STORED.
+pub fn interpreted(alloc: Global, question: &str) -> Result<String> {
+    let case = plain_case(alloc, question)?;
+    let translation = translated(alloc, &case.image)?;
+    let world = world_in(alloc, &case, &translation, &[], 0)?;
+    let steps = steps_of(&world);
     Ok(format!(in alloc; "{steps}")?)
 }

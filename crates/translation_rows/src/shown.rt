@@ -111,15 +111,27 @@ fn bytes_text(alloc: Global, world: &World, first: u32, count: u32) -> Result<St
     Ok(text)
 }
 
-/// The ends, the order, the output, and the bytes that a row asks for.
-pub fn left_text(alloc: Global, world: &World, shown: &[(u32, u32)]) -> Result<String> {
-    let ends = ends_text(alloc, world)?;
-    let order = order_text(alloc, world)?;
-    let output = output_text(alloc, world)?;
-    let mut text = format!(in alloc; "{ends}; {order}; {output}")?;
+/// The bytes that a row asks for.
+fn memory_text(alloc: Global, world: &World, shown: &[(u32, u32)]) -> Result<String, AllocError> {
+    let mut text = String::new(alloc);
     for (first, count) in shown {
         let bytes = bytes_text(alloc, world, *first, *count)?;
-        write!(text, "; {bytes}")?;
+        text.push_str("; ")?;
+        text.push_str(bytes.as_str())?;
     }
+    Ok(text)
+}
+
+/// The ends, the order, the output, and the bytes that a row asks for.
+pub fn left_text(alloc: Global, world: &World, shown: &[(u32, u32)]) -> Result<String> {
+    let mut text = ends_text(alloc, world)?;
+    let order = order_text(alloc, world)?;
+    let output = output_text(alloc, world)?;
+    let memory = memory_text(alloc, world, shown)?;
+    text.push_str("; ")?;
+    text.push_str(order.as_str())?;
+    text.push_str("; ")?;
+    text.push_str(output.as_str())?;
+    text.push_str(memory.as_str())?;
     Ok(text)
 }

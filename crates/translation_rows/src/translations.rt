@@ -57,30 +57,38 @@ fn size_text(size: Size) -> &'static str {
     }
 }
 
+fn sized_text(alloc: Global, rule: &str, size: Size) -> Result<String, AllocError> {
+    let size = size_text(size);
+    format!(in alloc; "{rule}-{size}")
+}
+
 fn rule_text(alloc: Global, rule: CodeRule) -> Result<String, AllocError> {
     match rule {
         CodeRule::Ready => String::from_str(alloc, "ready"),
         CodeRule::Zero => String::from_str(alloc, "zero"),
-        CodeRule::Result { size } => format!(in alloc; "result-{}", size_text(size)),
-        CodeRule::Add { size } => format!(in alloc; "add-{}", size_text(size)),
-        CodeRule::Sub { size } => format!(in alloc; "sub-{}", size_text(size)),
-        CodeRule::Compare { size } => format!(in alloc; "compare-{}", size_text(size)),
+        CodeRule::Result { size } => sized_text(alloc, "result", size),
+        CodeRule::Add { size } => sized_text(alloc, "add", size),
+        CodeRule::Sub { size } => sized_text(alloc, "sub", size),
+        CodeRule::Compare { size } => sized_text(alloc, "compare", size),
     }
 }
 
+/// The rules of N, Z, V and C, each behind a space.
 fn rules_text(alloc: Global, rules: Rules) -> Result<String, AllocError> {
-    let n = rule_text(alloc, rules.n)?;
-    let z = rule_text(alloc, rules.z)?;
-    let v = rule_text(alloc, rules.v)?;
-    let c = rule_text(alloc, rules.c)?;
-    format!(in alloc; "{n} {z} {v} {c}")
+    let mut text = String::new(alloc);
+    for rule in [rules.n, rules.z, rules.v, rules.c] {
+        let one = rule_text(alloc, rule)?;
+        text.push_str(" ")?;
+        text.push_str(one.as_str())?;
+    }
+    Ok(text)
 }
 
 /// The rules at an address, whose block begins at a word.
 fn rules_at(alloc: Global, points: &Points, address: u32, word: u32) -> Result<String> {
     let point = points.find(word).context("a point")?;
     let rules = rules_text(alloc, point.rules)?;
-    Ok(format!(in alloc; "{address:X} {rules}")?)
+    Ok(format!(in alloc; "{address:X}{rules}")?)
 }
 
 fn all_rules(alloc: Global, translation: &Translation) -> Result<String> {
@@ -103,16 +111,24 @@ pub fn rules(alloc: Global, question: &str) -> Result<String> {
     all_rules(alloc, &translation)
 }
 
+/// The image of so many NOPs.
+fn all_nops(alloc: Global, count: u32) -> Result<Image> {
+    let code = vec![in alloc; NOP; count as usize]?;
+    code_alone(alloc, &code)
+}
+
+/// How many addresses of an image are mapped.
+fn mapped_in(alloc: Global, image: &Image) -> Result<usize, TranslateRefusal> {
+    let translation = translate(alloc, image, &[], Target::Original)?;
+    let map = &translation.map;
+    Ok(map.pairs().len())
+}
+
 /// How many instructions of a section of so many bytes, each a NOP, are mapped, or with which count they are refused.
 pub fn flow(alloc: Global, question: &str) -> Result<String> {
-    let count = longword(question)?;
-    let code = vec![in alloc; NOP; count as usize]?;
-    let image = code_alone(alloc, &code)?;
-    match translate(alloc, &image, &[], Target::Original) {
-        Ok(translation) => {
-            let map = &translation.map;
-            Ok(format!(in alloc; "mapped {}", map.pairs().len())?)
-        }
+    let image = all_nops(alloc, longword(question)?)?;
+    match mapped_in(alloc, &image) {
+        Ok(count) => Ok(format!(in alloc; "mapped {count}")?),
         Err(TranslateRefusal::Flow { count }) => Ok(format!(in alloc; "refused {count}")?),
         Err(TranslateRefusal::WantOfMemory) => bail!("want of memory"),
     }

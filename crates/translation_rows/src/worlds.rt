@@ -15,12 +15,14 @@ const BUDGET: u64 = 10_000;
 /// More entries than a history of a row has.
 const ENTRIES: u32 = 1_000;
 
-/// What the threads of a world run: an image, its translation, and the addresses that they interpret.
+/// What the threads of a world run: an image, its translation, and the addresses that they interpret; and by which number a
+/// store of a processor fails, 0 for none.
 #[derive(Clone, Copy)]
 pub struct Program<'a> {
     pub image: &'a Image,
     pub translation: &'a Translation,
     pub ranges: &'a [Range],
+    pub miss: u16,
 }
 
 /// A world before its first turn.
@@ -29,7 +31,7 @@ pub fn world_of(alloc: Global, program: Program<'_>, input: Vec<u8>) -> Result<W
     requires meets { CanRun program }
     ensures { IfOk result (IsReady program.entry) }
 {
-    match World::new(alloc, program.image, input, BUDGET, ENTRIES, 0) {
+    match World::new(alloc, program.image, input, BUDGET, ENTRIES, program.miss) {
         Ok(world) => Ok(world),
         Err(_) => bail!("want of memory"),
     }
