@@ -6,8 +6,6 @@ mod branch;
 mod cpu;
 mod execution;
 mod memory;
-#[cfg(test)]
-mod tests;
 
 pub use crate::cpu::{AlphaStep, Cpu};
 pub use crate::execution::{finish, step};

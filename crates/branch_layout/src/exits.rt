@@ -9,7 +9,7 @@ use alpha_encode::registers::{ADDRESS, TARGET, ZERO};
 use alpha_encode::{AlphaInstr, BranchOp, OperateOp, Second, load_high, load_low, pal};
 
 /// How many words an exit has.
-pub(crate) const EXIT_WORDS: usize = 3;
+pub const EXIT_WORDS: usize = 3;
 
 /// Where a jump goes.
 const JUMP: u8 = ADDRESS;
@@ -34,7 +34,7 @@ fn is_near(word: u32, target: u32) -> bool
 }
 
 /// The words that go from that word to the first word of a block.
-pub(crate) fn code_to(word: u32, target: u32) -> [AlphaInstr; EXIT_WORDS]
+pub fn code_to(word: u32, target: u32) -> [AlphaInstr; EXIT_WORDS]
     requires word { word ≤ most_words }
     requires target { target ≤ most_words }
     ensures { result ≡ code_to (is_near word target) word target }

@@ -8,7 +8,5 @@
 mod exits;
 mod layout;
 
+pub use exits::code_to;
 pub use layout::lay_out;
-
-#[cfg(test)]
-mod tests;

@@ -6,6 +6,3 @@ mod uses;
 
 pub use liveness::{live, live_behind, liveness_laws, wanted};
 pub use uses::{CodeUse, all_codes, code_use};
-
-#[cfg(test)]
-mod tests;

@@ -6,6 +6,7 @@
 //! order: it matches where each counted entry is the access of its reference.
 #![tactic(auto)]
 
+mod boundaries;
 mod handlers;
 mod histories;
 mod images;
@@ -29,5 +30,8 @@ fn main(rt: HostRuntime) -> io::Result<()> {
     orders::increments_by_accesses(&rt, alloc)?;
     orders::other_accesses(&rt, alloc)?;
     handlers::handlers(&rt, alloc)?;
+    boundaries::words(&rt, alloc)?;
+    boundaries::states(&rt)?;
+    boundaries::counted_entries(&rt, alloc)?;
     Ok(())
 }

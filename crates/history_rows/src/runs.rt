@@ -22,7 +22,8 @@ pub fn run_by(
     driven(alloc, image, &[], order, counts).map_err(|_| ErrorKind::OutOfMemory.into())
 }
 
-fn print_order(rt: &impl Print, order: &[Pick]) -> io::Result<()> {
+/// Prints the picks of an order.
+pub fn print_order(rt: &impl Print, order: &[Pick]) -> io::Result<()> {
     print!(rt; "order")?;
     for pick in order {
         let thread = pick.thread;

@@ -14,6 +14,3 @@ mod translation;
 pub use boundary::shown;
 pub use order::order_of;
 pub use translation::{End, Range, Translation, word_for};
-
-#[cfg(test)]
-mod tests;

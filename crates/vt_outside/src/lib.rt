@@ -21,6 +21,3 @@ pub use sink::{Put, Sink};
 pub use source::{Got, Source};
 pub use system::{FileDesk, InSource, OutSink};
 pub use whole::{Failed, write_all};
-
-#[cfg(test)]
-mod tests;

@@ -1,6 +1,6 @@
 use Rattle.std.proofs.Common.{ℕ, false, zero, suc, ◌<◌, arith, [], ◌∷◌, get_or}
 use Rattle.branch_layout.specs.Layouts.{Placed, IsPlaced}
-use Rattle.branch_layout.proofs.tests.lays_out_three_blocks.Goals as goal
+use Rattle.layout_rows.proofs.layouts.laid_out.Goals as goal
 
 three : (P : Placed → Type 0) (x y z : Placed) → P x → P y → P z → (k : ℕ) (d : Placed) → k < 3 → P (get_or (x ∷ y ∷ z ∷ []) k d)
 three P x y z px py pz zero d lt = px

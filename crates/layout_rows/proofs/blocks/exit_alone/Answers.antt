@@ -10,7 +10,7 @@ use Rattle.exception_records.specs.declared.points.Point.{Point}
 use Rattle.block_law.specs.Blocks.{Exit, is_quiet, IsExitOf, IsPointOf, IsBlockOf}
 use Rattle.branch_layout.specs.Exits.{idle}
 use Rattle.branch_layout.proofs.Filling.{All_by}
-use Rattle.branch_layout.proofs.tests.exit_alone.Goals as goal
+use Rattle.layout_rows.proofs.blocks.exit_alone.Goals as goal
 
 abbrev exit_block : Point → (target : ℕ) → BlockValue
 exit_block point target = record { words = idle ∷ idle ∷ idle ∷ []; exits = (0, target) ∷ []; points = (0, point) ∷ [] }

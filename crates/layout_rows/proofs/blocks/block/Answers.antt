@@ -10,7 +10,7 @@ use Rattle.exception_records.specs.declared.points.Point.{Point}
 use Rattle.block_law.specs.Blocks.{Exit, is_quiet, IsExitOf, IsPointOf, IsBlockOf}
 use Rattle.branch_layout.specs.Exits.{idle}
 use Rattle.branch_layout.proofs.Filling.{All_by}
-use Rattle.branch_layout.proofs.tests.block.Goals as goal
+use Rattle.layout_rows.proofs.blocks.block.Goals as goal
 
 abbrev one_exit : Point → (target : ℕ) → BlockValue
 one_exit point target = record { words = idle ∷ idle ∷ idle ∷ idle ∷ []; exits = (1, target) ∷ []; points = (0, point) ∷ [] }

@@ -1,0 +1,48 @@
+// A branch reaches 2 ^ 20 words back and one word less forth, from the next word; behind that a jump is taken.
+use crate::blocks::IDLE;
+use alpha_encode::{AlphaInstr, BranchOp, MemoryOp};
+use anyhow::Result;
+use branch_layout::code_to;
+use row_tally::Tally;
+
+/// The register of a jump.
+const JUMP: u8 = 27;
+
+fn near(disp: i32) -> [AlphaInstr; 3] {
+    let branch = AlphaInstr::Branch {
+        op: BranchOp::Br,
+        ra: 31,
+        disp,
+    };
+    [branch, IDLE, IDLE]
+}
+
+fn far(high: i16, low: i16) -> [AlphaInstr; 3] {
+    let load = |op, rb, disp| AlphaInstr::Memory {
+        op,
+        ra: JUMP,
+        rb,
+        disp,
+    };
+    [
+        load(MemoryOp::Ldah, 31, high),
+        load(MemoryOp::Lda, JUMP, low),
+        AlphaInstr::Jump { ra: 31, rb: JUMP },
+    ]
+}
+
+/// The exits at the edge of a branch's reach, forth and back, and a jump whose low half is negative.
+pub fn reach(rt: &impl Print) -> Result<Tally> {
+    let mut tally = Tally::NONE;
+    for (name, found, wanted) in [
+        ("forth", code_to(0, 0x10_0000), near(0xF_FFFF)),
+        ("back", code_to(0xF_FFFF, 0), near(-0x10_0000)),
+        ("further forth", code_to(0, 0x10_0001), far(0x40, 4)),
+        ("further back", code_to(0x10_0000, 0), far(0, 0)),
+        ("a borrow", code_to(0, 0x7F_E000), far(0x200, -0x8000)),
+    ] {
+        tally.check(rt, name, &found, &wanted)?;
+    }
+    tally.print(rt, "exits")?;
+    Ok(tally)
+}
