@@ -5,11 +5,10 @@ use Rattle.std.specs.Prelude.{◌≡◌, ℕ, ◌<◌, ◌≤◌, ◌+◌, ◌==
 use Rattle.std.specs.List.{list_all}
 use Rattle.vax_form.specs.declared.state.Flags.{Flags}
 use Rattle.vax_form.specs.declared.state.VaxState.{VaxState}
-use Rattle.micro_ops.specs.declared.codes.CodeSource.{CodeSource}
-use Rattle.micro_ops.specs.declared.codes.CodeSource.TheVariants.{Kept}
 use Rattle.micro_ops.specs.declared.codes.CodeSources.{CodeSources}
 use Rattle.micro_ops.specs.Meaning.{Temps, Departure, flag_of}
 use Rattle.micro_ops.specs.Leaving.{CodesComeFrom, state_left}
+use Rattle.micro_ops.specs.Sources.{is_written, codes_written_by}
 use Rattle.alpha_encode.specs.declared.instr.AlphaInstr.{AlphaInstr}
 use Rattle.alpha_meaning.specs.State.{Regs}
 use Rattle.alpha_meaning.specs.Loops.{fine, effects}
@@ -31,15 +30,6 @@ codes_in psw = record { n = flag_of 0 psw == 1; z = flag_of 1 psw == 1; v = flag
 -- R16 to R19 hold codes
 abbrev pub HoldCodes : Regs → Type 0
 HoldCodes regs = (n : ℕ) → 16 ≤ n → n < 20 → regs n < 2
-
--- the codes of that source are written
-abbrev pub is_written : CodeSource → Bool
-is_written Kept = false
-is_written source = true
-
-abbrev pub codes_written_by : CodeSources → Flags
-codes_written_by sources =
-    let signs = is_written sources.nzv in record { n = signs; z = signs; v = signs; c = is_written sources.c }
 
 -- The registers that the words may write: R24 and R25; where N, Z and V are written, theirs and those of the operands of
 -- their rule; and where C is, its own and those of the operands of its rule.

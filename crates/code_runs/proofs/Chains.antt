@@ -9,7 +9,7 @@ use Rattle.cc_liveness.specs.Uses.{use_of}
 use Rattle.cc_liveness.specs.declared.uses.CodeUse.{CodeUse}
 use Rattle.exception_records.specs.Codes.{all_ready}
 use Rattle.exception_records.specs.declared.rules.Rules.{Rules}
-use Rattle.flag_codegen.specs.Rules.{rules_behind}
+use Rattle.code_runs.specs.Rules.{rules_behind}
 use Rattle.code_runs.specs.Runs.{AreInOrder, Follow, instr_at, joined_to}
 use Rattle.code_runs.specs.Codes.{before_in_run, behind_in_run, code_sources, codes_at, joined_behind, live_at, rules_along, rules_before}
 use Rattle.code_runs.proofs.Joined.{behind_is_joined, joined, joined_is_behind, none_behind, none_is_behind}

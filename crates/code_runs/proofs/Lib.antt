@@ -1,3 +1,4 @@
+pub mod Ready
 pub mod Places
 pub mod Joined
 pub mod Chains

@@ -18,9 +18,9 @@ use Rattle.exception_records.specs.Codes.{all_ready, is_ready}
 use Rattle.exception_records.specs.declared.rules.CodeRule.{CodeRule}
 use Rattle.exception_records.specs.declared.rules.CodeRule.TheVariants as rule
 use Rattle.exception_records.specs.declared.rules.Rules.{Rules}
-use Rattle.flag_codegen.specs.Promises.{AreReady}
-use Rattle.flag_codegen.specs.Rules.{rules_behind}
-use Rattle.flag_codegen.proofs.Ready.{live_are_ready}
+use Rattle.code_runs.specs.Ready.{AreReady}
+use Rattle.code_runs.specs.Rules.{rules_behind}
+use Rattle.code_runs.proofs.Ready.{live_are_ready}
 use Rattle.code_runs.specs.Runs.{AreInOrder, instr_at, joined_to, no_instr}
 use Rattle.code_runs.specs.Codes.{code_sources, codes_at, joined_behind, live_at, rules_before}
 use Rattle.code_runs.specs.Promises.{AreTranslated, RulesAlwaysMeet, RulesMeet}

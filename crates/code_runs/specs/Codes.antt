@@ -14,7 +14,7 @@ use Rattle.micro_ops.specs.declared.codes.CodeSource.TheVariants.{Kept}
 use Rattle.micro_ops.specs.declared.codes.CodeSources.{CodeSources}
 use Rattle.exception_records.specs.Codes.{all_ready}
 use Rattle.exception_records.specs.declared.rules.Rules.{Rules}
-use Rattle.flag_codegen.specs.Rules.{rules_behind}
+use Rattle.code_runs.specs.Rules.{rules_behind}
 use Rattle.code_runs.specs.declared.codes.InstrCodes.{InstrCodes}
 use Rattle.code_runs.specs.Runs.{instr_at, joined_to, IsRun}
 

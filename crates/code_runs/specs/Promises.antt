@@ -5,7 +5,7 @@ use Rattle.vax_form.specs.Row.{class_at}
 use Rattle.vax_form.specs.declared.instr.Instr.{Instr}
 use Rattle.vax_form.specs.declared.row.Class.TheVariants.{Translated}
 use Rattle.exception_records.specs.Codes.{all_ready}
-use Rattle.flag_codegen.specs.Promises.{AreReady}
+use Rattle.code_runs.specs.Ready.{AreReady}
 use Rattle.code_runs.specs.Runs.{AreInOrder, instr_at, joined_to, IsRun}
 use Rattle.code_runs.specs.Codes.{codes_at}
 

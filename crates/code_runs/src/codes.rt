@@ -7,9 +7,9 @@ ghost use Rattle.code_runs.specs.Runs.{AreInOrder, joined_to};
 ghost use Rattle.code_runs.specs.Entrances.{AreEntrances};
 
 use crate::entrances::{Entrance, entrances, place_of};
+use crate::rules::rules_behind;
 use cc_liveness::{CodeUse, all_codes, code_use, live_behind, wanted};
 use exception_records::{CodeRule, Rules};
-use flag_codegen::rules_behind;
 use micro_ops::{CodeSource, CodeSources, sources_of};
 use std::alloc::{AllocError, Global};
 use vax_form::{Flags, Instr, WantOfMemory, operation_of};

@@ -5,6 +5,8 @@
 mod codes;
 mod entrances;
 mod laws;
+mod rules;
 
 pub use codes::{InstrCodes, instruction_codes};
-pub use laws::run_laws;
+pub use laws::{rule_laws, run_laws};
+pub use rules::{rule_of, rules_behind};

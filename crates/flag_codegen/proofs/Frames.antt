@@ -8,7 +8,7 @@ use Rattle.alpha_meaning.specs.Loops.{effect, effects, fine}
 use Rattle.alpha_meaning.proofs.Rules.{and_true, effects_only}
 use Rattle.micro_ops.specs.declared.codes.CodeSource.{CodeSource}
 use Rattle.micro_ops.specs.declared.codes.CodeSource.TheVariants.{Kept}
-use Rattle.block_law.specs.CodeWords.{is_written}
+use Rattle.micro_ops.specs.Sources.{is_written}
 use Rattle.flag_codegen.specs.Words.{negative_words, zero_words, overflow_words, carry_words, operand_words, when}
 
 -- ---- rows of words

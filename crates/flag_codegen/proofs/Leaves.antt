@@ -9,7 +9,7 @@ use Rattle.vax_form.specs.declared.state.Flags.{Flags}
 use Rattle.micro_ops.specs.Sources.{sources_of}
 use Rattle.exception_records.specs.declared.rules.Rules.{Rules}
 use Rattle.block_law.specs.CodeWords.{most_code_words, LeavesCodes}
-use Rattle.flag_codegen.specs.Rules.{rules_behind}
+use Rattle.code_runs.specs.Rules.{rules_behind}
 use Rattle.flag_codegen.specs.Words.{code_words}
 use Rattle.flag_codegen.proofs.Leaving.{pairs, shown_left}
 use Rattle.flag_codegen.proofs.Whole.{words_only}

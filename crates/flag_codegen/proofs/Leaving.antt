@@ -16,8 +16,10 @@ use Rattle.micro_ops.specs.declared.codes.CodeSources.{CodeSources}
 use Rattle.exception_records.specs.Codes.{codes_by, is_ready}
 use Rattle.exception_records.specs.Shown.{codes_shown, still_held}
 use Rattle.exception_records.specs.declared.rules.Rules.{Rules}
-use Rattle.block_law.specs.CodeWords.{is_written, codes_in, codes_written_by, temps_in, ShowCodes}
-use Rattle.flag_codegen.specs.Rules.{rule_of, rules_behind, is_made}
+use Rattle.block_law.specs.CodeWords.{codes_in, temps_in, ShowCodes}
+use Rattle.micro_ops.specs.Sources.{is_written, codes_written_by}
+use Rattle.code_runs.specs.Rules.{rule_of, rules_behind}
+use Rattle.flag_codegen.specs.Made.{is_made}
 use Rattle.flag_codegen.specs.Words.{when, all_live, negative_words, zero_words, overflow_words, carry_words, operand_words, carry_code, signs_code, code_words}
 use Rattle.flag_codegen.proofs.Frames.{stays, effects_append, written_there, may_negative, may_zero, may_overflow, may_carry, may_operands, may_carry_operands, negative_fine, zero_fine, overflow_fine, carry_fine, operands_fine, carry_operands_fine}
 use Rattle.flag_codegen.proofs.Values.{Hold, SumIsResult, negative_is, zero_is, overflow_is, carry_is}

@@ -1,5 +1,4 @@
 pub mod Numbers
-pub mod Ready
 pub mod Frames
 pub mod Values
 pub mod Told

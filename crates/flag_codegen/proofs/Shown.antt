@@ -8,8 +8,10 @@ use Rattle.micro_ops.specs.declared.codes.CodeSource.TheVariants.{Kept, Computed
 use Rattle.exception_records.specs.Codes.{is_ready}
 use Rattle.exception_records.specs.Shown.{Regs, is_set, code_shown}
 use Rattle.exception_records.specs.declared.rules.CodeRule.{CodeRule}
-use Rattle.block_law.specs.CodeWords.{is_written, HoldCodes}
-use Rattle.flag_codegen.specs.Rules.{rule_of, rule_behind, is_made}
+use Rattle.block_law.specs.CodeWords.{HoldCodes}
+use Rattle.micro_ops.specs.Sources.{is_written}
+use Rattle.code_runs.specs.Rules.{rule_of, rule_behind}
+use Rattle.flag_codegen.specs.Made.{is_made}
 
 set_is : (register flag : ℕ) → register ≡ flag → flag < 2 → is_set register ≡ (flag == 1)
 set_is register flag e lt = ap is_set e ∙ small flag lt

@@ -16,7 +16,7 @@ use Rattle.micro_ops.specs.Leaving.{sum, difference, comparison_of, SignsComeFro
 use Rattle.micro_ops.specs.declared.codes.CodeSource.{CodeSource}
 use Rattle.micro_ops.specs.declared.codes.CodeSource.TheVariants.{Kept, Zero, Result, Add, Sub, Compare, Computed, Psw}
 use Rattle.exception_records.specs.Codes.{low, flags, codes_of, sum_codes, difference_codes, comparison_codes, codes_by, is_ready}
-use Rattle.flag_codegen.specs.Rules.{rule_of}
+use Rattle.code_runs.specs.Rules.{rule_of}
 use Rattle.flag_codegen.specs.Words.{operand_words}
 use Rattle.flag_codegen.proofs.Values.{Hold}
 

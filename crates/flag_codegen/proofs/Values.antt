@@ -17,7 +17,7 @@ use Rattle.micro_ops.specs.Values.{bits_of, limit_of, signed}
 use Rattle.micro_ops.specs.Leaving.{sum, difference, SignsComeFrom, CarryComesFrom}
 use Rattle.micro_ops.specs.declared.codes.CodeSource.{CodeSource}
 use Rattle.micro_ops.specs.declared.codes.CodeSource.TheVariants.{Kept, Zero, Result, Add, Sub, Compare, Computed, Psw}
-use Rattle.block_law.specs.CodeWords.{is_written}
+use Rattle.micro_ops.specs.Sources.{is_written}
 use Rattle.flag_codegen.specs.Words.{negative_words, zero_words, overflow_words, carry_words}
 use Rattle.flag_codegen.proofs.Numbers.{raised, sign_is, less_is, xor_is, sum_overflow, difference_overflow, sum_carry, difference_borrow}
 

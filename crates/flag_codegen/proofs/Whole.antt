@@ -19,7 +19,7 @@ use Rattle.compute_sequences.proofs.Straight.{Each, each_append, all_of}
 use Rattle.block_law.specs.CodeWords.{most_code_words, may_be_written}
 use Rattle.block_law.specs.Tidy.{register_written, writes_register, codes_written}
 use Rattle.exception_records.specs.Codes.{flags}
-use Rattle.flag_codegen.specs.Rules.{is_made, codes_made}
+use Rattle.flag_codegen.specs.Made.{is_made, codes_made}
 use Rattle.flag_codegen.specs.Words.{sign, less_words, unlike_words, all_live, when, negative_words, zero_words, overflow_words, carry_words, operand_words, carry_code, signs_code, code_words}
 use Rattle.flag_codegen.specs.Promises.{most_words}
 use Rattle.flag_codegen.proofs.Frames.{all_append, all_when}

@@ -1,3 +1,3 @@
-pub mod Rules
+pub mod Made
 pub mod Words
 pub mod Promises

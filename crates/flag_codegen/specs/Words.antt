@@ -12,7 +12,7 @@ use Rattle.alpha_encode.specs.declared.instr.Second.TheVariants.{Register, Liter
 use Rattle.alpha_encode.specs.declared.instr.AlphaInstr.{AlphaInstr}
 use Rattle.alpha_encode.specs.declared.instr.AlphaInstr.TheVariants.{Operate}
 use Rattle.compute_sequences.specs.Words.{raise}
-use Rattle.flag_codegen.specs.Rules.{is_made}
+use Rattle.flag_codegen.specs.Made.{is_made}
 
 -- ---- registers
 -- R16 to R19 are the codes; R21 to R25 hold the temporaries 0 to 4

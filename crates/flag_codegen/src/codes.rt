@@ -5,14 +5,15 @@ ghost use Rattle.micro_ops.specs.Sources.{sources_of};
 ghost use Rattle.exception_records.specs.declared.rules.Rules.{Rules};
 ghost use Rattle.block_law.specs.Tidy.{codes_written};
 ghost use Rattle.block_law.specs.CodeWords.{LeavesCodes};
-ghost use Rattle.flag_codegen.specs.Rules.{rules_behind, codes_made};
+ghost use Rattle.code_runs.specs.Rules.{rules_behind};
+ghost use Rattle.flag_codegen.specs.Made.{codes_made};
 ghost use Rattle.flag_codegen.specs.Words.{negative_words, zero_words, overflow_words, carry_words, operand_words, carry_code, signs_code, code_words};
 ghost use Rattle.flag_codegen.specs.Promises.{most_words};
 
 use crate::instructions::{
     FIRST, RESULT, SECOND, clear, move_to, push_bit, push_less, push_unlike, sign,
 };
-use crate::rules::is_made;
+use crate::made::is_made;
 use alpha_encode::registers::{
     CARRY, CARRY_FIRST, CARRY_SECOND, IS_ZERO, NEGATIVE, OVERFLOW, RULE_FIRST, RULE_SECOND,
     TEMPORARIES,

@@ -1,5 +1,6 @@
 -- Where each operation's condition codes come from when its program leaves.
 -- VAX Architecture Reference Manual, "Instruction Descriptions": the line of condition codes of each instruction.
+use Rattle.std.specs.Prelude.{Bool, true, false}
 use Rattle.vax_form.specs.Size.{size_of}
 use Rattle.vax_form.specs.declared.instr.Size.{Size}
 use Rattle.vax_form.specs.declared.instr.Size.TheVariants.{Word, Long, Quad}
@@ -7,6 +8,7 @@ use Rattle.vax_form.specs.declared.operation.BinaryOperation.{BinaryOperation}
 use Rattle.vax_form.specs.declared.operation.BinaryOperation.TheVariants as binary
 use Rattle.vax_form.specs.declared.operation.Operation.{Operation}
 use Rattle.vax_form.specs.declared.operation.Operation.TheVariants as operations
+use Rattle.vax_form.specs.declared.state.Flags.{Flags}
 use Rattle.micro_ops.specs.declared.codes.CodeSource.{CodeSource}
 use Rattle.micro_ops.specs.declared.codes.CodeSource.TheVariants.{Kept, Zero, Result, Add, Sub, Compare, Computed, Psw}
 use Rattle.micro_ops.specs.declared.codes.CodeSources.{CodeSources}
@@ -14,6 +16,17 @@ use Rattle.micro_ops.specs.declared.codes.CodeSources.{CodeSources}
 abbrev pub from : (nzv c : CodeSource) → CodeSources
 from nzv c = record { nzv = nzv; c = c }
 
+-- ---- which codes are written
+-- the codes of that source are written
+abbrev pub is_written : CodeSource → Bool
+is_written Kept = false
+is_written source = true
+
+abbrev pub codes_written_by : CodeSources → Flags
+codes_written_by sources =
+    let signs = is_written sources.nzv in record { n = signs; z = signs; v = signs; c = is_written sources.c }
+
+-- ---- the sources of each operation
 abbrev pub sources_of_binary : BinaryOperation → Size → CodeSources
 sources_of_binary binary.Add size = from (Add size) (Add size)
 sources_of_binary binary.Subtract size = from (Sub size) (Sub size)

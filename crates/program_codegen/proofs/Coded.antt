@@ -22,7 +22,8 @@ use Rattle.micro_ops.specs.Fits.{same, sources_fit, signs_are_held, carry_is_hel
 use Rattle.micro_ops.specs.Known.{held, holds}
 use Rattle.micro_ops.specs.Leaving.{SignsComeFrom, CarryComesFrom, CodesComeFrom, state_left}
 use Rattle.micro_ops.specs.Meaning.{Temps, Standing, Departure}
-use Rattle.block_law.specs.CodeWords.{temps_in, codes_in, is_written, may_be_written}
+use Rattle.block_law.specs.CodeWords.{temps_in, codes_in, may_be_written}
+use Rattle.micro_ops.specs.Sources.{is_written}
 use Rattle.block_law.specs.Placements.{Placement, InForm, state_behind}
 use Rattle.block_law.specs.Tidy.{is_kept}
 use Rattle.block_law.proofs.Rules.{Always, operates}

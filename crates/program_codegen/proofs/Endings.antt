@@ -21,7 +21,8 @@ use Rattle.micro_ops.specs.declared.known.Known.{Known}
 use Rattle.micro_ops.specs.declared.program.Exit.{Exit}
 use Rattle.micro_ops.specs.declared.program.Exit.TheVariants as exits
 use Rattle.micro_ops.specs.Fits.{same, exit_fits, sources_fit, is_from_values, is_from_psw, signs_are_held, carry_is_held}
-use Rattle.block_law.specs.CodeWords.{is_written, may_be_written}
+use Rattle.block_law.specs.CodeWords.{may_be_written}
+use Rattle.micro_ops.specs.Sources.{is_written}
 use Rattle.block_law.specs.Tidy.{is_kept, register_written, may_fault, keeps_until, writes_register}
 use Rattle.micro_ops.specs.Exits.{exit_addresses}
 use Rattle.program_codegen.specs.declared.lines.Line.{Line}

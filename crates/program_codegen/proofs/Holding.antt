@@ -25,7 +25,8 @@ use Rattle.micro_ops.specs.Fits.{exit_fits, sources_fit, walk, is_ended}
 use Rattle.micro_ops.specs.Known.{held, is_committed}
 use Rattle.micro_ops.specs.Leaving.{CodesComeFrom}
 use Rattle.micro_ops.specs.Meaning.{Temps, Found, Standing, Left, departed, flag_of, leaves_by, course_of}
-use Rattle.block_law.specs.CodeWords.{LeavesCodes, codes_written_by, codes_in}
+use Rattle.block_law.specs.CodeWords.{LeavesCodes, codes_in}
+use Rattle.micro_ops.specs.Sources.{codes_written_by}
 use Rattle.block_law.specs.Placements.{Placement, InForm}
 use Rattle.block_law.proofs.Rules.{Always}
 use Rattle.program_codegen.specs.declared.points.Site.{Site}

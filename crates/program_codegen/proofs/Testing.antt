@@ -18,7 +18,7 @@ use Rattle.exception_records.specs.Shown.{still_held}
 use Rattle.micro_ops.specs.declared.known.Known.{Known}
 use Rattle.micro_ops.specs.declared.program.Exit.{Exit}
 use Rattle.micro_ops.specs.Meaning.{Standing, Departure, Ended, departed, flag_of, traps as is_trapping}
-use Rattle.block_law.specs.CodeWords.{codes_written_by}
+use Rattle.micro_ops.specs.Sources.{codes_written_by}
 use Rattle.block_law.specs.Placements.{Placement, state_behind}
 use Rattle.block_law.specs.Tidy.{is_kept}
 use Rattle.block_law.proofs.Kept.{state_kept}

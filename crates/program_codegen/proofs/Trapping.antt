@@ -32,7 +32,7 @@ use Rattle.compute_sequences.specs.Promises.{Leaves}
 use Rattle.compute_sequences.specs.Registers.{may_change}
 use Rattle.compute_sequences.specs.declared.overflow.Arithmetic.TheVariants.{Sum, Difference}
 use Rattle.compute_sequences.proofs.OverflowLaws.{leaves_overflow}
-use Rattle.block_law.specs.CodeWords.{is_written, codes_written_by}
+use Rattle.micro_ops.specs.Sources.{is_written, codes_written_by}
 use Rattle.block_law.specs.Placements.{Placement}
 use Rattle.block_law.proofs.Rules.{Always, roomy, goes, passes, skips, runs}
 use Rattle.program_codegen.specs.declared.lines.Line.{Line}

@@ -18,7 +18,7 @@ use Rattle.micro_ops.specs.declared.program.Micro.{Micro}
 use Rattle.micro_ops.specs.declared.program.Micro.TheVariants.{Compute, Probe, Refuse, Read, Write, Locked, Commit, Codes, SetPsw, Leave}
 use Rattle.byte_sequences.specs.Instructions as bytes
 use Rattle.compute_sequences.specs.Registers.{IsArgument, IsTarget}
-use Rattle.block_law.specs.CodeWords.{is_written}
+use Rattle.micro_ops.specs.Sources.{is_written}
 use Rattle.program_codegen.specs.Words.{holder}
 
 -- ---- flags and rules

@@ -20,7 +20,7 @@ use Rattle.micro_ops.specs.Leaving.{CodesAgree}
 use Rattle.micro_ops.specs.declared.codes.CodeSources.{CodeSources}
 use Rattle.micro_ops.specs.declared.program.Micro.{Micro}
 use Rattle.block_law.specs.Blocks.{Stands, ExitsLead}
-use Rattle.block_law.specs.CodeWords.{codes_written_by}
+use Rattle.micro_ops.specs.Sources.{codes_written_by}
 use Rattle.block_law.specs.Follows.{Follows}
 use Rattle.block_law.specs.Placements.{InForm}
 use Rattle.block_law.specs.Rounds.{block_steps, new_round}

@@ -12,16 +12,15 @@ use Rattle.vax_form.specs.declared.operation.BinaryOperation.TheVariants as bina
 use Rattle.vax_form.specs.declared.operation.Operation.{Operation}
 use Rattle.vax_form.specs.declared.operation.Operation.TheVariants as operations
 use Rattle.cc_liveness.specs.Codes as code
-use Rattle.micro_ops.specs.Sources.{from, sources_of}
+use Rattle.micro_ops.specs.Sources.{from, sources_of, is_written}
 use Rattle.micro_ops.specs.Uses.{is_quad}
 use Rattle.micro_ops.specs.declared.codes.CodeSource.{CodeSource}
 use Rattle.micro_ops.specs.declared.codes.CodeSource.TheVariants.{Kept}
 use Rattle.micro_ops.specs.declared.program.Micro.{Micro}
-use Rattle.block_law.specs.CodeWords.{is_written}
 use Rattle.exception_records.specs.declared.rules.CodeRule.{CodeRule}
 use Rattle.exception_records.specs.declared.rules.Rules.{Rules}
-use Rattle.flag_codegen.specs.Promises.{AreReady}
-use Rattle.flag_codegen.specs.Rules.{rule_behind, rule_of}
+use Rattle.code_runs.specs.Ready.{AreReady}
+use Rattle.code_runs.specs.Rules.{rule_behind, rule_of}
 use Rattle.cc_liveness.specs.Uses.{use_of}
 use Rattle.code_runs.specs.Codes.{code_sources, codes_at, live_at, rules_before}
 use Rattle.code_runs.specs.Runs.{AreInOrder, instr_at, joined_to}

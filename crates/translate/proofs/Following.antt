@@ -16,11 +16,10 @@ use Rattle.vax_meaning.specs.Instructions.{tree_for}
 use Rattle.vax_long.specs.Instructions.{long_at, long_operation, tree_at}
 use Rattle.vax_long.proofs.TreesAt.{short_stands}
 use Rattle.micro_ops.specs.Leaving.{CodesAgree}
-use Rattle.micro_ops.specs.Sources.{from, sources_of}
+use Rattle.micro_ops.specs.Sources.{from, sources_of, codes_written_by}
 use Rattle.micro_ops.specs.declared.codes.CodeSource.TheVariants.{Kept}
 use Rattle.micro_ops.specs.declared.codes.CodeSources.{CodeSources}
 use Rattle.micro_ops.specs.declared.program.Micro.{Micro}
-use Rattle.block_law.specs.CodeWords.{codes_written_by}
 use Rattle.block_law.specs.Follows.{Follows}
 use Rattle.block_law.specs.Rounds.{block_steps, new_round}
 use Rattle.block_law.specs.Translations.{placed}
@@ -32,7 +31,7 @@ use Rattle.exception_records.specs.declared.rules.Rules.{Rules}
 use Rattle.image_meaning.specs.Meant.{codes_by, codes_of, image_meaning}
 use Rattle.image_meaning.proofs.TreesAt.{tree_at_stays_in_range}
 use Rattle.micro_lower.specs.Lowering.{IsLowered}
-use Rattle.flag_codegen.proofs.Ready.{sources_are_written}
+use Rattle.code_runs.proofs.Ready.{sources_are_written}
 use Rattle.code_runs.specs.Codes.{code_sources}
 use Rattle.program_codegen.specs.Promises.{CompilesProgram, Writes, meant}
 use Rattle.translate.specs.Compiled.{ArePages, Compiles}

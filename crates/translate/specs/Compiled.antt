@@ -25,8 +25,9 @@ use Rattle.address_map.specs.Pairs.{word_at}
 use Rattle.image_meaning.specs.Meant.{image_meaning}
 use Rattle.branch_layout.specs.Layouts.{AddressesRise, AreBlocks, IsLayout, Placed, layout}
 use Rattle.flow_discovery.specs.Reach.{has}
-use Rattle.flag_codegen.specs.Promises.{AreReady}
-use Rattle.flag_codegen.specs.Rules.{codes_made, rules_behind}
+use Rattle.code_runs.specs.Ready.{AreReady}
+use Rattle.code_runs.specs.Rules.{rules_behind}
+use Rattle.flag_codegen.specs.Made.{codes_made}
 use Rattle.flag_codegen.specs.Words.{code_words}
 use Rattle.cc_liveness.specs.Uses.{use_of}
 use Rattle.code_runs.specs.Codes.{AreCodes, code_sources, codes_at, instruction_codes}

@@ -1,5 +1,5 @@
 use Rattle.std.proofs.Common.{◌≡◌, ◌∙◌, get_or, sym, ap}
-use Rattle.flag_codegen.specs.Rules.{rules_behind}
+use Rattle.code_runs.specs.Rules.{rules_behind}
 use Rattle.micro_ops.specs.declared.codes.CodeSources.{CodeSources}
 use Rattle.code_runs.specs.declared.codes.InstrCodes.{InstrCodes}
 use Rattle.code_runs.specs.Codes.{no_codes, rules_before}

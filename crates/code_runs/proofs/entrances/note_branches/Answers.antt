@@ -2,7 +2,7 @@ use Rattle.std.proofs.Common.{◌≡◌, ◌++◌, ◌+◌, ℕ, List, subst, sy
 use Rattle.std.specs.List.{filter_map}
 use Rattle.std.specs.Option.{option_to_list}
 use Rattle.vax_form.specs.declared.instr.Operand.TheVariants.{Unused}
-use Rattle.flow_discovery.specs.Reach.{has}
+use Rattle.code_runs.specs.Runs.{has}
 use Rattle.code_runs.specs.Entrances.{AreChanged, also_target}
 use Rattle.code_runs.proofs.Entering.{branches_more, changed_both}
 use Rattle.vax_form.specs.Targets.{branch_target}

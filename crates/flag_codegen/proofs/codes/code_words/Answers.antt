@@ -6,7 +6,8 @@ use Rattle.compute_sequences.proofs.Outcomes.{if_ok_then}
 use Rattle.exception_records.specs.declared.rules.Rules.{Rules}
 use Rattle.block_law.specs.CodeWords.{LeavesCodes}
 use Rattle.block_law.specs.Tidy.{codes_written}
-use Rattle.flag_codegen.specs.Rules.{rules_behind, codes_made}
+use Rattle.code_runs.specs.Rules.{rules_behind}
+use Rattle.flag_codegen.specs.Made.{codes_made}
 use Rattle.flag_codegen.specs.Words.{code_words}
 use Rattle.flag_codegen.proofs.Leaves.{words_leave}
 use Rattle.flag_codegen.proofs.Whole.{words_fit, words_write, words_encodable}

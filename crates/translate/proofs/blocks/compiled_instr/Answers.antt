@@ -10,7 +10,8 @@ use Rattle.block_law.specs.Blocks.{Exit}
 use Rattle.block_law.specs.CodeWords.{LeavesCodes}
 use Rattle.block_law.specs.Tidy.{codes_written}
 use Rattle.exception_records.specs.Blocks.{BlockValue}
-use Rattle.flag_codegen.specs.Rules.{codes_made, rules_behind}
+use Rattle.code_runs.specs.Rules.{rules_behind}
+use Rattle.flag_codegen.specs.Made.{codes_made}
 use Rattle.flag_codegen.specs.Words.{code_words}
 use Rattle.code_runs.specs.Codes.{code_sources}
 use Rattle.micro_ops.specs.Exits.{addresses_of}

@@ -1,5 +1,5 @@
-use Rattle.flag_codegen.proofs.Ready.{sources_are_written, live_are_ready, runs_are_ready}
-use Rattle.flag_codegen.proofs.laws.flag_laws.Goals as goal
+use Rattle.code_runs.proofs.Ready.{sources_are_written, live_are_ready, runs_are_ready}
+use Rattle.code_runs.proofs.laws.rule_laws.Goals as goal
 
 pub returns-clause-sources : goal.returns-clause-sources
 returns-clause-sources c = sources_are_written

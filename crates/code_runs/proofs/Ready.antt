@@ -16,13 +16,12 @@ use Rattle.cc_liveness.specs.Liveness.{passes, live_behind, wanted_by, live_code
 use Rattle.cc_liveness.specs.Uses.{code_use_of, written_by_binary}
 use Rattle.micro_ops.specs.declared.codes.CodeSource.{CodeSource}
 use Rattle.micro_ops.specs.declared.codes.CodeSource.TheVariants.{Kept}
-use Rattle.micro_ops.specs.Sources.{sources_of}
+use Rattle.micro_ops.specs.Sources.{sources_of, is_written, codes_written_by}
 use Rattle.exception_records.specs.Codes.{is_ready, all_ready}
 use Rattle.exception_records.specs.declared.rules.CodeRule.{CodeRule}
 use Rattle.exception_records.specs.declared.rules.Rules.{Rules}
-use Rattle.block_law.specs.CodeWords.{is_written, codes_written_by}
-use Rattle.flag_codegen.specs.Rules.{rule_behind, rules_behind}
-use Rattle.flag_codegen.specs.Promises.{AreReady, SourcesAreWritten, LiveAreReady, RunsAreReady, AreReadyAlong, AreTranslated, rules_along}
+use Rattle.code_runs.specs.Rules.{rule_behind, rules_behind}
+use Rattle.code_runs.specs.Ready.{AreReady, SourcesAreWritten, LiveAreReady, RunsAreReady, AreReadyAlong, AllTranslated, rules_of_run}
 
 -- ---- what is written
 two_written : (operation : BinaryOperation) (width : Width) → class_of_binary operation ≡ Translated
@@ -91,8 +90,8 @@ all_hold code.carry = refl
 wanted_live : (instruction : CodeUse) (wanted : Flags) (which : Code) → holds which wanted ≡ true → holds which (live_behind instruction wanted) ≡ true
 wanted_live instruction wanted which h = elim instruction.ends as (λ b. holds which (if b then all else wanted) ≡ true) [ true ↦ all_hold which | false ↦ h ]
 
-ready_along : (run : List Operation) (before : Rules) → AreTranslated run → AreReady (wanted_by (map code_use_of run)) before
-    → let lives = live_codes (map code_use_of run) in AreReadyAlong lives (rules_along run lives before)
+ready_along : (run : List Operation) (before : Rules) → AllTranslated run → AreReady (wanted_by (map code_use_of run)) before
+    → let lives = live_codes (map code_use_of run) in AreReadyAlong lives (rules_of_run run lives before)
 ready_along [] before translated ready = tt
 ready_along (operation ∷ run) before translated ready =
     let said = code_use_of operation in

@@ -1,15 +1,13 @@
 -- By which rule each condition code is told behind an instruction.
 -- Source: own; the codes are those of the VAX Architecture Reference Manual, "Processor Status Longword".
-use Rattle.std.specs.Prelude.{◌||◌, ◌&&◌, if◌then◌else◌, Bool}
+use Rattle.std.specs.Prelude.{if◌then◌else◌, Bool}
 use Rattle.vax_form.specs.declared.state.Flags.{Flags}
 use Rattle.micro_ops.specs.declared.codes.CodeSource.{CodeSource}
 use Rattle.micro_ops.specs.declared.codes.CodeSource.TheVariants as source
 use Rattle.micro_ops.specs.declared.codes.CodeSources.{CodeSources}
-use Rattle.exception_records.specs.Codes.{is_ready}
 use Rattle.exception_records.specs.declared.rules.CodeRule.{CodeRule}
 use Rattle.exception_records.specs.declared.rules.CodeRule.TheVariants as rule
 use Rattle.exception_records.specs.declared.rules.Rules.{Rules}
-use Rattle.block_law.specs.CodeWords.{is_written}
 
 -- The rule that tells the codes from the operands. Codes that are computed, and those of a new processor status word, have
 -- none: they are made.
@@ -34,16 +32,4 @@ rules_behind sources live before = record {
   z = rule_behind sources.nzv live.z before.z;
   v = rule_behind sources.nzv live.v before.v;
   c = rule_behind sources.c live.c before.c;
-}
-
--- a code is made in its register where it is written, and is live or has no rule
-abbrev pub is_made : CodeSource → (live : Bool) → Bool
-is_made source live = is_written source && (live || is_ready (rule_of source))
-
-abbrev pub codes_made : CodeSources → (live : Flags) → Flags
-codes_made sources live = record {
-  n = is_made sources.nzv live.n;
-  z = is_made sources.nzv live.z;
-  v = is_made sources.nzv live.v;
-  c = is_made sources.c live.c;
 }

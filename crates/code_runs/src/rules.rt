@@ -1,20 +1,13 @@
 // The rules behind an instruction.
 ghost use Rattle.std.specs.Prelude.{◌≡◌};
-ghost use Rattle.block_law.specs.CodeWords.{is_written};
-ghost use Rattle.flag_codegen.specs.Rules.{rule_of, rule_behind, rules_behind, is_made};
+ghost use Rattle.code_runs.specs.Rules.{rule_of, rule_behind, rules_behind};
 
 use exception_records::{CodeRule, Rules};
 use micro_ops::{CodeSource, CodeSources};
 use vax_form::Flags;
 
-fn is_written(source: CodeSource) -> bool
-    ensures { result ≡ is_written source }
-{
-    !matches!(source, CodeSource::Kept)
-}
-
-// The rule that tells the codes from the operands; codes that are computed, and those of a new PSW, have none.
-fn rule_of(source: CodeSource) -> CodeRule
+/// The rule that tells the codes of that source from the operands; codes that are computed, and those of a new PSW, have none.
+pub fn rule_of(source: CodeSource) -> CodeRule
     ensures { result ≡ rule_of source }
 {
     match source {
@@ -35,13 +28,6 @@ fn rule_behind(source: CodeSource, live: bool, before: CodeRule) -> CodeRule
         _ if live => CodeRule::Ready,
         _ => rule_of(source),
     }
-}
-
-/// Whether a code is made in its register: it is written, and is live or has no rule.
-pub(crate) fn is_made(source: CodeSource, live: bool) -> bool
-    ensures { result ≡ is_made source live }
-{
-    is_written(source) && (live || rule_of(source).is_ready())
 }
 
 /// The rules behind an instruction whose codes have these sources, from those that are live behind it and the rules before
