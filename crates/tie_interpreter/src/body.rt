@@ -4,7 +4,7 @@ ghost use Rattle.tie_operands.specs.Replies.{replies_of};
 
 use tie_operands::{Replies, TieStep};
 use vax_form::{End, Instr, Operation, Stop, VaxState};
-use vax_meaning::{Cursor, Evaluated, body_fed};
+use vax_meaning::{Cursor, Evaluated, body};
 
 /// What comes behind the operands uses so many replies at most.
 pub(crate) const REPLIES_OF_BODY: usize = 4;
@@ -32,7 +32,7 @@ impl Body {
         ensures passes { PassesBody before.now self.now cursor.old result cursor.new }
         ensures few { Uses 4 cursor.old result cursor.new }
     {
-        body_fed(
+        body(
             cursor,
             self.operation,
             &self.instr,

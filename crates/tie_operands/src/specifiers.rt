@@ -2,7 +2,7 @@
 ghost use Rattle.std.specs.Prelude.{◌≡◌, ◌<◌};
 
 use vax_form::{Instr, Row, Stop};
-use vax_meaning::{Cursor, Evaluated, Location, find_fed, obtain_fed};
+use vax_meaning::{Cursor, Evaluated, Location, find, obtain};
 
 /// An instruction, and how its operands are used.
 #[derive(Clone, Copy, Debug, PartialEq, Eq)]
@@ -28,7 +28,7 @@ impl Specifiers {
     {
         match found {
             Some(location) => Ok(location),
-            None => find_fed(
+            None => find(
                 cursor,
                 self.row.access[place],
                 self.row.size[place],
@@ -48,7 +48,7 @@ impl Specifiers {
         ensures passes { PassesObtaining self.now place location cursor.old result cursor.new }
         ensures few { Uses 2 cursor.old result cursor.new }
     {
-        obtain_fed(
+        obtain(
             cursor,
             self.row.access[place],
             self.row.size[place],

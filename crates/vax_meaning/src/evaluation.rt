@@ -1,6 +1,7 @@
 // Operands as their instruction uses them.
 ghost use Rattle.std.specs.Prelude.{◌≡◌, ◌<◌, ◌*◌, ◌^◌};
 ghost use Rattle.vax_form.specs.Size.{bytes_of};
+ghost use Rattle.vax_meaning.specs.Fed.{Fed};
 ghost use Rattle.vax_meaning.specs.Play.{Plays, Uses};
 ghost use Rattle.vax_meaning.specs.Evaluation.{nothing, nothings, find, read_found, address_of, field_registers, obtain, evaluate, evaluated_row, operands_from, value_of_place, location_of_place};
 
@@ -23,7 +24,7 @@ pub const NOTHING: Evaluated = Evaluated {
 };
 
 /// Finds where an operand is.
-#[tactic(auto, unfolding(crate::specs::Evaluation::find))]
+#[tactic(auto, using(crate::proofs::Feeding::fed_of_plays), unfolding(crate::specs::Evaluation::find))]
 pub fn find(
     cursor: &mut Cursor,
     access: Access,
@@ -31,6 +32,7 @@ pub fn find(
     operand: Operand,
 ) -> Result<Location, Stop>
     ensures plays { Plays (find access size operand) cursor.old result cursor.new }
+    ensures fed { Fed (find access size operand) cursor.old result cursor.new }
     ensures few { Uses 2 cursor.old result cursor.new }
 {
     match access {
@@ -89,7 +91,7 @@ fn field_registers(cursor: &mut Cursor, location: Location) -> Result<u64, Stop>
 }
 
 /// Obtains an operand that was found: reads it, or checks it with write intent and reads it, or leaves it as it is.
-#[tactic(auto, unfolding(crate::specs::Evaluation::obtain))]
+#[tactic(auto, using(crate::proofs::Feeding::fed_of_plays), unfolding(crate::specs::Evaluation::obtain))]
 pub fn obtain(
     cursor: &mut Cursor,
     access: Access,
@@ -98,6 +100,7 @@ pub fn obtain(
     location: Location,
 ) -> Result<Evaluated, Stop>
     ensures plays { Plays (obtain access size operand location) cursor.old result cursor.new }
+    ensures fed { Fed (obtain access size operand location) cursor.old result cursor.new }
     ensures few { Uses 2 cursor.old result cursor.new }
 {
     match access {

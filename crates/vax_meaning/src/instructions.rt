@@ -1,5 +1,6 @@
 // The table of what each operation does.
 ghost use Rattle.std.specs.Prelude.{◌≡◌};
+ghost use Rattle.vax_meaning.specs.Fed.{Fed};
 ghost use Rattle.vax_meaning.specs.Play.{Plays, Uses};
 ghost use Rattle.vax_meaning.specs.Instructions.{body, operation_script};
 
@@ -23,7 +24,7 @@ use crate::moves::{
 use vax_form::{End, Exception, Instr, Operation, Stop};
 
 /// Does what an operation does once its operands are evaluated. The long instructions have scripts of their own.
-#[tactic(auto, unfolding(crate::specs::Instructions::body))]
+#[tactic(auto, using(crate::proofs::Feeding::fed_of_plays), unfolding(crate::specs::Instructions::body))]
 pub fn body(
     cursor: &mut Cursor,
     operation: Operation,
@@ -32,6 +33,7 @@ pub fn body(
     values: &[Evaluated; 6],
 ) -> Result<End, Stop>
     ensures plays { Plays (body operation instr.now thread values.now) cursor.old result cursor.new }
+    ensures fed { Fed (body operation instr.now thread values.now) cursor.old result cursor.new }
     ensures few { Uses 4 cursor.old result cursor.new }
 {
     match operation {

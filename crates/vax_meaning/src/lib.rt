@@ -14,7 +14,6 @@ mod meaning;
 mod memory;
 mod moves;
 mod operands;
-mod steps;
 
 pub use codes::{
     carry_of, finish, go_to, negative_of, overflow_of, set_all, set_by_result, set_codes, set_pc,
@@ -32,5 +31,4 @@ pub use moves::{push, set_compared};
 pub use operands::{
     Location, locate, modify_at, put, register_of, register_value, set_register_of, store,
 };
-pub use steps::{body_fed, find_fed, obtain_fed};
 pub use vax_form::{Outcome, Pick, RefKind, Reference, VaxState};

@@ -5,4 +5,4 @@ use Rattle.tie_operands.proofs.specifiers.Specifiers.find.Goals as goal
 
 pub returns-in-None-clause-passes : goal.returns-in-None-clause-passes
 returns-in-None-clause-passes c =
-    rw c.in-None.is (find_passes c.args.self.now c.args.place c.args.cursor.now c.find_fed.new.cursor _ _ _ c.find_fed.result c.requires refl refl refl c.find_fed.ensures.fed)
+    rw c.in-None.is (find_passes c.args.self.now c.args.place c.args.cursor.now c.find.new.cursor _ _ _ c.find.result c.requires refl refl refl c.find.ensures.fed)

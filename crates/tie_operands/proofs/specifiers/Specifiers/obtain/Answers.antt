@@ -5,4 +5,4 @@ use Rattle.tie_operands.proofs.specifiers.Specifiers.obtain.Goals as goal
 
 pub returns-clause-passes : goal.returns-clause-passes
 returns-clause-passes c =
-    obtain_passes c.args.self.now c.args.place c.args.location c.args.cursor.now c.obtain_fed.new.cursor _ _ _ c.obtain_fed.result refl refl refl c.obtain_fed.ensures.fed
+    obtain_passes c.args.self.now c.args.place c.args.location c.args.cursor.now c.obtain.new.cursor _ _ _ c.obtain.result refl refl refl c.obtain.ensures.fed
