@@ -6,6 +6,7 @@ use Rattle.alpha_encode.specs.declared.instr.Second.{Second}
 use Rattle.alpha_encode.specs.declared.instr.Second.TheVariants.{Register, Literal}
 use Rattle.alpha_encode.specs.declared.instr.AlphaInstr.{AlphaInstr}
 use Rattle.alpha_encode.specs.declared.instr.AlphaInstr.TheVariants.{Memory, Branch, Operate, Jump, Pal}
+use Rattle.alpha_encode.specs.declared.pal.TheConstants.{PROBE, SWITCH}
 use Rattle.alpha_encode.specs.Rows.{memory_opcode, memory_at, branch_opcode, branch_at, operate_code, operate_at}
 
 -- ---- from an instruction to its word
@@ -40,7 +41,7 @@ IsEncodable (Memory op ra rb disp) = (ra < 32) × (rb < 32) × FitsSigned w16 di
 IsEncodable (Branch op ra disp) = (ra < 32) × (negsuc (2 ^ 20 - 1) ≤ℤ disp) × (disp <ℤ pos (2 ^ 20))
 IsEncodable (Operate op ra rb rc) = (ra < 32) × IsSecond rb × (rc < 32)
 IsEncodable (Jump ra rb) = (ra < 32) × (rb < 32)
-IsEncodable (Pal n) = (0x80 ≤ n) × (n ≤ 0x86)
+IsEncodable (Pal n) = (PROBE ≤ n) × (n ≤ SWITCH)
 
 -- A word spells an instruction: the instruction has a word, and it is this one.
 abbrev pub Spells : ℕ → AlphaInstr → Type 0
@@ -76,7 +77,7 @@ abbrev pub jump_at : ℕ → Option AlphaInstr
 jump_at word = if word / 2 ^ 26 == 0x1a && word % 2 ^ 16 == 0 then Some (Jump (word / 2 ^ 21 % 2 ^ 5) (word / 2 ^ 16 % 2 ^ 5)) else None
 
 abbrev pub pal_at : ℕ → Option AlphaInstr
-pal_at word = if nat_le 0x80 word && nat_le word 0x86 then Some (Pal word) else None
+pal_at word = if nat_le PROBE word && nat_le word SWITCH then Some (Pal word) else None
 
 -- The instruction that a word spells: its fields, by the format that has its opcode.
 abbrev pub instr_at : ℕ → Option AlphaInstr

@@ -3,6 +3,7 @@ ghost use Rattle.std.specs.Prelude.{◌≡◌, ◌^◌, ◌<◌, ◌≢◌, IfSo
 ghost use Rattle.alpha_encode.specs.Words.{second_at, instr_at, signed_21, IsEncodable, word_of, Spells};
 
 use crate::instr::{AlphaInstr, Second};
+use crate::pal;
 use crate::tables::{branch_op, memory_op, operate_op};
 
 fn second(field: u32) -> Option<Second>
@@ -53,7 +54,7 @@ fn read(word: u32) -> Option<AlphaInstr>
     if opcode == 0x1a && word % (1 << 16) == 0 {
         return Some(AlphaInstr::Jump { ra, rb });
     }
-    if 0x80 <= word && word <= 0x86 {
+    if u32::from(pal::PROBE) <= word && word <= u32::from(pal::SWITCH) {
         Some(AlphaInstr::Pal(word as u8))
     } else {
         None
