@@ -1,6 +1,7 @@
 -- The services and the breakpoint.
 -- VAX Architecture Reference Manual, "Operating System Support": CHMK, whose codes are this system's own.
 use Rattle.std.specs.Prelude.{ℕ, ◌%◌, ◌^◌, ◌==◌, List}
+use Rattle.service_codes.specs.declared.TheConstants.{EXIT, PUT, GET, THREAD, HANDLER, RESUME}
 use Rattle.vax_form.specs.State.{with_pc, with_handler, with_pending}
 use Rattle.vax_form.specs.Script.{Script, ◌>>=◌, ◌>>◌, pure, ask, get, change, when◌then◌else◌}
 use Rattle.vax_form.specs.declared.instr.Size.TheVariants.{Word}
@@ -46,16 +47,15 @@ ask_to_resume = do
   change (with_pending Resume)
   pure Done
 
--- a service: 1 ends the thread, 2 puts out a byte, 3 gets one, 4 tells the thread's number, 5 exchanges the handler,
--- 6 resumes, and any other gives 0
+-- a service, by its code; any other gives 0
 unfoldable pub serve : (code thread : ℕ) → Script End
 serve code thread =
-    when code == 1 then pure Exits
-    else when code == 2 then put_byte
-    else when code == 3 then get_byte
-    else when code == 4 then answer_with thread
-    else when code == 5 then exchange_handler
-    else when code == 6 then ask_to_resume
+    when code == EXIT then pure Exits
+    else when code == PUT then put_byte
+    else when code == GET then get_byte
+    else when code == THREAD then answer_with thread
+    else when code == HANDLER then exchange_handler
+    else when code == RESUME then ask_to_resume
     else answer_with 0
 
 -- CHMK: the codes are kept

@@ -8,6 +8,7 @@ use crate::codes::set_pc;
 use crate::cursor::Cursor;
 use crate::evaluation::{Evaluated, value_of_place};
 use crate::operands::{register_of, set_register_of};
+use service_codes::{EXIT, GET, HANDLER, PUT, RESUME, THREAD};
 use vax_form::{End, Instr, Pending, RefKind, Reference, Size, Stop};
 
 /// A reference that is none to memory.
@@ -73,20 +74,19 @@ fn ask_to_resume(cursor: &mut Cursor) -> Result<End, Stop>
     Ok(End::Done)
 }
 
-/// Does a service: 1 ends the thread, 2 puts out a byte, 3 gets one, 4 tells the thread's number, 5 exchanges R0 and
-/// the handler, 6 resumes, and any other gives 0.
+/// Does a service, by its code; any other gives 0.
 #[tactic(auto, unfolding(crate::specs::Control::serve))]
 pub fn serve(cursor: &mut Cursor, code: u64, thread: u8) -> Result<End, Stop>
     ensures plays { Plays (serve code thread) cursor.old result cursor.new }
     ensures few { Uses 1 cursor.old result cursor.new }
 {
     match code {
-        1 => Ok(End::Exits),
-        2 => put_byte(cursor),
-        3 => get_byte(cursor),
-        4 => answer_with(cursor, thread as u32),
-        5 => exchange_handler(cursor),
-        6 => ask_to_resume(cursor),
+        EXIT => Ok(End::Exits),
+        PUT => put_byte(cursor),
+        GET => get_byte(cursor),
+        THREAD => answer_with(cursor, thread as u32),
+        HANDLER => exchange_handler(cursor),
+        RESUME => ask_to_resume(cursor),
         _ => answer_with(cursor, 0),
     }
 }
