@@ -8,6 +8,7 @@ use Rattle.vax_form.specs.State.{with_core}
 use Rattle.vax_form.specs.declared.state.Flags.{Flags}
 use Rattle.vax_form.specs.declared.state.VaxState.{VaxState}
 use Rattle.vax_form.specs.declared.state.Pending.TheVariants.{Nothing}
+use Rattle.alpha_encode.specs.declared.registers.TheConstants.{CARRY_FIRST, NEGATIVE, IS_ZERO, OVERFLOW, CARRY, STATUS, RULE_FIRST, RULE_SECOND, CARRY_SECOND}
 use Rattle.exception_records.specs.declared.rules.CodeRule.{CodeRule}
 use Rattle.exception_records.specs.declared.rules.Rules.{Rules}
 use Rattle.exception_records.specs.Codes.{codes_by, is_ready}
@@ -31,10 +32,10 @@ code_shown rule held in_register by_rule = if is_ready rule || held then in_regi
 -- the codes, of which some are held in their registers
 abbrev pub codes_shown : Regs → Rules → (held : Flags) → Flags
 codes_shown regs rules held = record {
-  n = code_shown rules.n held.n (is_set (regs 16)) (codes_by rules.n (regs 28) (regs 29)).n;
-  z = code_shown rules.z held.z (is_set (regs 17)) (codes_by rules.z (regs 28) (regs 29)).z;
-  v = code_shown rules.v held.v (is_set (regs 18)) (codes_by rules.v (regs 28) (regs 29)).v;
-  c = code_shown rules.c held.c (is_set (regs 19)) (codes_by rules.c (regs 15) (regs 30)).c;
+  n = code_shown rules.n held.n (is_set (regs NEGATIVE)) (codes_by rules.n (regs RULE_FIRST) (regs RULE_SECOND)).n;
+  z = code_shown rules.z held.z (is_set (regs IS_ZERO)) (codes_by rules.z (regs RULE_FIRST) (regs RULE_SECOND)).z;
+  v = code_shown rules.v held.v (is_set (regs OVERFLOW)) (codes_by rules.v (regs RULE_FIRST) (regs RULE_SECOND)).v;
+  c = code_shown rules.c held.c (is_set (regs CARRY)) (codes_by rules.c (regs CARRY_FIRST) (regs CARRY_SECOND)).c;
 }
 
 -- bits 7:4 of a processor status word, with these codes
@@ -43,7 +44,7 @@ psw_with upper codes = upper / 16 % 16 * 16 + (bit codes.n * 8 + bit codes.z * 4
 
 -- the processor status word: bits 7:4 by R20, and the codes
 abbrev pub psw_shown : Regs → Rules → (held : Flags) → ℕ
-psw_shown regs rules held = psw_with (regs 20) (codes_shown regs rules held)
+psw_shown regs rules held = psw_with (regs STATUS) (codes_shown regs rules held)
 
 -- the state: R0 to R14 by their low longwords, the PC, and the processor status word
 abbrev pub shown : Regs → (vax_pc : ℕ) → Rules → (held : Flags) → (handler : ℕ) → VaxState

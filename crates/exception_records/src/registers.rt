@@ -3,6 +3,9 @@ ghost use Rattle.std.specs.Prelude.{◌≡◌, ◌%◌, ◌^◌, slice_index};
 ghost use Rattle.exception_records.specs.Shown.{code_shown, codes_shown, psw_shown, shown};
 
 use crate::rules::{CodeRule, Rules};
+use alpha_encode::registers::{
+    CARRY, CARRY_FIRST, CARRY_SECOND, IS_ZERO, NEGATIVE, OVERFLOW, RULE_FIRST, RULE_SECOND, STATUS,
+};
 use vax_form::{Flags, Pending, VaxState};
 
 // A code in its register where it is ready or held there, else by its rule.
@@ -21,17 +24,23 @@ fn code_shown(rule: CodeRule, held: bool, in_register: bool, by_rule: bool) -> b
 pub fn codes_shown(registers: &[u64; 32], rules: &Rules, held: &Flags) -> Flags
     ensures { result ≡ codes_shown (slice_index registers.now) rules.now held.now }
 {
-    let (first, second) = (registers[28], registers[29]);
-    let (carry_first, carry_second) = (registers[15], registers[30]);
+    let (first, second) = (
+        registers[RULE_FIRST as usize],
+        registers[RULE_SECOND as usize],
+    );
+    let (carry_first, carry_second) = (
+        registers[CARRY_FIRST as usize],
+        registers[CARRY_SECOND as usize],
+    );
     let n = rules.n.codes(first, second).n;
     let z = rules.z.codes(first, second).z;
     let v = rules.v.codes(first, second).v;
     let c = rules.c.codes(carry_first, carry_second).c;
     Flags {
-        n: code_shown(rules.n, held.n, registers[16] % 2 == 1, n),
-        z: code_shown(rules.z, held.z, registers[17] % 2 == 1, z),
-        v: code_shown(rules.v, held.v, registers[18] % 2 == 1, v),
-        c: code_shown(rules.c, held.c, registers[19] % 2 == 1, c),
+        n: code_shown(rules.n, held.n, registers[NEGATIVE as usize] % 2 == 1, n),
+        z: code_shown(rules.z, held.z, registers[IS_ZERO as usize] % 2 == 1, z),
+        v: code_shown(rules.v, held.v, registers[OVERFLOW as usize] % 2 == 1, v),
+        c: code_shown(rules.c, held.c, registers[CARRY as usize] % 2 == 1, c),
     }
 }
 
@@ -40,7 +49,7 @@ fn psw_shown(registers: &[u64; 32], rules: &Rules, held: &Flags) -> u16
     ensures { result ≡ psw_shown (slice_index registers.now) rules.now held.now }
 {
     let codes = codes_shown(registers, rules, held);
-    let upper = (registers[20] / 16 % 16 * 16) as u16;
+    let upper = (registers[STATUS as usize] / 16 % 16 * 16) as u16;
     upper + (codes.n as u16 * 8 + codes.z as u16 * 4 + codes.v as u16 * 2 + codes.c as u16)
 }
 
