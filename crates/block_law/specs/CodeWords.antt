@@ -10,6 +10,7 @@ use Rattle.micro_ops.specs.Meaning.{Temps, Departure, flag_of}
 use Rattle.micro_ops.specs.Leaving.{CodesComeFrom, state_left}
 use Rattle.micro_ops.specs.Sources.{is_written, codes_written_by}
 use Rattle.alpha_encode.specs.declared.instr.AlphaInstr.{AlphaInstr}
+use Rattle.alpha_encode.specs.declared.registers.TheConstants.{CARRY_FIRST, NEGATIVE, IS_ZERO, OVERFLOW, CARRY, STATUS, TEMPORARIES, RULE_FIRST, RULE_SECOND, CARRY_SECOND, ZERO}
 use Rattle.alpha_meaning.specs.State.{Regs}
 use Rattle.alpha_meaning.specs.Loops.{fine, effects}
 use Rattle.exception_records.specs.Shown.{codes_shown, still_held}
@@ -21,7 +22,7 @@ most_code_words = 32
 
 -- R21 to R26 hold the temporaries 0 to 5
 abbrev pub temps_in : Regs → Temps
-temps_in regs = λ temp. regs (21 + temp)
+temps_in regs = λ temp. regs (TEMPORARIES + temp)
 
 -- the codes of a processor status word
 abbrev pub codes_in : (psw : ℕ) → Flags
@@ -29,20 +30,20 @@ codes_in psw = record { n = flag_of 0 psw == 1; z = flag_of 1 psw == 1; v = flag
 
 -- R16 to R19 hold codes
 abbrev pub HoldCodes : Regs → Type 0
-HoldCodes regs = (n : ℕ) → 16 ≤ n → n < 20 → regs n < 2
+HoldCodes regs = (n : ℕ) → NEGATIVE ≤ n → n < STATUS → regs n < 2
 
 -- The registers that the words may write: R24 and R25; where N, Z and V are written, theirs and those of the operands of
 -- their rule; and where C is, its own and those of the operands of its rule.
 abbrev pub may_be_written : CodeSources → (register : ℕ) → Bool
 may_be_written sources register =
-    (register == 24) || (register == 25)
-    || (is_written sources.nzv && ((register == 16) || (register == 17) || (register == 18) || (register == 28) || (register == 29)))
-    || (is_written sources.c && ((register == 19) || (register == 15) || (register == 30)))
+    (register == TEMPORARIES + 3) || (register == TEMPORARIES + 4)
+    || (is_written sources.nzv && ((register == NEGATIVE) || (register == IS_ZERO) || (register == OVERFLOW) || (register == RULE_FIRST) || (register == RULE_SECOND)))
+    || (is_written sources.c && ((register == CARRY) || (register == CARRY_FIRST) || (register == CARRY_SECOND)))
 
 -- R31 reads zero, the registers of the codes hold 0 or 1, and the registers show the codes of a state by these rules, of
 -- which some are held
 pub record ShowCodes (regs : Regs) (rules : Rules) (held : Flags) (state : VaxState) : Type 0 where
-  pub zero : regs 31 ≡ 0
+  pub zero : regs ZERO ≡ 0
   pub hold : HoldCodes regs
   pub codes : codes_shown regs rules held ≡ codes_in state.psw
 

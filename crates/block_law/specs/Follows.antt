@@ -4,6 +4,8 @@ use Rattle.vt_words.specs.Quad.{sign_extended}
 use Rattle.vax_form.specs.Pages.{first_bad}
 use Rattle.vax_form.specs.State.{with_register}
 use Rattle.vax_form.specs.Tree.{Tree, Check, Fault, Ends, Finish, Trap, Same}
+use Rattle.alpha_encode.specs.declared.pal.TheConstants.{PROBE, LOOK_UP, SERVE, RAISE, TRAP, SWITCH}
+use Rattle.alpha_encode.specs.declared.registers.TheConstants.{TEMPORARIES, ADDRESS}
 use Rattle.alpha_meaning.specs.State.{Alpha, Regs, put, at_place}
 use Rattle.alpha_meaning.specs.Pieces.{Phase, Plain, Steps, phase_after}
 use Rattle.exception_records.specs.Points.{raised_at}
@@ -24,24 +26,24 @@ pub data Call : Type 0 where
   Switch : Call
   Other : Call
 
--- 80 checks an operand, 81 and 86 go on at an address, 82 serves, 83 raises a fault, 84 ends with a trap
+-- each call by its number
 abbrev pub call_of : (number : ℕ) → Call
 call_of number =
-    if number == 0x80 then Probe
-    else if number == 0x81 then LookUp
-    else if number == 0x82 then Serve
-    else if number == 0x83 then Raise
-    else if number == 0x84 then Arithmetic
-    else if number == 0x86 then Switch
+    if number == PROBE then Probe
+    else if number == LOOK_UP then LookUp
+    else if number == SERVE then Serve
+    else if number == RAISE then Raise
+    else if number == TRAP then Arithmetic
+    else if number == SWITCH then Switch
     else Other
 
 -- how many bytes a probe checks, from the address in R27 on: the point's count, or where it is 0 the low word of R21
 abbrev pub probe_count : Point → Regs → ℕ
-probe_count point regs = if point.count == 0 then regs 21 % 2 ^ 16 else point.count
+probe_count point regs = if point.count == 0 then regs TEMPORARIES % 2 ^ 16 else point.count
 
 -- where a probe begins: the low longword of R27
 abbrev pub probe_address : Regs → ℕ
-probe_address regs = regs 27 % 2 ^ 32
+probe_address regs = regs ADDRESS % 2 ^ 32
 
 -- By the point of the word and the tree, where no load-locked access or failed store is behind; `Next` is owed at the
 -- next word.
@@ -55,14 +57,14 @@ Called Probe (Some point) Plain (Check address count write tree) p c Next =
     × (first_bad p.pages write address count ≡ None → Next (at_place c.regs (c.pc + 1)) tree)
 Called Raise (Some point) Plain (Fault exception) p c Next = raised_at point.raises ≡ Some exception
 Called Arithmetic (Some point) Plain (Ends (Trap kind s)) p c Next =
-    (kind ≡ c.regs 21 % 2 ^ 8) × (s ≡ state_behind p c.regs (target c.regs) point.rules)
+    (kind ≡ c.regs TEMPORARIES % 2 ^ 8) × (s ≡ state_behind p c.regs (target c.regs) point.rules)
 Called LookUp point Plain (Ends (Finish s)) p c Next =
     InForm c.regs × (s ≡ state_ready p c.regs (target c.regs))
 Called Switch point Plain (Ends (Finish s)) p c Next =
     InForm c.regs × (s ≡ state_ready p c.regs (target c.regs)) × (p.maps (target c.regs) ≡ None)
 Called Serve (Some point) Plain tree p c Next =
     InForm c.regs
-    × Same tree (p.serve (c.regs 21 % 2 ^ 16) (state_shown p c.regs (target c.regs) point.rules p.held))
+    × Same tree (p.serve (c.regs TEMPORARIES % 2 ^ 16) (state_shown p c.regs (target c.regs) point.rules p.held))
     × ((value : ℕ) → value < 2 ^ 32 → Next (at_place (put c.regs 0 (sign_extended value 32)) (c.pc + 1))
     (Ends (Finish (with_register 0 value (state_shown p c.regs (target c.regs) point.rules p.held)))))
 Called call point phase tree p c Next = ⊥

@@ -3,6 +3,7 @@ use Rattle.std.specs.Prelude.{◌≡◌, ℕ, ◌≤◌, ◌+◌, ◌==◌, ◌&
 use Rattle.vax_form.specs.Tree.{Tree, Same}
 use Rattle.vax_form.specs.declared.state.Flags.{Flags}
 use Rattle.alpha_encode.specs.declared.instr.AlphaInstr.{AlphaInstr}
+use Rattle.alpha_encode.specs.declared.registers.TheConstants.{CARRY_FIRST, TEMPORARIES, RULE_FIRST, ZERO}
 use Rattle.alpha_meaning.specs.State.{Alpha, Regs}
 use Rattle.alpha_meaning.specs.Act.{Does, Goes, Asks, Calls, act, finished}
 use Rattle.alpha_meaning.specs.Pieces.{Phase}
@@ -44,7 +45,7 @@ UnwrittenStay = (i : AlphaInstr) (c : Alpha) (register : ℕ) → (register_writ
 
 -- R15 to R20 and R28 to R30 tell the processor status word
 abbrev pub shows_psw : (register : ℕ) → Bool
-shows_psw register = (nat_le 15 register && nat_lt register 21) || (nat_le 28 register && nat_lt register 31)
+shows_psw register = (nat_le CARRY_FIRST register && nat_lt register TEMPORARIES) || (nat_le RULE_FIRST register && nat_lt register ZERO)
 
 -- it shows the same where these registers stay
 abbrev pub SameStatus : Type 0

@@ -8,6 +8,7 @@ use Rattle.vax_form.specs.declared.pages.Pages.{Pages}
 use Rattle.vax_form.specs.declared.state.Flags.{Flags}
 use Rattle.vax_form.specs.declared.state.Reference.{Reference}
 use Rattle.vax_form.specs.declared.state.VaxState.{VaxState}
+use Rattle.alpha_encode.specs.declared.registers.TheConstants.{NEGATIVE, STATUS, TARGET, ZERO}
 use Rattle.alpha_meaning.specs.State.{Regs}
 use Rattle.alpha_meaning.specs.Pieces.{Allowed, Fetch, Kinds}
 use Rattle.exception_records.specs.Codes.{all_ready}
@@ -46,10 +47,10 @@ allowed_in pages store quad = is_allowed pages quad store
 -- and R31 reads zero.
 pub record InForm (regs : Regs) : Type 0 where
   pub longwords : (n : ℕ) → n < 15 → sign_extended (regs n) 32 ≡ regs n
-  pub codes : (n : ℕ) → 16 ≤ n → n < 20 → regs n < 2
-  pub status : regs 20 < 256
-  pub status_only : regs 20 % 16 ≡ 0
-  pub zero : regs 31 ≡ 0
+  pub codes : (n : ℕ) → NEGATIVE ≤ n → n < STATUS → regs n < 2
+  pub status : regs STATUS < 256
+  pub status_only : regs STATUS % 16 ≡ 0
+  pub zero : regs ZERO ≡ 0
 
 -- the state that the registers show: R0 to R14, the PC and the processor status word, and all else as it was when the
 -- instruction began
@@ -66,4 +67,4 @@ state_ready p regs pc = state_shown p regs pc all_ready p.held
 
 -- R26 holds a VAX address
 abbrev pub target : Regs → ℕ
-target regs = regs 26 % 2 ^ 32
+target regs = regs TARGET % 2 ^ 32

@@ -4,6 +4,8 @@ use Rattle.std.specs.List.{list_any}
 use Rattle.vax_form.specs.declared.state.Flags.{Flags}
 use Rattle.alpha_encode.specs.declared.instr.AlphaInstr.{AlphaInstr}
 use Rattle.alpha_encode.specs.declared.instr.AlphaInstr.TheVariants.{Memory, Branch, Operate, Jump, Pal}
+use Rattle.alpha_encode.specs.declared.pal.TheConstants.{PROBE, SERVE, RAISE, INTERPRET}
+use Rattle.alpha_encode.specs.declared.registers.TheConstants.{NEGATIVE, IS_ZERO, OVERFLOW, CARRY, TEMPORARIES, RULE_FIRST, ZERO}
 use Rattle.alpha_meaning.specs.declared.access.AlphaKind.{AlphaKind}
 use Rattle.alpha_meaning.specs.declared.access.AlphaKind.TheVariants.{Load, LoadLocked, Store, StoreConditional}
 use Rattle.alpha_meaning.specs.Memory.{kind_of}
@@ -11,23 +13,23 @@ use Rattle.alpha_meaning.specs.Act.{links}
 
 -- R0 to R20 and R28 to R30 hold what a boundary shows
 abbrev pub is_kept : (register : ℕ) → Bool
-is_kept register = nat_lt register 21 || (nat_le 28 register && nat_lt register 31)
+is_kept register = nat_lt register TEMPORARIES || (nat_le RULE_FIRST register && nat_lt register ZERO)
 
 -- a store writes no register; an instruction of the memory format that makes no access writes its address
 abbrev pub memory_writes : Option AlphaKind → (ra : ℕ) → ℕ
 memory_writes None ra = ra
 memory_writes (Some Load) ra = ra
 memory_writes (Some LoadLocked) ra = ra
-memory_writes (Some Store) ra = 31
+memory_writes (Some Store) ra = ZERO
 memory_writes (Some StoreConditional) ra = ra
 
 -- the register that an instruction writes, or 31: R31 is not written. A service may write R0
 abbrev pub register_written : AlphaInstr → ℕ
 register_written (Memory op ra rb disp) = memory_writes (kind_of op) ra
-register_written (Branch op ra disp) = if links op then ra else 31
+register_written (Branch op ra disp) = if links op then ra else ZERO
 register_written (Operate op ra rb rc) = rc
 register_written (Jump ra rb) = ra
-register_written (Pal number) = if number == 0x82 then 0 else 31
+register_written (Pal number) = if number == SERVE then 0 else ZERO
 
 -- the instruction makes an access, of some kind
 abbrev pub is_access : Option AlphaKind → Bool
@@ -40,7 +42,7 @@ may_raise (Memory op ra rb disp) = false
 may_raise (Branch op ra disp) = false
 may_raise (Operate op ra rb rc) = false
 may_raise (Jump ra rb) = false
-may_raise (Pal number) = number == 0x80 || number == 0x83
+may_raise (Pal number) = number == PROBE || number == RAISE
 
 -- a load, a store, a probe or an exception
 abbrev pub may_fault : AlphaInstr → Bool
@@ -63,7 +65,7 @@ keeps_to false = may_fault
 
 -- a call that has the interpreter do the block's instruction
 abbrev pub interprets : AlphaInstr → Bool
-interprets (Pal number) = number == 0x85
+interprets (Pal number) = number == INTERPRET
 interprets i = false
 
 -- how many words a block may have
@@ -83,4 +85,4 @@ writes_register register words = list_any (λ i. register_written i == register)
 
 -- the codes whose registers, R16 to R19, some word writes
 abbrev pub codes_written : List AlphaInstr → Flags
-codes_written words = record { n = writes_register 16 words; z = writes_register 17 words; v = writes_register 18 words; c = writes_register 19 words }
+codes_written words = record { n = writes_register NEGATIVE words; z = writes_register IS_ZERO words; v = writes_register OVERFLOW words; c = writes_register CARRY words }

@@ -9,6 +9,7 @@ use Rattle.vax_form.specs.declared.state.VaxState.{VaxState}
 use Rattle.alpha_encode.specs.Words.{instr_at}
 use Rattle.alpha_encode.specs.declared.instr.AlphaInstr.{AlphaInstr}
 use Rattle.alpha_encode.specs.declared.instr.AlphaInstr.TheVariants.{Memory, Branch, Operate, Jump, Pal}
+use Rattle.alpha_encode.specs.declared.pal.TheConstants.{TRAP}
 use Rattle.alpha_meaning.specs.State.{Regs, at_place}
 use Rattle.alpha_meaning.specs.Pieces.{Fetch, Kinds, Plain, HasAt}
 use Rattle.address_map.specs.Pairs.{Pair, AllRise, word_at, address_at}
@@ -76,7 +77,7 @@ has_loop meaning address = nat_lt 0 (meaning.bonus address)
 
 -- whether the instruction is done at its word
 abbrev pub done_at : Option AlphaInstr → ℕ
-done_at (Some (Pal number)) = if number == 0x84 then 1 else 0
+done_at (Some (Pal number)) = if number == TRAP then 1 else 0
 done_at (Some (Memory op ra rb disp)) = 0
 done_at (Some (Branch op ra disp)) = 0
 done_at (Some (Operate op ra rb rc)) = 0
