@@ -12,6 +12,7 @@ use Rattle.alpha_encode.specs.declared.instr.OperateOp.TheVariants as row
 use Rattle.alpha_encode.specs.declared.instr.Second.TheVariants.{Register, Literal}
 use Rattle.alpha_encode.specs.declared.instr.AlphaInstr.{AlphaInstr}
 use Rattle.alpha_encode.specs.declared.instr.AlphaInstr.TheVariants.{Operate}
+use Rattle.alpha_encode.specs.declared.registers.TheConstants.{ADDRESS}
 use Rattle.alpha_meaning.specs.State.{Regs}
 use Rattle.micro_ops.specs.Values.{low}
 use Rattle.compute_sequences.specs.declared.overflow.Arithmetic.{Arithmetic}
@@ -27,10 +28,10 @@ quad_operation Difference = row.Subq
 -- another.
 abbrev pub overflow_code : Arithmetic → Width → (x y to : ℕ) → List AlphaInstr
 overflow_code arithmetic width x y to =
-    extend (size_of width) x 27
+    extend (size_of width) x ADDRESS
     ++ (extend (size_of width) y to
-    ++ (Operate (quad_operation arithmetic) 27 (Register to) to
-    ∷ (extend (size_of width) to 27 ++ (Operate row.Cmpeq 27 (Register to) to ∷ Operate row.Xor to (Literal 1) to ∷ []))))
+    ++ (Operate (quad_operation arithmetic) ADDRESS (Register to) to
+    ∷ (extend (size_of width) to ADDRESS ++ (Operate row.Cmpeq ADDRESS (Register to) to ∷ Operate row.Xor to (Literal 1) to ∷ []))))
 
 -- for two values of the length
 abbrev pub overflows : Arithmetic → Width → (a b : ℕ) → Bool

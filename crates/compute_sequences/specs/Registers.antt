@@ -1,6 +1,7 @@
 -- Which registers hold the arguments of a computation, and which it changes.
 use Rattle.std.specs.Prelude.{ℕ, ◌+◌, ◌/◌, ◌%◌, ◌^◌, ◌<◌, ◌≤◌, ◌==◌, ◌||◌, not, nat_lt, Bool, true, false, if◌then◌else◌}
 use Rattle.vax_form.specs.declared.instr.Size.{Size}
+use Rattle.alpha_encode.specs.declared.registers.TheConstants.{NEGATIVE, STATUS, TEMPORARIES, TARGET, ADDRESS, ZERO}
 use Rattle.alpha_meaning.specs.State.{Regs}
 use Rattle.micro_ops.specs.declared.program.Arg.{Arg}
 use Rattle.micro_ops.specs.declared.program.Arg.TheVariants.{Temp, Register, Flag, Const}
@@ -8,8 +9,8 @@ use Rattle.micro_ops.specs.Uses.{is_quad}
 
 -- R21 to R26 hold the temporaries 0 to 5
 pub record IsTarget (register : ℕ) : Type 0 where
-  pub low : 21 ≤ register
-  pub high : register ≤ 26
+  pub low : TEMPORARIES ≤ register
+  pub high : register ≤ TARGET
 
 -- the arguments that stand in registers of a block, and constants
 abbrev pub IsArgument : Arg → Type 0
@@ -20,16 +21,16 @@ IsArgument (Const value) = value < 2 ^ 64
 
 -- R0 to R14 are the registers, R16 to R19 the codes, and R20 has the other flags in their places
 abbrev pub register_at : Arg → ℕ
-register_at (Temp temp) = 21 + temp
+register_at (Temp temp) = TEMPORARIES + temp
 register_at (Register number) = number
-register_at (Flag flag) = if nat_lt flag 4 then 16 + flag else 20
-register_at (Const value) = 31
+register_at (Flag flag) = if nat_lt flag 4 then NEGATIVE + flag else STATUS
+register_at (Const value) = ZERO
 
 -- what an argument is, by the registers; a register is the longword in it
 abbrev pub value_at : Regs → Arg → ℕ
-value_at regs (Temp temp) = regs (21 + temp)
+value_at regs (Temp temp) = regs (TEMPORARIES + temp)
 value_at regs (Register number) = regs number % 2 ^ 32
-value_at regs (Flag flag) = if nat_lt flag 4 then regs (16 + flag) else regs 20 / 2 ^ flag % 2
+value_at regs (Flag flag) = if nat_lt flag 4 then regs (NEGATIVE + flag) else regs STATUS / 2 ^ flag % 2
 value_at regs (Const value) = value
 
 -- an argument that takes words of its own: its low bytes are not those of its register
@@ -41,4 +42,4 @@ is_loaded size (Const value) = true
 
 -- R27 is scratch
 abbrev pub may_change : (to register : ℕ) → Bool
-may_change to register = register == to || register == 27
+may_change to register = register == to || register == ADDRESS

@@ -10,6 +10,7 @@ use Rattle.alpha_encode.specs.declared.instr.OperateOp.TheVariants as row
 use Rattle.alpha_encode.specs.declared.instr.Second.TheVariants.{Register, Literal}
 use Rattle.alpha_encode.specs.declared.instr.AlphaInstr.{AlphaInstr}
 use Rattle.alpha_encode.specs.declared.instr.AlphaInstr.TheVariants.{Branch, Operate}
+use Rattle.alpha_encode.specs.declared.registers.TheConstants.{STATUS, ADDRESS}
 use Rattle.micro_ops.specs.declared.program.Arg.{Arg}
 use Rattle.micro_ops.specs.declared.program.Arg.TheVariants as arguments
 use Rattle.micro_ops.specs.declared.program.MicroOp.{MicroOp}
@@ -47,26 +48,26 @@ abbrev pub load_code : Size → Arg → (to : ℕ) → List AlphaInstr
 load_code size (arguments.Temp temp) to = []
 load_code size (arguments.Register number) to = if is_quad size then narrow Long number to ∷ [] else []
 load_code size (arguments.Flag flag) to =
-    if nat_lt flag 4 then [] else Operate row.Srl 20 (Literal flag) to ∷ Operate row.And to (Literal 1) to ∷ []
+    if nat_lt flag 4 then [] else Operate row.Srl STATUS (Literal flag) to ∷ Operate row.And to (Literal 1) to ∷ []
 load_code size (arguments.Const value) to = constant_code value size to
 
 -- the register of the first argument
 abbrev pub first_register : Size → Arg → ℕ
-first_register size a = if is_loaded size a then 27 else register_at a
+first_register size a = if is_loaded size a then ADDRESS else register_at a
 
 -- the register that the second argument is loaded into, where R27 has the first
 abbrev pub second_target : Size → Arg → (to : ℕ) → ℕ
-second_target size a to = if is_loaded size a then to else 27
+second_target size a to = if is_loaded size a then to else ADDRESS
 
 abbrev pub second_register : Size → (a b : Arg) (to : ℕ) → ℕ
 second_register size a b to = if is_loaded size b then second_target size a to else register_at b
 
 -- Of R27 and `to`, the one that does not hold the second argument, and the other.
 abbrev pub free_of : (y to : ℕ) → ℕ
-free_of y to = if y == 27 then to else 27
+free_of y to = if y == ADDRESS then to else ADDRESS
 
 abbrev pub other_of : (y to : ℕ) → ℕ
-other_of y to = if y == 27 then 27 else to
+other_of y to = if y == ADDRESS then ADDRESS else to
 
 -- ---- forms
 -- one instruction whose low bytes are those of the result
@@ -153,7 +154,7 @@ chosen size x b to =
 
 abbrev pub select_code : Size → (x : ℕ) → Arg → (to : ℕ) → List AlphaInstr
 select_code Quad x b to = chosen Quad x b to
-select_code size x b to = narrow size x 27 ∷ (chosen size 27 b to ++ (narrow size to to ∷ []))
+select_code size x b to = narrow size x ADDRESS ∷ (chosen size ADDRESS b to ++ (narrow size to to ∷ []))
 
 -- ---- the whole
 -- behind the words of the first argument
@@ -166,4 +167,4 @@ behind_first op size a b to =
     load_code size b (second_target size a to) ++ binary_code op size (first_register size a) (second_register size a b to) to
 
 abbrev pub compute_code : MicroOp → Size → (a b : Arg) (to : ℕ) → List AlphaInstr
-compute_code op size a b to = load_code size a 27 ++ behind_first op size a b to
+compute_code op size a b to = load_code size a ADDRESS ++ behind_first op size a b to
