@@ -58,7 +58,7 @@ module _ (pages : Pages) where
   abbrev delivers : VaxState
   delivers = delivering Breakpoint (state 0 0x202 0x20C)
 
-  takes : turn setting behind ≡ Went (record behind { mode = Interprets delivers []; boundary = delivers; retired = 2; steps = 2; ties = 1 })
+  takes : turn setting behind ≡ Went (record behind { mode = Interprets delivers []; boundary = delivers; retired = 2; steps = 2; interpreted = 1 })
   takes = refl
 
   -- ---- a fault in translated code, with that handler

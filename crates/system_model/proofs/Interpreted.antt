@@ -12,7 +12,7 @@ use Rattle.memory_core.specs.declared.entry.Entry.{Entry}
 use Rattle.memory_core.specs.declared.entry.Kind.TheVariants as kinds
 use Rattle.memory_core.specs.Bytes.{with_bytes}
 use Rattle.block_law.specs.Translations.{Meaning}
-use Rattle.system_model.specs.Interpreted.{ties}
+use Rattle.system_model.specs.Interpreted.{interpreted}
 use Rattle.system_model.specs.Processors.{New, Interprets, Ended, Processor, begun, all_held, turn, Went, entry_by, request_of, Reaches, Begins, Steps, Takes}
 use Rattle.system_model.specs.Settings.{Setting, goes_on}
 use Rattle.system_model.specs.declared.translation.End.TheVariants.{Raised}
@@ -70,7 +70,7 @@ module _ (pages : Pages) where
   writes = entry_by (request_of 0 0 (byte (Write 0x42))) 0x4100 true
 
   abbrev behind : Processor
-  behind = record (begun 0 (state_at 0x202)) { mode = Interprets (state_at 0x202) []; retired = 1; steps = 3; ties = 3 }
+  behind = record (begun 0 (state_at 0x202)) { mode = Interprets (state_at 0x202) []; retired = 1; steps = 3; interpreted = 3 }
 
   -- two references and its end are three steps
   increments : Reaches ranged (begun 0 (state_at 0x200)) 3 (writes ∷ reads ∷ []) behind
@@ -82,7 +82,7 @@ module _ (pages : Pages) where
 
   -- the fault behind it is a fourth, and leaves the boundary
   abbrev ended : Processor
-  ended = record behind { mode = Ended (Raised Breakpoint); steps = 4; ties = 4 }
+  ended = record behind { mode = Ended (Raised Breakpoint); steps = 4; interpreted = 4 }
 
   faults : turn ranged behind ≡ Went ended
   faults = refl
@@ -91,17 +91,17 @@ module _ (pages : Pages) where
   abbrev begins : (thread : ℕ) → Option VaxState
   begins thread = Some (state_at 0x200)
 
-  before_it : ties ranged begins 0 0 [] New ≡ 0
+  before_it : interpreted ranged begins 0 0 [] New ≡ 0
   before_it = refl
 
-  behind_its_read : ties ranged begins 0 0 (0x41 ∷ []) (Interprets (state_at 0x200) (0x41 ∷ [])) ≡ 1
+  behind_its_read : interpreted ranged begins 0 0 (0x41 ∷ []) (Interprets (state_at 0x200) (0x41 ∷ [])) ≡ 1
   behind_its_read = refl
 
-  behind_it : ties ranged begins 0 1 (0x41 ∷ 0 ∷ []) behind.mode ≡ 3
+  behind_it : interpreted ranged begins 0 1 (0x41 ∷ 0 ∷ []) behind.mode ≡ 3
   behind_it = refl
 
-  with_the_fault : ties ranged begins 0 1 (0x41 ∷ 0 ∷ []) ended.mode ≡ 4
+  with_the_fault : interpreted ranged begins 0 1 (0x41 ∷ 0 ∷ []) ended.mode ≡ 4
   with_the_fault = refl
 
-  translated : ties mapped begins 0 1 (0x41 ∷ 0 ∷ []) (Interprets (state_at 0x202) []) ≡ 0
+  translated : interpreted mapped begins 0 1 (0x41 ∷ 0 ∷ []) (Interprets (state_at 0x202) []) ≡ 0
   translated = refl

@@ -20,14 +20,15 @@ use Rattle.vax_form.specs.declared.state.VaxState.{VaxState}
 use Rattle.system_model.specs.Settings.{Setting}
 use Rattle.vax_form.specs.State.{with_pending}
 use Rattle.vax_form.specs.declared.state.Pending.TheVariants.{Resume}
-use Rattle.system_model.specs.Steps.{Last, Comes, Fails, Place, Inside, Lands, Leaves, Next, Moves, Wants, Stuck, Moment, state_at, behind, with_r0, is_defined, accesses, raised, served, called, does, next_by, next, settled_last, exchanged}
-use Rattle.system_model.specs.Processors.{Mode, New, Runs, Interprets, Ended, Processor, moment_of, stepped, tied, left, placed, Turn, Went, Asks, Over, Lost, alpha_turn, tie_turn, turn_in, mode_of, turn}
+use Rattle.system_model.specs.Steps.{Last, Comes, Fails, Place, Inside, Lands, Leaves, Next, Moves, Wants, Moment, state_at, behind, with_r0, is_defined, accesses, raised, served, called, does, next_by, next, settled_last, exchanged}
+use Rattle.system_model.specs.Steps as step
+use Rattle.system_model.specs.Processors.{Mode, New, Runs, Interprets, Ended, Processor, moment_of, stepped, tied, left, placed, Turn, Went, Asks, Over, Stuck, alpha_turn, tie_turn, turn_in, mode_of, turn}
 
 -- the request of a step is its thread's
 abbrev IsOfThread : ℕ → Next → Type 0
 IsOfThread thread (Moves place) = Unit {0}
 IsOfThread thread (Wants request on) = request.processor ≡ thread
-IsOfThread thread Stuck = Unit {0}
+IsOfThread thread step.Stuck = Unit {0}
 
 of_access : (b : Bool) (setting : Setting) (m : Moment) (i : AlphaInstr) (a : AlphaAccess) (c : Alpha) → IsOfThread m.thread (accesses b setting m i a c)
 of_access true setting m i a c = refl
@@ -103,12 +104,12 @@ abbrev pub Makes : Processor → Turn → Type 0
 Makes p (Went q) = IsStep p q
 Makes p (Asks request on) = (request.processor ≡ p.thread) × ((before : ℕ) (success : Bool) → IsStep p (on before success))
 Makes p Over = Unit {0}
-Makes p Lost = Unit {0}
+Makes p Stuck = Unit {0}
 
 alpha_makes : (setting : Setting) (p : Processor) (to : Next) → IsOfThread p.thread to → Makes p (alpha_turn setting p to)
 alpha_makes setting p (Moves to) h = placed_step setting p to
 alpha_makes setting p (Wants request on) h = (h, λ before success. placed_step setting p (on before success))
-alpha_makes setting p Stuck h = tt
+alpha_makes setting p step.Stuck h = tt
 
 tie_makes : (setting : Setting) (p : Processor) (state : VaxState) (replies : List ℕ) (a : Answer) → Makes p (tie_turn setting p state replies a)
 tie_makes setting p state replies (trees.Wants q) = (refl, λ before success. record { thread = refl; steps = refl })

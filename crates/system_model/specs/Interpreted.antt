@@ -33,15 +33,15 @@ made_in pages (Fault x) w = 0
 made_in pages (Ends e) w = 0
 
 -- those of an instruction that is interpreted
-abbrev pub ties_by : Setting → (thread : ℕ) → Life → VaxState → List ℕ → ℕ
-ties_by setting thread Runs state w = if is_translated setting thread state then 0 else made_in setting.meaning.pages (setting.meaning.moment thread state) w
-ties_by setting thread Exited state w = 0
-ties_by setting thread (Trapped kind) state w = 0
+abbrev pub interpreted_by : Setting → (thread : ℕ) → Life → VaxState → List ℕ → ℕ
+interpreted_by setting thread Runs state w = if is_translated setting thread state then 0 else made_in setting.meaning.pages (setting.meaning.moment thread state) w
+interpreted_by setting thread Exited state w = 0
+interpreted_by setting thread (Trapped kind) state w = 0
 
 -- those of the instruction at which a thread stands, where it is interpreted
-abbrev pub ties_in : Setting → (thread : ℕ) → Option Retired → ℕ
-ties_in setting thread None = 0
-ties_in setting thread (Some here) = ties_by setting thread here.life here.state here.left
+abbrev pub interpreted_in : Setting → (thread : ℕ) → Option Retired → ℕ
+interpreted_in setting thread None = 0
+interpreted_in setting thread (Some here) = interpreted_by setting thread here.life here.state here.left
 
 -- ---- ends
 -- one for the end of an instruction that is interpreted
@@ -62,18 +62,18 @@ has_raised mode = false
 
 -- ---- steps
 -- the references and ends of the interpreted ones among the first n instructions of the driven thread
-abbrev pub ties_of : Setting → (starts : ℕ → Option VaxState) → (thread n : ℕ) → List ℕ → ℕ
-ties_of setting starts thread zero w = 0
-ties_of setting starts thread (suc n) w =
-    ties_of setting starts thread n w
-    + (end_in setting thread (reached (threads_of setting starts) thread n w) + ties_in setting thread (reached (threads_of setting starts) thread n w))
+abbrev pub interpreted_of : Setting → (starts : ℕ → Option VaxState) → (thread n : ℕ) → List ℕ → ℕ
+interpreted_of setting starts thread zero w = 0
+interpreted_of setting starts thread (suc n) w =
+    interpreted_of setting starts thread n w
+    + (end_in setting thread (reached (threads_of setting starts) thread n w) + interpreted_in setting thread (reached (threads_of setting starts) thread n w))
 
 -- the references of the instruction behind them, and its fault where the processor reported one
-abbrev pub ties_open : Setting → (thread : ℕ) → Option Retired → Mode → ℕ
-ties_open setting thread here mode = ties_in setting thread here + (if has_raised mode then end_in setting thread here else 0)
+abbrev pub interpreted_open : Setting → (thread : ℕ) → Option Retired → Mode → ℕ
+interpreted_open setting thread here mode = interpreted_in setting thread here + (if has_raised mode then end_in setting thread here else 0)
 
 -- the interpreted steps of a driven thread, after so many instructions and with these replies: over its instructions that
 -- are interpreted, the references made, and one for each end that the processor reported
-abbrev pub ties : Setting → (starts : ℕ → Option VaxState) → (thread retired : ℕ) → (replies : List ℕ) → Mode → ℕ
-ties setting starts thread retired replies mode =
-    ties_of setting starts thread retired replies + ties_open setting thread (reached (threads_of setting starts) thread retired replies) mode
+abbrev pub interpreted : Setting → (starts : ℕ → Option VaxState) → (thread retired : ℕ) → (replies : List ℕ) → Mode → ℕ
+interpreted setting starts thread retired replies mode =
+    interpreted_of setting starts thread retired replies + interpreted_open setting thread (reached (threads_of setting starts) thread retired replies) mode

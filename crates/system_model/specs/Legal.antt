@@ -9,7 +9,7 @@ use Rattle.memory_core.specs.Order.{own, Meets}
 use Rattle.vax_form.specs.declared.state.VaxState.{VaxState}
 use Rattle.system_model.specs.declared.translation.End.TheVariants.{Spent}
 use Rattle.system_model.specs.Settings.{Setting}
-use Rattle.system_model.specs.Processors.{Mode, New, Runs, Interprets, Ended, Processor, Turn, Went, Asks, Over, Lost, begun, turn, Reaches}
+use Rattle.system_model.specs.Processors.{Mode, New, Runs, Interprets, Ended, Processor, Turn, Went, Asks, Over, Stuck, begun, turn, Reaches}
 
 -- the states in which the threads of an image start
 abbrev pub starts : ImageValue → (thread : ℕ) → Option VaxState
@@ -31,7 +31,7 @@ abbrev pub IsAsking : Turn → Type 0
 IsAsking (Asks request on) = Unit {0}
 IsAsking (Went p) = ⊥
 IsAsking Over = ⊥
-IsAsking Lost = ⊥
+IsAsking Stuck = ⊥
 
 -- it made as many steps as its budget has, or its next step asks and the history is full
 pub record IsSpent (setting : Setting) (budget limit : ℕ) (entries : List Entry) (was p : Processor) : Type 0 where

@@ -1,5 +1,6 @@
 -- Processors: each runs one thread, by Alpha steps in translated code and by interpreted steps elsewhere.
 use Rattle.std.specs.Prelude.{◌≡◌, ℕ, zero, suc, ◌*◌, ◌/◌, ◌%◌, ◌==◌, Bool, true, List, [], ◌∷◌, ◌++◌, Option, Some, None, nat_lt, slice_index, if◌then◌else◌}
+use Rattle.alpha_encode.specs.declared.registers.TheConstants.{NEGATIVE, IS_ZERO, OVERFLOW, CARRY, STATUS}
 use Rattle.alpha_meaning.specs.State.{Alpha, Regs, at_place}
 use Rattle.memory_core.specs.declared.entry.Entry.{Entry}
 use Rattle.memory_core.specs.declared.entry.Kind.{Kind}
@@ -21,7 +22,8 @@ use Rattle.system_model.specs.declared.translation.End.{End}
 use Rattle.system_model.specs.declared.translation.End.TheVariants as ends
 use Rattle.system_model.specs.Quadwords.{quad_address, change_of, reply_found}
 use Rattle.system_model.specs.Settings.{Setting, goes_on}
-use Rattle.system_model.specs.Steps.{Last, Comes, Fails, Place, Inside, Lands, Leaves, Next, Moves, Wants, Stuck, Moment, next, settled_last}
+use Rattle.system_model.specs.Steps.{Last, Comes, Fails, Place, Inside, Lands, Leaves, Next, Moves, Wants, Moment, next, settled_last}
+use Rattle.system_model.specs.Steps as step
 
 -- what a processor is at
 pub data Mode : Type 0 where
@@ -42,7 +44,7 @@ pub record Processor : Type 0 where
   pub held : Flags
   pub retired : ℕ
   pub steps : ℕ
-  pub ties : ℕ
+  pub interpreted : ℕ
 
 -- each code is held in its register
 abbrev pub all_held : Flags
@@ -53,11 +55,11 @@ all_held = record { n = true; z = true; v = true; c = true }
 unfoldable pub registers_of : VaxState → Regs
 registers_of state n =
     if nat_lt n 15 then sign_extended (slice_index state.r n) 32
-    else if n == 16 then state.psw / 8 % 2
-    else if n == 17 then state.psw / 4 % 2
-    else if n == 18 then state.psw / 2 % 2
-    else if n == 19 then state.psw % 2
-    else if n == 20 then state.psw / 16 % 16 * 16
+    else if n == NEGATIVE then state.psw / 8 % 2
+    else if n == IS_ZERO then state.psw / 4 % 2
+    else if n == OVERFLOW then state.psw / 2 % 2
+    else if n == CARRY then state.psw % 2
+    else if n == STATUS then state.psw / 16 % 16 * 16
     else 0
 
 -- the mode at a boundary, with these registers in Alpha code
@@ -71,7 +73,7 @@ mode_at setting thread state regs = mode_by (goes_on setting thread state) state
 
 -- the processor of a thread that starts so: it has retired nothing
 abbrev pub begun : (thread : ℕ) → VaxState → Processor
-begun thread start = record { thread = thread; mode = New; boundary = start; held = all_held; retired = 0; steps = 0; ties = 0 }
+begun thread start = record { thread = thread; mode = New; boundary = start; held = all_held; retired = 0; steps = 0; interpreted = 0 }
 
 -- what its steps of Alpha code know of it
 abbrev pub moment_of : Processor → Moment
@@ -83,7 +85,7 @@ stepped p = record p { steps = suc p.steps }
 
 -- one more interpreted step
 abbrev pub tied : Processor → Processor
-tied p = record p { steps = suc p.steps; ties = suc p.ties }
+tied p = record p { steps = suc p.steps; interpreted = suc p.interpreted }
 
 -- it retires its instruction and arrives at a boundary
 abbrev pub arrived : Setting → Processor → VaxState → (held : Flags) → Regs → Processor
@@ -110,13 +112,13 @@ pub data Turn : Type 0 where
   -- it has ended
   Over : Turn
   -- it has no step
-  Lost : Turn
+  Stuck : Turn
 
 -- a turn in Alpha code is one step of it
 abbrev pub alpha_turn : Setting → Processor → Next → Turn
 alpha_turn setting p (Moves place) = Went (placed setting (stepped p) place)
 alpha_turn setting p (Wants request on) = Asks request (λ before success. placed setting (stepped p) (on before success))
-alpha_turn setting p Stuck = Lost
+alpha_turn setting p step.Stuck = Stuck
 
 -- ---- references as accesses
 -- the kind of access that an interpreted reference makes
@@ -149,7 +151,7 @@ tie_turn setting p state replies (trees.Comes e rest) = Went (left setting (tied
 
 -- a turn in each mode. The instruction's tree is answered with its replies so far
 abbrev pub turn_in : Setting → Processor → Mode → Turn
-turn_in setting p New = Lost
+turn_in setting p New = Stuck
 turn_in setting p (Runs alpha) = alpha_turn setting p (next setting (moment_of p) alpha)
 turn_in setting p (Interprets state replies) = tie_turn setting p state replies (answer setting.meaning.pages (setting.meaning.moment p.thread state) replies)
 turn_in setting p (Ended end) = Over

@@ -4,6 +4,8 @@ use Rattle.std.specs.Prelude.{ℕ, ◌+◌, ◌%◌, ◌^◌, ◌==◌, ◌&&◌
 use Rattle.vt_words.specs.Quad.{sign_extended}
 use Rattle.address_map.specs.Pairs.{address_at}
 use Rattle.alpha_encode.specs.declared.instr.AlphaInstr.{AlphaInstr}
+use Rattle.alpha_encode.specs.declared.registers.TheConstants.{TEMPORARIES}
+use Rattle.service_codes.specs.declared.TheConstants.{EXIT, PUT, GET, THREAD, HANDLER, RESUME}
 use Rattle.alpha_meaning.specs.declared.access.AlphaAccess.{AlphaAccess}
 use Rattle.alpha_meaning.specs.declared.access.AlphaKind.{AlphaKind}
 use Rattle.alpha_meaning.specs.declared.access.AlphaKind.TheVariants as alpha
@@ -144,20 +146,19 @@ raised (Some exception) = Moves (Leaves (Fails exception))
 abbrev pub exchanged : VaxState → VaxState
 exchanged state = with_register 0 state.handler (with_handler (register 0 state) state)
 
--- services: 1 ends the thread, 2 puts out the low byte of R0, 3 gets an input byte into R0, 4 tells the thread's number
--- in R0, and any other code puts 0 there
+-- each service, by its code; any other code puts 0 into R0
 abbrev pub served : Setting → Moment → (code : ℕ) → Rules → Alpha → Next
 served setting moment code rules c =
-    if code == 1 then Moves (Leaves (Comes (Exit (state_at moment.boundary c.regs (target c.regs) rules moment.held))))
-    else if code == 2
+    if code == EXIT then Moves (Leaves (Comes (Exit (state_at moment.boundary c.regs (target c.regs) rules moment.held))))
+    else if code == PUT
     then Wants (record { processor = moment.thread; retired = moment.retired; kind = kinds.Put; quad = 0; change = Byte (c.regs 0 % 256) })
     (λ before success. behind setting moment c c.regs)
-    else if code == 3
+    else if code == GET
     then Wants (record { processor = moment.thread; retired = moment.retired; kind = kinds.Get; quad = 0; change = Nothing })
     (λ before success. behind setting moment c (with_r0 c.regs before))
-    else if code == 4 then Moves (behind setting moment c (with_r0 c.regs moment.thread))
-    else if code == 5 then Moves (Leaves (Comes (Finish (exchanged (state_at moment.boundary c.regs (target c.regs) rules moment.held)))))
-    else if code == 6 then Moves (Leaves (Comes (Finish (with_pending Resume (state_at moment.boundary c.regs (target c.regs) rules moment.held)))))
+    else if code == THREAD then Moves (behind setting moment c (with_r0 c.regs moment.thread))
+    else if code == HANDLER then Moves (Leaves (Comes (Finish (exchanged (state_at moment.boundary c.regs (target c.regs) rules moment.held)))))
+    else if code == RESUME then Moves (Leaves (Comes (Finish (with_pending Resume (state_at moment.boundary c.regs (target c.regs) rules moment.held)))))
     else Moves (behind setting moment c (with_r0 c.regs 0))
 
 -- each call of the PALcode. 80, 82, 83 and 84 need a point. Looking up and switching arrive at the address in R26, with
@@ -165,10 +166,10 @@ served setting moment code rules c =
 abbrev pub called : Setting → Moment → Call → Option Point → Alpha → Next
 called setting moment Probe (Some point) c =
     Moves (probed setting moment c point.write (first_bad setting.meaning.pages point.write (probe_address c.regs) (probe_count point c.regs)))
-called setting moment Serve (Some point) c = served setting moment (c.regs 21 % 2 ^ 16) point.rules c
+called setting moment Serve (Some point) c = served setting moment (c.regs TEMPORARIES % 2 ^ 16) point.rules c
 called setting moment Raise (Some point) c = raised (raised_at point.raises)
 called setting moment Arithmetic (Some point) c =
-    Moves (Leaves (Comes (Trap (c.regs 21 % 2 ^ 8) (state_at moment.boundary c.regs (target c.regs) point.rules (held_behind setting moment)))))
+    Moves (Leaves (Comes (Trap (c.regs TEMPORARIES % 2 ^ 8) (state_at moment.boundary c.regs (target c.regs) point.rules (held_behind setting moment)))))
 called setting moment LookUp point c = Moves (Leaves (Comes (Finish (state_at moment.boundary c.regs (target c.regs) all_ready moment.held))))
 called setting moment Switch point c = Moves (Leaves (Comes (Finish (state_at moment.boundary c.regs (target c.regs) all_ready moment.held))))
 called setting moment call point c = Stuck
