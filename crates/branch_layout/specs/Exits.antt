@@ -2,6 +2,8 @@
 -- Alpha Architecture Reference Manual, 4.3 "Control Instructions". The entry of the PALcode and the
 -- registers are this system's own: R26 holds a VAX address, and R27 is free.
 use Rattle.std.specs.Prelude.{ℕ, ◌+◌, ◌*◌, ◌^◌, ◌&&◌, nat_lt, nat_le, Bool, true, false, ℤ, pos, ◌-ℤ◌, List, [], ◌∷◌, Option, Some, None}
+use Rattle.alpha_encode.specs.declared.pal.TheConstants.{SWITCH}
+use Rattle.alpha_encode.specs.declared.registers.TheConstants.{TARGET, ADDRESS, ZERO}
 use Rattle.alpha_encode.specs.Halves.{load_high, load_low}
 use Rattle.alpha_encode.specs.declared.instr.AlphaInstr.{AlphaInstr}
 use Rattle.alpha_encode.specs.declared.instr.AlphaInstr.TheVariants.{Branch, Operate, Jump, Pal}
@@ -19,15 +21,15 @@ is_near word target = nat_le (word + 1) (target + 2 ^ 20) && nat_lt target (word
 
 -- a word that is never reached
 abbrev pub idle : AlphaInstr
-idle = Operate Bis 31 (Register 31) 31
+idle = Operate Bis ZERO (Register ZERO) ZERO
 
 -- a branch, or where the target is too far for one, a jump to four times its word number
 abbrev pub code_to : (near : Bool) → (word target : ℕ) → List AlphaInstr
-code_to true word target = Branch Br 31 (displacement word target) ∷ idle ∷ idle ∷ []
-code_to false word target = load_high 27 (4 * target) ∷ load_low 27 (4 * target) ∷ Jump 31 27 ∷ []
+code_to true word target = Branch Br ZERO (displacement word target) ∷ idle ∷ idle ∷ []
+code_to false word target = load_high ADDRESS (4 * target) ∷ load_low ADDRESS (4 * target) ∷ Jump ZERO ADDRESS ∷ []
 
 -- the exit that begins at that word and leads to that address: to the first word of its block, or where it has none to
 -- the interpreter
 abbrev pub exit_code : Option ℕ → (word address : ℕ) → List AlphaInstr
 exit_code (Some target) word address = code_to (is_near word target) word target
-exit_code None word address = load_high 26 address ∷ load_low 26 address ∷ Pal 0x86 ∷ []
+exit_code None word address = load_high TARGET address ∷ load_low TARGET address ∷ Pal SWITCH ∷ []
