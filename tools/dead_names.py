@@ -1,5 +1,5 @@
 #!/usr/bin/env python3
-"""Lists the definitions and lemmas that nothing cites, and the public items of each crate that no other crate uses."""
+"""Lists the definitions and lemmas that nothing cites, and the items that a crate gives out and no other crate names."""
 import collections
 import pathlib
 import re
@@ -22,6 +22,17 @@ def text_of(path):
 
 def files(crate, suffix):
     return [p for p in sorted(crate.rglob(f"*.{suffix}")) if "out" not in p.relative_to(crate).parts]
+
+
+def given_out(crate, path, name):
+    """Whether lib.rt gives the item out: in a public module, or by a `pub use`. Laws stand for themselves."""
+    if path.name == "laws.rt" or name.endswith(("_law", "_laws")) or name.startswith("laws_"):
+        return False
+    root = crate / "src" / "lib.rt"
+    text = "\n".join(text_of(root))
+    module = path.relative_to(crate / "src").with_suffix("").parts[0]
+    used = NAME.findall(" ".join(re.findall(r"pub use [^;]*;", text)))
+    return path == root or f"pub mod {module};" in text or name in used
 
 
 def main():
@@ -58,16 +69,16 @@ def main():
     for crate in crates:
         if (crate / "src" / "main.rt").exists():
             continue
-        others = "\n".join("\n".join(t) for p, t in lines.items() if crate not in p.parents and p.suffix == ".rt")
+        others = "\n".join("\n".join(t) for p, t in lines.items() if crate not in p.parents)
         words = set(NAME.findall(others))
         for path in files(crate, "rt"):
             for number, line in enumerate(lines[path], 1):
                 found = ITEM.match(line)
-                if found and found.group(1) not in words:
+                if found and found.group(1) not in words and given_out(crate, path, found.group(1)):
                     unused.append(f"{path.relative_to(ROOT)}:{number}: {found.group(1)}")
     print(f"cited by nothing: {len(dead)}")
     print("\n".join(dead))
-    print(f"public, and used by no other crate: {len(unused)}")
+    print(f"given out, and named by no other crate: {len(unused)}")
     print("\n".join(unused))
     return 1 if dead else 0
 

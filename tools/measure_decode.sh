@@ -1,19 +1,8 @@
 #!/usr/bin/env bash
 # Times 1,000,000 calls of decode_at in a scratch program, which is made, proved and built in a temporary copy.
 set -euo pipefail
-top=$(cd "$(dirname "$0")/.." && pwd)
-scratch=$(mktemp -d)
-trap 'rm -rf "$scratch"' EXIT
-
-mkdir -p "$scratch/crates/measure_decode/src"
-cp "$top/HANDLES" "$scratch/HANDLES"
-for crate in vax_form operand_specifiers vax_decode; do
-    cp -r "$top/crates/$crate" "$scratch/crates/$crate"
-    grep "^$crate:" "$top/crates.txt"
-done > "$scratch/crates.txt"
-echo "measure_decode: vax_decode vax_form" >> "$scratch/crates.txt"
-
-cat > "$scratch/crates/measure_decode/src/main.rt" <<'PROGRAM'
+. "$(dirname "$0")/scratch.sh"
+scratch "vax_decode vax_form" <<'PROGRAM'
 #![tactic(auto)]
 
 use std::alloc::{AllocError, Global};
@@ -64,6 +53,4 @@ fn main(rt: HostRuntime) -> io::Result<()> {
     println!(rt; "1000000 calls, {count} instructions: {time} ms")
 }
 PROGRAM
-
-cd "$scratch/crates/measure_decode"
 rt run | grep "instructions:"

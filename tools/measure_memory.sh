@@ -1,27 +1,11 @@
-#!/bin/sh
-# Measures the shared memory: as many accesses as it has room for; and a new memory of a small image, of one of 1 MB, and of a
+#!/usr/bin/env bash
+# Measures a memory of one owner: as many accesses as it has room for; and a new memory of a small image, of one of 1 MB, and of a
 # small one that ends at address 80000000, each the fastest of 20.
 # Usage: tools/measure_memory.sh [ACCESSES], in the repository. It proves, builds and runs a program in a copy.
-set -eu
-
+set -euo pipefail
 accesses=${1:-4194304}
-root=$(cd "$(dirname "$0")/.." && pwd)
-copy=$(mktemp -d)
-trap 'rm -rf "$copy"' EXIT
-
-mkdir "$copy/crates"
-for crate in vax_form image_file memory_core; do
-    cp -R "$root/crates/$crate" "$copy/crates/$crate"
-done
-grep -E '^(#|vax_form|image_file|memory_core)' "$root/crates.txt" > "$copy/crates.txt"
-echo 'measure: vax_form image_file memory_core anyhow' >> "$copy/crates.txt"
-
-program=$copy/crates/measure
-mkdir -p "$program/src" "$program/specs" "$program/proofs/work"
-: > "$program/specs/Lib.antt"
-: > "$program/proofs/Lib.antt"
-
-sed "s/ACCESSES/$accesses/" > "$program/src/main.rt" <<'END'
+. "$(dirname "$0")/scratch.sh"
+scratch "vax_form image_file memory_core anyhow" <<'PROGRAM'
 #![tactic(auto)]
 
 ghost use Rattle.std.specs.Prelude.{◌≡◌, IfOk};
@@ -123,9 +107,12 @@ fn main(rt: HostRuntime) -> Result<()> {
     println!(rt; "{entries} accesses, of which {made} succeed: {accesses} microseconds")?;
     Ok(())
 }
-END
-
-cat > "$program/proofs/work/Invariants.antt" <<'END'
+PROGRAM
+sed -i "s/ACCESSES/$accesses/" src/main.rt
+mkdir -p specs proofs/work
+: > specs/Lib.antt
+: > proofs/Lib.antt
+cat > proofs/work/Invariants.antt <<'PROOF'
 use Rattle.std.proofs.Common.{◌≡◌, ◌≤◌}
 use Rattle.measure.proofs.work.Given as goal
 
@@ -135,10 +122,9 @@ invariant-loop-n l = record {
     processors : l.memory.processors ≡ 16;
     made : l.made ≤ l.n;
   }
-END
+PROOF
 
-cd "$program"
-rt run > "$copy/log" 2>&1 || { tail -n 20 "$copy/log"; exit 1; }
+rt run > log 2>&1 || { tail -n 20 log; exit 1; }
 for turn in 1 2 3; do
     ./out/measure
 done
