@@ -15,20 +15,15 @@ mod memory;
 mod moves;
 mod operands;
 
-pub use codes::{
-    carry_of, finish, go_to, negative_of, overflow_of, set_all, set_by_result, set_codes, set_pc,
-    set_three, sign_of, trap_enabled, zero_of,
-};
+pub use codes::{go_to, set_codes, set_pc, sign_of};
 pub use cursor::Cursor;
 pub use evaluation::{
-    Evaluated, NOTHING, evaluate, evaluated_row, find, location_of_place, obtain, operands_from,
+    Evaluated, NOTHING, evaluated_row, find, location_of_place, obtain, operands_from,
     value_of_place,
 };
 pub use instructions::{body, operation_run};
 pub use meaning::next;
-pub use memory::{check, code_word, fetch, lock, low_bytes, read, write};
-pub use moves::{push, set_compared};
-pub use operands::{
-    Location, locate, modify_at, put, register_of, register_value, set_register_of, store,
-};
+pub use memory::{check, code_word, fetch, low_bytes, read, write};
+pub use moves::set_compared;
+pub use operands::{Location, register_of, set_register_of, store};
 pub use vax_form::{Outcome, Pick, RefKind, Reference, VaxState};
