@@ -15,20 +15,12 @@ mod searching;
 mod standing;
 
 pub use bytes::{beside, beyond, check_string, fetch_byte, read_byte, write_byte};
-pub use calls::{
-    aligned, call_general, call_stack, check_frame, enter, entry_mask, entry_psw, frame_status,
-    release, return_from_procedure,
-};
+pub use calls::{call_general, call_stack, return_from_procedure};
 pub use indexing::index;
 pub use instructions::{long_body, long_operation_of, long_operation_run};
 pub use meaning::next_long;
-pub use moving::{
-    beginning, fill_bytes, move_bytes, move_characters, move_characters_filled, set_moved,
-};
+pub use moving::{beginning, fill_bytes, move_bytes, set_moved};
 pub use pending::{frame_is_allowed, next_pending, push_exception, resume, settle};
-pub use registers::{
-    check_push, check_registers, is_in_mask, pop, pop_by_mask, pop_checked, pop_register,
-    push_by_mask, push_checked,
-};
-pub use searching::{compare_bytes, compare_characters, scan_bytes, scan_characters, stops_at};
+pub use registers::{pop_by_mask, push_by_mask};
+pub use searching::{compare_bytes, scan_bytes, stops_at};
 pub use standing::laws_of_tree_at;
