@@ -1,4 +1,7 @@
 // One instruction, from its bytes to its end.
+ghost use Rattle.std.specs.Prelude.{IfOk};
+ghost use Rattle.vax_form.specs.Grammar.{IsSpelled};
+
 use crate::case::Case;
 use crate::interpreted::Interpreted;
 use crate::memory::Memory;
@@ -55,7 +58,7 @@ fn code_pages(alloc: Global, memory: &Memory) -> Result<Pages, AllocError> {
 }
 
 /// Pages that may all be written.
-fn writable_pages(alloc: Global) -> Result<Pages, AllocError> {
+pub fn writable_pages(alloc: Global) -> Result<Pages, AllocError> {
     let ranges = vec![in alloc;
         PageRange {
             first: 0,
@@ -90,13 +93,28 @@ pub fn outcome(state: &VaxState, instr: &Instr, pages: &Pages, replies: &[u64]) 
     }
 }
 
+/// The instruction at an address of these pages.
+fn instr_at(pages: &Pages, pc: u32) -> Result<Instr>
+    ensures { IfOk result IsSpelled }
+{
+    match decode_at(pages, pc) {
+        Decoded::Instr(instr) => Ok(instr),
+        _ => bail!("no instruction at {pc:X}"),
+    }
+}
+
+/// The instruction at an address.
+pub fn instr_of(alloc: Global, memory: &Memory, pc: u32) -> Result<Instr>
+    ensures { IfOk result IsSpelled }
+{
+    instr_at(&code_pages(alloc, memory)?, pc)
+}
+
 /// Decodes the instruction at the PC of a case, and runs it to its end.
 pub fn ending_of(alloc: Global, case: &Case) -> Result<Ending> {
     let mut memory = case.memory.copy()?;
     let code = code_pages(alloc, &memory)?;
-    let Decoded::Instr(instr) = decode_at(&code, case.before.pc) else {
-        bail!("no instruction at {:X}", case.before.pc);
-    };
+    let instr = instr_at(&code, case.before.pc)?;
     let pages = if reads_code(instr.opcode) {
         code
     } else {

@@ -1,24 +1,30 @@
 //! Runs the instructions of data/instructions.txt through the decoder and the meaning of the VAX instructions, and says
-//! for each family how many of them end as in that file, where a simulator's answers stand, and a few worked by hand.
+//! for each family how many of them end as in that file, where a simulator's answers stand, and a few worked by hand. It
+//! runs the micro programs of those that have one, too, and counts the words of those of data/words.txt.
 //!
 //! `case` reads a line, `memory` answers references, `ending` runs one instruction, and `difference` compares. Beside it
 //! `interpreted` goes one reference at a time, and comes to the same references in order and the same end. `stacks` has
-//! instructions that push and pop at the ends of a page, worked from the manual, and `programs` short programs.
+//! instructions that push and pop at the ends of a page, worked from the manual, and `programs` short programs. `lowered`
+//! runs micro programs, and `words` counts their words.
 #![tactic(auto)]
 
 mod case;
 mod difference;
 mod ending;
 mod interpreted;
+mod lowered;
 mod memory;
 mod programs;
 mod stacks;
+mod words;
 
 use crate::case::Case;
 use crate::difference::difference;
 use crate::ending::ending_of;
+use crate::lowered::check_programs_of_cases;
 use crate::programs::check_programs;
 use crate::stacks::check_stacks;
+use crate::words::check_words;
 use anyhow::{Context, Result};
 use row_tally::{Families, Tally, rows};
 use std::fs;
@@ -50,6 +56,9 @@ fn run(rt: &(impl Print + AllocGlobal), table: &str) -> Result<Tally> {
 fn main(rt: HostRuntime) -> Result<()> {
     let text = fs::read_to_string(&rt, "instructions.txt").context("instructions.txt")?;
     let mut all = run(&rt, text.as_str())?;
+    all.add(check_programs_of_cases(&rt, text.as_str())?);
+    let table = fs::read_to_string(&rt, "words.txt").context("words.txt")?;
+    all.add(check_words(&rt, table.as_str())?);
     all.add(check_stacks(&rt)?);
     all.add(check_programs(&rt)?);
     all.verdict()
