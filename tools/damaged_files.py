@@ -9,6 +9,7 @@ import concurrent.futures
 import os
 import pathlib
 import random
+import signal
 import struct
 import subprocess
 import sys
@@ -84,24 +85,42 @@ def damaged(rng, files):
     return bytes(data)
 
 
+class Runner:
+    """Runs the program on one file after the other, in a folder of its own. A new process that is made in this way costs less than one
+    of `subprocess`."""
+
+    def __init__(self, program, room):
+        self.program, self.name, self.out = program, os.path.join(room, "file"), os.path.join(room, "out")
+        self.words = [program, "run", "--budget", "10000", self.name]
+        write = os.O_WRONLY | os.O_CREAT | os.O_TRUNC
+        self.streams = [(os.POSIX_SPAWN_OPEN, 0, os.devnull, os.O_RDONLY, 0),
+                        (os.POSIX_SPAWN_OPEN, 1, self.out, write, 0o600),
+                        (os.POSIX_SPAWN_OPEN, 2, os.devnull, os.O_WRONLY, 0)]
+
+    def run(self, data):
+        """The status, and whether anything was written to standard output."""
+        with open(self.name, "wb") as file:
+            file.write(data)
+        child = os.posix_spawn(self.program, self.words, os.environ, file_actions=self.streams)
+        signal.signal(signal.SIGALRM, lambda *_: os.kill(child, signal.SIGKILL))
+        signal.alarm(SECONDS)
+        _, ended = os.waitpid(child, 0)
+        signal.alarm(0)
+        return os.waitstatus_to_exitcode(ended), os.stat(self.out).st_size > 0
+
+
 def runs(program, files, seed, count):
-    """How often each status came, and the files that were not answered as they have to be."""
+    """How often each status came, and the files that were not answered as they have to be. The status of a run that a signal ended, as
+    one that does not end by itself, is below 0."""
     rng = random.Random(seed)
     statuses, wrong = collections.Counter(), []
     with tempfile.TemporaryDirectory(dir="/dev/shm") as room:
-        name = os.path.join(room, "file")
+        runner = Runner(program, room)
         for _ in range(count):
             data = damaged(rng, files)
-            with open(name, "wb") as file:
-                file.write(data)
-            try:
-                run = subprocess.run([program, "run", "--budget", "10000", name], stdin=subprocess.DEVNULL,
-                                     capture_output=True, timeout=SECONDS, check=False)
-                status, output = run.returncode, run.stdout
-            except subprocess.TimeoutExpired:
-                status, output = "no end", b""
+            status, has_output = runner.run(data)
             statuses[status] += 1
-            if status not in STATUSES or (output and status not in RAN):
+            if status not in STATUSES or (has_output and status not in RAN):
                 wrong.append((status, data.hex()))
     return statuses, wrong
 

@@ -6,9 +6,9 @@ time by the clock by 1, 2 and 4 processors.
 tools/measure_generate.py PROGRAM
 
 Each call has to end with status 0 and to write just the lines that the script works out for N. The parts are told by calls over
-the same image as a file: `translate` reads, finds, translates and writes; `run` with a budget of no step makes ready besides, in
-the place of writing; and `run` runs besides. What is left of `generate` is making the image and summing its memory. Memory is the
-most that was resident, and never less than what the script itself has."""
+the same image as a file: `translate` reads, finds, translates and writes, and `list` lists in the place of writing; `run` with a
+budget of no step makes ready in that place; and `run` runs besides. What is left of `generate` is making the image and summing its
+memory. Memory is the most that was resident, and never less than what the script itself has."""
 import dataclasses
 import functools
 import os
@@ -133,13 +133,14 @@ class Program:
         return call
 
     def parts(self, number):
-        """The processors' seconds of finding and translating, of making ready and of running."""
+        """The processors' seconds of starting, of `translate` and of `list` besides, of making ready and of running, and of all of `run`."""
         self.image.write_bytes(image(number))
         start = self.fastest(["run", str(self.target.with_name("absent"))], 2).processor
         translated = self.fastest(["translate", str(self.image), str(self.target)], OK).processor
+        listed = self.fastest(["list", str(self.image)], OK).processor
         ready = self.fastest(["run", str(self.image), "--budget", "0"], SPENT).processor
         run = self.fastest(["run", str(self.image)], OK).processor
-        return start, translated - start, ready - translated, run - ready, run
+        return start, translated - start, listed - start, ready - translated, run - ready, run
 
 
 def ratio(value, half):
@@ -160,8 +161,8 @@ def growth(program):
 
 
 def division(program):
-    print("\n| N | start | read, find, translate, write | make ready less writing | run | all of `run` | `generate` less `run` |")
-    print("|---|---|---|---|---|---|---|")
+    print("\n| N | start | read, find, translate, write | read, find, translate, list | make ready less writing | run | all of `run` | `generate` less `run` |")
+    print("|---|---|---|---|---|---|---|---|")
     for number in NUMBERS:
         parts = program.parts(number)
         rest = program.generate(number).processor - parts[-1]
