@@ -1,8 +1,11 @@
 #!/usr/bin/env python3
 """Refuses each growth of the built program's memory in turn: for a run of the sample image, a run of an image with 32 threads,
 `translate` and `list`. Each such call has to end with status 9, `no memory` on standard error and nothing on standard output or
-under the second name. Then, that a run takes no memory once its processors step: it takes as many growths as one whose budget is
-one step, and succeeds where every growth behind those would be refused.
+under the second name, but in two cases. A list that is made from an iterator asks for as many places as the iterator hints, and
+where these are refused, for one: there the call has to end so where both are refused. And what a new thread was to do is done by the
+thread at hand where none can be made, so these growths change nothing of what a call leaves. Then, that a run takes no memory once
+its processors step: it takes as many growths as one whose budget is one step, and succeeds where every growth behind those would be
+refused.
 
 tools/refused_growth.py PROGRAM
 
@@ -15,6 +18,7 @@ import sys
 import tempfile
 
 PAGE = 512
+THREADS = 32
 WANT_OF_MEMORY = 9
 LINE = "no memory\n"
 SAMPLE = bytes.fromhex("D00550BC02BC01")
@@ -94,7 +98,7 @@ class Bench:
         source.write_text(SHIM)
         subprocess.run(["gcc", "-shared", "-fPIC", "-O1", "-w", "-o", self.library, source, "-ldl"], check=True)
         (self.room / "sample").write_bytes(image(1, 1, SAMPLE))
-        (self.room / "threads").write_bytes(image(2, 32, SAMPLE))
+        (self.room / "threads").write_bytes(image(2, THREADS, SAMPLE))
 
     def call(self, words, first=None, last=None):
         """Status, output, report and growths of a call in which the growths from the first to the last are refused."""
@@ -110,18 +114,31 @@ class Bench:
         return run.returncode, run.stdout, run.stderr.decode(), growths
 
 
-def refuse_each(bench, name, words):
-    """How many growths a call takes; each is refused in turn."""
-    status, _, report, growths = bench.call(words)
+def is_refused(bench, call):
+    """Whether a call ended for want of memory and left nothing."""
+    return call[:3] == (WANT_OF_MEMORY, b"", LINE) and not (bench.room / "out").exists()
+
+
+def refuse_each(bench, name, words, threads):
+    """How many growths a call takes; each is refused in turn. The image has so many threads to be run."""
+    whole = bench.call(words)
+    status, _, report, growths = whole
     if status != 0:
         sys.exit(f"{name}: status {status}: {report}")
-    wrong = 0
+    once, twice, threadless, wrong = 0, 0, 0, 0
     for number in range(growths):
-        status, output, report, _ = bench.call(words, number)
-        if (status, output, report) != (WANT_OF_MEMORY, b"", LINE) or (bench.room / "out").exists():
-            print(f"{name}: growth {number} refused: status {status}, output {output!r}, report {report!r}")
+        found = bench.call(words, number)
+        if is_refused(bench, found):
+            once += 1
+        elif found[:3] == whole[:3] and is_refused(bench, bench.call(words, number, number + 1)):
+            twice += 1
+        elif found[:3] == whole[:3] and threadless < threads - 1:
+            threadless += 1
+        else:
+            print(f"{name}: growth {number} refused: {found[:3]}")
             wrong += 1
-    print(f"{name}: {growths} growths, each refused in turn: {growths - wrong} calls end with status 9 and leave nothing")
+    print(f"{name}: {growths} growths: where it is refused {once} calls end with status 9 and leave nothing, {twice} where the next one "
+          f"is refused too; {threadless} are new threads")
     return wrong
 
 
@@ -139,9 +156,9 @@ def main():
     with tempfile.TemporaryDirectory() as room:
         bench = Bench(sys.argv[1], room)
         wrong = 0
-        for name, words in [("run", ["run", "sample"]), ("run of 32 threads", ["run", "threads"]),
-                            ("translate", ["translate", "sample", "out"]), ("list", ["list", "sample"])]:
-            wrong += refuse_each(bench, name, words)
+        for name, words, threads in [("run", ["run", "sample"], 1), ("run of 32 threads", ["run", "threads"], THREADS),
+                                     ("translate", ["translate", "sample", "out"], 1), ("list", ["list", "sample"], 1)]:
+            wrong += refuse_each(bench, name, words, threads)
         wrong += takes_none_later(bench, "run", ["run", "sample"])
         wrong += takes_none_later(bench, "run of 32 threads", ["run", "threads"])
     return 1 if wrong else 0
