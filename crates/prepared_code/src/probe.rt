@@ -1,6 +1,7 @@
 // A probe whose bytes may all be used.
 ghost use Rattle.std.specs.Prelude.{◌≡◌, ◌<◌, Some, true, false};
 ghost use Rattle.alpha_encode.specs.declared.instr.AlphaInstr.TheVariants.{Pal};
+ghost use Rattle.alpha_encode.specs.declared.pal.TheConstants.{PROBE};
 ghost use Rattle.alpha_machine.specs.Step.{state_of};
 ghost use Rattle.block_law.specs.Follows.{probe_count, probe_address};
 ghost use Rattle.block_law.specs.Translations.{fetch_of, most_words};
@@ -8,7 +9,7 @@ ghost use Rattle.prepared_code.specs.Probes.{Passes};
 ghost use Rattle.vax_form.specs.Pages.{first_bad};
 
 use crate::prepared::Prepared;
-use alpha_encode::AlphaInstr;
+use alpha_encode::{AlphaInstr, pal, registers};
 use alpha_machine::Cpu;
 use exception_records::Point;
 use vax_form::Pages;
@@ -22,7 +23,7 @@ pub fn probe_count(point: &Point, cpu: &Cpu) -> u16
     ensures { result ≡ probe_count point.now (state_of cpu.now).regs }
 {
     if point.count == 0 {
-        (cpu.r[21] % (1 << 16)) as u16
+        (cpu.r[registers::TEMPORARIES as usize] % (1 << 16)) as u16
     } else {
         u16::from(point.count)
     }
@@ -33,7 +34,7 @@ pub fn probe_count(point: &Point, cpu: &Cpu) -> u16
 fn is_allowed(pages: &Pages, point: &Point, cpu: &Cpu) -> bool
     ensures { result ≡ true → first_bad pages.now point.now.write (probe_address (state_of cpu.now).regs) (probe_count point.now (state_of cpu.now).regs) ≡ None }
 {
-    let address = (cpu.r[27] % (1 << 32)) as u32;
+    let address = (cpu.r[registers::ADDRESS as usize] % (1 << 32)) as u32;
     let count = probe_count(point, cpu);
     count <= MOST_BYTES
         && pages
@@ -44,7 +45,7 @@ fn is_allowed(pages: &Pages, point: &Point, cpu: &Cpu) -> bool
 impl<'a> Prepared<'a> {
     // Whether the probe there goes on inside its block.
     fn goes_on(&self, cpu: &Cpu) -> bool
-        requires calls { fetch_of self.now.code.words cpu.now.pc ≡ Some (Pal 0x80) }
+        requires calls { fetch_of self.now.code.words cpu.now.pc ≡ Some (Pal PROBE) }
         requires few { cpu.now.pc < most_words }
         ensures { result ≡ true → Passes self.now (state_of cpu.now) }
     {
@@ -60,7 +61,7 @@ impl<'a> Prepared<'a> {
         ensures few { result ≡ true → cpu.now.pc < most_words }
     {
         match self.instr_at(cpu.pc) {
-            Some(AlphaInstr::Pal(0x80)) => self.goes_on(cpu),
+            Some(AlphaInstr::Pal(pal::PROBE)) => self.goes_on(cpu),
             _ => false,
         }
     }
