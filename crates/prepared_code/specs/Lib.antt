@@ -3,4 +3,5 @@ pub mod Sources
 pub mod Inside
 pub mod Prepared
 pub mod Landings
+pub mod Asks
 pub mod Probes

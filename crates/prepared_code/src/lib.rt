@@ -1,8 +1,9 @@
 //! Code made ready to be run: each word's instruction, decoded before, and what is known of the block that begins there;
-//! many steps inside a block at once, with the registers in place, the step that arrives at the next block, and a probe that
-//! goes on inside its block.
+//! many steps inside a block at once, with the registers in place, the step that arrives at the next block, and a probe and
+//! an access that go on inside their block.
 #![tactic(auto)]
 
+mod asked;
 mod blocks;
 mod effect;
 mod landing;
@@ -10,6 +11,7 @@ mod prepared;
 mod probe;
 mod run;
 
+pub use asked::Asked;
 pub use blocks::Block;
 pub use effect::Effect;
 pub use landing::Landing;
