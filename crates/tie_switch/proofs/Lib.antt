@@ -10,3 +10,4 @@ pub mod Inside
 pub mod Courses
 pub mod Stopping
 pub mod ManyTurns
+mod Asks

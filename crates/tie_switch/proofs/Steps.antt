@@ -57,7 +57,7 @@ valued : (b : Bool) (register n : ℕ) → 0 < n → (if b then register % n els
 valued true register n h = mod-lt register h
 valued false register n h = h
 
-access_small : (op : MemoryOp) (kind : AlphaKind) (address register : ℕ) → IsAccess (access_of op kind address register)
+pub access_small : (op : MemoryOp) (kind : AlphaKind) (address register : ℕ) → IsAccess (access_of op kind address register)
 access_small op kind address register = record { bytes = bytes_count op; value = valued (stores kind) register (2 ^ (8 * bytes_of op)) (pow_pos (8 * bytes_of op)) }
 
 memory_small : (o : Option AlphaKind) (op : MemoryOp) (ra rb : ℕ) (disp : ℤ) (s : Alpha) → s.pc + 1 < 2 ^ 32 → IsSmall (memory_act_by o op ra rb disp s)

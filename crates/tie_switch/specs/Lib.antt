@@ -3,6 +3,7 @@ pub mod Interpreted
 pub mod Seen
 pub mod Processors
 pub mod Accesses
+pub mod Asks
 pub mod Turns
 pub mod Inside
 pub mod Courses

@@ -83,6 +83,7 @@ impl Processor {
         ensures ended { has_ended (processor_of self.new).mode ≡ true }
         ensures budget { self.new.budget ≡ self.old.budget }
         ensures thread { self.new.thread ≡ self.old.thread }
+        ensures steps { self.new.steps ≡ self.old.steps }
     {
         self.mode = Mode::Ended(End::Spent);
     }

@@ -5,6 +5,7 @@
 //! `interpreted` what a thread does at a state a reference at a time, and `turn` makes one step over any memory.
 #![tactic(auto)]
 
+mod access;
 mod arrive;
 mod call;
 mod course;

@@ -159,7 +159,7 @@ impl Processor {
             → HasAdvanced (image_setting image.now.pages translation.now ranges.now) (M.set_up memory.old) (M.between memory.old) self.old.budget p result self.new (M.seen memory.old) (M.seen memory.new) }
     {
         let made = self.run_local(prepared, ranges, most - 1);
-        self.turn(image, translation, ranges, memory);
+        self.turn_prepared(image, translation, prepared, ranges, memory);
         made + 1
     }
 }

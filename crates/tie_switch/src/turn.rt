@@ -19,6 +19,7 @@ use crate::setting::Setting;
 use alpha_machine::Cpu;
 use image_file::Image;
 use memory_core::{Memory, Reply};
+use prepared_code::Prepared;
 use system_model::{Range, Translation};
 
 /// Whether a processor has ended.
@@ -190,5 +191,43 @@ impl Processor {
         } else {
             Turn::Went
         }
+    }
+
+    /// The same turn, of a translation that was made ready: an access inside a block is made with the registers in place.
+    pub fn turn_prepared<M: Memory>(
+        &mut self,
+        image: &Image,
+        translation: &Translation,
+        prepared: &Prepared<'_>,
+        ranges: &[Range],
+        memory: &mut M,
+    ) -> Turn
+        requires few { length translation.now.words ≤ most_words }
+        requires code { prepared.now.code ≡ translation.now }
+        requires pages { (M.set_up memory.old).image.pages ≡ image.now.pages }
+        requires serves { M.serves memory.old self.old.thread }
+        requires has_step { HasStep (image_setting image.now.pages translation.now ranges.now) (M.set_up memory.old) self.old }
+        ensures set_up { M.set_up memory.new ≡ M.set_up memory.old }
+        ensures place { (memory.new ≡ memory.old) ⊎ M.same memory.old memory.new }
+        ensures serves { (thread : ℕ) → M.serves memory.old thread ↔ M.serves memory.new thread }
+        ensures budget { self.new.budget ≡ self.old.budget }
+        ensures thread { self.new.thread ≡ self.old.thread }
+        ensures steps { result ≡ Turn.Went → self.new.steps ≡ self.old.steps + 1 }
+        ensures few_steps { self.new.steps ≤ self.new.budget }
+        ensures turned { (p : model.Processor) → StandsFor image.now.pages self.old p
+            → HasTurned (image_setting image.now.pages translation.now ranges.now) (M.set_up memory.old) (M.between memory.old) self.old.budget p self.new (M.seen memory.old) (M.seen memory.new) }
+        ensures ended { (result ≡ Turn.Ended) ↔ (has_ended (processor_of self.new).mode ≡ true) }
+    {
+        let setting = Setting {
+            pages: &image.pages,
+            code: translation,
+            ranges,
+        };
+        if self.steps < self.budget {
+            if let Some(turn) = self.access_inside(setting, prepared, memory) {
+                return turn;
+            }
+        }
+        self.turn(image, translation, ranges, memory)
     }
 }

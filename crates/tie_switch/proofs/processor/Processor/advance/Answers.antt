@@ -18,8 +18,8 @@ gone pages pages' code code' p n k old ranges e f went stands =
     subst (λ (c : Code). HasGone (image_setting pages' c ranges) p n k) e
     (subst (λ (x : Pages). StandsFor x old p → HasGone (image_setting x code ranges) p n k) f (λ s. went p s) stands)
 
-pub turn-requires-clause-has_step : goal.turn-requires-clause-has_step
-turn-requires-clause-has_step g c =
+pub turn_prepared-requires-clause-has_step : goal.turn_prepared-requires-clause-has_step
+turn_prepared-requires-clause-has_step g c =
     let h = c.requires.has_steps in
     let made = c.run_local-made in
     let there = gone c.args.prepared.now.pages c.args.image.now.pages c.args.prepared.now.code c.args.translation.now h.processor made.result made.new.self c.args.self.now c.args.ranges.now
@@ -34,12 +34,12 @@ returns-clause-turned g c p stands =
     let set_up = g.M.Memory.set_up c.args.memory.now in
     let between = g.M.Memory.between c.args.memory.now in
     let seen = g.M.Memory.seen c.args.memory.now in
-    let seen' = g.M.Memory.seen c.turn.new.memory in
+    let seen' = g.M.Memory.seen c.turn_prepared.new.memory in
     let there = gone c.args.prepared.now.pages c.args.image.now.pages c.args.prepared.now.code c.args.translation.now p made.result made.new.self old c.args.ranges.now
     c.requires.code c.requires.image made.ensures.went stands in
     let steps : p.steps ≡ old.steps = ap (λ (x : Processor). x.steps) stands.same in
     let within : p.steps + made.result ≤ old.budget = omega (arith, steps, made.ensures.steps, made.ensures.few_steps, made.ensures.budget) in
-    let last = c.turn.ensures.turned there.processor there.stands in
+    let last = c.turn_prepared.ensures.turned there.processor there.stands in
     let turned : IsTurn s set_up between old.budget there.processor last.processor seen seen' =
     subst (λ (budget : ℕ). IsTurn s set_up between budget there.processor last.processor seen seen') made.ensures.budget last.turned in
     let next : suc made.result ≡ made.result + 1 = omega arith in

@@ -1,0 +1,48 @@
+-- An access in place is the turn of a processor that goes on, within its budget.
+use Rattle.std.proofs.Common.{◌≡◌, ◌<◌, ℕ, ◌==◌, false, None, refl, sym, ap, ◌∙◌, subst, arith}
+use Rattle.std.specs.Prelude.{MatchBool}
+use Rattle.std.proofs.lemmas.Bool.Decides.{nat_tests}
+use Rattle.image_file.specs.Values.{ImageValue}
+use Rattle.system_model.specs.Legal.{spent}
+use Rattle.system_model.specs.Processors.{Mode, New, Runs, Interprets, Ended, turn}
+use Rattle.vax_form.specs.declared.pages.Pages.{Pages}
+use Rattle.tie_switch.specs.Processors.{HasMade, Kept, StandsFor, end_of, processor_of}
+use Rattle.tie_switch.specs.Settings.{image_setting}
+use Rattle.tie_switch.specs.Turns.{IsStill, Makes, has_ended}
+use Rattle.tie_switch.proofs.Standing.{out_is}
+use Rattle.tie_switch.proofs.processor.Processor.turn_prepared.Goals as goal
+
+below : (n m : ℕ) → n < m → (n == m) ≡ false
+below n m h = grind (arith, nat_tests)
+
+no_end : (m : Mode) → has_ended m ≡ false → end_of m ≡ None
+no_end New e = refl
+no_end (Runs alpha) e = refl
+no_end (Interprets state replies) e = refl
+no_end (Ended end) e = absurd (cc e)
+
+pub returns-in-Some-clause-turned : goal.returns-in-Some-clause-turned
+returns-in-Some-clause-turned g c p stands =
+    let pages = c.args.image.now.pages in
+    let code = c.args.translation.now in
+    let ranges = c.args.ranges.now in
+    let old = c.args.self.now in
+    let new = c.access_inside.new.self in
+    let set_up = g.M.Memory.set_up c.args.memory.now in
+    let between = g.M.Memory.between c.args.memory.now in
+    let seen = g.M.Memory.seen c.args.memory.now in
+    let seen' = g.M.Memory.seen c.access_inside.new.memory in
+    let same : c.image.inside.pages ≡ pages = ap (λ (i : ImageValue). i.pages) c.image.view_is in
+    let made =
+    subst (λ (x : Pages). StandsFor x old p → HasMade (image_setting x code ranges) set_up between (turn (image_setting x code ranges) p) p new seen seen') same (λ s. c.in-Some.ensures.turned p s) stands in
+    let none : end_of (processor_of old).mode ≡ None = no_end (processor_of old).mode c.in-Some.ensures.going in
+    let steps : c.self.inside.steps ≡ old.steps = ap (λ (k : Kept). k.steps) c.self.view_is in
+    let budget : c.self.inside.budget ≡ old.budget = ap (λ (k : Kept). k.budget) c.self.view_is in
+    let out = out_is pages old p old.budget stands none ∙ below old.steps old.budget (omega (arith, steps, budget, c.if-self.true)) in
+    record {
+      processor = made.processor;
+      stands = made.stands;
+      turned =
+          subst (λ b. MatchBool b (IsStill (spent p) made.processor seen seen') (Makes (turn (image_setting pages code ranges) p) set_up between p made.processor seen seen')) (sym out)
+          made.makes;
+    }
