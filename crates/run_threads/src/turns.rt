@@ -40,6 +40,7 @@ fn go_on<R: Wait, G: Gate>(
     processor: &mut Processor,
     port: &mut Port<'_, R, G>,
 ) -> Turn
+    requires prepared { HasPrepared program }
     requires can_run { CanRun (setting_of program) (set_up_of port.old.memory.now) }
     requires pass { number_of port.old.pass ≡ processor.old.thread }
     requires way { IsUnderWay (setting_of program) (set_up_of port.old.memory.now) (seen_of port.old.pass) processor.old }
@@ -57,10 +58,10 @@ fn go_on<R: Wait, G: Gate>(
     let Program {
         image,
         translation,
+        prepared,
         ranges,
-        ..
     } = program;
-    processor.turn(image, translation, ranges, port)
+    processor.turn_prepared(image, translation, prepared, ranges, port)
 }
 
 // The turns up to the next that asks or ends, and that one.
