@@ -40,15 +40,15 @@ went_more s p q r a (suc b) e h = last (went s q b) (λ x k. went_more s p q x a
 
 pub goes_more : (s : Setting) (thread : ℕ) (before : VaxState) (old mid new : Course) (m n : ℕ) → Goes s thread before old mid m → Goes s thread before mid new n
     → Goes s thread before old new (m + n)
-goes_more s thread before old mid new m n g h = λ ties steps.
-    went_more s (course_of thread before ties old steps) (course_of thread before ties mid (steps + m)) (course_of thread before ties new (steps + m + n)) m n (g ties steps) (h ties (steps + m))
-    ∙ ap (λ k. Some (course_of thread before ties new k)) (joined steps m n)
+goes_more s thread before old mid new m n g h = λ interpreted steps.
+    went_more s (course_of thread before interpreted old steps) (course_of thread before interpreted mid (steps + m)) (course_of thread before interpreted new (steps + m + n)) m n (g interpreted steps) (h interpreted (steps + m))
+    ∙ ap (λ k. Some (course_of thread before interpreted new k)) (joined steps m n)
   where
     joined : (k m n : ℕ) → k + m + n ≡ k + (m + n)
     joined k m n = omega arith
 
 pub goes_nowhere : (s : Setting) (thread : ℕ) (before : VaxState) (course : Course) → Goes s thread before course course 0
-goes_nowhere s thread before course = λ ties steps. ap (λ k. Some (course_of thread before ties course k)) (none steps)
+goes_nowhere s thread before course = λ interpreted steps. ap (λ k. Some (course_of thread before interpreted course k)) (none steps)
   where
     none : (n : ℕ) → n ≡ n + 0
     none n = omega arith
@@ -71,13 +71,13 @@ stood s thread before old new goes = same_place (course_of thread before 0 old 0
 -- ---- inside a block
 pub goes_inside : (s : Setting) (thread : ℕ) (before : VaxState) (old : Course) (cpu : Cpu) (n : ℕ) → StepsAreTurns → steps_in s.code (state_of old.cpu) n ≡ Some (state_of cpu)
     → Goes s thread before old (record old { cpu = cpu }) n
-goes_inside s thread before old cpu n law h = λ ties steps. law s (course_of thread before ties old steps) (state_of old.cpu) (state_of cpu) n refl h
+goes_inside s thread before old cpu n law h = λ interpreted steps. law s (course_of thread before interpreted old steps) (state_of old.cpu) (state_of cpu) n refl h
 
 pub goes_behind_probe : (s : Setting) (thread : ℕ) (before : VaxState) (old : Course) (cpu : Cpu) → ProbesAreTurns → Passes (source_in s s.meaning.pages) (state_of old.cpu)
     → state_of cpu ≡ at_place (state_of old.cpu).regs (old.cpu.pc + 1)
     → Goes s thread before old (record old { cpu = cpu }) 1
-goes_behind_probe s thread before old cpu law passes there = λ ties steps.
-    let p = course_of thread before ties old steps in
+goes_behind_probe s thread before old cpu law passes there = λ interpreted steps.
+    let p = course_of thread before interpreted old steps in
     let next : suc steps ≡ steps + 1 = omega arith in
     ap went_by (law s p (state_of old.cpu) refl passes)
     ∙ ap (λ (c : Alpha). Some (record (stepped p) { mode = Runs c })) (sym there)
@@ -89,8 +89,8 @@ over : (before : VaxState) (held : Flags) (l : Option Landed) (d : Alpha) (block
 over before held None d block h = refl
 over before held (Some l) d block h = refl
 
-made : (thread ties : ℕ) → Mode → VaxState → Flags → (retired steps : ℕ) → Processor
-made thread ties mode boundary held retired steps = record { thread = thread; mode = mode; boundary = boundary; held = held; retired = retired; steps = steps; ties = ties }
+made : (thread interpreted : ℕ) → Mode → VaxState → Flags → (retired steps : ℕ) → Processor
+made thread interpreted mode boundary held retired steps = record { thread = thread; mode = mode; boundary = boundary; held = held; retired = retired; steps = steps; interpreted = interpreted }
 
 pub goes_there : (s : Setting) (thread : ℕ) (before : VaxState) (old new : Course) (pages : Pages) (d : Alpha) (block : Block) (word : ℕ) → LandingsAreTurns
     → before.pending ≡ Nothing
@@ -102,7 +102,7 @@ pub goes_there : (s : Setting) (thread : ℕ) (before : VaxState) (old new : Cou
     → new.retired ≡ old.retired + 1
     → Goes s thread before old new 1
 unfolding made
-goes_there s thread before old new pages d block word law nothing there goes cpu at held retired = λ ties steps.
+goes_there s thread before old new pages d block word law nothing there goes cpu at held retired = λ interpreted steps.
     let kept = still_held old.held (s.meaning.written (boundary_by before old.held old.landed).pc) in
     let state = state_there before d block kept in
     let one_more : suc old.retired ≡ new.retired = omega (arith, retired) in
@@ -111,15 +111,15 @@ goes_there s thread before old new pages d block word law nothing there goes cpu
     ap (λ (pending : Pending). mode_by (unless_pending pending (word_for s.code.map s.ranges thread block.address)) state d.regs) nothing
     ∙ ap (λ o. mode_by o state d.regs) goes
     ∙ ap Runs (sym cpu) in
-    ap went_by (law s pages (course_of thread before ties old steps) (state_of old.cpu) d block refl there)
+    ap went_by (law s pages (course_of thread before interpreted old steps) (state_of old.cpu) d block refl there)
     ∙ ap Some
-    (ap (λ (x : VaxState). made thread ties (mode_at s thread x d.regs) x kept (suc old.retired) (suc steps)) (over before old.held old.landed d block kept)
-    ∙ ap (λ (m : Mode). made thread ties m state kept (suc old.retired) (suc steps)) mode
-    ∙ ap (λ (x : Alpha). made thread ties (Runs (state_of new.cpu)) (state_there before x block kept) kept (suc old.retired) (suc steps)) (sym cpu)
-    ∙ ap (λ (h : Flags). made thread ties (Runs (state_of new.cpu)) (state_there before (state_of new.cpu) block h) h (suc old.retired) (suc steps)) (sym held)
-    ∙ ap (λ n. made thread ties (Runs (state_of new.cpu)) (state_there before (state_of new.cpu) block new.held) new.held n (suc steps)) one_more
-    ∙ ap (λ n. made thread ties (Runs (state_of new.cpu)) (state_there before (state_of new.cpu) block new.held) new.held new.retired n) next
-    ∙ ap (λ (l : Option Landed). made thread ties (Runs (state_of new.cpu)) (boundary_by before new.held l) new.held new.retired (steps + 1)) (sym at))
+    (ap (λ (x : VaxState). made thread interpreted (mode_at s thread x d.regs) x kept (suc old.retired) (suc steps)) (over before old.held old.landed d block kept)
+    ∙ ap (λ (m : Mode). made thread interpreted m state kept (suc old.retired) (suc steps)) mode
+    ∙ ap (λ (x : Alpha). made thread interpreted (Runs (state_of new.cpu)) (state_there before x block kept) kept (suc old.retired) (suc steps)) (sym cpu)
+    ∙ ap (λ (h : Flags). made thread interpreted (Runs (state_of new.cpu)) (state_there before (state_of new.cpu) block h) h (suc old.retired) (suc steps)) (sym held)
+    ∙ ap (λ n. made thread interpreted (Runs (state_of new.cpu)) (state_there before (state_of new.cpu) block new.held) new.held n (suc steps)) one_more
+    ∙ ap (λ n. made thread interpreted (Runs (state_of new.cpu)) (state_there before (state_of new.cpu) block new.held) new.held new.retired n) next
+    ∙ ap (λ (l : Option Landed). made thread interpreted (Runs (state_of new.cpu)) (boundary_by before new.held l) new.held new.retired (steps + 1)) (sym at))
 
 -- ---- the first turn of a new processor
 same_left : (s : Setting) (p : Processor) (m : Mode) (last : Last) → left s (record p { mode = m }) last ≡ left s p last

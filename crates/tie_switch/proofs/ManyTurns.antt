@@ -6,7 +6,7 @@ use Rattle.memory_core.specs.declared.entry.Entry.{Entry}
 use Rattle.memory_core.specs.declared.entry.SetUp.{SetUp}
 use Rattle.system_model.proofs.Requests.{IsStep, Makes, makes}
 use Rattle.system_model.specs.Legal.{spent, IsReached}
-use Rattle.system_model.specs.Processors.{Processor, Turn, Went, Asks, Over, Lost, turn}
+use Rattle.system_model.specs.Processors.{Processor, Turn, Went, Asks, Over, Stuck, turn}
 use Rattle.system_model.specs.Settings.{Setting}
 use Rattle.tie_switch.specs.Inside.{went, went_by}
 use Rattle.vax_form.specs.declared.state.VaxState.{VaxState}
@@ -26,7 +26,7 @@ went_there : (t : Turn) (q : Processor) → went_by t ≡ Some q → t ≡ Went 
 went_there (Went p) q e = ap Went (same_processor p q e)
 went_there (Asks request on) q e = absurd (cc e)
 went_there Over q e = absurd (cc e)
-went_there Lost q e = absurd (cc e)
+went_there Stuck q e = absurd (cc e)
 
 -- each turn is a step
 one_step : (s : Setting) (p q : Processor) → turn s p ≡ Went q → q.steps ≡ suc p.steps

@@ -4,16 +4,17 @@ use Rattle.std.proofs.lemmas.List.{append-nil}
 use Rattle.alpha_meaning.specs.State.{Alpha}
 use Rattle.memory_core.specs.Requests.{CanMake}
 use Rattle.memory_core.specs.declared.entry.SetUp.{SetUp}
-use Rattle.system_model.specs.Processors.{Mode, Runs, Interprets, Processor, Went, Lost, alpha_turn, left, mode_of, moment_of, request_of, stepped, tie_turn, tied, turn, turn_in}
+use Rattle.system_model.specs.Processors.{Mode, Runs, Interprets, Processor, Went, Stuck, alpha_turn, left, mode_of, moment_of, request_of, stepped, tie_turn, tied, turn, turn_in}
 use Rattle.system_model.specs.Quadwords.{reply_found}
 use Rattle.system_model.specs.Settings.{Setting}
-use Rattle.system_model.specs.Steps.{Stuck, next}
+use Rattle.system_model.specs.Steps.{next}
+use Rattle.system_model.specs.Steps as step
 use Rattle.vax_form.specs.Tree.{Answer, Wants, Fails, Comes, Finish, Exit, Trap, answer}
 use Rattle.vax_form.specs.declared.pages.Pages.{Pages}
 use Rattle.vax_form.specs.declared.state.Reference.{Reference}
 use Rattle.vax_form.specs.declared.state.VaxState.{VaxState}
 use Rattle.tie_switch.specs.Interpreted.{step_of}
-use Rattle.tie_switch.specs.Processors.{Kept, CanStep, IsGiven, IsMode, IsPlain, StandsFor, end_of, in_mode, processor_of}
+use Rattle.tie_switch.specs.Processors.{ProcessorValue, CanStep, IsGiven, IsMode, IsPlain, StandsFor, end_of, in_mode, processor_of}
 use Rattle.tie_switch.specs.Seen as seen
 use Rattle.tie_switch.specs.Seen.{last_of}
 use Rattle.tie_switch.specs.Turns.{goes_on, is_out}
@@ -24,7 +25,7 @@ use Rattle.tie_switch.specs.declared.processor.Mode.{Mode as Kind}
 use Rattle.tie_switch.specs.declared.processor.Mode.TheVariants as modes
 
 -- ---- one step more
-pub one_step : (k : Kept) (mode : Mode) → in_mode (record k { steps = k.steps + 1 }) mode ≡ stepped (in_mode k mode)
+pub one_step : (k : ProcessorValue) (mode : Mode) → in_mode (record k { steps = k.steps + 1 }) mode ≡ stepped (in_mode k mode)
 one_step k mode = ap (λ (n : ℕ). record (in_mode k mode) { steps = n }) (next k.steps)
   where
     next : (n : ℕ) → n + 1 ≡ suc n
@@ -81,19 +82,19 @@ leaves_is setting p state replies (Comes (Trap kind s) rest) l e = ap (λ (x : L
 
 -- ---- its step
 -- in Alpha code
-pub runs_turn : (setting : Setting) (k : Kept) (mode : Mode) (a : Alpha) → mode_of setting (in_mode k mode) mode ≡ Runs a
+pub runs_turn : (setting : Setting) (k : ProcessorValue) (mode : Mode) (a : Alpha) → mode_of setting (in_mode k mode) mode ≡ Runs a
     → turn setting (in_mode k mode) ≡ alpha_turn setting (in_mode k mode) (next setting (moment_of (in_mode k mode)) a)
 runs_turn setting k mode a e = ap (turn_in setting (in_mode k mode)) e
 
 -- a processor that has a step is not stuck there
-pub not_stuck : (setting : Setting) (set_up : SetUp) (k : Kept) (p : Processor) (a : Alpha) → p ≡ in_mode k p.mode → CanStep setting set_up p
-    → mode_of setting (in_mode k p.mode) p.mode ≡ Runs a → next setting (moment_of (in_mode k p.mode)) a ≢ Stuck
+pub not_stuck : (setting : Setting) (set_up : SetUp) (k : ProcessorValue) (p : Processor) (a : Alpha) → p ≡ in_mode k p.mode → CanStep setting set_up p
+    → mode_of setting (in_mode k p.mode) p.mode ≡ Runs a → next setting (moment_of (in_mode k p.mode)) a ≢ step.Stuck
 not_stuck setting set_up k p a same can e stuck =
-    let lost : turn setting (in_mode k p.mode) ≡ Lost = runs_turn setting k p.mode a e ∙ ap (alpha_turn setting (in_mode k p.mode)) stuck in
+    let lost : turn setting (in_mode k p.mode) ≡ Stuck = runs_turn setting k p.mode a e ∙ ap (alpha_turn setting (in_mode k p.mode)) stuck in
     can.goes_on (ap (turn setting) same ∙ lost)
 
 -- what an interpreted instruction wants, memory can make
-pub can_ask : (setting : Setting) (set_up : SetUp) (k : Kept) (p : Processor) (state : VaxState) (replies : List ℕ) → p ≡ in_mode k p.mode → CanStep setting set_up p
+pub can_ask : (setting : Setting) (set_up : SetUp) (k : ProcessorValue) (p : Processor) (state : VaxState) (replies : List ℕ) → p ≡ in_mode k p.mode → CanStep setting set_up p
     → mode_of setting (in_mode k p.mode) p.mode ≡ Interprets state replies
     → (reference : Reference) → answer setting.meaning.pages (setting.meaning.moment k.thread state) replies ≡ Wants reference
     → CanMake set_up (request_of k.thread k.retired reference)
@@ -110,7 +111,7 @@ going pages thread boundary (modes.Interprets interpreted reply) mode u none = a
 going pages thread boundary (modes.Ended end) mode is none = absurd (cc none)
 
 -- a processor that goes on is out where its steps equal its budget
-pub out_is : (pages : Pages) (k : Kept) (p : Processor) (budget : ℕ) → StandsFor pages k p → end_of (processor_of k).mode ≡ None → is_out budget p ≡ (k.steps == budget)
+pub out_is : (pages : Pages) (k : ProcessorValue) (p : Processor) (budget : ℕ) → StandsFor pages k p → end_of (processor_of k).mode ≡ None → is_out budget p ≡ (k.steps == budget)
 out_is pages k p budget stands none =
     ap (λ b. b && (p.steps == budget)) (going pages k.thread k.boundary k.mode p.mode stands.mode none)
     ∙ ap (λ (x : Processor). x.steps == budget) stands.same
@@ -122,7 +123,7 @@ plain_mode pages thread boundary (modes.Runs cpu) mode plain is = is
 plain_mode pages thread boundary (modes.Interprets interpreted reply) mode plain is = absurd plain
 plain_mode pages thread boundary (modes.Ended end) mode plain is = absurd plain
 
-pub plain_is : (pages : Pages) (k : Kept) (p : Processor) → IsPlain k.mode → StandsFor pages k p → p ≡ processor_of k
+pub plain_is : (pages : Pages) (k : ProcessorValue) (p : Processor) → IsPlain k.mode → StandsFor pages k p → p ≡ processor_of k
 plain_is pages k p plain stands = stands.same ∙ ap (in_mode k) (plain_mode pages k.thread k.boundary k.mode p.mode plain stands.mode)
 
 is_plain : (pages : Pages) (thread : ℕ) (boundary : VaxState) (kind : Kind) → IsPlain kind → IsMode pages thread boundary kind (seen.mode_of kind boundary)
@@ -131,5 +132,5 @@ is_plain pages thread boundary (modes.Runs cpu) plain = refl
 is_plain pages thread boundary (modes.Interprets interpreted reply) plain = absurd plain
 is_plain pages thread boundary (modes.Ended end) plain = absurd plain
 
-pub plain_stands : (pages : Pages) (k : Kept) → IsPlain k.mode → StandsFor pages k (processor_of k)
+pub plain_stands : (pages : Pages) (k : ProcessorValue) → IsPlain k.mode → StandsFor pages k (processor_of k)
 plain_stands pages k plain = record { same = refl; mode = is_plain pages k.thread k.boundary k.mode plain }

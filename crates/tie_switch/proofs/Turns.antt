@@ -14,7 +14,7 @@ use Rattle.memory_core.specs.declared.entry.SetUp.{SetUp}
 use Rattle.vax_form.specs.declared.state.VaxState.{VaxState}
 use Rattle.system_model.specs.Laws.{StepsKeepReached, AccessesKeepReached, EndsKeepReached, OthersKeepReached, RequestsAreOwn, ReachedAreLegal}
 use Rattle.system_model.specs.Legal.{starts, spent, IsGoing, IsAsking, IsSpent, IsReached, IsLegal}
-use Rattle.system_model.specs.Processors.{Mode, New, Runs, Interprets, Ended, Processor, Turn, Went, Asks, Over, Lost, turn, turn_in, mode_of, entry_by}
+use Rattle.system_model.specs.Processors.{Mode, New, Runs, Interprets, Ended, Processor, Turn, Went, Asks, Over, Stuck, turn, turn_in, mode_of, entry_by}
 use Rattle.system_model.specs.Settings.{Setting}
 use Rattle.tie_switch.specs.Laws.{TurnsKeepReached, TurnsStayLegal}
 use Rattle.tie_switch.specs.Turns.{IsMade, IsRefused, IsStill, Makes, goes_on, is_out, IsTurn}
@@ -55,7 +55,7 @@ abbrev IsStep : Turn → Type 0
 IsStep (Went q) = Unit {0}
 IsStep (Asks request on) = Unit {0}
 IsStep Over = ⊥
-IsStep Lost = Unit {0}
+IsStep Stuck = Unit {0}
 
 going_in : (setting : Setting) (p : Processor) (m : Mode) → IsStep (turn_in setting p (mode_of setting p m)) → IsGoing m
 going_in setting p New h = tt
@@ -210,7 +210,7 @@ module _ (steps : StepsKeepReached) (accesses : AccessesKeepReached) (ends : End
   makes (Asks request on) q new e out (inl m) = made request on q new e (has_more (going setting p (Asks request on) e tt) out) m
   makes (Asks request on) q new e out (inr r) = refused request on q new e r
   makes Over q new e out m = still p q new m reached
-  makes Lost q new e out m = absurd m
+  makes Stuck q new e out m = absurd m
 
   by_out : (b : Bool) (q : Processor) (new : List Entry) → is_out budget p ≡ b → MatchBool b (IsStill (spent p) q old new) (Makes (turn setting p) set_up may_come p q old new) → Keeps new q
   by_out true q new e m =
@@ -269,7 +269,7 @@ module _ (setting : Setting) (set_up : SetUp) (thread : ℕ) (p : Processor) (as
       }
   grown_by (Asks request on) q old new e (inr r) = same_grown old new ((r.over).seen ∙ ap (λ b. old ++ b) (r.over).come ∙ append-nil old)
   grown_by Over q old new e m = same_grown old new m.seen
-  grown_by Lost q old new e m = absurd m
+  grown_by Stuck q old new e m = absurd m
 
   grown : (budget : ℕ) (b : Bool) (q : Processor) (old new : List Entry) → MatchBool b (IsStill (spent p) q old new) (Makes (turn setting p) set_up (λ between. between ≡ []) p q old new) → IsGrown set_up thread old new
   grown budget true q old new m = same_grown old new m.seen
@@ -308,7 +308,7 @@ module _ (kept : TurnsKeepReached) (others : OthersKeepReached) (requests : Requ
     goes = r.goes;
   })
   any_may Over false m = m
-  any_may Lost false m = m
+  any_may Stuck false m = m
 
   each_reached : (u : ℕ) (start : VaxState) (x : Processor) → starts set_up.image u ≡ Some start → slice_get (slice_set processors thread q) u ≡ Some x
       → (b : Bool) → (thread == u) ≡ b → IsReached setting budget set_up.limit (reverse new) u start x

@@ -17,15 +17,15 @@ boundary_by before held None = before
 boundary_by before held (Some l) = state_there before (state_of l.cpu) l.block held
 
 -- the processor of the model
-abbrev pub course_of : (thread : ℕ) → (before : VaxState) → (ties : ℕ) → Course → (steps : ℕ) → Processor
-course_of thread before ties course steps = record {
+abbrev pub course_of : (thread : ℕ) → (before : VaxState) → (interpreted : ℕ) → Course → (steps : ℕ) → Processor
+course_of thread before interpreted course steps = record {
   thread = thread;
   mode = Runs (state_of course.cpu);
   boundary = boundary_by before course.held course.landed;
   held = course.held;
   retired = course.retired;
   steps = steps;
-  ties = ties;
+  interpreted = interpreted;
 }
 
 -- the opcode that is kept of the block where it landed is the byte there
@@ -35,7 +35,7 @@ HasOpcode pages landed = IfSome landed (λ l. l.block.opcode ≡ code_byte_at pa
 -- it makes so many turns, none of which asks
 abbrev pub Goes : Setting → (thread : ℕ) → (before : VaxState) → (old new : Course) → ℕ → Type 0
 Goes setting thread before old new n =
-    (ties steps : ℕ) → went setting (course_of thread before ties old steps) n ≡ Some (course_of thread before ties new (steps + n))
+    (interpreted steps : ℕ) → went setting (course_of thread before interpreted old steps) n ≡ Some (course_of thread before interpreted new (steps + n))
 
 -- the turns of the one are those of the other
 abbrev pub Begins : Setting → (p q : Processor) → Type 0

@@ -11,7 +11,7 @@ use Rattle.prepared_code.specs.Inside.{local_at, steps_in, landing, landed}
 use Rattle.prepared_code.specs.Probes.{Passes}
 use Rattle.prepared_code.specs.Sources.{Source}
 use Rattle.prepared_code.specs.declared.blocks.Block.{Block}
-use Rattle.system_model.specs.Processors.{Mode, New, Runs, Interprets, Ended, Processor, Turn, Went, Asks, Over, Lost, turn, mode_of, moment_of, stepped, arrived}
+use Rattle.system_model.specs.Processors.{Mode, New, Runs, Interprets, Ended, Processor, Turn, Went, Asks, Over, Stuck, turn, mode_of, moment_of, stepped, arrived}
 use Rattle.system_model.specs.Ranges.{word_for}
 use Rattle.system_model.specs.Settings.{Setting}
 use Rattle.system_model.specs.Steps.{state_at, held_behind}
@@ -21,7 +21,7 @@ abbrev pub went_by : Turn → Option Processor
 went_by (Went p) = Some p
 went_by (Asks request on) = None
 went_by Over = None
-went_by Lost = None
+went_by Stuck = None
 
 -- the processor after so many turns, none of which asks
 abbrev pub went : Setting → Processor → ℕ → Option Processor

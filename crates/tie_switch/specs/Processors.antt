@@ -5,7 +5,7 @@ use Rattle.memory_core.specs.declared.entry.Entry.{Entry}
 use Rattle.memory_core.specs.declared.entry.Request.{Request}
 use Rattle.memory_core.specs.declared.entry.SetUp.{SetUp}
 use Rattle.alpha_machine.specs.Step.{state_of}
-use Rattle.system_model.specs.Processors.{Processor, Asks, Lost, request_of, turn}
+use Rattle.system_model.specs.Processors.{Processor, Asks, Stuck, request_of, turn}
 use Rattle.system_model.specs.Processors as model
 use Rattle.system_model.specs.Settings.{Setting}
 use Rattle.system_model.specs.declared.translation.End.{End}
@@ -27,30 +27,30 @@ use Rattle.tie_switch.specs.Seen.{mode_of}
 use Rattle.tie_switch.specs.Turns.{IsTurn, Makes}
 
 -- a processor, and the most steps that it may make
-pub record Kept : Type 0 where
+pub record ProcessorValue : Type 0 where
   pub thread : ℕ
   pub mode : Mode
   pub boundary : VaxState
   pub held : Flags
   pub retired : ℕ
   pub steps : ℕ
-  pub ties : ℕ
+  pub interpreted : ℕ
   pub budget : ℕ
 
-abbrev pub kept_of : Inside → Kept
-kept_of p = record {
+abbrev pub processor_value : Inside → ProcessorValue
+processor_value p = record {
   thread = p.thread;
   mode = p.mode;
   boundary = p.boundary;
   held = p.held;
   retired = p.retired;
   steps = p.steps;
-  ties = p.ties;
+  interpreted = p.interpreted;
   budget = p.budget;
 }
 
 -- the processor of the model in that mode
-abbrev pub in_mode : Kept → model.Mode → Processor
+abbrev pub in_mode : ProcessorValue → model.Mode → Processor
 in_mode k mode = record {
   thread = k.thread;
   mode = mode;
@@ -58,17 +58,17 @@ in_mode k mode = record {
   held = k.held;
   retired = k.retired;
   steps = k.steps;
-  ties = k.ties;
+  interpreted = k.interpreted;
 }
 
 -- the processor of the model, where no interpreted instruction is under way
-abbrev pub processor_of : Kept → Processor
+abbrev pub processor_of : ProcessorValue → Processor
 processor_of k = in_mode k (mode_of k.mode k.boundary)
 
 -- each instruction takes a step
 pub record IsCounted (p : Inside) : Type 0 where
   pub retired : p.retired ≤ p.steps
-  pub ties : p.ties ≤ p.steps
+  pub interpreted : p.interpreted ≤ p.steps
   pub steps : p.steps ≤ p.budget
 
 abbrev pub end_of : model.Mode → Option End
@@ -114,55 +114,55 @@ IsGiven (modes.Interprets interpreted None) = Unit {0}
 IsGiven _ = ⊥
 
 -- it is the processor of the model, but for how the replies to an interpreted instruction are kept
-pub record StandsFor (pages : Pages) (k : Kept) (p : Processor) : Type 0 where
+pub record StandsFor (pages : Pages) (k : ProcessorValue) (p : Processor) : Type 0 where
   pub same : p ≡ in_mode k p.mode
   pub mode : IsMode pages k.thread k.boundary k.mode p.mode
 
 -- ---- its turns
 -- the processor has a step, and memory can make what it asks for
 pub record CanStep (setting : Setting) (set_up : SetUp) (p : Processor) : Type 0 where
-  pub goes_on : turn setting p ≢ Lost
+  pub goes_on : turn setting p ≢ Stuck
   pub asks : (request : Request) (on : ℕ → Bool → Processor) → turn setting p ≡ Asks request on → CanMake set_up request
 
 -- it stands for a processor that has a step
-pub record HasStep (setting : Setting) (set_up : SetUp) (k : Kept) : Type 0 where
+pub record HasStep (setting : Setting) (set_up : SetUp) (k : ProcessorValue) : Type 0 where
   pub processor : Processor
   pub stands : StandsFor setting.meaning.pages k processor
   pub can : CanStep setting set_up processor
 
 -- an interpreted instruction goes on, and memory can make what it asks for
-pub record CanInterpret (pages : Pages) (set_up : SetUp) (k : Kept) : Type 0 where
+pub record CanInterpret (pages : Pages) (set_up : SetUp) (k : ProcessorValue) : Type 0 where
   pub state : VaxState
   pub replies : List ℕ
   pub mode : IsMode pages k.thread k.boundary k.mode (model.Interprets state replies)
   pub asks : (reference : Reference) → answer pages (moment_at pages k.thread state) replies ≡ Wants reference → CanMake set_up (request_of k.thread k.retired reference)
 
 -- it stands for the processor that a turn of the model gives
-pub record HasTurned (setting : Setting) (set_up : SetUp) (may_come : List Entry → Type 0) (budget : ℕ) (p : Processor) (k : Kept) (old new : List Entry) : Type 0 where
+pub record HasTurned (setting : Setting) (set_up : SetUp) (may_come : List Entry → Type 0) (budget : ℕ) (p : Processor) (k : ProcessorValue) (old new : List Entry) : Type 0 where
   pub processor : Processor
   pub stands : StandsFor setting.meaning.pages k processor
   pub turned : IsTurn setting set_up may_come budget p processor old new
 
 -- the same of what is done in a turn
-pub record HasMade (setting : Setting) (set_up : SetUp) (may_come : List Entry → Type 0) (turn : model.Turn) (p : Processor) (k : Kept) (old new : List Entry) : Type 0 where
+pub record HasMade (setting : Setting) (set_up : SetUp) (may_come : List Entry → Type 0) (turn : model.Turn) (p : Processor) (k : ProcessorValue) (old new : List Entry) : Type 0 where
   pub processor : Processor
   pub stands : StandsFor setting.meaning.pages k processor
   pub makes : Makes turn set_up may_come p processor old new
 
 -- it stands for the processor after so many turns, none of which asks
-pub record HasGone (setting : Setting) (p : Processor) (n : ℕ) (k : Kept) : Type 0 where
+pub record HasGone (setting : Setting) (p : Processor) (n : ℕ) (k : ProcessorValue) : Type 0 where
   pub processor : Processor
   pub stands : StandsFor setting.meaning.pages k processor
   pub went : went setting p n ≡ Some processor
 
 -- it stands for a processor that has a step behind each number of turns that ask nothing
-pub record HasSteps (setting : Setting) (set_up : SetUp) (k : Kept) : Type 0 where
+pub record HasSteps (setting : Setting) (set_up : SetUp) (k : ProcessorValue) : Type 0 where
   pub processor : Processor
   pub stands : StandsFor setting.meaning.pages k processor
   pub can : (n : ℕ) (q : Processor) → went setting processor n ≡ Some q → CanStep setting set_up q
 
 -- it stands for the processor after so many turns of the model
-pub record HasAdvanced (setting : Setting) (set_up : SetUp) (may_come : List Entry → Type 0) (budget : ℕ) (p : Processor) (n : ℕ) (k : Kept) (old new : List Entry) : Type 0 where
+pub record HasAdvanced (setting : Setting) (set_up : SetUp) (may_come : List Entry → Type 0) (budget : ℕ) (p : Processor) (n : ℕ) (k : ProcessorValue) (old new : List Entry) : Type 0 where
   pub processor : Processor
   pub stands : StandsFor setting.meaning.pages k processor
   pub turned : IsTurns setting set_up may_come budget p old n processor new

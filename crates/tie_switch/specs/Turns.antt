@@ -5,7 +5,7 @@ use Rattle.memory_core.specs.declared.entry.Entry.{Entry}
 use Rattle.memory_core.specs.declared.entry.Request.{Request}
 use Rattle.memory_core.specs.declared.entry.SetUp.{SetUp}
 use Rattle.system_model.specs.Legal.{spent}
-use Rattle.system_model.specs.Processors.{Mode, New, Runs, Interprets, Ended, Processor, Turn, Went, Asks, Over, Lost}
+use Rattle.system_model.specs.Processors.{Mode, New, Runs, Interprets, Ended, Processor, Turn, Went, Asks, Over, Stuck}
 use Rattle.system_model.specs.Processors as model
 use Rattle.system_model.specs.Settings.{Setting}
 
@@ -30,7 +30,7 @@ abbrev pub Makes : Turn → SetUp → (may_come : List Entry → Type 0) → (p 
 Makes (Went r) set_up may_come p q old new = IsStill r q old new
 Makes (Asks request on) set_up may_come p q old new = IsMade set_up may_come request on q old new ⊎ IsRefused set_up may_come request p q old new
 Makes Over set_up may_come p q old new = IsStill p q old new
-Makes Lost set_up may_come p q old new = ⊥
+Makes Stuck set_up may_come p q old new = ⊥
 
 abbrev pub has_ended : Mode → Bool
 has_ended New = false

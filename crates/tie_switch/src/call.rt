@@ -1,5 +1,6 @@
 // The PALcode calls.
 ghost use Rattle.std.specs.Prelude.{◌≡◌, ◌≢◌, ◌≤◌, ◌<◌, ◌^◌, ◌%◌, length};
+ghost use Rattle.alpha_encode.specs.declared.registers.TheConstants.{TEMPORARIES};
 ghost use Rattle.alpha_machine.specs.Step.{state_of};
 ghost use Rattle.block_law.specs.Follows.{call_of, probe_address, probe_count};
 ghost use Rattle.block_law.specs.Placements.{target};
@@ -19,6 +20,7 @@ use crate::place::{Last, Next, Place, Wanted};
 use crate::processor::Processor;
 use crate::registers::{target, with_r0};
 use crate::setting::{READY, Setting};
+use alpha_encode::{pal, registers};
 use alpha_machine::Cpu;
 use exception_records::{Point, Rules};
 use memory_core::{Change, Kind, Request};
@@ -41,12 +43,12 @@ pub(crate) fn call_of(number: u8) -> PalCall
     ensures { seen.call_of result ≡ call_of number }
 {
     match number {
-        0x80 => PalCall::Probe,
-        0x81 => PalCall::LookUp,
-        0x82 => PalCall::Serve,
-        0x83 => PalCall::Raise,
-        0x84 => PalCall::Arithmetic,
-        0x86 => PalCall::Switch,
+        pal::PROBE => PalCall::Probe,
+        pal::LOOK_UP => PalCall::LookUp,
+        pal::SERVE => PalCall::Serve,
+        pal::RAISE => PalCall::Raise,
+        pal::TRAP => PalCall::Arithmetic,
+        pal::SWITCH => PalCall::Switch,
         _ => PalCall::Other,
     }
 }
@@ -72,7 +74,7 @@ impl Processor {
         ensures { seen.place_of result ≡ probed (setting_of setting.entry) (moment_of (processor_of self.now)) (state_of cpu) point.write
             (first_bad setting.entry.pages.now point.write (probe_address (state_of cpu).regs) (probe_count point (state_of cpu).regs)) }
     {
-        let address = (cpu.r[27] % (1 << 32)) as u32;
+        let address = (cpu.r[registers::ADDRESS as usize] % (1 << 32)) as u32;
         let write = point.write;
         match first_bad(setting.pages, address, probe_count(&point, &cpu), write) {
             None => self.place_next(setting, cpu),
@@ -101,29 +103,32 @@ impl Processor {
         requires few { length setting.code.now.words ≤ most_words }
         requires within { cpu.pc < length setting.code.now.words }
         ensures next { next_of (setting_of setting.entry) (moment_of (processor_of self.now)) (state_of cpu) result
-            ≡ served (setting_of setting.entry) (moment_of (processor_of self.now)) ((state_of cpu).regs 21 % 2 ^ 16) rules (state_of cpu) }
+            ≡ served (setting_of setting.entry) (moment_of (processor_of self.now)) ((state_of cpu).regs TEMPORARIES % 2 ^ 16) rules (state_of cpu) }
         ensures can { AllCanAsk setting.entry.pages.now self.now.thread result }
     {
-        match cpu.r[21] % (1 << 16) {
-            1 => {
+        match cpu.r[registers::TEMPORARIES as usize] % (1 << 16) {
+            service_codes::EXIT => {
                 let state = self.state_at(&cpu, target(&cpu), &rules, &self.held);
                 Next::Moves(Place::Leaves(Last::Exit(state)))
             }
-            2 => {
+            service_codes::PUT => {
                 let byte = (cpu.r[0] % 256) as u8;
                 let request = self.request_of(Kind::Put, Change::Byte(byte));
                 Next::Wants(request, Wanted::Put)
             }
-            3 => Next::Wants(self.request_of(Kind::Get, Change::Nothing), Wanted::Get),
-            4 => {
+            service_codes::GET => Next::Wants(
+                self.request_of(Kind::Get, Change::Nothing),
+                Wanted::Get,
+            ),
+            service_codes::THREAD => {
                 let told = with_r0(cpu, u64::from(self.thread));
                 Next::Moves(self.place_next(setting, told))
             }
-            5 => {
+            service_codes::HANDLER => {
                 let state = self.state_at(&cpu, target(&cpu), &rules, &self.held);
                 Next::Moves(Place::Leaves(Last::Finish(exchanged(&state))))
             }
-            6 => {
+            service_codes::RESUME => {
                 let state = self.state_at(&cpu, target(&cpu), &rules, &self.held);
                 let pending = Pending::Resume;
                 Next::Moves(Place::Leaves(Last::Finish(VaxState { pending, ..state })))
@@ -142,10 +147,10 @@ impl Processor {
     // The instruction is done, and raises an arithmetic trap.
     #[tactic(auto, unfolding(alpha_meaning::specs::State::regs_of))]
     fn trap(&self, setting: Setting<'_>, rules: Rules, cpu: &Cpu) -> Last
-        ensures { seen.last_of result ≡ Comes (Trap ((state_of cpu.now).regs 21 % 2 ^ 8)
+        ensures { seen.last_of result ≡ Comes (Trap ((state_of cpu.now).regs TEMPORARIES % 2 ^ 8)
             (state_at (processor_of self.now).boundary (state_of cpu.now).regs (target (state_of cpu.now).regs) rules (held_behind (setting_of setting.entry) (moment_of (processor_of self.now))))) }
     {
-        let kind = (cpu.r[21] % 256) as u8;
+        let kind = (cpu.r[registers::TEMPORARIES as usize] % 256) as u8;
         let held = self.held_behind(setting);
         Last::Trap(kind, self.state_at(cpu, target(cpu), &rules, &held))
     }

@@ -48,7 +48,7 @@ impl Processor {
     // Its course from there.
     fn course(&self, prepared: &Prepared<'_>, ranges: &[Range]) -> Option<Course>
         ensures begins { IfSome result (λ course. Begins (image_setting prepared.now.pages prepared.now.code ranges.now) (processor_of self.now)
-            (course_of self.now.thread self.now.boundary self.now.ties course self.now.steps)) }
+            (course_of self.now.thread self.now.boundary self.now.interpreted course self.now.steps)) }
         ensures nothing { IfSome result (λ course. self.now.boundary.pending ≡ Nothing) }
         ensures retired { IfSome result (λ course. course.retired ≡ self.now.retired) }
         ensures plain { IfSome result (λ course. IsPlain self.now.mode) }
@@ -75,7 +75,7 @@ impl Processor {
     fn settle(&mut self, course: &Course, made: u64)
         requires retired { course.now.retired ≤ self.old.retired + made }
         requires steps { self.old.steps + made ≤ self.old.budget }
-        ensures is { processor_of self.new ≡ course_of self.old.thread self.old.boundary self.old.ties course.now (self.old.steps + made) }
+        ensures is { processor_of self.new ≡ course_of self.old.thread self.old.boundary self.old.interpreted course.now (self.old.steps + made) }
         ensures plain { IsPlain self.new.mode }
         ensures budget { self.new.budget ≡ self.old.budget }
         ensures thread { self.new.thread ≡ self.old.thread }

@@ -34,16 +34,16 @@ pub struct Processor {
     pub(crate) held: Flags,
     pub(crate) retired: u64,
     pub(crate) steps: u64,
-    pub(crate) ties: u64,
+    pub(crate) interpreted: u64,
     pub(crate) budget: u64,
 }
 
 impl Model for Processor {
-    ghost use Rattle.tie_switch.specs.Processors.{Kept, kept_of, IsCounted};
+    ghost use Rattle.tie_switch.specs.Processors.{ProcessorValue, processor_value, IsCounted};
 
-    ghost Value = { Kept };
+    ghost Value = { ProcessorValue };
 
-    ghost view = { kept_of };
+    ghost view = { processor_value };
 
     ghost invariant = { IsCounted };
 }
@@ -83,7 +83,7 @@ impl Processor {
             held: ALL_HELD,
             retired: 0,
             steps: 0,
-            ties: 0,
+            interpreted: 0,
             budget,
         }
     }
@@ -101,10 +101,10 @@ impl Processor {
     }
 
     /// How many of the steps were interpreted.
-    pub fn tie_steps(&self) -> u64
-        ensures { result ≡ self.now.ties }
+    pub fn interpreted_steps(&self) -> u64
+        ensures { result ≡ self.now.interpreted }
     {
-        self.ties
+        self.interpreted
     }
 
     /// How many instructions it has retired.

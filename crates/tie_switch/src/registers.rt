@@ -6,6 +6,7 @@ ghost use Rattle.block_law.specs.Placements.{target};
 ghost use Rattle.system_model.specs.Processors.{registers_of};
 ghost use Rattle.system_model.specs.Steps.{with_r0};
 
+use alpha_encode::registers::{CARRY, IS_ZERO, NEGATIVE, OVERFLOW, STATUS, TARGET};
 use alpha_machine::Cpu;
 use vax_form::VaxState;
 use vt_words::sign_extend;
@@ -19,11 +20,11 @@ pub(crate) fn registers_of(state: &VaxState) -> [u64; 32]
     for n in 0..15 {
         r[n] = sign_extend(u64::from(state.r[n]), 32);
     }
-    r[16] = psw / 8 % 2;
-    r[17] = psw / 4 % 2;
-    r[18] = psw / 2 % 2;
-    r[19] = psw % 2;
-    r[20] = psw / 16 % 16 * 16;
+    r[NEGATIVE as usize] = psw / 8 % 2;
+    r[IS_ZERO as usize] = psw / 4 % 2;
+    r[OVERFLOW as usize] = psw / 2 % 2;
+    r[CARRY as usize] = psw % 2;
+    r[STATUS as usize] = psw / 16 % 16 * 16;
     r
 }
 
@@ -37,10 +38,10 @@ pub(crate) fn with_r0(cpu: Cpu, longword: u64) -> Cpu
     told
 }
 
-/// The VAX address in R26.
+/// The VAX address to go on at.
 #[tactic(auto, unfolding(alpha_meaning::specs::State::regs_of))]
 pub(crate) fn target(cpu: &Cpu) -> u32
     ensures { result ≡ target (state_of cpu.now).regs }
 {
-    (cpu.r[26] % (1 << 32)) as u32
+    (cpu.r[TARGET as usize] % (1 << 32)) as u32
 }

@@ -51,7 +51,7 @@ impl Processor {
         ensures retired { self.new.retired < self.new.steps }
     {
         self.steps += 1;
-        self.ties += 1;
+        self.interpreted += 1;
     }
 
     // Takes the reply to the reference.

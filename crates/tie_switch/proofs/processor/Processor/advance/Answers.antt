@@ -5,14 +5,14 @@ use Rattle.vax_form.specs.declared.pages.Pages.{Pages}
 use Rattle.system_model.specs.Processors.{Processor}
 use Rattle.system_model.specs.declared.translation.Range.{Range}
 use Rattle.tie_switch.specs.ManyTurns.{IsTurns, Turns}
-use Rattle.tie_switch.specs.Processors.{HasGone, Kept, StandsFor}
+use Rattle.tie_switch.specs.Processors.{HasGone, ProcessorValue, StandsFor}
 use Rattle.tie_switch.specs.Settings.{image_setting}
 use Rattle.tie_switch.specs.Turns.{IsTurn}
 use Rattle.tie_switch.proofs.ManyTurns.{went_are_turns}
 use Rattle.tie_switch.proofs.processor.Processor.advance.Goals as goal
 
 -- what the local steps of prepared code are for the image's code
-gone : (pages pages' : Pages) (code code' : Code) (p : Processor) (n : ℕ) (k old : Kept) (ranges : List Range) → code ≡ code' → pages ≡ pages'
+gone : (pages pages' : Pages) (code code' : Code) (p : Processor) (n : ℕ) (k old : ProcessorValue) (ranges : List Range) → code ≡ code' → pages ≡ pages'
     → ((q : Processor) → StandsFor pages old q → HasGone (image_setting pages code ranges) q n k) → StandsFor pages' old p → HasGone (image_setting pages' code' ranges) p n k
 gone pages pages' code code' p n k old ranges e f went stands =
     subst (λ (c : Code). HasGone (image_setting pages' c ranges) p n k) e

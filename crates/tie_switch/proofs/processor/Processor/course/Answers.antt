@@ -3,7 +3,7 @@ use Rattle.std.proofs.Common.{None, sym, ap, subst}
 use Rattle.alpha_machine.specs.Step.{state_of}
 use Rattle.tie_switch.specs.Courses.{Begins, course_of}
 use Rattle.tie_switch.specs.Inside.{is_local_in}
-use Rattle.tie_switch.specs.Processors.{Kept, processor_of}
+use Rattle.tie_switch.specs.Processors.{ProcessorValue, processor_of}
 use Rattle.tie_switch.specs.Settings.{image_setting}
 use Rattle.tie_switch.proofs.Courses.{begins_there}
 use Rattle.tie_switch.proofs.processor.Processor.course.Goals as goal
@@ -13,7 +13,7 @@ returns-in-Some-clause-begins c =
     let p = c.args.prepared.now in
     let s = image_setting p.pages p.code c.args.ranges.now in
     let k = c.args.self.now in
-    subst (λ (j : Kept). Begins s (processor_of k) (course_of k.thread k.boundary k.ties (record { cpu = c.in-Some.cpu; landed = None; held = j.held; retired = j.retired }) k.steps)) (sym c.self.view_is)
+    subst (λ (j : ProcessorValue). Begins s (processor_of k) (course_of k.thread k.boundary k.interpreted (record { cpu = c.in-Some.cpu; landed = None; held = j.held; retired = j.retired }) k.steps)) (sym c.self.view_is)
     (begins_there s (processor_of k) (state_of c.in-Some.cpu) c.in-Some.ensures.there)
 
 pub returns-in-Some-clause-local : goal.returns-in-Some-clause-local

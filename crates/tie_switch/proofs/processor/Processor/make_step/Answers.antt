@@ -10,7 +10,7 @@ use Rattle.vax_form.specs.declared.state.Reference.{Reference}
 use Rattle.vax_form.specs.declared.state.VaxState.{VaxState}
 use Rattle.vax_long.specs.Pending.{moment_at}
 use Rattle.tie_operands.specs.Replies.{list_of}
-use Rattle.tie_switch.specs.Processors.{HasMade, IsMode, Kept, in_mode}
+use Rattle.tie_switch.specs.Processors.{HasMade, IsMode, ProcessorValue, in_mode}
 use Rattle.tie_switch.specs.Seen.{setting_of}
 use Rattle.tie_switch.specs.declared.processor.Mode.{Mode}
 use Rattle.tie_switch.specs.declared.processor.Mode.TheVariants as modes
@@ -24,7 +24,7 @@ alpha_step-requires-clause-goes g c =
     let old = c.args.self.now in
     let h = c.requires.has_step in
     let p = h.processor in
-    let runs : c.start.new.self.mode ≡ modes.Runs c.in-Runs.cpu = sym (ap (λ (k : Kept). k.mode) c.self.view_is) ∙ c.in-Runs.is in
+    let runs : c.start.new.self.mode ≡ modes.Runs c.in-Runs.cpu = sym (ap (λ (k : ProcessorValue). k.mode) c.self.view_is) ∙ c.in-Runs.is in
     let at = subst (λ (m : Mode). IsMode pages old.thread old.boundary m (model.mode_of setting (in_mode old p.mode) p.mode)) runs (c.start.ensures.starts p.mode h.stands.mode) in
     subst (λ (m : Moment). next setting m (state_of c.in-Runs.cpu) ≢ Stuck) (sym (ap moment_of (c.start.ensures.same p.mode)))
     (not_stuck setting (g.M.Memory.set_up c.args.memory.now) old p (state_of c.in-Runs.cpu) h.stands.same h.can at)
@@ -38,7 +38,7 @@ tie_step-requires-clause-can g c =
     let new = c.start.new.self in
     let h = c.requires.has_step in
     let p = h.processor in
-    let interprets : new.mode ≡ modes.Interprets c.in-Interprets.field-0 c.in-Interprets.field-1 = sym (ap (λ (k : Kept). k.mode) c.self.view_is) ∙ c.in-Interprets.is in
+    let interprets : new.mode ≡ modes.Interprets c.in-Interprets.field-0 c.in-Interprets.field-1 = sym (ap (λ (k : ProcessorValue). k.mode) c.self.view_is) ∙ c.in-Interprets.is in
     let starts = c.start.ensures.starts p.mode h.stands.mode in
     let u = subst (λ (m : Mode). IsMode pages old.thread old.boundary m (model.mode_of setting (in_mode old p.mode) p.mode)) interprets starts in
     let replies = u.replies ++ list_of c.in-Interprets.field-1 in
@@ -66,7 +66,7 @@ returns-in-Runs-clause-turned g c p stands =
     let seen = g.M.Memory.seen c.args.memory.now in
     let seen' = g.M.Memory.seen c.alpha_step.new.memory in
     let cpu = state_of c.in-Runs.cpu in
-    let runs : c.start.new.self.mode ≡ modes.Runs c.in-Runs.cpu = sym (ap (λ (k : Kept). k.mode) c.self.view_is) ∙ c.in-Runs.is in
+    let runs : c.start.new.self.mode ≡ modes.Runs c.in-Runs.cpu = sym (ap (λ (k : ProcessorValue). k.mode) c.self.view_is) ∙ c.in-Runs.is in
     let at = subst (λ (m : Mode). IsMode pages old.thread old.boundary m (model.mode_of setting (in_mode old p.mode) p.mode)) runs (c.start.ensures.starts p.mode stands.mode) in
     let made = subst (λ (x : Processor). HasMade setting set_up between (alpha_turn setting x (next setting (moment_of x) cpu)) x c.alpha_step.new.self seen seen') (c.start.ensures.same p.mode)
     (c.alpha_step.ensures.turned p.mode) in
@@ -83,7 +83,7 @@ returns-in-Interprets-clause-turned g c p stands =
     let between = g.M.Memory.between c.args.memory.now in
     let seen = g.M.Memory.seen c.args.memory.now in
     let seen' = g.M.Memory.seen c.tie_step.new.memory in
-    let interprets : new.mode ≡ modes.Interprets c.in-Interprets.field-0 c.in-Interprets.field-1 = sym (ap (λ (k : Kept). k.mode) c.self.view_is) ∙ c.in-Interprets.is in
+    let interprets : new.mode ≡ modes.Interprets c.in-Interprets.field-0 c.in-Interprets.field-1 = sym (ap (λ (k : ProcessorValue). k.mode) c.self.view_is) ∙ c.in-Interprets.is in
     let starts = c.start.ensures.starts p.mode stands.mode in
     let u = subst (λ (m : Mode). IsMode pages old.thread old.boundary m (model.mode_of setting (in_mode old p.mode) p.mode)) interprets starts in
     let replies = u.replies ++ list_of c.in-Interprets.field-1 in

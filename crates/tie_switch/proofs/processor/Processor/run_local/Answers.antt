@@ -3,16 +3,16 @@ use Rattle.std.proofs.Common.{◌≡◌, ℕ, zero, suc, ◌<◌, Some, refl, sy
 use Rattle.system_model.specs.Processors.{Processor}
 use Rattle.system_model.specs.Settings.{Setting}
 use Rattle.tie_switch.specs.Inside.{went}
-use Rattle.tie_switch.specs.Processors.{HasGone, IsPlain, Kept, StandsFor, processor_of}
+use Rattle.tie_switch.specs.Processors.{HasGone, IsPlain, ProcessorValue, StandsFor, processor_of}
 use Rattle.tie_switch.proofs.Standing.{plain_is, plain_stands}
 use Rattle.tie_switch.specs.Settings.{image_setting}
 use Rattle.tie_switch.proofs.processor.Processor.run_local.Goals as goal
 
-gone : (setting : Setting) (old new : Kept) (p : Processor) (n : ℕ) → (n ≡ 0 → new ≡ old) → (0 < n → IsPlain old.mode) → (0 < n → IsPlain new.mode)
+gone : (setting : Setting) (old new : ProcessorValue) (p : Processor) (n : ℕ) → (n ≡ 0 → new ≡ old) → (0 < n → IsPlain old.mode) → (0 < n → IsPlain new.mode)
     → went setting (processor_of old) n ≡ Some (processor_of new) → StandsFor setting.meaning.pages old p → HasGone setting p n new
 gone setting old new p zero stays before behind is stands = record {
   processor = p;
-  stands = subst (λ (k : Kept). StandsFor setting.meaning.pages k p) (sym (stays refl)) stands;
+  stands = subst (λ (k : ProcessorValue). StandsFor setting.meaning.pages k p) (sym (stays refl)) stands;
   went = refl;
 }
 gone setting old new p (suc n) stays before behind is stands =

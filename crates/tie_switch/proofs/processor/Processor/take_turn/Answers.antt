@@ -6,7 +6,7 @@ use Rattle.std.proofs.lemmas.Bool.Decides.{nat_tests}
 use Rattle.system_model.specs.Legal.{spent}
 use Rattle.system_model.specs.Processors.{Processor, turn}
 use Rattle.system_model.specs.declared.translation.End.{End}
-use Rattle.tie_switch.specs.Processors.{Kept, StandsFor, end_of, processor_of}
+use Rattle.tie_switch.specs.Processors.{ProcessorValue, StandsFor, end_of, processor_of}
 use Rattle.tie_switch.specs.Seen.{setting_of}
 use Rattle.tie_switch.specs.Turns.{IsStill, Makes}
 use Rattle.tie_switch.proofs.Standing.{out_is}
@@ -31,8 +31,8 @@ returns-then-self-clause-turned g c p stands =
     let between = g.M.Memory.between c.args.memory.now in
     let seen = g.M.Memory.seen c.args.memory.now in
     let none : end_of (processor_of old).mode ≡ None = sym c.end.ensures ∙ none_by c.end.result c.is_some.result c.is_some.ensures c.if-is_some.false in
-    let steps : c.self.inside.steps ≡ old.steps = ap (λ (k : Kept). k.steps) c.self.view_is in
-    let budget : c.self.inside.budget ≡ old.budget = ap (λ (k : Kept). k.budget) c.self.view_is in
+    let steps : c.self.inside.steps ≡ old.steps = ap (λ (k : ProcessorValue). k.steps) c.self.view_is in
+    let budget : c.self.inside.budget ≡ old.budget = ap (λ (k : ProcessorValue). k.budget) c.self.view_is in
     let out = out_is pages old p old.budget stands none ∙ equal old.steps old.budget (sym steps ∙ c.if-self.true ∙ budget) in
     record {
       processor = spent p;
@@ -50,8 +50,8 @@ returns-clause-turned g c p stands =
     let seen = g.M.Memory.seen c.args.memory.now in
     let seen' = g.M.Memory.seen c.make_step.new.memory in
     let none : end_of (processor_of old).mode ≡ None = sym c.end.ensures ∙ none_by c.end.result c.is_some.result c.is_some.ensures c.if-is_some.false in
-    let steps : c.self.inside.steps ≡ old.steps = ap (λ (k : Kept). k.steps) c.self.view_is in
-    let budget : c.self.inside.budget ≡ old.budget = ap (λ (k : Kept). k.budget) c.self.view_is in
+    let steps : c.self.inside.steps ≡ old.steps = ap (λ (k : ProcessorValue). k.steps) c.self.view_is in
+    let budget : c.self.inside.budget ≡ old.budget = ap (λ (k : ProcessorValue). k.budget) c.self.view_is in
     let out = out_is pages old p old.budget stands none ∙ unequal old.steps old.budget (λ e. c.if-self.false (steps ∙ e ∙ sym budget)) in
     let made = c.make_step.ensures.turned p stands in
     record {
