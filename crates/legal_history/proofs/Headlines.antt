@@ -27,12 +27,12 @@ use Rattle.legal_history.specs.OneHistory.{world_of, IsDriven}
 use Rattle.legal_history.proofs.Histories.{one_history}
 use Rattle.block_law.specs.Translations.{Meets}
 use Rattle.system_model.specs.Settings.{Setting, goes_on}
-use Rattle.system_model.specs.Processors.{Mode, New, Runs, Interprets, Ended, Processor, Lost, begun, turn, Reaches}
+use Rattle.system_model.specs.Processors.{Mode, New, Runs, Interprets, Ended, Processor, Stuck, begun, turn, Reaches}
 use Rattle.system_model.specs.Legal.{starts, spent, IsGoing, IsReached, IsLegal}
 use Rattle.legal_history.specs.Entries.{AllPaired, Lock}
-use Rattle.legal_history.specs.Headline.{Claims, HasTies}
+use Rattle.legal_history.specs.Headline.{Claims, HasInterpreted}
 use Rattle.legal_history.proofs.Facts.{IsShown, CanTurn, HasFewEntries, Facts}
-use Rattle.system_model.specs.Interpreted.{threads_of, ties_of, ties_in, end_in, has_raised}
+use Rattle.system_model.specs.Interpreted.{threads_of, interpreted_of, interpreted_in, end_in, has_raised}
 use Rattle.legal_history.specs.Law.{IsRun, HasHeadline, LegalHasHeadline}
 use Rattle.legal_history.specs.OneProcessor.{ReachedIsSteady}
 use Rattle.block_law.specs.Sound.{IsSound}
@@ -90,14 +90,14 @@ not_raised (Runs alpha) g = refl
 not_raised (Interprets state replies) g = refl
 not_raised (Ended end) g = absurd g
 
-over_goes : (setting : Setting) (p : Processor) → turn setting (spent p) ≢ Lost
+over_goes : (setting : Setting) (p : Processor) → turn setting (spent p) ≢ Stuck
 over_goes setting p = λ e. absurd (cc e)
 
 spent_facts : (setting : Setting) (begin : ℕ → Option VaxState) (thread : ℕ) (mine : List Entry) (was : Processor) → IsGoing was.mode → Facts setting begin thread mine was → Facts setting begin thread mine (spent was)
 spent_facts setting begin thread mine was going f = record {
   explained = f.explained;
   shown = record { run = f.shown.run; driven = f.shown.driven; state = f.shown.state; claims = spent_claims was.mode f.shown.run going f.shown.claims };
-  ties = f.ties ∙ ap (λ b. ties_of setting begin thread was.retired w + (ties_in setting thread here_is + (if b then end_in setting thread here_is else 0))) (not_raised was.mode going);
+  interpreted = f.interpreted ∙ ap (λ b. interpreted_of setting begin thread was.retired w + (interpreted_in setting thread here_is + (if b then end_in setting thread here_is else 0))) (not_raised was.mode going);
   steps = f.steps;
   kinds = f.kinds;
   paired = f.paired;
@@ -233,7 +233,7 @@ module _ (setting : Setting) (set_up : SetUp) (budget : ℕ) (entries : List Ent
         record {
           shown = r.0;
           ends = r.1;
-          ties = subst (λ w. HasTies setting begin thread w p) (sym (whole.replies thread)) f.ties;
+          interpreted = subst (λ w. HasInterpreted setting begin thread w p) (sym (whole.replies thread)) f.interpreted;
           kinds = f.kinds;
           goes_on = f.goes_on;
           steps = f.steps;

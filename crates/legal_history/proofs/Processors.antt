@@ -21,8 +21,9 @@ use Rattle.vax_driven.specs.Threads.{Threads, after_start, wanted, run_at, fault
 use Rattle.system_model.specs.declared.translation.End.{End}
 use Rattle.system_model.specs.declared.translation.End.TheVariants as ends
 use Rattle.system_model.specs.Settings.{Setting, goes_on}
-use Rattle.system_model.specs.Steps.{Last, Comes, Fails, Place, Inside, Lands, Leaves, Next, Moves, Wants, Stuck, Moment, next, settled_last}
-use Rattle.system_model.specs.Processors.{Mode, New, Runs, Interprets, Ended, Processor, all_held, registers_of, mode_by, begun, stepped, tied, arrived, left, placed, moment_of, Turn, Went, Asks, Over, Lost, alpha_turn, kind_by, request_of, tie_turn, turn_in, mode_of, turn, entry_by, Reaches, Begins, Steps, Takes}
+use Rattle.system_model.specs.Steps.{Last, Comes, Fails, Place, Inside, Lands, Leaves, Next, Moves, Wants, Moment, next, settled_last}
+use Rattle.system_model.specs.Steps as step
+use Rattle.system_model.specs.Processors.{Mode, New, Runs, Interprets, Ended, Processor, all_held, registers_of, mode_by, begun, stepped, tied, arrived, left, placed, moment_of, Turn, Went, Asks, Over, Stuck, alpha_turn, kind_by, request_of, tie_turn, turn_in, mode_of, turn, entry_by, Reaches, Begins, Steps, Takes}
 use Rattle.system_model.specs.Counted.{counts, is_counted}
 use Rattle.legal_history.specs.Explained.{with_reply, replies_by, IsWanted, Explained}
 use Rattle.legal_history.specs.Entries.{Paired, AllPaired, fails, counted_in, failed_in, Lock, lock_by, lock_of}
@@ -30,14 +31,14 @@ use Rattle.legal_history.specs.Headline.{Claims}
 use Rattle.legal_history.proofs.Facts.{IsShown, CanTurn, Facts}
 use Rattle.legal_history.proofs.Fair.{IsFair, AllFair}
 use Rattle.legal_history.proofs.Judged.{MadeBy, head_of, for_nothing, share_by, share_of}
-use Rattle.system_model.specs.Interpreted.{threads_of, is_translated, made_in, ties_in, end_in, ties_of, ties_open}
+use Rattle.system_model.specs.Interpreted.{threads_of, is_translated, made_in, interpreted_in, end_in, interpreted_of, interpreted_open}
 use Rattle.legal_history.specs.Kinds.{IsAlpha, IsMadeIn, IsMadeAt, IsMade, AllMadeIn}
 use Rattle.system_model.specs.Quadwords.{reply_from}
 use Rattle.vax_form.specs.Ranges.{FitsPage, IsInRange, StaysInRange}
 use Rattle.vax_form.specs.declared.pages.Pages.{Pages}
 use Rattle.system_model.proofs.Making.{references_can_be_made, steps_can_be_made}
 use Rattle.legal_history.proofs.Paths.{Path, Here, Takes, joined, joined_here, answered, to_ask, silent_ends, comes_state, made_none, made_one}
-use Rattle.legal_history.proofs.Reached.{running, here, reached_more, reached_suc, wanted_is, ties_more, ties_quiet, end_quiet, ties_loud, end_loud}
+use Rattle.legal_history.proofs.Reached.{running, here, reached_more, reached_suc, wanted_is, interpreted_more, interpreted_quiet, end_quiet, interpreted_loud, end_loud}
 use Rattle.legal_history.proofs.Replying.{reply_fits, tie_counts, tie_is, tie_free, tie_paired, tie_kind, tie_share}
 use Rattle.legal_history.proofs.Owed.{more_by, answer_by, OwedPlace, OwedAccess, OwedNext}
 
@@ -104,7 +105,7 @@ module _ (setting : Setting) (starts : ℕ → Option VaxState) (thread : ℕ) w
       room : p.steps + spare ≤ block_steps * p.retired + block_steps + share
       owed : Owes p.boundary p.held lock spare alpha rest
       translated : is_translated setting thread p.boundary ≡ true
-      ties : p.ties ≡ ties_of setting starts thread p.retired w
+      interpreted : p.interpreted ≡ interpreted_of setting starts thread p.retired w
 
     record Plays (w : List ℕ) (lock : Option Lock) (share : ℕ) (p : Processor) (state : VaxState) (pending : List ℕ) : Type 0 where
       rest : Tree
@@ -112,8 +113,8 @@ module _ (setting : Setting) (starts : ℕ → Option VaxState) (thread : ℕ) w
       same : state ≡ p.boundary
       free : lock ≡ None
       room : p.steps ≤ block_steps * p.retired + share
-      interpreted : is_translated setting thread p.boundary ≡ false
-      ties : p.ties ≡ ties_of setting starts thread p.retired w + made_in setting.meaning.pages (tree p.boundary) pending
+      untranslated : is_translated setting thread p.boundary ≡ false
+      interpreted : p.interpreted ≡ interpreted_of setting starts thread p.retired w + made_in setting.meaning.pages (tree p.boundary) pending
 
     -- at a boundary
     record Waits (w : List ℕ) (lock : Option Lock) (share : ℕ) (p : Processor) : Type 0 where
@@ -122,7 +123,7 @@ module _ (setting : Setting) (starts : ℕ → Option VaxState) (thread : ℕ) w
       held : p.held ≡ all_held
       free : lock ≡ None
       room : p.steps ≤ block_steps * p.retired + share
-      ties : p.ties ≡ ties_of setting starts thread p.retired w
+      interpreted : p.interpreted ≡ interpreted_of setting starts thread p.retired w
 
     -- how the thread ended, and the state that it shows
     abbrev Left : List ℕ → Processor → End → Type 0
@@ -133,7 +134,7 @@ module _ (setting : Setting) (starts : ℕ → Option VaxState) (thread : ℕ) w
     record Rests (w : List ℕ) (share : ℕ) (p : Processor) (end : End) : Type 0 where
       left : Left w p end
       room : p.steps ≤ block_steps * p.retired + block_steps + share
-      ties : p.ties ≡ ties_of setting starts thread p.retired w + ties_open setting thread (here setting starts thread p.retired w) (Ended end)
+      interpreted : p.interpreted ≡ interpreted_of setting starts thread p.retired w + interpreted_open setting thread (here setting starts thread p.retired w) (Ended end)
 
     abbrev Stands : List ℕ → Option Lock → (share : ℕ) → Processor → Mode → Type 0
     Stands w lock share p New = Waits w lock share p
@@ -143,7 +144,7 @@ module _ (setting : Setting) (starts : ℕ → Option VaxState) (thread : ℕ) w
 
     -- ---- arrivals
     arrive : (w : List ℕ) (lock : Option Lock) (share : ℕ) (q : Processor) (regs : Regs) → here setting starts thread q.retired w ≡ running q.boundary [] → IsState q.boundary → Form q.boundary q.held regs
-        → lock ≡ None → q.steps ≤ block_steps * q.retired + share → q.ties ≡ ties_of setting starts thread q.retired w
+        → lock ≡ None → q.steps ≤ block_steps * q.retired + share → q.interpreted ≡ interpreted_of setting starts thread q.retired w
         → (o : Option ℕ) → goes_on setting thread q.boundary ≡ o → Stands w lock share q (mode_by o q.boundary regs)
     arrive w lock share q regs at state form free room sum None goes = record {
       rest = tree q.boundary;
@@ -151,8 +152,8 @@ module _ (setting : Setting) (starts : ℕ → Option VaxState) (thread : ℕ) w
       same = refl;
       free = free;
       room = room;
-      interpreted = ap is_some goes;
-      ties = omega (arith, sum, made_none setting.meaning.pages (tree q.boundary));
+      untranslated = ap is_some goes;
+      interpreted = omega (arith, sum, made_none setting.meaning.pages (tree q.boundary));
     }
     arrive w lock share q regs at state form free room sum (Some word) goes = record {
       pending = [];
@@ -162,12 +163,12 @@ module _ (setting : Setting) (starts : ℕ → Option VaxState) (thread : ℕ) w
       room = omega (arith, room);
       owed = subst (λ l. Owes q.boundary q.held l block_steps (at_place regs word) (tree q.boundary)) (sym free) (enter q.boundary q.held regs word state form goes);
       translated = ap is_some goes;
-      ties = sum;
+      interpreted = sum;
     }
 
     settle : (w : List ℕ) (lock : Option Lock) (share : ℕ) (p : Processor) (m : Mode) → p.thread ≡ thread → Stands w lock share p m → Stands w lock share p (mode_of setting p m)
     settle w lock share p New is s =
-        arrive w lock share p (registers_of p.boundary) s.at s.state (subst (λ h. Form p.boundary h (registers_of p.boundary)) (sym s.held) (fresh p.boundary s.state)) s.free s.room s.ties
+        arrive w lock share p (registers_of p.boundary) s.at s.state (subst (λ h. Form p.boundary h (registers_of p.boundary)) (sym s.held) (fresh p.boundary s.state)) s.free s.room s.interpreted
         (goes_on setting p.thread p.boundary) (ap (λ t. goes_on setting t p.boundary) (sym is))
     settle w lock share p (Runs alpha) is s = s
     settle w lock share p (Interprets state pending) is s = s
@@ -179,7 +180,7 @@ module _ (setting : Setting) (starts : ℕ → Option VaxState) (thread : ℕ) w
 
     leave : (w : List ℕ) (lock : Option Lock) (share : ℕ) (p : Processor) (pending : List ℕ) (k : Tree) (last : Last) → p.thread ≡ thread → Flight w p.retired p.boundary pending k → answer setting.meaning.pages k [] ≡ answer_by last → lock ≡ None
         → p.steps ≤ block_steps * p.retired + block_steps + share
-        → p.ties ≡ ties_of setting starts thread p.retired w + (end_in setting thread (here setting starts thread p.retired w) + ties_in setting thread (here setting starts thread p.retired w))
+        → p.interpreted ≡ interpreted_of setting starts thread p.retired w + (end_in setting thread (here setting starts thread p.retired w) + interpreted_in setting thread (here setting starts thread p.retired w))
         → Stands w lock share (left setting p last) (left setting p last).mode
     leave w lock share p pending k (Comes (Finish s)) is f e free room sum =
         let state = comes_state setting.meaning.pages k (Finish s) [] f.range e in
@@ -187,33 +188,33 @@ module _ (setting : Setting) (starts : ℕ → Option VaxState) (thread : ℕ) w
         arrive w lock share (left setting p (Comes (Finish s))) (registers_of s) at state.0 (fresh s state.0) free (omega (arith, room)) sum (goes_on setting p.thread s) (ap (λ t. goes_on setting t s) (sym is))
     leave w lock share p pending k (Comes (Exit s)) is f e free room sum =
         let at = reached_suc setting starts thread p.retired w p.boundary pending (trees.Comes (Exit s) []) f.at (comes w p.retired p.boundary pending k (trees.Comes (Exit s) []) f e) in
-        record { left = (ap (run_at threads thread) at, refl); room = omega (arith, room); ties = omega (arith, sum, ap (ties_in setting thread) at) }
+        record { left = (ap (run_at threads thread) at, refl); room = omega (arith, room); interpreted = omega (arith, sum, ap (interpreted_in setting thread) at) }
     leave w lock share p pending k (Comes (Trap kind s)) is f e free room sum =
         let at = reached_suc setting starts thread p.retired w p.boundary pending (trees.Comes (Trap kind s) []) f.at (comes w p.retired p.boundary pending k (trees.Comes (Trap kind s) []) f e) in
-        record { left = ap (run_at threads thread) at; room = omega (arith, room); ties = omega (arith, sum, ap (ties_in setting thread) at, ap (end_in setting thread) at) }
+        record { left = ap (run_at threads thread) at; room = omega (arith, room); interpreted = omega (arith, sum, ap (interpreted_in setting thread) at, ap (end_in setting thread) at) }
     leave w lock share p pending k (Fails x) is f e free room sum =
         let a = comes w p.retired p.boundary pending k (trees.Fails x) f e in
         record {
           left = ap (run_at threads thread) f.at ∙ ap (λ (a : Answer). Some (record { state = p.boundary; exited = false; raised = fault_of a })) a;
           room = room;
-          ties = omega (arith, sum);
+          interpreted = omega (arith, sum);
         }
 
-    quiet : (w : List ℕ) (p : Processor) (ties : ℕ) (pending : List ℕ) (k : Tree) → Flight w p.retired p.boundary pending k → is_translated setting thread p.boundary ≡ true → ties ≡ ties_of setting starts thread p.retired w
-        → ties ≡ ties_of setting starts thread p.retired w + (end_in setting thread (here setting starts thread p.retired w) + ties_in setting thread (here setting starts thread p.retired w))
-    quiet w p ties pending k f t sum = omega (arith, sum, ties_quiet setting starts thread p.retired w p.boundary pending f.at t, end_quiet setting starts thread p.retired w p.boundary pending f.at t)
+    quiet : (w : List ℕ) (p : Processor) (interpreted : ℕ) (pending : List ℕ) (k : Tree) → Flight w p.retired p.boundary pending k → is_translated setting thread p.boundary ≡ true → interpreted ≡ interpreted_of setting starts thread p.retired w
+        → interpreted ≡ interpreted_of setting starts thread p.retired w + (end_in setting thread (here setting starts thread p.retired w) + interpreted_in setting thread (here setting starts thread p.retired w))
+    quiet w p interpreted pending k f t sum = omega (arith, sum, interpreted_quiet setting starts thread p.retired w p.boundary pending f.at t, end_quiet setting starts thread p.retired w p.boundary pending f.at t)
 
     place : (w : List ℕ) (lock : Option Lock) (share : ℕ) (p : Processor) (pending : List ℕ) (k : Tree) (spare : ℕ) (to : Place) → p.thread ≡ thread → Flight w p.retired p.boundary pending k → p.steps + spare ≤ block_steps * p.retired + block_steps + share
-        → OwedPlace setting.meaning.pages (Owes p.boundary p.held) Form (settled_last p.boundary) lock spare k to → is_translated setting thread p.boundary ≡ true → p.ties ≡ ties_of setting starts thread p.retired w
+        → OwedPlace setting.meaning.pages (Owes p.boundary p.held) Form (settled_last p.boundary) lock spare k to → is_translated setting thread p.boundary ≡ true → p.interpreted ≡ interpreted_of setting starts thread p.retired w
         → Stands w lock share (placed setting p to) (placed setting p to).mode
-    place w lock share p pending k spare (Inside alpha) is f room owed t sum = record { pending = pending; rest = k; spare = spare; flight = f; room = room; owed = owed; translated = t; ties = sum }
+    place w lock share p pending k spare (Inside alpha) is f room owed t sum = record { pending = pending; rest = k; spare = spare; flight = f; room = room; owed = owed; translated = t; interpreted = sum }
     place w lock share p pending k spare (Lands s held regs) is f room owed t sum =
         let e : answer setting.meaning.pages k [] ≡ trees.Comes (Finish s) [] = ap (λ x. answer setting.meaning.pages x []) owed.1 in
         let state = comes_state setting.meaning.pages k (Finish s) [] f.range e in
         let at = reached_suc setting starts thread p.retired w p.boundary pending (trees.Comes (Finish s) []) f.at (comes w p.retired p.boundary pending k (trees.Comes (Finish s) []) f e) in
-        arrive w lock share (arrived setting p s held regs) regs at state.0 owed.2 owed.0 (omega (arith, room)) (quiet w p p.ties pending k f t sum) (goes_on setting p.thread s) (ap (λ t. goes_on setting t s) (sym is))
+        arrive w lock share (arrived setting p s held regs) regs at state.0 owed.2 owed.0 (omega (arith, room)) (quiet w p p.interpreted pending k f t sum) (goes_on setting p.thread s) (ap (λ t. goes_on setting t s) (sym is))
     place w lock share p pending k spare (Leaves last) is f room owed t sum =
-        leave w lock share p pending k (settled_last p.boundary last) is f owed.1 owed.0 (omega (arith, room)) (quiet w p p.ties pending k f t sum)
+        leave w lock share p pending k (settled_last p.boundary last) is f owed.1 owed.0 (omega (arith, room)) (quiet w p p.interpreted pending k f t sum)
 
     -- ---- a step that asks nothing
     moves_alpha : (w : List ℕ) (lock : Option Lock) (share : ℕ) (p q : Processor) (alpha : Alpha) (s : Flies w lock share p alpha) (to : Next) → p.thread ≡ thread
@@ -222,9 +223,9 @@ module _ (setting : Setting) (starts : ℕ → Option VaxState) (thread : ℕ) w
         let e' : placed setting (stepped p) to ≡ q = cc e in
         let room : suc p.steps + (s.spare - 1) ≤ block_steps * p.retired + block_steps + share = omega (arith, some, s.room) in
         subst (λ (x : Processor). Stands w lock share x x.mode) e'
-        (place w lock share (stepped p) s.pending owed.0 (s.spare - 1) to is (fly_to w p.retired p.boundary s.pending s.rest owed.0 owed.1 s.flight) room owed.2 s.translated s.ties)
+        (place w lock share (stepped p) s.pending owed.0 (s.spare - 1) to is (fly_to w p.retired p.boundary s.pending s.rest owed.0 owed.1 s.flight) room owed.2 s.translated s.interpreted)
     moves_alpha w lock share p q alpha s (Wants r on) is some owed e = absurd (cc e)
-    moves_alpha w lock share p q alpha s Stuck is some owed e = absurd (cc e)
+    moves_alpha w lock share p q alpha s step.Stuck is some owed e = absurd (cc e)
 
     last_of : Answer → Last → Type 0
     last_of a last = a ≡ answer_by last
@@ -236,14 +237,14 @@ module _ (setting : Setting) (starts : ℕ → Option VaxState) (thread : ℕ) w
         let e' : left setting (tied p) (Fails x) ≡ q = cc e in
         subst (λ (y : Processor). Stands w lock share y y.mode) e'
         (leave w lock share (tied p) pending s.rest (Fails x) is s.flight (sym (answered setting.meaning.pages (tree p.boundary) s.rest pending s.flight.path) ∙ a) s.free (omega (arith, s.room))
-        (omega (arith, s.ties, ties_loud setting starts thread p.retired w p.boundary pending s.flight.at s.interpreted, end_loud setting starts thread p.retired w p.boundary pending s.flight.at s.interpreted)))
+        (omega (arith, s.interpreted, interpreted_loud setting starts thread p.retired w p.boundary pending s.flight.at s.untranslated, end_loud setting starts thread p.retired w p.boundary pending s.flight.at s.untranslated)))
     moves_tie w lock share p q state pending s (trees.Comes x rest) is a e =
         let e' : left setting (tied p) (Comes x) ≡ q = cc e in
         let here_ends = sym (answered setting.meaning.pages (tree p.boundary) s.rest pending s.flight.path) ∙ a in
         let none = comes_state setting.meaning.pages s.rest x rest s.flight.range here_ends in
         subst (λ (y : Processor). Stands w lock share y y.mode) e'
         (leave w lock share (tied p) pending s.rest (Comes x) is s.flight (here_ends ∙ ap (trees.Comes x) none.1) s.free (omega (arith, s.room))
-        (omega (arith, s.ties, ties_loud setting starts thread p.retired w p.boundary pending s.flight.at s.interpreted, end_loud setting starts thread p.retired w p.boundary pending s.flight.at s.interpreted)))
+        (omega (arith, s.interpreted, interpreted_loud setting starts thread p.retired w p.boundary pending s.flight.at s.untranslated, end_loud setting starts thread p.retired w p.boundary pending s.flight.at s.untranslated)))
 
     moves : (w : List ℕ) (lock : Option Lock) (share : ℕ) (p q : Processor) (m : Mode) → p.thread ≡ thread → Stands w lock share p m → turn_in setting p m ≡ Went q → Stands w lock share q q.mode
     moves w lock share p q New is s e = absurd (cc e)
@@ -312,7 +313,7 @@ module _ (setting : Setting) (starts : ℕ → Option VaxState) (thread : ℕ) w
             made = alpha_made;
             stands = subst (λ u. Stands u (lock_by made.kind made.quad made.before) (share_of (made ∷ mine)) q q.mode) (sym (silent_replies mine made c))
                 (place said (lock_by made.kind made.quad made.before) (share_of (made ∷ mine)) (stepped p) s.pending s.rest (more_by r.kind success (s.spare - 1)) (on before success) is s.flight
-                (spared r.kind success (suc p.steps) (s.spare - 1) (block_steps * p.retired + block_steps) (share_of mine) c room) place_owed s.translated s.ties);
+                (spared r.kind success (suc p.steps) (s.spare - 1) (block_steps * p.retired + block_steps) (share_of mine) c room) place_owed s.translated s.interpreted);
           }
 
       takes_made : (k : Tree) → k ≡ s.rest → (more : ℕ) → more ≤ block_steps → counts r.kind success ≡ true → IsFair r.kind lock made.quad before success
@@ -336,7 +337,7 @@ module _ (setting : Setting) (starts : ℕ → Option VaxState) (thread : ℕ) w
             made = alpha_made;
             stands = subst (λ u. Stands u (lock_by made.kind made.quad made.before) (share_of (made ∷ mine)) q q.mode) (sym (counted_replies mine made a c want))
                 (place (said ++ v ∷ []) (lock_by made.kind made.quad made.before) (share_of (made ∷ mine)) (stepped p) (s.pending ++ v ∷ []) (next_tree v) (s.spare - 1 + more) (on before success) is on_flight
-                room m'.1 s.translated (s.ties ∙ sym (ties_more setting starts thread p.retired said (v ∷ []) p.boundary s.pending s.flight.at)));
+                room m'.1 s.translated (s.interpreted ∙ sym (interpreted_more setting starts thread p.retired said (v ∷ []) p.boundary s.pending s.flight.at)));
           }
 
       takes_either : IsFair r.kind lock made.quad before success → (b : Bool) → counts r.kind success ≡ b
@@ -354,7 +355,7 @@ module _ (setting : Setting) (starts : ℕ → Option VaxState) (thread : ℕ) w
     takes_alpha : (mine : List Entry) (lock : Option Lock) (p : Processor) (alpha : Alpha) (s : Flies (replies_by threads thread mine) lock (share_of mine) p alpha) (to : Next) (before : ℕ) (success : Bool) → p.thread ≡ thread
         → 0 < s.spare → OwedNext setting.meaning.pages (Owes p.boundary p.held) Form (settled_last p.boundary) (setting.meaning.kinds p.boundary.pc) p.retired lock (s.spare - 1) s.rest to → Owed mine lock before success (alpha_turn setting p to)
     takes_alpha mine lock p alpha s (Moves to) before success is some owed = tt
-    takes_alpha mine lock p alpha s Stuck before success is some owed = tt
+    takes_alpha mine lock p alpha s step.Stuck before success is some owed = tt
     takes_alpha mine lock p alpha s (Wants r on) before success is some owed =
         λ fair. takes_either mine lock p alpha s r on is some owed before success fair (counts r.kind success) refl (owed.behind before success fair)
 
@@ -382,13 +383,13 @@ module _ (setting : Setting) (starts : ℕ → Option VaxState) (thread : ℕ) w
           same = s.same;
           free = refl;
           room = omega (arith, s.room, tie_share q success (share_of mine));
-          interpreted = s.interpreted;
-          ties = omega (arith, s.ties, made_more, ties_more setting starts thread p.retired told (v ∷ []) p.boundary pending s.flight.at);
+          untranslated = s.untranslated;
+          interpreted = omega (arith, s.interpreted, made_more, interpreted_more setting starts thread p.retired told (v ∷ []) p.boundary pending s.flight.at);
         } in
         record {
           counted = λ _. record { reference = q; wants = want; of = of };
           paired = tie_paired q lock e.quad s.free;
-          made = made_at told p.retired p.boundary pending false (wanted threads thread p.retired told) (kind_by q.kind) s.flight.at s.interpreted (tie_kind q);
+          made = made_at told p.retired p.boundary pending false (wanted threads thread p.retired told) (kind_by q.kind) s.flight.at s.untranslated (tie_kind q);
           stands = subst (λ x. Stands x (lock_by e.kind e.quad e.before) (share_of (e ∷ mine)) p' (Interprets state (pending ++ v ∷ []))) (sym (counted_replies mine e q c want))
               (subst (λ l. Stands (told ++ v ∷ []) l (share_of (e ∷ mine)) p' (Interprets state (pending ++ v ∷ []))) (sym (tie_free q e.quad before)) plays);
         }
@@ -425,12 +426,12 @@ abbrev KeepsThread : Processor → Turn → Type 0
 KeepsThread p (Went q) = q.thread ≡ p.thread
 KeepsThread p (Asks r on) = (before : ℕ) (success : Bool) → (on before success).thread ≡ p.thread
 KeepsThread p Over = Unit {0}
-KeepsThread p Lost = Unit {0}
+KeepsThread p Stuck = Unit {0}
 
 alpha_thread : (setting : Setting) (p : Processor) (to : Next) → KeepsThread p (alpha_turn setting p to)
 alpha_thread setting p (Moves to) = placed_thread setting (stepped p) to
 alpha_thread setting p (Wants r on) = λ before success. placed_thread setting (stepped p) (on before success)
-alpha_thread setting p Stuck = tt
+alpha_thread setting p step.Stuck = tt
 
 tie_thread : (setting : Setting) (p : Processor) (state : VaxState) (pending : List ℕ) (a : Answer) → KeepsThread p (tie_turn setting p state pending a)
 tie_thread setting p state pending (trees.Wants q) = λ before success. refl
@@ -497,7 +498,7 @@ module _ (setting : Setting) (starts : ℕ → Option VaxState) (thread : ℕ) (
     long : length mine ≤ 2 * (counted_in mine + failed_in mine) + open_by (lock_of mine)
 
   begins : Here_stands [] None 0 (begun thread start) New
-  begins = record { at = ap (λ (o : Option VaxState). after_start (setting.meaning.moment thread) setting.meaning.pages o 0 []) started; state = ranged; held = refl; free = refl; room = omega arith; ties = refl }
+  begins = record { at = ap (λ (o : Option VaxState). after_start (setting.meaning.moment thread) setting.meaning.pages o 0 []) started; state = ranged; held = refl; free = refl; room = omega arith; interpreted = refl }
 
   told : (n : ℕ) (mine : List Entry) (p : Processor) → Reaches setting (begun thread start) n mine p → AllFair mine → Told mine p
   told n mine p Begins fair = record { is = refl; explained = tt; stands = begins; made = tt; paired = tt; long = omega arith }
@@ -552,22 +553,22 @@ module _ (setting : Setting) (starts : ℕ → Option VaxState) (thread : ℕ) (
   bounded w lock share p (Interprets state pending) s = omega (arith, s.room)
   bounded w lock share p (Ended end) s = s.room
 
-  none_made : (w : List ℕ) (n : ℕ) (b : VaxState) → here setting starts thread n w ≡ running b [] → ties_in setting thread (here setting starts thread n w) ≡ 0
-  none_made w n b at = ap (ties_in setting thread) at ∙ either_none (is_translated setting thread b) (made_in setting.meaning.pages (setting.meaning.moment thread b) []) (made_none setting.meaning.pages (setting.meaning.moment thread b))
+  none_made : (w : List ℕ) (n : ℕ) (b : VaxState) → here setting starts thread n w ≡ running b [] → interpreted_in setting thread (here setting starts thread n w) ≡ 0
+  none_made w n b at = ap (interpreted_in setting thread) at ∙ either_none (is_translated setting thread b) (made_in setting.meaning.pages (setting.meaning.moment thread b) []) (made_none setting.meaning.pages (setting.meaning.moment thread b))
 
   tied_in : (w : List ℕ) (lock : Option Lock) (share : ℕ) (p : Processor) (m : Mode) → Here_stands w lock share p m
-      → p.ties ≡ ties_of setting starts thread p.retired w + ties_open setting thread (here setting starts thread p.retired w) m
-  tied_in w lock share p New s = omega (arith, s.ties, none_made w p.retired p.boundary s.at)
-  tied_in w lock share p (Runs alpha) s = omega (arith, s.ties, ties_quiet setting starts thread p.retired w p.boundary s.pending s.flight.at s.translated)
-  tied_in w lock share p (Interprets state pending) s = omega (arith, s.ties, ties_loud setting starts thread p.retired w p.boundary pending s.flight.at s.interpreted)
-  tied_in w lock share p (Ended end) s = s.ties
+      → p.interpreted ≡ interpreted_of setting starts thread p.retired w + interpreted_open setting thread (here setting starts thread p.retired w) m
+  tied_in w lock share p New s = omega (arith, s.interpreted, none_made w p.retired p.boundary s.at)
+  tied_in w lock share p (Runs alpha) s = omega (arith, s.interpreted, interpreted_quiet setting starts thread p.retired w p.boundary s.pending s.flight.at s.translated)
+  tied_in w lock share p (Interprets state pending) s = omega (arith, s.interpreted, interpreted_loud setting starts thread p.retired w p.boundary pending s.flight.at s.untranslated)
+  tied_in w lock share p (Ended end) s = s.interpreted
 
-  alpha_moves : (p : Processor) (lock : Option Lock) (spare : ℕ) (k : Tree) (to : Next) → OwedNext setting.meaning.pages (Owes p.boundary p.held) Form (settled_last p.boundary) (setting.meaning.kinds p.boundary.pc) p.retired lock spare k to → alpha_turn setting p to ≢ Lost
+  alpha_moves : (p : Processor) (lock : Option Lock) (spare : ℕ) (k : Tree) (to : Next) → OwedNext setting.meaning.pages (Owes p.boundary p.held) Form (settled_last p.boundary) (setting.meaning.kinds p.boundary.pc) p.retired lock spare k to → alpha_turn setting p to ≢ Stuck
   alpha_moves p lock spare k (Moves to) o e = absurd (cc e)
   alpha_moves p lock spare k (Wants r on) o e = absurd (cc e)
-  alpha_moves p lock spare k Stuck o e = absurd o
+  alpha_moves p lock spare k step.Stuck o e = absurd o
 
-  tie_moves : (p : Processor) (state : VaxState) (pending : List ℕ) (a : Answer) → tie_turn setting p state pending a ≢ Lost
+  tie_moves : (p : Processor) (state : VaxState) (pending : List ℕ) (a : Answer) → tie_turn setting p state pending a ≢ Stuck
   tie_moves p state pending (trees.Wants q) e = absurd (cc e)
   tie_moves p state pending (trees.Fails x) e = absurd (cc e)
   tie_moves p state pending (trees.Comes x rest) e = absurd (cc e)
@@ -576,11 +577,11 @@ module _ (setting : Setting) (starts : ℕ → Option VaxState) (thread : ℕ) (
   new_moves p None b regs e = absurd (cc e)
   new_moves p (Some word) b regs e = absurd (cc e)
 
-  moves_in : (w : List ℕ) (lock : Option Lock) (share : ℕ) (p : Processor) (m : Mode) → p.thread ≡ thread → m ≢ New → Here_stands w lock share p m → turn_in setting p m ≢ Lost
+  moves_in : (w : List ℕ) (lock : Option Lock) (share : ℕ) (p : Processor) (m : Mode) → p.thread ≡ thread → m ≢ New → Here_stands w lock share p m → turn_in setting p m ≢ Stuck
   moves_in w lock share p New is old s = absurd (old refl)
   moves_in w lock share p (Runs alpha) is old s =
       let o = opens p.retired p.boundary p.held lock s.spare alpha s.rest s.owed in
-      subst (λ t. alpha_turn setting p (next setting (moment_at t p.retired p.boundary p.held) alpha) ≢ Lost) (sym is) (alpha_moves p lock (s.spare - 1) s.rest (next setting (moment_at thread p.retired p.boundary p.held) alpha) o.1)
+      subst (λ t. alpha_turn setting p (next setting (moment_at t p.retired p.boundary p.held) alpha) ≢ Stuck) (sym is) (alpha_moves p lock (s.spare - 1) s.rest (next setting (moment_at thread p.retired p.boundary p.held) alpha) o.1)
   moves_in w lock share p (Interprets state pending) is old s = tie_moves p state pending (answer setting.meaning.pages (setting.meaning.moment p.thread state) pending)
   moves_in w lock share p (Ended end) is old s = λ e. absurd (cc e)
 
@@ -588,7 +589,7 @@ module _ (setting : Setting) (starts : ℕ → Option VaxState) (thread : ℕ) (
   alpha_asks : (set_up : SetUp) → setting.meaning.pages ≡ set_up.image.pages → (p : Processor) (alpha : Alpha) (to : Next) → next setting (moment_of p) alpha ≡ to → CanTurn set_up (alpha_turn setting p to)
   alpha_asks set_up pages p alpha (Moves to) e = tt
   alpha_asks set_up pages p alpha (Wants r on) e = steps_can_be_made setting set_up (moment_of p) alpha r on pages e
-  alpha_asks set_up pages p alpha Stuck e = tt
+  alpha_asks set_up pages p alpha step.Stuck e = tt
 
   -- and the reference that an interpreted instruction wants
   tie_asks : (set_up : SetUp) → setting.meaning.pages ≡ set_up.image.pages → (w : List ℕ) (lock : Option Lock) (share : ℕ) (p : Processor) (state : VaxState) (pending : List ℕ) (a : Answer)
@@ -627,7 +628,7 @@ module _ (setting : Setting) (starts : ℕ → Option VaxState) (thread : ℕ) (
       record {
         explained = t.explained;
         shown = shown_in w (lock_of mine) (share_of mine) p p.mode refl t.stands;
-        ties = tied_in w (lock_of mine) (share_of mine) p p.mode t.stands;
+        interpreted = tied_in w (lock_of mine) (share_of mine) p p.mode t.stands;
         steps = omega (arith, share_is mine, bound);
         kinds = t.made;
         paired = t.paired;

@@ -8,7 +8,7 @@ use Rattle.vax_form.specs.After.{if_runs, one_more, after, KeepsRetired}
 use Rattle.vax_form.proofs.Afters.{after_with_more}
 use Rattle.system_model.specs.Settings.{Setting}
 use Rattle.vax_driven.specs.Threads.{after_start, reached, wanted_of, wanted_at, wanted}
-use Rattle.system_model.specs.Interpreted.{threads_of, is_translated, made_in, ties_in, end_in, ties_of}
+use Rattle.system_model.specs.Interpreted.{threads_of, is_translated, made_in, interpreted_in, end_in, interpreted_of}
 use Rattle.legal_history.proofs.Paths.{made_more}
 
 -- the thread goes on at a state, with these replies left
@@ -88,18 +88,18 @@ module _ (setting : Setting) (starts : ℕ → Option VaxState) (thread : ℕ) w
   more_ties false n m e = e
 
   -- more replies change no instruction that has retired
-  pub ties_more : (n : ℕ) (w v : List ℕ) (state : VaxState) (left : List ℕ) → here n w ≡ running state left → ties_of setting starts thread n (w ++ v) ≡ ties_of setting starts thread n w
-  ties_more zero w v state left e = refl
-  ties_more (suc n) w v state left e =
+  pub interpreted_more : (n : ℕ) (w v : List ℕ) (state : VaxState) (left : List ℕ) → here n w ≡ running state left → interpreted_of setting starts thread n (w ++ v) ≡ interpreted_of setting starts thread n w
+  interpreted_more zero w v state left e = refl
+  interpreted_more (suc n) w v state left e =
       let l = back n w state left e in
-      let ih = ties_more n w v l.0 l.1 l.2 in
+      let ih = interpreted_more n w v l.0 l.1 l.2 in
       let more = reached_more n w v l.0 l.1 l.2 in
       let ends_same : end_in setting thread (here n (w ++ v)) ≡ end_in setting thread (here n w) = ap (end_in setting thread) more ∙ sym (ap (end_in setting thread) l.2) in
-      let ties_same : ties_in setting thread (here n (w ++ v)) ≡ ties_in setting thread (here n w) =
-      ap (ties_in setting thread) more
+      let interpreted_same : interpreted_in setting thread (here n (w ++ v)) ≡ interpreted_in setting thread (here n w) =
+      ap (interpreted_in setting thread) more
       ∙ more_ties (is_translated setting thread l.0) (made_in setting.meaning.pages (setting.meaning.moment thread l.0) l.1) (made_in setting.meaning.pages (setting.meaning.moment thread l.0) (l.1 ++ v)) (made_more setting.meaning.pages (setting.meaning.moment thread l.0) l.1 v left (Finish state) l.3)
-      ∙ sym (ap (ties_in setting thread) l.2) in
-      omega (arith, ih, ends_same, ties_same)
+      ∙ sym (ap (interpreted_in setting thread) l.2) in
+      omega (arith, ih, ends_same, interpreted_same)
 
   -- what a translated instruction adds, and what an interpreted one does
   by_true : (b : Bool) (n : ℕ) → b ≡ true → (if b then 0 else n) ≡ 0
@@ -110,14 +110,14 @@ module _ (setting : Setting) (starts : ℕ → Option VaxState) (thread : ℕ) w
   by_false false n e = refl
   by_false true n e = absurd (cc e)
 
-  pub ties_quiet : (n : ℕ) (w : List ℕ) (state : VaxState) (left : List ℕ) → here n w ≡ running state left → is_translated setting thread state ≡ true → ties_in setting thread (here n w) ≡ 0
-  ties_quiet n w state left e t = ap (ties_in setting thread) e ∙ by_true (is_translated setting thread state) (made_in setting.meaning.pages (setting.meaning.moment thread state) left) t
+  pub interpreted_quiet : (n : ℕ) (w : List ℕ) (state : VaxState) (left : List ℕ) → here n w ≡ running state left → is_translated setting thread state ≡ true → interpreted_in setting thread (here n w) ≡ 0
+  interpreted_quiet n w state left e t = ap (interpreted_in setting thread) e ∙ by_true (is_translated setting thread state) (made_in setting.meaning.pages (setting.meaning.moment thread state) left) t
 
   pub end_quiet : (n : ℕ) (w : List ℕ) (state : VaxState) (left : List ℕ) → here n w ≡ running state left → is_translated setting thread state ≡ true → end_in setting thread (here n w) ≡ 0
   end_quiet n w state left e t = ap (end_in setting thread) e ∙ by_true (is_translated setting thread state) 1 t
 
-  pub ties_loud : (n : ℕ) (w : List ℕ) (state : VaxState) (left : List ℕ) → here n w ≡ running state left → is_translated setting thread state ≡ false → ties_in setting thread (here n w) ≡ made_in setting.meaning.pages (setting.meaning.moment thread state) left
-  ties_loud n w state left e t = ap (ties_in setting thread) e ∙ by_false (is_translated setting thread state) (made_in setting.meaning.pages (setting.meaning.moment thread state) left) t
+  pub interpreted_loud : (n : ℕ) (w : List ℕ) (state : VaxState) (left : List ℕ) → here n w ≡ running state left → is_translated setting thread state ≡ false → interpreted_in setting thread (here n w) ≡ made_in setting.meaning.pages (setting.meaning.moment thread state) left
+  interpreted_loud n w state left e t = ap (interpreted_in setting thread) e ∙ by_false (is_translated setting thread state) (made_in setting.meaning.pages (setting.meaning.moment thread state) left) t
 
   pub end_loud : (n : ℕ) (w : List ℕ) (state : VaxState) (left : List ℕ) → here n w ≡ running state left → is_translated setting thread state ≡ false → end_in setting thread (here n w) ≡ 1
   end_loud n w state left e t = ap (end_in setting thread) e ∙ by_false (is_translated setting thread state) 1 t

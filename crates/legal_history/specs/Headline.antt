@@ -6,7 +6,7 @@ use Rattle.vax_form.specs.declared.state.VaxState.{VaxState}
 use Rattle.vax_driven.specs.declared.ThreadRun.{ThreadRun}
 use Rattle.alpha_meaning.specs.Pieces.{retry_steps}
 use Rattle.block_law.specs.Rounds.{block_steps}
-use Rattle.system_model.specs.Interpreted.{ties}
+use Rattle.system_model.specs.Interpreted.{interpreted}
 use Rattle.system_model.specs.Settings.{Setting}
 use Rattle.system_model.specs.Processors.{Mode, New, Runs, Interprets, Ended, Processor}
 use Rattle.system_model.specs.declared.translation.End.TheVariants as ends
@@ -27,5 +27,5 @@ abbrev pub HasFewSteps : Processor → List Entry → Type 0
 HasFewSteps p mine = p.steps ≤ block_steps * (p.retired + counted_in mine + 1) + retry_steps * failed_in mine
 
 -- its interpreted steps are those of its driven thread
-abbrev pub HasTies : Setting → (starts : ℕ → Option VaxState) → (thread : ℕ) → List ℕ → Processor → Type 0
-HasTies setting starts thread replies p = p.ties ≡ ties setting starts thread p.retired replies p.mode
+abbrev pub HasInterpreted : Setting → (starts : ℕ → Option VaxState) → (thread : ℕ) → List ℕ → Processor → Type 0
+HasInterpreted setting starts thread replies p = p.interpreted ≡ interpreted setting starts thread p.retired replies p.mode

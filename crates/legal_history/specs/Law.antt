@@ -13,10 +13,10 @@ use Rattle.system_model.specs.Counted.{order}
 use Rattle.legal_history.specs.OneHistory.{world_of, IsDriven}
 use Rattle.block_law.specs.Translations.{Meets}
 use Rattle.system_model.specs.Settings.{Setting}
-use Rattle.system_model.specs.Processors.{Processor, Lost, turn}
+use Rattle.system_model.specs.Processors.{Processor, Stuck, turn}
 use Rattle.system_model.specs.Legal.{starts, IsLegal}
 use Rattle.legal_history.specs.Failures.{FailForCause}
-use Rattle.legal_history.specs.Headline.{Claims, HasTies, HasFewSteps}
+use Rattle.legal_history.specs.Headline.{Claims, HasInterpreted, HasFewSteps}
 use Rattle.system_model.specs.Interpreted.{threads_of}
 use Rattle.legal_history.specs.Kinds.{AllMadeIn}
 use Rattle.legal_history.specs.Entries.{AllPaired, counted_in, failed_in}
@@ -40,11 +40,11 @@ pub record IsKept (setting : Setting) (set_up : SetUp) (entries : List Entry) (t
   -- and its end is the thread's
   pub ends : Claims p.mode run
   -- its interpreted steps are the thread's
-  pub ties : HasTies setting (starts set_up.image) thread replies p
+  pub interpreted : HasInterpreted setting (starts set_up.image) thread replies p
   -- entries are of Alpha code where the instruction was translated, and of TIE where it was not
   pub kinds : AllMadeIn setting (starts set_up.image) thread (own thread entries)
   -- it has a step, or has ended
-  pub goes_on : turn setting p ≢ Lost
+  pub goes_on : turn setting p ≢ Stuck
   pub steps : HasFewSteps p (own thread entries)
   pub paired : AllPaired (own thread entries)
 

@@ -10,13 +10,13 @@ use Rattle.block_law.specs.Translations as translations
 use Rattle.vax_form.specs.declared.state.VaxState.{VaxState}
 use Rattle.system_model.specs.Settings.{Setting}
 use Rattle.system_model.specs.Legal.{starts, IsReached}
-use Rattle.system_model.specs.Processors.{Processor, Asks, Lost, turn}
+use Rattle.system_model.specs.Processors.{Processor, Asks, Stuck, turn}
 use Rattle.legal_history.specs.Headline.{HasFewSteps}
 use Rattle.legal_history.specs.Law.{IsRun}
 
 -- a processor has a step, memory can make it if it asks, and few steps are behind it, whatever the others do
 pub record IsSteady (setting : Setting) (set_up : SetUp) (entries : List Entry) (thread : ℕ) (p : Processor) : Type 0 where
-  pub goes_on : turn setting p ≢ Lost
+  pub goes_on : turn setting p ≢ Stuck
   pub asks : (request : Request) (on : ℕ → Bool → Processor) → turn setting p ≡ Asks request on → CanMake set_up request
   pub steps : HasFewSteps p (own thread entries)
 
