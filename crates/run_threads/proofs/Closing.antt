@@ -22,7 +22,7 @@ use Rattle.system_model.specs.Laws.{OthersKeepReached, ReachedAreLegal}
 use Rattle.system_model.specs.Legal.{starts, IsReached, IsLegal}
 use Rattle.system_model.specs.Processors.{Processor}
 use Rattle.system_model.specs.Settings.{Setting}
-use Rattle.tie_switch.specs.Processors.{Kept, processor_of}
+use Rattle.tie_switch.specs.Processors.{ProcessorValue, processor_of}
 use Rattle.tie_switch.specs.Turns.{has_ended}
 use Rattle.run_threads.specs.declared.job.Job.{Job}
 use Rattle.run_threads.specs.Jobs.{IsDone, IsJoined, HasSplit, HasJoined}
@@ -68,7 +68,7 @@ later_are_others thread seen later same =
 -- ---- one thread
 module _ (others_law : OthersKeepReached) (setting : Setting) (memory : SharedMemory) (budget : ℕ) (v : View) (m : Contents) (closed : IsClosed (start_of memory) v m) where
   -- its processor is reached by the whole history
-  pub reached_by_all : (thread : ℕ) (job : Job) (k : Kept) → IsDone setting memory budget thread job → IsJoined v job k
+  pub reached_by_all : (thread : ℕ) (job : Job) (k : ProcessorValue) → IsDone setting memory budget thread job → IsJoined v job k
       → (start : VaxState) → starts (set_up_of memory).image thread ≡ Some start → IsReached setting budget (set_up_of memory).limit (reverse v.seen) thread start (processor_of k)
   reached_by_all thread job k done joined start begins =
       let same : done.pass ≡ joined.pass = some-is done.pass joined.pass (sym done.has.there ∙ joined.there) in
@@ -90,13 +90,13 @@ module _ (others_law : OthersKeepReached) (setting : Setting) (memory : SharedMe
       subst (λ (t : ℕ). IsReached setting budget (set_up_of memory).limit (reverse seen) t ended.start (processor_of job.processor)) done.has.thread_is with_budget in
       let with_start : IsReached setting budget (set_up_of memory).limit (reverse seen) thread start (processor_of job.processor) =
       subst (λ (s : VaxState). IsReached setting budget (set_up_of memory).limit (reverse seen) thread s (processor_of job.processor)) start_is with_thread in
-      subst (λ (x : Kept). IsReached setting budget (set_up_of memory).limit (reverse v.seen) thread start (processor_of x)) (sym joined.processor)
+      subst (λ (x : ProcessorValue). IsReached setting budget (set_up_of memory).limit (reverse v.seen) thread start (processor_of x)) (sym joined.processor)
       (subst (λ (entries : List Entry). IsReached setting budget (set_up_of memory).limit entries thread start (processor_of job.processor)) (sym turned)
       (others_law setting budget (set_up_of memory).limit (reverse later) (reverse seen) thread start (processor_of job.processor) with_start (own_reverse thread later none) few))
 
 -- ---- all threads
 module _ (others_law : OthersKeepReached) (legal_law : ReachedAreLegal) (setting : Setting) (memory : SharedMemory) (budget : ℕ) (keeper next : Pass)
-    (before jobs : List Job) (ended : List Kept) (m : Contents) (pages : setting.meaning.pages ≡ (set_up_of memory).image.pages)
+    (before jobs : List Job) (ended : List ProcessorValue) (m : Contents) (pages : setting.meaning.pages ≡ (set_up_of memory).image.pages)
     (split : HasSplit memory keeper budget before (length (set_up_of memory).image.threads)) (same : length jobs ≡ length before)
     (ran : (j : ℕ) (d : Job) → j < length before → IsDone setting memory (get_or before j d).processor.budget j (get_or jobs j d))
     (joined : HasJoined memory (given_of keeper) next jobs ended (length jobs)) (closed : IsClosed (start_of memory) (view_of next) m) where
@@ -134,7 +134,7 @@ module _ (others_law : OthersKeepReached) (legal_law : ReachedAreLegal) (setting
   all_ended = all_mapped (λ (p : Processor). has_ended p.mode ≡ true) processor_of ended (λ j k below.
       let inside : j < length jobs = omega (arith, below, joined.many) in
       let job = first_of jobs (omega (arith, inside)) in
-      subst (λ (x : Kept). has_ended (processor_of x).mode ≡ true) (sym (joined.each j job k inside).processor) (done j job inside).ended.ended)
+      subst (λ (x : ProcessorValue). has_ended (processor_of x).mode ≡ true) (sym (joined.each j job k inside).processor) (done j job inside).ended.ended)
 
 -- ---- a slice that was lent comes back whole
 pub lent_back : (n : ℕ) (new rest : List Job) → n ≡ length new → take n (new ++ rest) ≡ new

@@ -9,13 +9,13 @@ use Rattle.shared_memory.specs.declared.view.Ended.{Ended}
 use Rattle.shared_memory.specs.declared.view.View.{View}
 use Rattle.shared_memory.specs.Passes.{view_of, number_of, seen_of, own_of, IsPassOf, IsKeeperOf}
 use Rattle.shared_memory.specs.Views as views
-use Rattle.tie_switch.specs.Processors.{Kept}
+use Rattle.tie_switch.specs.Processors.{ProcessorValue}
 use Rattle.run_threads.specs.declared.job.Job.{Job}
 use Rattle.run_threads.specs.Jobs.{HasPass, AllHavePasses, IsJoined, HasJoined}
 use Rattle.run_threads.proofs.Places.{each-snoc, some-is}
 
 -- one that was joined stays so
-joined_still : (other v w : View) (job : Job) (k : Kept) → views.HasJoined other v w → IsJoined v job k → IsJoined w job k
+joined_still : (other v w : View) (job : Job) (k : ProcessorValue) → views.HasJoined other v w → IsJoined v job k → IsJoined w job k
 joined_still other v w job k more i = record {
   processor = i.processor;
   pass = i.pass;
@@ -37,16 +37,16 @@ its_pass memory job n taken has there =
     subst (λ (p : Pass). IsPassOf memory (number_of p) p) (some-is has.0 taken (sym has.1.there ∙ there))
     (subst (λ (m : ℕ). IsPassOf memory m has.0) (sym has.1.of_it.is.number_is) has.1.of_it)
 
-pub joins_one : (memory : SharedMemory) (given : List ℕ) (keeper next pass : Pass) (jobs : List Job) (ended more : List Kept) (job : Job) (n : ℕ)
+pub joins_one : (memory : SharedMemory) (given : List ℕ) (keeper next pass : Pass) (jobs : List Job) (ended more : List ProcessorValue) (job : Job) (n : ℕ)
     → HasJoined memory given keeper jobs ended n → n < length jobs → job ≡ get_or jobs n job → job.pass ≡ Some pass → IsKeeperOf memory next
     → views.HasJoined (view_of pass) (view_of keeper) (view_of next) → own_of pass ≡ own (number_of pass) (seen_of pass) → more ≡ ended ++ job.processor ∷ []
     → HasJoined memory given next jobs more (n + 1)
 joins_one memory given keeper next pass jobs ended more job n h inside at there keeps joined own_is pushes =
-    let fact : ℕ → Kept → Type 0 = λ j k. (d : Job) → IsJoined (view_of next) (get_or jobs j d) k in
+    let fact : ℕ → ProcessorValue → Type 0 = λ j k. (d : Job) → IsJoined (view_of next) (get_or jobs j d) k in
     let last : (d : Job) → IsJoined (view_of next) (get_or jobs n d) job.processor = λ d.
     subst (λ (x : Job). IsJoined (view_of next) x job.processor) (at ∙ get_or_default jobs n job d inside)
     (record { processor = refl; pass = pass; there = there; place = 0; at = ap (λ (l : List Ended). get_elem? l 0) joined.ended; own_is = own_is }) in
-    let all : (j : ℕ) (k : Kept) → j < length (ended ++ job.processor ∷ []) → fact j (get_or (ended ++ job.processor ∷ []) j k) =
+    let all : (j : ℕ) (k : ProcessorValue) → j < length (ended ++ job.processor ∷ []) → fact j (get_or (ended ++ job.processor ∷ []) j k) =
     each-snoc fact ended job.processor
     (λ j k below d. joined_still (view_of pass) (view_of keeper) (view_of next) (get_or jobs j d) (get_or ended j k) joined (h.each j d k (omega (arith, below, h.many))))
     (subst (λ (m : ℕ). fact m job.processor) (sym h.many) last) in
@@ -56,6 +56,6 @@ joins_one memory given keeper next pass jobs ended more job n h inside at there 
       same = joined.given ∙ h.same;
       counts = omega (arith, ap length joined.ended, h.counts);
       many = omega (arith, ap length pushes, many, h.many);
-      each = λ j d k below. subst (λ (l : List Kept). IsJoined (view_of next) (get_or jobs j d) (get_or l j k)) (sym pushes)
+      each = λ j d k below. subst (λ (l : List ProcessorValue). IsJoined (view_of next) (get_or jobs j d) (get_or l j k)) (sym pushes)
           (all j k (omega (arith, below, many, h.many)) d);
     }

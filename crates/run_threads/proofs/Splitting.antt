@@ -13,13 +13,13 @@ use Rattle.shared_memory.proofs.Sums.{only-other}
 use Rattle.vax_form.specs.declared.pages.Pages.{Pages}
 use Rattle.system_model.specs.Legal.{starts}
 use Rattle.system_model.specs.Processors.{Processor, begun}
-use Rattle.tie_switch.specs.Processors.{Kept, StandsFor}
+use Rattle.tie_switch.specs.Processors.{ProcessorValue, StandsFor}
 use Rattle.run_threads.specs.declared.job.Job.{Job}
 use Rattle.run_threads.specs.Jobs.{IsReady, HasSplit}
 use Rattle.run_threads.proofs.Places.{each-snoc}
 
 -- a new processor beside its new pass
-pub new_ready : (memory : SharedMemory) (image : ImageValue) (pass : Pass) (k : Kept) (start : Start) (n : ℕ) → (set_up_of memory).image ≡ image
+pub new_ready : (memory : SharedMemory) (image : ImageValue) (pass : Pass) (k : ProcessorValue) (start : Start) (n : ℕ) → (set_up_of memory).image ≡ image
     → slice_get image.threads n ≡ Some start → ((pages : Pages) → StandsFor pages k (begun n (start_state start))) → IsPassOf memory n pass → seen_of pass ≡ []
     → IsReady memory n (record { processor = k; pass = Some pass })
 new_ready memory image pass k start n is at stands of_it unseen =

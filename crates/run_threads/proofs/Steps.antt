@@ -6,11 +6,11 @@ use Rattle.memory_core.specs.declared.entry.SetUp.{SetUp}
 use Rattle.memory_core.specs.Order.{Meets}
 use Rattle.legal_history.specs.OneProcessor.{ReachedIsSteady}
 use Rattle.system_model.specs.Legal.{starts, IsReached, spent}
-use Rattle.system_model.specs.Processors.{Processor, Turn, Went, Asks, Over, Lost, Begins, begun}
+use Rattle.system_model.specs.Processors.{Processor, Turn, Went, Asks, Over, Stuck, Begins, begun}
 use Rattle.system_model.specs.Processors as model
 use Rattle.system_model.specs.Settings.{Setting}
 use Rattle.tie_switch.specs.Laws.{LocalTurnsKeepReached, TurnsKeepReached}
-use Rattle.tie_switch.specs.Processors.{Kept, HasGone, HasStep, HasTurned}
+use Rattle.tie_switch.specs.Processors.{ProcessorValue, HasGone, HasStep, HasTurned}
 use Rattle.tie_switch.specs.Turns.{IsStill, Makes, is_out}
 use Rattle.run_threads.specs.Processors.{IsBegun, IsUnderWay}
 use Rattle.run_threads.specs.Programs.{CanRun}
@@ -29,21 +29,21 @@ module _ (set_up : SetUp) (p q : Processor) (old new : List Entry) (order : Meet
   made (Asks request on) (inl m) = m.entry.order
   made (Asks request on) (inr r) = r.over.order
   made Over m = stays p m
-  made Lost m = absurd m
+  made Stuck m = absurd m
 
   ordered : (setting : Setting) (b : Bool) → MatchBool b (IsStill (spent p) q old new) (Makes (model.turn setting p) set_up any p q old new) → Meets set_up (reverse new)
   ordered setting true still = stays (spent p) still
   ordered setting false m = made (model.turn setting p) m
 
 -- ---- one turn
-module _ (setting : Setting) (set_up : SetUp) (seen : List Entry) (k : Kept) (way : IsUnderWay setting set_up seen k) where
+module _ (setting : Setting) (set_up : SetUp) (seen : List Entry) (k : ProcessorValue) (way : IsUnderWay setting set_up seen k) where
   -- it has a step, and memory can make it
   pub has_step : ReachedIsSteady → CanRun setting set_up → HasStep setting set_up k
   has_step law can =
       let steady = law setting set_up k.budget (reverse seen) k.thread way.start way.processor can.sound can.meets can.run can.pages way.order way.starts_so way.reached in
       record { processor = way.processor; stands = way.stands; can = record { goes_on = steady.goes_on; asks = steady.asks } }
 
-  pub turns : TurnsKeepReached → (new : List Entry) (to : Kept) → to.thread ≡ k.thread → to.budget ≡ k.budget
+  pub turns : TurnsKeepReached → (new : List Entry) (to : ProcessorValue) → to.thread ≡ k.thread → to.budget ≡ k.budget
       → HasTurned setting set_up any k.budget way.processor to seen new → IsUnderWay setting set_up new to
   turns law new to thread budget turned = record {
     order = ordered set_up way.processor turned.processor seen new way.order setting (is_out k.budget way.processor) turned.turned;
@@ -57,7 +57,7 @@ module _ (setting : Setting) (set_up : SetUp) (seen : List Entry) (k : Kept) (wa
   }
 
   -- turns that ask nothing
-  pub local_turns : LocalTurnsKeepReached → (n : ℕ) (to : Kept) → to.thread ≡ k.thread → to.budget ≡ k.budget → to.steps ≡ k.steps + n → to.steps ≤ to.budget
+  pub local_turns : LocalTurnsKeepReached → (n : ℕ) (to : ProcessorValue) → to.thread ≡ k.thread → to.budget ≡ k.budget → to.steps ≡ k.steps + n → to.steps ≤ to.budget
       → HasGone setting way.processor n to → IsUnderWay setting set_up seen to
   local_turns law n to thread budget steps few gone =
       let before : way.processor.steps ≡ k.steps = ap (λ (p : Processor). p.steps) way.stands.same in
@@ -73,7 +73,7 @@ module _ (setting : Setting) (set_up : SetUp) (seen : List Entry) (k : Kept) (wa
       }
 
 -- ---- its beginning
-pub begins : (setting : Setting) (set_up : SetUp) (seen : List Entry) (k : Kept) → seen ≡ [] → IsBegun set_up.image k → IsUnderWay setting set_up seen k
+pub begins : (setting : Setting) (set_up : SetUp) (seen : List Entry) (k : ProcessorValue) → seen ≡ [] → IsBegun set_up.image k → IsUnderWay setting set_up seen k
 begins setting set_up seen k none b =
     subst (λ (entries : List Entry). IsUnderWay setting set_up entries k) (sym none) (record {
       order = tt;

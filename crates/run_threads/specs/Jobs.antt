@@ -10,7 +10,7 @@ use Rattle.shared_memory.specs.declared.view.View.{View}
 use Rattle.shared_memory.specs.Lists.{times}
 use Rattle.shared_memory.specs.Passes.{set_up_of, view_of, number_of, seen_of, own_of, given_of, ended_of, IsPassOf, IsKeeperOf}
 use Rattle.shared_memory.specs.Rule.{ended_as}
-use Rattle.tie_switch.specs.Processors.{Kept}
+use Rattle.tie_switch.specs.Processors.{ProcessorValue}
 use Rattle.run_threads.specs.declared.job.Job.{Job}
 use Rattle.run_threads.specs.Processors.{IsBegun, HasEnded}
 
@@ -58,7 +58,7 @@ pub record HasSplit (memory : SharedMemory) (keeper : Pass) (budget : ℕ) (jobs
 
 -- ---- and joined
 -- the keeper has taken in the job's pass, whose own list has its entries, and this is the job's processor
-pub record IsJoined (v : View) (job : Job) (k : Kept) : Type 0 where
+pub record IsJoined (v : View) (job : Job) (k : ProcessorValue) : Type 0 where
   pub processor : k ≡ job.processor
   pub pass : Pass
   pub there : job.pass ≡ Some pass
@@ -67,9 +67,9 @@ pub record IsJoined (v : View) (job : Job) (k : Kept) : Type 0 where
   pub own_is : own_of pass ≡ own (number_of pass) (seen_of pass)
 
 -- the jobs below that number were joined
-pub record HasJoined (memory : SharedMemory) (given : List ℕ) (keeper : Pass) (jobs : List Job) (ended : List Kept) (number : ℕ) : Type 0 where
+pub record HasJoined (memory : SharedMemory) (given : List ℕ) (keeper : Pass) (jobs : List Job) (ended : List ProcessorValue) (number : ℕ) : Type 0 where
   pub keeps : IsKeeperOf memory keeper
   pub same : given_of keeper ≡ given
   pub counts : length (ended_of keeper) ≡ number
   pub many : length ended ≡ number
-  pub each : (j : ℕ) (d : Job) (k : Kept) → j < number → IsJoined (view_of keeper) (slice_index_or jobs j d) (slice_index_or ended j k)
+  pub each : (j : ℕ) (d : Job) (k : ProcessorValue) → j < number → IsJoined (view_of keeper) (slice_index_or jobs j d) (slice_index_or ended j k)

@@ -9,17 +9,17 @@ use Rattle.vax_form.specs.declared.state.VaxState.{VaxState}
 use Rattle.system_model.specs.Legal.{starts, IsReached}
 use Rattle.system_model.specs.Processors.{Processor, begun}
 use Rattle.system_model.specs.Settings.{Setting}
-use Rattle.tie_switch.specs.Processors.{Kept, StandsFor, processor_of}
+use Rattle.tie_switch.specs.Processors.{ProcessorValue, StandsFor, processor_of}
 use Rattle.tie_switch.specs.Turns.{has_ended}
 
 -- before its first turn
-pub record IsBegun (image : ImageValue) (k : Kept) : Type 0 where
+pub record IsBegun (image : ImageValue) (k : ProcessorValue) : Type 0 where
   pub start : VaxState
   pub starts_so : starts image k.thread ≡ Some start
   pub stands : (pages : Pages) → StandsFor pages k (begun k.thread start)
 
 -- it stands for a processor that is reached by its own entries of what was seen
-pub record IsUnderWay (setting : Setting) (set_up : SetUp) (seen : List Entry) (k : Kept) : Type 0 where
+pub record IsUnderWay (setting : Setting) (set_up : SetUp) (seen : List Entry) (k : ProcessorValue) : Type 0 where
   pub order : Meets set_up (reverse seen)
   pub start : VaxState
   pub starts_so : starts set_up.image k.thread ≡ Some start
@@ -28,7 +28,7 @@ pub record IsUnderWay (setting : Setting) (set_up : SetUp) (seen : List Entry) (
   pub reached : IsReached setting k.budget set_up.limit (reverse seen) k.thread start processor
 
 -- it has ended, and is reached by its own entries of what was seen
-pub record HasEnded (setting : Setting) (set_up : SetUp) (seen : List Entry) (k : Kept) : Type 0 where
+pub record HasEnded (setting : Setting) (set_up : SetUp) (seen : List Entry) (k : ProcessorValue) : Type 0 where
   pub ended : has_ended (processor_of k).mode ≡ true
   pub start : VaxState
   pub starts_so : starts set_up.image k.thread ≡ Some start

@@ -3,7 +3,7 @@ use Rattle.std.proofs.Common.{◌≡◌, ◌<◌, ◌+◌, ◌++◌, ◌||◌, �
 use Rattle.std.specs.List.{list_any}
 use Rattle.std.proofs.lemmas.List.{take_more, take-append-drop}
 use Rattle.system_model.specs.Processors.{Processor}
-use Rattle.tie_switch.specs.Processors.{Kept as ProcessorValue, processor_of}
+use Rattle.tie_switch.specs.Processors.{ProcessorValue, processor_of}
 use Rattle.system_model.specs.Interpreted.{has_raised}
 use Rattle.vest_cli.specs.Report.{is_spent, lines_of, report_of, done_by_ends}
 use Rattle.vest_files.specs.declared.status.Done.{Done}

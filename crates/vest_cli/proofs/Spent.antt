@@ -22,9 +22,10 @@ use Rattle.legal_history.specs.OneHistory.{world_of}
 use Rattle.system_model.specs.Counted.{order}
 use Rattle.system_model.specs.Interpreted.{threads_of}
 use Rattle.system_model.specs.Legal.{IsAsking, IsLegal, IsReached, IsSpent, starts}
-use Rattle.system_model.specs.Processors.{Mode, New, Runs, Interprets, Ended, Processor, Reaches, Begins, Steps, Takes, Turn, Went, Asks, Over, Lost, alpha_turn, begun, left, mode_by, mode_of, moment_of, placed, stepped, tie_turn, tied, turn, turn_in}
+use Rattle.system_model.specs.Processors.{Mode, New, Runs, Interprets, Ended, Processor, Reaches, Begins, Steps, Takes, Turn, Went, Asks, Over, Stuck, alpha_turn, begun, left, mode_by, mode_of, moment_of, placed, stepped, tie_turn, tied, turn, turn_in}
 use Rattle.system_model.specs.Settings.{Setting, goes_on}
-use Rattle.system_model.specs.Steps.{Last, Comes, Fails, Place, Inside, Lands, Leaves, Next, Moves, Wants, Stuck, next, settled_last}
+use Rattle.system_model.specs.Steps.{Last, Comes, Fails, Place, Inside, Lands, Leaves, Next, Moves, Wants, next, settled_last}
+use Rattle.system_model.specs.Steps as step
 use Rattle.vest_cli.specs.Threads.{SpentByBudget, SpentByLimit, SpentHasCause}
 use Rattle.vest_cli.specs.Report.{is_spent}
 
@@ -49,12 +50,12 @@ module _ (setting : Setting) where
   Unspent (Went q) = is_spent q.mode ≡ false
   Unspent (Asks request on) = (before : ℕ) (success : Bool) → is_spent (on before success).mode ≡ false
   Unspent Over = Unit {0}
-  Unspent Lost = Unit {0}
+  Unspent Stuck = Unit {0}
 
   unspent_alpha : (p : Processor) (to : Next) → Unspent (alpha_turn setting p to)
   unspent_alpha p (Moves place) = unspent_placed (stepped p) place
   unspent_alpha p (Wants request on) = λ before success. unspent_placed (stepped p) (on before success)
-  unspent_alpha p Stuck = tt
+  unspent_alpha p step.Stuck = tt
 
   unspent_tie : (p : Processor) (state : VaxState) (replies : List ℕ) (a : Answer) → Unspent (tie_turn setting p state replies a)
   unspent_tie p state replies (trees.Wants reference) = λ before success. refl

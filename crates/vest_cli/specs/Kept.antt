@@ -4,7 +4,7 @@ use Rattle.image_file.specs.Values.{ImageValue}
 use Rattle.memory_core.specs.declared.entry.Entry.{Entry}
 use Rattle.block_law.specs.Translations.{Code}
 use Rattle.system_model.specs.declared.translation.Range.{Range}
-use Rattle.tie_switch.specs.Processors.{Kept as ProcessorValue}
+use Rattle.tie_switch.specs.Processors.{ProcessorValue}
 
 -- the history is oldest first
 pub record KeptValue : Type 0 where

@@ -21,7 +21,7 @@ use Rattle.system_model.specs.Laws.{BeginningsAreLegal, begun_from}
 use Rattle.system_model.specs.Processors.{Processor, begun}
 use Rattle.system_model.specs.Settings.{Setting}
 use Rattle.tie_switch.specs.Laws.{TurnsStayLegal}
-use Rattle.tie_switch.specs.Processors.{HasStep, HasTurned, Kept, StandsFor, processor_of}
+use Rattle.tie_switch.specs.Processors.{HasStep, HasTurned, ProcessorValue, StandsFor, processor_of}
 use Rattle.tie_switch.specs.Turns.{has_ended}
 use Rattle.tie_switch.specs.declared.turn.Turn.{Turn}
 use Rattle.tie_switch.specs.declared.turn.Turn.TheVariants.{Went, Ended}
@@ -73,7 +73,7 @@ at_changed (a ∷ xs) (suc n) zero y x at = inr at
 at_changed (a ∷ xs) (suc n) (suc m) y x at = elim (at_changed xs n m y x at) [ inl h ↦ inl (ap suc h.0, h.1) | inr h ↦ inr h ]
 
 -- ---- few steps are behind the processor that stands for one of which that is so
-few_of : (pages : Pages) (j : Kept) (q : Processor) (mine : List Entry) → StandsFor pages j q → HasFewSteps q mine → HasFewSteps (processor_of j) mine
+few_of : (pages : Pages) (j : ProcessorValue) (q : Processor) (mine : List Entry) → StandsFor pages j q → HasFewSteps q mine → HasFewSteps (processor_of j) mine
 few_of pages j q mine stands few = subst (λ (x : Processor). HasFewSteps x mine) stands.same few
 
 -- ---- a legal world
@@ -88,7 +88,7 @@ module _ (steady_law : ReachedIsSteady) (legal_law : TurnsStayLegal)
       steady_law setting set_up budget entries thread (start_state there.0) p sound meets run legal.pages legal.order starting
       (legal.each thread (start_state there.0) p starting at)
 
-  module _ (old : WorldValue) (run : IsRun old.memory.set_up) (legal : IsLegalWorld setting old) (thread : ℕ) (k : Kept) (at : slice_get old.processors thread ≡ Some k) where
+  module _ (old : WorldValue) (run : IsRun old.memory.set_up) (legal : IsLegalWorld setting old) (thread : ℕ) (k : ProcessorValue) (at : slice_get old.processors thread ≡ Some k) where
     its_processor : (p : Processor) × (slice_get legal.processors thread ≡ Some p) × StandsFor setting.meaning.pages k p
     its_processor = beside (StandsFor setting.meaning.pages) old.processors legal.processors thread k legal.stand at
 
@@ -98,7 +98,7 @@ module _ (steady_law : ReachedIsSteady) (legal_law : TurnsStayLegal)
         let steady = is_steady old.memory.set_up old.budget (reverse old.memory.history) legal.processors thread its.0 run legal.legal its.1 in
         record { processor = its.0; stands = its.2; can = record { goes_on = steady.goes_on; asks = steady.asks } }
 
-    module _ (new : Contents) (j : Kept) (same : new.set_up ≡ old.memory.set_up) (within_budget : k.budget ≡ old.budget)
+    module _ (new : Contents) (j : ProcessorValue) (same : new.set_up ≡ old.memory.set_up) (within_budget : k.budget ≡ old.budget)
         (turned : (p : Processor) → StandsFor setting.meaning.pages k p → HasTurned setting old.memory.set_up (λ between. between ≡ []) k.budget p j old.memory.history new.history) where
       pub turned_within : (p : Processor) → StandsFor setting.meaning.pages k p
           → HasTurned setting old.memory.set_up (λ between. between ≡ []) old.budget p j old.memory.history new.history
@@ -144,26 +144,26 @@ module _ (steady_law : ReachedIsSteady) (legal_law : TurnsStayLegal)
       }
 
 -- the processors stay those of their threads
-pub each_own : (ks : List Kept) (thread budget : ℕ) (k j : Kept) → ((n : ℕ) (x : Kept) → slice_get ks n ≡ Some x → IsOf n budget x) → slice_get ks thread ≡ Some k
-    → j.thread ≡ k.thread → j.budget ≡ k.budget → (n : ℕ) (x : Kept) → slice_get (slice_set ks thread j) n ≡ Some x → IsOf n budget x
+pub each_own : (ks : List ProcessorValue) (thread budget : ℕ) (k j : ProcessorValue) → ((n : ℕ) (x : ProcessorValue) → slice_get ks n ≡ Some x → IsOf n budget x) → slice_get ks thread ≡ Some k
+    → j.thread ≡ k.thread → j.budget ≡ k.budget → (n : ℕ) (x : ProcessorValue) → slice_get (slice_set ks thread j) n ≡ Some x → IsOf n budget x
 each_own ks thread budget k j each at same_thread same_budget n x there =
     let its = each thread k at in
     let own_j : IsOf thread budget j = record { thread = same_thread ∙ its.thread; budget = same_budget ∙ its.budget } in
     elim (at_changed ks thread n j x there) [
-      | inl h ↦ subst (λ (y : Kept). IsOf n budget y) (sym h.1) (subst (λ (m : ℕ). IsOf m budget j) (sym h.0) own_j)
+      | inl h ↦ subst (λ (y : ProcessorValue). IsOf n budget y) (sym h.1) (subst (λ (m : ℕ). IsOf m budget j) (sym h.0) own_j)
       | inr h ↦ each n x h
     ]
 
 -- ---- new worlds
 -- what a loop over the threads makes
-pub record IsBegun (thread budget : ℕ) (start : Start) (k : Kept) : Type 0 where
+pub record IsBegun (thread budget : ℕ) (start : Start) (k : ProcessorValue) : Type 0 where
   pub stands : (pages : Pages) → StandsFor pages k (begun thread (start_state start))
   pub most : k.budget ≡ budget
 
-abbrev pub AreBegun : (from budget : ℕ) → List Start → List Kept → Type 0
-AreBegun from budget threads ks = (n : ℕ) (k : Kept) (start : Start) → slice_get ks n ≡ Some k → slice_get threads n ≡ Some start → IsBegun (from + n) budget start k
+abbrev pub AreBegun : (from budget : ℕ) → List Start → List ProcessorValue → Type 0
+AreBegun from budget threads ks = (n : ℕ) (k : ProcessorValue) (start : Start) → slice_get ks n ≡ Some k → slice_get threads n ≡ Some start → IsBegun (from + n) budget start k
 
-pub are_zipped : (pages : Pages) (from budget : ℕ) (threads : List Start) (ks : List Kept) → length ks ≡ length threads → AreBegun from budget threads ks
+pub are_zipped : (pages : Pages) (from budget : ℕ) (threads : List Start) (ks : List ProcessorValue) → length ks ≡ length threads → AreBegun from budget threads ks
     → AllZip (StandsFor pages) ks (begun_from from threads)
 are_zipped pages from budget [] [] same each = tt
 are_zipped pages from budget [] (k ∷ ks) same each = absurd (omega (arith, same))
@@ -174,15 +174,15 @@ are_zipped pages from budget (t ∷ threads) (k ∷ ks) same each = (
       (λ n x s at there. subst (λ (m : ℕ). IsBegun m budget s x) (omega arith) (each (suc n) x s at there)),
 )
 
-pub one_more : (threads : List Start) (budget : ℕ) (ks : List Kept) (j : Kept) (start : Start) → AreBegun 0 budget threads ks → slice_get threads (length ks) ≡ Some start
+pub one_more : (threads : List Start) (budget : ℕ) (ks : List ProcessorValue) (j : ProcessorValue) (start : Start) → AreBegun 0 budget threads ks → slice_get threads (length ks) ≡ Some start
     → IsBegun (length ks) budget start j → AreBegun 0 budget threads (ks ++ j ∷ [])
 one_more threads budget ks j start each there begun_j n k s at at_s = elim (last_or ks j n k at) [
   | inl h ↦ each n k s h at_s
   | inr h ↦ let same : start ≡ s = cc (sym there ∙ ap (slice_get threads) (sym h.0) ∙ at_s) in
-      subst (λ (m : ℕ). IsBegun m budget s k) (sym h.0 ∙ omega arith) (subst (λ (x : Kept). IsBegun (length ks) budget s x) (sym h.1) (subst (λ (x : Start). IsBegun (length ks) budget x j) same begun_j))
+      subst (λ (m : ℕ). IsBegun m budget s k) (sym h.0 ∙ omega arith) (subst (λ (x : ProcessorValue). IsBegun (length ks) budget s x) (sym h.1) (subst (λ (x : Start). IsBegun (length ks) budget x j) same begun_j))
 ]
   where
-    last_or : (xs : List Kept) (j : Kept) (n : ℕ) (k : Kept) → slice_get (xs ++ j ∷ []) n ≡ Some k → (slice_get xs n ≡ Some k) ⊎ ((n ≡ length xs) × (k ≡ j))
+    last_or : (xs : List ProcessorValue) (j : ProcessorValue) (n : ℕ) (k : ProcessorValue) → slice_get (xs ++ j ∷ []) n ≡ Some k → (slice_get xs n ≡ Some k) ⊎ ((n ≡ length xs) × (k ≡ j))
     last_or [] j zero k at = inr (refl, let same : j ≡ k = cc at in sym same)
     last_or [] j (suc n) k at = absurd (cc at)
     last_or (x ∷ xs) j zero k at = inl at
@@ -191,8 +191,8 @@ one_more threads budget ks j start each there begun_j n k s at at_s = elim (last
 no_pages : Pages
 no_pages = record { ranges = []; code = [] }
 
-pub are_own : (threads : List Start) (budget : ℕ) (ks : List Kept) → length ks ≡ length threads → AreBegun 0 budget threads ks
-    → (n : ℕ) (k : Kept) → slice_get ks n ≡ Some k → IsOf n budget k
+pub are_own : (threads : List Start) (budget : ℕ) (ks : List ProcessorValue) → length ks ≡ length threads → AreBegun 0 budget threads ks
+    → (n : ℕ) (k : ProcessorValue) → slice_get ks n ≡ Some k → IsOf n budget k
 are_own threads budget ks same each n k at =
     let there = there_is threads n (omega (arith, within ks n k at, same)) in
     let b = each n k there.0 at there.1 in
@@ -209,8 +209,8 @@ begun_length n [] = refl
 begun_length n (x ∷ xs) = ap suc (begun_length (n + 1) xs)
 
 module _ (image : ImageValue) (input : List ℕ) (budget limit miss : ℕ) (threads : List Start) (its : threads ≡ image.threads)
-    (memory : Contents) (is : memory ≡ fresh image input (length threads) limit miss) (ks : List Kept) where
-  pub is_manned : ((pages : Pages) → AllZip (StandsFor pages) ks (begun_from 0 threads)) → ((n : ℕ) (k : Kept) → slice_get ks n ≡ Some k → IsOf n budget k)
+    (memory : Contents) (is : memory ≡ fresh image input (length threads) limit miss) (ks : List ProcessorValue) where
+  pub is_manned : ((pages : Pages) → AllZip (StandsFor pages) ks (begun_from 0 threads)) → ((n : ℕ) (k : ProcessorValue) → slice_get ks n ≡ Some k → IsOf n budget k)
       → ((set_up : SetUp) → set_up.image ≡ image → set_up.input ≡ input → IsRun set_up)
       → IsManned (record { memory = memory; processors = ks; budget = budget })
   is_manned stand each run = record {
@@ -238,7 +238,7 @@ image_is_sound law image pages same bytes =
     law image.pages (codes_written image.pages) all_kinds no_bonus (subst (λ (p : Pages). AreBytes p.code) same bytes) (λ address. omega arith)
 
 -- the picked processor stands at its place
-pub stands_at : (w seen : WorldValue) (n processor : ℕ) (k : Kept) → w ≡ seen → n ≡ processor → processor < length seen.processors → k ≡ get_or w.processors n k
+pub stands_at : (w seen : WorldValue) (n processor : ℕ) (k : ProcessorValue) → w ≡ seen → n ≡ processor → processor < length seen.processors → k ≡ get_or w.processors n k
     → slice_get w.processors n ≡ Some k
 stands_at w seen n processor k same is there value =
     got w.processors n k (omega (arith, is, there, ap (λ (x : WorldValue). length x.processors) same)) ∙ ap Some (sym value)

@@ -10,7 +10,7 @@ use Rattle.system_model.specs.Laws.{begun_from}
 use Rattle.system_model.specs.Legal.{IsLegal}
 use Rattle.system_model.specs.Processors as model
 use Rattle.system_model.specs.Settings.{Setting}
-use Rattle.tie_switch.specs.Processors.{HasTurned, Kept, StandsFor, processor_of}
+use Rattle.tie_switch.specs.Processors.{HasTurned, ProcessorValue, StandsFor, processor_of}
 use Rattle.tie_switch.specs.Turns.{has_ended}
 use Rattle.tie_switch.specs.declared.turn.Turn.{Turn}
 use Rattle.tie_switch.specs.declared.turn.Turn.TheVariants.{Went, Ended}
@@ -19,11 +19,11 @@ use Rattle.vax_form.specs.declared.pages.Pages.{Pages}
 -- the processors are those of the threads, in their order; each may make as many steps as the budget has
 pub record WorldValue : Type 0 where
   pub memory : Contents
-  pub processors : List Kept
+  pub processors : List ProcessorValue
   pub budget : ℕ
 
 -- the processor at a place runs the thread of that number, and may make so many steps
-pub record IsOf (place most : ℕ) (k : Kept) : Type 0 where
+pub record IsOf (place most : ℕ) (k : ProcessorValue) : Type 0 where
   pub thread : k.thread ≡ place
   pub budget : k.budget ≡ most
 
@@ -31,7 +31,7 @@ pub record IsOf (place most : ℕ) (k : Kept) : Type 0 where
 pub record IsManned (w : WorldValue) : Type 0 where
   pub run : IsRun w.memory.set_up
   pub serves : length w.processors ≡ w.memory.processors
-  pub each : (thread : ℕ) (k : Kept) → slice_get w.processors thread ≡ Some k → IsOf thread w.budget k
+  pub each : (thread : ℕ) (k : ProcessorValue) → slice_get w.processors thread ≡ Some k → IsOf thread w.budget k
 
 -- a world before the first turn: nothing was accessed, and each processor stands where its thread starts
 pub record IsNew (image : ImageValue) (input : List ℕ) (most limit miss : ℕ) (w : WorldValue) : Type 0 where
@@ -52,9 +52,9 @@ IsExplained setting w =
 
 -- what a turn of one processor does to a world
 pub record IsPicked (setting : Setting) (thread : ℕ) (turn : Turn) (old new : WorldValue) : Type 0 where
-  pub was : Kept
+  pub was : ProcessorValue
   pub there : slice_get old.processors thread ≡ Some was
-  pub is : Kept
+  pub is : ProcessorValue
   -- no other processor changes
   pub processors : new.processors ≡ slice_set old.processors thread is
   -- it makes the turn of the model

@@ -7,7 +7,7 @@ ghost use Rattle.image_meaning.specs.Meant.{image_meaning};
 ghost use Rattle.memory_core.specs.Contents.{fresh};
 ghost use Rattle.system_model.specs.Laws.{begun_from};
 ghost use Rattle.system_model.specs.Settings.{Setting};
-ghost use Rattle.tie_switch.specs.Processors.{Kept, StandsFor};
+ghost use Rattle.tie_switch.specs.Processors.{ProcessorValue, StandsFor};
 ghost use Rattle.tie_switch.specs.Settings.{image_setting};
 ghost use Rattle.vax_form.specs.declared.pages.Pages.{Pages};
 ghost use Rattle.vest_core.specs.Worlds.{IsExplained, IsLegalWorld, IsNew, IsOf, IsPicked};
@@ -47,7 +47,7 @@ impl Model for World {
 fn begun(alloc: Global, threads: &[Start], budget: u64) -> Result<Vec<Processor>, AllocError>
     requires few { length threads.now < 256 }
     ensures stand { IfOk result (λ ps. (pages : Pages) → AllZip (StandsFor pages) ps.items (begun_from 0 threads.now)) }
-    ensures own { IfOk result (λ ps. (thread : ℕ) (k : Kept) → slice_get ps.items thread ≡ Some k → IsOf thread budget k) }
+    ensures own { IfOk result (λ ps. (thread : ℕ) (k : ProcessorValue) → slice_get ps.items thread ≡ Some k → IsOf thread budget k) }
 {
     let mut processors = Vec::new(alloc);
     for (thread, start) in threads.iter().enumerate() {
@@ -123,7 +123,7 @@ impl World {
     /// The processors, in the order of their threads.
     pub fn processors(&self) -> &[Processor]
         ensures value { result.now ≡ self.now.processors }
-        ensures own { (thread : ℕ) (k : Kept) → slice_get result.now thread ≡ Some k → IsOf thread self.now.budget k }
+        ensures own { (thread : ℕ) (k : ProcessorValue) → slice_get result.now thread ≡ Some k → IsOf thread self.now.budget k }
     {
         self.processors.as_slice()
     }
@@ -132,7 +132,7 @@ impl World {
     pub fn apart(self) -> (MemState, Vec<Processor>)
         ensures memory { result.0 ≡ self.memory }
         ensures processors { result.1.items ≡ self.processors }
-        ensures own { (thread : ℕ) (k : Kept) → slice_get result.1.items thread ≡ Some k → IsOf thread self.budget k }
+        ensures own { (thread : ℕ) (k : ProcessorValue) → slice_get result.1.items thread ≡ Some k → IsOf thread self.budget k }
     {
         (self.memory, self.processors)
     }

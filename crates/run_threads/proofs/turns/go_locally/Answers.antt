@@ -4,14 +4,14 @@ use Rattle.block_law.specs.Translations.{Code}
 use Rattle.vax_form.specs.declared.pages.Pages.{Pages}
 use Rattle.system_model.specs.Processors.{Processor}
 use Rattle.system_model.specs.declared.translation.Range.{Range}
-use Rattle.tie_switch.specs.Processors.{HasGone, Kept, StandsFor}
+use Rattle.tie_switch.specs.Processors.{HasGone, ProcessorValue, StandsFor}
 use Rattle.tie_switch.specs.Settings.{image_setting}
 use Rattle.run_threads.specs.Programs.{setting_of}
 use Rattle.run_threads.proofs.Steps.{local_turns}
 use Rattle.run_threads.proofs.turns.go_locally.Goals as goal
 
 -- what the code that was made ready does is what the program's does
-gone : (pages pages' : Pages) (code code' : Code) (n : ℕ) (k old : Kept) (ranges : List Range) → code ≡ code' → pages ≡ pages'
+gone : (pages pages' : Pages) (code code' : Code) (n : ℕ) (k old : ProcessorValue) (ranges : List Range) → code ≡ code' → pages ≡ pages'
     → ((p : Processor) → StandsFor pages old p → HasGone (image_setting pages code ranges) p n k) → (p : Processor) → StandsFor pages' old p → HasGone (image_setting pages' code' ranges) p n k
 gone pages pages' code code' n k old ranges e f went p stands =
     subst (λ (c : Code). HasGone (image_setting pages' c ranges) p n k) e
