@@ -187,7 +187,7 @@ pub fn end(alloc: Global, question: &str) -> Result<String> {
 fn steps_of(world: &World) -> u64 {
     let mut steps: u64 = 0;
     for processor in world.processors() {
-        steps = steps.saturating_add(processor.tie_steps());
+        steps = steps.saturating_add(processor.interpreted_steps());
     }
     steps
 }

@@ -80,7 +80,7 @@ fn steps_of(alloc: Global, kept: &Kept) -> Result<Vec<Steps>, AllocError> {
     for processor in &kept.processors {
         steps.push(Steps {
             retired: processor.retired(),
-            interpreted: processor.tie_steps(),
+            interpreted: processor.interpreted_steps(),
         })?;
     }
     Ok(steps)

@@ -95,7 +95,7 @@ impl Left {
             "counted" => Ok(count_of(&self.run.history, Which::Counted(thread))),
             "failed" => Ok(count_of(&self.run.history, Which::Failed(thread))),
             "steps" => Ok(self.steps_of(thread)?.retired),
-            "ties" => Ok(self.steps_of(thread)?.interpreted),
+            "interpreted" => Ok(self.steps_of(thread)?.interpreted),
             _ => bail!("an unknown row"),
         }
     }

@@ -45,12 +45,12 @@ fn end_text(alloc: Global, processor: &Processor) -> Result<String, AllocError> 
 /// How a processor stands: its end, what it retired, how many steps were interpreted, R0 and R1.
 fn processor_text(alloc: Global, processor: &Processor) -> Result<String, AllocError> {
     let mut text = end_text(alloc, processor)?;
-    let (retired, ties) = (processor.retired(), processor.tie_steps());
+    let (retired, interpreted) = (processor.retired(), processor.interpreted_steps());
     let state = processor.shown();
     let (r0, r1) = (state.register(0), state.register(1));
     write!(
         text,
-        " retired {retired} ties {ties} r0 {r0:08X} r1 {r1:08X}"
+        " retired {retired} interpreted {interpreted} r0 {r0:08X} r1 {r1:08X}"
     )?;
     Ok(text)
 }
