@@ -1,6 +1,6 @@
 -- The words that make condition codes, and those that keep the operands of a rule.
 -- Alpha Architecture Reference Manual, 4.4 "Integer Arithmetic Instructions", 4.5 "Logical and Shift Instructions".
-use Rattle.std.specs.Prelude.{ℕ, ◌-◌, ◌&&◌, not, if◌then◌else◌, Bool, List, [], ◌∷◌, ◌++◌}
+use Rattle.std.specs.Prelude.{ℕ, ◌+◌, ◌-◌, ◌&&◌, not, if◌then◌else◌, Bool, List, [], ◌∷◌, ◌++◌}
 use Rattle.vax_form.specs.declared.instr.Size.{Size}
 use Rattle.vax_form.specs.declared.state.Flags.{Flags}
 use Rattle.micro_ops.specs.Values.{bits_of}
@@ -11,42 +11,43 @@ use Rattle.alpha_encode.specs.declared.instr.OperateOp.TheVariants as row
 use Rattle.alpha_encode.specs.declared.instr.Second.TheVariants.{Register, Literal}
 use Rattle.alpha_encode.specs.declared.instr.AlphaInstr.{AlphaInstr}
 use Rattle.alpha_encode.specs.declared.instr.AlphaInstr.TheVariants.{Operate}
+use Rattle.alpha_encode.specs.declared.registers.TheConstants.{CARRY_FIRST, NEGATIVE, IS_ZERO, OVERFLOW, CARRY, TEMPORARIES, RULE_FIRST, RULE_SECOND, CARRY_SECOND, ZERO}
 use Rattle.compute_sequences.specs.Words.{raise}
 use Rattle.flag_codegen.specs.Made.{is_made}
 
 -- ---- registers
 -- R16 to R19 are the codes; R21 to R25 hold the temporaries 0 to 4
 abbrev pub negative : ℕ
-negative = 16
+negative = NEGATIVE
 
 abbrev pub zero_code : ℕ
-zero_code = 17
+zero_code = IS_ZERO
 
 abbrev pub overflow : ℕ
-overflow = 18
+overflow = OVERFLOW
 
 abbrev pub carry : ℕ
-carry = 19
+carry = CARRY
 
 abbrev pub first : ℕ
-first = 21
+first = TEMPORARIES
 
 abbrev pub second : ℕ
-second = 22
+second = TEMPORARIES + 1
 
 abbrev pub result : ℕ
-result = 23
+result = TEMPORARIES + 2
 
 -- what is computed where there is no rule, and else scratch
 abbrev pub computed_overflow : ℕ
-computed_overflow = 24
+computed_overflow = TEMPORARIES + 3
 
 abbrev pub computed_carry : ℕ
-computed_carry = 25
+computed_carry = TEMPORARIES + 4
 
 -- R31 reads zero
 abbrev pub nothing : ℕ
-nothing = 31
+nothing = ZERO
 
 -- ---- instructions
 abbrev pub move : (from to : ℕ) → AlphaInstr
@@ -64,13 +65,13 @@ bit_words place to = Operate row.Srl result (Literal place) to ∷ Operate row.A
 
 -- whether one number is less than another, with their signs
 abbrev pub less_words : Size → (a b to : ℕ) → List AlphaInstr
-less_words size a b to = raise size a 24 ∷ raise size b 25 ∷ Operate row.Cmplt 24 (Register 25) to ∷ []
+less_words size a b to = raise size a computed_overflow ∷ raise size b computed_carry ∷ Operate row.Cmplt computed_overflow (Register computed_carry) to ∷ []
 
 -- A sum is less than its first operand exactly where the second is negative, unless it overflows; the first operand is less
 -- than the second exactly where their difference is negative, unless that overflows.
 abbrev pub unlike_words : Size → (a b negative to : ℕ) → List AlphaInstr
 unlike_words size a b negative to =
-    less_words size a b 24 ++ (sign size negative 25 ∷ Operate row.Xor 24 (Register 25) to ∷ [])
+    less_words size a b computed_overflow ++ (sign size negative computed_carry ∷ Operate row.Xor computed_overflow (Register computed_carry) to ∷ [])
 
 -- ---- each code
 abbrev pub negative_words : CodeSource → List AlphaInstr
@@ -131,7 +132,7 @@ when b words = if b then words else []
 
 -- C: its rule's operands in R15 and R30 where it isn't live, else its register
 abbrev pub carry_code : CodeSource → (live : Bool) → List AlphaInstr
-carry_code source live = when (not live) (operand_words source 15 30) ++ when (is_made source live) (carry_words source)
+carry_code source live = when (not live) (operand_words source CARRY_FIRST CARRY_SECOND) ++ when (is_made source live) (carry_words source)
 
 abbrev pub all_live : Flags → Bool
 all_live live = live.n && live.z && live.v
@@ -139,7 +140,7 @@ all_live live = live.n && live.z && live.v
 -- N, Z and V: their rule's operands in R28 and R29 where some isn't live, and the registers of those that are made
 abbrev pub signs_code : CodeSource → (live : Flags) → List AlphaInstr
 signs_code source live =
-    when (not (all_live live)) (operand_words source 28 29)
+    when (not (all_live live)) (operand_words source RULE_FIRST RULE_SECOND)
     ++ (when (is_made source live.v) (overflow_words source)
     ++ (when (is_made source live.n) (negative_words source) ++ when (is_made source live.z) (zero_words source)))
 
