@@ -18,14 +18,14 @@ use Rattle.block_law.specs.Translations.{Code, fetch_of}
 use Rattle.prepared_code.specs.Asks.{AsksInside}
 use Rattle.prepared_code.specs.Sources.{Source}
 use Rattle.prepared_code.specs.declared.asked.Asked.{Asked}
-use Rattle.system_model.specs.Processors.{Mode, Runs, Processor, Asks, Lost, alpha_turn, mode_of, moment_of, placed, stepped, turn, turn_in}
+use Rattle.system_model.specs.Processors.{Mode, Runs, Processor, Asks, Stuck, alpha_turn, mode_of, moment_of, placed, stepped, turn, turn_in}
 use Rattle.system_model.specs.Settings.{Setting}
 use Rattle.system_model.specs.Steps.{Moment, accesses, does, is_defined, next, next_by, place_by, place_of, request_for}
 use Rattle.vax_form.specs.declared.pages.Pages.{Pages}
 use Rattle.vax_form.specs.declared.state.VaxState.{VaxState}
 use Rattle.tie_switch.specs.Accesses.{IsAccess}
 use Rattle.tie_switch.specs.Asks.{AsksAt}
-use Rattle.tie_switch.specs.Processors.{IsMode, Kept, StandsFor}
+use Rattle.tie_switch.specs.Processors.{IsMode, ProcessorValue, StandsFor}
 use Rattle.tie_switch.specs.declared.processor.Mode.{Mode as Kind}
 use Rattle.tie_switch.specs.declared.processor.Mode.TheVariants as modes
 use Rattle.tie_switch.proofs.Steps.{access_small}
@@ -42,7 +42,7 @@ standing_by pages thread boundary source a p (modes.Runs cpu) asks is = record {
 standing_by pages thread boundary source a p (modes.Interprets interpreted reply) asks is = absurd asks
 standing_by pages thread boundary source a p (modes.Ended end) asks is = absurd asks
 
-pub standing : (pages : Pages) (source : Source) (a : Asked) (k : Kept) (p : Processor) → AsksAt source k.mode a → StandsFor pages k p → Standing source a p
+pub standing : (pages : Pages) (source : Source) (a : Asked) (k : ProcessorValue) (p : Processor) → AsksAt source k.mode a → StandsFor pages k p → Standing source a p
 standing pages source a k p asks stands = standing_by pages k.thread k.boundary source a p k.mode asks stands.mode
 
 pub is_access : (source : Source) (c : Alpha) (a : Asked) → AsksInside source c a → IsAccess a.access
@@ -67,10 +67,10 @@ turn_by setting source a p s e =
     ap (λ (m : Mode). turn_in setting p (mode_of setting p m)) s.runs ∙ ap (alpha_turn setting p) (next_asks setting (moment_of p) source s.alpha a s.asks e)
 
 -- a processor that has a step is at an access that is defined
-pub is_defined_there : (setting : Setting) (source : Source) (a : Asked) (p : Processor) → Standing source a p → source.code ≡ setting.code → turn setting p ≢ Lost → is_defined setting a.access ≡ true
+pub is_defined_there : (setting : Setting) (source : Source) (a : Asked) (p : Processor) → Standing source a p → source.code ≡ setting.code → turn setting p ≢ Stuck → is_defined setting a.access ≡ true
 is_defined_there setting source a p s e goes = by (is_defined setting a.access) (λ lost. goes (turn_by setting source a p s e ∙ lost))
   where
-    by : (b : Bool) → alpha_turn setting p (accesses b setting (moment_of p) (Memory a.op a.register s.asks.base s.asks.disp) a.access s.alpha) ≢ Lost → b ≡ true
+    by : (b : Bool) → alpha_turn setting p (accesses b setting (moment_of p) (Memory a.op a.register s.asks.base s.asks.disp) a.access s.alpha) ≢ Stuck → b ≡ true
     by true h = refl
     by false h = absurd (h refl)
 

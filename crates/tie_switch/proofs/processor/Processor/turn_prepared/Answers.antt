@@ -6,7 +6,7 @@ use Rattle.image_file.specs.Values.{ImageValue}
 use Rattle.system_model.specs.Legal.{spent}
 use Rattle.system_model.specs.Processors.{Mode, New, Runs, Interprets, Ended, turn}
 use Rattle.vax_form.specs.declared.pages.Pages.{Pages}
-use Rattle.tie_switch.specs.Processors.{HasMade, Kept, StandsFor, end_of, processor_of}
+use Rattle.tie_switch.specs.Processors.{HasMade, ProcessorValue, StandsFor, end_of, processor_of}
 use Rattle.tie_switch.specs.Settings.{image_setting}
 use Rattle.tie_switch.specs.Turns.{IsStill, Makes, has_ended}
 use Rattle.tie_switch.proofs.Standing.{out_is}
@@ -36,8 +36,8 @@ returns-in-Some-clause-turned g c p stands =
     let made =
     subst (λ (x : Pages). StandsFor x old p → HasMade (image_setting x code ranges) set_up between (turn (image_setting x code ranges) p) p new seen seen') same (λ s. c.in-Some.ensures.turned p s) stands in
     let none : end_of (processor_of old).mode ≡ None = no_end (processor_of old).mode c.in-Some.ensures.going in
-    let steps : c.self.inside.steps ≡ old.steps = ap (λ (k : Kept). k.steps) c.self.view_is in
-    let budget : c.self.inside.budget ≡ old.budget = ap (λ (k : Kept). k.budget) c.self.view_is in
+    let steps : c.self.inside.steps ≡ old.steps = ap (λ (k : ProcessorValue). k.steps) c.self.view_is in
+    let budget : c.self.inside.budget ≡ old.budget = ap (λ (k : ProcessorValue). k.budget) c.self.view_is in
     let out = out_is pages old p old.budget stands none ∙ below old.steps old.budget (omega (arith, steps, budget, c.if-self.true)) in
     record {
       processor = made.processor;
