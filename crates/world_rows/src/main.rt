@@ -1,5 +1,5 @@
-//! Runs images turn by turn as the rows of data/turns.txt, data/interleavings.txt and data/modes.txt say, compares what is
-//! left with what stands there, and each world with the threads driven by the order of its history.
+//! Runs images turn by turn as the rows of data/turns.txt, data/ranges.txt, data/interleavings.txt and data/modes.txt say,
+//! compares what is left with what stands there, and each world with the threads driven by the order of its history.
 //!
 //! `images` makes the image of a row, `nothing` is a translation of nothing, `worlds` picks processors, `driven` compares a
 //! world with the driven threads, `shown` says in text what is left, and `turns`, `interleavings` and `modes` go through
@@ -24,6 +24,7 @@ use std::fs;
 #[derive(Clone, Copy)]
 enum Topic {
     Turns,
+    Ranges,
     Interleavings,
     Modes,
 }
@@ -32,6 +33,7 @@ impl Topic {
     fn file(self) -> &'static str {
         match self {
             Topic::Turns => "turns.txt",
+            Topic::Ranges => "ranges.txt",
             Topic::Interleavings => "interleavings.txt",
             Topic::Modes => "modes.txt",
         }
@@ -40,6 +42,7 @@ impl Topic {
     fn answer(self, alloc: Global, question: &str) -> Result<String> {
         match self {
             Topic::Turns => turns::answer(alloc, question),
+            Topic::Ranges => turns::answer_translated(alloc, question),
             Topic::Interleavings => interleavings::answer(alloc, question),
             Topic::Modes => modes::answer(alloc, question),
         }
@@ -73,7 +76,12 @@ fn run(rt: &(impl Print + AllocGlobal), topic: Topic, table: &str) -> Result<Tal
 
 fn main(rt: HostRuntime) -> Result<()> {
     let mut all = Tally::NONE;
-    for topic in [Topic::Turns, Topic::Interleavings, Topic::Modes] {
+    for topic in [
+        Topic::Turns,
+        Topic::Ranges,
+        Topic::Interleavings,
+        Topic::Modes,
+    ] {
         let table = fs::read_to_string(&rt, topic.file()).context(topic.file())?;
         all.add(run(&rt, topic, table.as_str())?);
     }

@@ -82,7 +82,8 @@ fn ranges_of(
     Ok(ranges)
 }
 
-fn translated(alloc: Global, image: &Image) -> Result<Translation>
+/// The translation of an image.
+pub fn translated(alloc: Global, image: &Image) -> Result<Translation>
     ensures { IfOk result (Meets (image_meaning image.now.pages)) }
 {
     match translate(alloc, image, &[], Target::Original) {

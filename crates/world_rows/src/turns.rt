@@ -1,16 +1,21 @@
 // One world a row: processors are picked as the row says.
+ghost use Rattle.std.specs.Prelude.{IfOk};
+ghost use Rattle.block_law.specs.Translations.{Meets};
 ghost use Rattle.image_file.specs.Whole.{IsWhole};
-ghost use Rattle.world_rows.specs.Ready.{IsReady};
+ghost use Rattle.image_meaning.specs.Meant.{image_meaning};
+ghost use Rattle.world_rows.specs.Ready.{CanRun, IsReady};
 
 use crate::driven::check_driven;
 use crate::images::{bytes_or_none, image_in, pairs_of};
+use crate::modes::translated;
 use crate::nothing::nothing_translated;
 use crate::shown::{memory_text, order_text, output_text, processors_text};
 use crate::worlds::{Limits, Program, pick_often, world_of};
-use anyhow::{Result, anyhow};
+use anyhow::{Context, Result, anyhow};
 use image_file::Image;
-use row_tally::{fields, longword, number};
+use row_tally::{fields, longword, number, pieces};
 use std::alloc::Global;
+use system_model::{Range, Translation};
 use vest_core::World;
 
 /// Picks threads, each so many times.
@@ -41,24 +46,14 @@ fn left_text(alloc: Global, world: &World, shown: &[(u32, u32)]) -> Result<Strin
     Ok(text)
 }
 
-fn ran(
-    alloc: Global,
-    image: &Image,
+/// A row: an image, its input, the limits, the threads that are picked, and the bytes that are shown.
+#[derive(Drop)]
+struct Case {
+    image: Image,
     input: Vec<u8>,
     limits: Limits,
-    picks: &[(u32, u32)],
-) -> Result<World>
-    requires { IsWhole image.now }
-{
-    let translation = nothing_translated(alloc, image)?;
-    let program = Program {
-        image,
-        translation: &translation,
-        ranges: &[],
-    };
-    let mut world = world_of(alloc, program, input, limits)?;
-    run(&mut world, program, picks)?;
-    Ok(world)
+    picks: Vec<(u32, u32)>,
+    shown: Vec<(u32, u32)>,
 }
 
 fn limits_of(budget: &str, entries: &str) -> Result<Limits> {
@@ -68,30 +63,91 @@ fn limits_of(budget: &str, entries: &str) -> Result<Limits> {
     })
 }
 
-/// What is left of an image's world, by the fields with the input, the picks and what is asked for.
-fn left_in(
-    alloc: Global,
-    image: &Image,
-    limits: Limits,
-    input: &str,
-    picks: &str,
-    shown: &str,
-) -> Result<String>
-    requires { IsWhole image.now }
+/// The case of a row: STARTS CODE STORED INPUT BUDGET LIMIT PICKS SHOWN.
+fn case_of(alloc: Global, question: &str) -> Result<Case>
+    ensures { IfOk result (λ case. IsWhole case.image) }
 {
-    let input = bytes_or_none(alloc, input)?;
-    let picks = pairs_of(alloc, picks)?;
-    let shown = pairs_of(alloc, shown)?;
-    let world = ran(alloc, image, input.to_vec(alloc)?, limits, &picks)?;
-    check_driven(alloc, image, &input, &world)?;
-    left_text(alloc, &world, &shown)
-}
-
-/// What is left of the world of a row: STARTS CODE STORED INPUT BUDGET LIMIT PICKS SHOWN.
-pub fn answer(alloc: Global, question: &str) -> Result<String> {
     let fields = fields(alloc, question, 8)?;
     let limits = limits_of(fields[4], fields[5])?;
     let starts = pairs_of(alloc, fields[0])?;
+    let input = bytes_or_none(alloc, fields[3])?;
+    let picks = pairs_of(alloc, fields[6])?;
+    let shown = pairs_of(alloc, fields[7])?;
     let image = image_in(alloc, &starts, fields[1], fields[2])?;
-    left_in(alloc, &image, limits, fields[3], fields[6], fields[7])
+    Ok(Case {
+        image,
+        input,
+        limits,
+        picks,
+        shown,
+    })
+}
+
+/// The world of a case, where its threads were picked.
+fn ran(alloc: Global, case: &Case, program: Program<'_>) -> Result<World>
+    requires whole { IsWhole program.image.now }
+    requires meets { CanRun program }
+{
+    let mut world = world_of(alloc, program, case.input.to_vec(alloc)?, case.limits)?;
+    run(&mut world, program, &case.picks)?;
+    Ok(world)
+}
+
+/// What is left of the world of a case with a translation, where these addresses are interpreted.
+fn left_in(
+    alloc: Global,
+    case: &Case,
+    translation: &Translation,
+    ranges: &[Range],
+) -> Result<String>
+    requires whole { IsWhole case.now.image }
+    requires meets { Meets (image_meaning case.now.image.pages) translation.now }
+{
+    let program = Program {
+        image: &case.image,
+        translation,
+        ranges,
+    };
+    let world = ran(alloc, case, program)?;
+    check_driven(alloc, &case.image, &case.input, &world)?;
+    left_text(alloc, &world, &case.shown)
+}
+
+/// What is left of the world of a row, with nothing translated.
+pub fn answer(alloc: Global, question: &str) -> Result<String> {
+    let case = case_of(alloc, question)?;
+    let translation = nothing_translated(alloc, &case.image)?;
+    left_in(alloc, &case, &translation, &[])
+}
+
+/// The addresses of a thread, written as THREAD:FIRST-LAST.
+fn range_of(text: &str) -> Result<Range> {
+    let (thread, addresses) = text.split_once(':').context("a thread")?;
+    let (first, last) = addresses.split_once('-').context("two addresses")?;
+    Ok(Range {
+        thread: u8::try_from(longword(thread)?)?,
+        first: longword(first)?,
+        last: longword(last)?,
+    })
+}
+
+/// Ranges with commas between, none for `-`.
+fn ranges_of(alloc: Global, text: &str) -> Result<Vec<Range>> {
+    let mut ranges = Vec::new(alloc);
+    if text == "-" {
+        return Ok(ranges);
+    }
+    for piece in &pieces(alloc, text)? {
+        ranges.push(range_of(piece)?)?;
+    }
+    Ok(ranges)
+}
+
+/// The same with its translation, where the ranges before the row are interpreted.
+pub fn answer_translated(alloc: Global, question: &str) -> Result<String> {
+    let (ranges, question) = question.split_once(' ').context("ranges")?;
+    let ranges = ranges_of(alloc, ranges)?;
+    let case = case_of(alloc, question)?;
+    let translation = translated(alloc, &case.image)?;
+    left_in(alloc, &case, &translation, &ranges)
 }
