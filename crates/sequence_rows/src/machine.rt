@@ -104,7 +104,8 @@ impl Memory {
         } else if !matches!(access.kind, AlphaKind::LoadLocked) {
             self.counted = self.counted.saturating_add(1);
         }
-        let loaded = low(bytes, self.quads >> shift) as u64;
+        let loaded = u64::try_from(low(bytes, self.quads >> shift)).ok();
+        let loaded = loaded.context("a quadword")?;
         if matches!(access.kind, AlphaKind::Store | AlphaKind::StoreConditional) && !fails {
             let mask = low(bytes, u128::MAX) << shift;
             self.quads = self.quads & !mask | u128::from(access.value) << shift;
