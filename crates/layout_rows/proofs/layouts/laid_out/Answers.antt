@@ -9,4 +9,4 @@ three P x y z px py pz (suc (suc zero)) d lt = pz
 three P x y z px py pz (suc (suc (suc k))) d lt = absurd (omega arith)
 
 pub lay_out-requires-clause-blocks : goal.lay_out-requires-clause-blocks
-lay_out-requires-clause-blocks g c k d lt = three IsPlaced (512, c.in_ok-block.field-0) (519, c.in_ok-exit_alone.field-0) (525, c.in_ok-block-2.field-0) (false, c.in_ok-block.ensures) (false, c.in_ok-exit_alone.ensures) (false, c.in_ok-block-2.ensures) k d lt
+lay_out-requires-clause-blocks c k d lt = three IsPlaced (512, c.in_ok-block.field-0) (519, c.in_ok-exit_alone.field-0) (525, c.in_ok-block-2.field-0) (false, c.in_ok-block.ensures) (false, c.in_ok-exit_alone.ensures) (false, c.in_ok-block-2.ensures) k d lt
