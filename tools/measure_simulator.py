@@ -32,11 +32,13 @@ EVERYTHING = "0-FFFFFFFF"
 
 @dataclasses.dataclass
 class Loop:
-    """A loop: its name, its code with N for the turns, instructions a turn, turns, and how it is run."""
+    """A loop: its name, its code with N for the turns, instructions a turn, turns, how many the simulator makes for each of
+    them, and how it is run."""
     name: str
     code: str
     instructions: int
     turns: int
+    simulated: int = 1
     threads: int = 1
     interpreted: bool = False
     aim: str = "-"
@@ -61,7 +63,7 @@ LOOPS = [
     # MOVL #N,R2; CALLS #0 of a procedure that is RET; SOBGTR R2
     Loop("CALLS and RET", "D08F N 52  FB00AF05 F552F9", 3, 50_000),
     # MOVL #N,R11; MOVC3 #4096,@#2000,@#4000; SOBGTR R11
-    Loop("MOVC3 of 4,096 bytes", "D08F N 5B  288F00109F002000009F00400000 F55BEF", 2, 50),
+    Loop("MOVC3 of 4,096 bytes", "D08F N 5B  288F00109F002000009F00400000 F55BEF", 2, 50, simulated=200),
     Loop("registers, interpreted", REGISTERS, 4, 200_000, interpreted=True, aim="0.1"),
     Loop("registers, 4 threads", REGISTERS, 4, 500_000, threads=4),
     # MOVL #N,R2; ADAWI #1,@#1000; SOBGTR R2
@@ -146,7 +148,7 @@ class Simulator:
 
     def seconds(self, loop):
         """The time of the loop's code, which ends by HALT there."""
-        return self.seconds_of(loop.code_bytes(loop.turns, "0000")) - self.start
+        return (self.seconds_of(loop.code_bytes(loop.simulated * loop.turns, "0000")) - self.start) / loop.simulated
 
 
 def figure(value, form):
@@ -166,7 +168,7 @@ def row(loop, program, simulator):
     simulated = count / statistics.median(other) if other else None
     steps = None if loop.interpreted else 1_000_000 / program.retired(loop, "--budget", "1000000")
     entries = entries_of(loop, program) if loop.threads == 1 else None
-    cells = [loop.name, f"{speed / 1e6:.2f}", figure(simulated and simulated / 1e6, ".2f"),
+    cells = [loop.name, f"{speed / 1e6:.4g}", figure(simulated and simulated / 1e6, ".4g"),
              figure(simulated and speed / simulated, ".2f"), loop.aim, figure(program.words(loop), ".1f"),
              figure(steps, ".1f"), figure(entries, ".2f")]
     return "| " + " | ".join(cells) + " |"
