@@ -9,3 +9,4 @@ pub mod Services
 pub mod Translations
 pub mod Sound
 pub mod Blocks
+pub mod Empty

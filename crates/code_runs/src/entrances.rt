@@ -4,10 +4,10 @@ ghost use Rattle.std.specs.List.{filter_map};
 ghost use Rattle.std.specs.Option.{option_to_list};
 ghost use Rattle.code_runs.specs.Runs.{AreInOrder, has};
 ghost use Rattle.code_runs.specs.Entrances.{AreChanged, AreEntrances, NoneStandsAt, StandsAt, also_behind, also_target, joined_by};
-ghost use Rattle.vax_form.specs.Targets.{branch_target, fixed_address, fixed_targets, jump_of, jump_target};
+ghost use Rattle.vax_form.specs.Targets.{branch_target, fixed_targets, jump_of, jump_target};
 
 use std::alloc::{AllocError, Global};
-use vax_form::{Base, Instr, Operand, Operation, operation_of};
+use vax_form::{Instr, Operand, Operation, branch_target, fixed_address, operation_of};
 
 /// From where control comes to an instruction: from behind no other, from behind one alone, or also from elsewhere, since
 /// it is a fixed target or stands behind several.
@@ -47,30 +47,6 @@ pub(crate) fn place_of(instrs: &[Instr], address: u32) -> Option<usize>
     ensures none { IfNone result (NoneStandsAt instrs.now address) }
 {
     instrs.binary_search_by_key(&address, |instr| instr.at).ok()
-}
-
-fn branch_target(operand: &Operand) -> Option<u32>
-    ensures { result ≡ branch_target operand.now }
-{
-    match *operand {
-        Operand::Target(address) => Some(address),
-        _ => None,
-    }
-}
-
-fn fixed_address(operand: &Operand) -> Option<u32>
-    ensures { result ≡ fixed_address operand.now }
-{
-    match *operand {
-        Operand::Place {
-            base: Base::Fixed {
-                address,
-                deferred: false,
-            },
-            index: None,
-        } => Some(address),
-        _ => None,
-    }
 }
 
 #[tactic(auto, unfolding(vax_form::specs::Targets::jump_target))]

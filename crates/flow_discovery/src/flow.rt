@@ -5,10 +5,12 @@ ghost use Rattle.std.specs.Option.{option_to_list};
 ghost use Rattle.vax_form.specs.Grammar.{extended};
 ghost use Rattle.vax_form.specs.declared.instr.Size.TheVariants.{Word};
 ghost use Rattle.flow_discovery.specs.Flow.{case_addresses, falls_through, goes_on, jump_addresses, table_addresses, table_limit, table_target, word_at};
-ghost use Rattle.vax_form.specs.Targets.{branch_target, fixed_address};
+ghost use Rattle.vax_form.specs.Targets.{branch_target};
 
 use std::alloc::{AllocError, Global};
-use vax_form::{Base, Instr, LongOperation, Operand, Operation, Pages, operation_of};
+use vax_form::{
+    Instr, LongOperation, Operand, Operation, Pages, branch_target, fixed_address, operation_of,
+};
 
 #[tactic(auto, unfolding(crate::specs::Flow::falls_through))]
 fn falls_through(operation: Operation) -> bool
@@ -23,30 +25,6 @@ fn falls_through(operation: Operation) -> bool
             | Operation::Breakpoint
             | Operation::Case(_)
     )
-}
-
-fn branch_target(operand: &Operand) -> Option<u32>
-    ensures { result ≡ branch_target operand.now }
-{
-    match *operand {
-        Operand::Target(address) => Some(address),
-        _ => None,
-    }
-}
-
-fn fixed_address(operand: &Operand) -> Option<u32>
-    ensures { result ≡ fixed_address operand.now }
-{
-    match *operand {
-        Operand::Place {
-            base: Base::Fixed {
-                address,
-                deferred: false,
-            },
-            index: None,
-        } => Some(address),
-        _ => None,
-    }
 }
 
 fn push_some(address: Option<u32>, into: &mut Vec<u32>) -> Result<(), AllocError>

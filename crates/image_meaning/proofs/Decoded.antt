@@ -60,12 +60,12 @@ located_fits size at bytes b are (decrement n low these is) = rw is tt
 located_fits size at bytes b are (increment n low these is) = rw is tt
 located_fits size at bytes b are (increment_deferred n low these is) = rw is tt
 located_fits size at bytes b are (absolute d four these is) = rw is (number_below d (behind_first 0x9F d (subst AreBytes these are)) four)
-located_fits size at bytes b are (byte_displacement n twice d low few these is) = rw is tt
-located_fits size at bytes b are (word_displacement n twice d low few these is) = rw is tt
-located_fits size at bytes b are (long_displacement n twice d low few these is) = rw is tt
-located_fits size at bytes b are (byte_relative twice d few these is) = rw is (low_longword _)
-located_fits size at bytes b are (word_relative twice d few these is) = rw is (low_longword _)
-located_fits size at bytes b are (long_relative twice d few these is) = rw is (low_longword _)
+located_fits size at bytes b are (byte_displacement n is_deferred d low few these is) = rw is tt
+located_fits size at bytes b are (word_displacement n is_deferred d low few these is) = rw is tt
+located_fits size at bytes b are (long_displacement n is_deferred d low few these is) = rw is tt
+located_fits size at bytes b are (byte_relative is_deferred d few these is) = rw is (low_longword _)
+located_fits size at bytes b are (word_relative is_deferred d few these is) = rw is (low_longword _)
+located_fits size at bytes b are (long_relative is_deferred d few these is) = rw is (low_longword _)
 
 described_fits : (access : Access) (size : Size) (at : ℕ) (bytes : List ℕ) (o : Operand) → AreBytes bytes → Describes access size at bytes o → FitsOperand o
 described_fits access size at bytes o are (literal v low reads these is) = rw is tt

@@ -4,7 +4,7 @@ use Rattle.std.specs.Prelude.{◌↔◌}
 use Rattle.std.specs.Option.{option_or}
 use Rattle.vax_form.specs.Grammar.{IsSpelled}
 use Rattle.vax_form.specs.Operation.{operation_at}
-use Rattle.vax_form.specs.Row.{class_at, class_of_operation}
+use Rattle.vax_form.specs.Row.{class_at, class_of_operation, is_translated}
 use Rattle.vax_form.specs.declared.instr.Instr.{Instr}
 use Rattle.vax_form.specs.declared.operation.BinaryOperation.TheVariants as binary
 use Rattle.vax_form.specs.declared.operation.Operation.{Operation}
@@ -14,7 +14,7 @@ use Rattle.vax_form.specs.declared.row.Class.TheVariants.{Translated, Tie, Reser
 use Rattle.micro_ops.specs.declared.program.Micro.{Micro}
 use Rattle.micro_lower.specs.Lowering.{Lowers, KeepsTo, IsLowered, AreLongOperands, ProgramsAreTranslated}
 use Rattle.micro_lower.specs.Programs.{plain_program_of}
-use Rattle.micro_lower.specs.Rows.{move_row, arithmetic_row, control_row, own_program_of, row_program_of, program_of_operation, is_translated, has_program, program_for}
+use Rattle.micro_lower.specs.Rows.{move_row, arithmetic_row, control_row, own_program_of, row_program_of, program_of_operation, has_program, program_for}
 use Rattle.micro_lower.proofs.ByRow.{rows_lower}
 use Rattle.micro_lower.proofs.Covered.{plain_lower}
 use Rattle.micro_lower.proofs.KeptRows.{plain_keep, rows_keep}

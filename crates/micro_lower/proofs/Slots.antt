@@ -86,12 +86,12 @@ base_named size at bytes base (Locates.decrement n lt b is) = rw is lt
 base_named size at bytes base (Locates.increment n lt b is) = rw is lt
 base_named size at bytes base (Locates.increment_deferred n lt b is) = rw is lt
 base_named size at bytes base (Locates.absolute d l b is) = rw is tt
-base_named size at bytes base (Locates.byte_displacement n twice d lt l b is) = rw is lt
-base_named size at bytes base (Locates.word_displacement n twice d lt l b is) = rw is lt
-base_named size at bytes base (Locates.long_displacement n twice d lt l b is) = rw is lt
-base_named size at bytes base (Locates.byte_relative twice d l b is) = rw is tt
-base_named size at bytes base (Locates.word_relative twice d l b is) = rw is tt
-base_named size at bytes base (Locates.long_relative twice d l b is) = rw is tt
+base_named size at bytes base (Locates.byte_displacement n is_deferred d lt l b is) = rw is lt
+base_named size at bytes base (Locates.word_displacement n is_deferred d lt l b is) = rw is lt
+base_named size at bytes base (Locates.long_displacement n is_deferred d lt l b is) = rw is lt
+base_named size at bytes base (Locates.byte_relative is_deferred d l b is) = rw is tt
+base_named size at bytes base (Locates.word_relative is_deferred d l b is) = rw is tt
+base_named size at bytes base (Locates.long_relative is_deferred d l b is) = rw is tt
 
 described_named : (access : Access) (size : Size) (at : ℕ) (bytes : List ℕ) (operand : Operand) → Describes access size at bytes operand → NamesRegisters operand size
 described_named access size at bytes operand (Describes.literal v lt is b o) = rw o tt

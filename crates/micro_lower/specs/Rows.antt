@@ -3,7 +3,7 @@
 use Rattle.std.specs.Prelude.{ℕ, List, [], ◌∷◌, ◌++◌, Bool, true, false, Option, Some, None, option_and_then}
 use Rattle.std.specs.Option.{option_or}
 use Rattle.vax_form.specs.Operation.{operation_at}
-use Rattle.vax_form.specs.Row.{class_at}
+use Rattle.vax_form.specs.Row.{class_at, is_translated}
 use Rattle.vax_form.specs.Size.{size_of}
 use Rattle.vax_form.specs.declared.instr.Access.{Access}
 use Rattle.vax_form.specs.declared.instr.Access.TheVariants as accesses
@@ -21,8 +21,6 @@ use Rattle.vax_form.specs.declared.operation.BitStore.{BitStore}
 use Rattle.vax_form.specs.declared.operation.BitStore.TheVariants as stores
 use Rattle.vax_form.specs.declared.operation.Operation.{Operation}
 use Rattle.vax_form.specs.declared.operation.Operation.TheVariants as operations
-use Rattle.vax_form.specs.declared.row.Class.{Class}
-use Rattle.vax_form.specs.declared.row.Class.TheVariants.{Translated}
 use Rattle.vax_meaning.specs.Branches.{target}
 use Rattle.vax_meaning.specs.Evaluation.{operand}
 use Rattle.micro_ops.specs.declared.program.Arg.TheVariants.{Temp, Const, Flag}
@@ -712,10 +710,6 @@ abbrev pub program_of_operation : Operation → Instr → Option (List Micro)
 program_of_operation operation instr = option_or (plain_program_of operation instr) (row_program_of operation instr)
 
 -- ---- of an instruction
-abbrev pub is_translated : Class → Bool
-is_translated Translated = true
-is_translated class = false
-
 -- the instruction has a program: none that is always interpreted, and no reserved one
 unfoldable pub has_program : Instr → Bool
 has_program instr = is_translated (class_at instr.opcode)

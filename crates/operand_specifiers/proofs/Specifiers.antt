@@ -21,8 +21,8 @@ use Rattle.operand_specifiers.specs.Answer.{FitsExtension, FitsSize, answer_of}
 pub FitsExtension-from : (size : Size) (m : Mode) (value : ℕ) → FitsSize (extension_size size m) value → FitsExtension m value
 unfolding extension_size
 FitsExtension-from size mode.Absolute value h = h
-FitsExtension-from size (mode.Displacement s twice) value h = h
-FitsExtension-from size (mode.Relative s twice) value h = h
+FitsExtension-from size (mode.Displacement s is_deferred) value h = h
+FitsExtension-from size (mode.Relative s is_deferred) value h = h
 FitsExtension-from size _ value h = tt
 
 -- the byte at that place

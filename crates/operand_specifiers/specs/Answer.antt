@@ -20,8 +20,8 @@ answer_of at (Some (complete operand, n)) = Ok (operand, at + n)
 -- the number behind the first byte fits where the mode reads an address or a displacement
 abbrev pub FitsExtension : Mode → ℕ → Type 0
 FitsExtension mode.Absolute value = value < 2 ^ 32
-FitsExtension (mode.Displacement size twice) value = value < 2 ^ (8 * bytes_of size)
-FitsExtension (mode.Relative size twice) value = value < 2 ^ (8 * bytes_of size)
+FitsExtension (mode.Displacement size is_deferred) value = value < 2 ^ (8 * bytes_of size)
+FitsExtension (mode.Relative size is_deferred) value = value < 2 ^ (8 * bytes_of size)
 FitsExtension _ value = Unit {0}
 
 -- a number of that size, or 0 where none is read

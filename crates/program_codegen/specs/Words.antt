@@ -10,6 +10,8 @@ use Rattle.vax_form.specs.declared.instr.Width.TheVariants.{Byte, Word, Long}
 use Rattle.alpha_encode.specs.Halves.{load_high, load_low}
 use Rattle.alpha_encode.specs.declared.instr.AlphaInstr.{AlphaInstr}
 use Rattle.alpha_encode.specs.declared.instr.AlphaInstr.TheVariants.{Memory, Branch, Operate, Pal}
+use Rattle.alpha_encode.specs.declared.pal.TheConstants.{PROBE, LOOK_UP, SERVE, RAISE, TRAP}
+use Rattle.alpha_encode.specs.declared.registers.TheConstants.{OVERFLOW, STATUS, TEMPORARIES, TARGET, ADDRESS, RULE_FIRST, RULE_SECOND, ZERO}
 use Rattle.alpha_encode.specs.declared.instr.BranchOp.TheVariants.{Br, Beq}
 use Rattle.alpha_encode.specs.declared.instr.MemoryOp.TheVariants.{Lda}
 use Rattle.alpha_encode.specs.declared.instr.OperateOp.TheVariants.{Addl, And, Bis}
@@ -60,7 +62,7 @@ marked instr point = record { instr = instr; point = Some point; exit = None }
 
 -- a word that does nothing
 abbrev pub idle : AlphaInstr
-idle = Operate Bis 31 (Register 31) 31
+idle = Operate Bis ZERO (Register ZERO) ZERO
 
 -- an exit's words are filled where the block is laid out
 abbrev pub exit_lines : (address : ℕ) → List Line
@@ -69,7 +71,7 @@ exit_lines address = record { instr = idle; point = None; exit = Some address } 
 -- ---- registers
 -- the register of a temporary
 abbrev pub holder : (temp : ℕ) → ℕ
-holder temp = 21 + temp
+holder temp = TEMPORARIES + temp
 
 abbrev pub copy : (from to : ℕ) → AlphaInstr
 copy from to = Operate Bis from (Literal 0) to
@@ -85,16 +87,20 @@ width_of sizes.Word = Word
 width_of sizes.Long = Long
 width_of sizes.Quad = Long
 
+-- the register in which V is made
+abbrev pub made_overflow : ℕ
+made_overflow = holder 3
+
 -- the words that make V behind the instruction by its rule; what is ready is not made
 abbrev pub overflow_made : CodeRule → List AlphaInstr
-overflow_made (rules.Add size) = overflow_code Sum (width_of size) 28 29 24
-overflow_made (rules.Sub size) = overflow_code Difference (width_of size) 28 29 24
+overflow_made (rules.Add size) = overflow_code Sum (width_of size) RULE_FIRST RULE_SECOND made_overflow
+overflow_made (rules.Sub size) = overflow_code Difference (width_of size) RULE_FIRST RULE_SECOND made_overflow
 overflow_made rule = []
 
 -- and the register that has it then
 abbrev pub overflow_register : CodeRule → ℕ
-overflow_register rules.Ready = 18
-overflow_register rule = 24
+overflow_register rules.Ready = OVERFLOW
+overflow_register rule = made_overflow
 
 -- by some rules V is 0
 abbrev pub tells_overflow : CodeRule → Bool
@@ -111,21 +117,21 @@ may_overflow source = false
 
 -- the PC behind the instruction, in R26
 abbrev pub load_pc : (after : ℕ) → Exit → List AlphaInstr
-load_pc after (Fixed address) = load_address 26 address
-load_pc after (Computed temp) = copy (holder temp) 26 ∷ []
+load_pc after (Fixed address) = load_address TARGET address
+load_pc after (Computed temp) = copy (holder temp) TARGET ∷ []
 load_pc after (Choice when taken other) =
-    Branch Beq (holder when) (pos 3) ∷ (load_address 26 taken ++ (Branch Br 31 (pos 2) ∷ load_address 26 other))
-load_pc after exit = load_address 26 after
+    Branch Beq (holder when) (pos 3) ∷ (load_address TARGET taken ++ (Branch Br ZERO (pos 2) ∷ load_address TARGET other))
+load_pc after exit = load_address TARGET after
 
 -- integer overflow has the type 1
 abbrev pub overflow_lines : Site → Exit → List Line
-overflow_lines site exit = map plain (load_pc site.after exit) ++ (plain (Memory Lda 21 31 (pos 1)) ∷ marked (Pal 0x84) (trapping site) ∷ [])
+overflow_lines site exit = map plain (load_pc site.after exit) ++ (plain (Memory Lda TEMPORARIES ZERO (pos 1)) ∷ marked (Pal TRAP) (trapping site) ∷ [])
 
 -- where IV, bit 5 of R20, is set, V is made and tested
 abbrev pub tested_lines : CodeRule → (made : List AlphaInstr) → (trap : List Line) → List Line
 tested_lines rule made trap =
-    plain (Operate And 20 (Literal 32) 27)
-    ∷ plain (Branch Beq 27 (pos (length made + 1 + length trap)))
+    plain (Operate And STATUS (Literal 32) ADDRESS)
+    ∷ plain (Branch Beq ADDRESS (pos (length made + 1 + length trap)))
     ∷ (map plain made ++ (plain (Branch Beq (overflow_register rule) (pos (length trap))) ∷ trap))
 
 abbrev pub may_trap : Site → Bool
@@ -139,11 +145,11 @@ trap_lines site exit = if may_trap site then tested_lines site.behind.v (overflo
 abbrev pub departing : Site → Exit → List Line
 departing site Next = exit_lines site.after
 departing site (Fixed address) = exit_lines address
-departing site (Computed temp) = plain (copy (holder temp) 26) ∷ plain (Pal 0x81) ∷ []
+departing site (Computed temp) = plain (copy (holder temp) TARGET) ∷ plain (Pal LOOK_UP) ∷ []
 departing site (Choice when taken other) = plain (Branch Beq (holder when) (pos 3)) ∷ (exit_lines taken ++ exit_lines other)
 departing site (Service temp) =
-    plain (copy (holder temp) 21) ∷ (map plain (load_address 26 site.after) ++ (marked (Pal 0x82) (point_of site) ∷ exit_lines site.after))
-departing site Breakpoint = marked (Pal 0x83) (raising site 0x2C) ∷ []
+    plain (copy (holder temp) TEMPORARIES) ∷ (map plain (load_address TARGET site.after) ++ (marked (Pal SERVE) (point_of site) ∷ exit_lines site.after))
+departing site Breakpoint = marked (Pal RAISE) (raising site 0x2C) ∷ []
 
 abbrev pub leaving : Site → (codes : List AlphaInstr) → Exit → List Line
 leaving site codes exit = map plain codes ++ (trap_lines site exit ++ departing site exit)
@@ -156,14 +162,14 @@ abbrev pub lines_of : Site → (codes : List AlphaInstr) → Micro → (behind :
 lines_of site codes (Compute to op size a b) behind =
     computing site (Compute to op size a b) behind (compute_code op size a b (holder to))
 lines_of site codes (Probe place count write) behind =
-    plain (copy (holder place) 27) ∷ marked (Pal 0x80) (probing site count write) ∷ []
-lines_of site codes (Refuse when) behind = plain (Branch Beq (holder when) (pos 1)) ∷ marked (Pal 0x83) (raising site 0x18) ∷ []
+    plain (copy (holder place) ADDRESS) ∷ marked (Pal PROBE) (probing site count write) ∷ []
+lines_of site codes (Refuse when) behind = plain (Branch Beq (holder when) (pos 1)) ∷ marked (Pal RAISE) (raising site 0x18) ∷ []
 lines_of site codes (Read to place count) behind = map plain (read_code (holder place) count (holder to))
 lines_of site codes (Write place count from) behind = map plain (write_code (holder place) count (holder from))
 lines_of site codes (Locked to place kind from) behind = map plain (locked_code kind (holder place) (holder from) (holder to))
 lines_of site codes (Commit register from) behind = plain (Operate Addl (holder from) (Literal 0) register) ∷ []
 lines_of site codes (Codes n z v c) behind = []
-lines_of site codes (SetPsw from) behind = plain (Operate And (holder from) (Literal 0xF0) 20) ∷ []
+lines_of site codes (SetPsw from) behind = plain (Operate And (holder from) (Literal 0xF0) STATUS) ∷ []
 lines_of site codes (Leave exit) behind = leaving site codes exit
 
 abbrev pub program_lines : Site → (codes : List AlphaInstr) → List Micro → List Line

@@ -1,5 +1,5 @@
 // Two threads that can only go on beside each other.
-ghost use Rattle.thread_rows.specs.Empty.{IsEmpty};
+ghost use Rattle.block_law.specs.Empty.{IsEmpty};
 
 use crate::row::{image_of, row_of};
 use crate::run::run_agrees;

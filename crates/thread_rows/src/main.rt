@@ -11,7 +11,7 @@ mod outcome;
 mod row;
 mod run;
 
-ghost use Rattle.thread_rows.specs.Empty.{IsEmpty};
+ghost use Rattle.block_law.specs.Empty.{IsEmpty};
 ghost use Rattle.image_file.specs.Whole.{IsWhole};
 
 use crate::beside::are_beside;

@@ -1,6 +1,6 @@
 // A translation of nothing, so that all is interpreted.
 ghost use Rattle.std.specs.Prelude.{◌≡◌, [], IfOk};
-ghost use Rattle.thread_rows.specs.Empty.{IsEmpty};
+ghost use Rattle.block_law.specs.Empty.{IsEmpty};
 
 use address_map::AddressMap;
 use anyhow::{Result, bail};

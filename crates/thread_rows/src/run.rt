@@ -1,6 +1,6 @@
 // A run of a row.
 ghost use Rattle.std.specs.Prelude.{◌≡◌, IfOk};
-ghost use Rattle.thread_rows.specs.Empty.{IsEmpty};
+ghost use Rattle.block_law.specs.Empty.{IsEmpty};
 ghost use Rattle.image_file.specs.Whole.{IsWhole};
 
 use crate::nothing::made_ready;
@@ -35,7 +35,7 @@ fn begun(alloc: Global, image: &Image, settings: Settings) -> Result<Running>
 }
 
 /// What a run leaves.
-#[tactic(auto, using(crate::proofs::EmptyCode::empty_meets))]
+#[tactic(auto, using(block_law::proofs::Empty::empty_meets))]
 fn run<R: Threads + Wait + Sync, G: Gate + Sync>(
     rt: &R,
     alloc: Global,

@@ -37,7 +37,7 @@ use Rattle.code_runs.proofs.Meeting.{rules_always_meet}
 use Rattle.translate.specs.Compiled.{AreReadyFor}
 use Rattle.micro_lower.specs.Rows.{has_program}
 use Rattle.micro_lower.proofs.Instructions.{programs_are_translated}
-use Rattle.translate.specs.Mapped.{has_block}
+use Rattle.flow_discovery.specs.Mapped.{has_block}
 
 -- ---- where N, Z and V are kept, so is C
 binary_together : (operation : BinaryOperation) (width : Width)

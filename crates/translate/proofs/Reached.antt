@@ -19,7 +19,8 @@ use Rattle.vax_form.specs.declared.instr.Instr.{Instr}
 use Rattle.vax_form.specs.declared.pages.Pages.{Pages}
 use Rattle.translate.specs.Compiled.{AreFound, InOrder, addresses}
 use Rattle.translate.specs.Refusal.{AreFew}
-use Rattle.translate.specs.Mapped.{HasMapped, has_block, has_block_at}
+use Rattle.flow_discovery.specs.Mapped.{has_block, has_block_at}
+use Rattle.translate.specs.Mapped.{HasMapped}
 
 -- ---- numbers in lists
 same_test : (a b : ℕ) → nat_eq a b ≡ true → b ≡ a

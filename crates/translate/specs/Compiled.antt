@@ -38,7 +38,7 @@ use Rattle.program_codegen.specs.Programs.{is_narrow}
 use Rattle.micro_lower.specs.Lowering.{GoesTo}
 use Rattle.program_codegen.specs.Promises.{BeginsBy, HasRules}
 use Rattle.program_codegen.specs.Words.{program_block}
-use Rattle.translate.specs.Mapped.{Mapped}
+use Rattle.flow_discovery.specs.Mapped.{Mapped}
 use Rattle.micro_lower.specs.Rows.{program_for}
 
 -- each stands in the pages at its address

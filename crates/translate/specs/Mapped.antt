@@ -1,26 +1,9 @@
--- Which addresses of an image are mapped.
-use Rattle.std.specs.Prelude.{◌≡◌, ◌↔◌, ℕ, Bool, true, false, IsSome, List}
-use Rattle.std.specs.Option.{option_map_or}
+-- Which addresses of an image a translation's map has.
+use Rattle.std.specs.Prelude.{◌↔◌, ℕ, IsSome, List}
 use Rattle.vax_form.specs.declared.pages.Pages.{Pages}
 use Rattle.address_map.specs.Pairs.{word_at}
 use Rattle.block_law.specs.Translations.{Code}
-use Rattle.vax_form.specs.Row.{class_at}
-use Rattle.vax_form.specs.declared.instr.Instr.{Instr}
-use Rattle.flow_discovery.specs.Reach.{Member, instruction_at}
-use Rattle.micro_lower.specs.Rows.{is_translated}
-
--- an instruction has a block where its class is Translated, and else is left to the interpreter
-abbrev pub has_block : Instr → Bool
-has_block instr = is_translated (class_at instr.opcode)
-
--- an instruction stands at the address, and has a block
-abbrev pub has_block_at : Pages → ℕ → Bool
-has_block_at pages address = option_map_or has_block (instruction_at pages address) false
-
--- the instruction at the address can be reached, and has a block
-pub record Mapped (pages : Pages) (starts : List ℕ) (address : ℕ) : Type 0 where
-  pub member : Member pages starts address
-  pub built : has_block_at pages address ≡ true
+use Rattle.flow_discovery.specs.Mapped.{Mapped}
 
 -- the code's map has the mapped addresses, and no others
 abbrev pub HasMapped : Pages → (starts : List ℕ) → Code → Type 0

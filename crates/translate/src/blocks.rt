@@ -6,7 +6,7 @@ ghost use Rattle.code_runs.specs.Runs.{AreInOrder};
 ghost use Rattle.micro_lower.specs.Lowering.{IsLowered};
 ghost use Rattle.micro_lower.specs.Rows.{program_for};
 ghost use Rattle.translate.specs.Compiled.{AreCompiled, AreReadyFor, IsCompiled};
-ghost use Rattle.translate.specs.Mapped.{has_block};
+ghost use Rattle.flow_discovery.specs.Mapped.{has_block};
 
 use code_runs::{InstrCodes, instruction_codes};
 use exception_records::Block;

@@ -17,7 +17,8 @@ ghost use Rattle.image_meaning.specs.Meant.{image_meaning};
 ghost use Rattle.branch_layout.specs.Layouts.{layout};
 ghost use Rattle.code_runs.specs.Runs.{AreInOrder};
 ghost use Rattle.translate.specs.Compiled.{AreCompiled, AreFound, AreLaidOut, ArePages, CanBeLaid, InOrder, IsLaidOut, IsTranslation, addresses};
-ghost use Rattle.translate.specs.Mapped.{HasMapped, has_block};
+ghost use Rattle.flow_discovery.specs.Mapped.{has_block};
+ghost use Rattle.translate.specs.Mapped.{HasMapped};
 ghost use Rattle.translate.specs.Refusal.{AreFew, IsRefused};
 
 use crate::blocks::compiled;

@@ -20,7 +20,8 @@ use Rattle.translated_file.specs.Steps.{Gives, refuse_if, refuse_at}
 use Rattle.translated_file.specs.Reading.{hints_at, tail_at, header_in, header_of, image_bytes_in, hints_in, first_fall, parts_in, parts_of}
 use Rattle.translated_file.specs.Comparing.{whole_words, first_difference, refusal_at, tail_compared, tail_place}
 use Rattle.translated_file.specs.Whole.{IsLong, IsLongPair, AreHints, AreWhole, IsTranslation}
-use Rattle.translated_file.specs.Laws.{WrittenIsAccepted, AreBytes, AcceptedIsWritten}
+use Rattle.translated_file.specs.Laws.{WrittenIsAccepted, AcceptedIsWritten}
+use Rattle.vax_form.specs.GrammarLaws.{AreBytes}
 use Rattle.translated_file.specs.declared.refusal.TranslatedRefusal.{TranslatedRefusal}
 use Rattle.translated_file.specs.declared.refusal.TranslatedRefusal.TheVariants.{Truncated}
 use Rattle.translated_file.proofs.LengthLaws.{whole_length, whole_small}

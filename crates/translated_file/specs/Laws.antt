@@ -1,8 +1,9 @@
 -- What holds of all translated files.
-use Rattle.std.specs.Prelude.{◌≡◌, ◌<◌, ℕ, true, List, length, take, Ok, Err, slice_index}
+use Rattle.std.specs.Prelude.{◌≡◌, ◌<◌, ℕ, true, List, length, take, Ok, Err}
 use Rattle.address_map.specs.Pairs.{Pair}
 use Rattle.image_file.specs.Values.{ImageValue}
 use Rattle.image_file.specs.Whole.{IsWhole}
+use Rattle.vax_form.specs.GrammarLaws.{AreBytes}
 use Rattle.translated_file.specs.declared.refusal.TranslatedRefusal.TheVariants.{Truncated}
 use Rattle.translated_file.specs.Limits.{is_version}
 use Rattle.translated_file.specs.Values.{PartsValue}
@@ -16,9 +17,6 @@ abbrev pub WrittenIsAccepted : Type 0
 WrittenIsAccepted = (version : ℕ) (image : ImageValue) (hints words : List ℕ) (pairs : List Pair) → is_version version ≡ true → IsWhole image → AreHints hints → IsTranslation words pairs
     → (parts_of (spelling version image hints words pairs) ≡ Ok (written_parts version image hints words pairs))
     × (compared (written_parts version image hints words pairs) words pairs ≡ Ok tt)
-
-abbrev pub AreBytes : List ℕ → Type 0
-AreBytes bytes = (place : ℕ) → slice_index bytes place < 256
 
 -- bytes that read as parts, and compare with a translation, are so written
 abbrev pub AcceptedIsWritten : Type 0

@@ -104,26 +104,26 @@ located size at first value len mode.IncrementDeferred rest p is x =
 located size at first value len mode.Absolute rest p is x =
     absolute (take len rest) (length-extension Long rest value len x) (ap (λ b. b ∷ take len rest) is)
     (ap (λ v. Fixed v false) (number-extension Long rest value len x))
-located size at first value len (mode.Displacement Byte twice) rest p is x =
-    byte_displacement (first % 16) twice (take len rest) is.0 (length-extension Byte rest value len x)
-    (ap (λ b. b ∷ take len rest) is.1) (ap (λ v. Offset (first % 16) (extended Byte v) twice) (number-extension Byte rest value len x))
-located size at first value len (mode.Displacement Word twice) rest p is x =
-    word_displacement (first % 16) twice (take len rest) is.0 (length-extension Word rest value len x)
-    (ap (λ b. b ∷ take len rest) is.1) (ap (λ v. Offset (first % 16) (extended Word v) twice) (number-extension Word rest value len x))
-located size at first value len (mode.Displacement Long twice) rest p is x =
-    long_displacement (first % 16) twice (take len rest) is.0 (length-extension Long rest value len x)
-    (ap (λ b. b ∷ take len rest) is.1) (ap (λ v. Offset (first % 16) (extended Long v) twice) (number-extension Long rest value len x))
-located size at first value len (mode.Relative Byte twice) rest p is x =
-    byte_relative twice (take len rest) (length-extension Byte rest value len x) (ap (λ b. b ∷ take len rest) is)
-    (ap (λ a. Fixed a twice) (relative_address Byte at first value len rest x))
-located size at first value len (mode.Relative Word twice) rest p is x =
-    word_relative twice (take len rest) (length-extension Word rest value len x) (ap (λ b. b ∷ take len rest) is)
-    (ap (λ a. Fixed a twice) (relative_address Word at first value len rest x))
-located size at first value len (mode.Relative Long twice) rest p is x =
-    long_relative twice (take len rest) (length-extension Long rest value len x) (ap (λ b. b ∷ take len rest) is)
-    (ap (λ a. Fixed a twice) (relative_address Long at first value len rest x))
-located size at first value len (mode.Displacement Quad twice) rest p is x = absurd is
-located size at first value len (mode.Relative Quad twice) rest p is x = absurd is
+located size at first value len (mode.Displacement Byte is_deferred) rest p is x =
+    byte_displacement (first % 16) is_deferred (take len rest) is.0 (length-extension Byte rest value len x)
+    (ap (λ b. b ∷ take len rest) is.1) (ap (λ v. Offset (first % 16) (extended Byte v) is_deferred) (number-extension Byte rest value len x))
+located size at first value len (mode.Displacement Word is_deferred) rest p is x =
+    word_displacement (first % 16) is_deferred (take len rest) is.0 (length-extension Word rest value len x)
+    (ap (λ b. b ∷ take len rest) is.1) (ap (λ v. Offset (first % 16) (extended Word v) is_deferred) (number-extension Word rest value len x))
+located size at first value len (mode.Displacement Long is_deferred) rest p is x =
+    long_displacement (first % 16) is_deferred (take len rest) is.0 (length-extension Long rest value len x)
+    (ap (λ b. b ∷ take len rest) is.1) (ap (λ v. Offset (first % 16) (extended Long v) is_deferred) (number-extension Long rest value len x))
+located size at first value len (mode.Relative Byte is_deferred) rest p is x =
+    byte_relative is_deferred (take len rest) (length-extension Byte rest value len x) (ap (λ b. b ∷ take len rest) is)
+    (ap (λ a. Fixed a is_deferred) (relative_address Byte at first value len rest x))
+located size at first value len (mode.Relative Word is_deferred) rest p is x =
+    word_relative is_deferred (take len rest) (length-extension Word rest value len x) (ap (λ b. b ∷ take len rest) is)
+    (ap (λ a. Fixed a is_deferred) (relative_address Word at first value len rest x))
+located size at first value len (mode.Relative Long is_deferred) rest p is x =
+    long_relative is_deferred (take len rest) (length-extension Long rest value len x) (ap (λ b. b ∷ take len rest) is)
+    (ap (λ a. Fixed a is_deferred) (relative_address Long at first value len rest x))
+located size at first value len (mode.Displacement Quad is_deferred) rest p is x = absurd is
+located size at first value len (mode.Relative Quad is_deferred) rest p is x = absurd is
 located size at first value len _ rest p is x = absurd (false≢true p)
 
 -- ---- one specifier
@@ -224,8 +224,8 @@ mode_shows a size first mode.Decrement is bad = absurd (false≢true bad)
 mode_shows a size first mode.Increment is bad = absurd (false≢true bad)
 mode_shows a size first mode.IncrementDeferred is bad = absurd (false≢true bad)
 mode_shows a size first mode.Absolute is bad = absurd (false≢true bad)
-mode_shows a size first (mode.Displacement s twice) is bad = absurd (false≢true bad)
-mode_shows a size first (mode.Relative s twice) is bad = absurd (false≢true bad)
+mode_shows a size first (mode.Displacement s is_deferred) is bad = absurd (false≢true bad)
+mode_shows a size first (mode.Relative s is_deferred) is bad = absurd (false≢true bad)
 
 -- a specifier that is complete
 literal_describes : (a : Access) (size : Size) (at first value from behind : ℕ) → first < 0x40
@@ -294,8 +294,8 @@ mode_describes a size at first value len mode.Decrement rest other plain is fine
 mode_describes a size at first value len mode.Increment rest other plain is fine x = place_describes a size at first value len _ rest refl is x
 mode_describes a size at first value len mode.IncrementDeferred rest other plain is fine x = place_describes a size at first value len _ rest refl is x
 mode_describes a size at first value len mode.Absolute rest other plain is fine x = place_describes a size at first value len _ rest refl is x
-mode_describes a size at first value len (mode.Displacement s twice) rest other plain is fine x = place_describes a size at first value len _ rest refl is x
-mode_describes a size at first value len (mode.Relative s twice) rest other plain is fine x = place_describes a size at first value len _ rest refl is x
+mode_describes a size at first value len (mode.Displacement s is_deferred) rest other plain is fine x = place_describes a size at first value len _ rest refl is x
+mode_describes a size at first value len (mode.Relative s is_deferred) rest other plain is fine x = place_describes a size at first value len _ rest refl is x
 
 Finds-plain : (a : Access) (size : Size) (at first : ℕ) (m : Mode) (rest : List ℕ) (shown : Shown Operand) (n : ℕ)
     → a ≢ access.Branch → m ≢ mode.Index → IsFirst first m → read_plain a size at first m rest ≡ Some (shown, n)
@@ -339,8 +339,8 @@ reserved_base x byte mode.Increment is bad = let same = eqb-true (byte % 16) x b
 reserved_base x byte mode.IncrementDeferred is bad = let same = eqb-true (byte % 16) x bad in steps_up_deferred (omega arith)
 reserved_base x byte mode.Deferred is bad = absurd (false≢true bad)
 reserved_base x byte mode.Absolute is bad = absurd (false≢true bad)
-reserved_base x byte (mode.Displacement s twice) is bad = absurd (false≢true bad)
-reserved_base x byte (mode.Relative s twice) is bad = absurd (false≢true bad)
+reserved_base x byte (mode.Displacement s is_deferred) is bad = absurd (false≢true bad)
+reserved_base x byte (mode.Relative s is_deferred) is bad = absurd (false≢true bad)
 
 -- a base that isn't reserved is a place that doesn't step the index register
 record IsFreeBase (x n value from behind : ℕ) (m : Mode) : Type 0 where
@@ -354,8 +354,8 @@ free_base x n value from behind mode.Increment fine = record { is_for_place = re
 free_base x n value from behind mode.IncrementDeferred fine = record { is_for_place = refl; free = eqb-false n x fine }
 free_base x n value from behind mode.Deferred fine = record { is_for_place = refl; free = λ h. h }
 free_base x n value from behind mode.Absolute fine = record { is_for_place = refl; free = λ h. h }
-free_base x n value from behind (mode.Displacement s twice) fine = record { is_for_place = refl; free = λ h. h }
-free_base x n value from behind (mode.Relative s twice) fine = record { is_for_place = refl; free = λ h. h }
+free_base x n value from behind (mode.Displacement s is_deferred) fine = record { is_for_place = refl; free = λ h. h }
+free_base x n value from behind (mode.Relative s is_deferred) fine = record { is_for_place = refl; free = λ h. h }
 free_base x n value from behind _ fine = absurd (true≢false fine)
 
 Finds-base : (a : Access) (size : Size) (at first x byte : ℕ) (rest : List ℕ) (shown : Shown Operand) (n : ℕ)
@@ -406,8 +406,8 @@ Finds-by_mode a size at first mode.Increment rest shown n other are is e = Finds
 Finds-by_mode a size at first mode.IncrementDeferred rest shown n other are is e = Finds-plain a size at first _ rest shown n other (λ h. cc) is e
 Finds-by_mode a size at first mode.Immediate rest shown n other are is e = Finds-plain a size at first _ rest shown n other (λ h. cc) is e
 Finds-by_mode a size at first mode.Absolute rest shown n other are is e = Finds-plain a size at first _ rest shown n other (λ h. cc) is e
-Finds-by_mode a size at first (mode.Displacement s twice) rest shown n other are is e = Finds-plain a size at first _ rest shown n other (λ h. cc) is e
-Finds-by_mode a size at first (mode.Relative s twice) rest shown n other are is e = Finds-plain a size at first _ rest shown n other (λ h. cc) is e
+Finds-by_mode a size at first (mode.Displacement s is_deferred) rest shown n other are is e = Finds-plain a size at first _ rest shown n other (λ h. cc) is e
+Finds-by_mode a size at first (mode.Relative s is_deferred) rest shown n other are is e = Finds-plain a size at first _ rest shown n other (λ h. cc) is e
 Finds-by_mode a size at first mode.Reserved rest shown n other are is e = Finds-plain a size at first _ rest shown n other (λ h. cc) is e
 
 Finds-general : (a : Access) (size : Size) (at : ℕ) (bytes : List ℕ) (shown : Shown Operand) (n : ℕ)

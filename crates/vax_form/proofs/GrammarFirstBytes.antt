@@ -33,7 +33,7 @@ abbrev pub IsOfRegister : ℕ → ℕ → Type 0
 IsOfRegister mode first = (first % 16 < 15) × (first ≡ mode + first % 16)
 
 abbrev pub IsDisplaced : ℕ → Bool → ℕ → Type 0
-IsDisplaced mode twice first = (first % 16 < 15) × (first ≡ first_byte mode twice (first % 16))
+IsDisplaced mode is_deferred first = (first % 16 < 15) × (first ≡ first_byte mode is_deferred (first % 16))
 
 -- the first bytes of each mode
 abbrev pub IsFirst : ℕ → Mode → Type 0
@@ -46,14 +46,14 @@ IsFirst first mode.Increment = IsOfRegister 0x80 first
 IsFirst first mode.IncrementDeferred = IsOfRegister 0x90 first
 IsFirst first mode.Immediate = first ≡ 0x8F
 IsFirst first mode.Absolute = first ≡ 0x9F
-IsFirst first (mode.Displacement Byte twice) = IsDisplaced 0xA0 twice first
-IsFirst first (mode.Displacement Word twice) = IsDisplaced 0xC0 twice first
-IsFirst first (mode.Displacement Long twice) = IsDisplaced 0xE0 twice first
-IsFirst first (mode.Displacement Quad twice) = ⊥
-IsFirst first (mode.Relative Byte twice) = first ≡ first_byte 0xA0 twice 15
-IsFirst first (mode.Relative Word twice) = first ≡ first_byte 0xC0 twice 15
-IsFirst first (mode.Relative Long twice) = first ≡ first_byte 0xE0 twice 15
-IsFirst first (mode.Relative Quad twice) = ⊥
+IsFirst first (mode.Displacement Byte is_deferred) = IsDisplaced 0xA0 is_deferred first
+IsFirst first (mode.Displacement Word is_deferred) = IsDisplaced 0xC0 is_deferred first
+IsFirst first (mode.Displacement Long is_deferred) = IsDisplaced 0xE0 is_deferred first
+IsFirst first (mode.Displacement Quad is_deferred) = ⊥
+IsFirst first (mode.Relative Byte is_deferred) = first ≡ first_byte 0xA0 is_deferred 15
+IsFirst first (mode.Relative Word is_deferred) = first ≡ first_byte 0xC0 is_deferred 15
+IsFirst first (mode.Relative Long is_deferred) = first ≡ first_byte 0xE0 is_deferred 15
+IsFirst first (mode.Relative Quad is_deferred) = ⊥
 IsFirst first mode.Reserved = (first % 16 ≡ 15) × (first / 16 < 8) × (4 ≤ first / 16)
 
 by_equality : (P : ℕ → Type 0) (high k : ℕ) → P k → ((high ≡ k → ⊥) → P high) → P high

@@ -46,8 +46,8 @@ is_place mode.Decrement = true
 is_place mode.Increment = true
 is_place mode.IncrementDeferred = true
 is_place mode.Absolute = true
-is_place (mode.Displacement size twice) = true
-is_place (mode.Relative size twice) = true
+is_place (mode.Displacement size is_deferred) = true
+is_place (mode.Relative size is_deferred) = true
 is_place _ = false
 
 pub is_reserved_mode-place : (a : Access) (size : Size) (n : ℕ) (m : Mode) → is_place m ≡ true → is_reserved_mode a size n m ≡ false
@@ -57,8 +57,8 @@ is_reserved_mode-place a size n mode.Decrement p = refl
 is_reserved_mode-place a size n mode.Increment p = refl
 is_reserved_mode-place a size n mode.IncrementDeferred p = refl
 is_reserved_mode-place a size n mode.Absolute p = refl
-is_reserved_mode-place a size n (mode.Displacement s twice) p = refl
-is_reserved_mode-place a size n (mode.Relative s twice) p = refl
+is_reserved_mode-place a size n (mode.Displacement s is_deferred) p = refl
+is_reserved_mode-place a size n (mode.Relative s is_deferred) p = refl
 is_reserved_mode-place a size n _ p = absurd (false≢true p)
 
 pub operand_of-place : (a : Access) (first value from behind : ℕ) (m : Mode) → is_place m ≡ true
@@ -69,8 +69,8 @@ operand_of-place a first value from behind mode.Decrement p = refl
 operand_of-place a first value from behind mode.Increment p = refl
 operand_of-place a first value from behind mode.IncrementDeferred p = refl
 operand_of-place a first value from behind mode.Absolute p = refl
-operand_of-place a first value from behind (mode.Displacement s twice) p = refl
-operand_of-place a first value from behind (mode.Relative s twice) p = refl
+operand_of-place a first value from behind (mode.Displacement s is_deferred) p = refl
+operand_of-place a first value from behind (mode.Relative s is_deferred) p = refl
 operand_of-place a first value from behind _ p = absurd (false≢true p)
 
 pub read_by_mode-place : (a : Access) (size : Size) (at first : ℕ) (m : Mode) (rest : List ℕ) → is_place m ≡ true
@@ -87,8 +87,8 @@ is_reserved_base-place x n value from behind mode.Increment p h = ne_eqb n x h
 is_reserved_base-place x n value from behind mode.IncrementDeferred p h = ne_eqb n x h
 is_reserved_base-place x n value from behind mode.Deferred p h = refl
 is_reserved_base-place x n value from behind mode.Absolute p h = refl
-is_reserved_base-place x n value from behind (mode.Displacement s twice) p h = refl
-is_reserved_base-place x n value from behind (mode.Relative s twice) p h = refl
+is_reserved_base-place x n value from behind (mode.Displacement s is_deferred) p h = refl
+is_reserved_base-place x n value from behind (mode.Relative s is_deferred) p h = refl
 is_reserved_base-place x n value from behind _ p h = absurd (false≢true p)
 
 -- The first byte of a base, its mode, what is read behind it and what it gives.
@@ -103,37 +103,37 @@ pub record IsRead (size : Size) (at : ℕ) (bytes : List ℕ) (b : Base) : Type 
   pub reads : (rest : List ℕ) → read_extension (extension_size size m) (d ++ rest) ≡ Some (value, length d)
   pub gives : base_of (first % 16) value (wrapped (at + 1)) (wrapped (at + 1 + length d)) m ≡ b
 
-displaced : (size : Size) (at : ℕ) (bytes : List ℕ) (b : Base) (s : Size) (twice : Bool) (n first high : ℕ) (d : List ℕ)
-    → first ≡ 16 * high + n → n < 15 → 4 ≤ high → register_mode high ≡ mode.Displacement s twice → length d ≡ bytes_of s
-    → bytes ≡ first ∷ d → b ≡ Offset n (extended s (number d)) twice → IsRead size at bytes b
+displaced : (size : Size) (at : ℕ) (bytes : List ℕ) (b : Base) (s : Size) (is_deferred : Bool) (n first high : ℕ) (d : List ℕ)
+    → first ≡ 16 * high + n → n < 15 → 4 ≤ high → register_mode high ≡ mode.Displacement s is_deferred → length d ≡ bytes_of s
+    → bytes ≡ first ∷ d → b ≡ Offset n (extended s (number d)) is_deferred → IsRead size at bytes b
 unfolding base_of extension_size
-displaced size at bytes b s twice n first high d e below above is_mode len are_bytes is = record {
+displaced size at bytes b s is_deferred n first high d e below above is_mode len are_bytes is = record {
   first = first;
-  m = mode.Displacement s twice;
+  m = mode.Displacement s is_deferred;
   d = d;
   value = number d;
   are_bytes = are_bytes;
   is_mode = mode_of-register high n first e below above ∙ is_mode;
   is_for_place = refl;
   reads = λ rest. read_extension-front s d rest len;
-  gives = (let rest : first % 16 ≡ n = omega arith in ap (λ k. Offset k (extended s (number d)) twice) rest) ∙ sym is;
+  gives = (let rest : first % 16 ≡ n = omega arith in ap (λ k. Offset k (extended s (number d)) is_deferred) rest) ∙ sym is;
 }
 
-relative_to : (size : Size) (at : ℕ) (bytes : List ℕ) (b : Base) (s : Size) (twice : Bool) (first high : ℕ) (d : List ℕ)
-    → first ≡ 16 * high + 15 → 4 ≤ high → program_counter_mode high ≡ mode.Relative s twice → length d ≡ bytes_of s
-    → bytes ≡ first ∷ d → b ≡ Fixed (wrapped (at + length bytes + extended s (number d))) twice → IsRead size at bytes b
+relative_to : (size : Size) (at : ℕ) (bytes : List ℕ) (b : Base) (s : Size) (is_deferred : Bool) (first high : ℕ) (d : List ℕ)
+    → first ≡ 16 * high + 15 → 4 ≤ high → program_counter_mode high ≡ mode.Relative s is_deferred → length d ≡ bytes_of s
+    → bytes ≡ first ∷ d → b ≡ Fixed (wrapped (at + length bytes + extended s (number d))) is_deferred → IsRead size at bytes b
 unfolding base_of extension_size
-relative_to size at bytes b s twice first high d e above is_mode len are_bytes is =
+relative_to size at bytes b s is_deferred first high d e above is_mode len are_bytes is =
     let same : at + 1 + length d ≡ at + length bytes = omega (arith, ap length are_bytes) in record {
       first = first;
-      m = mode.Relative s twice;
+      m = mode.Relative s is_deferred;
       d = d;
       value = number d;
       are_bytes = are_bytes;
       is_mode = mode_of-program_counter high first e above ∙ is_mode;
       is_for_place = refl;
       reads = λ rest. read_extension-front s d rest len;
-      gives = ap (λ k. Fixed k twice) (wrapped-add (at + 1 + length d) (extended s (number d)) ∙ ap (λ n. wrapped (n + extended s (number d))) same) ∙ sym is;
+      gives = ap (λ k. Fixed k is_deferred) (wrapped-add (at + 1 + length d) (extended s (number d)) ∙ ap (λ n. wrapped (n + extended s (number d))) same) ∙ sym is;
     }
 
 of_register : (size : Size) (at : ℕ) (bytes : List ℕ) (b : Base) (n first high : ℕ) (m : Mode)

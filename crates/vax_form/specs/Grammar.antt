@@ -36,7 +36,7 @@ extended Quad d = d % 2 ^ 32
 
 -- the first byte of a displacement mode with register n; its deferred mode is 10 higher
 abbrev pub first_byte : ℕ → Bool → ℕ → ℕ
-first_byte mode twice n = (if twice then mode + 0x10 else mode) + n
+first_byte mode is_deferred n = (if is_deferred then mode + 0x10 else mode) + n
 
 -- The bytes, from that address on, say where an operand of that size lies in memory: one line for each addressing mode
 -- that does.
@@ -48,21 +48,21 @@ pub data Locates (size : Size) (at : ℕ) (bytes : List ℕ) (base : Base) : Typ
       → Locates size at bytes base
   absolute : (d : List ℕ) → length d ≡ 4 → bytes ≡ 0x9F ∷ d → base ≡ Fixed (number d) false
       → Locates size at bytes base
-  byte_displacement : (n : ℕ) (twice : Bool) (d : List ℕ) → n < 15 → length d ≡ 1
-      → bytes ≡ first_byte 0xA0 twice n ∷ d → base ≡ Offset n (extended Byte (number d)) twice
+  byte_displacement : (n : ℕ) (is_deferred : Bool) (d : List ℕ) → n < 15 → length d ≡ 1
+      → bytes ≡ first_byte 0xA0 is_deferred n ∷ d → base ≡ Offset n (extended Byte (number d)) is_deferred
       → Locates size at bytes base
-  word_displacement : (n : ℕ) (twice : Bool) (d : List ℕ) → n < 15 → length d ≡ 2
-      → bytes ≡ first_byte 0xC0 twice n ∷ d → base ≡ Offset n (extended Word (number d)) twice
+  word_displacement : (n : ℕ) (is_deferred : Bool) (d : List ℕ) → n < 15 → length d ≡ 2
+      → bytes ≡ first_byte 0xC0 is_deferred n ∷ d → base ≡ Offset n (extended Word (number d)) is_deferred
       → Locates size at bytes base
-  long_displacement : (n : ℕ) (twice : Bool) (d : List ℕ) → n < 15 → length d ≡ 4
-      → bytes ≡ first_byte 0xE0 twice n ∷ d → base ≡ Offset n (extended Long (number d)) twice
+  long_displacement : (n : ℕ) (is_deferred : Bool) (d : List ℕ) → n < 15 → length d ≡ 4
+      → bytes ≡ first_byte 0xE0 is_deferred n ∷ d → base ≡ Offset n (extended Long (number d)) is_deferred
       → Locates size at bytes base
-  byte_relative : (twice : Bool) (d : List ℕ) → length d ≡ 1 → bytes ≡ first_byte 0xA0 twice 15 ∷ d
-      → base ≡ Fixed (wrapped (at + length bytes + extended Byte (number d))) twice → Locates size at bytes base
-  word_relative : (twice : Bool) (d : List ℕ) → length d ≡ 2 → bytes ≡ first_byte 0xC0 twice 15 ∷ d
-      → base ≡ Fixed (wrapped (at + length bytes + extended Word (number d))) twice → Locates size at bytes base
-  long_relative : (twice : Bool) (d : List ℕ) → length d ≡ 4 → bytes ≡ first_byte 0xE0 twice 15 ∷ d
-      → base ≡ Fixed (wrapped (at + length bytes + extended Long (number d))) twice → Locates size at bytes base
+  byte_relative : (is_deferred : Bool) (d : List ℕ) → length d ≡ 1 → bytes ≡ first_byte 0xA0 is_deferred 15 ∷ d
+      → base ≡ Fixed (wrapped (at + length bytes + extended Byte (number d))) is_deferred → Locates size at bytes base
+  word_relative : (is_deferred : Bool) (d : List ℕ) → length d ≡ 2 → bytes ≡ first_byte 0xC0 is_deferred 15 ∷ d
+      → base ≡ Fixed (wrapped (at + length bytes + extended Word (number d))) is_deferred → Locates size at bytes base
+  long_relative : (is_deferred : Bool) (d : List ℕ) → length d ≡ 4 → bytes ≡ first_byte 0xE0 is_deferred 15 ∷ d
+      → base ≡ Fixed (wrapped (at + length bytes + extended Long (number d))) is_deferred → Locates size at bytes base
 
 -- evaluating the base changes that register
 abbrev pub Steps : Base → ℕ → Type 0
@@ -70,8 +70,8 @@ Steps (Decrement n) x = n ≡ x
 Steps (Increment n) x = n ≡ x
 Steps (IncrementDeferred n) x = n ≡ x
 Steps (Deferred n) x = ⊥
-Steps (Offset n offset twice) x = ⊥
-Steps (Fixed address twice) x = ⊥
+Steps (Offset n offset is_deferred) x = ⊥
+Steps (Fixed address is_deferred) x = ⊥
 
 -- A quadword in registers takes Rn and the next one, which R14 lacks.
 abbrev pub HasRegister : Size → ℕ → Type 0

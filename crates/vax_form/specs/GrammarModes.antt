@@ -81,8 +81,8 @@ is_reserved_base x n m = false
 unfoldable pub extension_size : Size → Mode → Option Size
 extension_size size mode.Immediate = Some size
 extension_size size mode.Absolute = Some Long
-extension_size size (mode.Displacement displacement twice) = Some displacement
-extension_size size (mode.Relative displacement twice) = Some displacement
+extension_size size (mode.Displacement displacement is_deferred) = Some displacement
+extension_size size (mode.Relative displacement is_deferred) = Some displacement
 extension_size size m = None
 
 -- The base that a mode with register n and that number behind the first byte gives, where the number stands at the
@@ -94,8 +94,8 @@ base_of n value from behind mode.Increment = Increment n
 base_of n value from behind mode.IncrementDeferred = IncrementDeferred n
 base_of n value from behind mode.Immediate = Fixed from false
 base_of n value from behind mode.Absolute = Fixed value false
-base_of n value from behind (mode.Displacement size twice) = Offset n (extended size value) twice
-base_of n value from behind (mode.Relative size twice) = Fixed (wrapped (behind + extended size value)) twice
+base_of n value from behind (mode.Displacement size is_deferred) = Offset n (extended size value) is_deferred
+base_of n value from behind (mode.Relative size is_deferred) = Fixed (wrapped (behind + extended size value)) is_deferred
 base_of n value from behind m = Deferred n
 
 -- the operand that a specifier with that first byte, and no index, gives

@@ -128,6 +128,10 @@ class_where (Some operation) = class_of_operation operation
 abbrev pub class_at : ℕ → Class
 class_at opcode = class_where (operation_at opcode)
 
+abbrev pub is_translated : Class → Bool
+is_translated Translated = true
+is_translated class = false
+
 unfoldable pub is_long_operation : Operation → Bool
 is_long_operation (operations.Long operation) = true
 is_long_operation _ = false

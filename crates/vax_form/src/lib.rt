@@ -10,6 +10,7 @@ mod pages;
 mod row;
 mod script;
 mod state;
+mod targets;
 
 pub use grammar::grammar_laws;
 pub use instr::{Access, Base, Instr, Operand, Size, Width};
@@ -23,3 +24,4 @@ pub use script::{End, Stop, laws_of_after, laws_of_handlers, tree_laws};
 pub use state::{
     Exception, Flags, Outcome, Pending, Pick, RefKind, Reference, USER_MODE, VaxState, WantOfMemory,
 };
+pub use targets::{branch_target, fixed_address};

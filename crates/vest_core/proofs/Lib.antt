@@ -1,1 +1,3 @@
-mod Worlds
+mod Lists
+mod Turns
+mod NewWorlds

@@ -2,7 +2,7 @@
 ghost use Rattle.std.specs.Prelude.{◌≡◌, [], IfOk};
 ghost use Rattle.block_law.specs.Translations.{Meets};
 ghost use Rattle.image_meaning.specs.Meant.{image_meaning};
-ghost use Rattle.world_rows.specs.Empty.{IsEmpty};
+ghost use Rattle.block_law.specs.Empty.{IsEmpty};
 
 use address_map::AddressMap;
 use anyhow::{Result, bail};
@@ -39,7 +39,7 @@ fn nothing(alloc: Global) -> Result<Translation>
 }
 
 /// A translation of no instruction meets the judgement for each image.
-#[tactic(auto, using(crate::proofs::EmptyCode::empty_meets))]
+#[tactic(auto, using(block_law::proofs::Empty::empty_meets))]
 pub fn nothing_translated(alloc: Global, image: &Image) -> Result<Translation>
     ensures { IfOk result (Meets (image_meaning image.now.pages)) }
 {

@@ -1,6 +1,7 @@
 use Rattle.std.proofs.Common.{◌≡◌, ℕ, [], ◌∷◌, ◌+◌, get_or, length, slice_get, sym, ap, ◌∙◌, subst, arith}
 use Rattle.std.proofs.lemmas.List.{length-append}
-use Rattle.vest_core.proofs.Worlds.{AreBegun, IsBegun, are_own, are_zipped, got, one_more}
+use Rattle.vest_core.proofs.Lists.{got}
+use Rattle.vest_core.proofs.NewWorlds.{AreBegun, IsBegun, are_own, are_zipped, one_more}
 use Rattle.vest_core.proofs.world.begun.Goals as goal
 
 pub loop-thread-preserved : goal.loop-thread-preserved

@@ -1,5 +1,5 @@
 use Rattle.std.proofs.Common.{◌≡◌, length}
-use Rattle.vest_core.proofs.Worlds.{AreBegun}
+use Rattle.vest_core.proofs.NewWorlds.{AreBegun}
 use Rattle.vest_core.proofs.world.begun.Given as goal
 
 abbrev pub invariant-loop-thread : goal.invariant-loop-thread

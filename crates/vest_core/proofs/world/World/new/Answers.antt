@@ -1,6 +1,6 @@
 use Rattle.std.proofs.Common.{sym, ap, ◌∙◌}
 use Rattle.image_file.specs.Values.{ImageValue}
-use Rattle.vest_core.proofs.Worlds.{begins, is_manned}
+use Rattle.vest_core.proofs.NewWorlds.{begins, is_manned}
 use Rattle.vest_core.proofs.world.World.new.Goals as goal
 
 pub invariant_of-result : goal.invariant_of-result

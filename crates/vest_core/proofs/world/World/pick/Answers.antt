@@ -6,7 +6,7 @@ use Rattle.memory_core.specs.Contents.{Contents}
 use Rattle.tie_switch.specs.Settings.{image_setting}
 use Rattle.vest_core.specs.Views.{world_of}
 use Rattle.vest_core.specs.Worlds.{IsLegalWorld, IsPicked, WorldValue}
-use Rattle.vest_core.proofs.Worlds.{each_own, has_step, image_is_sound, is_picked, stands_at, stays_legal}
+use Rattle.vest_core.proofs.Turns.{each_own, has_step, image_is_sound, is_picked, stands_at, stays_legal}
 use Rattle.vest_core.proofs.world.World.pick.Goals as goal
 
 pub turn-requires-clause-has_step : goal.turn-requires-clause-has_step

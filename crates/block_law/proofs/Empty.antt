@@ -3,7 +3,7 @@ use Rattle.std.proofs.Common.{◌≡◌, ℕ, List, [], Some, length, sym, ap, �
 use Rattle.address_map.specs.Pairs.{Pair, AllRise, word_at}
 use Rattle.exception_records.specs.Points.{Entry, WordsRise}
 use Rattle.block_law.specs.Translations.{Meaning, Code, Meets}
-use Rattle.world_rows.specs.Empty.{IsEmpty}
+use Rattle.block_law.specs.Empty.{IsEmpty}
 
 none_there : (map : List Pair) (address first : ℕ) → map ≡ [] → word_at map address ≡ Some first → ⊥
 none_there map address first none at = let never : word_at [] address ≡ Some first = ap (λ (m : List Pair). word_at m address) (sym none) ∙ at in absurd cc

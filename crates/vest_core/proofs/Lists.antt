@@ -1,0 +1,46 @@
+-- Two lists side by side, and the places of a list.
+use Rattle.std.proofs.Common.{◌≡◌, ℕ, zero, suc, ◌<◌, ◌⊎◌, inl, inr, get_or, List, [], ◌∷◌, length, Some, refl, sym, ap, subst, arith}
+use Rattle.std.specs.Prelude.{slice_get, slice_set}
+use Rattle.std.specs.List.{AllZip}
+
+module _ {A B : Type 0} (R : A → B → Type 0) where
+  -- what stands beside an element
+  pub beside : (xs : List A) (ys : List B) (n : ℕ) (x : A) → AllZip R xs ys → slice_get xs n ≡ Some x → (y : B) × (slice_get ys n ≡ Some y) × R x y
+  beside [] [] n x all at = absurd (cc at)
+  beside [] (y ∷ ys) n x all at = absurd all
+  beside (a ∷ xs) [] n x all at = absurd all
+  beside (a ∷ xs) (y ∷ ys) zero x all at = let same : a ≡ x = cc at in (y, refl, subst (λ z. R z y) same all.0)
+  beside (a ∷ xs) (y ∷ ys) (suc n) x all at = beside xs ys n x all.1 at
+
+  -- one pair of elements changed
+  pub changed_beside : (xs : List A) (ys : List B) (n : ℕ) (x : A) (y : B) → AllZip R xs ys → R x y → AllZip R (slice_set xs n x) (slice_set ys n y)
+  changed_beside [] [] n x y all r = all
+  changed_beside [] (b ∷ ys) n x y all r = absurd all
+  changed_beside (a ∷ xs) [] n x y all r = absurd all
+  changed_beside (a ∷ xs) (b ∷ ys) zero x y all r = (r, all.1)
+  changed_beside (a ∷ xs) (b ∷ ys) (suc n) x y all r = (all.0, changed_beside xs ys n x y all.1 r)
+
+-- a place below the length has an element
+pub there_is : {A : Type 0} (xs : List A) (n : ℕ) → n < length xs → (x : A) × (slice_get xs n ≡ Some x)
+there_is [] n h = absurd (omega (arith, h))
+there_is (x ∷ xs) zero h = (x, refl)
+there_is (x ∷ xs) (suc n) h = there_is xs n (omega (arith, h))
+
+pub got : {A : Type 0} (xs : List A) (n : ℕ) (d : A) → n < length xs → slice_get xs n ≡ Some (get_or xs n d)
+got [] n d h = absurd (omega (arith, h))
+got (x ∷ xs) zero d h = refl
+got (x ∷ xs) (suc n) d h = got xs n d (omega (arith, h))
+
+pub within : {A : Type 0} (xs : List A) (n : ℕ) (x : A) → slice_get xs n ≡ Some x → n < length xs
+within [] n x at = absurd (cc at)
+within (a ∷ xs) zero x at = omega arith
+within (a ∷ xs) (suc n) x at = let h : n < length xs = within xs n x at in omega (arith, h)
+
+-- what stands at a place where one was changed
+pub at_changed : {A : Type 0} (xs : List A) (n m : ℕ) (y x : A) → slice_get (slice_set xs n y) m ≡ Some x
+    → ((m ≡ n) × (x ≡ y)) ⊎ (slice_get xs m ≡ Some x)
+at_changed [] n m y x at = absurd (cc at)
+at_changed (a ∷ xs) zero zero y x at = inl (refl, let same : y ≡ x = cc at in sym same)
+at_changed (a ∷ xs) zero (suc m) y x at = inr at
+at_changed (a ∷ xs) (suc n) zero y x at = inr at
+at_changed (a ∷ xs) (suc n) (suc m) y x at = elim (at_changed xs n m y x at) [ inl h ↦ inl (ap suc h.0, h.1) | inr h ↦ inr h ]

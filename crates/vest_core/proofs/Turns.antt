@@ -1,0 +1,121 @@
+-- A turn of one processor of a legal world.
+use Rattle.std.proofs.Common.{◌≡◌, ℕ, zero, suc, ◌<◌, ◌+◌, inl, inr, ◌↔◌, true, get_or, List, [], ◌∷◌, length, Some, refl, sym, ap, ◌∙◌, subst, arith}
+use Rattle.std.specs.Prelude.{option_map, reverse, slice_get, slice_set}
+use Rattle.block_law.specs.Sound.{IsSound}
+use Rattle.block_law.specs.Translations.{Meets}
+use Rattle.image_file.specs.Start.{start_state}
+use Rattle.image_file.specs.Values.{ImageValue}
+use Rattle.image_meaning.specs.Laws.{VaxMeaningIsSound}
+use Rattle.image_meaning.specs.Meant.{all_kinds, codes_written, image_meaning, no_bonus}
+use Rattle.legal_history.specs.Headline.{HasFewSteps}
+use Rattle.legal_history.specs.Law.{IsRun}
+use Rattle.legal_history.specs.OneProcessor.{IsSteady, ReachedIsSteady}
+use Rattle.memory_core.specs.Contents.{Contents}
+use Rattle.memory_core.specs.Order.{own}
+use Rattle.memory_core.specs.declared.entry.Entry.{Entry}
+use Rattle.memory_core.specs.declared.entry.SetUp.{SetUp}
+use Rattle.system_model.specs.Legal.{starts, IsLegal}
+use Rattle.system_model.specs.Processors.{Processor}
+use Rattle.system_model.specs.Settings.{Setting}
+use Rattle.tie_switch.specs.Laws.{TurnsStayLegal}
+use Rattle.tie_switch.specs.Processors.{HasStep, HasTurned, ProcessorValue, StandsFor, processor_of}
+use Rattle.tie_switch.specs.Turns.{has_ended}
+use Rattle.tie_switch.specs.declared.turn.Turn.{Turn}
+use Rattle.tie_switch.specs.declared.turn.Turn.TheVariants.{Went, Ended}
+use Rattle.vax_form.specs.GrammarLaws.{AreBytes}
+use Rattle.vax_form.specs.declared.pages.Pages.{Pages}
+use Rattle.vest_core.specs.Worlds.{IsLegalWorld, IsOf, IsPicked, WorldValue}
+use Rattle.vest_core.proofs.Lists.{beside, changed_beside, there_is, got, within, at_changed}
+
+-- ---- few steps are behind the processor that stands for one of which that is so
+few_of : (pages : Pages) (j : ProcessorValue) (q : Processor) (mine : List Entry) → StandsFor pages j q → HasFewSteps q mine → HasFewSteps (processor_of j) mine
+few_of pages j q mine stands few = subst (λ (x : Processor). HasFewSteps x mine) stands.same few
+
+-- ---- a legal world
+module _ (steady_law : ReachedIsSteady) (legal_law : TurnsStayLegal)
+    (setting : Setting) (sound : IsSound setting.meaning) (meets : Meets setting.meaning setting.code) where
+  -- a processor of a legal run has a step, and few are behind it
+  is_steady : (set_up : SetUp) (budget : ℕ) (entries : List Entry) (processors : List Processor) (thread : ℕ) (p : Processor) → IsRun set_up
+      → IsLegal setting set_up budget entries processors → slice_get processors thread ≡ Some p → IsSteady setting set_up entries thread p
+  is_steady set_up budget entries processors thread p run legal at =
+      let there = there_is set_up.image.threads thread (omega (arith, within processors thread p at, legal.count)) in
+      let starting : starts set_up.image thread ≡ Some (start_state there.0) = ap (option_map start_state) there.1 in
+      steady_law setting set_up budget entries thread (start_state there.0) p sound meets run legal.pages legal.order starting
+      (legal.each thread (start_state there.0) p starting at)
+
+  module _ (old : WorldValue) (run : IsRun old.memory.set_up) (legal : IsLegalWorld setting old) (thread : ℕ) (k : ProcessorValue) (at : slice_get old.processors thread ≡ Some k) where
+    its_processor : (p : Processor) × (slice_get legal.processors thread ≡ Some p) × StandsFor setting.meaning.pages k p
+    its_processor = beside (StandsFor setting.meaning.pages) old.processors legal.processors thread k legal.stand at
+
+    pub has_step : HasStep setting old.memory.set_up k
+    has_step =
+        let its = its_processor in
+        let steady = is_steady old.memory.set_up old.budget (reverse old.memory.history) legal.processors thread its.0 run legal.legal its.1 in
+        record { processor = its.0; stands = its.2; can = record { goes_on = steady.goes_on; asks = steady.asks } }
+
+    module _ (new : Contents) (j : ProcessorValue) (same : new.set_up ≡ old.memory.set_up) (within_budget : k.budget ≡ old.budget)
+        (turned : (p : Processor) → StandsFor setting.meaning.pages k p → HasTurned setting old.memory.set_up (λ between. between ≡ []) k.budget p j old.memory.history new.history) where
+      pub turned_within : (p : Processor) → StandsFor setting.meaning.pages k p
+          → HasTurned setting old.memory.set_up (λ between. between ≡ []) old.budget p j old.memory.history new.history
+      turned_within p stands =
+          subst (λ (b : ℕ). HasTurned setting old.memory.set_up (λ (between : List Entry). between ≡ []) b p j old.memory.history new.history) within_budget (turned p stands)
+
+      next_of : HasTurned setting old.memory.set_up (λ between. between ≡ []) old.budget (its_processor).0 j old.memory.history new.history
+      next_of = turned_within (its_processor).0 (its_processor).2
+
+      pub stays_legal : IsLegalWorld setting (record { memory = new; processors = slice_set old.processors thread j; budget = old.budget })
+      stays_legal = record {
+        processors = slice_set legal.processors thread (next_of).processor;
+        stand = changed_beside (StandsFor setting.meaning.pages) old.processors legal.processors thread j (next_of).processor legal.stand (next_of).stands;
+        legal = subst (λ (s : SetUp). IsLegal setting s old.budget (reverse new.history) (slice_set legal.processors thread (next_of).processor)) (sym same)
+            (legal_law setting old.memory.set_up old.budget old.memory.history new.history legal.processors thread (its_processor).0 (next_of).processor legal.legal (its_processor).1 (next_of).turned);
+      }
+
+      pub few_steps : HasFewSteps (processor_of j) (own thread (reverse new.history))
+      unfolding stays_legal
+      few_steps =
+          let q = (next_of).processor in
+          let run_now : IsRun new.set_up = subst IsRun (sym same) run in
+          let here : slice_get (slice_set legal.processors thread q) thread ≡ Some q = set_there legal.processors thread (its_processor).0 q (its_processor).1 in
+          let steady = is_steady new.set_up old.budget (reverse new.history) (slice_set legal.processors thread q) thread q run_now (stays_legal).legal here in
+          few_of setting.meaning.pages j q (own thread (reverse new.history)) (next_of).stands steady.steps
+        where
+          set_there : (ps : List Processor) (n : ℕ) (p q : Processor) → slice_get ps n ≡ Some p → slice_get (slice_set ps n q) n ≡ Some q
+          set_there [] n p q at = absurd (cc at)
+          set_there (x ∷ ps) zero p q at = refl
+          set_there (x ∷ ps) (suc n) p q at = set_there ps n p q at
+
+      pub is_picked : (result : Turn) → ((result ≡ Ended) ↔ (has_ended (processor_of j).mode ≡ true)) → (result ≡ Went → j.steps ≡ k.steps + 1)
+          → IsPicked setting thread result old (record { memory = new; processors = slice_set old.processors thread j; budget = old.budget })
+      is_picked result ended steps = record {
+        was = k;
+        there = at;
+        is = j;
+        processors = refl;
+        turned = turned_within;
+        ended = ended;
+        steps = steps;
+        few_steps = few_steps;
+      }
+
+-- the processors stay those of their threads
+pub each_own : (ks : List ProcessorValue) (thread budget : ℕ) (k j : ProcessorValue) → ((n : ℕ) (x : ProcessorValue) → slice_get ks n ≡ Some x → IsOf n budget x) → slice_get ks thread ≡ Some k
+    → j.thread ≡ k.thread → j.budget ≡ k.budget → (n : ℕ) (x : ProcessorValue) → slice_get (slice_set ks thread j) n ≡ Some x → IsOf n budget x
+each_own ks thread budget k j each at same_thread same_budget n x there =
+    let its = each thread k at in
+    let own_j : IsOf thread budget j = record { thread = same_thread ∙ its.thread; budget = same_budget ∙ its.budget } in
+    elim (at_changed ks thread n j x there) [
+      | inl h ↦ subst (λ (y : ProcessorValue). IsOf n budget y) (sym h.1) (subst (λ (m : ℕ). IsOf m budget j) (sym h.0) own_j)
+      | inr h ↦ each n x h
+    ]
+
+-- ---- what `pick` knows
+pub image_is_sound : VaxMeaningIsSound → (image : ImageValue) (pages : Pages) → pages ≡ image.pages → AreBytes pages.code → IsSound (image_meaning image.pages)
+image_is_sound law image pages same bytes =
+    law image.pages (codes_written image.pages) all_kinds no_bonus (subst (λ (p : Pages). AreBytes p.code) same bytes) (λ address. omega arith)
+
+-- the picked processor stands at its place
+pub stands_at : (w seen : WorldValue) (n processor : ℕ) (k : ProcessorValue) → w ≡ seen → n ≡ processor → processor < length seen.processors → k ≡ get_or w.processors n k
+    → slice_get w.processors n ≡ Some k
+stands_at w seen n processor k same is there value =
+    got w.processors n k (omega (arith, is, there, ap (λ (x : WorldValue). length x.processors) same)) ∙ ap Some (sym value)
