@@ -1,4 +1,5 @@
 pub mod Lists
 pub mod Parts
 pub mod Tables
+pub mod UsesOfOthers
 pub mod Walks

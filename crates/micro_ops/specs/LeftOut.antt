@@ -1,5 +1,6 @@
 -- Computations that are left out of a block, since the words that make the codes stand in for them.
-use Rattle.std.specs.Prelude.{◌≡◌, ℕ, ◌<◌, ◌==◌, ◌&&◌, ◌||◌, Bool, true, false, not, List, [], ◌∷◌, nat_lt, slice_get, unwrap_or}
+use Rattle.std.specs.Prelude.{◌≡◌, ℕ, ◌<◌, ◌==◌, ◌&&◌, ◌||◌, if◌then◌else◌, Bool, true, false, not, List, [], ◌∷◌, Option, nat_lt, slice_get, unwrap_or}
+use Rattle.std.specs.List.{list_any}
 use Rattle.micro_ops.specs.declared.codes.CodeSource.{CodeSource}
 use Rattle.micro_ops.specs.declared.codes.CodeSource.TheVariants as sources
 use Rattle.micro_ops.specs.declared.codes.CodeSources.{CodeSources}
@@ -42,6 +43,18 @@ abbrev pub is_left_out : CodeSources → Micro → (behind : List Micro) → Boo
 is_left_out codes (Compute to op size a b) behind = not (is_low to) && not (is_used codes behind to)
 is_left_out codes operation behind = false
 
+-- the flag of a number; false behind the table
+abbrev pub flag_at : List Bool → ℕ → Bool
+flag_at flags number = unwrap_or (slice_get flags number) false
+
 -- a table of flags has that of each number that a byte can hold
 abbrev pub Tells : List Bool → (ℕ → Bool) → Type 0
-Tells flags test = (number : ℕ) → number < 256 → unwrap_or (slice_get flags number) false ≡ test number
+Tells flags test = (number : ℕ) → number < 256 → flag_at flags number ≡ test number
+
+-- the temporaries that a list names are those that pass
+abbrev pub AreJust : List (Option ℕ) → (ℕ → Bool) → Type 0
+AreJust temps test = (temp : ℕ) → list_any (is_code temp) temps ≡ test temp
+
+-- the flags, but for that of the temporary
+abbrev pub with_flag : Option ℕ → Bool → List Bool → (number : ℕ) → Bool
+with_flag temp flag flags number = if is_code number temp then flag else flag_at flags number

@@ -1,10 +1,10 @@
 // Which computations of a program have no words.
-ghost use Rattle.std.specs.Prelude.{◌≡◌, ℕ, ◌<◌, ◌≤◌, Bool, false, Some, List, slice_get, length, unwrap_or};
-ghost use Rattle.micro_ops.specs.LeftOut.{is_low, is_computed, is_needed, uses_now, uses_from, is_used, is_left_out, Tells};
+ghost use Rattle.std.specs.Prelude.{◌≡◌, ℕ, ◌<◌, Bool, false, Some, List, slice_get, length, unwrap_or};
+ghost use Rattle.micro_ops.specs.LeftOut.{is_low, is_computed, is_needed, uses_now, uses_from, is_used, is_left_out, AreJust, Tells, with_flag};
 
 use crate::codes::{CodeSource, CodeSources};
 use crate::program::Micro;
-use crate::uses::{is_code, reads, replaces};
+use crate::uses::{Names, read_by, replaced_by};
 
 /// One flag for each temporary that a number can name.
 type Table = [bool; 256];
@@ -31,33 +31,50 @@ fn is_needed(operation: Micro, later: &Table) -> bool
     }
 }
 
-fn uses_now(codes: CodeSources, needed: bool, operation: Micro, temp: u8) -> bool
-    ensures { result ≡ uses_now codes needed operation temp }
+/// The temporaries that an operation uses, and not for codes that have a rule alone.
+fn used_now(codes: CodeSources, needed: bool, operation: Micro) -> Names
+    ensures names { AreJust result (uses_now codes needed operation) }
+    ensures long { length result ≡ 4 }
 {
     match operation {
-        Micro::Codes { v, c, .. } => {
-            (is_computed(codes.nzv) && v == temp) || (is_computed(codes.c) && is_code(temp, c))
+        Micro::Codes { v, c, .. } => [
+            if is_computed(codes.nzv) {
+                Some(v)
+            } else {
+                None
+            },
+            if is_computed(codes.c) { c } else { None },
+            None,
+            None,
+        ],
+        _ => {
+            if needed {
+                read_by(operation)
+            } else {
+                [None; 4]
+            }
         }
-        _ => needed && reads(temp, operation),
     }
 }
 
-fn uses_from(codes: CodeSources, needed: bool, later: bool, operation: Micro, temp: u8) -> bool
-    ensures { result ≡ uses_from codes needed later operation temp }
+/// Sets the flag of a temporary, if one is named.
+fn set_flag(flags: &mut Table, temp: Option<u8>, flag: bool)
+    ensures { Tells flags.new (with_flag temp flag flags.old) }
 {
-    uses_now(codes, needed, operation, temp) || (!replaces(temp, operation) && later)
+    if let Some(temp) = temp {
+        flags[temp as usize] = flag;
+    }
 }
 
-/// Which temporaries are used from an operation on, for those that are used behind it.
-fn used_from(codes: CodeSources, operation: Micro, later: &Table) -> Table
-    ensures { (used : ℕ → Bool) → Tells later.now used → Tells result (λ temp. uses_from codes (is_needed operation used) (used temp) operation temp) }
+/// Makes the table of those that are used behind an operation that of those used from it on.
+fn use_from(codes: CodeSources, operation: Micro, used: &mut Table)
+    ensures { (later : ℕ → Bool) → Tells used.old later → Tells used.new (λ temp. uses_from codes (is_needed operation later) (later temp) operation temp) }
 {
-    let needed = is_needed(operation, later);
-    let mut used = [false; 256];
-    for temp in 0..256usize {
-        used[temp] = uses_from(codes, needed, later[temp], operation, temp as u8);
+    let names = used_now(codes, is_needed(operation, used), operation);
+    set_flag(used, replaced_by(operation), false);
+    for temp in names {
+        set_flag(used, temp, true);
     }
-    used
 }
 
 /// Which temporaries a program uses.
@@ -66,7 +83,7 @@ fn used_by(codes: CodeSources, program: &[Micro]) -> Table
 {
     let mut used = [false; 256];
     for i in 0..program.len() {
-        used = used_from(codes, program[program.len() - 1 - i], &used);
+        use_from(codes, program[program.len() - 1 - i], &mut used);
     }
     used
 }

@@ -1,6 +1,7 @@
 // Which temporaries a micro operation reads and writes.
-ghost use Rattle.std.specs.Prelude.{◌≡◌};
-ghost use Rattle.micro_ops.specs.Uses.{is_unary, is_select, is_temp, is_code, leaves_through, reads, writes, replaces, is_codes, leaves_longword};
+ghost use Rattle.std.specs.Prelude.{◌≡◌, ℕ, length};
+ghost use Rattle.micro_ops.specs.LeftOut.{AreJust};
+ghost use Rattle.micro_ops.specs.Uses.{is_unary, is_select, is_temp, is_code, leaves_through, reads, replaces, is_codes, leaves_longword};
 
 use crate::program::{Arg, Exit, Micro, MicroOp};
 use vax_form::Size;
@@ -22,66 +23,58 @@ pub fn is_select(op: MicroOp) -> bool
     matches!(op, MicroOp::SelectNonzero)
 }
 
-fn is_temp(temp: u8, arg: Arg) -> bool
-    ensures { result ≡ is_temp temp arg }
+/// As many temporaries as an operation reads at most.
+pub(crate) type Names = [Option<u8>; 4];
+
+fn named_by(arg: Arg) -> Option<u8>
+    ensures { (temp : ℕ) → is_code temp result ≡ is_temp temp arg }
 {
-    matches!(arg, Arg::Temp(number) if number == temp)
+    match arg {
+        Arg::Temp(number) => Some(number),
+        _ => None,
+    }
 }
 
-/// Whether a code is taken from a temporary.
-pub fn is_code(temp: u8, code: Option<u8>) -> bool
-    ensures { result ≡ is_code temp code }
-{
-    matches!(code, Some(code) if code == temp)
-}
-
-fn leaves_through(temp: u8, exit: Exit) -> bool
-    ensures { result ≡ leaves_through temp exit }
+fn left_through(exit: Exit) -> Option<u8>
+    ensures { (temp : ℕ) → is_code temp result ≡ leaves_through temp exit }
 {
     match exit {
-        Exit::Computed(address) => address == temp,
-        Exit::Choice { when, .. } => when == temp,
-        Exit::Service(code) => code == temp,
-        Exit::Next | Exit::Fixed(_) | Exit::Breakpoint => false,
+        Exit::Computed(temp) | Exit::Choice { when: temp, .. } | Exit::Service(temp) => Some(temp),
+        Exit::Next | Exit::Fixed(_) | Exit::Breakpoint => None,
     }
 }
 
-/// Whether it matters to the operation what a temporary holds.
-pub fn reads(temp: u8, operation: Micro) -> bool
-    ensures { result ≡ reads temp operation }
+/// The temporaries that matter to an operation.
+pub(crate) fn read_by(operation: Micro) -> Names
+    ensures names { AreJust result (λ temp. reads temp operation) }
+    ensures long { length result ≡ 4 }
 {
     match operation {
-        Micro::Compute { to, op, a, b, .. } => {
-            is_temp(temp, a) || (!is_unary(op) && is_temp(temp, b)) || (is_select(op) && to == temp)
-        }
-        Micro::Probe { place, .. } | Micro::Read { place, .. } => place == temp,
-        Micro::Refuse { when } => when == temp,
+        Micro::Compute { to, op, a, b, .. } => [
+            named_by(a),
+            if is_unary(op) { None } else { named_by(b) },
+            if is_select(op) { Some(to) } else { None },
+            None,
+        ],
+        Micro::Probe { place, .. } | Micro::Read { place, .. } => [Some(place), None, None, None],
+        Micro::Refuse { when } => [Some(when), None, None, None],
         Micro::Write { place, from, .. } | Micro::Locked { place, from, .. } => {
-            place == temp || from == temp
+            [Some(place), Some(from), None, None]
         }
-        Micro::Commit { from, .. } | Micro::SetPsw { from } => from == temp,
-        Micro::Codes { n, z, v, c } => n == temp || z == temp || v == temp || is_code(temp, c),
-        Micro::Leave(exit) => leaves_through(temp, exit),
+        Micro::Commit { from, .. } | Micro::SetPsw { from } => [Some(from), None, None, None],
+        Micro::Codes { n, z, v, c } => [Some(n), Some(z), Some(v), c],
+        Micro::Leave(exit) => [left_through(exit), None, None, None],
     }
 }
 
-/// Whether the operation writes a temporary.
-pub fn writes(temp: u8, operation: Micro) -> bool
-    ensures { result ≡ writes temp operation }
+/// The temporary of which nothing is left.
+pub(crate) fn replaced_by(operation: Micro) -> Option<u8>
+    ensures { (temp : ℕ) → is_code temp result ≡ replaces temp operation }
 {
     match operation {
-        Micro::Compute { to, .. } | Micro::Read { to, .. } | Micro::Locked { to, .. } => to == temp,
-        _ => false,
-    }
-}
-
-/// Whether nothing is left of what a temporary held.
-pub fn replaces(temp: u8, operation: Micro) -> bool
-    ensures { result ≡ replaces temp operation }
-{
-    match operation {
-        Micro::Compute { to, op, .. } => to == temp && !is_select(op),
-        _ => writes(temp, operation),
+        Micro::Compute { to, op, .. } if !is_select(op) => Some(to),
+        Micro::Read { to, .. } | Micro::Locked { to, .. } => Some(to),
+        _ => None,
     }
 }
 

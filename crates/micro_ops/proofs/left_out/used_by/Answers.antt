@@ -11,5 +11,5 @@ loop-i-init c number lt = none_held 256 number lt ∙ sym (at_drop_all (λ rest.
 pub loop-i-preserved : goal.loop-i-preserved
 loop-i-preserved c number lt =
     let program = c.args.program.now in
-    c.used_from-used.ensures (is_used c.args.codes (drop (length program - c.loop-i.i) program)) c.loop-i.invariant number lt
+    c.use_from.ensures (is_used c.args.codes (drop (length program - c.loop-i.i) program)) c.loop-i.invariant number lt
     ∙ ap (λ rest. is_used c.args.codes rest number) (sym (one_earlier program c.loop-i.i _ c.loop-i-test.true))
