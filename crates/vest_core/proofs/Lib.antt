@@ -1,3 +1,4 @@
 mod Lists
+mod ManyTurns
 mod Turns
 mod NewWorlds

@@ -36,6 +36,23 @@ within [] n x at = absurd (cc at)
 within (a ∷ xs) zero x at = omega arith
 within (a ∷ xs) (suc n) x at = let h : n < length xs = within xs n x at in omega (arith, h)
 
+pub set_there : {A : Type 0} (xs : List A) (n : ℕ) (x y : A) → slice_get xs n ≡ Some x → slice_get (slice_set xs n y) n ≡ Some y
+set_there [] n x y at = absurd (cc at)
+set_there (a ∷ xs) zero x y at = refl
+set_there (a ∷ xs) (suc n) x y at = set_there xs n x y at
+
+-- an element put where it stands
+pub set_same : {A : Type 0} (xs : List A) (n : ℕ) (x : A) → slice_get xs n ≡ Some x → slice_set xs n x ≡ xs
+set_same [] n x at = refl
+set_same (a ∷ xs) zero x at = let same : a ≡ x = cc at in ap (λ y. y ∷ xs) (sym same)
+set_same (a ∷ xs) (suc n) x at = ap (λ ys. a ∷ ys) (set_same xs n x at)
+
+-- of two elements put at one place the second stays
+pub set_again : {A : Type 0} (xs : List A) (n : ℕ) (x y : A) → slice_set (slice_set xs n x) n y ≡ slice_set xs n y
+set_again [] n x y = refl
+set_again (a ∷ xs) zero x y = refl
+set_again (a ∷ xs) (suc n) x y = ap (λ ys. a ∷ ys) (set_again xs n x y)
+
 -- what stands at a place where one was changed
 pub at_changed : {A : Type 0} (xs : List A) (n m : ℕ) (y x : A) → slice_get (slice_set xs n y) m ≡ Some x
     → ((m ≡ n) × (x ≡ y)) ⊎ (slice_get xs m ≡ Some x)

@@ -1,5 +1,5 @@
--- A turn of one processor of a legal world.
-use Rattle.std.proofs.Common.{◌≡◌, ℕ, zero, suc, ◌<◌, ◌+◌, inl, inr, ◌↔◌, true, get_or, List, [], ◌∷◌, length, Some, refl, sym, ap, ◌∙◌, subst, arith}
+-- Turns of one processor of a legal world.
+use Rattle.std.proofs.Common.{◌≡◌, ℕ, ◌<◌, ◌+◌, ◌≤◌, ◌⊎◌, inl, inr, ◌↔◌, true, get_or, List, [], length, Some, refl, sym, ap, ◌∙◌, subst, arith}
 use Rattle.std.specs.Prelude.{option_map, reverse, slice_get, slice_set}
 use Rattle.block_law.specs.Sound.{IsSound}
 use Rattle.block_law.specs.Translations.{Meets}
@@ -17,15 +17,17 @@ use Rattle.memory_core.specs.declared.entry.SetUp.{SetUp}
 use Rattle.system_model.specs.Legal.{starts, IsLegal}
 use Rattle.system_model.specs.Processors.{Processor}
 use Rattle.system_model.specs.Settings.{Setting}
-use Rattle.tie_switch.specs.Laws.{TurnsStayLegal}
-use Rattle.tie_switch.specs.Processors.{HasStep, HasTurned, ProcessorValue, StandsFor, processor_of}
+use Rattle.tie_switch.specs.Laws.{LocalTurnsKeepReached, TurnsStayLegal}
+use Rattle.tie_switch.specs.Processors.{HasAdvanced, HasStep, HasSteps, HasTurned, ProcessorValue, StandsFor, processor_of}
 use Rattle.tie_switch.specs.Turns.{has_ended}
 use Rattle.tie_switch.specs.declared.turn.Turn.{Turn}
 use Rattle.tie_switch.specs.declared.turn.Turn.TheVariants.{Went, Ended}
 use Rattle.vax_form.specs.GrammarLaws.{AreBytes}
 use Rattle.vax_form.specs.declared.pages.Pages.{Pages}
-use Rattle.vest_core.specs.Worlds.{IsLegalWorld, IsOf, IsPicked, WorldValue}
-use Rattle.vest_core.proofs.Lists.{beside, changed_beside, there_is, got, within, at_changed}
+use Rattle.vax_form.specs.declared.state.VaxState.{VaxState}
+use Rattle.vest_core.specs.Worlds.{IsAdvanced, IsLegalWorld, IsOf, IsPicked, WorldValue}
+use Rattle.vest_core.proofs.Lists.{beside, changed_beside, there_is, got, set_there, within, at_changed}
+use Rattle.vest_core.proofs.ManyTurns.{many_stay_legal}
 
 -- ---- few steps are behind the processor that stands for one of which that is so
 few_of : (pages : Pages) (j : ProcessorValue) (q : Processor) (mine : List Entry) → StandsFor pages j q → HasFewSteps q mine → HasFewSteps (processor_of j) mine
@@ -34,14 +36,19 @@ few_of pages j q mine stands few = subst (λ (x : Processor). HasFewSteps x mine
 -- ---- a legal world
 module _ (steady_law : ReachedIsSteady) (legal_law : TurnsStayLegal)
     (setting : Setting) (sound : IsSound setting.meaning) (meets : Meets setting.meaning setting.code) where
+  -- where the thread of a processor starts
+  start_of : (set_up : SetUp) (budget : ℕ) (entries : List Entry) (processors : List Processor) (thread : ℕ) (p : Processor)
+      → IsLegal setting set_up budget entries processors → slice_get processors thread ≡ Some p → (start : VaxState) × (starts set_up.image thread ≡ Some start)
+  start_of set_up budget entries processors thread p legal at =
+      let there = there_is set_up.image.threads thread (omega (arith, within processors thread p at, legal.count)) in
+      (start_state there.0, ap (option_map start_state) there.1)
+
   -- a processor of a legal run has a step, and few are behind it
   is_steady : (set_up : SetUp) (budget : ℕ) (entries : List Entry) (processors : List Processor) (thread : ℕ) (p : Processor) → IsRun set_up
       → IsLegal setting set_up budget entries processors → slice_get processors thread ≡ Some p → IsSteady setting set_up entries thread p
   is_steady set_up budget entries processors thread p run legal at =
-      let there = there_is set_up.image.threads thread (omega (arith, within processors thread p at, legal.count)) in
-      let starting : starts set_up.image thread ≡ Some (start_state there.0) = ap (option_map start_state) there.1 in
-      steady_law setting set_up budget entries thread (start_state there.0) p sound meets run legal.pages legal.order starting
-      (legal.each thread (start_state there.0) p starting at)
+      let there = start_of set_up budget entries processors thread p legal at in
+      steady_law setting set_up budget entries thread there.0 p sound meets run legal.pages legal.order there.1 (legal.each thread there.0 p there.1 at)
 
   module _ (old : WorldValue) (run : IsRun old.memory.set_up) (legal : IsLegalWorld setting old) (thread : ℕ) (k : ProcessorValue) (at : slice_get old.processors thread ≡ Some k) where
     its_processor : (p : Processor) × (slice_get legal.processors thread ≡ Some p) × StandsFor setting.meaning.pages k p
@@ -53,37 +60,58 @@ module _ (steady_law : ReachedIsSteady) (legal_law : TurnsStayLegal)
         let steady = is_steady old.memory.set_up old.budget (reverse old.memory.history) legal.processors thread its.0 run legal.legal its.1 in
         record { processor = its.0; stands = its.2; can = record { goes_on = steady.goes_on; asks = steady.asks } }
 
-    module _ (new : Contents) (j : ProcessorValue) (same : new.set_up ≡ old.memory.set_up) (within_budget : k.budget ≡ old.budget)
-        (turned : (p : Processor) → StandsFor setting.meaning.pages k p → HasTurned setting old.memory.set_up (λ between. between ≡ []) k.budget p j old.memory.history new.history) where
-      pub turned_within : (p : Processor) → StandsFor setting.meaning.pages k p
-          → HasTurned setting old.memory.set_up (λ between. between ≡ []) old.budget p j old.memory.history new.history
-      turned_within p stands =
-          subst (λ (b : ℕ). HasTurned setting old.memory.set_up (λ (between : List Entry). between ≡ []) b p j old.memory.history new.history) within_budget (turned p stands)
+    pub within_budget : (n : ℕ) (p : Processor) → StandsFor setting.meaning.pages k p → k.budget ≡ old.budget → p.steps + n ≤ k.budget → p.steps + n ≤ old.budget
+    within_budget n p stands same fits = omega (arith, same, fits)
 
-      next_of : HasTurned setting old.memory.set_up (λ between. between ≡ []) old.budget (its_processor).0 j old.memory.history new.history
-      next_of = turned_within (its_processor).0 (its_processor).2
+    -- it has a step behind each number of turns that ask nothing
+    pub has_steps : LocalTurnsKeepReached → k.budget ≡ old.budget → HasSteps setting old.memory.set_up k
+    has_steps local_law same_budget =
+        let its = its_processor in
+        let there = start_of old.memory.set_up old.budget (reverse old.memory.history) legal.processors thread its.0 legal.legal its.1 in
+        record {
+          processor = its.0;
+          stands = its.2;
+          can = λ n q went_there fits.
+              let reached = local_law setting old.memory.set_up old.budget n old.memory.history thread there.0 its.0 q (legal.legal.each thread there.0 its.0 there.1 its.1) went_there
+              (within_budget n its.0 its.2 same_budget fits) in
+              let steady = steady_law setting old.memory.set_up old.budget (reverse old.memory.history) thread there.0 q sound meets run legal.legal.pages legal.legal.order there.1 reached in
+              record { goes_on = steady.goes_on; asks = steady.asks };
+        }
 
+    -- the processor goes on as another, and the history with it
+    module _ (new : Contents) (j : ProcessorValue) (q : Processor) (same : new.set_up ≡ old.memory.set_up) (stands : StandsFor setting.meaning.pages j q)
+        (behind : IsLegal setting old.memory.set_up old.budget (reverse new.history) (slice_set legal.processors thread q)) where
       pub stays_legal : IsLegalWorld setting (record { memory = new; processors = slice_set old.processors thread j; budget = old.budget })
       stays_legal = record {
-        processors = slice_set legal.processors thread (next_of).processor;
-        stand = changed_beside (StandsFor setting.meaning.pages) old.processors legal.processors thread j (next_of).processor legal.stand (next_of).stands;
-        legal = subst (λ (s : SetUp). IsLegal setting s old.budget (reverse new.history) (slice_set legal.processors thread (next_of).processor)) (sym same)
-            (legal_law setting old.memory.set_up old.budget old.memory.history new.history legal.processors thread (its_processor).0 (next_of).processor legal.legal (its_processor).1 (next_of).turned);
+        processors = slice_set legal.processors thread q;
+        stand = changed_beside (StandsFor setting.meaning.pages) old.processors legal.processors thread j q legal.stand stands;
+        legal = subst (λ (s : SetUp). IsLegal setting s old.budget (reverse new.history) (slice_set legal.processors thread q)) (sym same) behind;
       }
 
       pub few_steps : HasFewSteps (processor_of j) (own thread (reverse new.history))
       unfolding stays_legal
       few_steps =
-          let q = (next_of).processor in
           let run_now : IsRun new.set_up = subst IsRun (sym same) run in
           let here : slice_get (slice_set legal.processors thread q) thread ≡ Some q = set_there legal.processors thread (its_processor).0 q (its_processor).1 in
           let steady = is_steady new.set_up old.budget (reverse new.history) (slice_set legal.processors thread q) thread q run_now (stays_legal).legal here in
-          few_of setting.meaning.pages j q (own thread (reverse new.history)) (next_of).stands steady.steps
-        where
-          set_there : (ps : List Processor) (n : ℕ) (p q : Processor) → slice_get ps n ≡ Some p → slice_get (slice_set ps n q) n ≡ Some q
-          set_there [] n p q at = absurd (cc at)
-          set_there (x ∷ ps) zero p q at = refl
-          set_there (x ∷ ps) (suc n) p q at = set_there ps n p q at
+          few_of setting.meaning.pages j q (own thread (reverse new.history)) stands steady.steps
+
+    -- one turn
+    module _ (new : Contents) (j : ProcessorValue) (same : new.set_up ≡ old.memory.set_up) (same_budget : k.budget ≡ old.budget)
+        (turned : (p : Processor) → StandsFor setting.meaning.pages k p → HasTurned setting old.memory.set_up (λ between. between ≡ []) k.budget p j old.memory.history new.history) where
+      turned_within : (p : Processor) → StandsFor setting.meaning.pages k p
+          → HasTurned setting old.memory.set_up (λ between. between ≡ []) old.budget p j old.memory.history new.history
+      turned_within p stands =
+          subst (λ (b : ℕ). HasTurned setting old.memory.set_up (λ (between : List Entry). between ≡ []) b p j old.memory.history new.history) same_budget (turned p stands)
+
+      next_of : HasTurned setting old.memory.set_up (λ between. between ≡ []) old.budget (its_processor).0 j old.memory.history new.history
+      next_of = turned_within (its_processor).0 (its_processor).2
+
+      behind_one : IsLegal setting old.memory.set_up old.budget (reverse new.history) (slice_set legal.processors thread (next_of).processor)
+      behind_one = legal_law setting old.memory.set_up old.budget old.memory.history new.history legal.processors thread (its_processor).0 (next_of).processor legal.legal (its_processor).1 (next_of).turned
+
+      pub turned_is_legal : IsLegalWorld setting (record { memory = new; processors = slice_set old.processors thread j; budget = old.budget })
+      turned_is_legal = stays_legal new j (next_of).processor same (next_of).stands behind_one
 
       pub is_picked : (result : Turn) → ((result ≡ Ended) ↔ (has_ended (processor_of j).mode ≡ true)) → (result ≡ Went → j.steps ≡ k.steps + 1)
           → IsPicked setting thread result old (record { memory = new; processors = slice_set old.processors thread j; budget = old.budget })
@@ -95,7 +123,35 @@ module _ (steady_law : ReachedIsSteady) (legal_law : TurnsStayLegal)
         turned = turned_within;
         ended = ended;
         steps = steps;
-        few_steps = few_steps;
+        few_steps = few_steps new j (next_of).processor same (next_of).stands behind_one;
+      }
+
+    -- many turns
+    module _ (new : Contents) (j : ProcessorValue) (n : ℕ) (same : new.set_up ≡ old.memory.set_up) (same_budget : k.budget ≡ old.budget)
+        (advanced : (p : Processor) → StandsFor setting.meaning.pages k p
+        → HasAdvanced setting old.memory.set_up (λ between. between ≡ []) k.budget p n j old.memory.history new.history) where
+      advanced_within : (p : Processor) → StandsFor setting.meaning.pages k p
+          → HasAdvanced setting old.memory.set_up (λ between. between ≡ []) old.budget p n j old.memory.history new.history
+      advanced_within p stands =
+          subst (λ (b : ℕ). HasAdvanced setting old.memory.set_up (λ (between : List Entry). between ≡ []) b p n j old.memory.history new.history) same_budget (advanced p stands)
+
+      last_of : HasAdvanced setting old.memory.set_up (λ between. between ≡ []) old.budget (its_processor).0 n j old.memory.history new.history
+      last_of = advanced_within (its_processor).0 (its_processor).2
+
+      behind_many : IsLegal setting old.memory.set_up old.budget (reverse new.history) (slice_set legal.processors thread (last_of).processor)
+      behind_many = many_stay_legal legal_law setting old.memory.set_up old.budget thread (its_processor).0 old.memory.history legal.processors legal.legal (its_processor).1 (last_of).turned
+
+      pub advanced_is_legal : IsLegalWorld setting (record { memory = new; processors = slice_set old.processors thread j; budget = old.budget })
+      advanced_is_legal = stays_legal new j (last_of).processor same (last_of).stands behind_many
+
+      pub is_advanced : IsAdvanced setting thread n old (record { memory = new; processors = slice_set old.processors thread j; budget = old.budget })
+      is_advanced = record {
+        was = k;
+        there = at;
+        is = j;
+        processors = refl;
+        advanced = advanced_within;
+        few_steps = few_steps new j (last_of).processor same (last_of).stands behind_many;
       }
 
 -- the processors stay those of their threads
@@ -109,7 +165,12 @@ each_own ks thread budget k j each at same_thread same_budget n x there =
       | inr h ↦ each n x h
     ]
 
--- ---- what `pick` knows
+-- memory serves as many processors behind a turn
+pub same_processors : (new old : Contents) → (new ≡ old) ⊎ ((new.set_up ≡ old.set_up) × (new.processors ≡ old.processors)) → old.processors ≡ new.processors
+same_processors new old (inl same) = ap (λ (m : Contents). m.processors) (sym same)
+same_processors new old (inr same) = sym same.1
+
+-- ---- what `pick` and `advance` know
 pub image_is_sound : VaxMeaningIsSound → (image : ImageValue) (pages : Pages) → pages ≡ image.pages → AreBytes pages.code → IsSound (image_meaning image.pages)
 image_is_sound law image pages same bytes =
     law image.pages (codes_written image.pages) all_kinds no_bonus (subst (λ (p : Pages). AreBytes p.code) same bytes) (λ address. omega arith)

@@ -10,7 +10,7 @@ use Rattle.system_model.specs.Laws.{begun_from}
 use Rattle.system_model.specs.Legal.{IsLegal}
 use Rattle.system_model.specs.Processors as model
 use Rattle.system_model.specs.Settings.{Setting}
-use Rattle.tie_switch.specs.Processors.{HasTurned, ProcessorValue, StandsFor, processor_of}
+use Rattle.tie_switch.specs.Processors.{HasAdvanced, HasTurned, ProcessorValue, StandsFor, processor_of}
 use Rattle.tie_switch.specs.Turns.{has_ended}
 use Rattle.tie_switch.specs.declared.turn.Turn.{Turn}
 use Rattle.tie_switch.specs.declared.turn.Turn.TheVariants.{Went, Ended}
@@ -49,6 +49,19 @@ pub record IsLegalWorld (setting : Setting) (w : WorldValue) : Type 0 where
 abbrev pub IsExplained : Setting → WorldValue → Type 0
 IsExplained setting w =
     (legal : IsLegalWorld setting w) → HasHeadline setting w.memory.set_up (reverse w.memory.history) legal.processors
+
+-- what many turns of one processor, one after the other, do to a world
+pub record IsAdvanced (setting : Setting) (thread turns : ℕ) (old new : WorldValue) : Type 0 where
+  pub was : ProcessorValue
+  pub there : slice_get old.processors thread ≡ Some was
+  pub is : ProcessorValue
+  -- no other processor changes
+  pub processors : new.processors ≡ slice_set old.processors thread is
+  -- it makes as many turns of the model
+  pub advanced : (p : model.Processor) → StandsFor setting.meaning.pages was p
+      → HasAdvanced setting old.memory.set_up (λ between. between ≡ []) old.budget p turns is old.memory.history new.memory.history
+  -- and few steps are behind it, for the instructions that it retired and the accesses that it made
+  pub few_steps : HasFewSteps (processor_of is) (own thread (reverse new.memory.history))
 
 -- what a turn of one processor does to a world
 pub record IsPicked (setting : Setting) (thread : ℕ) (turn : Turn) (old new : WorldValue) : Type 0 where

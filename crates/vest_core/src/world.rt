@@ -10,17 +10,18 @@ ghost use Rattle.system_model.specs.Settings.{Setting};
 ghost use Rattle.tie_switch.specs.Processors.{ProcessorValue, StandsFor};
 ghost use Rattle.tie_switch.specs.Settings.{image_setting};
 ghost use Rattle.vax_form.specs.declared.pages.Pages.{Pages};
-ghost use Rattle.vest_core.specs.Worlds.{IsExplained, IsLegalWorld, IsNew, IsOf, IsPicked};
+ghost use Rattle.vest_core.specs.Worlds.{IsAdvanced, IsExplained, IsLegalWorld, IsNew, IsOf, IsPicked};
 
 use image_file::{Image, Start};
 use image_meaning::laws::{page_table_has_bytes, vax_meaning_is_sound};
 use legal_history::laws::{images_are_runs, legal_has_headline, reached_is_steady};
 use memory_core::MemState;
+use prepared_code::Prepared;
 use std::alloc::{AllocError, Global};
 use std::marker::Model;
 use system_model::laws::beginnings_are_legal;
 use system_model::{Range, Translation};
-use tie_switch::laws::turns_stay_legal;
+use tie_switch::laws::{many_turns_keep_reached, turns_stay_legal};
 use tie_switch::{Processor, Turn};
 use vax_form::WantOfMemory;
 
@@ -112,6 +113,43 @@ impl World {
         legal_has_headline();
         let picked = &mut self.processors[usize::from(processor)];
         picked.turn(image, translation, ranges, &mut self.memory)
+    }
+
+    /// Gives that processor turns, up to the next that asks or ends and with it, but at most so many, and tells how many: at
+    /// least one. It takes no memory.
+    pub fn advance(
+        &mut self,
+        image: &Image,
+        translation: &Translation,
+        prepared: &Prepared<'_>,
+        ranges: &[Range],
+        processor: u8,
+        most: u64,
+    ) -> u64
+        requires some { 0 < most }
+        requires there { processor < length self.old.processors }
+        requires image { self.old.memory.set_up.image ≡ image.now }
+        requires code { prepared.now.code ≡ translation.now }
+        requires pages { prepared.now.pages ≡ image.now.pages }
+        requires meets { Meets (image_meaning image.now.pages) translation.now }
+        requires legal { IsLegalWorld (image_setting image.now.pages translation.now ranges.now) self.old }
+        ensures some { 0 < result }
+        ensures most { result ≤ most }
+        ensures set_up { self.new.memory.set_up ≡ self.old.memory.set_up }
+        ensures budget { self.new.budget ≡ self.old.budget }
+        ensures count { length self.new.processors ≡ length self.old.processors }
+        ensures advanced { IsAdvanced (image_setting image.now.pages translation.now ranges.now) processor result self.old self.new }
+        ensures legal { IsLegalWorld (image_setting image.now.pages translation.now ranges.now) self.new }
+        ensures headline { IsExplained (image_setting image.now.pages translation.now ranges.now) self.new }
+    {
+        page_table_has_bytes(&image.pages);
+        vax_meaning_is_sound();
+        reached_is_steady();
+        turns_stay_legal();
+        many_turns_keep_reached();
+        legal_has_headline();
+        let advanced = &mut self.processors[usize::from(processor)];
+        advanced.advance(image, translation, prepared, ranges, &mut self.memory, most)
     }
 
     pub fn memory(&self) -> &MemState

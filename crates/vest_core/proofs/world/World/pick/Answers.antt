@@ -1,12 +1,11 @@
-use Rattle.std.proofs.Common.{◌≡◌, ℕ, ◌⊎◌, inl, inr, reverse, slice_set, sym, ap, ◌∙◌, subst}
+use Rattle.std.proofs.Common.{ℕ, reverse, slice_set, sym, ap, ◌∙◌, subst}
 use Rattle.std.proofs.lemmas.List.{length-set}
 use Rattle.image_file.specs.Values.{ImageValue}
 use Rattle.legal_history.specs.Law.{IsRun}
-use Rattle.memory_core.specs.Contents.{Contents}
 use Rattle.tie_switch.specs.Settings.{image_setting}
 use Rattle.vest_core.specs.Views.{world_of}
 use Rattle.vest_core.specs.Worlds.{IsLegalWorld, IsPicked, WorldValue}
-use Rattle.vest_core.proofs.Turns.{each_own, has_step, image_is_sound, is_picked, stands_at, stays_legal}
+use Rattle.vest_core.proofs.Turns.{each_own, has_step, image_is_sound, is_picked, same_processors, stands_at, turned_is_legal}
 use Rattle.vest_core.proofs.world.World.pick.Goals as goal
 
 pub turn-requires-clause-has_step : goal.turn-requires-clause-has_step
@@ -29,10 +28,6 @@ invariant_of-self c =
       serves = length-set old.processors c.from.result c.turn.new.self ∙ c.self.invariant.serves ∙ same_processors c.turn.new.memory c.self.inside.memory c.turn.ensures.place;
       each = each_own old.processors c.from.result old.budget k c.turn.new.self c.self.invariant.each at c.turn.ensures.thread c.turn.ensures.budget;
     }
-  where
-    same_processors : (new old : Contents) → (new ≡ old) ⊎ ((new.set_up ≡ old.set_up) × (new.processors ≡ old.processors)) → old.processors ≡ new.processors
-    same_processors new old (inl same) = ap (λ (m : Contents). m.processors) (sym same)
-    same_processors new old (inr same) = sym same.1
 
 pub returns-clause-picked : goal.returns-clause-picked
 returns-clause-picked c =
@@ -59,7 +54,7 @@ returns-clause-legal c =
     let k = c.index_mut-picked.result.now in
     let at = stands_at old c.args.self.now c.from.result c.args.processor k c.self.view_is c.from.ensures c.requires.there c.index_mut-picked.ensures.value in
     let within = (c.self.invariant.each c.from.result k at).budget in
-    stays_legal c.reached_is_steady.ensures c.turns_stay_legal.ensures setting sound c.requires.meets old c.self.invariant.run legal c.from.result k at
+    turned_is_legal c.reached_is_steady.ensures c.turns_stay_legal.ensures setting sound c.requires.meets old c.self.invariant.run legal c.from.result k at
     c.turn.new.memory c.turn.new.self c.turn.ensures.set_up within c.turn.ensures.turned
 
 pub returns-clause-headline : goal.returns-clause-headline
