@@ -9,7 +9,10 @@ use std::alloc::{AllocError, Global};
 use std::sync::Wait;
 use std::thread::Threads;
 use vest_cli::{Kept, Status, vest};
-use vt_outside::{MemoryDesk, MemorySink, MemorySource};
+use vt_outside::{Got, MemoryDesk, MemorySink, MemorySource, Source};
+
+/// The bytes of the input that are looked for behind a call.
+const UNREAD: usize = 16;
 
 /// What a call is lent beside the desk.
 #[derive(Drop)]
@@ -70,6 +73,7 @@ fn seen(alloc: Global, status: Status, kept: &Kept) -> Result<Run, AllocError> {
     Ok(Run {
         status: status as u64,
         is_kept: kept.image.is_some(),
+        ranges: kept.ranges.len() as u64,
         steps,
         history,
     })
@@ -86,12 +90,22 @@ fn steps_of(alloc: Global, kept: &Kept) -> Result<Vec<Steps>, AllocError> {
     Ok(steps)
 }
 
+// How many of up to as many bytes another read gives.
+fn unread(input: &mut MemorySource) -> u64 {
+    let mut buffer = [0; UNREAD];
+    match input.read(&mut buffer) {
+        Got::Bytes(count) => count as u64,
+        Got::End | Got::Failed => 0,
+    }
+}
+
 // What the objects took.
-fn left_of(alloc: Global, objects: &Objects, run: Run) -> Result<Left, AllocError> {
+fn left_of(alloc: Global, objects: &mut Objects, run: Run) -> Result<Left, AllocError> {
     let out = objects.out.bytes().to_vec(alloc)?;
     let report = objects.report.bytes().to_vec(alloc)?;
     Ok(Left {
         run,
+        unread: unread(&mut objects.input),
         out,
         report,
         released: objects.gate.are_released(),
@@ -107,7 +121,7 @@ fn call_over<R: Threads + Wait + Sync>(
 ) -> Result<Left, AllocError> {
     let mut objects = objects_of(alloc, lent)?;
     let run = run_of(rt, alloc, words, desk, &mut objects)?;
-    left_of(alloc, &objects, run)
+    left_of(alloc, &mut objects, run)
 }
 
 /// Calls `vest` with the words of a line. The files are then those of the desk.

@@ -15,19 +15,21 @@ pub struct Steps {
     pub interpreted: u64,
 }
 
-/// The status, and of a run that was kept the threads and the history.
+/// The status, and of a run that was kept how many ranges of addresses, the threads and the history.
 #[derive(Drop)]
 pub struct Run {
     pub status: u64,
     pub is_kept: bool,
+    pub ranges: u64,
     pub steps: Vec<Steps>,
     pub history: Vec<Entry>,
 }
 
-/// Also what the sinks took, and whether each hold ended because its access came.
+/// Also how many bytes of the input are left, what the sinks took, and whether each hold ended because its access came.
 #[derive(Drop)]
 pub struct Left {
     pub run: Run,
+    pub unread: u64,
     pub out: Vec<u8>,
     pub report: Vec<u8>,
     pub released: bool,

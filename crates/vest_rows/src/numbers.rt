@@ -70,6 +70,8 @@ impl Left {
     fn of_call(&self, name: &str) -> Result<u64> {
         match name {
             "kept" => Ok(u64::from(self.run.is_kept)),
+            "ranges" => Ok(self.run.ranges),
+            "unread" => Ok(self.unread),
             "lines" => Ok(lines(&self.out)),
             "entries" => Ok(self.run.history.len() as u64),
             "locked" => Ok(count_of(&self.run.history, Which::Locked)),
