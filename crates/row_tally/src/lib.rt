@@ -1,17 +1,21 @@
 //! Tables of rows, for the programs that go through them: how they are read, how many rows there are and how many agree.
 #![tactic(auto)]
 
+mod columns;
 mod families;
 mod fault;
 mod reading;
+mod tables;
 
 ghost use Rattle.std.specs.Prelude.{◌≡◌, ◌+◌, ◌↔◌, min, if◌then◌else◌, IsOk};
 
 use anyhow::{Result, ensure};
+pub use columns::{five_fields, four_fields, three_fields, two_fields};
 pub use families::Families;
 pub use fault::RowFault;
 pub use reading::{bytes, fields, is_row, longword, number, pieces, rows, words};
 use std::fmt::Debug;
+pub use tables::{Given, ask_rows, check_rows};
 
 /// How many rows there were, and how many agree; neither counts on beyond the greatest number.
 #[derive(Clone, Copy, Debug, PartialEq, Eq)]
