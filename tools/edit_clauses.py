@@ -16,17 +16,20 @@ CLAUSE = re.compile(r"`[\w-]*-clause-(\w+)`")
 
 
 def functions(file):
-    """The functions of a file: the line of each, its name, whether it is `pub`, and its contract."""
+    """The functions of a file: the first line of each with what stands above it, its name, whether it is `pub`, and its contract."""
     lines = file.read_text().splitlines()
     for at, line in enumerate(lines):
         found = FUNCTION.match(line)
         if found:
+            first = at
+            while first and lines[first - 1].lstrip().startswith(("#[", "//")):
+                first -= 1
             contract = []
             for text in lines[at:]:
                 if text.strip() in ("{", "}"):
                     break
                 contract.append(text)
-            yield at + 1, found[2], found[1] == "pub ", "\n".join(contract)
+            yield first + 1, found[2], found[1] == "pub ", "\n".join(contract)
 
 
 def is_exported(crate, name):
@@ -56,7 +59,7 @@ def place(crate, edit, why):
     is_equation = bool(clauses) and all("result ≡" in clause or "new ≡" in clause for clause in clauses)
     is_private = not (is_public and (is_exported(crate, name) or "self" in contract))
     clause = CLAUSE.search(why)
-    return name, clause[1] if clause else "", is_private and is_equation
+    return f"{file.stem}::{name}", clause[1] if clause else "", is_private and is_equation
 
 
 def main():
