@@ -1,9 +1,16 @@
 // A branch reaches 2 ^ 20 words back and one word less forth, from the next word; behind that a jump is taken.
-use crate::blocks::IDLE;
-use alpha_encode::{AlphaInstr, BranchOp, MemoryOp};
+use alpha_encode::{AlphaInstr, BranchOp, MemoryOp, OperateOp, Second};
 use anyhow::Result;
 use branch_layout::code_to;
 use row_tally::Tally;
+
+/// BIS R31,R31,R31
+const IDLE: AlphaInstr = AlphaInstr::Operate {
+    op: OperateOp::Bis,
+    ra: 31,
+    rb: Second::Register(31),
+    rc: 31,
+};
 
 /// The register of a jump.
 const JUMP: u8 = 27;

@@ -1,0 +1,86 @@
+// The block of a micro program.
+ghost use Rattle.std.specs.Prelude.{IfOk, false};
+ghost use Rattle.block_law.specs.Blocks.{IsBlockOf};
+
+use anyhow::{Result, bail, ensure};
+use code_runs::rules_behind;
+use exception_records::{Block, CodeRule, Rules};
+use flag_codegen::code_words;
+use micro_ops::{CodeSource, CodeSources, Exit, Micro, fits, sources_of};
+use program_codegen::block;
+use std::alloc::Global;
+use vax_form::{Flags, Instr, Operand, Operation, Size};
+
+/// The address of an instruction, and the one behind it.
+#[derive(Clone, Copy)]
+pub struct Site {
+    pub at: u32,
+    pub after: u32,
+}
+
+impl Site {
+    pub const HERE: Site = Site {
+        at: 0x200,
+        after: 0x204,
+    };
+}
+
+/// All codes are ready.
+pub const READY: Rules = Rules {
+    n: CodeRule::Ready,
+    z: CodeRule::Ready,
+    v: CodeRule::Ready,
+    c: CodeRule::Ready,
+};
+
+/// Whether C is kept where N, Z and V are.
+fn keeps_together(sources: CodeSources) -> bool {
+    !matches!(sources.nzv, CodeSource::Kept) || matches!(sources.c, CodeSource::Kept)
+}
+
+/// Whether V is not that of a sum or a difference of quadwords.
+fn is_narrow(rule: CodeRule) -> bool {
+    match rule {
+        CodeRule::Add { size } | CodeRule::Sub { size } => !matches!(size, Size::Quad),
+        _ => true,
+    }
+}
+
+fn is_computed(operation: &Micro) -> bool {
+    matches!(operation, Micro::Leave(Exit::Computed(_)))
+}
+
+/// The block of a program that fits, before which all codes are ready, and the rules behind it where these are live.
+pub fn made(
+    alloc: Global,
+    site: Site,
+    operation: Operation,
+    program: &[Micro],
+    live: Flags,
+) -> Result<(Block, Rules)>
+    ensures { IfOk result (λ made. IsBlockOf false site.at made.0) }
+{
+    let sources = sources_of(operation);
+    let behind = rules_behind(sources, live, READY);
+    ensure!(fits(sources, program), "it does not fit");
+    ensure!(keeps_together(sources), "C is not kept");
+    ensure!(is_narrow(behind.v), "V of quadwords");
+    ensure!(
+        behind == READY || !program.iter().any(|operation| is_computed(operation)),
+        "codes that are not ready"
+    );
+    let instr = Instr {
+        at: site.at,
+        opcode: 0,
+        count: 0,
+        operands: [Operand::Unused; 6],
+        after: site.after,
+    };
+    let Ok(words) = code_words(alloc, operation, live) else {
+        bail!("want of memory");
+    };
+    match block(alloc, &instr, sources, program, &words, READY, behind) {
+        Ok(block) => Ok((block, behind)),
+        Err(_) => bail!("want of memory"),
+    }
+}

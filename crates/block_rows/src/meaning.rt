@@ -1,0 +1,194 @@
+// What a micro program does, one operation after the other.
+use crate::ending::{Ending, Seen};
+use crate::world::World;
+use anyhow::{Result, bail};
+use micro_ops::{Arg, Exit, LockedOp, Micro, compute};
+use vax_form::VaxState;
+
+const TEMPORARIES: usize = 64;
+
+/// The condition codes of the PSW; and IV, by which overflow traps.
+const CODES: u16 = 0xF;
+
+const TRAPS: u16 = 1 << 5;
+
+/// The bits of N, Z, V, C, T, IV, FU and DV in the PSW.
+const FLAGS: [u16; 8] = [3, 2, 1, 0, 4, 5, 6, 7];
+
+/// The vectors of the reserved operand and of the breakpoint fault, and the type of integer overflow.
+const RESERVED_OPERAND: u8 = 0x18;
+
+const BREAKPOINT: u8 = 0x2C;
+
+const INTEGER_OVERFLOW: u32 = 1;
+
+/// A program that runs: the state found and the one to be left, the memory, the temporaries, and whether V was set.
+#[derive(Drop)]
+struct Course {
+    found: VaxState,
+    left: VaxState,
+    world: World,
+    temporaries: [u64; TEMPORARIES],
+    overflowed: bool,
+}
+
+/// The low bits of a value.
+fn bits(value: u64, count: u32) -> u64 {
+    value % (1 << count.min(63))
+}
+
+fn longword(value: u64) -> u32 {
+    bits(value, 32) as u32
+}
+
+impl Course {
+    fn temporary(&self, number: u8) -> u64 {
+        self.temporaries[usize::from(number) % TEMPORARIES]
+    }
+
+    fn set(&mut self, number: u8, value: u64) {
+        self.temporaries[usize::from(number) % TEMPORARIES] = value;
+    }
+
+    fn value(&self, arg: Arg) -> u64 {
+        match arg {
+            Arg::Temp(number) => self.temporary(number),
+            Arg::Register(number) => u64::from(self.found.register(number)),
+            Arg::Flag(number) => {
+                u64::from(self.found.psw >> FLAGS[usize::from(number) % FLAGS.len()] & 1)
+            }
+            Arg::Const(value) => value,
+        }
+    }
+
+    /// An interlocked change is one write, of what was held.
+    fn lock(&mut self, to: u8, place: u8, kind: LockedOp, from: u8) -> Result<()> {
+        let (address, from) = (longword(self.temporary(place)), self.temporary(from));
+        let count = if matches!(kind, LockedOp::AddWord) {
+            2
+        } else {
+            1
+        };
+        let held = self.world.held(address, count);
+        let bit = 1 << (from % 8);
+        let written = match kind {
+            LockedOp::AddWord => held.wrapping_add(from),
+            LockedOp::SetBit => held | bit,
+            LockedOp::ClearBit => held & !bit,
+        };
+        self.world.write(address, count, written)?;
+        self.set(to, held);
+        Ok(())
+    }
+
+    fn set_codes(&mut self, n: u8, z: u8, v: u8, c: Option<u8>) {
+        let is_set = |number| u16::from(self.temporary(number) != 0);
+        let c = match c {
+            Some(c) => is_set(c),
+            None => self.found.psw & 1,
+        };
+        let codes = is_set(n) << 3 | is_set(z) << 2 | is_set(v) << 1 | c;
+        self.overflowed = is_set(v) != 0;
+        self.left.psw = self.left.psw & !CODES | codes;
+    }
+
+    fn leave(&mut self, exit: Exit, after: u32) -> Ending {
+        let ending = match exit {
+            Exit::Computed(_) => Ending::LooksUp,
+            Exit::Service(number) => Ending::Serves(bits(self.temporary(number), 16) as u16),
+            Exit::Breakpoint => return Ending::Faults(BREAKPOINT),
+            Exit::Next | Exit::Fixed(_) | Exit::Choice { .. } => Ending::Goes,
+        };
+        self.left.pc = match exit {
+            Exit::Fixed(address) => address,
+            Exit::Computed(number) => longword(self.temporary(number)),
+            Exit::Choice { when, taken, .. } if self.temporary(when) != 0 => taken,
+            Exit::Choice { other, .. } => other,
+            Exit::Next | Exit::Service(_) | Exit::Breakpoint => after,
+        };
+        if self.overflowed && self.left.psw & TRAPS != 0 {
+            return Ending::Traps(INTEGER_OVERFLOW);
+        }
+        ending
+    }
+
+    /// Makes a reference or a change of the state.
+    fn make(&mut self, operation: Micro) -> Result<()> {
+        match operation {
+            Micro::Compute { to, op, size, a, b } => {
+                let (a, b) = (self.value(a), self.value(b));
+                self.set(to, compute(op, size, a, b, self.temporary(to)));
+            }
+            Micro::Read { to, place, count } => {
+                let value = self.world.read(longword(self.temporary(place)), count)?;
+                self.set(to, value);
+            }
+            Micro::Write { place, count, from } => {
+                let value = self.temporary(from);
+                self.world
+                    .write(longword(self.temporary(place)), count, value)?;
+            }
+            Micro::Locked {
+                to,
+                place,
+                kind,
+                from,
+            } => self.lock(to, place, kind, from)?,
+            Micro::Commit { register, from } => {
+                let value = longword(self.temporary(from));
+                self.left.set_register(register, value);
+            }
+            Micro::Codes { n, z, v, c } => self.set_codes(n, z, v, c),
+            Micro::SetPsw { from } => self.left.psw = bits(self.temporary(from), 8) as u16,
+            Micro::Probe { .. } | Micro::Refuse { .. } | Micro::Leave(_) => {}
+        }
+        Ok(())
+    }
+
+    /// How an operation ends the program, if it does.
+    fn end(&mut self, operation: Micro, after: u32) -> Result<Option<Ending>> {
+        Ok(match operation {
+            Micro::Probe {
+                place,
+                count,
+                write,
+            } => {
+                let address = longword(self.temporary(place));
+                let holds = self.world.checks(address, count, write)?;
+                if holds { None } else { Some(Ending::Violates) }
+            }
+            Micro::Refuse { when } if self.temporary(when) != 0 => {
+                Some(Ending::Faults(RESERVED_OPERAND))
+            }
+            Micro::Leave(exit) => Some(self.leave(exit, after)),
+            _ => None,
+        })
+    }
+}
+
+/// Runs a program from a state and a memory.
+pub fn run(program: &[Micro], found: VaxState, world: World, after: u32) -> Result<Seen> {
+    let mut course = Course {
+        found,
+        left: found,
+        world,
+        temporaries: [0; TEMPORARIES],
+        overflowed: false,
+    };
+    for operation in program {
+        course.make(*operation)?;
+        let Some(ending) = course.end(*operation, after)? else {
+            continue;
+        };
+        let state = match ending {
+            Ending::Violates | Ending::Faults(_) => course.found,
+            _ => course.left,
+        };
+        return Ok(Seen {
+            ending,
+            state,
+            world: course.world,
+        });
+    }
+    bail!("a program that doesn't leave")
+}
