@@ -2,8 +2,9 @@
 ghost use Rattle.std.specs.Prelude.{IfOk};
 ghost use Rattle.compute_sequences.specs.Registers.{IsArgument, IsTarget};
 
-use crate::machine::{encoded, left};
+use crate::machine::encoded;
 use crate::names::{operation, size};
+use crate::registers::left;
 use anyhow::{Result, bail, ensure};
 use compute_sequences::compute_words;
 use micro_ops::Arg;

@@ -105,13 +105,13 @@ impl Case {
         let code = encoded(alloc, words.as_slice())?;
         let registers = behind(code.as_slice(), self.registers).context("words that end")?;
         let rules = rules_behind(sources_of(self.operation), live, BEFORE);
-        let mut differ = 0;
+        let mut differ = 0_u8;
         for number in 0..SETS {
             let held = set(number);
             let found = codes_shown(&self.registers, &BEFORE, &held);
             let left = codes_shown(&registers, &rules, &still_held(held, self.operation));
             if !self.agrees(found, left) {
-                differ += 1;
+                differ = differ.saturating_add(1);
             }
         }
         Ok((words.len(), differ))

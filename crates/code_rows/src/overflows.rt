@@ -1,6 +1,9 @@
 // V of sums and differences.
-use crate::machine::{encoded, left};
+ghost use Rattle.std.specs.Prelude.{◌<◌, ◌≢◌};
+
+use crate::machine::encoded;
 use crate::names::width;
+use crate::registers::left;
 use anyhow::{Result, bail};
 use compute_sequences::{Arithmetic, overflow_words};
 use row_tally::{Tally, fields, number, rows};
@@ -22,40 +25,23 @@ fn arithmetic(name: &str) -> Result<Arithmetic> {
     }
 }
 
-/// What the words leave with the second operand in a register of its own.
-fn apart(
+/// What the words leave with the second operand in that register.
+fn found(
     alloc: Global,
     arithmetic: Arithmetic,
     width: Width,
-    a: u64,
-    b: u64,
-) -> Result<Option<u64>> {
-    let words = overflow_words(alloc, arithmetic, width, FIRST, SECOND, OVERFLOW).map_err(
-        |_| AllocError,
-    )?;
+    operands: (u64, u64),
+    second: u8,
+) -> Result<Option<u64>>
+    requires few { second < 32 }
+    requires stays { second ≢ 27 }
+{
+    let words = overflow_words(alloc, arithmetic, width, FIRST, second, OVERFLOW);
+    let code = encoded(alloc, &words.map_err(|_| AllocError)?)?;
     let mut registers = [0; 32];
-    registers[FIRST as usize] = a;
-    registers[SECOND as usize] = b;
-    let code = encoded(alloc, words.as_slice())?;
-    Ok(left(code.as_slice(), registers, OVERFLOW))
-}
-
-/// And with it in the register of V.
-fn together(
-    alloc: Global,
-    arithmetic: Arithmetic,
-    width: Width,
-    a: u64,
-    b: u64,
-) -> Result<Option<u64>> {
-    let words = overflow_words(alloc, arithmetic, width, FIRST, OVERFLOW, OVERFLOW).map_err(
-        |_| AllocError,
-    )?;
-    let mut registers = [0; 32];
-    registers[FIRST as usize] = a;
-    registers[OVERFLOW as usize] = b;
-    let code = encoded(alloc, words.as_slice())?;
-    Ok(left(code.as_slice(), registers, OVERFLOW))
+    registers[FIRST as usize] = operands.0;
+    registers[second as usize] = operands.1;
+    Ok(left(&code, registers, OVERFLOW))
 }
 
 /// Checks the rows: a sum or a difference, the size, both operands, and V.
@@ -67,8 +53,8 @@ pub fn check(rt: &(impl Print + AllocGlobal), table: &str) -> Result<Tally> {
         let (a, b) = (number(words[2])?, number(words[3])?);
         let wanted = Some(number(words[4])?);
         let found = (
-            apart(rt.alloc(), arithmetic, width, a, b)?,
-            together(rt.alloc(), arithmetic, width, a, b)?,
+            found(rt.alloc(), arithmetic, width, (a, b), SECOND)?,
+            found(rt.alloc(), arithmetic, width, (a, b), OVERFLOW)?,
         );
         tally.check(rt, row, &found, &(wanted, wanted))?;
     }

@@ -1,5 +1,6 @@
 // Interlocked changes.
-use crate::machine::{BEFORE, FROM, PLACE, TO, encoded, low, replaced, started};
+use crate::machine::encoded;
+use crate::quadwords::{BEFORE, FROM, PLACE, TO, both, low, replaced, started};
 use anyhow::Result;
 use byte_sequences::locked_words;
 use micro_ops::LockedOp;
@@ -38,7 +39,7 @@ pub fn interlocked_changes(rt: &(impl Print + AllocGlobal)) -> Result<Tally> {
             let mut machine = started(offset, operand, failures);
             machine.run(code.as_slice())?;
             let read = u128::from(machine.cpu.r[TO as usize]);
-            let found = (read, machine.memory.quads, machine.memory.counted);
+            let found = (read, both(machine), machine.memory.counted);
             tally.check(rt, "change", &found, &wanted)?;
         }
     }

@@ -1,4 +1,4 @@
-// An Alpha processor over two quadwords of memory.
+// An Alpha processor over four quadwords of memory.
 ghost use Rattle.std.specs.Prelude.{All};
 ghost use Rattle.alpha_encode.specs.Words.{IsEncodable};
 
@@ -11,25 +11,13 @@ use std::alloc::{AllocError, Global};
 /// The address of the first quadword.
 pub const BASE: u64 = 0x1000;
 
-/// The register of the operand's address.
-pub const PLACE: u8 = 21;
-
-/// The register of what is written.
-pub const FROM: u8 = 22;
-
-/// The register of what is read.
-pub const TO: u8 = 23;
-
-/// What memory holds before.
-pub const BEFORE: u128 = 0xb7b6_b5b4_b3b2_b1b0_a7a6_a5a4_a3a2_a1a0;
-
-/// More than any sequence takes.
+/// More than any code takes.
 const MOST_STEPS: u32 = 100;
 
 #[derive(Clone, Copy, Debug, PartialEq, Eq)]
 pub struct Memory {
-    /// The quadwords at `BASE`, the first in the low half.
-    pub quads: u128,
+    /// The quadwords at `BASE`.
+    pub quads: [u64; 4],
     /// How many stores conditional fail.
     pub failures: u32,
     /// The accesses that count.
@@ -40,6 +28,7 @@ pub struct Memory {
 pub struct Machine {
     pub cpu: Cpu,
     pub memory: Memory,
+    pub steps: u32,
 }
 
 /// The words of instructions.
@@ -53,73 +42,52 @@ pub fn encoded(alloc: Global, instrs: &[AlphaInstr]) -> Result<Vec<u32>, AllocEr
     Ok(code)
 }
 
-/// The low bytes of a number.
-pub fn low(bytes: u32, number: u128) -> u128 {
-    match 1_u128.checked_shl(bytes.saturating_mul(8)) {
-        Some(limit) => number % limit.max(1),
-        None => number,
-    }
-}
-
-/// The memory before with so many bytes from an offset on replaced.
-pub fn replaced(offset: u32, bytes: u32, value: u128) -> u128 {
-    let shift = offset.saturating_mul(8).min(127);
-    let mask = low(bytes, u128::MAX) << shift;
-    BEFORE & !mask | low(bytes, value) << shift
-}
-
-/// How many quadwords an operand lies in.
-pub fn parts(offset: u32, bytes: u32) -> u32 {
-    if offset.saturating_add(bytes) <= 8 {
-        1
-    } else {
-        2
-    }
-}
-
-/// A machine with the operand at an offset.
-pub fn started(offset: u32, from: u64, failures: u32) -> Machine {
-    let mut cpu = Cpu { r: [0; 32], pc: 0 };
-    cpu.r[PLACE as usize] = BASE + u64::from(offset);
-    cpu.r[FROM as usize] = from;
-    let memory = Memory {
-        quads: BEFORE,
-        failures,
-        counted: 0,
-    };
-    Machine { cpu, memory }
-}
-
 impl Memory {
-    // The loaded bytes, and whether a store was made.
+    /// The loaded bytes, and whether a store was made.
     fn served(&mut self, access: AlphaAccess) -> Result<(u64, bool)> {
         let at = access.address.wrapping_sub(BASE);
-        ensure!(at < 16, "outside the memory");
+        ensure!(at < 32, "outside the memory");
         ensure!(access.bytes == 4 || access.bytes == 8, "another size");
         ensure!(at % u64::from(access.bytes) == 0, "an unaligned access");
-        let (bytes, shift) = (u32::from(access.bytes), 8 * at as u32);
         let fails = matches!(access.kind, AlphaKind::StoreConditional) && self.failures > 0;
         if fails {
             self.failures -= 1;
         } else if !matches!(access.kind, AlphaKind::LoadLocked) {
             self.counted = self.counted.saturating_add(1);
         }
-        let loaded = u64::try_from(low(bytes, self.quads >> shift)).ok();
-        let loaded = loaded.context("a quadword")?;
+        let (place, shift) = ((at / 8) as usize, 8 * (at % 8) as u32);
+        let low = if access.bytes == 4 {
+            u64::MAX >> 32
+        } else {
+            u64::MAX
+        };
+        let loaded = self.quads[place] >> shift & low;
         if matches!(access.kind, AlphaKind::Store | AlphaKind::StoreConditional) && !fails {
-            let mask = low(bytes, u128::MAX) << shift;
-            self.quads = self.quads & !mask | u128::from(access.value) << shift;
+            self.quads[place] = self.quads[place] & !(low << shift) | access.value << shift;
         }
         Ok((loaded, !fails))
     }
 }
 
 impl Machine {
-    /// Runs to the end of the code.
-    pub fn run(&mut self, code: &[u32]) -> Result<()> {
+    pub fn new(r: [u64; 32], quads: [u64; 4], failures: u32) -> Machine {
+        let memory = Memory {
+            quads,
+            failures,
+            counted: 0,
+        };
+        Machine {
+            cpu: Cpu { r, pc: 0 },
+            memory,
+            steps: 0,
+        }
+    }
+
+    /// Runs to the end of the code, or to a call of the PALcode: its number.
+    pub fn run(&mut self, code: &[u32]) -> Result<Option<u8>> {
         for _ in 0..MOST_STEPS {
             if self.cpu.pc as usize == code.len() {
-                return Ok(());
+                return Ok(None);
             }
             let word = code.get(self.cpu.pc as usize).context("behind the code")?;
             decode(*word).context("no instruction")?;
@@ -129,9 +97,19 @@ impl Machine {
                     let (value, success) = self.memory.served(access)?;
                     finish(&mut self.cpu, code, value, success);
                 }
-                AlphaStep::Pal(_) => bail!("a PALcode call"),
+                AlphaStep::Pal(number) => return Ok(Some(number)),
             }
+            self.steps = self.steps.saturating_add(1);
         }
         bail!("no end")
+    }
+}
+
+/// The registers behind code that runs to its end and asks for no memory; None behind other code.
+pub fn behind(code: &[u32], registers: [u64; 32]) -> Option<[u64; 32]> {
+    let mut machine = Machine::new(registers, [0; 4], 0);
+    match machine.run(code) {
+        Ok(None) if machine.memory.counted == 0 => Some(machine.cpu.r),
+        _ => None,
     }
 }

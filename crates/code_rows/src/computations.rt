@@ -1,6 +1,7 @@
 // Each operation and size, with its arguments in every kind of place.
-use crate::machine::{encoded, left};
+use crate::machine::encoded;
 use crate::names::{operation, size};
+use crate::registers::left;
 use anyhow::Result;
 use compute_sequences::compute_words;
 use micro_ops::{Arg, Micro, MicroOp, compute, words_of};

@@ -1,5 +1,5 @@
 use Rattle.vt_words.specs.Quad.{one, two, four, eight}
-use Rattle.sequence_rows.proofs.operands.read_code.Goals as goal
+use Rattle.code_rows.proofs.operands.read_code.Goals as goal
 
 pub read_words-words-requires-clause-count : goal.read_words-words-requires-clause-count
 read_words-words-requires-clause-count c = one

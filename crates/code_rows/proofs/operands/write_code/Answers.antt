@@ -1,5 +1,5 @@
 use Rattle.vt_words.specs.Quad.{one, two, four, eight}
-use Rattle.sequence_rows.proofs.operands.write_code.Goals as goal
+use Rattle.code_rows.proofs.operands.write_code.Goals as goal
 
 pub write_words-words-requires-clause-count : goal.write_words-words-requires-clause-count
 write_words-words-requires-clause-count c = one

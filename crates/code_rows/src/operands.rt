@@ -1,5 +1,6 @@
 // Operands of each size that are read and written, at every offset.
-use crate::machine::{BEFORE, FROM, Machine, PLACE, TO, encoded, low, parts, replaced, started};
+use crate::machine::{Machine, encoded};
+use crate::quadwords::{BEFORE, FROM, PLACE, TO, both, low, parts, replaced, started};
 use anyhow::Result;
 use byte_sequences::{read_words, write_words};
 use row_tally::Tally;
@@ -39,7 +40,7 @@ fn write_code(alloc: Global, bytes: u8) -> Result<Vec<u32>> {
 fn left(code: &[u32], mut machine: Machine) -> Result<(u128, u128, u32)> {
     machine.run(code)?;
     let read = u128::from(machine.cpu.r[TO as usize]);
-    Ok((read, machine.memory.quads, machine.memory.counted))
+    Ok((read, both(machine), machine.memory.counted))
 }
 
 /// Each size is read at every offset.

@@ -1,6 +1,7 @@
 // Constants of each size.
-use crate::machine::{encoded, left};
+use crate::machine::encoded;
 use crate::names::size;
+use crate::registers::left;
 use anyhow::Result;
 use compute_sequences::constant_words;
 use row_tally::{Tally, fields, number, rows};
