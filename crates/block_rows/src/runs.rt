@@ -15,7 +15,7 @@ const STARTS: u32 = 4;
 /// Fewer stores conditional than this fail.
 const FAILURES: u32 = 3;
 
-/// Runs each block of a program, whichever codes are live.
+/// Runs each block of a program, whichever codes are live, and prints the first difference.
 fn check_form(
     rt: &(impl Print + AllocGlobal),
     tally: &mut Tally,
@@ -28,6 +28,7 @@ fn check_form(
         return Ok(());
     };
     let site = Site::HERE;
+    let mut told = false;
     for number in 0..SETS {
         let (block, behind) = made(alloc, site, operation, &form.program, set(number))?;
         let words = encoded(alloc, &block)?;
@@ -43,7 +44,12 @@ fn check_form(
             let wanted = meaning::run(&form.program, state, world, site.after)?;
             let world = World::new(alloc, bytes, holding);
             let found = machine::run(code, &state, world, random.below(FAILURES))?;
-            tally.check(rt, row, &found, &wanted)?;
+            let agrees = found == wanted;
+            tally.count(agrees);
+            if !agrees && !told {
+                println!(rt; "{row}: {found:?}, not {wanted:?}")?;
+                told = true;
+            }
         }
     }
     Ok(())

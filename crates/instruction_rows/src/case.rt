@@ -49,6 +49,20 @@ fn with_changes(alloc: Global, registers: [u32; 15], changes: &str) -> Result<[u
     Ok(registers)
 }
 
+/// The access violation of an ending: how the byte at the address was to be used.
+fn violation(ending: &str) -> Result<Exception> {
+    let (intent, address) = ending.split_once('=').context("an ending")?;
+    let write = match intent {
+        "read" => false,
+        "write" => true,
+        _ => bail!("no ending: {ending}"),
+    };
+    Ok(Exception::AccessViolation {
+        address: longword(address)?,
+        write,
+    })
+}
+
 /// The exception of an ending.
 fn raised_by(ending: &str) -> Result<Option<Exception>> {
     Ok(match ending {
@@ -58,7 +72,7 @@ fn raised_by(ending: &str) -> Result<Option<Exception>> {
         "trap=7" => Some(Exception::Arithmetic(7)),
         "fault=18" => Some(Exception::ReservedOperand),
         "fault=2C" => Some(Exception::Breakpoint),
-        _ => bail!("no ending: {ending}"),
+        _ => Some(violation(ending)?),
     })
 }
 

@@ -4,7 +4,8 @@
 //!
 //! `case` reads a line, `memory` answers references, `ending` runs one instruction, and `difference` compares. Beside it
 //! `interpreted` goes one reference at a time, and comes to the same references in order and the same end. `stacks` has
-//! instructions that push and pop at the ends of a page, worked from the manual, and `programs` short programs. `lowered`
+//! instructions that push and pop at the ends of a page, worked from the manual, `longest` strings of 65,535 bytes, and
+//! `programs` short programs. `lowered`
 //! runs micro programs, and `words` counts their words.
 #![tactic(auto)]
 
@@ -12,6 +13,7 @@ mod case;
 mod difference;
 mod ending;
 mod interpreted;
+mod longest;
 mod lowered;
 mod memory;
 mod programs;
@@ -21,6 +23,7 @@ mod words;
 use crate::case::Case;
 use crate::difference::difference;
 use crate::ending::ending_of;
+use crate::longest::check_longest;
 use crate::lowered::check_programs_of_cases;
 use crate::programs::check_programs;
 use crate::stacks::check_stacks;
@@ -59,6 +62,8 @@ fn main(rt: HostRuntime) -> Result<()> {
     all.add(check_programs_of_cases(&rt, text.as_str())?);
     let table = fs::read_to_string(&rt, "words.txt").context("words.txt")?;
     all.add(check_words(&rt, table.as_str())?);
+    let table = fs::read_to_string(&rt, "longest.txt").context("longest.txt")?;
+    all.add(check_longest(&rt, table.as_str())?);
     all.add(check_stacks(&rt)?);
     all.add(check_programs(&rt)?);
     all.verdict()

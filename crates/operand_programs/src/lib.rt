@@ -11,6 +11,3 @@ pub use laws::{fitting_law, operand_laws, piece_laws, row_law, word_laws};
 pub use operands::{Specifier, put_operand};
 pub use results::{put_finish, put_push, put_replacement, put_result, put_steps};
 pub use specifiers::{Pointer, Steps};
-
-#[cfg(test)]
-mod tests;

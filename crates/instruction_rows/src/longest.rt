@@ -1,0 +1,31 @@
+// The longest strings, whose bytes are all 0.
+use crate::case::Case;
+use crate::ending::{instr_of, outcome, writable_pages};
+use anyhow::{Context, Result};
+use row_tally::{Tally, longword, rows};
+use std::alloc::Global;
+use vax_form::Outcome;
+
+/// What an instruction comes to with so many replies, and whether it wants a reference with one fewer.
+fn ends(alloc: Global, case: &Case, references: u32) -> Result<(Outcome, bool)> {
+    let instr = instr_of(alloc, &case.memory, case.before.pc)?;
+    let pages = writable_pages(alloc)?;
+    let mut zeros = vec![in alloc; 0; references as usize]?;
+    let last = outcome(&case.before, &instr, &pages, &zeros);
+    let _reply = zeros.pop();
+    let before = outcome(&case.before, &instr, &pages, &zeros);
+    Ok((last, matches!(before, Outcome::Wants(_))))
+}
+
+/// Checks the rows: the number of references, and a case.
+pub fn check_longest(rt: &(impl Print + AllocGlobal), table: &str) -> Result<Tally> {
+    let mut tally = Tally::NONE;
+    for row in &rows(rt.alloc(), table)? {
+        let (references, text) = row.split_once(' ').context("a case")?;
+        let case = Case::read(rt.alloc(), text)?;
+        let found = ends(rt.alloc(), &case, longword(references)?)?;
+        tally.check(rt, row, &found, &(Outcome::Done(case.behind), true))?;
+    }
+    tally.print(rt, "longest strings")?;
+    Ok(tally)
+}
