@@ -1,6 +1,6 @@
 #!/usr/bin/env python3
-"""Prints the families of crates/instruction_rows/data/instructions.txt that come from a simulator's answers. The family behind
-them was worked by hand.
+"""Prints the families of crates/instruction_rows/data/instructions.txt that come from a simulator's answers. The families
+behind them were worked by hand.
 
 usage: instruction_rows.py ANSWERS.jsonl
 
