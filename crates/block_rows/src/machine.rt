@@ -77,7 +77,8 @@ impl Machine<'_> {
     /// The address to which an exit goes that begins here.
     fn exit(&self) -> Option<u32> {
         let pc = self.cpu.pc;
-        let exits = &self.code.block.exits;
+        let block = self.code.block;
+        let exits = &block.exits;
         exits
             .iter()
             .find(|(word, _)| *word == pc)
@@ -87,7 +88,8 @@ impl Machine<'_> {
     /// The point here, which is of the instruction.
     fn point(&self) -> Result<Point> {
         let pc = self.cpu.pc;
-        let points = &self.code.block.points;
+        let block = self.code.block;
+        let points = &block.points;
         let (_, point) = points
             .iter()
             .find(|(word, _)| *word == pc)

@@ -117,16 +117,18 @@ impl Course {
         match operation {
             Micro::Compute { to, op, size, a, b } => {
                 let (a, b) = (self.value(a), self.value(b));
-                self.set(to, compute(op, size, a, b, self.temporary(to)));
+                let value = compute(op, size, a, b, self.temporary(to));
+                self.set(to, value);
             }
             Micro::Read { to, place, count } => {
-                let value = self.world.read(longword(self.temporary(place)), count)?;
+                let address = longword(self.temporary(place));
+                let value = self.world.read(address, count)?;
                 self.set(to, value);
             }
             Micro::Write { place, count, from } => {
+                let address = longword(self.temporary(place));
                 let value = self.temporary(from);
-                self.world
-                    .write(longword(self.temporary(place)), count, value)?;
+                self.world.write(address, count, value)?;
             }
             Micro::Locked {
                 to,
