@@ -1,12 +1,15 @@
 // The block of a micro program.
-ghost use Rattle.std.specs.Prelude.{IfOk, false};
+ghost use Rattle.std.specs.Prelude.{◌≡◌, IfOk, false};
+ghost use Rattle.micro_ops.specs.Exits.{leaves_computed};
+ghost use Rattle.micro_ops.specs.Sources.{is_written};
 ghost use Rattle.block_law.specs.Blocks.{IsBlockOf};
+ghost use Rattle.program_codegen.specs.Programs.{is_narrow};
 
 use anyhow::{Result, bail, ensure};
 use code_runs::rules_behind;
 use exception_records::{Block, CodeRule, Rules};
 use flag_codegen::code_words;
-use micro_ops::{CodeSource, CodeSources, Exit, Micro, fits, sources_of};
+use micro_ops::{CodeSource, Exit, Micro, fits, sources_of};
 use program_codegen::block;
 use std::alloc::Global;
 use vax_form::{Flags, Instr, Operand, Operation, Size};
@@ -33,20 +36,26 @@ pub const READY: Rules = Rules {
     c: CodeRule::Ready,
 };
 
-/// Whether C is kept where N, Z and V are.
-fn keeps_together(sources: CodeSources) -> bool {
-    !matches!(sources.nzv, CodeSource::Kept) || matches!(sources.c, CodeSource::Kept)
+fn is_written(source: CodeSource) -> bool
+    ensures { result ≡ is_written source }
+{
+    !matches!(source, CodeSource::Kept)
 }
 
 /// Whether V is not that of a sum or a difference of quadwords.
-fn is_narrow(rule: CodeRule) -> bool {
+fn is_narrow(rule: CodeRule) -> bool
+    ensures { result ≡ is_narrow rule }
+{
     match rule {
         CodeRule::Add { size } | CodeRule::Sub { size } => !matches!(size, Size::Quad),
         _ => true,
     }
 }
 
-fn is_computed(operation: &Micro) -> bool {
+/// Whether it leaves to an address that it computes.
+fn is_computed(operation: &Micro) -> bool
+    ensures { result ≡ leaves_computed operation.now }
+{
     matches!(operation, Micro::Leave(Exit::Computed(_)))
 }
 
@@ -63,7 +72,10 @@ pub fn made(
     let sources = sources_of(operation);
     let behind = rules_behind(sources, live, READY);
     ensure!(fits(sources, program), "it does not fit");
-    ensure!(keeps_together(sources), "C is not kept");
+    ensure!(
+        is_written(sources.nzv) || !is_written(sources.c),
+        "C is written alone"
+    );
     ensure!(is_narrow(behind.v), "V of quadwords");
     ensure!(
         behind == READY || !program.iter().any(|operation| is_computed(operation)),

@@ -8,9 +8,9 @@ use exception_records::{Block, Point, Rules};
 use row_tally::{Tally, rows};
 use std::alloc::{AllocError, Global};
 
-fn words_text(alloc: Global, block: &Block) -> Result<String, AllocError> {
+fn words_text(alloc: Global, words: &[u32]) -> Result<String, AllocError> {
     let mut text = String::new(alloc);
-    for word in &encoded(alloc, block)? {
+    for word in words {
         if !text.is_empty() {
             text.push_str(",")?;
         }
@@ -76,7 +76,7 @@ fn answers(alloc: Global, row: &str) -> Result<([String; 3], [String; 3])> {
     let program = program(alloc, text)?;
     let (block, behind) = made(alloc, Site::HERE, operation, &program, lettered(live))?;
     let found = [
-        words_text(alloc, &block)?,
+        words_text(alloc, &encoded(alloc, &block.words)?)?,
         exits_text(alloc, &block)?,
         points_text(alloc, &block, behind)?,
     ];

@@ -94,7 +94,7 @@ impl Form {
         let mut longest = 0;
         for number in 0..SETS {
             let (block, _) = made(alloc, Site::HERE, operation, &self.program, set(number))?;
-            longest = longest.max(block.words.len() as u32);
+            longest = longest.max(u32::try_from(block.words.len())?);
         }
         Ok(longest)
     }

@@ -1,7 +1,10 @@
 // An Alpha processor in a block, over two quadwords of memory.
+ghost use Rattle.std.specs.Prelude.{All};
+ghost use Rattle.alpha_encode.specs.Words.{IsEncodable};
+
 use crate::ending::{Ending, Seen};
 use crate::world::World;
-use alpha_encode::{decode, encode, pal, registers};
+use alpha_encode::{AlphaInstr, decode, encode, pal, registers};
 use alpha_machine::{AlphaStep, Cpu, finish, step};
 use alpha_meaning::{AlphaAccess, AlphaKind};
 use anyhow::{Context, Result, bail, ensure};
@@ -34,20 +37,27 @@ pub struct Code<'a> {
     pub behind: Rules,
 }
 
-/// The processor, its memory, how many stores conditional will fail, and the quadword that is locked.
+/// The memory, how many stores conditional will fail, and the quadword that is locked.
 #[derive(Drop)]
-struct Machine<'a> {
-    code: Code<'a>,
-    cpu: Cpu,
+struct Bench {
     world: World,
     failures: u32,
     locked: Option<u32>,
 }
 
-/// The words of a block.
-pub fn encoded(alloc: Global, block: &Block) -> Result<Vec<u32>, AllocError> {
+#[derive(Drop)]
+struct Machine<'a> {
+    code: Code<'a>,
+    cpu: Cpu,
+    bench: Bench,
+}
+
+/// The words of instructions.
+pub fn encoded(alloc: Global, instrs: &[AlphaInstr]) -> Result<Vec<u32>, AllocError>
+    requires { All IsEncodable instrs.now }
+{
     let mut words = Vec::new(alloc);
-    for instr in &block.words {
+    for instr in instrs {
         words.push(encode(*instr))?;
     }
     Ok(words)
@@ -60,13 +70,41 @@ fn registers_of(state: &VaxState) -> [u64; 32] {
         r[number] = i64::from(state.r[number].cast_signed()).cast_unsigned();
     }
     let psw = u64::from(state.psw);
-    r[usize::from(registers::NEGATIVE)] = psw >> 3 & 1;
-    r[usize::from(registers::IS_ZERO)] = psw >> 2 & 1;
-    r[usize::from(registers::OVERFLOW)] = psw >> 1 & 1;
-    r[usize::from(registers::CARRY)] = psw & 1;
-    r[usize::from(registers::STATUS)] = psw & 0xF0;
-    r[usize::from(registers::ZERO)] = 0;
+    r[registers::NEGATIVE as usize] = psw >> 3 & 1;
+    r[registers::IS_ZERO as usize] = psw >> 2 & 1;
+    r[registers::OVERFLOW as usize] = psw >> 1 & 1;
+    r[registers::CARRY as usize] = psw & 1;
+    r[registers::STATUS as usize] = psw & 0xF0;
+    r[registers::ZERO as usize] = 0;
     r
+}
+
+impl Bench {
+    /// An access: what is loaded, and whether a store was made. A store conditional stands behind a load-locked access
+    /// of its quadword, with no other between.
+    fn access(&mut self, access: AlphaAccess) -> Result<(u64, bool)> {
+        let (address, count) = ((access.address % LONGWORD) as u32, access.bytes);
+        ensure!(count == 4 || count == 8, "an access of {count} bytes");
+        ensure!(address % u32::from(count) == 0, "an unaligned access");
+        let locked = self.locked.take();
+        match access.kind {
+            AlphaKind::Load => return Ok((self.world.read(address, count)?, true)),
+            AlphaKind::LoadLocked => {
+                self.locked = Some(address);
+                return Ok((self.world.held(address, count), true));
+            }
+            AlphaKind::Store => {}
+            AlphaKind::StoreConditional => {
+                ensure!(locked == Some(address), "a store without its lock");
+                if self.failures > 0 {
+                    self.failures -= 1;
+                    return Ok((0, false));
+                }
+            }
+        }
+        self.world.write(address, count, access.value)?;
+        Ok((0, true))
+    }
 }
 
 impl Machine<'_> {
@@ -111,32 +149,6 @@ impl Machine<'_> {
         Ok(shown(&self.cpu.r, pc, &rules, &NONE_HELD, 0))
     }
 
-    /// An access: what is loaded, and whether a store was made. A store conditional stands behind a load-locked access
-    /// of its quadword, with no other between.
-    fn access(&mut self, access: AlphaAccess) -> Result<(u64, bool)> {
-        let (address, count) = ((access.address % LONGWORD) as u32, access.bytes);
-        ensure!(count == 4 || count == 8, "an access of {count} bytes");
-        ensure!(address % u32::from(count) == 0, "an unaligned access");
-        let locked = self.locked.take();
-        match access.kind {
-            AlphaKind::Load => return Ok((self.world.read(address, count)?, true)),
-            AlphaKind::LoadLocked => {
-                self.locked = Some(address);
-                return Ok((self.world.held(address, count), true));
-            }
-            AlphaKind::Store => {}
-            AlphaKind::StoreConditional => {
-                ensure!(locked == Some(address), "a store without its lock");
-                if self.failures > 0 {
-                    self.failures -= 1;
-                    return Ok((0, false));
-                }
-            }
-        }
-        self.world.write(address, count, access.value)?;
-        Ok((0, true))
-    }
-
     /// A call of the PALcode: how the block ends with it, and the state, if it does.
     fn call(&mut self, number: u8) -> Result<Option<(Ending, VaxState)>> {
         if number == pal::LOOK_UP {
@@ -148,7 +160,7 @@ impl Machine<'_> {
         let (ending, pc) = match number {
             pal::PROBE => {
                 let address = self.low(registers::ADDRESS);
-                if self.world.checks(address, point.count, point.write)? {
+                if self.bench.world.checks(address, point.count, point.write)? {
                     self.cpu.pc = self.cpu.pc.wrapping_add(1);
                     return Ok(None);
                 }
@@ -178,7 +190,7 @@ impl Machine<'_> {
         match step(&mut self.cpu, words) {
             AlphaStep::Local => {}
             AlphaStep::Want(access) => {
-                let (value, success) = self.access(access)?;
+                let (value, success) = self.bench.access(access)?;
                 finish(&mut self.cpu, words, value, success);
             }
             AlphaStep::Pal(number) => return self.call(number),
@@ -194,19 +206,18 @@ pub fn run(code: Code<'_>, found: &VaxState, world: World, failures: u32) -> Res
         r: registers_of(found),
         pc: 0,
     };
-    let mut machine = Machine {
-        code,
-        cpu,
+    let bench = Bench {
         world,
         failures,
         locked: None,
     };
+    let mut machine = Machine { code, cpu, bench };
     for _ in 0..MOST_STEPS {
         if let Some((ending, state)) = machine.step()? {
             return Ok(Seen {
                 ending,
                 state,
-                world: machine.world,
+                world: machine.bench.world,
             });
         }
     }

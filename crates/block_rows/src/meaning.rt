@@ -12,8 +12,8 @@ const CODES: u16 = 0xF;
 
 const TRAPS: u16 = 1 << 5;
 
-/// The bits of N, Z, V, C, T, IV, FU and DV in the PSW.
-const FLAGS: [u16; 8] = [3, 2, 1, 0, 4, 5, 6, 7];
+/// N, Z, V, C, T, IV, FU and DV in the PSW.
+const FLAGS: [u16; 8] = [8, 4, 2, 1, 16, 32, 64, 128];
 
 /// The vectors of the reserved operand and of the breakpoint fault, and the type of integer overflow.
 const RESERVED_OPERAND: u8 = 0x18;
@@ -32,13 +32,8 @@ struct Course {
     overflowed: bool,
 }
 
-/// The low bits of a value.
-fn bits(value: u64, count: u32) -> u64 {
-    value % (1 << count.min(63))
-}
-
 fn longword(value: u64) -> u32 {
-    bits(value, 32) as u32
+    (value % (1 << 32)) as u32
 }
 
 impl Course {
@@ -54,9 +49,7 @@ impl Course {
         match arg {
             Arg::Temp(number) => self.temporary(number),
             Arg::Register(number) => u64::from(self.found.register(number)),
-            Arg::Flag(number) => {
-                u64::from(self.found.psw >> FLAGS[usize::from(number) % FLAGS.len()] & 1)
-            }
+            Arg::Flag(number) => { u64::from(self.found.psw & FLAGS[usize::from(number) % 8] != 0) }
             Arg::Const(value) => value,
         }
     }
@@ -81,21 +74,25 @@ impl Course {
         Ok(())
     }
 
+    /// 1 where a temporary is not 0.
+    fn code(&self, number: u8) -> u16 {
+        u16::from(self.temporary(number) != 0)
+    }
+
     fn set_codes(&mut self, n: u8, z: u8, v: u8, c: Option<u8>) {
-        let is_set = |number| u16::from(self.temporary(number) != 0);
+        let (n, z, v) = (self.code(n), self.code(z), self.code(v));
         let c = match c {
-            Some(c) => is_set(c),
+            Some(c) => self.code(c),
             None => self.found.psw & 1,
         };
-        let codes = is_set(n) << 3 | is_set(z) << 2 | is_set(v) << 1 | c;
-        self.overflowed = is_set(v) != 0;
-        self.left.psw = self.left.psw & !CODES | codes;
+        self.overflowed = v != 0;
+        self.left.psw = self.left.psw & !CODES | n << 3 | z << 2 | v << 1 | c;
     }
 
     fn leave(&mut self, exit: Exit, after: u32) -> Ending {
         let ending = match exit {
             Exit::Computed(_) => Ending::LooksUp,
-            Exit::Service(number) => Ending::Serves(bits(self.temporary(number), 16) as u16),
+            Exit::Service(number) => Ending::Serves((self.temporary(number) % (1 << 16)) as u16),
             Exit::Breakpoint => return Ending::Faults(BREAKPOINT),
             Exit::Next | Exit::Fixed(_) | Exit::Choice { .. } => Ending::Goes,
         };
@@ -141,7 +138,7 @@ impl Course {
                 self.left.set_register(register, value);
             }
             Micro::Codes { n, z, v, c } => self.set_codes(n, z, v, c),
-            Micro::SetPsw { from } => self.left.psw = bits(self.temporary(from), 8) as u16,
+            Micro::SetPsw { from } => self.left.psw = (self.temporary(from) % 256) as u16,
             Micro::Probe { .. } | Micro::Refuse { .. } | Micro::Leave(_) => {}
         }
         Ok(())

@@ -31,7 +31,7 @@ fn check_form(
     let mut told = false;
     for number in 0..SETS {
         let (block, behind) = made(alloc, site, operation, &form.program, set(number))?;
-        let words = encoded(alloc, &block)?;
+        let words = encoded(alloc, &block.words)?;
         let code = Code {
             block: &block,
             words: &words,
