@@ -1,9 +1,10 @@
 // Questions about the flow of small images.
-use crate::bytes::{bytes_of, numbers};
-use anyhow::{Context, Result, anyhow};
+use crate::lists::{bytes_of, numbers};
+use crate::texts::yes_or_no;
+use anyhow::{Context, Result, anyhow, bail};
 use flow_discovery::{FlowRefusal, is_start, reach};
 use image_file::{Image, read_image};
-use row_tally::{fields, longword};
+use row_tally::{Given, five_fields, longword};
 use std::alloc::{AllocError, Global};
 use vax_form::Instr;
 
@@ -22,31 +23,46 @@ struct Flow {
     hints: Vec<u32>,
 }
 
-fn file_of(alloc: Global, pc: u32, size: u32, entries: &[u32], code: &[u8]) -> Result<Vec<u8>> {
-    let mut file = b"VXIM".to_vec(alloc)?;
-    for count in [1, 1, 1, u16::try_from(entries.len())?] {
-        file.extend_from_slice(&count.to_le_bytes())?;
+fn push_longwords(file: &mut Vec<u8>, longwords: &[u32]) -> Result<(), AllocError> {
+    for longword in longwords {
+        file.extend_from_slice(&longword.to_le_bytes())?;
     }
-    for word in [pc, STACK, SECTION, size, u32::try_from(code.len())?, 0] {
-        file.extend_from_slice(&word.to_le_bytes())?;
-    }
-    for entry in entries {
-        file.extend_from_slice(&entry.to_le_bytes())?;
-    }
-    file.extend_from_slice(code)?;
+    Ok(())
+}
+
+/// Version 1, one thread, one section, and so many entries.
+fn head_of(alloc: Global, entries: u16) -> Result<Vec<u8>, AllocError> {
+    let mut head = b"VXIM\x01\0\x01\0\x01\0".to_vec(alloc)?;
+    head.extend_from_slice(&entries.to_le_bytes())?;
+    Ok(head)
+}
+
+fn file_of(alloc: Global, pc: u32, size: u32, entries: &str, code: &str) -> Result<Vec<u8>> {
+    let (entries, code) = (numbers(alloc, entries)?, bytes_of(alloc, "", code)?);
+    let mut file = head_of(alloc, u16::try_from(entries.len())?)?;
+    let stored = u32::try_from(code.len())?;
+    push_longwords(&mut file, &[pc, STACK, SECTION, size, stored, 0])?;
+    push_longwords(&mut file, &entries)?;
+    file.extend_from_slice(&code)?;
     Ok(file)
+}
+
+fn image_of(alloc: Global, file: &[u8]) -> Result<Image> {
+    match read_image(alloc, file) {
+        Ok(image) => Ok(image),
+        Err(refusal) => Err(anyhow!("no image: {refusal:?}")),
+    }
 }
 
 impl Flow {
     /// Reads PC SIZE ENTRIES HINTS CODE.
-    fn read(alloc: Global, sample: &[u8], text: &str) -> Result<Flow> {
-        let parts = fields(alloc, text, 5)?;
-        let (pc, size) = (longword(parts[0])?, longword(parts[1])?);
-        let (entries, hints) = (numbers(alloc, parts[2])?, numbers(alloc, parts[3])?);
-        let code = bytes_of(alloc, sample, parts[4])?;
-        let file = file_of(alloc, pc, size, &entries, &code)?;
-        let image = read_image(alloc, &file).map_err(|refusal| anyhow!("no image: {refusal:?}"))?;
-        Ok(Flow { image, hints })
+    fn read(alloc: Global, text: &str) -> Result<Flow> {
+        let (pc, size, entries, hints, code) = five_fields(text)?;
+        let file = file_of(alloc, longword(pc)?, longword(size)?, entries, code)?;
+        Ok(Flow {
+            image: image_of(alloc, &file)?,
+            hints: numbers(alloc, hints)?,
+        })
     }
 }
 
@@ -67,26 +83,28 @@ fn list_of(alloc: Global, instrs: &[Instr]) -> Result<String, AllocError> {
     Ok(list)
 }
 
-fn reach_text(alloc: Global, flow: &Flow) -> Result<String, AllocError> {
-    match reach(alloc, &flow.image, &flow.hints) {
-        Ok(instrs) => list_of(alloc, &instrs),
-        Err(refusal) => refusal_text(alloc, refusal),
-    }
+fn reach_text(alloc: Global, flow: &str) -> Result<String> {
+    let flow = Flow::read(alloc, flow)?;
+    Ok(match reach(alloc, &flow.image, &flow.hints) {
+        Ok(instrs) => list_of(alloc, &instrs)?,
+        Err(refusal) => refusal_text(alloc, refusal)?,
+    })
+}
+
+fn start_text(alloc: Global, rest: &str) -> Result<String> {
+    let (address, flow) = rest.split_once(' ').context("an address")?;
+    let address = longword(address)?;
+    let flow = Flow::read(alloc, flow)?;
+    Ok(yes_or_no(alloc, is_start(&flow.image, &flow.hints, address))?)
 }
 
 /// Answers `reach FLOW`, `start ADDRESS FLOW` and `want of memory`.
-pub fn answer(alloc: Global, sample: &[u8], question: &str) -> Result<String> {
-    if question == "want of memory" {
-        return Ok(refusal_text(alloc, FlowRefusal::WantOfMemory)?);
+pub fn answer(alloc: Global, _given: &Given<'_>, question: &str) -> Result<String> {
+    let (kind, rest) = question.split_once(' ').context("a question")?;
+    match kind {
+        "want" => Ok(refusal_text(alloc, FlowRefusal::WantOfMemory)?),
+        "reach" => reach_text(alloc, rest),
+        "start" => start_text(alloc, rest),
+        _ => bail!("no question: {kind}"),
     }
-    if let Some(flow) = question.strip_prefix("reach ") {
-        let flow = Flow::read(alloc, sample, flow)?;
-        return Ok(reach_text(alloc, &flow)?);
-    }
-    let rest = question.strip_prefix("start ").context("a question")?;
-    let (address, flow) = rest.split_once(' ').context("an address")?;
-    let flow = Flow::read(alloc, sample, flow)?;
-    let is_start = is_start(&flow.image, &flow.hints, longword(address)?);
-    let answer = if is_start { "yes" } else { "no" };
-    Ok(String::from_str(alloc, answer)?)
 }

@@ -1,10 +1,11 @@
 // Questions about the files of images.
 ghost use Rattle.image_file.specs.Whole.{IsWhole};
 
-use crate::bytes::bytes_of;
+use crate::lists::bytes_of;
+use crate::texts::yes_or_no;
 use anyhow::{Context, Result, anyhow, bail};
 use image_file::{Image, ImageRefusal, Section, read_image, write_image};
-use row_tally::longword;
+use row_tally::{Given, longword};
 use std::alloc::{AllocError, Global};
 
 fn refusal_text(alloc: Global, refusal: ImageRefusal) -> Result<String, AllocError> {
@@ -72,10 +73,6 @@ fn byte_text(alloc: Global, byte: Option<u8>) -> Result<String, AllocError> {
     }
 }
 
-fn yes_or_no(alloc: Global, yes: bool) -> Result<String, AllocError> {
-    String::from_str(alloc, if yes { "yes" } else { "no" })
-}
-
 /// How many proper prefixes of the bytes are refused as truncated, each with its length.
 fn truncated_prefixes(alloc: Global, bytes: &[u8]) -> u32 {
     let mut count = 0u32;
@@ -88,37 +85,52 @@ fn truncated_prefixes(alloc: Global, bytes: &[u8]) -> u32 {
     count
 }
 
+fn written_text(alloc: Global, image: &Image, bytes: &[u8]) -> Result<String>
+    requires { IsWhole image.now }
+{
+    match write_image(alloc, image) {
+        Ok(written) => Ok(yes_or_no(alloc, written.as_slice() == bytes)?),
+        Err(want) => Err(anyhow!("{want:?}")),
+    }
+}
+
+/// Answers a question about what stands at an address, or about the thread of that number.
+fn answer_at(alloc: Global, image: &Image, question: &str, number: u32) -> Result<String> {
+    Ok(match question {
+        "state" => state_text(alloc, image, number)?,
+        "byte" => byte_text(alloc, image.byte(number))?,
+        "code" => byte_text(alloc, image.pages.code_byte(number))?,
+        "writable" => yes_or_no(alloc, image.pages.allowed(number, true))?,
+        _ => bail!("no question: {question}"),
+    })
+}
+
 /// Answers a question about an image, whose file these bytes are.
 fn image_answer(alloc: Global, image: &Image, bytes: &[u8], question: &str) -> Result<String>
     requires { IsWhole image.now }
 {
-    let (question, argument) = question.split_once(' ').unwrap_or((question, ""));
+    if let Some((question, number)) = question.split_once(' ') {
+        return answer_at(alloc, image, question, longword(number)?);
+    }
     Ok(match question {
         "read" => String::from_str(alloc, "an image")?,
         "threads" => threads_text(alloc, image)?,
         "entries" => entries_text(alloc, image)?,
         "sections" => sections_text(alloc, image)?,
-        "state" => state_text(alloc, image, longword(argument)?)?,
-        "byte" => byte_text(alloc, image.byte(longword(argument)?))?,
-        "code" => byte_text(alloc, image.pages.code_byte(longword(argument)?))?,
-        "writable" => yes_or_no(alloc, image.pages.allowed(longword(argument)?, true))?,
         "code-bytes" => format!(in alloc; "{:X}", image.pages.code.len())?,
         "prefixes" => format!(in alloc; "{:X}", truncated_prefixes(alloc, bytes))?,
-        "written" => {
-            let written = write_image(alloc, image).map_err(|want| anyhow!("{want:?}"))?;
-            yes_or_no(alloc, written.as_slice() == bytes)?
-        }
+        "written" => written_text(alloc, image, bytes)?,
         _ => bail!("no question: {question}"),
     })
 }
 
 /// Answers BYTES QUESTION, and for bytes that are no image the refusal.
-pub fn answer(alloc: Global, sample: &[u8], question: &str) -> Result<String> {
+pub fn answer(alloc: Global, given: &Given<'_>, question: &str) -> Result<String> {
     if question == "want of memory" {
         return Ok(refusal_text(alloc, ImageRefusal::WantOfMemory)?);
     }
     let (pieces, question) = question.split_once(' ').context("a question")?;
-    let bytes = bytes_of(alloc, sample, pieces)?;
+    let bytes = bytes_of(alloc, given.sample, pieces)?;
     match read_image(alloc, &bytes) {
         Ok(image) => image_answer(alloc, &image, &bytes, question),
         Err(refusal) => Ok(refusal_text(alloc, refusal)?),

@@ -1,8 +1,8 @@
 // Questions about instructions in two read-only sections.
-use crate::bytes::bytes_of;
+use crate::lists::bytes_of;
 use crate::spelling::Spelling;
 use anyhow::{Context, Result};
-use row_tally::{fields, longword};
+use row_tally::{Given, longword, three_fields};
 use std::alloc::{AllocError, Global};
 use vax_decode::{Decoded, decode_at};
 use vax_form::{Instr, PageRange, Pages};
@@ -84,10 +84,10 @@ fn text_of(alloc: Global, decoded: &Decoded) -> Result<String, AllocError> {
 }
 
 /// Answers PLACE BYTES ADDRESS: what stands at an address where bytes stand from a place on.
-pub fn answer(alloc: Global, sample: &[u8], question: &str) -> Result<String> {
-    let parts = fields(alloc, question, 3)?;
-    let (place, address) = (longword(parts[0])?, longword(parts[2])?);
-    let code = code_of(place, &bytes_of(alloc, sample, parts[1])?)?;
+pub fn answer(alloc: Global, given: &Given<'_>, question: &str) -> Result<String> {
+    let (place, bytes, address) = three_fields(question)?;
+    let (place, address) = (longword(place)?, longword(address)?);
+    let code = code_of(place, &bytes_of(alloc, given.sample, bytes)?)?;
     let pages = pages_of(alloc, &code)?;
     Ok(text_of(alloc, &decode_at(&pages, address))?)
 }

@@ -1,11 +1,11 @@
 // Questions about one operand specifier.
 ghost use Rattle.std.specs.Prelude.{◌≤◌, length, IfOk};
 
-use crate::bytes::bytes_of;
+use crate::lists::bytes_of;
 use crate::spelling::Spelling;
 use anyhow::{Result, bail};
 use operand_specifiers::{SpecFault, read_spec};
-use row_tally::fields;
+use row_tally::{Given, three_fields};
 use std::alloc::{AllocError, Global};
 use vax_form::{Access, Operand, Size};
 
@@ -82,8 +82,8 @@ fn specified(alloc: Global, bytes: &[u8], access: Access, size: Size) -> Result<
 }
 
 /// Answers BYTES ACCESS SIZE.
-pub fn answer(alloc: Global, sample: &[u8], question: &str) -> Result<String> {
-    let parts = fields(alloc, question, 3)?;
-    let bytes = bytes_of(alloc, sample, parts[0])?;
-    specified(alloc, &bytes, access_of(parts[1])?, size_of(parts[2])?)
+pub fn answer(alloc: Global, given: &Given<'_>, question: &str) -> Result<String> {
+    let (bytes, access, size) = three_fields(question)?;
+    let (access, size) = (access_of(access)?, size_of(size)?);
+    specified(alloc, &bytes_of(alloc, given.sample, bytes)?, access, size)
 }

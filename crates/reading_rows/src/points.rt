@@ -1,9 +1,10 @@
 // Questions about points, rules and what registers show.
-use crate::{number_text, pairs_of};
+use crate::lists::pairs;
+use crate::texts::{number_text, yes_or_no};
 use anyhow::{Context, Result, bail};
 use exception_records::{CodeRule, Point, Rules, build, codes_shown, shown};
-use row_tally::{fields, longword, number};
-use std::alloc::Global;
+use row_tally::{Given, four_fields, longword, number, two_fields};
+use std::alloc::{AllocError, Global};
 use vax_form::{Flags, Size};
 
 const READY: Rules = Rules {
@@ -42,7 +43,7 @@ fn flags(text: &str) -> Flags {
 }
 
 /// The names of the codes that are set, or - for none.
-fn flags_text(alloc: Global, flags: Flags) -> Result<String> {
+fn flags_text(alloc: Global, flags: Flags) -> Result<String, AllocError> {
     let mut text = String::new(alloc);
     for (is_set, name) in [
         (flags.n, "N"),
@@ -82,18 +83,27 @@ fn rule_of(word: &str, size: Size) -> Result<CodeRule> {
     })
 }
 
-fn found_text(alloc: Global, points: &str, word: &str) -> Result<String> {
-    let mut list = Vec::new(alloc);
-    for (word, vax_pc) in &pairs_of(alloc, points)? {
-        list.push((*word, point(*vax_pc, 0)))?;
+fn points_of(alloc: Global, text: &str) -> Result<Vec<(u32, Point)>> {
+    let mut points = Vec::new(alloc);
+    for (word, vax_pc) in &pairs(alloc, text)? {
+        points.push((*word, point(*vax_pc, 0)))?;
     }
-    match build(list) {
-        Ok(points) => {
-            let vax_pc = points.find(longword(word)?).map(|point| point.vax_pc);
-            number_text(alloc, vax_pc)
-        }
-        Err(refusal) => Ok(format!(in alloc; "refusal {}, {refusal:?}", refusal.number())?),
-    }
+    Ok(points)
+}
+
+fn found_text(alloc: Global, rest: &str) -> Result<String> {
+    let (points, word) = two_fields(rest)?;
+    let word = longword(word)?;
+    Ok(match build(points_of(alloc, points)?) {
+        Ok(points) => number_text(alloc, points.find(word).map(|point| point.vax_pc))?,
+        Err(refusal) => format!(in alloc; "refusal {}, {refusal:?}", refusal.number())?,
+    })
+}
+
+fn codes_text(alloc: Global, rest: &str) -> Result<String> {
+    let (rule, size, first, second) = four_fields(rest)?;
+    let rule = rule_of(rule, size_of(size)?)?;
+    Ok(flags_text(alloc, rule.codes(number(first)?, number(second)?))?)
 }
 
 fn raised_text(alloc: Global, offset: &str) -> Result<String> {
@@ -104,8 +114,8 @@ fn raised_text(alloc: Global, offset: &str) -> Result<String> {
     })
 }
 
-/// What the worked registers show: N and C are in R16 and R19, and R15 and R30 are operands of the rules.
-fn shown_text(alloc: Global, rules: &str, held: &str) -> Result<String> {
+/// The worked registers: N and C are in R16 and R19, and R15 and R30 are operands of the rules.
+fn worked_registers() -> [u64; 32] {
     let mut registers = [0; 32];
     registers[0] = 0xFFFF_FFFF_8000_0001;
     registers[14] = 0x1200;
@@ -114,43 +124,40 @@ fn shown_text(alloc: Global, rules: &str, held: &str) -> Result<String> {
     registers[19] = 1;
     registers[20] = 0x20;
     registers[30] = 1;
-    let rules = match rules {
+    registers
+}
+
+fn rules_of(name: &str) -> Result<Rules> {
+    Ok(match name {
         "ready" => READY,
         "worked" => WORKED,
-        _ => bail!("no rules: {rules}"),
-    };
-    let held = flags(held);
-    let codes = flags_text(alloc, codes_shown(&registers, &rules, &held))?;
+        _ => bail!("no rules: {name}"),
+    })
+}
+
+/// What the worked registers show.
+fn shown_text(alloc: Global, rest: &str) -> Result<String> {
+    let (rules, held) = two_fields(rest)?;
+    let (rules, held) = (rules_of(rules)?, flags(held));
+    let registers = worked_registers();
     let state = shown(&registers, 0x207, &rules, &held, 0);
     let is_shown = state.pc == 0x207 && state.r[0] == 0x8000_0001 && state.r[14] == 0x1200;
     if !is_shown || state.r[1] != 0 {
         bail!("another state: {state:?}");
     }
+    let codes = flags_text(alloc, codes_shown(&registers, &rules, &held))?;
     Ok(format!(in alloc; "{codes} {:X}", state.psw)?)
 }
 
-/// Answers a question.
-pub fn answer(alloc: Global, question: &str) -> Result<String> {
+/// Answers `find POINTS WORD`, `raises OFFSET`, `codes RULE SIZE FIRST SECOND`, `ready RULE` and `shown RULES HELD`.
+pub fn answer(alloc: Global, _given: &Given<'_>, question: &str) -> Result<String> {
     let (kind, rest) = question.split_once(' ').context("a question")?;
     match kind {
-        "find" => {
-            let words = fields(alloc, rest, 2)?;
-            found_text(alloc, words[0], words[1])
-        }
+        "find" => found_text(alloc, rest),
         "raises" => raised_text(alloc, rest),
-        "codes" => {
-            let words = fields(alloc, rest, 4)?;
-            let rule = rule_of(words[0], size_of(words[1])?)?;
-            flags_text(alloc, rule.codes(number(words[2])?, number(words[3])?))
-        }
-        "ready" => {
-            let is_ready = rule_of(rest, Size::Long)?.is_ready();
-            Ok(String::from_str(alloc, if is_ready { "yes" } else { "no" })?)
-        }
-        "shown" => {
-            let words = fields(alloc, rest, 2)?;
-            shown_text(alloc, words[0], words[1])
-        }
+        "codes" => codes_text(alloc, rest),
+        "ready" => Ok(yes_or_no(alloc, rule_of(rest, Size::Long)?.is_ready())?),
+        "shown" => shown_text(alloc, rest),
         _ => bail!("no question: {kind}"),
     }
 }

@@ -1,0 +1,134 @@
+// Questions about maps of addresses.
+use crate::lists::pairs;
+use crate::texts::number_text;
+use address_map::{AddressMap, MapRefusal, build};
+use anyhow::{Context, Result, bail};
+use row_tally::{Given, four_fields, longword};
+use std::alloc::{AllocError, Global};
+
+fn refusal_text(alloc: Global, refusal: MapRefusal) -> Result<String> {
+    Ok(match refusal.number() {
+        Some(number) => format!(in alloc; "refusal {number}, {refusal:?}")?,
+        None => format!(in alloc; "no number, {refusal:?}")?,
+    })
+}
+
+/// The pairs of a map as they are written.
+fn pairs_text(alloc: Global, map: &AddressMap) -> Result<String, AllocError> {
+    let mut text = String::new(alloc);
+    for (place, (address, word)) in map.pairs().iter().enumerate() {
+        let comma = if place == 0 { "" } else { "," };
+        write!(text, "{comma}{address:X}={word:X}")?;
+    }
+    Ok(text)
+}
+
+/// What stands at a place of a table.
+fn entry_text(alloc: Global, entry: Option<Option<u32>>) -> Result<String, AllocError> {
+    match entry {
+        Some(entry) => number_text(alloc, entry),
+        None => String::from_str(alloc, "outside"),
+    }
+}
+
+/// Answers `word PAIRS ADDRESS`, `address PAIRS WORD`, `upper PAIRS PLACE`, `lower PAIRS PLACE`, `pages PAIRS`, `all PAIRS`,
+/// `large START ADDRESSES WORDS COUNT` and `want of memory`.
+pub fn answer(alloc: Global, _given: &Given<'_>, question: &str) -> Result<String> {
+    if question == "want of memory" {
+        return refusal_text(alloc, MapRefusal::WantOfMemory);
+    }
+    let (kind, rest) = question.split_once(' ').context("pairs")?;
+    if kind == "large" {
+        return large_text(alloc, rest);
+    }
+    let (list, number) = rest.split_once(' ').unwrap_or((rest, "0"));
+    let number = longword(number)?;
+    match build(alloc, pairs(alloc, list)?.as_slice()) {
+        Ok(map) => answer_by(alloc, &map, kind, number),
+        Err(refusal) => refusal_text(alloc, refusal),
+    }
+}
+
+fn answer_by(alloc: Global, map: &AddressMap, kind: &str, number: u32) -> Result<String> {
+    let place = number as usize;
+    Ok(match kind {
+        "word" => number_text(alloc, map.look_up(number))?,
+        "address" => number_text(alloc, map.vax_of(number))?,
+        "upper" => entry_text(alloc, map.upper().get(place).map(|word| Some(*word)))?,
+        "lower" => entry_text(alloc, map.lower().get(place).copied())?,
+        "pages" => pages_text(alloc, map)?,
+        "all" => pairs_text(alloc, map)?,
+        _ => bail!("no question: {kind}"),
+    })
+}
+
+/// The first page, and how many upper words and lower places there are.
+fn pages_text(alloc: Global, map: &AddressMap) -> Result<String, AllocError> {
+    let (first, pages, places) = (map.first_page(), map.upper().len(), map.lower().len());
+    format!(in alloc; "{first:X} {pages:X} {places:X}")
+}
+
+/// A list of pairs that begin at an address and word 0 and are so far apart in both.
+#[derive(Clone, Copy)]
+struct Spread {
+    start: u32,
+    addresses: u32,
+    words: u32,
+    count: u32,
+}
+
+impl Spread {
+    /// Reads START ADDRESSES WORDS COUNT.
+    fn read(text: &str) -> Result<Spread> {
+        let (start, addresses, words, count) = four_fields(text)?;
+        Ok(Spread {
+            start: longword(start)?,
+            addresses: longword(addresses)?,
+            words: longword(words)?,
+            count: longword(count)?,
+        })
+    }
+
+    fn pair(&self, place: u32) -> (u32, u32) {
+        (
+            self.start.wrapping_add(self.addresses.wrapping_mul(place)),
+            self.words.wrapping_mul(place),
+        )
+    }
+
+    fn map(&self, alloc: Global) -> Result<AddressMap> {
+        let mut pairs = Vec::new(alloc);
+        for place in 0..self.count {
+            pairs.push(self.pair(place))?;
+        }
+        match build(alloc, pairs.as_slice()) {
+            Ok(map) => Ok(map),
+            Err(_) => bail!("no large map"),
+        }
+    }
+
+    /// Whether a pair is found by its address and by its word, and nothing between it and the next.
+    fn is_found(&self, map: &AddressMap, place: u32) -> bool {
+        let (address, word) = self.pair(place);
+        map.look_up(address) == Some(word)
+            && map.vax_of(word) == Some(address)
+            && (self.addresses == 1 || map.look_up(address.wrapping_add(1)).is_none())
+            && (self.words == 1 || map.vax_of(word.wrapping_add(1)).is_none())
+    }
+
+    fn found(&self, map: &AddressMap) -> u32 {
+        let mut found = 0u32;
+        for place in 0..self.count {
+            found = found.saturating_add(u32::from(self.is_found(map, place)));
+        }
+        found
+    }
+}
+
+/// The pages of a large map, and how many of its pairs are found.
+fn large_text(alloc: Global, rest: &str) -> Result<String> {
+    let spread = Spread::read(rest)?;
+    let map = spread.map(alloc)?;
+    let found = spread.found(&map);
+    Ok(format!(in alloc; "{} {found:X}", pages_text(alloc, &map)?)?)
+}
