@@ -1,5 +1,7 @@
 // The block of a micro program.
-ghost use Rattle.std.specs.Prelude.{◌≡◌, IfOk, false};
+ghost use Rattle.std.specs.Prelude.{◌≡◌, IfOk, false, true};
+ghost use Rattle.std.specs.List.{list_any};
+ghost use Rattle.exception_records.specs.Codes.{all_ready};
 ghost use Rattle.micro_ops.specs.Exits.{leaves_computed};
 ghost use Rattle.micro_ops.specs.Sources.{is_written};
 ghost use Rattle.block_law.specs.Blocks.{IsBlockOf};
@@ -53,10 +55,30 @@ fn is_narrow(rule: CodeRule) -> bool
 }
 
 /// Whether it leaves to an address that it computes.
-fn is_computed(operation: &Micro) -> bool
+fn leaves_computed(operation: &Micro) -> bool
     ensures { result ≡ leaves_computed operation.now }
 {
     matches!(operation, Micro::Leave(Exit::Computed(_)))
+}
+
+fn has_computed_exit(program: &[Micro]) -> bool
+    ensures { result ≡ list_any leaves_computed program.now }
+{
+    program.iter().any(|operation| leaves_computed(operation))
+}
+
+fn are_ready(rules: Rules) -> bool
+    ensures { result ≡ true → rules ≡ all_ready }
+{
+    matches!(
+        rules,
+        Rules {
+            n: CodeRule::Ready,
+            z: CodeRule::Ready,
+            v: CodeRule::Ready,
+            c: CodeRule::Ready,
+        }
+    )
 }
 
 /// The block of a program that fits, before which all codes are ready, and the rules behind it where these are live.
@@ -78,7 +100,7 @@ pub fn made(
     );
     ensure!(is_narrow(behind.v), "V of quadwords");
     ensure!(
-        behind == READY || !program.iter().any(|operation| is_computed(operation)),
+        are_ready(behind) || !has_computed_exit(program),
         "codes that are not ready"
     );
     let instr = Instr {
