@@ -1,15 +1,13 @@
 //! Translates small images and runs them on one processor as the rows of data/translations.txt say, and compares what is
 //! mapped, by which rules codes are told, and what is left with what stands there.
 //!
-//! `images` makes the image of a row, `translations` says what its translation has, `worlds` and `runs` run it, with all
-//! of its translation and with none, and `shown` says in text what is left.
+//! `translations` says what the translation of a row's image has, `runs` runs it, with all of its translation and with none,
+//! and `shown` says in text what is left.
 #![tactic(auto)]
 
-mod images;
 mod runs;
 mod shown;
 mod translations;
-mod worlds;
 
 use anyhow::{Context, Result, bail};
 use row_tally::{Families, Tally, rows};

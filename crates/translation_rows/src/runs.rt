@@ -3,18 +3,25 @@ ghost use Rattle.std.specs.Prelude.{IfOk};
 ghost use Rattle.block_law.specs.Translations.{Meets};
 ghost use Rattle.image_file.specs.Whole.{IsWhole};
 ghost use Rattle.image_meaning.specs.Meant.{image_meaning};
-ghost use Rattle.translation_rows.specs.Ready.{CanRun, IsReady};
+ghost use Rattle.row_worlds.specs.Ready.{CanRun, IsReady};
 
-use crate::images::{bytes_or_none, image_of, pairs_of, plain_image};
 use crate::shown::{ends_text, left_text, states_text};
-use crate::translations::translated;
-use crate::worlds::{Program, pick_to_its_end, world_of};
 use anyhow::{Result, bail};
 use image_file::Image;
 use row_tally::fields;
+use row_worlds::{
+    Limits, Program, bytes_or_none, image_of, made_ready, pairs_of, pick_to_its_end, plain_image,
+    translated, world_of,
+};
 use std::alloc::Global;
 use system_model::{Range, Translation};
 use vest_core::World;
+
+/// More steps than a processor of a row takes, and more entries than a history of a row has.
+const LIMITS: Limits = Limits {
+    budget: 10_000,
+    entries: 1_000,
+};
 
 /// More turns than a thread of a row takes.
 const MOST_TURNS: u32 = 20_000;
@@ -47,7 +54,7 @@ fn ran(alloc: Global, program: Program<'_>, threads: u8, input: Vec<u8>) -> Resu
     requires whole { IsWhole program.image.now }
     requires meets { CanRun program }
 {
-    let mut world = world_of(alloc, program, input)?;
+    let mut world = world_of(alloc, program, input, LIMITS)?;
     run_all(&mut world, program, threads)?;
     Ok(world)
 }
@@ -63,9 +70,11 @@ fn world_in(
     requires whole { IsWhole case.now.image }
     requires meets { Meets (image_meaning case.now.image.pages) translation.now }
 {
+    let prepared = made_ready(alloc, &case.image, translation)?;
     let program = Program {
         image: &case.image,
         translation,
+        prepared: &prepared,
         ranges,
         miss,
     };

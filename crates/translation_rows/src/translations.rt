@@ -1,13 +1,9 @@
 // What translations have: the mapped addresses, and the rules of condition codes there.
-ghost use Rattle.std.specs.Prelude.{IfOk};
-ghost use Rattle.block_law.specs.Translations.{Meets};
-ghost use Rattle.image_meaning.specs.Meant.{image_meaning};
-
-use crate::images::code_alone;
 use anyhow::{Context, Result, bail};
 use exception_records::{CodeRule, Points, Rules};
 use image_file::Image;
 use row_tally::{bytes, longword};
+use row_worlds::{code_alone, translated};
 use std::alloc::{AllocError, Global};
 use system_model::Translation;
 use translate::{Target, TranslateRefusal, translate};
@@ -15,16 +11,6 @@ use vax_form::Size;
 
 /// The opcode of NOP.
 const NOP: u8 = 0x01;
-
-/// The translation of an image.
-pub fn translated(alloc: Global, image: &Image) -> Result<Translation>
-    ensures { IfOk result (Meets (image_meaning image.now.pages)) }
-{
-    match translate(alloc, image, &[], Target::Original) {
-        Ok(translation) => Ok(translation),
-        Err(refusal) => bail!("no translation: {refusal:?}"),
-    }
-}
 
 fn addresses_text(alloc: Global, translation: &Translation) -> Result<String, AllocError> {
     let map = &translation.map;

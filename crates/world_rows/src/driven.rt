@@ -4,19 +4,11 @@ ghost use Rattle.image_file.specs.Whole.{IsWhole};
 use anyhow::{Result, bail};
 use image_file::Image;
 use memory_core::MemState;
+use row_worlds::order_in;
 use std::alloc::{AllocError, Global};
-use system_model::{End, order_of};
-use vax_form::Pick;
+use system_model::End;
 use vax_run::{DrivenRun, ThreadRun, driven};
 use vest_core::{Processor, World};
-
-/// The references of a world's history.
-pub fn order_in(alloc: Global, world: &World) -> Result<Vec<Pick>> {
-    match order_of(alloc, world.memory().history()) {
-        Ok(order) => Ok(order),
-        Err(_) => bail!("want of memory"),
-    }
-}
 
 /// How many instructions each processor has retired.
 fn retired_by(alloc: Global, processors: &[Processor]) -> Result<Vec<u64>, AllocError> {

@@ -1,15 +1,13 @@
 // Every interleaving of the turns of two threads.
 ghost use Rattle.image_file.specs.Whole.{IsWhole};
-ghost use Rattle.world_rows.specs.Ready.{CanRun};
+ghost use Rattle.row_worlds.specs.Ready.{CanRun};
 
 use crate::driven::check_driven;
-use crate::images::{image_in, pairs_of};
 use crate::nothing::nothing_translated;
-use crate::shown::bytes_text;
-use crate::worlds::{Limits, Program, pick, world_of};
 use anyhow::{Context, Result};
 use image_file::Image;
 use row_tally::{fields, longword};
+use row_worlds::{Limits, Program, bytes_text, image_in, made_ready, pairs_of, pick, world_of};
 use std::alloc::{AllocError, Global};
 use system_model::End;
 use vest_core::World;
@@ -95,10 +93,13 @@ fn outcomes_of(alloc: Global, image: &Image, length: u32, shown: Shown) -> Resul
     requires { IsWhole image.now }
 {
     let translation = nothing_translated(alloc, image)?;
+    let prepared = made_ready(alloc, image, &translation)?;
     let program = Program {
         image,
         translation: &translation,
+        prepared: &prepared,
         ranges: &[],
+        miss: 0,
     };
     let mut outcomes = Vec::new(alloc);
     for picks in 0..1u32 << length.min(MOST_PICKS) {

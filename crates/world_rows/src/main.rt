@@ -1,19 +1,16 @@
 //! Runs images turn by turn as the rows of data/turns.txt, data/ranges.txt, data/interleavings.txt and data/modes.txt say,
 //! compares what is left with what stands there, and each world with the threads driven by the order of its history.
 //!
-//! `images` makes the image of a row, `nothing` is a translation of nothing, `worlds` picks processors, `driven` compares a
-//! world with the driven threads, `shown` says in text what is left, and `turns`, `interleavings` and `modes` go through
-//! the files.
+//! `nothing` is a translation of nothing, `driven` compares a world with the driven threads, `shown` says in text what is
+//! left, and `turns`, `interleavings` and `modes` go through the files.
 #![tactic(auto)]
 
 mod driven;
-mod images;
 mod interleavings;
 mod modes;
 mod nothing;
 mod shown;
 mod turns;
-mod worlds;
 
 use anyhow::{Context, Result};
 use row_tally::{Families, Tally, rows};

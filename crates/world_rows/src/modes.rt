@@ -3,18 +3,19 @@ ghost use Rattle.std.specs.Prelude.{IfOk};
 ghost use Rattle.block_law.specs.Translations.{Meets};
 ghost use Rattle.image_file.specs.Whole.{IsWhole};
 ghost use Rattle.image_meaning.specs.Meant.{image_meaning};
-ghost use Rattle.world_rows.specs.Ready.{CanRun, IsReady};
+ghost use Rattle.row_worlds.specs.Ready.{CanRun, IsReady};
 
 use crate::driven::check_driven;
-use crate::images::{bytes_or_none, image_in, pairs_of};
-use crate::shown::{ends_text, memory_text, output_text};
-use crate::worlds::{Limits, Program, pick_to_its_end, world_of};
-use anyhow::{Result, anyhow, bail};
+use crate::shown::{ends_text, output_text};
+use anyhow::{Result, bail};
 use image_file::Image;
 use row_tally::fields;
+use row_worlds::{
+    Limits, Program, bytes_or_none, image_in, made_ready, memory_text, pairs_of, pick_to_its_end,
+    translated, world_of,
+};
 use std::alloc::{AllocError, Global};
 use system_model::{Range, Translation};
-use translate::{Target, translate};
 use vest_core::World;
 
 /// What is interpreted beside what has no block.
@@ -80,16 +81,6 @@ fn ranges_of(
         push_ranges(&mut ranges, mapped, thread, interpreted)?;
     }
     Ok(ranges)
-}
-
-/// The translation of an image.
-pub fn translated(alloc: Global, image: &Image) -> Result<Translation>
-    ensures { IfOk result (Meets (image_meaning image.now.pages)) }
-{
-    match translate(alloc, image, &[], Target::Original) {
-        Ok(translation) => Ok(translation),
-        Err(_) => Err(anyhow!("no translation")),
-    }
 }
 
 /// Runs each thread to its end, one after the other.
@@ -168,10 +159,13 @@ fn left_in(
     requires meets { Meets (image_meaning case.now.image.pages) translation.now }
 {
     let ranges = ranges_of(alloc, translation, threads, interpreted)?;
+    let prepared = made_ready(alloc, &case.image, translation)?;
     let program = Program {
         image: &case.image,
         translation,
+        prepared: &prepared,
         ranges: &ranges,
+        miss: 0,
     };
     let world = ran(alloc, program, threads, case.input.to_vec(alloc)?)?;
     check_driven(alloc, &case.image, &case.input, &world)?;

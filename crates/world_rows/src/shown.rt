@@ -1,38 +1,13 @@
 // What is left of a world, in text.
-use crate::driven::order_in;
-use anyhow::Result;
+use row_worlds::end_text;
 use std::alloc::{AllocError, Global};
 use system_model::End;
-use vax_form::Exception;
 use vest_core::{Processor, World};
 
-fn exception_text(alloc: Global, exception: Exception) -> Result<String, AllocError> {
-    let vector = exception.vector();
-    let parameter = exception.parameter();
-    match exception {
-        Exception::AccessViolation { .. } => {
-            let intent = exception.intent();
-            format!(in alloc; "exception {vector:02X} address {parameter:08X} intent {intent}")
-        }
-        Exception::Arithmetic(_) => format!(in alloc; "exception {vector:02X} type {parameter}"),
-        _ => format!(in alloc; "exception {vector:02X}"),
-    }
-}
-
-/// How a processor ended.
-fn outcome_text(alloc: Global, end: Option<End>) -> Result<String, AllocError> {
-    match end {
-        Some(End::Exit(value)) => format!(in alloc; "exit {value:08X}"),
-        Some(End::Raised(exception)) => exception_text(alloc, exception),
-        Some(End::Spent) => String::from_str(alloc, "spent"),
-        None => String::from_str(alloc, "goes on"),
-    }
-}
-
 /// How a processor ended, and where it stands if that is no exit.
-fn end_text(alloc: Global, processor: &Processor) -> Result<String, AllocError> {
+fn ended_text(alloc: Global, processor: &Processor) -> Result<String, AllocError> {
     let end = processor.end();
-    let mut text = outcome_text(alloc, end)?;
+    let mut text = end_text(alloc, end)?;
     if let Some(End::Exit(_)) = end {
         return Ok(text);
     }
@@ -44,7 +19,7 @@ fn end_text(alloc: Global, processor: &Processor) -> Result<String, AllocError> 
 
 /// How a processor stands: its end, what it retired, how many steps were interpreted, R0 and R1.
 fn processor_text(alloc: Global, processor: &Processor) -> Result<String, AllocError> {
-    let mut text = end_text(alloc, processor)?;
+    let mut text = ended_text(alloc, processor)?;
     let (retired, interpreted) = (processor.retired(), processor.interpreted_steps());
     let state = processor.shown();
     let (r0, r1) = (state.register(0), state.register(1));
@@ -77,7 +52,7 @@ pub fn ends_text(alloc: Global, world: &World) -> Result<String, AllocError> {
         if thread > 0 {
             text.push_str("; ")?;
         }
-        let end = outcome_text(alloc, processor.end())?;
+        let end = end_text(alloc, processor.end())?;
         let state = state_text(alloc, processor)?;
         text.push_str(end.as_str())?;
         text.push_str(" ")?;
@@ -98,52 +73,11 @@ pub fn processors_text(alloc: Global, world: &World) -> Result<String, AllocErro
     Ok(text)
 }
 
-/// The references in order: a thread and how many instructions it had retired.
-pub fn order_text(alloc: Global, world: &World) -> Result<String> {
-    let mut text = String::from_str(alloc, "order")?;
-    for pick in &order_in(alloc, world)? {
-        write!(text, " {}:{}", pick.thread, pick.retired)?;
-    }
-    Ok(text)
-}
-
 /// The output, in pairs of digits.
 pub fn output_text(alloc: Global, world: &World) -> Result<String, AllocError> {
     let mut text = String::from_str(alloc, "output ")?;
     for byte in world.memory().output() {
         write!(text, "{byte:02X}")?;
-    }
-    Ok(text)
-}
-
-/// So many bytes of memory from an address on, in pairs of digits.
-pub fn bytes_text(
-    alloc: Global,
-    world: &World,
-    first: u32,
-    count: u32,
-) -> Result<String, AllocError> {
-    let mut text = format!(in alloc; "bytes {first:X} ")?;
-    for place in 0..count {
-        match world.memory().byte(first.wrapping_add(place)) {
-            Some(byte) => write!(text, "{byte:02X}")?,
-            None => text.push_str("--")?,
-        }
-    }
-    Ok(text)
-}
-
-/// The bytes that a row asks for.
-pub fn memory_text(
-    alloc: Global,
-    world: &World,
-    shown: &[(u32, u32)],
-) -> Result<String, AllocError> {
-    let mut text = String::new(alloc);
-    for (first, count) in shown {
-        let bytes = bytes_text(alloc, world, *first, *count)?;
-        text.push_str("; ")?;
-        text.push_str(bytes.as_str())?;
     }
     Ok(text)
 }

@@ -3,29 +3,54 @@ ghost use Rattle.std.specs.Prelude.{IfOk};
 ghost use Rattle.block_law.specs.Translations.{Meets};
 ghost use Rattle.image_file.specs.Whole.{IsWhole};
 ghost use Rattle.image_meaning.specs.Meant.{image_meaning};
-ghost use Rattle.world_rows.specs.Ready.{CanRun, IsReady};
+ghost use Rattle.row_worlds.specs.Ready.{CanRun, IsReady};
 
 use crate::driven::check_driven;
-use crate::images::{bytes_or_none, image_in, pairs_of};
-use crate::modes::translated;
 use crate::nothing::nothing_translated;
-use crate::shown::{memory_text, order_text, output_text, processors_text};
-use crate::worlds::{Limits, Program, pick_often, world_of};
-use anyhow::{Context, Result, anyhow};
+use crate::shown::{output_text, processors_text};
+use anyhow::{Context, Result, anyhow, bail};
 use image_file::Image;
 use row_tally::{fields, longword, number, pieces};
+use row_worlds::{
+    Limits, Program, advance_often, bytes_or_none, image_in, made_ready, memory_text, order_text,
+    pairs_of, pick_often, translated, world_of,
+};
 use std::alloc::Global;
 use system_model::{Range, Translation};
 use vest_core::World;
 
+/// Whether turns are made one at a time, or many at once.
+#[derive(Clone, Copy)]
+enum Pace {
+    One,
+    Many,
+}
+
+/// Gives a thread so many turns.
+fn turn_often(
+    world: &mut World,
+    program: Program<'_>,
+    thread: u8,
+    turns: u32,
+    pace: Pace,
+) -> Result<()>
+    requires { IsReady program world.old }
+    ensures { IsReady program.entry world.new }
+{
+    match pace {
+        Pace::One => pick_often(world, program, thread, turns),
+        Pace::Many => advance_often(world, program, thread, turns),
+    }
+}
+
 /// Picks threads, each so many times.
-fn run(world: &mut World, program: Program<'_>, picks: &[(u32, u32)]) -> Result<()>
+fn run(world: &mut World, program: Program<'_>, picks: &[(u32, u32)], pace: Pace) -> Result<()>
     requires { IsReady program world.old }
     ensures { IsReady program.entry world.new }
 {
     for (thread, turns) in picks {
         match u8::try_from(*thread) {
-            Ok(thread) => pick_often(world, program, thread, *turns)?,
+            Ok(thread) => turn_often(world, program, thread, *turns, pace)?,
             Err(_) => return Err(anyhow!("no such thread")),
         }
     }
@@ -84,12 +109,12 @@ fn case_of(alloc: Global, question: &str) -> Result<Case>
 }
 
 /// The world of a case, where its threads were picked.
-fn ran(alloc: Global, case: &Case, program: Program<'_>) -> Result<World>
+fn ran(alloc: Global, case: &Case, program: Program<'_>, pace: Pace) -> Result<World>
     requires whole { IsWhole program.image.now }
     requires meets { CanRun program }
 {
     let mut world = world_of(alloc, program, case.input.to_vec(alloc)?, case.limits)?;
-    run(&mut world, program, &case.picks)?;
+    run(&mut world, program, &case.picks, pace)?;
     Ok(world)
 }
 
@@ -99,16 +124,20 @@ fn left_in(
     case: &Case,
     translation: &Translation,
     ranges: &[Range],
+    pace: Pace,
 ) -> Result<String>
     requires whole { IsWhole case.now.image }
     requires meets { Meets (image_meaning case.now.image.pages) translation.now }
 {
+    let prepared = made_ready(alloc, &case.image, translation)?;
     let program = Program {
         image: &case.image,
         translation,
+        prepared: &prepared,
         ranges,
+        miss: 0,
     };
-    let world = ran(alloc, case, program)?;
+    let world = ran(alloc, case, program, pace)?;
     check_driven(alloc, &case.image, &case.input, &world)?;
     left_text(alloc, &world, &case.shown)
 }
@@ -117,7 +146,7 @@ fn left_in(
 pub fn answer(alloc: Global, question: &str) -> Result<String> {
     let case = case_of(alloc, question)?;
     let translation = nothing_translated(alloc, &case.image)?;
-    left_in(alloc, &case, &translation, &[])
+    left_in(alloc, &case, &translation, &[], Pace::One)
 }
 
 /// The addresses of a thread, written as THREAD:FIRST-LAST.
@@ -143,11 +172,17 @@ fn ranges_of(alloc: Global, text: &str) -> Result<Vec<Range>> {
     Ok(ranges)
 }
 
-/// The same with its translation, where the ranges before the row are interpreted.
+/// The same with its translation, where the ranges before the row are interpreted, whether turns are made one at a time or many at
+/// once.
 pub fn answer_translated(alloc: Global, question: &str) -> Result<String> {
     let (ranges, question) = question.split_once(' ').context("ranges")?;
     let ranges = ranges_of(alloc, ranges)?;
     let case = case_of(alloc, question)?;
     let translation = translated(alloc, &case.image)?;
-    left_in(alloc, &case, &translation, &ranges)
+    let left = left_in(alloc, &case, &translation, &ranges, Pace::One)?;
+    let other = left_in(alloc, &case, &translation, &ranges, Pace::Many)?;
+    if other.as_str() != left.as_str() {
+        bail!("{other} where many turns are made at once");
+    }
+    Ok(left)
 }

@@ -1,28 +1,12 @@
 // Worlds of images, in which processors are picked.
-ghost use Rattle.std.specs.Prelude.{IfOk};
+ghost use Rattle.std.specs.Prelude.{◌<◌, ◌≤◌, IfOk};
 ghost use Rattle.image_file.specs.Whole.{IsWhole};
-ghost use Rattle.world_rows.specs.Ready.{CanRun, IsReady};
+ghost use Rattle.row_worlds.specs.Ready.{CanRun, IsReady};
 
+use crate::programs::{Limits, Program};
 use anyhow::{Result, bail};
-use image_file::Image;
 use std::alloc::Global;
-use system_model::{Range, Translation};
 use vest_core::{Turn, World};
-
-/// The most steps of a processor, and the most entries of the history.
-#[derive(Clone, Copy)]
-pub struct Limits {
-    pub budget: u64,
-    pub entries: u32,
-}
-
-/// What the threads of a world run: an image, its translation, and the addresses that they interpret.
-#[derive(Clone, Copy)]
-pub struct Program<'a> {
-    pub image: &'a Image,
-    pub translation: &'a Translation,
-    pub ranges: &'a [Range],
-}
 
 /// A world before its first turn.
 pub fn world_of(
@@ -41,7 +25,7 @@ pub fn world_of(
         input,
         limits.budget,
         limits.entries,
-        0,
+        program.miss,
     ) {
         Ok(world) => Ok(world),
         Err(_) => bail!("want of memory"),
@@ -66,6 +50,39 @@ pub fn pick_often(world: &mut World, program: Program<'_>, thread: u8, turns: u3
 {
     for _ in 0..turns {
         pick(world, program, thread)?;
+    }
+    Ok(())
+}
+
+// Gives a thread turns up to the next that asks or ends, but at most so many, and tells how many.
+fn advance(world: &mut World, program: Program<'_>, thread: u8, most: u64) -> Result<u64>
+    requires some { 0 < most }
+    requires ready { IsReady program world.old }
+    ensures ready { IsReady program.entry world.new }
+    ensures some { IfOk result (λ turns. 0 < turns) }
+    ensures most { IfOk result (λ turns. turns ≤ most) }
+{
+    if usize::from(thread) >= world.processors().len() {
+        bail!("no such thread");
+    }
+    let Program {
+        image,
+        translation,
+        prepared,
+        ranges,
+        ..
+    } = program;
+    Ok(world.advance(image, translation, prepared, ranges, thread, most))
+}
+
+/// Gives a thread so many turns, those that ask nothing at once.
+pub fn advance_often(world: &mut World, program: Program<'_>, thread: u8, turns: u32) -> Result<()>
+    requires { IsReady program world.old }
+    ensures { IsReady program.entry world.new }
+{
+    let mut left = u64::from(turns);
+    while left > 0 {
+        left -= advance(world, program, thread, left)?;
     }
     Ok(())
 }

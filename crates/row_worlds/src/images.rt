@@ -137,13 +137,20 @@ pub fn image_of(alloc: Global, starts: &[(u32, u32)], code: &str, writable: &str
     image_with(alloc, starts, &code, first, &stored)
 }
 
-/// The image of one thread, by the fields with the code and with what the writable section stores.
-pub fn plain_image(alloc: Global, code: &str, stored: &str) -> Result<Image>
+/// The image of threads, by the fields with the code and with what the writable section at 1000 stores.
+pub fn image_in(alloc: Global, starts: &[(u32, u32)], code: &str, stored: &str) -> Result<Image>
     ensures { IfOk result IsWhole }
 {
     let code = bytes(alloc, code)?;
     let stored = bytes_or_none(alloc, stored)?;
-    image_with(alloc, &[(CODE, STACK)], &code, WRITABLE, &stored)
+    image_with(alloc, starts, &code, WRITABLE, &stored)
+}
+
+/// The same of one thread.
+pub fn plain_image(alloc: Global, code: &str, stored: &str) -> Result<Image>
+    ensures { IfOk result IsWhole }
+{
+    image_in(alloc, &[(CODE, STACK)], code, stored)
 }
 
 /// The image of one thread, whose code fills its only section.

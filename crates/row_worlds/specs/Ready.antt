@@ -5,14 +5,17 @@ use Rattle.image_meaning.specs.Meant.{image_meaning}
 use Rattle.system_model.specs.Settings.{Setting}
 use Rattle.tie_switch.specs.Settings.{image_setting}
 use Rattle.vest_core.specs.Worlds.{IsLegalWorld, WorldValue}
-use Rattle.translation_rows.specs.declared.worlds.Program.{Program}
+use Rattle.row_worlds.specs.declared.programs.Program.{Program}
 
 abbrev pub setting_of : Program → Setting
 setting_of program = image_setting program.image.now.pages program.translation.now program.ranges.now
 
--- its translation means what its image means
+-- its translation means what its image means, and is the one that was made ready
 abbrev pub CanRun : Program → Type 0
-CanRun program = Meets (image_meaning program.image.now.pages) program.translation.now
+CanRun program =
+    Meets (image_meaning program.image.now.pages) program.translation.now
+    × (program.prepared.now.code ≡ program.translation.now)
+    × (program.prepared.now.pages ≡ program.image.now.pages)
 
 -- the world is that of the program's image, and legal for it
 pub record IsReady (program : Program) (w : WorldValue) : Type 0 where

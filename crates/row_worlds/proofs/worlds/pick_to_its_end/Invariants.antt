@@ -1,6 +1,6 @@
 -- the world is ready for the next pick
-use Rattle.translation_rows.specs.Ready.{IsReady}
-use Rattle.translation_rows.proofs.worlds.pick_to_its_end.Given as goal
+use Rattle.row_worlds.specs.Ready.{IsReady}
+use Rattle.row_worlds.proofs.worlds.pick_to_its_end.Given as goal
 
 abbrev pub invariant-loop : goal.invariant-loop
 invariant-loop l = IsReady l.program l.world

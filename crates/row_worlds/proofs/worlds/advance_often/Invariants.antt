@@ -1,0 +1,9 @@
+-- the world is ready for the next turns
+use Rattle.row_worlds.specs.Ready.{IsReady}
+use Rattle.row_worlds.proofs.worlds.advance_often.Given as goal
+
+abbrev pub invariant-loop-left : goal.invariant-loop-left
+invariant-loop-left l = IsReady l.program l.world
+
+abbrev pub decreases-loop-left : goal.decreases-loop-left
+decreases-loop-left l = l.left

@@ -1,0 +1,56 @@
+// What the threads of a world run.
+ghost use Rattle.std.specs.Prelude.{◌≡◌, IfOk};
+ghost use Rattle.block_law.specs.Translations.{Meets};
+ghost use Rattle.image_meaning.specs.Meant.{image_meaning};
+
+use anyhow::{Result, bail};
+use image_file::Image;
+use prepared_code::{Prepared, prepare};
+use std::alloc::Global;
+use system_model::{Range, Translation};
+use translate::{Target, translate};
+
+/// The most steps of a processor, and the most entries of the history.
+#[derive(Clone, Copy)]
+pub struct Limits {
+    pub budget: u64,
+    pub entries: u32,
+}
+
+/// An image, its translation, the same made ready to be run, and the addresses that threads interpret; and by which number a
+/// store of a processor fails, 0 for none.
+#[derive(Clone, Copy)]
+pub struct Program<'a> {
+    pub image: &'a Image,
+    pub translation: &'a Translation,
+    pub prepared: &'a Prepared<'a>,
+    pub ranges: &'a [Range],
+    pub miss: u16,
+}
+
+/// The translation of an image.
+pub fn translated(alloc: Global, image: &Image) -> Result<Translation>
+    ensures { IfOk result (Meets (image_meaning image.now.pages)) }
+{
+    match translate(alloc, image, &[], Target::Original) {
+        Ok(translation) => Ok(translation),
+        Err(refusal) => bail!("no translation: {refusal:?}"),
+    }
+}
+
+/// The translation made ready to be run.
+pub fn made_ready<'a>(
+    alloc: Global,
+    image: &'a Image,
+    translation: &'a Translation,
+) -> Result<Prepared<'a>>
+    requires { Meets (image_meaning image.now.pages) translation.now }
+    ensures code { IfOk result (λ prepared. prepared.code ≡ translation.now) }
+    ensures pages { IfOk result (λ prepared. prepared.pages ≡ image.now.pages) }
+{
+    let Translation { words, map, points } = translation;
+    match prepare(alloc, words, map, points, &image.pages) {
+        Ok(prepared) => Ok(prepared),
+        Err(_) => bail!("want of memory"),
+    }
+}
