@@ -1,7 +1,6 @@
 // Whole-number arithmetic, by a simulator's answers.
-use anyhow::{Result, bail, ensure};
-use row_tally::{Tally, fields, longword, number, rows};
-use std::alloc::Global;
+use anyhow::{Context, Result, bail, ensure};
+use row_tally::{Tally, five_fields, longword, number};
 use vt_words::{Coded, add, divide, limit, mul, negate, sub};
 
 #[derive(Clone, Copy)]
@@ -58,27 +57,18 @@ fn answer(operation: Operation, bytes: u32, a: u64, b: u64, carry: bool) -> Resu
     })
 }
 
-/// Reads a row, for what the operation gives and what it is to give.
-fn case(alloc: Global, row: &str) -> Result<(Coded, Coded)> {
-    let words = fields(alloc, row, 7)?;
-    let found = answer(
-        Operation::named(words[0])?,
-        longword(words[1])?,
-        number(words[2])?,
-        number(words[3])?,
-        bit(words[4])?,
-    )?;
-    let codes = u8::from_str_radix(words[6], 2)?;
-    Ok((found, coded(number(words[5])?, codes)))
+/// Reads FIRST SECOND CARRY VALUE CODES, for what the operation gives and what it is to give.
+fn case(operation: Operation, bytes: u32, text: &str) -> Result<(Coded, Coded)> {
+    let (first, second, carry, value, codes) = five_fields(text)?;
+    let (first, second, carry) = (number(first)?, number(second)?, bit(carry)?);
+    let found = answer(operation, bytes, first, second, carry)?;
+    Ok((found, coded(number(value)?, u8::from_str_radix(codes, 2)?)))
 }
 
-/// Checks the cases, one a row.
-pub fn check(rt: &(impl Print + AllocGlobal), cases: &str) -> Result<Tally> {
-    let mut tally = Tally::NONE;
-    for row in &rows(rt.alloc(), cases)? {
-        let (found, wanted) = case(rt.alloc(), row)?;
-        tally.check(rt, row, &found, &wanted)?;
-    }
-    tally.print(rt, "arithmetic")?;
-    Ok(tally)
+/// Checks a row: OPERATION BYTES and the case.
+pub fn check_row(rt: &impl Print, tally: &mut Tally, row: &str) -> Result<()> {
+    let (name, rest) = row.split_once(' ').context("a size")?;
+    let (bytes, rest) = rest.split_once(' ').context("a case")?;
+    let (found, wanted) = case(Operation::named(name)?, longword(bytes)?, rest)?;
+    tally.check(rt, row, &found, &wanted)
 }

@@ -1,34 +1,40 @@
-//! Compares what the opcodes, the arithmetic and the page table of this translator answer with answers from outside: the
-//! manual's table of instructions in data/opcodes.txt, what they do to the condition codes in data/codes.txt, a simulator's
-//! answers in data/arithmetic.txt, and others in the code.
-//! It prints each difference, and for each part how many cases agree.
+//! Compares what the opcodes, the arithmetic and the page table of this translator, and the words and meanings of its Alpha
+//! instructions, answer with answers from outside: the manual's table of instructions in data/opcodes.txt, a simulator's answers
+//! in data/arithmetic.txt, an assembler's words in data/words.txt, an emulator's results in data/operates.txt, and others in the
+//! code. It prints each difference, and for each part how many cases agree.
 //!
-//! `opcodes`, `codes` and `arithmetic` check the files, with the instructions' names in `names`. `calls` and `pages` check the rest.
+//! `opcodes`, `arithmetic`, `words` and `operates` check a row of the file of their name, with the instructions' names in `names`.
+//! `calls`, `pages` and `formats` check the rest.
 #![tactic(auto)]
 
 mod arithmetic;
 mod calls;
-mod codes;
+mod formats;
 mod names;
 mod opcodes;
+mod operates;
 mod pages;
+mod words;
 
-use anyhow::{Context, Result};
-use row_tally::Tally;
-use std::fs;
+use anyhow::Result;
+use row_tally::{Tally, check_rows};
 
 fn main(rt: HostRuntime) -> Result<()> {
     let mut all = Tally::NONE;
-    let table = fs::read_to_string(&rt, "opcodes.txt").context("opcodes.txt")?;
-    all.add(opcodes::check(&rt, table.as_str())?);
-    let uses = fs::read_to_string(&rt, "codes.txt").context("codes.txt")?;
-    all.add(codes::check(&rt, uses.as_str())?);
-    let cases = fs::read_to_string(&rt, "arithmetic.txt").context("arithmetic.txt")?;
-    all.add(arithmetic::check(&rt, cases.as_str())?);
+    all.add(check_rows(&rt, "opcodes", "opcodes.txt", opcodes::check_row)?);
+    all.add(check_rows(&rt, "arithmetic", "arithmetic.txt", arithmetic::check_row)?);
     all.add(calls::check_conversions(&rt)?);
+    all.add(calls::check_signs(&rt)?);
     all.add(calls::check_logic(&rt)?);
     all.add(calls::check_quadwords(&rt)?);
     all.add(calls::check_forms(&rt)?);
-    all.add(pages::check(&rt)?);
+    all.add(calls::check_states(&rt)?);
+    all.add(pages::check_places(&rt)?);
+    all.add(pages::check_areas(&rt)?);
+    all.add(check_rows(&rt, "words", "words.txt", words::check_row)?);
+    all.add(check_rows(&rt, "operations", "operates.txt", operates::check_row)?);
+    all.add(formats::check_memory(&rt)?);
+    all.add(formats::check_accesses(&rt)?);
+    all.add(formats::check_branches(&rt)?);
     all.verdict()
 }

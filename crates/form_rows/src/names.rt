@@ -1,5 +1,4 @@
 // The names of the instructions, from what their operations say.
-use std::alloc::{AllocError, Global};
 use vax_form::{BinaryOperation, BitStore, Condition, LongOperation, Operation, Size, Width};
 
 fn letter(width: Width) -> &'static str {
@@ -147,11 +146,14 @@ fn conditional(operation: Operation) -> Option<Pieces> {
     })
 }
 
-/// The name of an operation.
-pub fn name_of(alloc: Global, operation: Operation) -> Result<String, AllocError> {
+/// Whether a word is the name of an operation.
+pub fn is_name_of(operation: Operation, word: &str) -> bool {
     let pieces = plain(operation)
         .or(sized(operation))
         .or(conditional(operation));
     let (first, second, third) = pieces.unwrap_or(("no name", "", ""));
-    format!(in alloc; "{first}{second}{third}")
+    let rest = word
+        .strip_prefix(first)
+        .and_then(|rest| rest.strip_prefix(second));
+    rest == Some(third)
 }

@@ -1,55 +1,41 @@
 // The opcodes, by the table of instructions.
-use crate::names::name_of;
+use crate::names::is_name_of;
 use anyhow::{Context, Result, bail, ensure};
-use row_tally::{Tally, longword, rows, words};
-use std::alloc::{AllocError, Global};
-use vax_form::{Access, Class, Row, Size, class_of, is_long, operation_of, row_of};
+use cc_liveness::{CodeUse, code_use};
+use row_tally::{Tally, longword};
+use vax_form::{Access, Class, Flags, Row, Size, class_of, is_long, operation_of, row_of};
 
-/// What an opcode is.
-#[derive(Debug, PartialEq, Eq, Drop)]
+/// What an opcode is, beside its name.
+#[derive(Clone, Copy, Debug, PartialEq, Eq)]
 struct Form {
-    name: Option<String>,
     class: Class,
     is_long: bool,
     row: Option<Row>,
+    uses: Option<CodeUse>,
 }
 
-impl Form {
-    const RESERVED: Form = Form {
-        name: None,
-        class: Class::Reserved,
-        is_long: false,
-        row: None,
-    };
+const RESERVED: Form = Form {
+    class: Class::Reserved,
+    is_long: false,
+    row: None,
+    uses: None,
+};
 
-    /// The form of an opcode, by the calls that are checked here.
-    fn of(alloc: Global, opcode: u8) -> Result<Form, AllocError> {
-        let name = match operation_of(opcode) {
-            Some(operation) => Some(name_of(alloc, operation)?),
-            None => None,
-        };
-        Ok(Form {
-            name,
-            class: class_of(opcode),
-            is_long: is_long(opcode),
-            row: row_of(opcode),
-        })
+/// The form of an opcode, by the calls that are checked here.
+fn form_of(opcode: u8) -> Form {
+    Form {
+        class: class_of(opcode),
+        is_long: is_long(opcode),
+        row: row_of(opcode),
+        uses: operation_of(opcode).map(|operation| code_use(operation)),
     }
+}
 
-    /// Reads a row, for the opcode and its form.
-    fn read(alloc: Global, row: &str) -> Result<(u8, Form)> {
-        let words = words(alloc, row)?;
-        let [opcode, name, class, operands @ ..] = words.as_slice() else {
-            bail!("not three words: {row}");
-        };
-        let (class, is_long) = class_named(class)?;
-        let form = Form {
-            name: Some(String::from_str(alloc, name)?),
-            class,
-            is_long,
-            row: Some(row_with(operands)?),
-        };
-        Ok((u8::try_from(longword(opcode)?)?, form))
+/// Whether the opcode has that name, or is reserved.
+fn is_named(opcode: u8, name: &str) -> bool {
+    match operation_of(opcode) {
+        Some(operation) => is_name_of(operation, name),
+        None => name == "reserved",
     }
 }
 
@@ -61,6 +47,25 @@ fn class_named(word: &str) -> Result<(Class, bool)> {
         "long" => (Class::Tie, true),
         _ => bail!("no class: {word}"),
     })
+}
+
+/// The codes with these letters; `-` is none.
+fn codes(letters: &str) -> Flags {
+    Flags {
+        n: letters.contains('N'),
+        z: letters.contains('Z'),
+        v: letters.contains('V'),
+        c: letters.contains('C'),
+    }
+}
+
+/// Whether an instruction ends, by the word for it.
+fn ends(word: &str) -> Result<bool> {
+    match word {
+        "jumps" => Ok(true),
+        "goes-on" => Ok(false),
+        _ => bail!("neither jumps nor goes-on: {word}"),
+    }
 }
 
 fn access_of(letter: u8) -> Result<Access> {
@@ -85,52 +90,65 @@ fn size_of(letter: u8) -> Result<Size> {
     })
 }
 
-/// The row of these operands.
-fn row_with(operands: &[&str]) -> Result<Row> {
+fn operand_of(word: &str) -> Result<(Access, Size)> {
+    match word.as_bytes() {
+        [access, size] => Ok((access_of(*access)?, size_of(*size)?)),
+        _ => bail!("no operand: {word}"),
+    }
+}
+
+/// The row of the operands in a text.
+fn row_with(operands: &str) -> Result<Row> {
     let mut row = Row {
         count: 0,
         access: [Access::Read; 6],
         size: [Size::Byte; 6],
     };
-    for (place, operand) in operands.iter().enumerate() {
-        let [access, size] = operand.as_bytes() else {
-            bail!("no operand: {operand}");
-        };
+    for (place, word) in operands.split_whitespace().enumerate() {
         ensure!(place < 6, "more than six operands");
+        let (access, size) = operand_of(word)?;
         row.count = place as u8 + 1;
-        row.access[place] = access_of(*access)?;
-        row.size[place] = size_of(*size)?;
+        row.access[place] = access;
+        row.size[place] = size;
     }
     Ok(row)
 }
 
-/// Checks the opcodes of the table, one a row, and tells which there are.
-fn check_known(rt: &(impl Print + AllocGlobal), table: &str) -> Result<([bool; 256], Tally)> {
-    let alloc = rt.alloc();
-    let mut known = [false; 256];
-    let mut tally = Tally::NONE;
-    for row in &rows(alloc, table)? {
-        let (opcode, form) = Form::read(alloc, row)?;
-        ensure!(!known[usize::from(opcode)], "a second row for {opcode:02X}");
-        known[usize::from(opcode)] = true;
-        tally.check(rt, row, &Form::of(alloc, opcode)?, &form)?;
-    }
-    tally.print(rt, "instructions")?;
-    Ok((known, tally))
+fn uses_of(reads: &str, writes: &str, end: &str) -> Result<CodeUse> {
+    Ok(CodeUse {
+        reads: codes(reads),
+        writes: codes(writes),
+        ends: ends(end)?,
+    })
 }
 
-/// Checks the opcodes of the table, and that all others are reserved.
-pub fn check(rt: &(impl Print + AllocGlobal), table: &str) -> Result<Tally> {
-    let alloc = rt.alloc();
-    let (known, instructions) = check_known(rt, table)?;
-    let mut reserved = Tally::NONE;
-    for opcode in 0..=255u8 {
-        if !known[usize::from(opcode)] {
-            let case = format!(in alloc; "{opcode:02X}")?;
-            reserved.check(rt, &case, &Form::of(alloc, opcode)?, &Form::RESERVED)?;
-        }
-    }
-    reserved.print(rt, "reserved opcodes")?;
-    reserved.add(instructions);
-    Ok(reserved)
+/// Reads CLASS READS WRITES END OPERANDS.
+fn form_with(text: &str) -> Result<Form> {
+    let (class, rest) = text.split_once(' ').context("codes that are read")?;
+    let (reads, rest) = rest.split_once(' ').context("codes that are written")?;
+    let (writes, rest) = rest.split_once(' ').context("an end")?;
+    let (end, operands) = rest.split_once(' ').unwrap_or((rest, ""));
+    let (class, is_long) = class_named(class)?;
+    Ok(Form {
+        class,
+        is_long,
+        row: Some(row_with(operands)?),
+        uses: Some(uses_of(reads, writes, end)?),
+    })
+}
+
+/// Checks the row of the next opcode: OPCODE reserved, or OPCODE NAME and its form.
+pub fn check_row(rt: &impl Print, tally: &mut Tally, row: &str) -> Result<()> {
+    let (digits, rest) = row.split_once(' ').context("a name")?;
+    let opcode = u8::try_from(longword(digits)?)?;
+    ensure!(
+        u32::from(opcode) == tally.rows,
+        "{digits} is not the next opcode"
+    );
+    let (name, wanted) = match rest.split_once(' ') {
+        Some((name, text)) => (name, form_with(text)?),
+        None => (rest, RESERVED),
+    };
+    ensure!(is_named(opcode, name), "another name: {row}");
+    tally.check(rt, row, &form_of(opcode), &wanted)
 }

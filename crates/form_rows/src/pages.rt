@@ -1,6 +1,6 @@
 // The page table of an image.
 use anyhow::Result;
-use row_tally::Tally;
+use row_tally::{Tally, check_cases};
 use std::alloc::{AllocError, Global};
 use vax_form::{PageRange, Pages};
 
@@ -61,47 +61,54 @@ fn code(byte: u8) -> Place {
     }
 }
 
-/// Checks addresses beside and on the edges of the pages, and areas that reach from one page into the next.
-pub fn check(rt: &(impl Print + AllocGlobal)) -> Result<Tally> {
-    let alloc = rt.alloc();
-    let pages = table(alloc)?;
-    let mut tally = Tally::NONE;
-    for (address, wanted) in [
-        (0x1ff, OUTSIDE),
-        (0x200, code(0xd0)),
-        (0x3ff, code(0x50)),
-        (0x400, OUTSIDE),
-        (0x1000, WRITABLE),
-        (0x1200, code(0xbc)),
-        (0xffff_ffff, OUTSIDE),
-    ] {
-        let found = Place {
-            read: pages.allowed(address, false),
-            write: pages.allowed(address, true),
-            code: pages.code_byte(address),
-        };
-        let case = format!(in alloc; "{address:X}")?;
-        tally.check(rt, &case, &found, &wanted)?;
+fn place_at(pages: &Pages, address: u32) -> Place {
+    Place {
+        read: pages.allowed(address, false),
+        write: pages.allowed(address, true),
+        code: pages.code_byte(address),
     }
-    for (case, found, wanted) in [
-        (
-            "11FE to 1201, to write",
-            pages.first_bad(0x11fe, 4, true),
-            Some(0x1200),
-        ),
-        (
-            "11FE to 1201, to read",
-            pages.first_bad(0x11fe, 4, false),
-            None,
-        ),
-        (
-            "1FC to 203, to read",
-            pages.first_bad(0x1fc, 8, false),
-            Some(0x1fc),
-        ),
-    ] {
-        tally.check(rt, case, &found, &wanted)?;
-    }
-    tally.print(rt, "page table")?;
-    Ok(tally)
+}
+
+/// Checks addresses beside and on the edges of the pages.
+pub fn check_places(rt: &(impl Print + AllocGlobal)) -> Result<Tally> {
+    let pages = table(rt.alloc())?;
+    check_cases(
+        rt,
+        "places",
+        &[
+            ("1FF", place_at(&pages, 0x1ff), OUTSIDE),
+            ("200", place_at(&pages, 0x200), code(0xd0)),
+            ("3FF", place_at(&pages, 0x3ff), code(0x50)),
+            ("400", place_at(&pages, 0x400), OUTSIDE),
+            ("1000", place_at(&pages, 0x1000), WRITABLE),
+            ("1200", place_at(&pages, 0x1200), code(0xbc)),
+            ("FFFFFFFF", place_at(&pages, 0xffff_ffff), OUTSIDE),
+        ],
+    )
+}
+
+/// Checks areas that reach from one page into the next.
+pub fn check_areas(rt: &(impl Print + AllocGlobal)) -> Result<Tally> {
+    let pages = table(rt.alloc())?;
+    check_cases(
+        rt,
+        "areas",
+        &[
+            (
+                "11FE to 1201, to write",
+                pages.first_bad(0x11fe, 4, true),
+                Some(0x1200),
+            ),
+            (
+                "11FE to 1201, to read",
+                pages.first_bad(0x11fe, 4, false),
+                None,
+            ),
+            (
+                "1FC to 203, to read",
+                pages.first_bad(0x1fc, 8, false),
+                Some(0x1fc),
+            ),
+        ],
+    )
 }

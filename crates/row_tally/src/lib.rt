@@ -15,7 +15,7 @@ pub use families::Families;
 pub use fault::RowFault;
 pub use reading::{bytes, fields, is_row, longword, number, pieces, rows, words};
 use std::fmt::Debug;
-pub use tables::{Given, ask_rows, check_rows};
+pub use tables::{Given, ask_rows, check_cases, check_rows};
 
 /// How many rows there were, and how many agree; neither counts on beyond the greatest number.
 #[derive(Clone, Copy, Debug, PartialEq, Eq)]

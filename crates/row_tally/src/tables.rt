@@ -2,6 +2,7 @@
 use crate::{Families, Tally, is_row};
 use anyhow::{Context, Result};
 use std::alloc::Global;
+use std::fmt::Debug;
 use std::fs::{self, Files};
 
 fn check_each<R: Print + AllocGlobal, F: Fn(&R, &mut Tally, &str) -> Result<()>>(
@@ -29,6 +30,20 @@ pub fn check_rows<R: Files + Print + AllocGlobal, F: Fn(&R, &mut Tally, &str) ->
 {
     let table = fs::read_to_string(rt, file).context(file)?;
     let tally = check_each(rt, table.as_str(), check)?;
+    tally.print(rt, name)?;
+    Ok(tally)
+}
+
+/// Checks cases, each with what was found and what is wanted, and prints under the name how many agree.
+pub fn check_cases<T: PartialEq + Debug>(
+    rt: &impl Print,
+    name: &str,
+    cases: &[(&str, T, T)],
+) -> Result<Tally> {
+    let mut tally = Tally::NONE;
+    for (case, found, wanted) in cases {
+        tally.check(rt, case, found, wanted)?;
+    }
     tally.print(rt, name)?;
     Ok(tally)
 }

@@ -1,7 +1,7 @@
 // Words and instructions, by the assembler.
 use alpha_encode::{AlphaInstr, Second, decode, encode};
 use anyhow::{Context, Result};
-use row_tally::{Tally, longword, rows};
+use row_tally::{Tally, longword};
 use std::alloc::{AllocError, Global};
 
 /// An instruction as the table writes it.
@@ -29,14 +29,9 @@ fn agrees(alloc: Global, word: u32, text: &str) -> Result<bool> {
     Ok(found.as_str() == text && encode(instr) == word)
 }
 
-/// Checks the words, one a row.
-pub fn check(rt: &(impl Print + AllocGlobal), table: &str) -> Result<Tally> {
-    let mut tally = Tally::NONE;
-    for row in &rows(rt.alloc(), table)? {
-        let (digits, text) = row.split_once(' ').context("an instruction")?;
-        let agrees = agrees(rt.alloc(), longword(digits)?, text)?;
-        tally.check(rt, row, &agrees, &true)?;
-    }
-    tally.print(rt, "words")?;
-    Ok(tally)
+/// Checks a row: WORD INSTRUCTION.
+pub fn check_row(rt: &(impl Print + AllocGlobal), tally: &mut Tally, row: &str) -> Result<()> {
+    let (digits, text) = row.split_once(' ').context("an instruction")?;
+    let agrees = agrees(rt.alloc(), longword(digits)?, text)?;
+    tally.check(rt, row, &agrees, &true)
 }
