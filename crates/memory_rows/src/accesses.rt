@@ -1,20 +1,14 @@
-// Reads accesses and their replies.
+// Reads accesses, and writes their replies.
 ghost use Rattle.std.specs.Prelude.{IfOk};
 ghost use Rattle.memory_core.specs.Changes.{Allows};
 
 use anyhow::{Context, Result, bail};
 use memory_core::{Change, Kind, Reply, Request};
 use row_tally::{longword, number};
+use std::alloc::AllocError;
 
 /// How many instructions of its thread each access says to have ended before.
 const RETIRED: u64 = 5;
-
-/// An access, and its reply.
-#[derive(Clone, Copy)]
-pub struct Step {
-    pub request: Request,
-    pub wanted: Reply,
-}
 
 fn byte(text: &str) -> Result<u8> {
     Ok(u8::try_from(longword(text)?)?)
@@ -70,38 +64,33 @@ fn kind_and_change(text: &str) -> Result<(Kind, Change)>
     })
 }
 
-fn reply_of(before: u64, ending: &str) -> Result<Reply> {
-    Ok(match ending {
-        "made" => Reply::Made {
-            before,
-            success: true,
-        },
-        "failed" => Reply::Made {
-            before,
-            success: false,
-        },
-        "full" => Reply::Full,
-        _ => bail!("no ending: {ending}"),
+/// Reads PROCESSOR:OPERATION:QUADWORD.
+pub fn request_of(text: &str) -> Result<Request>
+    ensures { IfOk result (λ request. Allows request.kind request.change) }
+{
+    let (processor, rest) = text.split_once(':').context("an operation")?;
+    let (operation, quad) = rest.split_once(':').context("a quadword")?;
+    let (kind, change) = kind_and_change(operation)?;
+    Ok(Request {
+        processor: byte(processor)?,
+        retired: RETIRED,
+        kind,
+        quad: longword(quad)?,
+        change,
     })
 }
 
-/// Reads PROCESSOR:OPERATION:QUADWORD:FOUND:ENDING.
-pub fn step_of(text: &str) -> Result<Step>
-    ensures { IfOk result (λ step. Allows step.request.kind step.request.change) }
-{
-    let (processor, rest) = text.split_once(':').context("an operation")?;
-    let (operation, rest) = rest.split_once(':').context("a quadword")?;
-    let (quad, rest) = rest.split_once(':').context("what it finds")?;
-    let (before, ending) = rest.split_once(':').context("an ending")?;
-    let (kind, change) = kind_and_change(operation)?;
-    Ok(Step {
-        request: Request {
-            processor: byte(processor)?,
-            retired: RETIRED,
-            kind,
-            quad: longword(quad)?,
-            change,
-        },
-        wanted: reply_of(number(before)?, ending)?,
-    })
+/// What an access found, and how it ended.
+pub fn write_reply(text: &mut String, reply: Reply) -> Result<(), AllocError> {
+    match reply {
+        Reply::Made {
+            before,
+            success: true,
+        } => write!(text, " {before:X}:made"),
+        Reply::Made {
+            before,
+            success: false,
+        } => write!(text, " {before:X}:failed"),
+        Reply::Full => write!(text, " full"),
+    }
 }
