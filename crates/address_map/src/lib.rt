@@ -3,10 +3,12 @@
 //! It is made from a list of pairs that rise in both numbers. Contracts see it as that list.
 #![tactic(auto)]
 
+mod beginnings;
 mod tables;
 
 ghost use Rattle.std.specs.Prelude.{◌≡◌, IfErr, IfOk, OnOk, map};
 
+use crate::beginnings::beginnings;
 use std::alloc::{AllocError, Global};
 use std::marker::Model;
 pub use tables::Tables;
@@ -44,6 +46,7 @@ pub struct AddressMap {
     pairs: Vec<(u32, u32)>,
     by_address: Tables,
     by_word: Tables,
+    begins: Vec<bool>,
 }
 
 impl Model for AddressMap {
@@ -73,7 +76,10 @@ impl AddressMap {
     pub fn vax_of(&self, alpha: u32) -> Option<u32>
         ensures { result ≡ address_at self.now alpha }
     {
-        self.by_word.find(alpha)
+        match self.begins.get(alpha as usize) {
+            Some(false) => None,
+            _ => self.by_word.find(alpha),
+        }
     }
 
     /// The page of 512 addresses that has the lowest mapped address; 0 for an empty map.
@@ -154,6 +160,7 @@ fn map_of(alloc: Global, pairs: &[(u32, u32)]) -> Result<AddressMap, AllocError>
         pairs: pairs.to_vec(alloc)?,
         by_address: Tables::new(alloc, pairs)?,
         by_word: Tables::new(alloc, &by_word)?,
+        begins: beginnings(alloc, pairs)?,
     })
 }
 
