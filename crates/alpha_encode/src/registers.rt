@@ -14,6 +14,12 @@ pub const CARRY: u8 = 19;
 pub const STATUS: u8 = 20;
 /// The first of the registers that hold temporaries, up to `TARGET`.
 pub const TEMPORARIES: u8 = 21;
+/// The quadword that a byte sequence reads or changes; behind a store conditional, whether it succeeded.
+pub const QUAD: u8 = 25;
+/// A second quadword of a byte sequence, or bytes that are to be stored.
+pub const BYTES: u8 = 26;
+/// The address of the quadword that a loop changes.
+pub const QUAD_ADDRESS: u8 = 27;
 /// A VAX address to go on at; inside a block a temporary.
 pub const TARGET: u8 = 26;
 /// A VAX address to be probed; else scratch.

@@ -4,6 +4,7 @@ use Rattle.alpha_encode.specs.declared.instr.MemoryOp.TheVariants.{LdqL, StqC}
 use Rattle.alpha_encode.specs.declared.instr.BranchOp.TheVariants.{Beq}
 use Rattle.alpha_encode.specs.declared.instr.AlphaInstr.{AlphaInstr}
 use Rattle.alpha_encode.specs.declared.instr.AlphaInstr.TheVariants.{Memory, Branch, Operate}
+use Rattle.alpha_encode.specs.declared.registers.TheConstants.{QUAD, QUAD_ADDRESS, ZERO}
 use Rattle.alpha_meaning.specs.Result.{result_of}
 use Rattle.alpha_meaning.specs.State.{Regs, put}
 use Rattle.alpha_meaning.specs.Act.{second_value}
@@ -15,7 +16,7 @@ is_operate i = false
 -- the register that an operate instruction writes
 abbrev pub written : AlphaInstr → ℕ
 written (Operate op ra rb rc) = rc
-written i = 31
+written i = ZERO
 
 -- the registers behind an operate instruction, and behind a row of them
 abbrev pub effect : AlphaInstr → Regs → Regs
@@ -30,7 +31,7 @@ effects (i ∷ is) f = effects is (effect i f)
 abbrev pub fine : (may : ℕ → Bool) → AlphaInstr → Bool
 fine may i = is_operate i && may (written i)
 
--- The quadword at R27 is read into R25, changed there, and stored again, until the store succeeds.
+-- The quadword at QUAD_ADDRESS is read into QUAD, changed there, and stored again, until the store succeeds.
 -- Alpha Architecture Reference Manual, 5.5 "Data Sharing (Multiprocessor)", Atomic Update of a Single Datum.
 abbrev pub retry : (middle : List AlphaInstr) → List AlphaInstr
-retry middle = Memory LdqL 25 27 (pos 0) ∷ (middle ++ (Memory StqC 25 27 (pos 0) ∷ Branch Beq 25 (negsuc (length middle + 2)) ∷ []))
+retry middle = Memory LdqL QUAD QUAD_ADDRESS (pos 0) ∷ (middle ++ (Memory StqC QUAD QUAD_ADDRESS (pos 0) ∷ Branch Beq QUAD (negsuc (length middle + 2)) ∷ []))

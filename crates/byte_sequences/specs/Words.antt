@@ -9,6 +9,7 @@ use Rattle.alpha_encode.specs.declared.instr.OperateOp.TheVariants.{Extbl, Extwl
 use Rattle.alpha_encode.specs.declared.instr.Second.TheVariants.{Register, Literal}
 use Rattle.alpha_encode.specs.declared.instr.AlphaInstr.{AlphaInstr}
 use Rattle.alpha_encode.specs.declared.instr.AlphaInstr.TheVariants.{Memory, Branch, Operate}
+use Rattle.alpha_encode.specs.declared.registers.TheConstants.{QUAD, BYTES, QUAD_ADDRESS, ZERO}
 use Rattle.alpha_meaning.specs.Loops.{retry}
 use Rattle.micro_ops.specs.declared.program.LockedOp.{LockedOp}
 use Rattle.micro_ops.specs.declared.program.LockedOp.TheVariants.{AddWord, SetBit, ClearBit}
@@ -38,21 +39,21 @@ mask_high count = by_count count Mskwh Mskwh Msklh Mskqh
 
 -- ---- reads
 abbrev pub byte_read : (place to : ℕ) → List AlphaInstr
-byte_read place to = Memory LdqU 25 place (pos 0) ∷ Operate Extbl 25 (Register place) to ∷ []
+byte_read place to = Memory LdqU QUAD place (pos 0) ∷ Operate Extbl QUAD (Register place) to ∷ []
 
--- R26 says whether the operand lies in one quadword
+-- BYTES says whether the operand lies in one quadword
 abbrev pub read_test : (place count : ℕ) → List AlphaInstr
-read_test place count = Operate And place (Literal 7) 26 ∷ Operate Cmpult 26 (Literal (9 - count)) 26 ∷ []
+read_test place count = Operate And place (Literal 7) BYTES ∷ Operate Cmpult BYTES (Literal (9 - count)) BYTES ∷ []
 
 abbrev pub tested_read : (place count to : ℕ) → List AlphaInstr
 tested_read place count to =
-    Memory LdqU 25 place (pos 0)
-    ∷ Operate (extract_low count) 25 (Register place) 25
-    ∷ Branch Bne 26 (pos 3)
-    ∷ Memory LdqU 26 place (pos (count - 1))
-    ∷ Operate (extract_high count) 26 (Register place) 26
-    ∷ Operate Bis 25 (Register 26) 25
-    ∷ Operate Bis 25 (Literal 0) to
+    Memory LdqU QUAD place (pos 0)
+    ∷ Operate (extract_low count) QUAD (Register place) QUAD
+    ∷ Branch Bne BYTES (pos 3)
+    ∷ Memory LdqU BYTES place (pos (count - 1))
+    ∷ Operate (extract_high count) BYTES (Register place) BYTES
+    ∷ Operate Bis QUAD (Register BYTES) QUAD
+    ∷ Operate Bis QUAD (Literal 0) to
     ∷ []
 
 abbrev pub unaligned_read : (place count to : ℕ) → List AlphaInstr
@@ -62,25 +63,25 @@ abbrev pub read_code : (place count to : ℕ) → List AlphaInstr
 read_code place count to = if count == 1 then byte_read place to else unaligned_read place count to
 
 -- ---- writes
--- the bytes of R25 that the mask names are replaced by those of `from`
+-- the bytes of QUAD that the mask names are replaced by those of `from`
 abbrev pub replacing : (mask insert : OperateOp) (place from : ℕ) → List AlphaInstr
 replacing mask insert place from =
-    Operate mask 25 (Register place) 25 ∷ Operate insert from (Register place) 26 ∷ Operate Bis 25 (Register 26) 25 ∷ []
+    Operate mask QUAD (Register place) QUAD ∷ Operate insert from (Register place) BYTES ∷ Operate Bis QUAD (Register BYTES) QUAD ∷ []
 
 -- the part in the quadword of the address
 abbrev pub first_write : (place count from : ℕ) → List AlphaInstr
-first_write place count from = Operate Bic place (Literal 7) 27 ∷ retry (replacing (mask_low count) (insert_low count) place from)
+first_write place count from = Operate Bic place (Literal 7) QUAD_ADDRESS ∷ retry (replacing (mask_low count) (insert_low count) place from)
 
 -- the part in the next quadword
 abbrev pub second_write : (place count from : ℕ) → List AlphaInstr
-second_write place count from = Operate Addq 27 (Literal 8) 27 ∷ retry (replacing (mask_high count) (insert_high count) place from)
+second_write place count from = Operate Addq QUAD_ADDRESS (Literal 8) QUAD_ADDRESS ∷ retry (replacing (mask_high count) (insert_high count) place from)
 
--- R25 says whether the operand lies in one quadword
+-- QUAD says whether the operand lies in one quadword
 abbrev pub write_test : (place count : ℕ) → List AlphaInstr
-write_test place count = Operate And place (Literal 7) 25 ∷ Operate Cmpult 25 (Literal (9 - count)) 25 ∷ []
+write_test place count = Operate And place (Literal 7) QUAD ∷ Operate Cmpult QUAD (Literal (9 - count)) QUAD ∷ []
 
 abbrev pub tested_second_write : (place count from : ℕ) → List AlphaInstr
-tested_second_write place count from = write_test place count ++ (Branch Bne 25 (pos 7) ∷ second_write place count from)
+tested_second_write place count from = write_test place count ++ (Branch Bne QUAD (pos 7) ∷ second_write place count from)
 
 abbrev pub unaligned_write : (place count from : ℕ) → List AlphaInstr
 unaligned_write place count from = first_write place count from ++ tested_second_write place count from
@@ -88,51 +89,51 @@ unaligned_write place count from = first_write place count from ++ tested_second
 -- an aligned longword by STL
 abbrev pub longword_write : (place from : ℕ) → List AlphaInstr
 longword_write place from =
-    Operate And place (Literal 3) 25
-    ∷ Branch Bne 25 (pos 2)
+    Operate And place (Literal 3) QUAD
+    ∷ Branch Bne QUAD (pos 2)
     ∷ Memory Stl from place (pos 0)
-    ∷ Branch Br 31 (pos 17)
+    ∷ Branch Br ZERO (pos 17)
     ∷ unaligned_write place 4 from
 
 -- an aligned quadword by STQ, and one at 4 modulo 8 by two STL
 abbrev pub quadword_write : (place from : ℕ) → List AlphaInstr
 quadword_write place from =
-    Operate And place (Literal 3) 25
-    ∷ Branch Bne 25 (pos 8)
-    ∷ Operate And place (Literal 7) 25
-    ∷ Branch Bne 25 (pos 2)
+    Operate And place (Literal 3) QUAD
+    ∷ Branch Bne QUAD (pos 8)
+    ∷ Operate And place (Literal 7) QUAD
+    ∷ Branch Bne QUAD (pos 2)
     ∷ Memory Stq from place (pos 0)
-    ∷ Branch Br 31 (pos 18)
+    ∷ Branch Br ZERO (pos 18)
     ∷ Memory Stl from place (pos 0)
-    ∷ Operate Srl from (Literal 32) 25
-    ∷ Memory Stl 25 place (pos 4)
-    ∷ Branch Br 31 (pos 14)
+    ∷ Operate Srl from (Literal 32) QUAD
+    ∷ Memory Stl QUAD place (pos 4)
+    ∷ Branch Br ZERO (pos 14)
     ∷ (first_write place 8 from ++ second_write place 8 from)
 
 abbrev pub write_code : (place count from : ℕ) → List AlphaInstr
 write_code place count from = by_count count (first_write place 1 from) (unaligned_write place 2 from) (longword_write place from) (quadword_write place from)
 
 -- ---- interlocked changes
--- `to` gets the word before, and its sum with `from` goes into R25
+-- `to` gets the word before, and its sum with `from` goes into QUAD
 abbrev pub word_added : (place from to : ℕ) → List AlphaInstr
 word_added place from to =
-    Operate Extwl 25 (Register place) to
-    ∷ Operate Addq to (Register from) 26
-    ∷ Operate Inswl 26 (Register place) 26
-    ∷ Operate Mskwl 25 (Register place) 25
-    ∷ Operate Bis 25 (Register 26) 25
+    Operate Extwl QUAD (Register place) to
+    ∷ Operate Addq to (Register from) BYTES
+    ∷ Operate Inswl BYTES (Register place) BYTES
+    ∷ Operate Mskwl QUAD (Register place) QUAD
+    ∷ Operate Bis QUAD (Register BYTES) QUAD
     ∷ []
 
--- `to` gets the byte before, R26 a one at the place of the bit; BIS sets it, BIC clears it
+-- `to` gets the byte before, BYTES a one at the place of the bit; BIS sets it, BIC clears it
 abbrev pub bit_changed : OperateOp → (place from to : ℕ) → List AlphaInstr
 bit_changed op place from to =
-    Operate Extbl 25 (Register place) to
-    ∷ Operate Cmpeq 25 (Register 25) 26
-    ∷ Operate Sll 26 (Register from) 26
-    ∷ Operate op to (Register 26) 26
-    ∷ Operate Insbl 26 (Register place) 26
-    ∷ Operate Mskbl 25 (Register place) 25
-    ∷ Operate Bis 25 (Register 26) 25
+    Operate Extbl QUAD (Register place) to
+    ∷ Operate Cmpeq QUAD (Register QUAD) BYTES
+    ∷ Operate Sll BYTES (Register from) BYTES
+    ∷ Operate op to (Register BYTES) BYTES
+    ∷ Operate Insbl BYTES (Register place) BYTES
+    ∷ Operate Mskbl QUAD (Register place) QUAD
+    ∷ Operate Bis QUAD (Register BYTES) QUAD
     ∷ []
 
 abbrev pub change_of : LockedOp → (place from to : ℕ) → List AlphaInstr
@@ -142,7 +143,7 @@ change_of ClearBit place from to = bit_changed Bic place from to
 
 -- a loop that changes the quadword of the address
 abbrev pub locked_loop : (place : ℕ) (change : List AlphaInstr) → List AlphaInstr
-locked_loop place change = Operate Bic place (Literal 7) 27 ∷ retry change
+locked_loop place change = Operate Bic place (Literal 7) QUAD_ADDRESS ∷ retry change
 
 abbrev pub locked_code : LockedOp → (place from to : ℕ) → List AlphaInstr
 locked_code kind place from to = locked_loop place (change_of kind place from to)

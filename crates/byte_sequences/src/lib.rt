@@ -2,7 +2,6 @@
 //! has no loads and stores of bytes and words: one access that counts for each part of the operand.
 #![tactic(auto)]
 
-mod instructions;
 mod locked;
 mod operators;
 mod reading;

@@ -6,7 +6,7 @@ ghost use Rattle.byte_sequences.specs.Instructions.{IsArgument, is_scratch_or, w
 ghost use Rattle.byte_sequences.specs.Words.{bit_changed, locked_loop, locked_code};
 ghost use Rattle.byte_sequences.specs.Promises.{LockedPlan, most_locked_words};
 
-use crate::instructions::{BYTES, QUAD, QUAD_ADDRESS};
+use alpha_encode::registers::{BYTES, QUAD, QUAD_ADDRESS};
 use alpha_encode::{
     AlphaInstr, BranchOp, MemoryOp, OperateOp, branch, memory, operate, operate_by,
 };

@@ -7,8 +7,8 @@ ghost use Rattle.byte_sequences.specs.Instructions.{IsArgument, is_scratch_or, w
 ghost use Rattle.byte_sequences.specs.Words.{byte_read, unaligned_read, read_code};
 ghost use Rattle.byte_sequences.specs.Promises.{ReadsPlan, most_read_words};
 
-use crate::instructions::{BYTES, QUAD};
 use crate::operators::{extract_high, extract_low};
+use alpha_encode::registers::{BYTES, QUAD};
 use alpha_encode::{
     AlphaInstr, BranchOp, MemoryOp, OperateOp, branch, memory, operate, operate_by,
 };

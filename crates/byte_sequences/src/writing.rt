@@ -8,9 +8,8 @@ ghost use Rattle.byte_sequences.specs.Instructions.{IsArgument, is_scratch, writ
 ghost use Rattle.byte_sequences.specs.Words.{replacing, first_write, second_write, tested_second_write, unaligned_write, longword_write, quadword_write, write_code};
 ghost use Rattle.byte_sequences.specs.Promises.{WritesPlan, stored_bytes, most_write_words};
 
-use crate::instructions::{BYTES, QUAD, QUAD_ADDRESS};
 use crate::operators::{insert_high, insert_low, mask_high, mask_low};
-use alpha_encode::registers::ZERO;
+use alpha_encode::registers::{BYTES, QUAD, QUAD_ADDRESS, ZERO};
 use alpha_encode::{
     AlphaInstr, BranchOp, MemoryOp, OperateOp, branch, memory, operate, operate_by,
 };
