@@ -224,6 +224,7 @@ module _ (p : Placement) (site : Site) (table : IsPageTable p.pages) (kinds : (r
       let x = all_three (is_count count) (are_apart to place) (reference_fits known place count false) fits in
       let low = a_to.low in
       let high = a_to.high in
+      let below : 21 + to ≤ 24 = omega arith in
       let place_high = a_place.high in
       let to_lt : to < 6 = omega arith in
       let v = place_usable p site known standing regs place count false (omega arith) x.2 h in
@@ -239,7 +240,7 @@ module _ (p : Placement) (site : Site) (table : IsPageTable p.pages) (kinds : (r
       (λ value g l. behind value g l.fits
       (unchanged p site known (behind_access (behind_write to (holding_of (nat_le count 4)) known)) standing (with_temp to value standing.temps) regs g
       (written_changes known to (holding_of (nat_le count 4)))
-      (λ n kept. l.only n (kept_not_scratch_or (21 + to) n low high kept)) (l.only 31 (zero_not_scratch_or (21 + to) low high))
+      (λ n kept. l.only n (kept_not_scratch_or (21 + to) n low below kept)) (l.only 31 (zero_not_scratch_or (21 + to) low below))
       (values_outlast (behind_write to (holding_of (nat_le count 4)) known) (with_temp to value standing.temps) g
       (λ temp lt. low_written known to value (holding_of (nat_le count 4)) standing.temps regs g to_lt (read_holds count value (g (21 + to)) is l.holds l.fits) h.temps
       (λ temp lt e. l.only (21 + temp) (temp_not_scratch_or to temp lt e)) temp lt))
@@ -286,6 +287,7 @@ module _ (p : Placement) (site : Site) (table : IsPageTable p.pages) (kinds : (r
       let x = all_five (are_apart to place) (are_apart place source) (are_apart source to) (holds known source) (reference_fits known place (locked_count kind) true) fits in
       let low = a_to.low in
       let high = a_to.high in
+      let below : 21 + to ≤ 24 = omega arith in
       let place_high = a_place.high in
       let source_high = a_source.high in
       let to_lt : to < 6 = omega arith in
@@ -307,7 +309,7 @@ module _ (p : Placement) (site : Site) (table : IsPageTable p.pages) (kinds : (r
       (λ value g l. behind value g (subst (λ c. value < 2 ^ (8 * c)) (same_counts kind) l.fits)
       (unchanged p site known (behind_access (behind_write to Wide known)) standing (with_temp to value standing.temps) regs g
       (written_changes known to Wide)
-      (λ n kept. l.only n (kept_not_scratch_or (21 + to) n low high kept)) (l.only 31 (zero_not_scratch_or (21 + to) low high))
+      (λ n kept. l.only n (kept_not_scratch_or (21 + to) n low below kept)) (l.only 31 (zero_not_scratch_or (21 + to) low below))
       (values_outlast (behind_write to Wide known) (with_temp to value standing.temps) g
       (λ temp lt. low_written known to value Wide standing.temps regs g to_lt (locked_holds kind value (g (21 + to)) l.holds l.fits) h.temps
       (λ temp lt e. l.only (21 + temp) (temp_not_scratch_or to temp lt e)) temp lt))
