@@ -1,0 +1,74 @@
+// Questions about command lines, in which `''` is the empty word, and `N*WORD` is N times the word.
+use anyhow::Result;
+use command_words::{Command, Limits, Range, WordsFault, read_words};
+use row_tally::Given;
+use std::alloc::{AllocError, Global};
+use std::fmt::Write;
+
+/// The words that a piece of a row spells, behind those before it.
+fn push_words(alloc: Global, words: &mut Vec<String>, piece: &str) -> Result<()> {
+    if piece == "''" {
+        words.push(String::new(alloc))?;
+        return Ok(());
+    }
+    let (count, word) = piece.split_once('*').unwrap_or(("1", piece));
+    for _ in 0..count.parse::<u32>()? {
+        words.push(String::from_str(alloc, word)?)?;
+    }
+    Ok(())
+}
+
+fn words_of(alloc: Global, line: &str) -> Result<Vec<String>> {
+    let mut words = Vec::new(alloc);
+    for piece in line.split_whitespace() {
+        push_words(alloc, &mut words, piece)?;
+    }
+    Ok(words)
+}
+
+fn run_text(
+    alloc: Global,
+    name: &str,
+    limits: Limits,
+    ranges: &[Range],
+) -> Result<String, AllocError> {
+    let Limits {
+        budget,
+        events,
+        miss,
+    } = limits;
+    let name = if name.is_empty() { "''" } else { name };
+    let mut text = format!(in alloc; "run {name} budget {budget} events {events} miss {miss}")?;
+    for range in ranges {
+        write!(text, " {}:{:X}-{:X}", range.thread, range.first, range.last)?;
+    }
+    Ok(text)
+}
+
+fn command_text(alloc: Global, command: &Command<'_>) -> Result<String, AllocError> {
+    match command {
+        Command::Run {
+            name,
+            limits,
+            ranges,
+        } => run_text(alloc, name, *limits, ranges.as_slice()),
+        Command::Translate { image, out } => format!(in alloc; "translate {image} to {out}"),
+        Command::List { name } => format!(in alloc; "list {name}"),
+        Command::Generate { number } => format!(in alloc; "generate {number}"),
+    }
+}
+
+/// What the words spell, as text.
+fn spelled_text(alloc: Global, words: &[String]) -> Result<String, AllocError> {
+    match read_words(alloc, words) {
+        Ok(command) => command_text(alloc, &command),
+        Err(WordsFault::Usage) => format!(in alloc; "none"),
+        Err(WordsFault::WantOfMemory) => Err(AllocError),
+    }
+}
+
+/// Answers a command line by what it spells.
+pub fn answer(alloc: Global, _given: &Given<'_>, question: &str) -> Result<String> {
+    let words = words_of(alloc, question)?;
+    Ok(spelled_text(alloc, words.as_slice())?)
+}

@@ -1,8 +1,0 @@
-use Rattle.std.proofs.Common.{◌≡◌}
-use Rattle.memory_rows.proofs.memory.replies_of.Given as goal
-
-abbrev pub invariant-loop-access : goal.invariant-loop-access
-invariant-loop-access l = record {
-  image : l.memory.set_up.image ≡ l.image;
-  processors : l.memory.processors ≡ 3;
-}
