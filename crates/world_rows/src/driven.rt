@@ -1,10 +1,10 @@
 // A world beside the threads that are driven by the order of its history.
 ghost use Rattle.image_file.specs.Whole.{IsWhole};
 
+use crate::texts::order_in;
 use anyhow::{Result, bail};
 use image_file::Image;
 use memory_core::MemState;
-use row_worlds::order_in;
 use std::alloc::{AllocError, Global};
 use system_model::End;
 use vax_run::{DrivenRun, ThreadRun, driven};

@@ -1,13 +1,16 @@
 // Every interleaving of the turns of two threads.
 ghost use Rattle.image_file.specs.Whole.{IsWhole};
-ghost use Rattle.row_worlds.specs.Ready.{CanRun};
+ghost use Rattle.world_rows.specs.Ready.{CanRun};
 
 use crate::driven::check_driven;
+use crate::images::{image_in, pairs_of};
 use crate::nothing::nothing_translated;
+use crate::programs::{Limits, Program, made_ready};
+use crate::texts::bytes_text;
+use crate::worlds::{pick, world_of};
 use anyhow::{Context, Result};
 use image_file::Image;
 use row_tally::{fields, longword};
-use row_worlds::{Limits, Program, bytes_text, image_in, made_ready, pairs_of, pick, world_of};
 use std::alloc::{AllocError, Global};
 use system_model::End;
 use vest_core::World;

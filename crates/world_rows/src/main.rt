@@ -1,18 +1,26 @@
-//! Runs images turn by turn as the rows of data/turns.txt, data/ranges.txt, data/interleavings.txt and data/modes.txt say,
-//! compares what is left with what stands there, and each world with the threads driven by the order of its history.
+//! Runs worlds of small images as the rows of data/ say, turn by turn or to their ends, with their translation and interpreted,
+//! compares what is left with what stands there, and each world with the threads driven by the order of its history; and says
+//! what translations have.
 //!
-//! `nothing` is a translation of nothing, `driven` compares a world with the driven threads, `shown` says in text what is
-//! left, and `turns`, `interleavings` and `modes` go through the files.
+//! `images` makes the image of a row, `programs` translates it, `worlds` picks its processors, `driven` compares a world with
+//! the driven threads, `texts`, `shown` and `left` say in text what is left. `turns`, `interleavings` and `runs` go through the
+//! files, and `translations` says what a translation has; `nothing` is a translation of nothing.
 #![tactic(auto)]
 
 mod driven;
+mod images;
 mod interleavings;
-mod modes;
+mod left;
 mod nothing;
+mod programs;
+mod runs;
 mod shown;
+mod texts;
+mod translations;
 mod turns;
+mod worlds;
 
-use anyhow::{Context, Result};
+use anyhow::{Context, Result, bail};
 use row_tally::{Families, Tally, rows};
 use std::alloc::Global;
 use std::fs;
@@ -24,7 +32,16 @@ enum Topic {
     Ranges,
     Interleavings,
     Modes,
+    Translations,
 }
+
+const TOPICS: [Topic; 5] = [
+    Topic::Turns,
+    Topic::Ranges,
+    Topic::Interleavings,
+    Topic::Modes,
+    Topic::Translations,
+];
 
 impl Topic {
     fn file(self) -> &'static str {
@@ -33,6 +50,7 @@ impl Topic {
             Topic::Ranges => "ranges.txt",
             Topic::Interleavings => "interleavings.txt",
             Topic::Modes => "modes.txt",
+            Topic::Translations => "translations.txt",
         }
     }
 
@@ -41,8 +59,23 @@ impl Topic {
             Topic::Turns => turns::answer(alloc, question),
             Topic::Ranges => turns::answer_translated(alloc, question),
             Topic::Interleavings => interleavings::answer(alloc, question),
-            Topic::Modes => modes::answer(alloc, question),
+            Topic::Modes => runs::states(alloc, question),
+            Topic::Translations => answer_of_kind(alloc, question),
         }
+    }
+}
+
+/// The answer to a question that begins with its kind.
+fn answer_of_kind(alloc: Global, question: &str) -> Result<String> {
+    let (kind, rest) = question.split_once(' ').context("a kind")?;
+    match kind {
+        "mapped" => translations::mapped(alloc, rest),
+        "rules" => translations::rules(alloc, rest),
+        "flow" => translations::flow(alloc, rest),
+        "interpreted" => runs::interpreted(alloc, rest),
+        "end" => runs::end(alloc, rest),
+        "run" => runs::left(alloc, rest),
+        _ => bail!("no such question"),
     }
 }
 
@@ -73,12 +106,7 @@ fn run(rt: &(impl Print + AllocGlobal), topic: Topic, table: &str) -> Result<Tal
 
 fn main(rt: HostRuntime) -> Result<()> {
     let mut all = Tally::NONE;
-    for topic in [
-        Topic::Turns,
-        Topic::Ranges,
-        Topic::Interleavings,
-        Topic::Modes,
-    ] {
+    for topic in TOPICS {
         let table = fs::read_to_string(&rt, topic.file()).context(topic.file())?;
         all.add(run(&rt, topic, table.as_str())?);
     }

@@ -1,5 +1,5 @@
 // What is left of a world, in text.
-use row_worlds::end_text;
+use crate::texts::end_text;
 use std::alloc::{AllocError, Global};
 use system_model::End;
 use vest_core::{Processor, World};

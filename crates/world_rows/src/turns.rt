@@ -3,18 +3,18 @@ ghost use Rattle.std.specs.Prelude.{IfOk};
 ghost use Rattle.block_law.specs.Translations.{Meets};
 ghost use Rattle.image_file.specs.Whole.{IsWhole};
 ghost use Rattle.image_meaning.specs.Meant.{image_meaning};
-ghost use Rattle.row_worlds.specs.Ready.{CanRun, IsReady};
+ghost use Rattle.world_rows.specs.Ready.{CanRun, IsReady};
 
 use crate::driven::check_driven;
+use crate::images::{bytes_or_none, image_in, pairs_of};
 use crate::nothing::nothing_translated;
+use crate::programs::{Limits, Program, made_ready, translated};
 use crate::shown::{output_text, processors_text};
+use crate::texts::{memory_text, order_text};
+use crate::worlds::{advance_often, pick_often, world_of};
 use anyhow::{Context, Result, anyhow, bail};
 use image_file::Image;
 use row_tally::{fields, longword, number, pieces};
-use row_worlds::{
-    Limits, Program, advance_often, bytes_or_none, image_in, made_ready, memory_text, order_text,
-    pairs_of, pick_often, translated, world_of,
-};
 use std::alloc::Global;
 use system_model::{Range, Translation};
 use vest_core::World;

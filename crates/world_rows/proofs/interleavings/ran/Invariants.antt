@@ -1,5 +1,5 @@
 -- the world is ready for the next pick
-use Rattle.row_worlds.specs.Ready.{IsReady}
+use Rattle.world_rows.specs.Ready.{IsReady}
 use Rattle.world_rows.proofs.interleavings.ran.Given as goal
 
 abbrev pub invariant-loop-turn : goal.invariant-loop-turn

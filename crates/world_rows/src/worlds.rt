@@ -1,7 +1,7 @@
 // Worlds of images, in which processors are picked.
 ghost use Rattle.std.specs.Prelude.{◌<◌, ◌≤◌, IfOk};
 ghost use Rattle.image_file.specs.Whole.{IsWhole};
-ghost use Rattle.row_worlds.specs.Ready.{CanRun, IsReady};
+ghost use Rattle.world_rows.specs.Ready.{CanRun, IsReady};
 
 use crate::programs::{Limits, Program};
 use anyhow::{Result, bail};

@@ -1,6 +1,6 @@
 -- the world is ready for the next turns
-use Rattle.row_worlds.specs.Ready.{IsReady}
-use Rattle.row_worlds.proofs.worlds.advance_often.Given as goal
+use Rattle.world_rows.specs.Ready.{IsReady}
+use Rattle.world_rows.proofs.worlds.advance_often.Given as goal
 
 abbrev pub invariant-loop-left : goal.invariant-loop-left
 invariant-loop-left l = IsReady l.program l.world

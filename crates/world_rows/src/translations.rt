@@ -1,9 +1,10 @@
 // What translations have: the mapped addresses, and the rules of condition codes there.
+use crate::images::code_alone;
+use crate::programs::translated;
 use anyhow::{Context, Result, bail};
 use exception_records::{CodeRule, Points, Rules};
 use image_file::Image;
 use row_tally::{bytes, longword};
-use row_worlds::{code_alone, translated};
 use std::alloc::{AllocError, Global};
 use system_model::Translation;
 use translate::{Target, TranslateRefusal, translate};

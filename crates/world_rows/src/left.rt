@@ -1,6 +1,6 @@
 // What is left of a world, in text.
+use crate::texts::{end_text, memory_text, order_text};
 use anyhow::Result;
-use row_worlds::{end_text, memory_text, order_text};
 use std::alloc::{AllocError, Global};
 use system_model::End;
 use vest_core::{Processor, World};

@@ -5,7 +5,7 @@ use Rattle.image_meaning.specs.Meant.{image_meaning}
 use Rattle.system_model.specs.Settings.{Setting}
 use Rattle.tie_switch.specs.Settings.{image_setting}
 use Rattle.vest_core.specs.Worlds.{IsLegalWorld, WorldValue}
-use Rattle.row_worlds.specs.declared.programs.Program.{Program}
+use Rattle.world_rows.specs.declared.programs.Program.{Program}
 
 abbrev pub setting_of : Program → Setting
 setting_of program = image_setting program.image.now.pages program.translation.now program.ranges.now
