@@ -8,13 +8,12 @@ ghost use Rattle.block_law.specs.Blocks.{IsBlockOf};
 ghost use Rattle.program_codegen.specs.Programs.{is_narrow};
 
 use anyhow::{Result, bail, ensure};
-use code_runs::rules_behind;
 use exception_records::{Block, CodeRule, Rules};
 use flag_codegen::code_words;
 use micro_ops::{CodeSource, Exit, Micro, fits, sources_of};
 use program_codegen::block;
 use std::alloc::Global;
-use vax_form::{Flags, Instr, Operand, Operation, Size};
+use vax_form::{Flags, Instr, Operand, Size, operation_of};
 
 /// The address of an instruction, and the one behind it.
 #[derive(Clone, Copy)]
@@ -85,14 +84,26 @@ fn are_ready(rules: Rules) -> bool
 pub fn made(
     alloc: Global,
     site: Site,
-    operation: Operation,
+    opcode: u8,
     program: &[Micro],
     live: Flags,
 ) -> Result<(Block, Rules)>
     ensures { IfOk result (λ made. IsBlockOf false site.at made.0) }
 {
+    let Some(operation) = operation_of(opcode) else {
+        bail!("a reserved opcode");
+    };
     let sources = sources_of(operation);
-    let behind = rules_behind(sources, live, READY);
+    let instr = Instr {
+        at: site.at,
+        opcode,
+        count: 0,
+        operands: [Operand::Unused; 6],
+        after: site.after,
+    };
+    let Ok((words, behind)) = code_words(alloc, &instr, live) else {
+        bail!("want of memory");
+    };
     ensure!(fits(sources, program), "it does not fit");
     ensure!(
         is_written(sources.nzv) || !is_written(sources.c),
@@ -103,16 +114,6 @@ pub fn made(
         are_ready(behind) || !has_computed_exit(program),
         "codes that are not ready"
     );
-    let instr = Instr {
-        at: site.at,
-        opcode: 0,
-        count: 0,
-        operands: [Operand::Unused; 6],
-        after: site.after,
-    };
-    let Ok(words) = code_words(alloc, operation, live) else {
-        bail!("want of memory");
-    };
     match block(alloc, &instr, sources, program, &words, READY, behind) {
         Ok(block) => Ok((block, behind)),
         Err(_) => bail!("want of memory"),

@@ -72,9 +72,9 @@ fn answers(alloc: Global, row: &str) -> Result<([String; 3], [String; 3])> {
     let (words, rest) = rest.split_once(' ').context("words")?;
     let (exits, rest) = rest.split_once(' ').context("exits")?;
     let (points, text) = rest.split_once(' ').context("points")?;
-    let operation = opcode(name)?.context("an operation")?;
+    let opcode = opcode(name)?.context("an opcode")?;
     let program = program(alloc, text)?;
-    let (block, behind) = made(alloc, Site::HERE, operation, &program, lettered(live))?;
+    let (block, behind) = made(alloc, Site::HERE, opcode, &program, lettered(live))?;
     let found = [
         words_text(alloc, &encoded(alloc, &block.words)?)?,
         exits_text(alloc, &block)?,

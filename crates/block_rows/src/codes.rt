@@ -4,13 +4,11 @@ use crate::machine::encoded;
 use crate::sets::{SETS, set};
 use anyhow::{Context, Result, bail, ensure};
 use cc_liveness::code_use;
-use code_runs::rules_behind;
 use exception_records::{CodeRule, Rules, codes_shown};
 use flag_codegen::code_words;
-use micro_ops::sources_of;
 use row_tally::{Tally, fields, longword, number, rows};
 use std::alloc::{AllocError, Global};
-use vax_form::{Flags, Operation, Size, operation_of};
+use vax_form::{Flags, Instr, Operand, Size, operation_of};
 
 /// The register of the first temporary.
 const TEMPORARIES: usize = 21;
@@ -51,10 +49,10 @@ impl Wanted {
     }
 }
 
-/// A row: an operation, what the temporaries hold, and the codes that are wanted.
+/// A row: an opcode, what the temporaries hold, and the codes that are wanted.
 #[derive(Clone, Copy)]
 struct Case {
-    operation: Operation,
+    opcode: u8,
     registers: [u64; 32],
     n: Wanted,
     z: Wanted,
@@ -66,9 +64,6 @@ impl Case {
     /// Before the instruction the rules tell N and C, and the registers of the codes have Z and V.
     fn read(alloc: Global, row: &str) -> Result<Case> {
         let words = fields(alloc, row, 8)?;
-        let operation = operation_of(u8::try_from(longword(words[0])?)?).context(
-            "a reserved opcode",
-        )?;
         let mut registers = [0; 32];
         registers[17] = 1;
         registers[18] = 1;
@@ -83,7 +78,7 @@ impl Case {
             bail!("not four codes: {row}");
         };
         Ok(Case {
-            operation,
+            opcode: u8::try_from(longword(words[0])?)?,
             registers,
             n: Wanted::of(*n)?,
             z: Wanted::of(*z)?,
@@ -102,15 +97,20 @@ impl Case {
     /// How many words there are where these codes are live, and with how many sets of held codes others are shown than
     /// are wanted.
     fn tried(&self, alloc: Global, live: Flags) -> Result<(usize, u8)> {
-        let words = code_words(alloc, self.operation, live).map_err(|_| AllocError)?;
+        let Some(operation) = operation_of(self.opcode) else {
+            bail!("a reserved opcode");
+        };
+        let instr = instr_of(self.opcode);
+        let (words, answered) = code_words(alloc, &instr, live).map_err(|_| AllocError)?;
         let code = encoded(alloc, words.as_slice())?;
         let registers = behind(code.as_slice(), self.registers).context("words that end")?;
-        let rules = rules_behind(sources_of(self.operation), live, BEFORE);
+        let written = code_use(operation).writes;
+        let rules = rules_behind(written, answered);
         let mut differ = 0_u8;
         for number in 0..SETS {
             let held = set(number);
             let found = codes_shown(&self.registers, &BEFORE, &held);
-            let left = codes_shown(&registers, &rules, &still_held(held, self.operation));
+            let left = codes_shown(&registers, &rules, &still_held(held, written));
             if !self.agrees(found, left) {
                 differ = differ.saturating_add(1);
             }
@@ -119,9 +119,29 @@ impl Case {
     }
 }
 
+/// An instruction with that opcode; its codes are the same whatever its operands.
+fn instr_of(opcode: u8) -> Instr {
+    Instr {
+        at: 0,
+        opcode,
+        count: 0,
+        operands: [Operand::Unused; 6],
+        after: 0,
+    }
+}
+
+/// The rules behind the instruction: those that are answered for the codes that it writes, and else those before it.
+fn rules_behind(written: Flags, answered: Rules) -> Rules {
+    Rules {
+        n: if written.n { answered.n } else { BEFORE.n },
+        z: if written.z { answered.z } else { BEFORE.z },
+        v: if written.v { answered.v } else { BEFORE.v },
+        c: if written.c { answered.c } else { BEFORE.c },
+    }
+}
+
 /// The codes that are held behind the instruction: those that it doesn't write.
-fn still_held(held: Flags, operation: Operation) -> Flags {
-    let written = code_use(operation).writes;
+fn still_held(held: Flags, written: Flags) -> Flags {
     Flags {
         n: held.n && !written.n,
         z: held.z && !written.z,

@@ -7,12 +7,12 @@ use anyhow::{Context, Result};
 use micro_ops::{CodeSource, CodeSources, Micro, fits, program_words, sources_of};
 use row_tally::{Tally, longword, rows};
 use std::alloc::Global;
-use vax_form::{Operation, operation_of};
+use vax_form::operation_of;
 
-/// A program, where its codes come from, and the operation of the instruction whose it is.
+/// A program, where its codes come from, and the opcode of the instruction whose it is.
 #[derive(Drop)]
 pub struct Form {
-    pub operation: Option<Operation>,
+    pub opcode: Option<u8>,
     sources: CodeSources,
     pub program: Vec<Micro>,
 }
@@ -45,12 +45,12 @@ pub fn program(alloc: Global, text: &str) -> Result<Vec<Micro>> {
     Ok(program)
 }
 
-/// The operation with an opcode; `-` is none.
-pub fn opcode(text: &str) -> Result<Option<Operation>> {
+/// An opcode; `-` is none.
+pub fn opcode(text: &str) -> Result<Option<u8>> {
     if text == "-" {
         return Ok(None);
     }
-    Ok(operation_of(u8::try_from(longword(text)?)?))
+    Ok(Some(u8::try_from(longword(text)?)?))
 }
 
 /// How many words a program is counted as, and how many its longest block has, if it fits.
@@ -69,7 +69,7 @@ impl Form {
             c: source(c).context("where C comes from")?,
         };
         let form = Form {
-            operation: opcode(name)?,
+            opcode: opcode(name)?,
             sources,
             program: program(alloc, text)?,
         };
@@ -88,12 +88,12 @@ impl Form {
 
     /// The length of the longest block, whichever codes are live; 0 where no instruction has the program.
     fn longest(&self, alloc: Global) -> Result<u32> {
-        let Some(operation) = self.operation else {
+        let Some(opcode) = self.opcode else {
             return Ok(0);
         };
         let mut longest = 0;
         for number in 0..SETS {
-            let (block, _) = made(alloc, Site::HERE, operation, &self.program, set(number))?;
+            let (block, _) = made(alloc, Site::HERE, opcode, &self.program, set(number))?;
             longest = longest.max(u32::try_from(block.words.len())?);
         }
         Ok(longest)
@@ -108,10 +108,10 @@ impl Form {
         Ok((program_words(self.sources, &self.program), length))
     }
 
-    /// Whether the codes of the operation come from there.
+    /// Whether the codes of the instruction come from there.
     fn has_sources(&self) -> bool {
-        match self.operation {
-            Some(operation) => sources_of(operation) == self.sources,
+        match self.opcode {
+            Some(opcode) => operation_of(opcode).map(sources_of) == Some(self.sources),
             None => true,
         }
     }

@@ -4,13 +4,13 @@ ghost use Rattle.block_law.specs.Blocks.{IsBlockOf};
 
 use crate::blocks::{Site, made};
 use crate::sets::lettered;
-use anyhow::{Context, Result, bail};
+use anyhow::{Result, bail};
 use branch_layout::lay_out;
 use exception_records::{Block, Point};
 use micro_ops::{Arg, Exit, Micro, MicroOp};
 use row_tally::Tally;
 use std::alloc::Global;
-use vax_form::{Size, operation_of};
+use vax_form::Size;
 
 /// Words, the map's pairs, and the points.
 type Code = (Vec<u32>, Vec<(u32, u32)>, Vec<(u32, Point)>);
@@ -51,8 +51,7 @@ fn block_at(alloc: Global, at: u32, program: &[Micro]) -> Result<Block>
     ensures { IfOk result (IsBlockOf false at) }
 {
     let site = Site { at, after: at };
-    let operation = operation_of(NOP).context("an operation")?;
-    let (block, _) = made(alloc, site, operation, program, lettered("-"))?;
+    let (block, _) = made(alloc, site, NOP, program, lettered("-"))?;
     Ok(block)
 }
 

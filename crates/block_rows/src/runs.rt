@@ -24,13 +24,13 @@ fn check_form(
 ) -> Result<()> {
     let alloc = rt.alloc();
     let (form, _) = Form::read(alloc, row)?;
-    let Some(operation) = form.operation else {
+    let Some(opcode) = form.opcode else {
         return Ok(());
     };
     let site = Site::HERE;
     let mut told = false;
     for number in 0..SETS {
-        let (block, behind) = made(alloc, site, operation, &form.program, set(number))?;
+        let (block, behind) = made(alloc, site, opcode, &form.program, set(number))?;
         let words = encoded(alloc, &block.words)?;
         let code = Code {
             block: &block,

@@ -6,3 +6,4 @@ pub mod Shown
 pub mod Whole
 pub mod Leaving
 pub mod Leaves
+pub mod Answered

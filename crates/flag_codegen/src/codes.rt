@@ -1,10 +1,12 @@
 // The words of each condition code, and all of them.
-ghost use Rattle.std.specs.Prelude.{◌≡◌, ◌≤◌, ◌++◌, length, All, IfOk, OnOk};
+ghost use Rattle.std.specs.Prelude.{◌≡◌, ◌≤◌, ◌++◌, length, All, IfOk, IsSome, OnOk};
+ghost use Rattle.vax_form.specs.Operation.{operation_at};
 ghost use Rattle.alpha_encode.specs.Words.{IsEncodable};
-ghost use Rattle.micro_ops.specs.Sources.{sources_of};
+ghost use Rattle.exception_records.specs.Codes.{all_ready};
 ghost use Rattle.exception_records.specs.declared.rules.Rules.{Rules};
 ghost use Rattle.block_law.specs.Tidy.{codes_written};
 ghost use Rattle.block_law.specs.CodeWords.{LeavesCodes};
+ghost use Rattle.code_runs.specs.Codes.{code_sources};
 ghost use Rattle.code_runs.specs.Rules.{rules_behind};
 ghost use Rattle.flag_codegen.specs.Made.{codes_made};
 ghost use Rattle.flag_codegen.specs.Words.{negative_words, zero_words, overflow_words, carry_words, operand_words, carry_code, signs_code, code_words};
@@ -19,9 +21,11 @@ use alpha_encode::registers::{
     TEMPORARIES,
 };
 use alpha_encode::{AlphaInstr, OperateOp, operate, operate_by};
-use micro_ops::{CodeSource, sources_of};
+use code_runs::rules_behind;
+use exception_records::{CodeRule, Rules};
+use micro_ops::{CodeSource, CodeSources, sources_of};
 use std::alloc::{AllocError, Global};
-use vax_form::{Flags, Operation, WantOfMemory};
+use vax_form::{Flags, Instr, WantOfMemory, operation_of};
 
 /// The temporaries that hold V and C where they have no rule.
 const COMPUTED_OVERFLOW: u8 = TEMPORARIES + 3;
@@ -34,6 +38,13 @@ const NEGATIVE_PLACE: u8 = 3;
 const ZERO_PLACE: u8 = 2;
 
 const OVERFLOW_PLACE: u8 = 1;
+
+const ALL_READY: Rules = Rules {
+    n: CodeRule::Ready,
+    z: CodeRule::Ready,
+    v: CodeRule::Ready,
+    c: CodeRule::Ready,
+};
 
 fn push_negative(words: &mut Vec<AlphaInstr>, source: CodeSource) -> Result<(), AllocError>
     ensures { OnOk result (words.new.items ≡ words.old.items ++ negative_words source) }
@@ -156,34 +167,51 @@ fn push_signs_code(
     Ok(())
 }
 
-fn code_words_of(
-    alloc: Global,
-    operation: Operation,
-    live: Flags,
-) -> Result<Vec<AlphaInstr>, AllocError>
-    ensures { IfOk result (λ words. words.items ≡ code_words (sources_of operation) live) }
+/// Where the codes of an instruction come from.
+#[tactic(auto, unfolding(code_runs::specs::Codes::code_sources))]
+fn code_sources(instr: &Instr) -> CodeSources
+    requires { IsSome (operation_at instr.now.opcode) }
+    ensures { result ≡ code_sources instr.now }
 {
-    let sources = sources_of(operation);
+    let Some(operation) = operation_of(instr.opcode) else {
+        unreachable!()
+    };
+    sources_of(operation)
+}
+
+// The words, and the rules behind them where all codes are ready before.
+fn words_and_rules(
+    alloc: Global,
+    sources: CodeSources,
+    live: Flags,
+) -> Result<(Vec<AlphaInstr>, Rules), AllocError>
+    ensures words { IfOk result (λ answer. answer.0.items ≡ code_words sources live) }
+    ensures rules { IfOk result (λ answer. answer.1 ≡ rules_behind sources live all_ready) }
+{
     let mut words = Vec::new(alloc);
     push_carry_code(&mut words, sources.c, live.c)?;
     push_signs_code(&mut words, sources.nzv, live)?;
-    Ok(words)
+    Ok((words, rules_behind(sources, live, ALL_READY)))
 }
 
-/// The words that leave the condition codes of an operation, of which some are live behind it. They find the operands of
-/// its rule in R21 and R22, the result, or a new PSW, in R23, and a computed V and C in R24 and R25.
+/// The words that leave the condition codes of an instruction, of which some are live behind it, and the rules behind it for
+/// each code that it writes. They find the operands of its rule in R21 and R22, the result, or a new PSW, in R23, and a
+/// computed V and C in R24 and R25.
 pub fn code_words(
     alloc: Global,
-    operation: Operation,
+    instr: &Instr,
     live: Flags,
-) -> Result<Vec<AlphaInstr>, WantOfMemory>
+) -> Result<(Vec<AlphaInstr>, Rules), WantOfMemory>
+    requires { IsSome (operation_at instr.now.opcode) }
     // Whatever rules the codes had before.
-    ensures leaves { IfOk result (λ words. (before : Rules) → LeavesCodes (sources_of operation) before (rules_behind (sources_of operation) live before) words.items) }
-    // A word writes a code's register exactly where the operation writes the code, and that is live or has no rule.
-    ensures writes { IfOk result (λ words. codes_written words.items ≡ codes_made (sources_of operation) live) }
-    ensures short { IfOk result (λ words. length words.items ≤ most_words) }
-    ensures encodable { IfOk result (λ words. All IsEncodable words.items) }
-    ensures words { IfOk result (λ words. words.items ≡ code_words (sources_of operation) live) }
+    ensures leaves { IfOk result (λ answer. (before : Rules) → LeavesCodes (code_sources instr.now) before (rules_behind (code_sources instr.now) live before) answer.0.items) }
+    // A word writes a code's register exactly where the instruction writes the code, and that is live or has no rule.
+    ensures writes { IfOk result (λ answer. codes_written answer.0.items ≡ codes_made (code_sources instr.now) live) }
+    ensures short { IfOk result (λ answer. length answer.0.items ≤ most_words) }
+    ensures encodable { IfOk result (λ answer. All IsEncodable answer.0.items) }
+    ensures words { IfOk result (λ answer. answer.0.items ≡ code_words (code_sources instr.now) live) }
+    // A code that it doesn't write is ready.
+    ensures rules { IfOk result (λ answer. answer.1 ≡ rules_behind (code_sources instr.now) live all_ready) }
 {
-    code_words_of(alloc, operation, live).map_err(|_| WantOfMemory)
+    words_and_rules(alloc, code_sources(instr), live).map_err(|_| WantOfMemory)
 }

@@ -4,6 +4,8 @@
 
 mod codes;
 mod instructions;
+mod laws;
 mod made;
 
 pub use codes::code_words;
+pub use laws::rule_law;

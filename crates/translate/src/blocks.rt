@@ -41,7 +41,7 @@ fn compiled_instr(
         unreachable!()
     };
     let program = program(alloc, instr)?;
-    let words = code_words(alloc, operation, codes.live)?;
+    let (words, _) = code_words(alloc, instr, codes.live)?;
     let sources = sources_of(operation);
     let block = block(
         alloc,

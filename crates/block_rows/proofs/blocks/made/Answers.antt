@@ -1,10 +1,15 @@
-use Rattle.std.proofs.Common.{◌≡◌, ◌∙◌, ℕ, ◌<◌, true, zero, suc, List, refl, sym, ap, subst, arith}
+use Rattle.std.proofs.Common.{◌≡◌, ◌∙◌, ℕ, ◌<◌, true, zero, suc, List, Option, Some, refl, sym, ap, subst, arith}
+use Rattle.std.specs.Option.{option_map_or}
+use Rattle.vax_form.specs.Operation.{operation_at}
+use Rattle.vax_form.specs.declared.operation.Operation.{Operation}
 use Rattle.alpha_encode.specs.declared.instr.AlphaInstr.{AlphaInstr}
 use Rattle.block_law.specs.CodeWords.{LeavesCodes}
+use Rattle.code_runs.specs.Codes.{code_sources}
 use Rattle.code_runs.specs.Rules.{rules_behind}
 use Rattle.exception_records.specs.Codes.{all_ready, is_ready}
 use Rattle.exception_records.specs.declared.rules.Rules.{Rules}
-use Rattle.micro_ops.specs.Sources.{sources_of}
+use Rattle.micro_ops.specs.Sources.{from, sources_of}
+use Rattle.micro_ops.specs.declared.codes.CodeSource.TheVariants.{Kept}
 use Rattle.micro_ops.specs.declared.codes.CodeSources.{CodeSources}
 use Rattle.program_codegen.specs.Programs.{rule_of}
 use Rattle.block_rows.proofs.blocks.made.Goals as goal
@@ -20,11 +25,13 @@ pub block-requires-clause-reads : goal.block-requires-clause-reads
 block-requires-clause-reads c flag small reads = each_is_ready flag small
 
 pub block-requires-clause-codes : goal.block-requires-clause-codes
+unfolding code_sources
 block-requires-clause-codes c =
-    let sources = c.sources_of-sources.result in
-    let live = c.args.live in
-    let behind : c.rules_behind-behind.result ≡ rules_behind (sources_of c.args.operation) live all_ready =
-    c.rules_behind-behind.ensures ∙ ap (λ (s : CodeSources). rules_behind s live all_ready) c.sources_of-sources.ensures in
-    subst (λ (words : List AlphaInstr). LeavesCodes sources all_ready c.rules_behind-behind.result words) (sym c.deref.ensures.value)
-    (subst (λ (s : CodeSources). LeavesCodes s all_ready c.rules_behind-behind.result c.in-Ok.words.items) (sym c.sources_of-sources.ensures)
-    (subst (λ (rules : Rules). LeavesCodes (sources_of c.args.operation) all_ready rules c.in-Ok.words.items) (sym behind) (c.in-Ok.ensures.leaves all_ready)))
+    let words = c.in-Ok.words.items in
+    let behind = c.in-Ok.behind in
+    let is : operation_at c.args.opcode ≡ Some c.in-Some.operation = sym c.operation_of.ensures ∙ c.in-Some.is in
+    let same : option_map_or sources_of (operation_at c.args.opcode) (from Kept Kept) ≡ c.sources_of-sources.result =
+    ap (λ (o : Option Operation). option_map_or sources_of o (from Kept Kept)) is ∙ sym c.sources_of-sources.ensures in
+    subst (λ (words : List AlphaInstr). LeavesCodes c.sources_of-sources.result all_ready behind words) (sym c.deref.ensures.value)
+    (subst (λ (rules : Rules). LeavesCodes c.sources_of-sources.result all_ready rules words) (sym c.in-Ok.ensures.rules)
+    (subst (λ (s : CodeSources). LeavesCodes s all_ready (rules_behind s c.args.live all_ready) words) same (c.in-Ok.ensures.leaves all_ready)))

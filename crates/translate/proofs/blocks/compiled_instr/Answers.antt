@@ -1,7 +1,6 @@
 use Rattle.std.proofs.Common.{◌≡◌, ◌∙◌, ℕ, List, [], Option, Some, map, refl, sym, ap, subst, All}
 use Rattle.std.specs.Prelude.{unwrap_or}
 use Rattle.vax_form.specs.Operation.{operation_at}
-use Rattle.micro_ops.specs.Sources.{sources_of}
 use Rattle.micro_ops.specs.declared.codes.CodeSources.{CodeSources}
 use Rattle.micro_ops.specs.declared.program.Micro.{Micro}
 use Rattle.alpha_encode.specs.declared.instr.AlphaInstr.{AlphaInstr}
@@ -10,8 +9,6 @@ use Rattle.block_law.specs.Blocks.{Exit}
 use Rattle.block_law.specs.CodeWords.{LeavesCodes}
 use Rattle.block_law.specs.Tidy.{codes_written}
 use Rattle.exception_records.specs.Blocks.{BlockValue}
-use Rattle.code_runs.specs.Rules.{rules_behind}
-use Rattle.flag_codegen.specs.Made.{codes_made}
 use Rattle.flag_codegen.specs.Words.{code_words}
 use Rattle.code_runs.specs.Codes.{code_sources}
 use Rattle.micro_ops.specs.Exits.{addresses_of}
@@ -29,13 +26,12 @@ pub block-requires-clause-codes : goal.block-requires-clause-codes
 block-requires-clause-codes c =
     let instr = c.args.instr.now in
     let codes = c.args.codes.now in
-    let operation = c.in-Some.operation in
-    let is : operation_at instr.opcode ≡ Some operation = sym c.operation_of.ensures ∙ c.in-Some.is in
-    let same = sources_are instr operation is in
-    let behind : codes.behind ≡ rules_behind (sources_of operation) codes.live codes.before = c.requires.ready.behind ∙ ap (λ (s : CodeSources). rules_behind s codes.live codes.before) same in
+    let words = c.in_ok-words.words.items in
+    let is : operation_at instr.opcode ≡ Some c.in-Some.operation = sym c.operation_of.ensures ∙ c.in-Some.is in
+    let same : code_sources instr ≡ c.sources_of-sources.result = sources_are instr c.in-Some.operation is ∙ sym c.sources_of-sources.ensures in
     subst (λ (words : List AlphaInstr). LeavesCodes c.sources_of-sources.result codes.before codes.behind words) (sym c.deref-2.ensures.value)
-    (subst (λ (s : CodeSources). LeavesCodes s codes.before codes.behind c.in_ok-words.words.items) (sym c.sources_of-sources.ensures)
-    (subst (λ (rules : Rules). LeavesCodes (sources_of operation) codes.before rules c.in_ok-words.words.items) (sym behind) (c.in_ok-words.ensures.leaves codes.before)))
+    (subst (λ (s : CodeSources). LeavesCodes s codes.before codes.behind words) same
+    (subst (λ (rules : Rules). LeavesCodes (code_sources instr) codes.before rules words) (sym c.requires.ready.behind) (c.in_ok-words.ensures.leaves codes.before)))
 
 pub block-requires-clause-reads : goal.block-requires-clause-reads
 block-requires-clause-reads c =
@@ -69,8 +65,7 @@ returns c =
     made.words
     ∙ ap (λ (p : List Micro). program_block instr c.sources_of-sources.result p c.deref-2.result.now codes.before codes.behind) c.deref.ensures.value
     ∙ ap (λ (words : List AlphaInstr). program_block instr c.sources_of-sources.result program words codes.before codes.behind) (c.deref-2.ensures.value ∙ c.in_ok-words.ensures.words)
-    ∙ ap (λ (s : CodeSources). program_block instr s program (code_words (sources_of operation) codes.live) codes.before codes.behind) same
-    ∙ ap (λ (s : CodeSources). program_block instr (code_sources instr) program (code_words s codes.live) codes.before codes.behind) (sym (sources_are instr operation is))
+    ∙ ap (λ (s : CodeSources). program_block instr s program (code_words (code_sources instr) codes.live) codes.before codes.behind) same
     ∙ ap (λ (o : Option (List Micro)). program_block instr (code_sources instr) (unwrap_or o []) (code_words (code_sources instr) codes.live) codes.before codes.behind) (sym c.in_ok-program.ensures.value) in
     record {
       value = ap (λ (b : BlockValue). (instr.at, b)) value;
@@ -82,7 +77,6 @@ returns c =
       written =
           made.written
           ∙ ap codes_written c.deref-2.ensures.value
-          ∙ c.in_ok-words.ensures.writes
-          ∙ ap (λ (s : CodeSources). codes_made s codes.live) (sym (sources_are instr operation is));
+          ∙ c.in_ok-words.ensures.writes;
       means = compiles instr program codes.before codes.behind block c.in_ok-program.ensures.lowered (built_translated instr c.requires.built) means;
     }
