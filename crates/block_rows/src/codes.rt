@@ -1,4 +1,6 @@
 // The codes that are shown behind an instruction, whichever are live and whichever were held.
+ghost use Rattle.std.specs.Prelude.{◌≡◌};
+
 use crate::bench::behind;
 use crate::machine::encoded;
 use crate::sets::{SETS, set};
@@ -120,7 +122,9 @@ impl Case {
 }
 
 /// An instruction with that opcode; its codes are the same whatever its operands.
-fn instr_of(opcode: u8) -> Instr {
+fn instr_of(opcode: u8) -> Instr
+    ensures { result.opcode ≡ opcode }
+{
     Instr {
         at: 0,
         opcode,
