@@ -7,6 +7,7 @@ pub mod Input
 pub mod Report
 pub mod Delivery
 pub mod Keeping
+pub mod Made
 pub mod Run
 pub mod Generate
 pub mod Vest

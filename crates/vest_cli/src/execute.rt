@@ -7,6 +7,7 @@ ghost use Rattle.tie_switch.specs.Processors.{processor_of};
 ghost use Rattle.tie_switch.specs.Settings.{image_setting};
 ghost use Rattle.vest_cli.specs.Threads.{HasRun};
 ghost use Rattle.vest_cli.specs.Keeping.{HasKept, running_of};
+ghost use Rattle.vest_cli.specs.Made.{HasMade};
 
 use crate::kept::Kept;
 use crate::threads::run_all;
@@ -22,6 +23,24 @@ use system_model::{Range, Translation};
 use tie_switch::Processor;
 use vest_files::Stop;
 use vt_outside::Gate;
+
+/// What is to run: an image and its translation, the input, the limits, and the addresses that threads interpret.
+#[derive(Drop)]
+pub struct Task {
+    pub image: Image,
+    pub translation: Translation,
+    pub taken: Vec<u8>,
+    pub limits: Limits,
+    pub ranges: Vec<Range>,
+}
+
+/// A task that ran, with the memory and the processors that it left.
+#[derive(Drop)]
+pub struct Run {
+    pub task: Task,
+    pub memory: MemState,
+    pub processors: Vec<Processor>,
+}
 
 // All that a run takes before its first step.
 fn set_up(alloc: Global, image: &Image, input: &[u8], limits: Limits) -> Result<Running, Stop>
@@ -59,62 +78,76 @@ fn made_ready<'a>(
     }
 }
 
-/// Takes all that a run needs, and makes it: from its first step on it takes no memory.
-pub fn execute<R: Threads + Wait + Sync, G: Gate + Sync>(
+// The memory and the processors that a run leaves.
+fn run_task<R: Threads + Wait + Sync, G: Gate + Sync>(
     rt: &R,
     alloc: Global,
-    image: &Image,
-    taken: &[u8],
-    translation: &Translation,
-    limits: Limits,
-    ranges: &[Range],
+    task: &Task,
     gate: &G,
 ) -> Result<(MemState, Vec<Processor>), Stop>
-    requires whole { IsWhole image.now }
-    requires meets { Meets (image_meaning image.now.pages) translation.now }
-    ensures set_up { IfOk result (λ r. r.0.set_up ≡ (running_of image.now taken.now limits).set_up) }
-    ensures ran { IfOk result (λ r. HasRun (image_setting image.now.pages translation.now ranges.now) (running_of image.now taken.now limits).set_up limits.budget r.0.history (map processor_of r.1.items)) }
+    requires whole { IsWhole task.now.image }
+    requires meets { Meets (image_meaning task.now.image.pages) task.now.translation }
+    ensures set_up { IfOk result (λ r. r.0.set_up ≡ (running_of task.now.image task.now.taken.items task.now.limits).set_up) }
+    ensures ran { IfOk result (λ r. HasRun (image_setting task.now.image.pages task.now.translation task.now.ranges.items)
+        (running_of task.now.image task.now.taken.items task.now.limits).set_up task.now.limits.budget r.0.history (map processor_of r.1.items)) }
     ensures err { IfErr result (λ stop. stop ≡ Stop.WantOfMemory) }
 {
-    let prepared = made_ready(alloc, image, translation)?;
-    let running = set_up(alloc, image, taken, limits)?;
+    let prepared = made_ready(alloc, &task.image, &task.translation)?;
+    let running = set_up(alloc, &task.image, &task.taken, task.limits)?;
     Ok(run_all(
         rt,
         running,
-        image,
-        taken,
-        translation,
+        &task.image,
+        &task.taken,
+        &task.translation,
         &prepared,
-        ranges,
+        &task.ranges,
         gate,
     ))
 }
 
-/// Keeps a run. It takes no memory.
-pub fn keep(
-    image: Image,
-    taken: Vec<u8>,
-    translation: Translation,
-    limits: Limits,
-    ranges: Vec<Range>,
-    memory: MemState,
-    processors: Vec<Processor>,
-    kept: &mut Kept,
-)
-    requires ran { HasRun (image_setting image.pages translation ranges.items) (running_of image taken.items limits).set_up limits.budget memory.history (map processor_of processors.items) }
-    ensures kept { HasKept image translation taken.items limits ranges.items kept.new }
-    ensures history { kept.new.history ≡ memory.history }
-    ensures processors { kept.new.processors ≡ processors.items }
+/// Takes all that a run needs, and makes it: from its first step on it takes no memory.
+pub fn execute<R: Threads + Wait + Sync, G: Gate + Sync>(
+    rt: &R,
+    alloc: Global,
+    task: Task,
+    gate: &G,
+) -> Result<Run, Stop>
+    requires whole { IsWhole task.image }
+    requires meets { Meets (image_meaning task.image.pages) task.translation }
+    ensures task { IfOk result (λ run. run.task ≡ task) }
+    ensures ran { IfOk result HasMade }
+    ensures err { IfErr result (λ stop. stop ≡ Stop.WantOfMemory) }
 {
-    *kept = Kept {
-        image: Some(image),
-        input: taken,
+    let (memory, processors) = run_task(rt, alloc, &task, gate)?;
+    Ok(Run {
+        task,
+        memory,
+        processors,
+    })
+}
+
+/// What is kept of a run. It takes no memory.
+pub fn kept_of(run: Run) -> Kept
+    requires { HasMade run }
+    ensures kept { HasKept run.task.image run.task.translation run.task.taken.items run.task.limits run.task.ranges.items result }
+    ensures history { result.history ≡ run.memory.history }
+    ensures processors { result.processors ≡ run.processors.items }
+{
+    let Run {
+        task,
+        memory,
+        processors,
+    } = run;
+    Kept {
+        image: Some(task.image),
+        input: task.taken,
         history: memory.take_history(),
         processors,
-        budget: limits.budget,
-        limit: limits.events,
-        miss: limits.miss,
-        translation: Some(translation),
-        ranges,
-    };
+        budget: task.limits.budget,
+        limit: task.limits.events,
+        miss: task.limits.miss,
+        translation: Some(task.translation),
+        ranges: task.ranges,
+    }
 }

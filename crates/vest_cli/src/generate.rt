@@ -1,13 +1,13 @@
 // The command `generate`.
-ghost use Rattle.std.specs.Prelude.{◌≡◌, ◌≤◌, IfOk, IfErr, [], length};
-ghost use Rattle.image_file.specs.Spelling.{spelling};
+ghost use Rattle.std.specs.Prelude.{◌≡◌, ◌≤◌, IfOk, IfErr, []};
+ghost use Rattle.image_file.specs.Whole.{IsWhole};
 ghost use Rattle.report_text.specs.Generated.{generated_image};
 ghost use Rattle.vest_files.specs.Stages.{IsTranslated};
-ghost use Rattle.vest_cli.specs.Generate.{Generates, lines_of, memory_sum};
+ghost use Rattle.vest_cli.specs.Generate.{Generates, default_limits, lines_of, memory_sum};
 ghost use Rattle.vest_cli.specs.Kept.{nothing_kept};
 
 use crate::deliver::deliver;
-use crate::execute::{execute, keep};
+use crate::execute::{Run, Task, execute, kept_of};
 use crate::kept::Kept;
 use command_words::Limits;
 use generated_flow::reaches_few;
@@ -62,13 +62,41 @@ fn memory_sum(memory: &MemState) -> u32
 }
 
 // What `out` takes.
-fn lines_of(number: u32, bytes: u64, translation: &Translation, memory: &MemState) -> Line
+fn lines_of(number: u32, run: &Run) -> Line
     requires few { number ≤ MOST_GROUPS }
-    requires bytes { bytes ≡ length (spelling (generated_image number)) }
-    ensures { result ≡ lines_of number translation.now memory.now.set_up memory.now.history }
+    ensures { result ≡ lines_of number run.now.task.translation run.now.memory.set_up run.now.memory.history }
 {
-    let mapped = translation.map.pairs().len() as u64;
-    generated_lines(number, bytes, mapped, memory_sum(memory))
+    let translation = &run.task.translation;
+    let map = &translation.map;
+    let mapped = map.pairs().len() as u64;
+    generated_lines(
+        number,
+        generated_bytes(number),
+        mapped,
+        memory_sum(&run.memory),
+    )
+}
+
+// What `generate` runs: the number's image with its translation, without input, within the default limits.
+fn task_of(alloc: Global, number: u32) -> Result<Task, Stop>
+    requires { number ≤ MOST_GROUPS }
+    ensures image { IfOk result (λ task. task.image ≡ generated_image number) }
+    ensures whole { IfOk result (λ task. IsWhole task.image) }
+    ensures translated { IfOk result (λ task. IsTranslated (generated_image number) [] task.translation) }
+    ensures taken { IfOk result (λ task. task.taken.items ≡ []) }
+    ensures limits { IfOk result (λ task. task.limits ≡ default_limits) }
+    ensures ranges { IfOk result (λ task. task.ranges.items ≡ []) }
+    ensures err { IfErr result (λ stop. stop ≡ Stop.WantOfMemory) }
+{
+    let image = generated(alloc, number)?;
+    let translation = translated(alloc, number, &image)?;
+    Ok(Task {
+        image,
+        translation,
+        taken: Vec::new(alloc),
+        limits: DEFAULT_LIMITS,
+        ranges: Vec::new(alloc),
+    })
 }
 
 /// Runs the image that is generated for a number, without input, within the default limits. From the first step on it takes
@@ -90,30 +118,10 @@ pub fn generate<R: Threads + Wait + Sync, K: Sink, E: Sink, G: Gate + Sync>(
     ensures unsaid { IfErr result (λ _. E.meaning report.new ≡ E.meaning report.old) }
     ensures unkept { IfErr result (λ _. kept.new ≡ nothing_kept) }
 {
-    let image = generated(alloc, number)?;
-    let translation = translated(alloc, number, &image)?;
-    let bytes = generated_bytes(number);
-    let (memory, processors) = execute(
-        rt,
-        alloc,
-        &image,
-        &[],
-        &translation,
-        DEFAULT_LIMITS,
-        &[],
-        gate,
-    )?;
-    let lines = lines_of(number, bytes, &translation, &memory);
-    let done = deliver(lines.as_slice(), &processors, out, report);
-    keep(
-        image,
-        Vec::new(alloc),
-        translation,
-        DEFAULT_LIMITS,
-        Vec::new(alloc),
-        memory,
-        processors,
-        kept,
-    );
+    let task = task_of(alloc, number)?;
+    let run = execute(rt, alloc, task, gate)?;
+    let lines = lines_of(number, &run);
+    let done = deliver(lines.as_slice(), &run.processors, out, report);
+    *kept = kept_of(run);
     Ok(done)
 }

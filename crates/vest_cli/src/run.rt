@@ -1,13 +1,19 @@
 // The command `run`.
 ghost use Rattle.std.specs.Prelude.{◌≡◌, IfOk, IfErr, map};
+ghost use Rattle.block_law.specs.Translations.{Meets};
+ghost use Rattle.image_file.specs.Whole.{IsWhole};
+ghost use Rattle.image_meaning.specs.Meant.{image_meaning};
+ghost use Rattle.vest_cli.specs.Input.{ReadsAll};
 ghost use Rattle.vest_cli.specs.Kept.{nothing_kept};
 ghost use Rattle.vest_cli.specs.Lent.{lent};
 ghost use Rattle.vest_cli.specs.Stopping.{LeavesAll};
 ghost use Rattle.vest_cli.specs.Run.{DecidesRun, Runs, StopsRun, range_of};
 ghost use Rattle.vest_files.specs.Decided.{Decision, IsDecided};
+ghost use Rattle.vest_files.specs.Loading.{Loads};
+ghost use Rattle.vest_files.specs.Stages.{SameFiles};
 
 use crate::deliver::deliver;
-use crate::execute::{execute, keep};
+use crate::execute::{Task, execute, kept_of};
 use crate::input::read_input;
 use crate::kept::Kept;
 use command_words::Limits;
@@ -15,7 +21,7 @@ use std::alloc::{AllocError, Global};
 use std::sync::Wait;
 use std::thread::Threads;
 use system_model::Range;
-use vest_files::{Done, Stop, load};
+use vest_files::{Done, Loaded, Stop, load};
 use vt_outside::{Desk, Gate, Sink, Source};
 
 // The addresses that threads interpret, of the words.
@@ -33,6 +39,42 @@ fn range_of(range: command_words::Range) -> Range
         first: range.first,
         last: range.last,
     }
+}
+
+// What `run` runs: the file's image with its translation, on all the input.
+fn task_of<D: Desk, I: Source>(
+    alloc: Global,
+    name: &str,
+    limits: Limits,
+    ranges: &[command_words::Range],
+    desk: &mut D,
+    input: &mut I,
+) -> Result<Task, Stop>
+    ensures loads { IfOk result (λ task. Loads (D.meaning desk.old).files name.now task.image task.translation) }
+    ensures whole { IfOk result (λ task. IsWhole task.image) }
+    ensures meets { IfOk result (λ task. Meets (image_meaning task.image.pages) task.translation) }
+    ensures reads { IfOk result (λ task. ReadsAll (I.meaning input.old) (I.meaning input.new) task.taken.items) }
+    ensures limits { IfOk result (λ task. task.limits ≡ limits) }
+    ensures ranges { IfOk result (λ task. task.ranges.items ≡ map range_of ranges.now) }
+    ensures why { IfErr result (λ stop. StopsRun stop name.now
+        (D.meaning desk.old) (D.meaning desk.new) (I.meaning input.old) (I.meaning input.new)) }
+    ensures desk { SameFiles (D.meaning desk.old) (D.meaning desk.new) }
+    ensures decided { (decision : Decision) → DecidesRun (D.meaning desk.old).files name.now (I.meaning input.old).left decision
+        → IsDecided result decision }
+{
+    let Loaded { image, translation } = match load(alloc, desk, name) {
+        Ok(loaded) => loaded,
+        Err(stop) => return Err(stop),
+    };
+    let taken = read_input(alloc, input)?;
+    let ranges = ranges_of(alloc, ranges)?;
+    Ok(Task {
+        image,
+        translation,
+        taken,
+        limits,
+        ranges,
+    })
 }
 
 /// Runs the image of a file on all the input, within the limits; threads interpret the ranges of addresses. From the first
@@ -64,32 +106,9 @@ pub fn run<R: Threads + Wait + Sync, D: Desk, I: Source, K: Sink, E: Sink, G: Ga
     ensures decided { (decision : Decision) → DecidesRun (D.meaning desk.old).files name.now (I.meaning input.old).left decision
         → IsDecided result decision }
 {
-    let loaded = match load(alloc, desk, name) {
-        Ok(loaded) => loaded,
-        Err(stop) => return Err(stop),
-    };
-    let taken = read_input(alloc, input)?;
-    let ranges = ranges_of(alloc, ranges)?;
-    let (memory, processors) = execute(
-        rt,
-        alloc,
-        &loaded.image,
-        &taken,
-        &loaded.translation,
-        limits,
-        &ranges,
-        gate,
-    )?;
-    let done = deliver(memory.output(), &processors, out, report);
-    keep(
-        loaded.image,
-        taken,
-        loaded.translation,
-        limits,
-        ranges,
-        memory,
-        processors,
-        kept,
-    );
+    let task = task_of(alloc, name, limits, ranges, desk, input)?;
+    let run = execute(rt, alloc, task, gate)?;
+    let done = deliver(run.memory.output(), &run.processors, out, report);
+    *kept = kept_of(run);
     Ok(done)
 }

@@ -1,9 +1,9 @@
--- What the files and the input decide on a run.
+-- What the files and the input decide on what is to run.
 use Rattle.std.proofs.Common.{◌≡◌, IfErr, IfOk, inl, rules}
 use Rattle.vest_files.specs.Decided.{goes_on}
 use Rattle.vest_cli.specs.Run.{StopsRun}
 use Rattle.vest_cli.proofs.Deciding.{run_decided, run_stops, runs_on}
-use Rattle.vest_cli.proofs.run.run.Goals as goal
+use Rattle.vest_cli.proofs.run.task_of.Goals as goal
 
 pub returns-in-Err-clause-decided : goal.returns-in-Err-clause-decided
 returns-in-Err-clause-decided g c = λ d e.
