@@ -49,18 +49,33 @@ fn again_text(alloc: Global, file: &[u8]) -> Result<String> {
     Ok(String::from_str(alloc, if again { "yes" } else { "no" })?)
 }
 
+/// What a kind of question asks of the file of a generated image.
+fn file_text(alloc: Global, kind: &str, file: &[u8]) -> Result<String> {
+    Ok(match kind {
+        "length" => format!(in alloc; "{}", file.len())?,
+        "file" => hex::encode_upper(alloc, file)?,
+        "sum" => format!(in alloc; "{:X}", sum_of(file))?,
+        "again" => again_text(alloc, file)?,
+        _ => bail!("no question: {kind}"),
+    })
+}
+
+fn number_of(text: &str) -> Result<u32>
+    ensures { IfOk result (λ number. number ≤ MOST_GROUPS) }
+{
+    let number = longword(text)?;
+    ensure!(number <= MOST_GROUPS, "no generated image");
+    Ok(number)
+}
+
 /// Answers `length NUMBER`, `counted NUMBER`, `file NUMBER`, `sum NUMBER` and `again NUMBER`.
 pub fn answer(alloc: Global, _given: &Given<'_>, question: &str) -> Result<String> {
     let (kind, number) = question.split_once(' ').context("a number")?;
-    let number = longword(number)?;
-    ensure!(number <= MOST_GROUPS, "no generated image");
-    let file = file_of(alloc, &image_of(alloc, number)?)?;
-    Ok(match kind {
-        "length" => format!(in alloc; "{}", file.len())?,
-        "counted" => format!(in alloc; "{}", generated_bytes(number))?,
-        "file" => hex::encode_upper(alloc, file.as_slice())?,
-        "sum" => format!(in alloc; "{:X}", sum_of(&file))?,
-        "again" => again_text(alloc, &file)?,
-        _ => bail!("no question: {kind}"),
-    })
+    let number = number_of(number)?;
+    if kind == "counted" {
+        return Ok(format!(in alloc; "{}", generated_bytes(number))?);
+    }
+    let image = image_of(alloc, number)?;
+    let file = file_of(alloc, &image)?;
+    file_text(alloc, kind, &file)
 }

@@ -117,16 +117,28 @@ fn answer_of(alloc: Global, memory: &MemState, question: &str) -> Result<String>
     })
 }
 
-/// Answers `replies`, `output`, `entries`, `entry PLACE` and `page ADDRESS`.
-pub fn answer(alloc: Global, given: &Given<'_>, question: &str) -> Result<String> {
-    let image = image_of(alloc, given.sample)?;
-    let (miss, rest) = given.beside.split_once(' ').context("a limit")?;
+/// The numbers and the accesses of a history: the miss number, the limit, and the accesses.
+fn history_of(beside: &str) -> Result<(u16, u32, &str)> {
+    let (miss, rest) = beside.split_once(' ').context("a limit")?;
     let (limit, accesses) = rest.split_once(' ').unwrap_or((rest, ""));
-    let (limit, miss) = (longword(limit)?, u16::try_from(longword(miss)?)?);
-    let mut memory = memory_of(alloc, &image, limit, miss)?;
-    let replies = replies_of(alloc, &image, &mut memory, accesses)?;
+    Ok((u16::try_from(longword(miss)?)?, longword(limit)?, accesses))
+}
+
+/// What a memory of an image answers behind a history.
+fn answer_behind(alloc: Global, image: &Image, beside: &str, question: &str) -> Result<String>
+    requires { IsWhole image.now }
+{
+    let (miss, limit, accesses) = history_of(beside)?;
+    let mut memory = memory_of(alloc, image, limit, miss)?;
+    let replies = replies_of(alloc, image, &mut memory, accesses)?;
     if question == "replies" {
         return Ok(String::from_str(alloc, replies.as_str().trim_start())?);
     }
     answer_of(alloc, &memory, question)
+}
+
+/// Answers `replies`, `output`, `entries`, `entry PLACE` and `page ADDRESS`.
+pub fn answer(alloc: Global, given: &Given<'_>, question: &str) -> Result<String> {
+    let image = image_of(alloc, given.sample)?;
+    answer_behind(alloc, &image, given.beside, question)
 }
