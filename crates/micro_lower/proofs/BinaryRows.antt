@@ -48,7 +48,8 @@ use Rattle.micro_ops.specs.Sources.{sources_of_binary}
 use Rattle.micro_ops.specs.Values.{bits_of, signed}
 use Rattle.micro_ops.specs.declared.codes.CodeSource.TheVariants.{Add, Computed, Zero}
 use Rattle.micro_lower.specs.Rows.{divides, micro_of, behind_binary, convert_plan, two_operands_plan, three_operands_plan, by_one_plan}
-use Rattle.micro_lower.proofs.Fitting.{does_differ, signed_wide, signed_small, low_of, value_below, product_wide, product_small, product_low}
+use Rattle.micro_lower.proofs.Fitting.{does_differ, value_below, product_wide, product_small, product_low}
+use Rattle.micro_lower.proofs.Overflow.{signed_wide, signed_small, low_of}
 use Rattle.micro_lower.proofs.Given.{replaces_as}
 use Rattle.micro_lower.proofs.MoveRows.{narrow_width}
 use Rattle.micro_lower.proofs.Planned.{only_modify, read_and_modify, read_twice_and_write}

@@ -33,7 +33,6 @@ use Rattle.std.specs.Prelude.{nat_lt, bit_xor, not}
 use Rattle.std.proofs.lemmas.Nat.{and_mask}
 use Rattle.micro_lower.proofs.Overflow.{flipped}
 use Rattle.std.specs.Prelude.{if◌then◌else◌}
-use Rattle.std.proofs.lemmas.Int.{ints}
 use Rattle.vt_words.specs.Arithmetic.{sum_of}
 use Rattle.vt_words.specs.Quad.{sign_extended}
 use Rattle.micro_ops.specs.declared.codes.CodeSource.TheVariants.{Computed}
@@ -41,7 +40,7 @@ use Rattle.micro_lower.proofs.Given.{replaces_as}
 use Rattle.std.proofs.lemmas.Nat.{mod_below}
 use Rattle.micro_lower.proofs.Given.{carry_is}
 use Rattle.micro_lower.proofs.Ready.{ReadyFor}
-use Rattle.micro_lower.proofs.Overflow.{extended_below}
+use Rattle.micro_lower.proofs.Overflow.{extended_below, sum_overflows_with, difference_overflows_with}
 use Rattle.std.specs.Prelude.{bit_or}
 use Rattle.std.proofs.lemmas.Bool.Decides.{eqb_tells}
 use Rattle.std.specs.Int.Bits.{or_comm, or_self}
@@ -63,18 +62,6 @@ sum_with a b false = omega arith
 difference_with : (a b : ℕ) (c : Bool) → ((a % 4294967296 + (4294967296 - b % 4294967296)) % 4294967296 % 4294967296 + (4294967296 - bit c % 4294967296)) % 4294967296 ≡ (a % 4294967296 + 4294967296 - (b % 4294967296 + bit c)) % 4294967296
 difference_with a b true = omega arith
 difference_with a b false = omega arith
-
-sum_overflows_with : (a b : ℕ) (c : Bool) → a < 2 ^ 32 → b < 2 ^ 32
-    → (sum_of 4 a b c).v ≡ not (((sign_extended a 32 + sign_extended b 32) % 2 ^ 64 + bit c) % 2 ^ 64 == sign_extended ((a + b + bit c) % 2 ^ 32) 32)
-unfolding sum_of
-sum_overflows_with a b true lt lt' = grind (arith, nat_tests, ints)
-sum_overflows_with a b false lt lt' = grind (arith, nat_tests, ints)
-
-difference_overflows_with : (a b : ℕ) (c : Bool) → a < 2 ^ 32 → b < 2 ^ 32
-    → (difference_of 4 a b c).v ≡ not (((sign_extended a 32 + (2 ^ 64 - sign_extended b 32)) % 2 ^ 64 + (2 ^ 64 - bit c)) % 2 ^ 64 == sign_extended ((a + 2 ^ 32 - (b + bit c)) % 2 ^ 32) 32)
-unfolding difference_of
-difference_overflows_with a b true lt lt' = grind (arith, nat_tests, ints)
-difference_overflows_with a b false lt lt' = grind (arith, nat_tests, ints)
 
 sum_carries_with : (a b : ℕ) (c : Bool) → a < 2 ^ 32 → b < 2 ^ 32 → (a + b + bit c) / 2 ^ 32 ≡ bit (nat_le (2 ^ 32) (a + b + bit c))
 sum_carries_with a b true lt lt' = grind (arith, nat_tests)
@@ -133,7 +120,7 @@ module _ (instr : Instr) (state : VaxState) (pages : Pages) (thread : ℕ) (temp
       ∙ ap (λ n. bit_xor (bit (z == n) % 2 ^ 8) 1) (extension_of r)
       ∙ ap (λ n. bit_xor (bit (z == sign_extended n 32) % 2 ^ 8) 1) (mod-eq_of_lt (low_below Long (a + b + bit c)))
       ∙ flipped _
-      ∙ ap bit (sym (sum_overflows_with a b c (low_below Long _) (low_below Long _)))
+      ∙ ap bit (sym (sum_overflows_with Long a b c tt (low_below Long _) (low_below Long _)))
 
   sum_c : effect (add_with_carry_plan instr).behind (found_at state instr.after) with_sum 4 ≡ bit (sum_of 4 a b c).c
   unfolding value_from sum_of
@@ -202,7 +189,7 @@ module _ (instr : Instr) (state : VaxState) (pages : Pages) (thread : ℕ) (temp
       ∙ ap (λ n. bit_xor (bit (z == n) % 2 ^ 8) 1) (extension_of r)
       ∙ ap (λ n. bit_xor (bit (z == sign_extended n 32) % 2 ^ 8) 1) (mod-eq_of_lt (low_below Long (a' + 2 ^ 32 - (b' + bit c'))))
       ∙ flipped _
-      ∙ ap bit (sym (difference_overflows_with a' b' c' (low_below Long _) (low_below Long _)))
+      ∙ ap bit (sym (difference_overflows_with Long a' b' c' tt (low_below Long _) (low_below Long _)))
 
   difference_c : effect (subtract_with_carry_plan instr).behind (found_at state instr.after) with_difference 4 ≡ bit (difference_of 4 a' b' c').c
   unfolding value_from difference_of

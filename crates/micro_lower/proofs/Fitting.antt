@@ -1,4 +1,4 @@
--- An integer is a two's complement number of some bytes exactly where the extension of its low bytes is itself.
+-- The test by which a program finds whether an integer fits a size, and products as quadwords.
 use Rattle.std.proofs.Common.{◌≡◌, ℕ, ◌*◌, ◌%◌, ◌^◌, ◌<◌, ◌≤◌, refl, sym, ap, ◌∙◌, arith, lit<}
 use Rattle.std.specs.Prelude.{◌==◌, ℤ, pos, negsuc, ◌*ℤ◌, not, bit_xor, unsigned_abs}
 use Rattle.std.specs.Int.{cast_signed, cast_unsigned, w64, int_wrap}
@@ -12,46 +12,7 @@ use Rattle.vax_form.specs.declared.instr.Size.TheVariants.{Byte, Word, Long, Qua
 use Rattle.vt_words.specs.Quad.{sign_extended}
 use Rattle.vt_words.specs.Values.{value_of, fits, bit}
 use Rattle.micro_ops.specs.Values.{limit_of, bits_of, signed}
-use Rattle.micro_lower.proofs.Overflow.{IsNarrow, extended_below, flipped, low_below}
-
-module _ (n : ℕ) (small : n < 2 ^ 63) where
-  byte_up : fits 1 (pos n) ≡ (sign_extended (value_of 1 (pos n)) 8 == value_of 8 (pos n))
-  byte_up = grind (arith, nat_tests, ints)
-
-  byte_down : fits 1 (negsuc n) ≡ (sign_extended (value_of 1 (negsuc n)) 8 == value_of 8 (negsuc n))
-  byte_down = grind (arith, nat_tests, ints)
-
-  word_up : fits 2 (pos n) ≡ (sign_extended (value_of 2 (pos n)) 16 == value_of 8 (pos n))
-  word_up = grind (arith, nat_tests, ints)
-
-  word_down : fits 2 (negsuc n) ≡ (sign_extended (value_of 2 (negsuc n)) 16 == value_of 8 (negsuc n))
-  word_down = grind (arith, nat_tests, ints)
-
-  long_up : fits 4 (pos n) ≡ (sign_extended (value_of 4 (pos n)) 32 == value_of 8 (pos n))
-  long_up = grind (arith, nat_tests, ints)
-
-  long_down : fits 4 (negsuc n) ≡ (sign_extended (value_of 4 (negsuc n)) 32 == value_of 8 (negsuc n))
-  long_down = grind (arith, nat_tests, ints)
-
-pub fits_where : (size : Size) (x : ℤ) → IsNarrow size → unsigned_abs x < 2 ^ 63 → fits (bytes_of size) x ≡ (sign_extended (value_of (bytes_of size) x) (bits_of size) == value_of 8 x)
-fits_where Byte (pos n) narrow small = byte_up n (omega (arith, small))
-fits_where Byte (negsuc n) narrow small = byte_down n (omega (arith, small))
-fits_where Word (pos n) narrow small = word_up n (omega (arith, small))
-fits_where Word (negsuc n) narrow small = word_down n (omega (arith, small))
-fits_where Long (pos n) narrow small = long_up n (omega (arith, small))
-fits_where Long (negsuc n) narrow small = long_down n (omega (arith, small))
-fits_where Quad x narrow small = absurd narrow
-
--- the low bytes of the low quadword
-pub low_of : (size : Size) (x : ℤ) → value_of (bytes_of size) x ≡ value_of 8 x % limit_of size
-low_of Byte (pos n) = omega arith
-low_of Byte (negsuc n) = omega arith
-low_of Word (pos n) = omega arith
-low_of Word (negsuc n) = omega arith
-low_of Long (pos n) = omega arith
-low_of Long (negsuc n) = omega arith
-low_of Quad (pos n) = omega arith
-low_of Quad (negsuc n) = omega arith
+use Rattle.micro_lower.proofs.Overflow.{IsNarrow, extended_below, extended_low, fits_where, flipped, low_below, low_of, signed_small, turned}
 
 pub value_below : (size : Size) (x : ℤ) → value_of (bytes_of size) x < limit_of size
 value_below size x = rw (low_of size x) (low_below size _)
@@ -70,22 +31,6 @@ does_differ size x y r narrow small wide low =
     ∙ ap (λ n. bit_xor (bit (value_of 8 x == n) % 2 ^ 8) 1) (ap (λ n. sign_extended n (bits_of size) % 2 ^ 64) (mod-eq_of_lt below) ∙ mod-eq_of_lt (extended_below size v below))
     ∙ flipped _
     ∙ ap (λ b. bit (not b)) (turned (value_of 8 x) (sign_extended v (bits_of size)) ∙ sym (fits_where size x narrow small))
-  where
-    turned : (a b : ℕ) → (a == b) ≡ (b == a)
-    turned a b = grind (arith, nat_tests)
-
--- ---- signed numbers
-pub signed_wide : (size : Size) (v : ℕ) → v < limit_of size → value_of 8 (signed size v) ≡ sign_extended v (bits_of size)
-signed_wide Byte v lt = grind (arith, nat_tests, ints)
-signed_wide Word v lt = grind (arith, nat_tests, ints)
-signed_wide Long v lt = grind (arith, nat_tests, ints)
-signed_wide Quad v lt = grind (arith, nat_tests, ints)
-
-pub signed_small : (size : Size) (v : ℕ) → IsNarrow size → v < limit_of size → unsigned_abs (signed size v) ≤ 2 ^ 31
-signed_small Byte v narrow lt = grind (arith, nat_tests, ints)
-signed_small Word v narrow lt = grind (arith, nat_tests, ints)
-signed_small Long v narrow lt = grind (arith, nat_tests, ints)
-signed_small Quad v narrow lt = absurd narrow
 
 extended_is : (size : Size) (v : ℕ) → v < limit_of size → cast_signed w64 (sign_extended v (bits_of size)) ≡ signed size v
 extended_is Byte v lt = grind (arith, nat_tests, ints)
@@ -114,12 +59,6 @@ low_of_quad Byte n = omega arith
 low_of_quad Word n = omega arith
 low_of_quad Long n = omega arith
 low_of_quad Quad n = omega arith
-
-pub extended_low : (size : Size) (v : ℕ) → v < limit_of size → sign_extended v (bits_of size) % limit_of size ≡ v
-extended_low Byte v lt = grind (arith, nat_tests)
-extended_low Word v lt = grind (arith, nat_tests)
-extended_low Long v lt = grind (arith, nat_tests)
-extended_low Quad v lt = grind (arith, nat_tests)
 
 pub product_low : (size : Size) (a b : ℕ) → a < limit_of size → b < limit_of size → value_of (bytes_of size) (signed size a *ℤ signed size b) ≡ a * b % limit_of size
 product_low size a b first second =

@@ -66,7 +66,7 @@ use Rattle.std.proofs.lemmas.Nat.{mod_below}
 use Rattle.micro_ops.specs.Meaning.{with_temp}
 use Rattle.micro_lower.proofs.Given.{carry_is}
 use Rattle.micro_lower.proofs.Ready.{ReadyFor}
-use Rattle.micro_lower.proofs.Overflow.{extended_below}
+use Rattle.micro_lower.proofs.Overflow.{extended_below, sum_overflows}
 use Rattle.micro_lower.proofs.Planned.{both, after_modify}
 
 -- ---- shapes
@@ -119,13 +119,14 @@ up_overflows : (x : ℕ) → x < 2 ^ 32 → (sum_of 4 x 1 false).v ≡ ((x + 1 +
 unfolding sum_of
 up_overflows x lt = grind (arith, nat_tests, ints)
 
+-- the addend on the other side
+moved : (e f g : ℕ) → e < 2 ^ 64 → f < 2 ^ 64 → g < 2 ^ 64 → ((e + f) % 2 ^ 64 == g) ≡ ((g + (2 ^ 64 - f)) % 2 ^ 64 == e)
+moved e f g lt lt' lt'' = grind (arith, nat_tests)
+
 by_overflows : (size : Size) (old addend : ℕ) → IsNarrow size → old < limit_of size → addend < limit_of size
     → (sum_of (bytes_of size) old addend false).v ≡ not ((sign_extended ((old + addend + 0) % limit_of size) (bits_of size) + (2 ^ 64 - sign_extended addend (bits_of size))) % 2 ^ 64 == sign_extended old (bits_of size))
-unfolding sum_of
-by_overflows Byte old addend narrow lt lt' = grind (arith, nat_tests, ints)
-by_overflows Word old addend narrow lt lt' = grind (arith, nat_tests, ints)
-by_overflows Long old addend narrow lt lt' = grind (arith, nat_tests, ints)
-by_overflows Quad old addend narrow lt lt' = absurd narrow
+by_overflows size old addend narrow lt lt' =
+    sum_overflows size old addend narrow lt lt' ∙ ap not (moved _ _ _ (extended_below size old lt) (extended_below size addend lt') (extended_below size _ (low_below size _)))
 
 taken_back : (size : Size) (old addend : ℕ) → old < limit_of size → addend < limit_of size
     → (sign_extended ((old + addend + 0) % limit_of size) (bits_of size) + (2 ^ 64 - sign_extended addend (bits_of size))) % 2 ^ 64 % limit_of size ≡ old

@@ -43,7 +43,8 @@ use Rattle.micro_lower.specs.Plans.{rest_program}
 use Rattle.micro_lower.specs.Rows.{product_program, extended_multiply_plan, extended_multiply_program}
 use Rattle.micro_lower.proofs.Coding.{plain_end}
 use Rattle.micro_lower.proofs.Endings.{found_at, with, DoesSo}
-use Rattle.micro_lower.proofs.Fitting.{product_wide, signed_wide, value_below}
+use Rattle.micro_lower.proofs.Fitting.{product_wide, value_below}
+use Rattle.micro_lower.proofs.Overflow.{signed_wide}
 use Rattle.micro_lower.proofs.Given.{gives_as}
 use Rattle.micro_lower.proofs.Overflow.{extended_below, low_below}
 use Rattle.micro_lower.proofs.Plain.{Does}

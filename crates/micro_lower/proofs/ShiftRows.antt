@@ -27,7 +27,8 @@ use Rattle.operand_programs.specs.Results.{IsGivable}
 use Rattle.micro_lower.specs.Plans.{steps_of}
 use Rattle.micro_lower.specs.Rows.{arithmetic_shift_plan}
 use Rattle.micro_lower.proofs.Endings.{found_at}
-use Rattle.micro_lower.proofs.Fitting.{fits_where, low_of, value_below, signed_small, product_wide}
+use Rattle.micro_lower.proofs.Fitting.{value_below, product_wide}
+use Rattle.micro_lower.proofs.Overflow.{fits_where, low_of, signed_small}
 use Rattle.micro_lower.proofs.Given.{coded_end_of, gives_as}
 use Rattle.micro_lower.proofs.Overflow.{extended_below, flipped, low_below, negative_is}
 use Rattle.micro_lower.proofs.Planned.{AllDo, BodyDoes, read_twice_and_write}
