@@ -2,24 +2,24 @@
 // VAX Architecture Reference Manual, "Integer Arithmetic and Logical Instructions".
 ghost use Rattle.std.specs.Prelude.{◌≡◌, ◌≤◌, IfOk, length};
 ghost use Rattle.vax_form.specs.Size.{size_of};
-ghost use Rattle.micro_ops.specs.Sources.{sources_of};
 ghost use Rattle.micro_lower.specs.Plans.{plan_of, program_of};
 ghost use Rattle.micro_lower.specs.Rows.{compare_plan, test_plan, bit_test_plan, micro_of, behind_binary, two_operands_plan, three_operands_plan, by_one_plan, add_with_carry_plan, subtract_with_carry_plan, word_added, aligned_slot, aligned_reference, add_aligned_plan, overflow_of_shift, arithmetic_shift_plan, rotate_plan};
 
 use crate::micros::{binary, unary};
 use crate::plans::{Plan, Slot, Target, assemble};
 use crate::rows::{inverted, modified, operand, overflow_by, read, register_target, written};
-use micro_ops::{Arg, CodeSources, Exit, LockedOp, Micro, MicroOp, sources_of};
+use micro_ops::{Arg, CodeSources, Exit, LockedOp, Micro, MicroOp};
 use std::alloc::Global;
-use vax_form::{BinaryOperation, Instr, Operand, Operation, Size, WantOfMemory, Width};
+use vax_form::{BinaryOperation, Instr, Operand, Size, WantOfMemory, Width};
 
 /// CMP.
 pub(crate) fn compare(
     alloc: Global,
+    codes: CodeSources,
     instr: &Instr,
     width: Width,
 ) -> Result<Vec<Micro>, WantOfMemory>
-    ensures { IfOk result (λ p. p.items ≡ program_of (sources_of (Operation.Compare width)) (compare_plan width) instr.now) }
+    ensures { IfOk result (λ p. p.items ≡ program_of codes (compare_plan width) instr.now) }
 {
     let plan = Plan {
         slots: &[read(width.size(), 0, 1), read(width.size(), 1, 2)],
@@ -28,17 +28,17 @@ pub(crate) fn compare(
         behind: &[],
         exit: Exit::Next,
     };
-    let codes = sources_of(Operation::Compare(width));
     assemble(alloc, codes, plan, instr)
 }
 
 /// TST.
 pub(crate) fn test_value(
     alloc: Global,
+    codes: CodeSources,
     instr: &Instr,
     width: Width,
 ) -> Result<Vec<Micro>, WantOfMemory>
-    ensures { IfOk result (λ p. p.items ≡ program_of (sources_of (Operation.Test width)) (test_plan width) instr.now) }
+    ensures { IfOk result (λ p. p.items ≡ program_of codes (test_plan width) instr.now) }
 {
     let plan = Plan {
         slots: &[read(width.size(), 0, 1)],
@@ -47,16 +47,17 @@ pub(crate) fn test_value(
         behind: &[unary(2, MicroOp::Move, width.size(), Arg::Temp(0))],
         exit: Exit::Next,
     };
-    assemble(alloc, sources_of(Operation::Test(width)), plan, instr)
+    assemble(alloc, codes, plan, instr)
 }
 
 /// BIT.
 pub(crate) fn bit_test(
     alloc: Global,
+    codes: CodeSources,
     instr: &Instr,
     width: Width,
 ) -> Result<Vec<Micro>, WantOfMemory>
-    ensures { IfOk result (λ p. p.items ≡ program_of (sources_of (Operation.BitTest width)) (bit_test_plan width) instr.now) }
+    ensures { IfOk result (λ p. p.items ≡ program_of codes (bit_test_plan width) instr.now) }
 {
     let size = width.size();
     let plan = Plan {
@@ -69,7 +70,6 @@ pub(crate) fn bit_test(
         ],
         exit: Exit::Next,
     };
-    let codes = sources_of(Operation::BitTest(width));
     assemble(alloc, codes, plan, instr)
 }
 
@@ -149,11 +149,12 @@ fn assemble_binary(
 /// ADD2, SUB2, MUL2, BIS2, BIC2, XOR2.
 pub(crate) fn two_operands(
     alloc: Global,
+    codes: CodeSources,
     instr: &Instr,
     operation: BinaryOperation,
     width: Width,
 ) -> Result<Vec<Micro>, WantOfMemory>
-    ensures { IfOk result (λ p. p.items ≡ program_of (sources_of (Operation.TwoOperands operation width)) (two_operands_plan operation width instr.now) instr.now) }
+    ensures { IfOk result (λ p. p.items ≡ program_of codes (two_operands_plan operation width instr.now) instr.now) }
 {
     let size = width.size();
     let op = micro_of(operation);
@@ -167,18 +168,18 @@ pub(crate) fn two_operands(
         behind: &[],
         exit: Exit::Next,
     };
-    let codes = sources_of(Operation::TwoOperands(operation, width));
     assemble_binary(alloc, operation, size, plan, codes, instr)
 }
 
 /// ADD3, SUB3, MUL3, BIS3, BIC3, XOR3.
 pub(crate) fn three_operands(
     alloc: Global,
+    codes: CodeSources,
     instr: &Instr,
     operation: BinaryOperation,
     width: Width,
 ) -> Result<Vec<Micro>, WantOfMemory>
-    ensures { IfOk result (λ p. p.items ≡ program_of (sources_of (Operation.ThreeOperands operation width)) (three_operands_plan operation width instr.now) instr.now) }
+    ensures { IfOk result (λ p. p.items ≡ program_of codes (three_operands_plan operation width instr.now) instr.now) }
 {
     let size = width.size();
     let op = micro_of(operation);
@@ -192,17 +193,16 @@ pub(crate) fn three_operands(
         behind: &[],
         exit: Exit::Next,
     };
-    let codes = sources_of(Operation::ThreeOperands(operation, width));
     assemble_binary(alloc, operation, size, plan, codes, instr)
 }
 
-/// 1 is added or subtracted.
-fn by_one(
+/// INC, DEC.
+pub(crate) fn by_one(
     alloc: Global,
+    codes: CodeSources,
     instr: &Instr,
     op: MicroOp,
     width: Width,
-    codes: CodeSources,
 ) -> Result<Vec<Micro>, WantOfMemory>
     ensures { IfOk result (λ p. p.items ≡ program_of codes (by_one_plan op width instr.now) instr.now) }
 {
@@ -220,33 +220,13 @@ fn by_one(
     assemble(alloc, codes, plan, instr)
 }
 
-/// INC.
-pub(crate) fn increment(
-    alloc: Global,
-    instr: &Instr,
-    width: Width,
-) -> Result<Vec<Micro>, WantOfMemory>
-    ensures { IfOk result (λ p. p.items ≡ program_of (sources_of (Operation.Increment width)) (by_one_plan MicroOp.Add width instr.now) instr.now) }
-{
-    let codes = sources_of(Operation::Increment(width));
-    by_one(alloc, instr, MicroOp::Add, width, codes)
-}
-
-/// DEC.
-pub(crate) fn decrement(
-    alloc: Global,
-    instr: &Instr,
-    width: Width,
-) -> Result<Vec<Micro>, WantOfMemory>
-    ensures { IfOk result (λ p. p.items ≡ program_of (sources_of (Operation.Decrement width)) (by_one_plan MicroOp.Sub width instr.now) instr.now) }
-{
-    let codes = sources_of(Operation::Decrement(width));
-    by_one(alloc, instr, MicroOp::Sub, width, codes)
-}
-
 /// ADWC: C is bit 32 of the sum.
-pub(crate) fn add_with_carry(alloc: Global, instr: &Instr) -> Result<Vec<Micro>, WantOfMemory>
-    ensures { IfOk result (λ p. p.items ≡ program_of (sources_of Operation.AddWithCarry) (add_with_carry_plan instr.now) instr.now) }
+pub(crate) fn add_with_carry(
+    alloc: Global,
+    codes: CodeSources,
+    instr: &Instr,
+) -> Result<Vec<Micro>, WantOfMemory>
+    ensures { IfOk result (λ p. p.items ≡ program_of codes (add_with_carry_plan instr.now) instr.now) }
 {
     let (quad, carry) = (Size::Quad, Arg::Flag(3));
     let (first, second, made) = (Arg::Temp(1), Arg::Temp(0), Arg::Temp(4));
@@ -275,13 +255,16 @@ pub(crate) fn add_with_carry(alloc: Global, instr: &Instr) -> Result<Vec<Micro>,
         ],
         exit: Exit::Next,
     };
-    let codes = sources_of(Operation::AddWithCarry);
     assemble(alloc, codes, plan, instr)
 }
 
 /// SBWC: C says that the first is below the second with C.
-pub(crate) fn subtract_with_carry(alloc: Global, instr: &Instr) -> Result<Vec<Micro>, WantOfMemory>
-    ensures { IfOk result (λ p. p.items ≡ program_of (sources_of Operation.SubtractWithCarry) (subtract_with_carry_plan instr.now) instr.now) }
+pub(crate) fn subtract_with_carry(
+    alloc: Global,
+    codes: CodeSources,
+    instr: &Instr,
+) -> Result<Vec<Micro>, WantOfMemory>
+    ensures { IfOk result (λ p. p.items ≡ program_of codes (subtract_with_carry_plan instr.now) instr.now) }
 {
     let (quad, carry) = (Size::Quad, Arg::Flag(3));
     let (first, second, made) = (Arg::Temp(1), Arg::Temp(0), Arg::Temp(4));
@@ -309,7 +292,6 @@ pub(crate) fn subtract_with_carry(alloc: Global, instr: &Instr) -> Result<Vec<Mi
         ],
         exit: Exit::Next,
     };
-    let codes = sources_of(Operation::SubtractWithCarry);
     assemble(alloc, codes, plan, instr)
 }
 
@@ -356,8 +338,12 @@ fn aligned_reference() -> [Micro; 5]
 }
 
 /// ADAWI.
-pub(crate) fn add_aligned_word(alloc: Global, instr: &Instr) -> Result<Vec<Micro>, WantOfMemory>
-    ensures { IfOk result (λ p. p.items ≡ program_of (sources_of Operation.AddAlignedWord) (add_aligned_plan instr.now) instr.now) }
+pub(crate) fn add_aligned_word(
+    alloc: Global,
+    codes: CodeSources,
+    instr: &Instr,
+) -> Result<Vec<Micro>, WantOfMemory>
+    ensures { IfOk result (λ p. p.items ≡ program_of codes (add_aligned_plan instr.now) instr.now) }
 {
     let base = operand(instr, 1);
     let plan = Plan {
@@ -367,7 +353,6 @@ pub(crate) fn add_aligned_word(alloc: Global, instr: &Instr) -> Result<Vec<Micro
         behind: &[],
         exit: Exit::Next,
     };
-    let codes = sources_of(Operation::AddAlignedWord);
     match base {
         Operand::Register(_) => assemble(alloc, codes, plan, instr),
         Operand::Unused | Operand::Value(_) | Operand::Place { .. } | Operand::Target(_) => {
@@ -404,8 +389,12 @@ fn overflow_of_shift() -> [Micro; 10]
 }
 
 /// ASHL: to the left by the unsigned count, or with a negative count to the right by what it lacks to 256.
-pub(crate) fn arithmetic_shift(alloc: Global, instr: &Instr) -> Result<Vec<Micro>, WantOfMemory>
-    ensures { IfOk result (λ p. p.items ≡ program_of (sources_of Operation.ArithmeticShift) (arithmetic_shift_plan instr.now) instr.now) }
+pub(crate) fn arithmetic_shift(
+    alloc: Global,
+    codes: CodeSources,
+    instr: &Instr,
+) -> Result<Vec<Micro>, WantOfMemory>
+    ensures { IfOk result (λ p. p.items ≡ program_of codes (arithmetic_shift_plan instr.now) instr.now) }
 {
     let (long, none) = (Size::Long, Arg::Const(0));
     let (count, source) = (Arg::Temp(0), Arg::Temp(1));
@@ -426,13 +415,16 @@ pub(crate) fn arithmetic_shift(alloc: Global, instr: &Instr) -> Result<Vec<Micro
         behind: &overflow_of_shift(),
         exit: Exit::Next,
     };
-    let codes = sources_of(Operation::ArithmeticShift);
     assemble(alloc, codes, plan, instr)
 }
 
 /// ROTL: by the count modulo 32, and what it lacks to 32 to the right.
-pub(crate) fn rotate(alloc: Global, instr: &Instr) -> Result<Vec<Micro>, WantOfMemory>
-    ensures { IfOk result (λ p. p.items ≡ program_of (sources_of Operation.Rotate) (rotate_plan instr.now) instr.now) }
+pub(crate) fn rotate(
+    alloc: Global,
+    codes: CodeSources,
+    instr: &Instr,
+) -> Result<Vec<Micro>, WantOfMemory>
+    ensures { IfOk result (λ p. p.items ≡ program_of codes (rotate_plan instr.now) instr.now) }
 {
     let (source, count) = (Arg::Temp(1), Arg::Temp(4));
     let plan = Plan {
@@ -455,5 +447,5 @@ pub(crate) fn rotate(alloc: Global, instr: &Instr) -> Result<Vec<Micro>, WantOfM
         behind: &[unary(0, MicroOp::Move, Size::Long, Arg::Temp(2))],
         exit: Exit::Next,
     };
-    assemble(alloc, sources_of(Operation::Rotate), plan, instr)
+    assemble(alloc, codes, plan, instr)
 }

@@ -1,16 +1,15 @@
 // Branches on a bit.
 // VAX Architecture Reference Manual, "Control Instructions": Branch on Bit.
 ghost use Rattle.std.specs.Prelude.{◌≡◌, ◌++◌, IfOk, OnOk};
-ghost use Rattle.micro_ops.specs.Sources.{sources_of};
 ghost use Rattle.micro_lower.specs.Plans.{program_of};
 ghost use Rattle.micro_lower.specs.Rows.{bit_tested, storing, with_bit_into, bit_stored, locked_op, byte_program, before_bit, bit_target, bit_branch_plan};
 
-use crate::micros::binary;
-use crate::plans::{Plan, Target, add, assemble};
+use crate::micros::{add, binary};
+use crate::plans::{Plan, Target, assemble};
 use crate::rows::{branch_exit, displaced, field, inverted, operand, read, register_target};
-use micro_ops::{Arg, LockedOp, Micro, MicroOp, sources_of};
+use micro_ops::{Arg, CodeSources, LockedOp, Micro, MicroOp};
 use std::alloc::Global;
-use vax_form::{BitBranch, BitStore, Instr, Operand, Operation, Size, WantOfMemory};
+use vax_form::{BitBranch, BitStore, Instr, Operand, Size, WantOfMemory};
 
 /// The greatest number of a bit in a register, and in a byte.
 const LAST_BIT: u64 = 31;
@@ -156,10 +155,11 @@ fn bit_target(base: Operand, store: BitStore) -> Target
 /// BBS, BBC, BBSS, BBCS, BBSC, BBCC, BBSSI, BBCCI.
 pub(crate) fn branch_on_bit(
     alloc: Global,
+    codes: CodeSources,
     instr: &Instr,
     branch: BitBranch,
 ) -> Result<Vec<Micro>, WantOfMemory>
-    ensures { IfOk result (λ p. p.items ≡ program_of (sources_of (Operation.BranchOnBit branch)) (bit_branch_plan branch instr.now) instr.now) }
+    ensures { IfOk result (λ p. p.items ≡ program_of codes (bit_branch_plan branch instr.now) instr.now) }
 {
     let base = operand(instr, 1);
     let mut before = Vec::new(alloc);
@@ -175,6 +175,5 @@ pub(crate) fn branch_on_bit(
         behind: &[],
         exit: branch_exit(instr, 2),
     };
-    let codes = sources_of(Operation::BranchOnBit(branch));
     assemble(alloc, codes, plan, instr)
 }

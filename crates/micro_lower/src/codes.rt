@@ -1,91 +1,91 @@
 // The operations that set the condition codes, by where these come from.
 ghost use Rattle.std.specs.Prelude.{◌≡◌, ◌++◌, ◌∷◌, [], OnOk};
-ghost use Rattle.micro_lower.specs.Plans.{signs_by, signs_of_two, overflow_of, none_into, signs_program, carry_program, overflow_temp, carry_temp, codes_from, codes_program};
+ghost use Rattle.micro_lower.specs.Plans.{unary, signs_by, signs_of_two, overflow_of, signs_program, carry_program, overflow_temp, carry_temp, codes_from, codes_program};
 
-use crate::micros::{binary, unary};
+use crate::micros::{add, binary, unary};
 use micro_ops::{Arg, CodeSource, CodeSources, Micro, MicroOp};
-use std::alloc::AllocError;
-use vax_form::Size;
+use vax_form::{Size, WantOfMemory};
 
 /// N and Z by a temporary.
-fn put_signs_by(program: &mut Vec<Micro>, temp: u8, size: Size) -> Result<(), AllocError>
-    ensures { OnOk result (program.new.items ≡ program.old.items ++ signs_by temp size) }
+fn signs_by(temp: u8, size: Size) -> [Micro; 2]
+    ensures { result ≡ signs_by temp size }
 {
     let (value, none) = (Arg::Temp(temp), Arg::Const(0));
-    program.extend_from_slice(&[
+    [
         binary(6, MicroOp::Less, size, value, none),
         binary(7, MicroOp::Equal, size, value, none),
-    ])
+    ]
 }
 
-fn put_none(program: &mut Vec<Micro>, temp: u8) -> Result<(), AllocError>
-    ensures { OnOk result (program.new.items ≡ program.old.items ++ none_into temp) }
+fn cleared(temp: u8) -> Micro
+    ensures { result ≡ unary temp MicroOp.Move Size.Byte (Arg.Const 0) }
 {
-    program.extend_from_slice(&[unary(temp, MicroOp::Move, Size::Byte, Arg::Const(0))])
+    unary(temp, MicroOp::Move, Size::Byte, Arg::Const(0))
 }
 
 /// N and Z by comparing the first operand with the second.
-fn put_signs_of_two(program: &mut Vec<Micro>, size: Size) -> Result<(), AllocError>
+fn put_signs_of_two(program: &mut Vec<Micro>, size: Size) -> Result<(), WantOfMemory>
     ensures { OnOk result (program.new.items ≡ program.old.items ++ signs_of_two size) }
 {
     let (first, second) = (Arg::Temp(0), Arg::Temp(1));
-    program.extend_from_slice(&[
+    let operations = [
         binary(6, MicroOp::Less, size, first, second),
         binary(7, MicroOp::Equal, size, first, second),
-    ])?;
-    put_none(program, 8)
+        cleared(8),
+    ];
+    add(program, &operations)
 }
 
-/// V: the operands as signed quadwords give another number than the result.
-fn put_overflow(program: &mut Vec<Micro>, op: MicroOp, size: Size) -> Result<(), AllocError>
-    ensures { OnOk result (program.new.items ≡ program.old.items ++ overflow_of op size) }
+/// N and Z by the result, and V: the operands as signed quadwords give another number than that.
+fn put_overflow(program: &mut Vec<Micro>, op: MicroOp, size: Size) -> Result<(), WantOfMemory>
+    ensures { OnOk result (program.new.items ≡ program.old.items ++ (signs_by 2 size ++ overflow_of op size)) }
 {
     let (made, other) = (Arg::Temp(8), Arg::Temp(9));
-    program.extend_from_slice(&[
+    let [negative, zero] = signs_by(2, size);
+    let operations = [
+        negative,
+        zero,
         unary(8, MicroOp::SignExtend, size, Arg::Temp(0)),
         unary(9, MicroOp::SignExtend, size, Arg::Temp(1)),
         binary(8, op, Size::Quad, made, other),
         unary(9, MicroOp::SignExtend, size, Arg::Temp(2)),
         binary(8, MicroOp::Equal, Size::Quad, made, other),
         binary(8, MicroOp::Xor, Size::Byte, made, Arg::Const(1)),
-    ])
+    ];
+    add(program, &operations)
 }
 
-fn put_signs(program: &mut Vec<Micro>, nzv: CodeSource) -> Result<(), AllocError>
+fn put_signs(program: &mut Vec<Micro>, nzv: CodeSource) -> Result<(), WantOfMemory>
     ensures { OnOk result (program.new.items ≡ program.old.items ++ signs_program nzv) }
 {
     match nzv {
         CodeSource::Result(size) => {
-            put_signs_by(program, 0, size)?;
-            put_none(program, 8)
+            let [negative, zero] = signs_by(0, size);
+            add(program, &[negative, zero, cleared(8)])
         }
-        CodeSource::Add(size) => {
-            put_signs_by(program, 2, size)?;
-            put_overflow(program, MicroOp::Add, size)
-        }
-        CodeSource::Sub(size) => {
-            put_signs_by(program, 2, size)?;
-            put_overflow(program, MicroOp::Sub, size)
-        }
+        CodeSource::Add(size) => put_overflow(program, MicroOp::Add, size),
+        CodeSource::Sub(size) => put_overflow(program, MicroOp::Sub, size),
         CodeSource::Compare(size) => put_signs_of_two(program, size),
-        CodeSource::Computed(size) => put_signs_by(program, 2, size),
+        CodeSource::Computed(size) => add(program, &signs_by(2, size)),
         CodeSource::Kept | CodeSource::Zero | CodeSource::Psw => Ok(()),
     }
 }
 
+/// C where one temporary is below another.
+fn below(size: Size, a: u8, b: u8) -> Micro
+    ensures { result ≡ Micro.Compute 9 MicroOp.LessUnsigned size (Arg.Temp a) (Arg.Temp b) }
+{
+    binary(9, MicroOp::LessUnsigned, size, Arg::Temp(a), Arg::Temp(b))
+}
+
 /// C: a sum is below an addend, a subtrahend above.
-fn put_carry(program: &mut Vec<Micro>, c: CodeSource) -> Result<(), AllocError>
+fn put_carry(program: &mut Vec<Micro>, c: CodeSource) -> Result<(), WantOfMemory>
     ensures { OnOk result (program.new.items ≡ program.old.items ++ carry_program c) }
 {
-    let below = |size: Size, a: u8, b: u8| -> Micro {
-        binary(9, MicroOp::LessUnsigned, size, Arg::Temp(a), Arg::Temp(b))
-    };
     match c {
-        CodeSource::Zero => put_none(program, 9),
-        CodeSource::Add(size) => program.extend_from_slice(&[below(size, 2, 0)]),
-        CodeSource::Sub(size) | CodeSource::Compare(size) => {
-            program.extend_from_slice(&[below(size, 0, 1)])
-        }
+        CodeSource::Zero => add(program, &[cleared(9)]),
+        CodeSource::Add(size) => add(program, &[below(size, 2, 0)]),
+        CodeSource::Sub(size) | CodeSource::Compare(size) => add(program, &[below(size, 0, 1)]),
         CodeSource::Kept | CodeSource::Result(_) | CodeSource::Computed(_) | CodeSource::Psw => Ok(
             (),
         ),
@@ -113,30 +113,27 @@ fn carry_temp(c: CodeSource) -> Option<u8>
     }
 }
 
-fn put_values(program: &mut Vec<Micro>, codes: CodeSources) -> Result<(), AllocError>
+fn put_values(program: &mut Vec<Micro>, codes: CodeSources) -> Result<(), WantOfMemory>
     ensures { OnOk result (program.new.items ≡ program.old.items ++ (signs_program codes.nzv ++ carry_program codes.c ++ Micro.Codes 6 7 (overflow_temp codes.nzv) (carry_temp codes.c) ∷ [])) }
 {
     put_signs(program, codes.nzv)?;
     put_carry(program, codes.c)?;
-    program.push(Micro::Codes {
+    let set = Micro::Codes {
         n: 6,
         z: 7,
         v: overflow_temp(codes.nzv),
         c: carry_temp(codes.c),
-    })?;
-    Ok(())
+    };
+    add(program, &[set])
 }
 
 /// Sets the codes by where they come from; a new PSW is in 2.
-pub(crate) fn put_codes(program: &mut Vec<Micro>, codes: CodeSources) -> Result<(), AllocError>
+pub(crate) fn put_codes(program: &mut Vec<Micro>, codes: CodeSources) -> Result<(), WantOfMemory>
     ensures { OnOk result (program.new.items ≡ program.old.items ++ codes_program codes) }
 {
     match codes.nzv {
         CodeSource::Kept => Ok(()),
-        CodeSource::Psw => {
-            program.push(Micro::SetPsw { from: 2 })?;
-            Ok(())
-        }
+        CodeSource::Psw => add(program, &[Micro::SetPsw { from: 2 }]),
         _ => put_values(program, codes),
     }
 }

@@ -1,16 +1,15 @@
 // Branches on a bit, loops and jumps.
 // VAX Architecture Reference Manual, "Control Instructions".
 ghost use Rattle.std.specs.Prelude.{◌≡◌, IfOk};
-ghost use Rattle.micro_ops.specs.Sources.{sources_of};
 ghost use Rattle.micro_lower.specs.Plans.{program_of};
 ghost use Rattle.micro_lower.specs.Rows.{low_bit_plan, down_test, subtract_one_plan, up_test, add_one_plan, behind_sum, add_compare_plan, jump_exit, jump_plan, jump_to_subroutine_plan, change_mode_plan};
 
 use crate::micros::{binary, unary};
 use crate::plans::{Plan, Target, assemble};
 use crate::rows::{addressed, branch_exit, displaced, inverted, modified, operand, read};
-use micro_ops::{Arg, Exit, Micro, MicroOp, sources_of};
+use micro_ops::{Arg, CodeSources, Exit, Micro, MicroOp};
 use std::alloc::Global;
-use vax_form::{Base, Instr, Operand, Operation, Size, WantOfMemory, Width};
+use vax_form::{Base, Instr, Operand, Size, WantOfMemory, Width};
 
 /// The greatest longword, and the least, as signed numbers.
 const GREATEST: u64 = 0x7FFF_FFFF;
@@ -20,10 +19,11 @@ const LEAST: u64 = 0x8000_0000;
 /// BLBS, BLBC.
 pub(crate) fn branch_on_low_bit(
     alloc: Global,
+    codes: CodeSources,
     instr: &Instr,
     state: bool,
 ) -> Result<Vec<Micro>, WantOfMemory>
-    ensures { IfOk result (λ p. p.items ≡ program_of (sources_of (Operation.BranchOnLowBit state)) (low_bit_plan state instr.now) instr.now) }
+    ensures { IfOk result (λ p. p.items ≡ program_of codes (low_bit_plan state instr.now) instr.now) }
 {
     let bit = binary(0, MicroOp::And, Size::Byte, Arg::Temp(0), Arg::Const(1));
     let plan = Plan {
@@ -33,7 +33,6 @@ pub(crate) fn branch_on_low_bit(
         behind: &[],
         exit: branch_exit(instr, 1),
     };
-    let codes = sources_of(Operation::BranchOnLowBit(state));
     if state {
         assemble(alloc, codes, plan, instr)
     } else {
@@ -59,10 +58,11 @@ fn less(to: u8, a: Arg, b: Arg) -> Micro
 /// SOBGEQ, SOBGTR.
 pub(crate) fn subtract_one_branch(
     alloc: Global,
+    codes: CodeSources,
     instr: &Instr,
     or_equal: bool,
 ) -> Result<Vec<Micro>, WantOfMemory>
-    ensures { IfOk result (λ p. p.items ≡ program_of (sources_of (Operation.SubtractOneBranch or_equal)) (subtract_one_plan or_equal instr.now) instr.now) }
+    ensures { IfOk result (λ p. p.items ≡ program_of codes (subtract_one_plan or_equal instr.now) instr.now) }
 {
     let (index, none) = (Arg::Temp(2), Arg::Const(0));
     let overflows = binary(3, MicroOp::Equal, Size::Long, index, Arg::Const(GREATEST));
@@ -78,17 +78,17 @@ pub(crate) fn subtract_one_branch(
         behind: if or_equal { &at_least } else { &above },
         exit: branch_exit(instr, 1),
     };
-    let codes = sources_of(Operation::SubtractOneBranch { or_equal });
     assemble(alloc, codes, plan, instr)
 }
 
 /// AOBLEQ, AOBLSS.
 pub(crate) fn add_one_branch(
     alloc: Global,
+    codes: CodeSources,
     instr: &Instr,
     or_equal: bool,
 ) -> Result<Vec<Micro>, WantOfMemory>
-    ensures { IfOk result (λ p. p.items ≡ program_of (sources_of (Operation.AddOneBranch or_equal)) (add_one_plan or_equal instr.now) instr.now) }
+    ensures { IfOk result (λ p. p.items ≡ program_of codes (add_one_plan or_equal instr.now) instr.now) }
 {
     let (limit, index) = (Arg::Temp(1), Arg::Temp(2));
     let overflows = binary(3, MicroOp::Equal, Size::Long, index, Arg::Const(LEAST));
@@ -108,7 +108,6 @@ pub(crate) fn add_one_branch(
         behind: if or_equal { &at_most } else { &below },
         exit: branch_exit(instr, 2),
     };
-    let codes = sources_of(Operation::AddOneBranch { or_equal });
     assemble(alloc, codes, plan, instr)
 }
 
@@ -137,10 +136,11 @@ fn behind_sum(size: Size) -> [Micro; 11]
 /// ACB: the limit is in 0, the addend in 1 and the index in 2.
 pub(crate) fn add_compare_branch(
     alloc: Global,
+    codes: CodeSources,
     instr: &Instr,
     width: Width,
 ) -> Result<Vec<Micro>, WantOfMemory>
-    ensures { IfOk result (λ p. p.items ≡ program_of (sources_of (Operation.AddCompareBranch width)) (add_compare_plan width instr.now) instr.now) }
+    ensures { IfOk result (λ p. p.items ≡ program_of codes (add_compare_plan width instr.now) instr.now) }
 {
     let size = width.size();
     let plan = Plan {
@@ -158,7 +158,6 @@ pub(crate) fn add_compare_branch(
         behind: &behind_sum(size),
         exit: branch_exit(instr, 3),
     };
-    let codes = sources_of(Operation::AddCompareBranch(width));
     assemble(alloc, codes, plan, instr)
 }
 
@@ -179,8 +178,12 @@ fn jump_exit(operand: Operand) -> Exit
 }
 
 /// JMP.
-pub(crate) fn jump(alloc: Global, instr: &Instr) -> Result<Vec<Micro>, WantOfMemory>
-    ensures { IfOk result (λ p. p.items ≡ program_of (sources_of Operation.Jump) (jump_plan instr.now) instr.now) }
+pub(crate) fn jump(
+    alloc: Global,
+    codes: CodeSources,
+    instr: &Instr,
+) -> Result<Vec<Micro>, WantOfMemory>
+    ensures { IfOk result (λ p. p.items ≡ program_of codes (jump_plan instr.now) instr.now) }
 {
     let plan = Plan {
         slots: &[addressed(Size::Byte)],
@@ -189,12 +192,16 @@ pub(crate) fn jump(alloc: Global, instr: &Instr) -> Result<Vec<Micro>, WantOfMem
         behind: &[],
         exit: jump_exit(operand(instr, 0)),
     };
-    assemble(alloc, sources_of(Operation::Jump), plan, instr)
+    assemble(alloc, codes, plan, instr)
 }
 
 /// JSB.
-pub(crate) fn jump_to_subroutine(alloc: Global, instr: &Instr) -> Result<Vec<Micro>, WantOfMemory>
-    ensures { IfOk result (λ p. p.items ≡ program_of (sources_of Operation.JumpToSubroutine) (jump_to_subroutine_plan instr.now) instr.now) }
+pub(crate) fn jump_to_subroutine(
+    alloc: Global,
+    codes: CodeSources,
+    instr: &Instr,
+) -> Result<Vec<Micro>, WantOfMemory>
+    ensures { IfOk result (λ p. p.items ≡ program_of codes (jump_to_subroutine_plan instr.now) instr.now) }
 {
     let after = Arg::Const(u64::from(instr.after));
     let plan = Plan {
@@ -204,13 +211,16 @@ pub(crate) fn jump_to_subroutine(alloc: Global, instr: &Instr) -> Result<Vec<Mic
         behind: &[],
         exit: jump_exit(operand(instr, 0)),
     };
-    let codes = sources_of(Operation::JumpToSubroutine);
     assemble(alloc, codes, plan, instr)
 }
 
 /// CHMK.
-pub(crate) fn change_mode(alloc: Global, instr: &Instr) -> Result<Vec<Micro>, WantOfMemory>
-    ensures { IfOk result (λ p. p.items ≡ program_of (sources_of Operation.ChangeMode) change_mode_plan instr.now) }
+pub(crate) fn change_mode(
+    alloc: Global,
+    codes: CodeSources,
+    instr: &Instr,
+) -> Result<Vec<Micro>, WantOfMemory>
+    ensures { IfOk result (λ p. p.items ≡ program_of codes change_mode_plan instr.now) }
 {
     let plan = Plan {
         slots: &[read(Size::Word, 0, 1)],
@@ -219,5 +229,5 @@ pub(crate) fn change_mode(alloc: Global, instr: &Instr) -> Result<Vec<Micro>, Wa
         behind: &[],
         exit: Exit::Service(0),
     };
-    assemble(alloc, sources_of(Operation::ChangeMode), plan, instr)
+    assemble(alloc, codes, plan, instr)
 }

@@ -42,7 +42,11 @@ fn lower_operation(
     match lower_plain(alloc, operation, instr) {
         Err(_) => Err(WantOfMemory),
         Ok(Some(program)) => Ok(Some(program)),
-        Ok(None) => lower_row(alloc, operation, instr),
+        Ok(None) => match lower_row(alloc, operation, instr) {
+            None => Ok(None),
+            Some(Ok(program)) => Ok(Some(program)),
+            Some(Err(WantOfMemory)) => Err(WantOfMemory),
+        },
     }
 }
 

@@ -1,8 +1,17 @@
-// Computations of one and two arguments.
-ghost use Rattle.std.specs.Prelude.{◌≡◌};
+// Operations behind others, and computations of one and two arguments.
+ghost use Rattle.std.specs.Prelude.{◌≡◌, ◌++◌, OnOk};
 
 use micro_ops::{Arg, Micro, MicroOp};
-use vax_form::Size;
+use vax_form::{Size, WantOfMemory};
+
+pub(crate) fn add(program: &mut Vec<Micro>, operations: &[Micro]) -> Result<(), WantOfMemory>
+    ensures { OnOk result (program.new.items ≡ program.old.items ++ operations.now) }
+{
+    match program.extend_from_slice(operations) {
+        Ok(()) => Ok(()),
+        Err(_) => Err(WantOfMemory),
+    }
+}
 
 /// A computation of one argument.
 pub(crate) fn unary(to: u8, op: MicroOp, size: Size, a: Arg) -> Micro

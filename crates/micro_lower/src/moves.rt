@@ -1,64 +1,78 @@
 // Moves and pushes.
 // VAX Architecture Reference Manual, "Integer Arithmetic and Logical Instructions" and "Address Instructions".
-ghost use Rattle.std.specs.Prelude.{◌≡◌, IfOk};
-ghost use Rattle.micro_ops.specs.Sources.{sources_of};
-ghost use Rattle.micro_lower.specs.Plans.{program_of};
-ghost use Rattle.micro_lower.specs.Rows.{move_plan, move_zero_extended_plan, clear_plan, ones, move_complemented_plan, move_negated_plan, convert_plan, move_address_plan, push_address_plan, push_long_plan};
+ghost use Rattle.std.specs.Prelude.{◌≡◌, ◌∷◌, [], IfOk};
+ghost use Rattle.vax_meaning.specs.Evaluation.{operand};
+ghost use Rattle.micro_lower.specs.Plans.{unary, program_of};
+ghost use Rattle.micro_lower.specs.Rows.{written, move_plan, move_zero_extended_plan, clear_plan, ones, move_complemented_plan, move_negated_plan, convert_plan, move_address_plan};
 
 use crate::micros::{binary, unary};
-use crate::plans::{Plan, Target, assemble};
+use crate::plans::{Plan, Slot, Target, assemble};
 use crate::rows::{addressed, operand, overflow_by, read, written};
-use micro_ops::{Arg, Exit, Micro, MicroOp, sources_of};
+use micro_ops::{Arg, CodeSources, Exit, Micro, MicroOp};
 use std::alloc::Global;
-use vax_form::{Instr, Operation, Size, WantOfMemory, Width};
+use vax_form::{Instr, Size, WantOfMemory, Width};
 
-/// MOV.
-pub(crate) fn move_value(
+/// A row whose first operand goes to the second, of that size.
+fn to_second(
     alloc: Global,
+    codes: CodeSources,
     instr: &Instr,
+    first: Slot,
     size: Size,
+    before: &[Micro],
+    behind: &[Micro],
 ) -> Result<Vec<Micro>, WantOfMemory>
-    ensures { IfOk result (λ p. p.items ≡ program_of (sources_of (Operation.Move size)) (move_plan size instr.now) instr.now) }
+    ensures { IfOk result (λ p. p.items ≡ program_of codes (record { slots = first ∷ written size ∷ []; before = before.now; target = Target.Result (operand instr.now 1) size; behind = behind.now; exit = Exit.Next }) instr.now) }
 {
     let plan = Plan {
-        slots: &[read(size, 0, 1), written(size)],
-        before: &[unary(2, MicroOp::Move, size, Arg::Temp(0))],
+        slots: &[first, written(size)],
+        before,
         target: Target::Result {
             operand: operand(instr, 1),
             size,
         },
-        behind: &[],
+        behind,
         exit: Exit::Next,
     };
-    assemble(alloc, sources_of(Operation::Move(size)), plan, instr)
+    assemble(alloc, codes, plan, instr)
+}
+
+/// MOV.
+pub(crate) fn move_value(
+    alloc: Global,
+    codes: CodeSources,
+    instr: &Instr,
+    size: Size,
+) -> Result<Vec<Micro>, WantOfMemory>
+    ensures { IfOk result (λ p. p.items ≡ program_of codes (move_plan size instr.now) instr.now) }
+{
+    let before = [unary(2, MicroOp::Move, size, Arg::Temp(0))];
+    to_second(alloc, codes, instr, read(size, 0, 1), size, &before, &[])
 }
 
 /// MOVZ.
 pub(crate) fn move_zero_extended(
     alloc: Global,
+    codes: CodeSources,
     instr: &Instr,
     from: Width,
     to: Width,
 ) -> Result<Vec<Micro>, WantOfMemory>
-    ensures { IfOk result (λ p. p.items ≡ program_of (sources_of (Operation.MoveZeroExtended from to)) (move_zero_extended_plan from to instr.now) instr.now) }
+    ensures { IfOk result (λ p. p.items ≡ program_of codes (move_zero_extended_plan from to instr.now) instr.now) }
 {
-    let plan = Plan {
-        slots: &[read(from.size(), 0, 1), written(to.size())],
-        before: &[unary(2, MicroOp::Move, from.size(), Arg::Temp(0))],
-        target: Target::Result {
-            operand: operand(instr, 1),
-            size: to.size(),
-        },
-        behind: &[],
-        exit: Exit::Next,
-    };
-    let codes = sources_of(Operation::MoveZeroExtended { from, to });
-    assemble(alloc, codes, plan, instr)
+    let (source, size) = (from.size(), to.size());
+    let before = [unary(2, MicroOp::Move, source, Arg::Temp(0))];
+    to_second(alloc, codes, instr, read(source, 0, 1), size, &before, &[])
 }
 
 /// CLR.
-pub(crate) fn clear(alloc: Global, instr: &Instr, size: Size) -> Result<Vec<Micro>, WantOfMemory>
-    ensures { IfOk result (λ p. p.items ≡ program_of (sources_of (Operation.Clear size)) (clear_plan size instr.now) instr.now) }
+pub(crate) fn clear(
+    alloc: Global,
+    codes: CodeSources,
+    instr: &Instr,
+    size: Size,
+) -> Result<Vec<Micro>, WantOfMemory>
+    ensures { IfOk result (λ p. p.items ≡ program_of codes (clear_plan size instr.now) instr.now) }
 {
     let none = Arg::Const(0);
     let plan = Plan {
@@ -71,7 +85,7 @@ pub(crate) fn clear(alloc: Global, instr: &Instr, size: Size) -> Result<Vec<Micr
         behind: &[unary(0, MicroOp::Move, Size::Byte, none)],
         exit: Exit::Next,
     };
-    assemble(alloc, sources_of(Operation::Clear(size)), plan, instr)
+    assemble(alloc, codes, plan, instr)
 }
 
 /// All bits of a size.
@@ -89,134 +103,119 @@ fn ones(size: Size) -> u64
 /// MCOM.
 pub(crate) fn move_complemented(
     alloc: Global,
+    codes: CodeSources,
     instr: &Instr,
     width: Width,
 ) -> Result<Vec<Micro>, WantOfMemory>
-    ensures { IfOk result (λ p. p.items ≡ program_of (sources_of (Operation.MoveComplemented width)) (move_complemented_plan width instr.now) instr.now) }
+    ensures { IfOk result (λ p. p.items ≡ program_of codes (move_complemented_plan width instr.now) instr.now) }
 {
     let size = width.size();
     let all = Arg::Const(ones(size));
-    let plan = Plan {
-        slots: &[read(size, 0, 1), written(size)],
-        before: &[binary(2, MicroOp::Sub, size, all, Arg::Temp(0))],
-        target: Target::Result {
-            operand: operand(instr, 1),
-            size,
-        },
-        behind: &[unary(0, MicroOp::Move, size, Arg::Temp(2))],
-        exit: Exit::Next,
-    };
-    let codes = sources_of(Operation::MoveComplemented(width));
-    assemble(alloc, codes, plan, instr)
+    let before = [binary(2, MicroOp::Sub, size, all, Arg::Temp(0))];
+    let behind = [unary(0, MicroOp::Move, size, Arg::Temp(2))];
+    to_second(
+        alloc,
+        codes,
+        instr,
+        read(size, 0, 1),
+        size,
+        &before,
+        &behind,
+    )
 }
 
 /// MNEG: 0 minus the operand.
 pub(crate) fn move_negated(
     alloc: Global,
+    codes: CodeSources,
     instr: &Instr,
     width: Width,
 ) -> Result<Vec<Micro>, WantOfMemory>
-    ensures { IfOk result (λ p. p.items ≡ program_of (sources_of (Operation.MoveNegated width)) (move_negated_plan width instr.now) instr.now) }
+    ensures { IfOk result (λ p. p.items ≡ program_of codes (move_negated_plan width instr.now) instr.now) }
 {
     let (size, none) = (width.size(), Arg::Const(0));
-    let plan = Plan {
-        slots: &[read(size, 1, 0), written(size)],
-        before: &[binary(2, MicroOp::Sub, size, none, Arg::Temp(1))],
-        target: Target::Result {
-            operand: operand(instr, 1),
-            size,
-        },
-        behind: &[unary(0, MicroOp::Move, Size::Byte, none)],
-        exit: Exit::Next,
-    };
-    let codes = sources_of(Operation::MoveNegated(width));
-    assemble(alloc, codes, plan, instr)
+    let before = [binary(2, MicroOp::Sub, size, none, Arg::Temp(1))];
+    let behind = [unary(0, MicroOp::Move, Size::Byte, none)];
+    to_second(
+        alloc,
+        codes,
+        instr,
+        read(size, 1, 0),
+        size,
+        &before,
+        &behind,
+    )
 }
 
 /// CVT.
 pub(crate) fn convert(
     alloc: Global,
+    codes: CodeSources,
     instr: &Instr,
     from: Width,
     to: Width,
 ) -> Result<Vec<Micro>, WantOfMemory>
-    ensures { IfOk result (λ p. p.items ≡ program_of (sources_of (Operation.Convert from to)) (convert_plan from to instr.now) instr.now) }
+    ensures { IfOk result (λ p. p.items ≡ program_of codes (convert_plan from to instr.now) instr.now) }
 {
     let (source, size) = (from.size(), to.size());
     let [extended, equal, overflows] = overflow_by(size);
-    let plan = Plan {
-        slots: &[read(source, 0, 1), written(size)],
-        before: &[
-            unary(2, MicroOp::SignExtend, source, Arg::Temp(0)),
-            unary(2, MicroOp::Move, size, Arg::Temp(2)),
-        ],
-        target: Target::Result {
-            operand: operand(instr, 1),
-            size,
-        },
-        behind: &[
-            unary(4, MicroOp::SignExtend, source, Arg::Temp(0)),
-            extended,
-            equal,
-            overflows,
-        ],
-        exit: Exit::Next,
-    };
-    let codes = sources_of(Operation::Convert { from, to });
-    assemble(alloc, codes, plan, instr)
+    let before = [
+        unary(2, MicroOp::SignExtend, source, Arg::Temp(0)),
+        unary(2, MicroOp::Move, size, Arg::Temp(2)),
+    ];
+    let behind = [
+        unary(4, MicroOp::SignExtend, source, Arg::Temp(0)),
+        extended,
+        equal,
+        overflows,
+    ];
+    to_second(
+        alloc,
+        codes,
+        instr,
+        read(source, 0, 1),
+        size,
+        &before,
+        &behind,
+    )
 }
 
 /// MOVA.
 pub(crate) fn move_address(
     alloc: Global,
+    codes: CodeSources,
     instr: &Instr,
     size: Size,
 ) -> Result<Vec<Micro>, WantOfMemory>
-    ensures { IfOk result (λ p. p.items ≡ program_of (sources_of (Operation.MoveAddress size)) (move_address_plan size instr.now) instr.now) }
+    ensures { IfOk result (λ p. p.items ≡ program_of codes (move_address_plan size instr.now) instr.now) }
 {
-    let plan = Plan {
-        slots: &[addressed(size), written(Size::Long)],
-        before: &[unary(2, MicroOp::Move, Size::Long, Arg::Temp(0))],
-        target: Target::Result {
-            operand: operand(instr, 1),
-            size: Size::Long,
-        },
-        behind: &[],
-        exit: Exit::Next,
-    };
-    let codes = sources_of(Operation::MoveAddress(size));
-    assemble(alloc, codes, plan, instr)
+    let before = [unary(2, MicroOp::Move, Size::Long, Arg::Temp(0))];
+    to_second(
+        alloc,
+        codes,
+        instr,
+        addressed(size),
+        Size::Long,
+        &before,
+        &[],
+    )
 }
 
-/// PUSHA.
-pub(crate) fn push_address(
+/// PUSHA, PUSHL: what is in 0 is pushed.
+pub(crate) fn push(
     alloc: Global,
+    codes: CodeSources,
     instr: &Instr,
-    size: Size,
+    slot: Slot,
 ) -> Result<Vec<Micro>, WantOfMemory>
-    ensures { IfOk result (λ p. p.items ≡ program_of (sources_of (Operation.PushAddress size)) (push_address_plan size) instr.now) }
+    ensures { IfOk result (λ p. p.items ≡ program_of codes (record { slots = slot ∷ []; before = unary 2 MicroOp.Move Size.Long (Arg.Temp 0) ∷ []; target = Target.Stack; behind = []; exit = Exit.Next }) instr.now) }
 {
     let plan = Plan {
-        slots: &[addressed(size)],
+        slots: &[slot],
         before: &[unary(2, MicroOp::Move, Size::Long, Arg::Temp(0))],
         target: Target::Stack,
         behind: &[],
         exit: Exit::Next,
     };
-    let codes = sources_of(Operation::PushAddress(size));
     assemble(alloc, codes, plan, instr)
-}
-
-/// PUSHL.
-pub(crate) fn push_long(alloc: Global, instr: &Instr) -> Result<Vec<Micro>, WantOfMemory>
-    ensures { IfOk result (λ p. p.items ≡ program_of (sources_of Operation.PushLong) push_long_plan instr.now) }
-{
-    let plan = Plan {
-        slots: &[read(Size::Long, 0, 1)],
-        before: &[unary(2, MicroOp::Move, Size::Long, Arg::Temp(0))],
-        target: Target::Stack,
-        behind: &[],
-        exit: Exit::Next,
-    };
-    assemble(alloc, sources_of(Operation::PushLong), plan, instr)
 }

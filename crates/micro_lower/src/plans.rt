@@ -5,6 +5,7 @@ ghost use Rattle.operand_programs.specs.InOrder.{operands_program, steps_behind_
 ghost use Rattle.micro_lower.specs.Plans.{codes_program, specifiers_from, write_program, end_program, rest_program, program_of, plan_of, steps_behind_target};
 
 use crate::codes::put_codes;
+use crate::micros::add;
 use micro_ops::{CodeSources, Exit, Micro};
 use operand_programs::{
     Specifier, Steps, put_finish, put_operand, put_push, put_replacement, put_result, put_steps,
@@ -110,19 +111,11 @@ fn put_end(program: &mut Vec<Micro>, target: Target, steps: &Steps) -> Result<()
     }
 }
 
-pub(crate) fn add(program: &mut Vec<Micro>, operations: &[Micro]) -> Result<(), WantOfMemory>
-    ensures { OnOk result (program.new.items ≡ program.old.items ++ operations.now) }
-{
-    program
-        .extend_from_slice(operations)
-        .map_err(|_| WantOfMemory)
-}
-
 /// Sets the codes and leaves.
 fn put_leave(program: &mut Vec<Micro>, codes: CodeSources, exit: Exit) -> Result<(), WantOfMemory>
     ensures { OnOk result (program.new.items ≡ program.old.items ++ (codes_program codes ++ Micro.Leave exit ∷ [])) }
 {
-    put_codes(program, codes).map_err(|_| WantOfMemory)?;
+    put_codes(program, codes)?;
     add(program, &[Micro::Leave(exit)])
 }
 

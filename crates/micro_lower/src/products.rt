@@ -7,8 +7,8 @@ ghost use Rattle.micro_ops.specs.Sources.{sources_of};
 ghost use Rattle.micro_lower.specs.Plans.{rest_program, specifier_at, specifiers_from};
 ghost use Rattle.micro_lower.specs.Rows.{factors, others, product_program, extended_multiply_plan, extended_multiply_program};
 
-use crate::micros::{binary, unary};
-use crate::plans::{Plan, Slot, Target, add, put_operands, put_rest};
+use crate::micros::{add, binary, unary};
+use crate::plans::{Plan, Slot, Target, put_operands, put_rest};
 use crate::rows::{operand, read, written};
 use micro_ops::{Arg, Exit, Micro, MicroOp, sources_of};
 use operand_programs::{Specifier, Steps, put_operand};

@@ -4,8 +4,8 @@ ghost use Rattle.micro_ops.specs.Sources.{sources_of};
 ghost use Rattle.micro_lower.specs.Rows.{program_where, move_row, arithmetic_row, control_row, row_of, own_program_of, row_program_of};
 
 use crate::arithmetic::{
-    add_aligned_word, add_with_carry, arithmetic_shift, bit_test, compare, decrement, increment,
-    rotate, subtract_with_carry, test_value, three_operands, two_operands,
+    add_aligned_word, add_with_carry, arithmetic_shift, bit_test, by_one, compare, rotate,
+    subtract_with_carry, test_value, three_operands, two_operands,
 };
 use crate::bits::branch_on_bit;
 use crate::jumps::{
@@ -14,93 +14,100 @@ use crate::jumps::{
 };
 use crate::moves::{
     clear, convert, move_address, move_complemented, move_negated, move_value, move_zero_extended,
-    push_address, push_long,
+    push,
 };
 use crate::products::extended_multiply;
-use crate::status::{bit_clear_psw, bit_set_psw, move_psl};
-use micro_ops::Micro;
+use crate::rows::{addressed, read};
+use crate::status::{change_psw, move_psl};
+use micro_ops::{CodeSources, Micro, MicroOp, sources_of};
 use std::alloc::Global;
-use vax_form::{BinaryOperation, Instr, Operation, WantOfMemory};
+use vax_form::{BinaryOperation, Instr, Operation, Size, WantOfMemory};
 
 /// Moves and pushes.
 #[tactic(auto, unfolding(crate::specs::Rows::move_row))]
 fn lower_move(
     alloc: Global,
+    codes: CodeSources,
     operation: Operation,
     instr: &Instr,
-) -> Result<Option<Vec<Micro>>, WantOfMemory>
-    ensures { IfOk result (λ found. MatchOption found (program_where (sources_of operation) instr.now (move_row operation instr.now) ≡ None) (λ p. program_where (sources_of operation) instr.now (move_row operation instr.now) ≡ Some p.items)) }
+) -> Option<Result<Vec<Micro>, WantOfMemory>>
+    ensures { MatchOption result (program_where codes instr.now (move_row operation instr.now) ≡ None) (λ made. IfOk made (λ p. program_where codes instr.now (move_row operation instr.now) ≡ Some p.items)) }
 {
-    let program = match operation {
-        Operation::Move(size) => move_value(alloc, instr, size)?,
-        Operation::MoveZeroExtended { from, to } => move_zero_extended(alloc, instr, from, to)?,
-        Operation::Clear(size) => clear(alloc, instr, size)?,
-        Operation::MoveComplemented(width) => move_complemented(alloc, instr, width)?,
-        Operation::MoveNegated(width) => move_negated(alloc, instr, width)?,
-        Operation::Convert { from, to } => convert(alloc, instr, from, to)?,
-        Operation::MoveAddress(size) => move_address(alloc, instr, size)?,
-        Operation::PushAddress(size) => push_address(alloc, instr, size)?,
-        Operation::PushLong => push_long(alloc, instr)?,
-        Operation::MovePsl => move_psl(alloc, instr)?,
-        Operation::BitSetPsw => bit_set_psw(alloc, instr)?,
-        Operation::BitClearPsw => bit_clear_psw(alloc, instr)?,
-        _ => return Ok(None),
-    };
-    Ok(Some(program))
+    match operation {
+        Operation::Move(size) => Some(move_value(alloc, codes, instr, size)),
+        Operation::MoveZeroExtended { from, to } => Some(move_zero_extended(
+            alloc, codes, instr, from, to,
+        )),
+        Operation::Clear(size) => Some(clear(alloc, codes, instr, size)),
+        Operation::MoveComplemented(width) => Some(move_complemented(alloc, codes, instr, width)),
+        Operation::MoveNegated(width) => Some(move_negated(alloc, codes, instr, width)),
+        Operation::Convert { from, to } => Some(convert(alloc, codes, instr, from, to)),
+        Operation::MoveAddress(size) => Some(move_address(alloc, codes, instr, size)),
+        Operation::PushAddress(size) => Some(push(alloc, codes, instr, addressed(size))),
+        Operation::PushLong => Some(push(alloc, codes, instr, read(Size::Long, 0, 1))),
+        Operation::MovePsl => Some(move_psl(alloc, codes, instr)),
+        Operation::BitSetPsw => Some(change_psw(alloc, codes, instr, MicroOp::Or)),
+        Operation::BitClearPsw => Some(change_psw(alloc, codes, instr, MicroOp::AndNot)),
+        _ => None,
+    }
 }
 
 /// Arithmetic, logical operations and tests; a division has no program.
 #[tactic(auto, unfolding(crate::specs::Rows::arithmetic_row))]
 fn lower_arithmetic(
     alloc: Global,
+    codes: CodeSources,
     operation: Operation,
     instr: &Instr,
-) -> Result<Option<Vec<Micro>>, WantOfMemory>
-    ensures { IfOk result (λ found. MatchOption found (program_where (sources_of operation) instr.now (arithmetic_row operation instr.now) ≡ None) (λ p. program_where (sources_of operation) instr.now (arithmetic_row operation instr.now) ≡ Some p.items)) }
+) -> Option<Result<Vec<Micro>, WantOfMemory>>
+    ensures { MatchOption result (program_where codes instr.now (arithmetic_row operation instr.now) ≡ None) (λ made. IfOk made (λ p. program_where codes instr.now (arithmetic_row operation instr.now) ≡ Some p.items)) }
 {
-    let program = match operation {
-        Operation::Compare(width) => compare(alloc, instr, width)?,
-        Operation::Test(width) => test_value(alloc, instr, width)?,
-        Operation::BitTest(width) => bit_test(alloc, instr, width)?,
+    match operation {
+        Operation::Compare(width) => Some(compare(alloc, codes, instr, width)),
+        Operation::Test(width) => Some(test_value(alloc, codes, instr, width)),
+        Operation::BitTest(width) => Some(bit_test(alloc, codes, instr, width)),
         Operation::TwoOperands(BinaryOperation::Divide, _)
-        | Operation::ThreeOperands(BinaryOperation::Divide, _) => return Ok(None),
-        Operation::TwoOperands(operation, width) => two_operands(alloc, instr, operation, width)?,
-        Operation::ThreeOperands(operation, width) => {
-            three_operands(alloc, instr, operation, width)?
-        }
-        Operation::Increment(width) => increment(alloc, instr, width)?,
-        Operation::Decrement(width) => decrement(alloc, instr, width)?,
-        Operation::AddWithCarry => add_with_carry(alloc, instr)?,
-        Operation::SubtractWithCarry => subtract_with_carry(alloc, instr)?,
-        Operation::AddAlignedWord => add_aligned_word(alloc, instr)?,
-        Operation::ArithmeticShift => arithmetic_shift(alloc, instr)?,
-        Operation::Rotate => rotate(alloc, instr)?,
-        _ => return Ok(None),
-    };
-    Ok(Some(program))
+        | Operation::ThreeOperands(BinaryOperation::Divide, _) => None,
+        Operation::TwoOperands(operation, width) => Some(two_operands(
+            alloc, codes, instr, operation, width,
+        )),
+        Operation::ThreeOperands(operation, width) => Some(three_operands(
+            alloc, codes, instr, operation, width,
+        )),
+        Operation::Increment(width) => Some(by_one(alloc, codes, instr, MicroOp::Add, width)),
+        Operation::Decrement(width) => Some(by_one(alloc, codes, instr, MicroOp::Sub, width)),
+        Operation::AddWithCarry => Some(add_with_carry(alloc, codes, instr)),
+        Operation::SubtractWithCarry => Some(subtract_with_carry(alloc, codes, instr)),
+        Operation::AddAlignedWord => Some(add_aligned_word(alloc, codes, instr)),
+        Operation::ArithmeticShift => Some(arithmetic_shift(alloc, codes, instr)),
+        Operation::Rotate => Some(rotate(alloc, codes, instr)),
+        _ => None,
+    }
 }
 
 /// Branches, loops, jumps and services.
 #[tactic(auto, unfolding(crate::specs::Rows::control_row))]
 fn lower_control(
     alloc: Global,
+    codes: CodeSources,
     operation: Operation,
     instr: &Instr,
-) -> Result<Option<Vec<Micro>>, WantOfMemory>
-    ensures { IfOk result (λ found. MatchOption found (program_where (sources_of operation) instr.now (control_row operation instr.now) ≡ None) (λ p. program_where (sources_of operation) instr.now (control_row operation instr.now) ≡ Some p.items)) }
+) -> Option<Result<Vec<Micro>, WantOfMemory>>
+    ensures { MatchOption result (program_where codes instr.now (control_row operation instr.now) ≡ None) (λ made. IfOk made (λ p. program_where codes instr.now (control_row operation instr.now) ≡ Some p.items)) }
 {
-    let program = match operation {
-        Operation::BranchOnLowBit(state) => branch_on_low_bit(alloc, instr, state)?,
-        Operation::BranchOnBit(branch) => branch_on_bit(alloc, instr, branch)?,
-        Operation::SubtractOneBranch { or_equal } => subtract_one_branch(alloc, instr, or_equal)?,
-        Operation::AddOneBranch { or_equal } => add_one_branch(alloc, instr, or_equal)?,
-        Operation::AddCompareBranch(width) => add_compare_branch(alloc, instr, width)?,
-        Operation::Jump => jump(alloc, instr)?,
-        Operation::JumpToSubroutine => jump_to_subroutine(alloc, instr)?,
-        Operation::ChangeMode => change_mode(alloc, instr)?,
-        _ => return Ok(None),
-    };
-    Ok(Some(program))
+    match operation {
+        Operation::BranchOnLowBit(state) => Some(branch_on_low_bit(alloc, codes, instr, state)),
+        Operation::BranchOnBit(branch) => Some(branch_on_bit(alloc, codes, instr, branch)),
+        Operation::SubtractOneBranch { or_equal } => Some(subtract_one_branch(
+            alloc, codes, instr, or_equal,
+        )),
+        Operation::AddOneBranch { or_equal } => Some(add_one_branch(alloc, codes, instr, or_equal)),
+        Operation::AddCompareBranch(width) => Some(add_compare_branch(alloc, codes, instr, width)),
+        Operation::Jump => Some(jump(alloc, codes, instr)),
+        Operation::JumpToSubroutine => Some(jump_to_subroutine(alloc, codes, instr)),
+        Operation::ChangeMode => Some(change_mode(alloc, codes, instr)),
+        _ => None,
+    }
 }
 
 /// EMUL, which has no row.
@@ -109,31 +116,32 @@ fn lower_own(
     alloc: Global,
     operation: Operation,
     instr: &Instr,
-) -> Result<Option<Vec<Micro>>, WantOfMemory>
-    ensures { IfOk result (λ found. MatchOption found (own_program_of operation instr.now ≡ None) (λ p. own_program_of operation instr.now ≡ Some p.items)) }
+) -> Option<Result<Vec<Micro>, WantOfMemory>>
+    ensures { MatchOption result (own_program_of operation instr.now ≡ None) (λ made. IfOk made (λ p. own_program_of operation instr.now ≡ Some p.items)) }
 {
     match operation {
-        Operation::ExtendedMultiply => Ok(Some(extended_multiply(alloc, instr)?)),
-        _ => Ok(None),
+        Operation::ExtendedMultiply => Some(extended_multiply(alloc, instr)),
+        _ => None,
     }
 }
 
-/// The program of an operation that evaluates operands.
+/// The program of an operation that evaluates operands; None where the operation has none.
 pub(crate) fn lower_row(
     alloc: Global,
     operation: Operation,
     instr: &Instr,
-) -> Result<Option<Vec<Micro>>, WantOfMemory>
-    ensures { IfOk result (λ found. MatchOption found (row_program_of operation instr.now ≡ None) (λ p. row_program_of operation instr.now ≡ Some p.items)) }
+) -> Option<Result<Vec<Micro>, WantOfMemory>>
+    ensures { MatchOption result (row_program_of operation instr.now ≡ None) (λ made. IfOk made (λ p. row_program_of operation instr.now ≡ Some p.items)) }
 {
-    if let Some(program) = lower_own(alloc, operation, instr)? {
-        return Ok(Some(program));
+    let codes = sources_of(operation);
+    if let Some(made) = lower_own(alloc, operation, instr) {
+        return Some(made);
     }
-    if let Some(program) = lower_move(alloc, operation, instr)? {
-        return Ok(Some(program));
+    if let Some(made) = lower_move(alloc, codes, operation, instr) {
+        return Some(made);
     }
-    if let Some(program) = lower_arithmetic(alloc, operation, instr)? {
-        return Ok(Some(program));
+    if let Some(made) = lower_arithmetic(alloc, codes, operation, instr) {
+        return Some(made);
     }
-    lower_control(alloc, operation, instr)
+    lower_control(alloc, codes, operation, instr)
 }
