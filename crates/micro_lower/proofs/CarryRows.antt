@@ -29,7 +29,7 @@ use Rattle.vt_words.specs.Arithmetic.{difference_of}
 use Rattle.micro_lower.proofs.Given.{value_coded, value_end, value_ends, coded_end_of, gives_as, result_ready}
 use Rattle.micro_lower.proofs.Overflow.{some}
 use Rattle.std.proofs.Common.{lit<}
-use Rattle.std.specs.Prelude.{nat_lt, bit_xor, not}
+use Rattle.std.specs.Prelude.{nat_lt, bit_xor}
 use Rattle.std.proofs.lemmas.Nat.{and_mask}
 use Rattle.micro_lower.proofs.Overflow.{flipped}
 use Rattle.std.specs.Prelude.{if◌then◌else◌}

@@ -1,18 +1,17 @@
 -- The test by which a program finds whether an integer fits a size, and products as quadwords.
-use Rattle.std.proofs.Common.{◌≡◌, ℕ, ◌*◌, ◌%◌, ◌^◌, ◌<◌, ◌≤◌, refl, sym, ap, ◌∙◌, arith, lit<}
-use Rattle.std.specs.Prelude.{◌==◌, ℤ, pos, negsuc, ◌*ℤ◌, not, bit_xor, unsigned_abs}
-use Rattle.std.specs.Int.{cast_signed, cast_unsigned, w64, int_wrap}
+use Rattle.std.proofs.Common.{◌≡◌, ℕ, ◌*◌, ◌%◌, ◌^◌, ◌<◌, sym, ap, ◌∙◌, arith}
+use Rattle.std.specs.Prelude.{◌==◌, ℤ, ◌*ℤ◌, not, bit_xor, unsigned_abs}
 use Rattle.std.proofs.Math.Nat.{mod-eq_of_lt}
-use Rattle.std.proofs.lemmas.Bool.Decides.{nat_tests}
-use Rattle.std.proofs.lemmas.Int.{ints, wrapping_mul-bits, of_z-to_z, unsigned_abs-mul}
-use Rattle.std.proofs.lemmas.Nat.{mod_below, mul-le, mul-mod}
+use Rattle.std.proofs.lemmas.Int.{unsigned_abs-mul}
+use Rattle.std.proofs.lemmas.Nat.{mul-le, mul-mod}
 use Rattle.vax_form.specs.Size.{bytes_of}
 use Rattle.vax_form.specs.declared.instr.Size.{Size}
 use Rattle.vax_form.specs.declared.instr.Size.TheVariants.{Byte, Word, Long, Quad}
 use Rattle.vt_words.specs.Quad.{sign_extended}
 use Rattle.vt_words.specs.Values.{value_of, fits, bit}
 use Rattle.micro_ops.specs.Values.{limit_of, bits_of, signed}
-use Rattle.micro_lower.proofs.Overflow.{IsNarrow, extended_below, extended_low, fits_where, flipped, low_below, low_of, signed_small, turned}
+use Rattle.micro_lower.proofs.Overflow.{IsNarrow, extended_below, extended_low, fits_where, flipped, low_below, low_of, signed_small, signed_wide, turned}
+use Rattle.vt_words.proofs.Extended.{products}
 
 pub value_below : (size : Size) (x : ℤ) → value_of (bytes_of size) x < limit_of size
 value_below size x = rw (low_of size x) (low_below size _)
@@ -32,22 +31,13 @@ does_differ size x y r narrow small wide low =
     ∙ flipped _
     ∙ ap (λ b. bit (not b)) (turned (value_of 8 x) (sign_extended v (bits_of size)) ∙ sym (fits_where size x narrow small))
 
-extended_is : (size : Size) (v : ℕ) → v < limit_of size → cast_signed w64 (sign_extended v (bits_of size)) ≡ signed size v
-extended_is Byte v lt = grind (arith, nat_tests, ints)
-extended_is Word v lt = grind (arith, nat_tests, ints)
-extended_is Long v lt = grind (arith, nat_tests, ints)
-extended_is Quad v lt = grind (arith, nat_tests, ints)
-
 -- ---- products
 module _ (size : Size) (a b : ℕ) (first : a < limit_of size) (second : b < limit_of size) where
   pub product_wide : value_of 8 (signed size a *ℤ signed size b) ≡ sign_extended a (bits_of size) * sign_extended b (bits_of size) % 2 ^ 64
-  unfolding int_wrap
   product_wide =
-      let m = sign_extended a (bits_of size) in
-      let n = sign_extended b (bits_of size) in
-      let e : cast_signed w64 (m * n % 2 ^ 64) ≡ cast_signed w64 (value_of 8 (signed size a *ℤ signed size b)) =
-      wrapping_mul-bits w64 m n (extended_below size a first) (extended_below size b second) ∙ rw (extended_is size a first, extended_is size b second) refl in
-      sym (sym (of_z-to_z w64 (m * n % 2 ^ 64) (mod_below (m * n) (2 ^ 64) (lit< tt))) ∙ (ap (cast_unsigned w64) e ∙ of_z-to_z w64 _ (value_below Quad (signed size a *ℤ signed size b))))
+      products (signed size a) (signed size b)
+      ∙ ap (λ n. n * value_of 8 (signed size b) % 2 ^ 64) (signed_wide size a first)
+      ∙ ap (λ n. sign_extended a (bits_of size) * n % 2 ^ 64) (signed_wide size b second)
 
   pub product_small : IsNarrow size → unsigned_abs (signed size a *ℤ signed size b) < 2 ^ 63
   product_small narrow =

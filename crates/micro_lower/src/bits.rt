@@ -1,6 +1,6 @@
 // Branches on a bit.
 // VAX Architecture Reference Manual, "Control Instructions": Branch on Bit.
-ghost use Rattle.std.specs.Prelude.{◌≡◌, ◌++◌, IfOk, OnOk};
+ghost use Rattle.std.specs.Prelude.{◌≡◌, ◌++◌, ◌∷◌, [], IfOk, OnOk};
 ghost use Rattle.micro_lower.specs.Plans.{program_of};
 ghost use Rattle.micro_lower.specs.Rows.{bit_tested, storing, with_bit_into, bit_stored, locked_op, byte_program, before_bit, bit_target, bit_branch_plan};
 
@@ -49,14 +49,18 @@ fn with_bit_into(to: u8, size: Size, value: bool) -> [Micro; 2]
     ]
 }
 
-/// What is left in a register.
+/// A position above 31 is no bit of a register. What is left in the register goes into 2.
 fn put_bit_stored(program: &mut Vec<Micro>, store: BitStore) -> Result<(), WantOfMemory>
-    ensures { OnOk result (program.new.items ≡ program.old.items ++ bit_stored store) }
+    ensures { OnOk result (program.new.items ≡ program.old.items ++ (Micro.Compute 4 MicroOp.LessUnsigned Size.Long (Arg.Const 31) (Arg.Temp 0) ∷ Micro.Refuse 4 ∷ bit_stored store)) }
 {
+    let (last, position) = (Arg::Const(LAST_BIT), Arg::Temp(0));
+    let above = binary(4, MicroOp::LessUnsigned, Size::Long, last, position);
+    let refuse = Micro::Refuse { when: 4 };
     match store {
-        BitStore::Nothing => Ok(()),
+        BitStore::Nothing => add(program, &[above, refuse]),
         BitStore::Plain(value) | BitStore::Interlocked(value) => {
-            add(program, &with_bit_into(2, Size::Long, value))
+            let [unit, made] = with_bit_into(2, Size::Long, value);
+            add(program, &[above, refuse, unit, made])
         }
     }
 }
@@ -110,7 +114,20 @@ fn put_byte(program: &mut Vec<Micro>, store: BitStore) -> Result<(), WantOfMemor
     }
 }
 
-/// A position above 31 is no bit of a register. In memory it is a signed number of bits from the base.
+/// The position is a signed number of bits from the address in 2: the byte that has the bit, and its number there.
+fn put_position(program: &mut Vec<Micro>) -> Result<(), WantOfMemory>
+    ensures { OnOk result (program.new.items ≡ program.old.items ++ (Micro.Compute 4 MicroOp.ShiftSigned Size.Long (Arg.Temp 0) (Arg.Const 3) ∷ Micro.Compute 2 MicroOp.Add Size.Long (Arg.Temp 2) (Arg.Temp 4) ∷ Micro.Compute 0 MicroOp.And Size.Byte (Arg.Temp 0) (Arg.Const 7) ∷ [])) }
+{
+    let (bits, last) = (Arg::Const(BITS_OF_BYTE), Arg::Const(LAST_BIT_OF_BYTE));
+    let operations = [
+        binary(4, MicroOp::ShiftSigned, Size::Long, Arg::Temp(0), bits),
+        binary(2, MicroOp::Add, Size::Long, Arg::Temp(2), Arg::Temp(4)),
+        binary(0, MicroOp::And, Size::Byte, Arg::Temp(0), last),
+    ];
+    add(program, &operations)
+}
+
+/// A bit of a register, or of memory.
 fn put_before_bit(
     program: &mut Vec<Micro>,
     base: Operand,
@@ -118,25 +135,13 @@ fn put_before_bit(
 ) -> Result<(), WantOfMemory>
     ensures { OnOk result (program.new.items ≡ program.old.items ++ before_bit base branch) }
 {
-    let (long, position) = (Size::Long, Arg::Temp(0));
     match base {
         Operand::Register(_) => {
-            let last = Arg::Const(LAST_BIT);
-            let above = binary(4, MicroOp::LessUnsigned, long, last, position);
-            add(program, &[above, Micro::Refuse { when: 4 }])?;
             put_bit_stored(program, branch.store)?;
-            put_bit_tested(program, branch.state, long)
+            put_bit_tested(program, branch.state, Size::Long)
         }
         Operand::Unused | Operand::Value(_) | Operand::Place { .. } | Operand::Target(_) => {
-            let (bits, last) = (Arg::Const(BITS_OF_BYTE), Arg::Const(LAST_BIT_OF_BYTE));
-            add(
-                program,
-                &[
-                    binary(4, MicroOp::ShiftSigned, long, position, bits),
-                    binary(2, MicroOp::Add, long, Arg::Temp(2), Arg::Temp(4)),
-                    binary(0, MicroOp::And, Size::Byte, position, last),
-                ],
-            )?;
+            put_position(program)?;
             put_byte(program, branch.store)?;
             put_bit_tested(program, branch.state, Size::Byte)
         }

@@ -1,6 +1,6 @@
 // Instructions that evaluate no operand specifier.
 // VAX Architecture Reference Manual, "Control Instructions".
-ghost use Rattle.std.specs.Prelude.{◌≡◌, IfOk, MatchOption};
+ghost use Rattle.std.specs.Prelude.{◌≡◌, ◌∷◌, [], IfOk, MatchOption};
 ghost use Rattle.vax_meaning.specs.Branches.{target};
 ghost use Rattle.vax_meaning.specs.Evaluation.{operand};
 ghost use Rattle.micro_lower.specs.Programs.{flags_of, is_negated, flag_test, branch_if_program, subroutine_program, return_program, plain_program_of};
@@ -64,6 +64,13 @@ fn flag_test(flags: (u8, Option<u8>)) -> Micro
             Arg::Flag(second),
         ),
     }
+}
+
+/// An exit alone.
+fn leave(alloc: Global, exit: Exit) -> Result<Vec<Micro>, AllocError>
+    ensures { IfOk result (λ p. p.items ≡ Micro.Leave exit ∷ []) }
+{
+    Ok(vec![in alloc; Micro::Leave(exit)]?)
 }
 
 /// BNEQ to BCS.
@@ -147,16 +154,16 @@ pub(crate) fn lower_plain(
     alloc: Global,
     operation: Operation,
     instr: &Instr,
-) -> Result<Option<Vec<Micro>>, AllocError>
-    ensures { IfOk result (λ found. MatchOption found (plain_program_of operation instr.now ≡ None) (λ p. plain_program_of operation instr.now ≡ Some p.items)) }
+) -> Option<Result<Vec<Micro>, AllocError>>
+    ensures { MatchOption result (plain_program_of operation instr.now ≡ None) (λ made. IfOk made (λ p. plain_program_of operation instr.now ≡ Some p.items)) }
 {
     match operation {
-        Operation::NoOperation => Ok(Some(vec![in alloc; Micro::Leave(Exit::Next)]?)),
-        Operation::Breakpoint => Ok(Some(vec![in alloc; Micro::Leave(Exit::Breakpoint)]?)),
-        Operation::Branch(_) => Ok(Some(vec![in alloc; Micro::Leave(Exit::Fixed(target(instr)))]?)),
-        Operation::BranchIf(condition) => Ok(Some(conditional_branch(alloc, condition, instr)?)),
-        Operation::BranchToSubroutine(_) => Ok(Some(subroutine_branch(alloc, instr)?)),
-        Operation::ReturnFromSubroutine => Ok(Some(subroutine_return(alloc)?)),
-        _ => Ok(None),
+        Operation::NoOperation => Some(leave(alloc, Exit::Next)),
+        Operation::Breakpoint => Some(leave(alloc, Exit::Breakpoint)),
+        Operation::Branch(_) => Some(leave(alloc, Exit::Fixed(target(instr)))),
+        Operation::BranchIf(condition) => Some(conditional_branch(alloc, condition, instr)),
+        Operation::BranchToSubroutine(_) => Some(subroutine_branch(alloc, instr)),
+        Operation::ReturnFromSubroutine => Some(subroutine_return(alloc)),
+        _ => None,
     }
 }

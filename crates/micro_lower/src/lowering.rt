@@ -40,12 +40,12 @@ fn lower_operation(
     ensures { IfOk result (λ found. MatchOption found (program_of_operation operation instr.now ≡ None) (λ p. program_of_operation operation instr.now ≡ Some p.items)) }
 {
     match lower_plain(alloc, operation, instr) {
-        Err(_) => Err(WantOfMemory),
-        Ok(Some(program)) => Ok(Some(program)),
-        Ok(None) => match lower_row(alloc, operation, instr) {
-            None => Ok(None),
+        Some(Ok(program)) => Ok(Some(program)),
+        Some(Err(_)) => Err(WantOfMemory),
+        None => match lower_row(alloc, operation, instr) {
             Some(Ok(program)) => Ok(Some(program)),
             Some(Err(WantOfMemory)) => Err(WantOfMemory),
+            None => Ok(None),
         },
     }
 }

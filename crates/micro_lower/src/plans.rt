@@ -1,8 +1,9 @@
 // The plan of a program: the operands in order, what is computed before the result is written and behind that, where the
 // result goes, and the exit.
-ghost use Rattle.std.specs.Prelude.{◌≡◌, ◌≤◌, ◌++◌, ◌∷◌, [], IfOk, OnOk, length};
+ghost use Rattle.std.specs.Prelude.{◌≡◌, ◌<◌, ◌≤◌, ◌++◌, ◌∷◌, [], IfOk, OnOk, length};
+ghost use Rattle.operand_programs.specs.Operands.{operand_program, steps_behind_specifier};
 ghost use Rattle.operand_programs.specs.InOrder.{operands_program, steps_behind_all, no_steps};
-ghost use Rattle.micro_lower.specs.Plans.{codes_program, specifiers_from, write_program, end_program, rest_program, program_of, plan_of, steps_behind_target};
+ghost use Rattle.micro_lower.specs.Plans.{codes_program, specifier_at, specifiers_from, write_program, end_program, rest_program, program_of, plan_of, steps_behind_target};
 
 use crate::codes::put_codes;
 use crate::micros::add;
@@ -50,6 +51,28 @@ pub(crate) struct Plan<'a> {
     pub exit: Exit,
 }
 
+/// The operand of that number in its slot.
+pub(crate) fn put_slot(
+    program: &mut Vec<Micro>,
+    number: usize,
+    slot: Slot,
+    instr: &Instr,
+    steps: &mut Steps,
+) -> Result<(), WantOfMemory>
+    requires { number < 6 }
+    ensures program { OnOk result (program.new.items ≡ program.old.items ++ operand_program (specifier_at number slot instr.now) steps.old) }
+    ensures steps { OnOk result (steps.new ≡ steps_behind_specifier (specifier_at number slot instr.now) steps.old) }
+{
+    let specifier = Specifier {
+        access: slot.access,
+        size: slot.size,
+        operand: instr.operands[number],
+        to: slot.to,
+        place: slot.place,
+    };
+    put_operand(program, specifier, steps)
+}
+
 /// The operands in order.
 pub(crate) fn put_operands(
     program: &mut Vec<Micro>,
@@ -62,20 +85,7 @@ pub(crate) fn put_operands(
     ensures steps { OnOk result (steps.new ≡ steps_behind_all (specifiers_from 0 slots.now instr.now) steps.old) }
 {
     for i in 0..slots.len() {
-        let Slot {
-            access,
-            size,
-            to,
-            place,
-        } = slots[i];
-        let specifier = Specifier {
-            access,
-            size,
-            operand: instr.operands[i],
-            to,
-            place,
-        };
-        put_operand(program, specifier, steps)?;
+        put_slot(program, i, slots[i], instr, steps)?;
     }
     Ok(())
 }

@@ -1,41 +1,18 @@
 // The extended product.
 // VAX Architecture Reference Manual, "Integer Arithmetic and Logical Instructions": Extended Multiply.
-ghost use Rattle.std.specs.Prelude.{◌≡◌, ◌<◌, ◌++◌, IfOk, OnOk};
-ghost use Rattle.operand_programs.specs.Operands.{operand_program, steps_behind_specifier};
+ghost use Rattle.std.specs.Prelude.{◌≡◌, ◌++◌, IfOk, OnOk};
 ghost use Rattle.operand_programs.specs.InOrder.{operands_program, steps_behind_all};
 ghost use Rattle.micro_ops.specs.Sources.{sources_of};
-ghost use Rattle.micro_lower.specs.Plans.{rest_program, specifier_at, specifiers_from};
+ghost use Rattle.micro_lower.specs.Plans.{rest_program, specifiers_from};
 ghost use Rattle.micro_lower.specs.Rows.{factors, others, product_program, extended_multiply_plan, extended_multiply_program};
 
 use crate::micros::{add, binary, unary};
-use crate::plans::{Plan, Slot, Target, put_operands, put_rest};
+use crate::plans::{Plan, Target, put_operands, put_rest, put_slot};
 use crate::rows::{operand, read, written};
 use micro_ops::{Arg, Exit, Micro, MicroOp, sources_of};
-use operand_programs::{Specifier, Steps, put_operand};
+use operand_programs::Steps;
 use std::alloc::Global;
 use vax_form::{Instr, Operation, Size, WantOfMemory};
-
-/// The operand of that number in its slot.
-fn put_slot(
-    program: &mut Vec<Micro>,
-    number: usize,
-    slot: Slot,
-    instr: &Instr,
-    steps: &mut Steps,
-) -> Result<(), WantOfMemory>
-    requires { number < 6 }
-    ensures program { OnOk result (program.new.items ≡ program.old.items ++ operand_program (specifier_at number slot instr.now) steps.old) }
-    ensures steps { OnOk result (steps.new ≡ steps_behind_specifier (specifier_at number slot instr.now) steps.old) }
-{
-    let specifier = Specifier {
-        access: slot.access,
-        size: slot.size,
-        operand: operand(instr, number),
-        to: slot.to,
-        place: slot.place,
-    };
-    put_operand(program, specifier, steps)
-}
 
 /// The product of 0 and 1 as a quadword goes into 0.
 fn product() -> [Micro; 3]
