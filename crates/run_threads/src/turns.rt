@@ -17,75 +17,9 @@ use shared_memory::{Pass, Port, SharedMemory};
 use std::sync::Wait;
 use std::thread;
 use std::thread::Threads;
-use tie_switch::laws::{many_turns_keep_reached, turns_keep_reached};
-use tie_switch::{Processor, Turn};
+use tie_switch::Processor;
+use tie_switch::laws::many_turns_keep_reached;
 use vt_outside::Gate;
-
-// Turns that ask nothing, as many as there are.
-fn go_locally(program: Program<'_>, processor: &mut Processor)
-    requires prepared { HasPrepared program }
-    ensures thread { processor.new.thread ≡ processor.old.thread }
-    ensures budget { processor.new.budget ≡ processor.old.budget }
-    ensures steps { processor.old.steps ≤ processor.new.steps }
-    ensures way { (set_up : SetUp) (seen : List Entry) → IsUnderWay (setting_of program.entry) set_up seen processor.old
-        → IsUnderWay (setting_of program.entry) set_up seen processor.new }
-{
-    many_turns_keep_reached();
-    processor.run_local(program.prepared, program.ranges, u64::MAX);
-}
-
-// One turn.
-fn go_on<R: Wait, G: Gate>(
-    program: Program<'_>,
-    processor: &mut Processor,
-    port: &mut Port<'_, R, G>,
-) -> Turn
-    requires prepared { HasPrepared program }
-    requires can_run { CanRun (setting_of program) (set_up_of port.old.memory.now) }
-    requires pass { number_of port.old.pass ≡ processor.old.thread }
-    requires way { IsUnderWay (setting_of program) (set_up_of port.old.memory.now) (seen_of port.old.pass) processor.old }
-    ensures memory { port.new.memory.now ≡ port.old.memory.now }
-    ensures pass { number_of port.new.pass ≡ processor.old.thread }
-    ensures thread { processor.new.thread ≡ processor.old.thread }
-    ensures budget { processor.new.budget ≡ processor.old.budget }
-    ensures way { IsUnderWay (setting_of program.entry) (set_up_of port.old.memory.now) (seen_of port.new.pass) processor.new }
-    ensures steps { result ≡ Turn.Went → processor.new.steps ≡ processor.old.steps + 1 }
-    ensures few_steps { processor.new.steps ≤ processor.old.budget }
-    ensures ended { result ≡ Turn.Ended → has_ended (processor_of processor.new).mode ≡ true }
-{
-    reached_is_steady();
-    turns_keep_reached();
-    let Program {
-        image,
-        translation,
-        prepared,
-        ranges,
-    } = program;
-    processor.turn_prepared(image, translation, prepared, ranges, port)
-}
-
-// The turns up to the next that asks or ends, and that one.
-fn advance<R: Wait, G: Gate>(
-    program: Program<'_>,
-    processor: &mut Processor,
-    port: &mut Port<'_, R, G>,
-) -> Turn
-    requires prepared { HasPrepared program }
-    requires can_run { CanRun (setting_of program) (set_up_of port.old.memory.now) }
-    requires pass { number_of port.old.pass ≡ processor.old.thread }
-    requires way { IsUnderWay (setting_of program) (set_up_of port.old.memory.now) (seen_of port.old.pass) processor.old }
-    ensures memory { port.new.memory.now ≡ port.old.memory.now }
-    ensures pass { number_of port.new.pass ≡ processor.old.thread }
-    ensures thread { processor.new.thread ≡ processor.old.thread }
-    ensures budget { processor.new.budget ≡ processor.old.budget }
-    ensures way { IsUnderWay (setting_of program.entry) (set_up_of port.old.memory.now) (seen_of port.new.pass) processor.new }
-    ensures steps { result ≡ Turn.Went → processor.old.steps < processor.new.steps }
-    ensures few_steps { processor.new.steps ≤ processor.old.budget }
-    ensures ended { result ≡ Turn.Ended → has_ended (processor_of processor.new).mode ≡ true }
-{
-    go_locally(program, processor);
-    go_on(program, processor, port)
-}
 
 // Turns a processor until it has ended.
 fn turn_all<R: Wait, G: Gate>(
@@ -105,6 +39,8 @@ fn turn_all<R: Wait, G: Gate>(
     ensures budget { processor.new.budget ≡ processor.old.budget }
     ensures ended { HasEnded (setting_of program.entry) (set_up_of memory.now) (seen_of result) processor.new }
 {
+    reached_is_steady();
+    many_turns_keep_reached();
     let mut port = Port {
         rt,
         memory,
@@ -112,7 +48,15 @@ fn turn_all<R: Wait, G: Gate>(
         gate,
         asked: 0,
     };
-    while let Turn::Went = advance(program, processor, &mut port) {}
+    let Program {
+        image,
+        translation,
+        prepared,
+        ranges,
+    } = program;
+    while processor.end().is_none() {
+        processor.advance(image, translation, prepared, ranges, &mut port, u64::MAX);
+    }
     let Port { pass, .. } = port;
     pass
 }

@@ -10,4 +10,5 @@ pub mod Inside
 pub mod Courses
 pub mod Stopping
 pub mod ManyTurns
+pub mod Advances
 mod Asks

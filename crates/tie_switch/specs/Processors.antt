@@ -1,5 +1,5 @@
 -- What contracts see of a processor, and for which processors of the model it stands.
-use Rattle.std.specs.Prelude.{◌≡◌, ◌≢◌, ◌≤◌, ◌++◌, ◌+◌, ℕ, Bool, List, Option, Some, None}
+use Rattle.std.specs.Prelude.{◌≡◌, ◌≢◌, ◌<◌, ◌≤◌, ◌++◌, ℕ, Bool, List, Option, Some, None}
 use Rattle.memory_core.specs.Requests.{CanMake}
 use Rattle.memory_core.specs.declared.entry.Entry.{Entry}
 use Rattle.memory_core.specs.declared.entry.Request.{Request}
@@ -155,11 +155,11 @@ pub record HasGone (setting : Setting) (p : Processor) (n : ℕ) (k : ProcessorV
   pub stands : StandsFor setting.meaning.pages k processor
   pub went : went setting p n ≡ Some processor
 
--- it stands for a processor that has a step behind each number of turns within its budget that ask nothing
-pub record HasSteps (setting : Setting) (set_up : SetUp) (k : ProcessorValue) : Type 0 where
+-- it stands for a processor that has a step behind any turns that it makes, fewer than that
+pub record HasSteps (setting : Setting) (set_up : SetUp) (may_come : List Entry → Type 0) (most : ℕ) (k : ProcessorValue) (seen : List Entry) : Type 0 where
   pub processor : Processor
   pub stands : StandsFor setting.meaning.pages k processor
-  pub can : (n : ℕ) (q : Processor) → went setting processor n ≡ Some q → processor.steps + n ≤ k.budget → CanStep setting set_up q
+  pub can : (n : ℕ) (q : Processor) (new : List Entry) → n < most → IsTurns setting set_up may_come k.budget processor seen n q new → CanStep setting set_up q
 
 -- it stands for the processor after so many turns of the model
 pub record HasAdvanced (setting : Setting) (set_up : SetUp) (may_come : List Entry → Type 0) (budget : ℕ) (p : Processor) (n : ℕ) (k : ProcessorValue) (old new : List Entry) : Type 0 where

@@ -1,18 +1,21 @@
 // Many turns of a processor.
-ghost use Rattle.std.specs.Prelude.{◌≡◌, ◌<◌, ◌≤◌, ◌+◌, ◌⊎◌, ◌↔◌, ℕ, false, Some, IfNone, IfSome, length};
+ghost use Rattle.std.specs.Prelude.{◌≡◌, ◌<◌, ◌≤◌, ◌+◌, ◌⊎◌, ◌↔◌, ℕ, false, true, Some, IfNone, IfSome, length};
 ghost use Rattle.alpha_machine.specs.Step.{state_of};
 ghost use Rattle.block_law.specs.Translations.{most_words};
 ghost use Rattle.system_model.specs.Processors as model;
 ghost use Rattle.system_model.specs.Processors.{Runs, mode_of};
 ghost use Rattle.tie_switch.specs.Courses.{Begins, HasOpcode, course_of};
 ghost use Rattle.tie_switch.specs.Inside.{goes_on_locally, is_local, went};
+ghost use Rattle.tie_switch.specs.ManyTurns.{IsBehind, MayCome};
 ghost use Rattle.tie_switch.specs.Processors.{HasAdvanced, HasGone, HasSteps, IsPlain};
 ghost use Rattle.tie_switch.specs.Settings.{image_setting};
+ghost use Rattle.tie_switch.specs.Turns.{has_ended};
 ghost use Rattle.vax_form.specs.declared.state.Pending.TheVariants.{Nothing};
 
 use crate::course::Course;
 use crate::processor::{Mode, Processor};
 use crate::registers::registers_of;
+use crate::turn::Turn;
 use alpha_machine::Cpu;
 use image_file::Image;
 use memory_core::Memory;
@@ -130,7 +133,8 @@ impl Processor {
         self.local_steps(prepared, ranges, most)
     }
 
-    /// Makes local steps in place and then one more turn, at most so many turns in all, and tells how many: at least one.
+    /// Makes so many turns, one after the other as `turn_prepared` makes them, local steps in place. Fewer are made only
+    /// where the processor has ended. Tells how many.
     pub fn advance<M: Memory>(
         &mut self,
         image: &Image,
@@ -140,26 +144,33 @@ impl Processor {
         memory: &mut M,
         most: u64,
     ) -> u64
-        requires some { 0 < most }
         requires few { length translation.now.words ≤ most_words }
         requires code { prepared.now.code ≡ translation.now }
         requires image { prepared.now.pages ≡ image.now.pages }
         requires pages { (M.set_up memory.old).image.pages ≡ image.now.pages }
         requires serves { M.serves memory.old self.old.thread }
-        requires has_steps { HasSteps (image_setting image.now.pages translation.now ranges.now) (M.set_up memory.old) self.old }
-        ensures some { 0 < result }
+        requires has_steps { HasSteps (image_setting image.now.pages translation.now ranges.now) (M.set_up memory.old) (MayCome M.same M.between memory.old) most self.old (M.seen memory.old) }
+        ensures some { 0 < most → 0 < result }
         ensures most { result ≤ most }
+        ensures all { result < most → has_ended (processor_of self.new).mode ≡ true }
         ensures set_up { M.set_up memory.new ≡ M.set_up memory.old }
-        ensures place { (memory.new ≡ memory.old) ⊎ M.same memory.old memory.new }
+        ensures place { IsBehind M.same memory.old memory.new }
         ensures serves { (thread : ℕ) → M.serves memory.old thread ↔ M.serves memory.new thread }
         ensures budget { self.new.budget ≡ self.old.budget }
         ensures thread { self.new.thread ≡ self.old.thread }
+        ensures steps { has_ended (processor_of self.new).mode ≡ false → self.new.steps ≡ self.old.steps + result }
         ensures few_steps { self.new.steps ≤ self.new.budget }
         ensures turned { (p : model.Processor) → StandsFor image.now.pages self.old p
-            → HasAdvanced (image_setting image.now.pages translation.now ranges.now) (M.set_up memory.old) (M.between memory.old) self.old.budget p result self.new (M.seen memory.old) (M.seen memory.new) }
+            → HasAdvanced (image_setting image.now.pages translation.now ranges.now) (M.set_up memory.old) (MayCome M.same M.between memory.old) self.old.budget p result self.new (M.seen memory.old) (M.seen memory.new) }
     {
-        let made = self.run_local(prepared, ranges, most - 1);
-        self.turn_prepared(image, translation, prepared, ranges, memory);
-        made + 1
+        let mut made = self.run_local(prepared, ranges, most);
+        while made < most {
+            made += 1;
+            match self.turn_prepared(image, translation, prepared, ranges, memory) {
+                Turn::Went => made += self.run_local(prepared, ranges, most - made),
+                Turn::Ended => return made,
+            }
+        }
+        made
     }
 }

@@ -1,5 +1,5 @@
 -- Turns of one processor of a legal world.
-use Rattle.std.proofs.Common.{◌≡◌, ℕ, ◌<◌, ◌+◌, ◌≤◌, ◌⊎◌, inl, inr, ◌↔◌, true, get_or, List, [], length, Some, refl, sym, ap, ◌∙◌, subst, arith}
+use Rattle.std.proofs.Common.{◌≡◌, ℕ, ◌<◌, ◌+◌, ◌≤◌, ◌⊎◌, inl, inr, ◌↔◌, false, true, get_or, List, [], length, Some, refl, sym, ap, ◌∙◌, subst, arith}
 use Rattle.std.specs.Prelude.{option_map, reverse, slice_get, slice_set}
 use Rattle.block_law.specs.Sound.{IsSound}
 use Rattle.block_law.specs.Translations.{Meets}
@@ -17,11 +17,13 @@ use Rattle.memory_core.specs.declared.entry.SetUp.{SetUp}
 use Rattle.system_model.specs.Legal.{starts, IsLegal}
 use Rattle.system_model.specs.Processors.{Processor}
 use Rattle.system_model.specs.Settings.{Setting}
-use Rattle.tie_switch.specs.Laws.{LocalTurnsKeepReached, TurnsStayLegal}
+use Rattle.tie_switch.specs.Laws.{TurnsStayLegal}
+use Rattle.tie_switch.specs.ManyTurns.{IsBehind, IsTurns}
 use Rattle.tie_switch.specs.Processors.{HasAdvanced, HasStep, HasSteps, HasTurned, ProcessorValue, StandsFor, processor_of}
 use Rattle.tie_switch.specs.Turns.{has_ended}
 use Rattle.tie_switch.specs.declared.turn.Turn.{Turn}
 use Rattle.tie_switch.specs.declared.turn.Turn.TheVariants.{Went, Ended}
+use Rattle.tie_switch.proofs.Advances.{behind_keeps, more_turns}
 use Rattle.vax_form.specs.GrammarLaws.{AreBytes}
 use Rattle.vax_form.specs.declared.pages.Pages.{Pages}
 use Rattle.vax_form.specs.declared.state.VaxState.{VaxState}
@@ -32,6 +34,10 @@ use Rattle.vest_core.proofs.ManyTurns.{many_stay_legal}
 -- ---- few steps are behind the processor that stands for one of which that is so
 few_of : (pages : Pages) (j : ProcessorValue) (q : Processor) (mine : List Entry) → StandsFor pages j q → HasFewSteps q mine → HasFewSteps (processor_of j) mine
 few_of pages j q mine stands few = subst (λ (x : Processor). HasFewSteps x mine) stands.same few
+
+-- ---- a memory of one owner
+abbrev no_others : List Entry → Type 0
+no_others between = between ≡ []
 
 -- ---- a legal world
 module _ (steady_law : ReachedIsSteady) (legal_law : TurnsStayLegal)
@@ -60,21 +66,21 @@ module _ (steady_law : ReachedIsSteady) (legal_law : TurnsStayLegal)
         let steady = is_steady old.memory.set_up old.budget (reverse old.memory.history) legal.processors thread its.0 run legal.legal its.1 in
         record { processor = its.0; stands = its.2; can = record { goes_on = steady.goes_on; asks = steady.asks } }
 
-    pub within_budget : (n : ℕ) (p : Processor) → StandsFor setting.meaning.pages k p → k.budget ≡ old.budget → p.steps + n ≤ k.budget → p.steps + n ≤ old.budget
-    within_budget n p stands same fits = omega (arith, same, fits)
-
-    -- it has a step behind each number of turns that ask nothing
-    pub has_steps : LocalTurnsKeepReached → k.budget ≡ old.budget → HasSteps setting old.memory.set_up k
-    has_steps local_law same_budget =
+    -- it has a step behind any turns, where no entries of others come
+    pub has_steps : (may_come : List Entry → Type 0) → ((entries : List Entry) → may_come entries → no_others entries) → k.budget ≡ old.budget → (most : ℕ)
+        → HasSteps setting old.memory.set_up may_come most k old.memory.history
+    has_steps may_come none same_budget most =
         let its = its_processor in
-        let there = start_of old.memory.set_up old.budget (reverse old.memory.history) legal.processors thread its.0 legal.legal its.1 in
         record {
           processor = its.0;
           stands = its.2;
-          can = λ n q went_there fits.
-              let reached = local_law setting old.memory.set_up old.budget n old.memory.history thread there.0 its.0 q (legal.legal.each thread there.0 its.0 there.1 its.1) went_there
-              (within_budget n its.0 its.2 same_budget fits) in
-              let steady = steady_law setting old.memory.set_up old.budget (reverse old.memory.history) thread there.0 q sound meets run legal.legal.pages legal.legal.order there.1 reached in
+          can = λ n q new fewer turns.
+              let made : IsTurns setting old.memory.set_up no_others old.budget its.0 old.memory.history n q new =
+              subst (λ (b : ℕ). IsTurns setting old.memory.set_up no_others b its.0 old.memory.history n q new) same_budget
+              (more_turns setting old.memory.set_up may_come no_others none k.budget its.0 old.memory.history turns) in
+              let behind = many_stay_legal legal_law setting old.memory.set_up old.budget thread its.0 old.memory.history legal.processors legal.legal its.1 made in
+              let here = set_there legal.processors thread its.0 q its.1 in
+              let steady = is_steady old.memory.set_up old.budget (reverse new) (slice_set legal.processors thread q) thread q run behind here in
               record { goes_on = steady.goes_on; asks = steady.asks };
         }
 
@@ -128,14 +134,22 @@ module _ (steady_law : ReachedIsSteady) (legal_law : TurnsStayLegal)
 
     -- many turns
     module _ (new : Contents) (j : ProcessorValue) (n : ℕ) (same : new.set_up ≡ old.memory.set_up) (same_budget : k.budget ≡ old.budget)
+        (may_come : List Entry → Type 0) (none : (entries : List Entry) → may_come entries → no_others entries)
         (advanced : (p : Processor) → StandsFor setting.meaning.pages k p
-        → HasAdvanced setting old.memory.set_up (λ between. between ≡ []) k.budget p n j old.memory.history new.history) where
+        → HasAdvanced setting old.memory.set_up may_come k.budget p n j old.memory.history new.history) where
       advanced_within : (p : Processor) → StandsFor setting.meaning.pages k p
-          → HasAdvanced setting old.memory.set_up (λ between. between ≡ []) old.budget p n j old.memory.history new.history
+          → HasAdvanced setting old.memory.set_up no_others old.budget p n j old.memory.history new.history
       advanced_within p stands =
-          subst (λ (b : ℕ). HasAdvanced setting old.memory.set_up (λ (between : List Entry). between ≡ []) b p n j old.memory.history new.history) same_budget (advanced p stands)
+          let made = advanced p stands in
+          record {
+            processor = made.processor;
+            stands = made.stands;
+            turned =
+                subst (λ (b : ℕ). IsTurns setting old.memory.set_up no_others b p old.memory.history n made.processor new.history) same_budget
+                (more_turns setting old.memory.set_up may_come no_others none k.budget p old.memory.history made.turned);
+          }
 
-      last_of : HasAdvanced setting old.memory.set_up (λ between. between ≡ []) old.budget (its_processor).0 n j old.memory.history new.history
+      last_of : HasAdvanced setting old.memory.set_up no_others old.budget (its_processor).0 n j old.memory.history new.history
       last_of = advanced_within (its_processor).0 (its_processor).2
 
       behind_many : IsLegal setting old.memory.set_up old.budget (reverse new.history) (slice_set legal.processors thread (last_of).processor)
@@ -144,13 +158,16 @@ module _ (steady_law : ReachedIsSteady) (legal_law : TurnsStayLegal)
       pub advanced_is_legal : IsLegalWorld setting (record { memory = new; processors = slice_set old.processors thread j; budget = old.budget })
       advanced_is_legal = stays_legal new j (last_of).processor same (last_of).stands behind_many
 
-      pub is_advanced : IsAdvanced setting thread n old (record { memory = new; processors = slice_set old.processors thread j; budget = old.budget })
-      is_advanced = record {
+      pub is_advanced : (most : ℕ) → (n < most → has_ended (processor_of j).mode ≡ true) → (has_ended (processor_of j).mode ≡ false → j.steps ≡ k.steps + n)
+          → IsAdvanced setting thread most n old (record { memory = new; processors = slice_set old.processors thread j; budget = old.budget })
+      is_advanced most all steps = record {
         was = k;
         there = at;
         is = j;
         processors = refl;
         advanced = advanced_within;
+        all = all;
+        steps = steps;
         few_steps = few_steps new j (last_of).processor same (last_of).stands behind_many;
       }
 
@@ -169,6 +186,10 @@ each_own ks thread budget k j each at same_thread same_budget n x there =
 pub same_processors : (new old : Contents) → (new ≡ old) ⊎ ((new.set_up ≡ old.set_up) × (new.processors ≡ old.processors)) → old.processors ≡ new.processors
 same_processors new old (inl same) = ap (λ (m : Contents). m.processors) (sym same)
 same_processors new old (inr same) = sym same.1
+
+-- and behind many
+pub served_behind : (new old : Contents) → IsBehind (λ (m n : Contents). (n.set_up ≡ m.set_up) × (n.processors ≡ m.processors)) old new → old.processors ≡ new.processors
+served_behind new old behind = sym (behind_keeps _ (λ (m : Contents). m.processors) (λ m n same. same.1) old behind)
 
 -- ---- what `pick` and `advance` know
 pub image_is_sound : VaxMeaningIsSound → (image : ImageValue) (pages : Pages) → pages ≡ image.pages → AreBytes pages.code → IsSound (image_meaning image.pages)

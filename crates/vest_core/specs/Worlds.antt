@@ -1,5 +1,5 @@
 -- Worlds: a memory of one owner and its processors. Histories are oldest first.
-use Rattle.std.specs.Prelude.{◌≡◌, ℕ, ◌+◌, ◌↔◌, true, List, [], Some, length, reverse, slice_get, slice_set}
+use Rattle.std.specs.Prelude.{◌≡◌, ℕ, ◌<◌, ◌+◌, ◌↔◌, false, true, List, [], Some, length, reverse, slice_get, slice_set}
 use Rattle.std.specs.List.{AllZip}
 use Rattle.image_file.specs.Values.{ImageValue}
 use Rattle.legal_history.specs.Headline.{HasFewSteps}
@@ -50,8 +50,8 @@ abbrev pub IsExplained : Setting → WorldValue → Type 0
 IsExplained setting w =
     (legal : IsLegalWorld setting w) → HasHeadline setting w.memory.set_up (reverse w.memory.history) legal.processors
 
--- what many turns of one processor, one after the other, do to a world
-pub record IsAdvanced (setting : Setting) (thread turns : ℕ) (old new : WorldValue) : Type 0 where
+-- what many turns of one processor, one after the other, do to a world, where so many were asked for
+pub record IsAdvanced (setting : Setting) (thread most turns : ℕ) (old new : WorldValue) : Type 0 where
   pub was : ProcessorValue
   pub there : slice_get old.processors thread ≡ Some was
   pub is : ProcessorValue
@@ -60,6 +60,9 @@ pub record IsAdvanced (setting : Setting) (thread turns : ℕ) (old new : WorldV
   -- it makes as many turns of the model
   pub advanced : (p : model.Processor) → StandsFor setting.meaning.pages was p
       → HasAdvanced setting old.memory.set_up (λ between. between ≡ []) old.budget p turns is old.memory.history new.memory.history
+  -- it made them all, a step each, or has an end
+  pub all : turns < most → has_ended (processor_of is).mode ≡ true
+  pub steps : has_ended (processor_of is).mode ≡ false → is.steps ≡ was.steps + turns
   -- and few steps are behind it, for the instructions that it retired and the accesses that it made
   pub few_steps : HasFewSteps (processor_of is) (own thread (reverse new.memory.history))
 

@@ -21,7 +21,7 @@ use std::alloc::{AllocError, Global};
 use std::marker::Model;
 use system_model::laws::beginnings_are_legal;
 use system_model::{Range, Translation};
-use tie_switch::laws::{many_turns_keep_reached, turns_stay_legal};
+use tie_switch::laws::turns_stay_legal;
 use tie_switch::{Processor, Turn};
 use vax_form::WantOfMemory;
 
@@ -115,8 +115,8 @@ impl World {
         picked.turn(image, translation, ranges, &mut self.memory)
     }
 
-    /// Gives that processor turns, up to the next that asks or ends and with it, but at most so many, and tells how many: at
-    /// least one. It takes no memory.
+    /// Gives that processor so many turns, one after the other. Fewer are made only where it has ended. Tells how many. It
+    /// takes no memory.
     pub fn advance(
         &mut self,
         image: &Image,
@@ -126,19 +126,18 @@ impl World {
         processor: u8,
         most: u64,
     ) -> u64
-        requires some { 0 < most }
         requires there { processor < length self.old.processors }
         requires image { self.old.memory.set_up.image ≡ image.now }
         requires code { prepared.now.code ≡ translation.now }
         requires pages { prepared.now.pages ≡ image.now.pages }
         requires meets { Meets (image_meaning image.now.pages) translation.now }
         requires legal { IsLegalWorld (image_setting image.now.pages translation.now ranges.now) self.old }
-        ensures some { 0 < result }
+        ensures some { 0 < most → 0 < result }
         ensures most { result ≤ most }
         ensures set_up { self.new.memory.set_up ≡ self.old.memory.set_up }
         ensures budget { self.new.budget ≡ self.old.budget }
         ensures count { length self.new.processors ≡ length self.old.processors }
-        ensures advanced { IsAdvanced (image_setting image.now.pages translation.now ranges.now) processor result self.old self.new }
+        ensures advanced { IsAdvanced (image_setting image.now.pages translation.now ranges.now) processor most result self.old self.new }
         ensures legal { IsLegalWorld (image_setting image.now.pages translation.now ranges.now) self.new }
         ensures headline { IsExplained (image_setting image.now.pages translation.now ranges.now) self.new }
     {
@@ -146,7 +145,6 @@ impl World {
         vax_meaning_is_sound();
         reached_is_steady();
         turns_stay_legal();
-        many_turns_keep_reached();
         legal_has_headline();
         let advanced = &mut self.processors[usize::from(processor)];
         advanced.advance(image, translation, prepared, ranges, &mut self.memory, most)

@@ -1,5 +1,5 @@
 // Worlds of images, in which processors are picked.
-ghost use Rattle.std.specs.Prelude.{◌<◌, ◌≤◌, IfOk};
+ghost use Rattle.std.specs.Prelude.{IfOk};
 ghost use Rattle.image_file.specs.Whole.{IsWhole};
 ghost use Rattle.world_rows.specs.Ready.{CanRun, IsReady};
 
@@ -54,13 +54,10 @@ pub fn pick_often(world: &mut World, program: Program<'_>, thread: u8, turns: u3
     Ok(())
 }
 
-// Gives a thread turns up to the next that asks or ends, but at most so many, and tells how many.
-fn advance(world: &mut World, program: Program<'_>, thread: u8, most: u64) -> Result<u64>
-    requires some { 0 < most }
-    requires ready { IsReady program world.old }
-    ensures ready { IsReady program.entry world.new }
-    ensures some { IfOk result (λ turns. 0 < turns) }
-    ensures most { IfOk result (λ turns. turns ≤ most) }
+/// Gives a thread so many turns at once.
+pub fn advance_often(world: &mut World, program: Program<'_>, thread: u8, turns: u32) -> Result<()>
+    requires { IsReady program world.old }
+    ensures { IsReady program.entry world.new }
 {
     if usize::from(thread) >= world.processors().len() {
         bail!("no such thread");
@@ -72,18 +69,14 @@ fn advance(world: &mut World, program: Program<'_>, thread: u8, most: u64) -> Re
         ranges,
         ..
     } = program;
-    Ok(world.advance(image, translation, prepared, ranges, thread, most))
-}
-
-/// Gives a thread so many turns, those that ask nothing at once.
-pub fn advance_often(world: &mut World, program: Program<'_>, thread: u8, turns: u32) -> Result<()>
-    requires { IsReady program world.old }
-    ensures { IsReady program.entry world.new }
-{
-    let mut left = u64::from(turns);
-    while left > 0 {
-        left -= advance(world, program, thread, left)?;
-    }
+    world.advance(
+        image,
+        translation,
+        prepared,
+        ranges,
+        thread,
+        u64::from(turns),
+    );
     Ok(())
 }
 

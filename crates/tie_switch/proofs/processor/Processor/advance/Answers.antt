@@ -1,56 +1,114 @@
--- The local turns, and one more.
-use Rattle.std.proofs.Common.{◌≡◌, ◌+◌, ◌≤◌, ℕ, suc, List, ap, subst, arith}
-use Rattle.block_law.specs.Translations.{Code}
-use Rattle.vax_form.specs.declared.pages.Pages.{Pages}
-use Rattle.system_model.specs.Processors.{Processor}
-use Rattle.system_model.specs.declared.translation.Range.{Range}
-use Rattle.tie_switch.specs.ManyTurns.{IsTurns, Turns}
-use Rattle.tie_switch.specs.Processors.{HasGone, ProcessorValue, StandsFor}
+-- Local turns, and then each time one more and the local ones behind it.
+use Rattle.std.proofs.Common.{◌≡◌, ◌+◌, ◌≤◌, ◌↔◌, refl, sym, ◌∙◌, subst, arith}
+use Rattle.memory_core.specs.declared.entry.SetUp.{SetUp}
+use Rattle.tie_switch.specs.ManyTurns.{MayCome, NoAccess, NoTurn}
+use Rattle.tie_switch.specs.Processors.{HasAdvanced, HasStep}
 use Rattle.tie_switch.specs.Settings.{image_setting}
-use Rattle.tie_switch.specs.Turns.{IsTurn}
-use Rattle.tie_switch.proofs.ManyTurns.{went_are_turns}
+use Rattle.tie_switch.proofs.Advances.{behind_turn, goes_on, has_next, next_turn, of_prepared}
 use Rattle.tie_switch.proofs.processor.Processor.advance.Goals as goal
 
--- what the local steps of prepared code are for the image's code
-gone : (pages pages' : Pages) (code code' : Code) (p : Processor) (n : ℕ) (k old : ProcessorValue) (ranges : List Range) → code ≡ code' → pages ≡ pages'
-    → ((q : Processor) → StandsFor pages old q → HasGone (image_setting pages code ranges) q n k) → StandsFor pages' old p → HasGone (image_setting pages' code' ranges) p n k
-gone pages pages' code code' p n k old ranges e f went stands =
-    subst (λ (c : Code). HasGone (image_setting pages' c ranges) p n k) e
-    (subst (λ (x : Pages). StandsFor x old p → HasGone (image_setting x code ranges) p n k) f (λ s. went p s) stands)
+both : {A B C : Type 0} → A ↔ B → B ↔ C → A ↔ C
+both first second = (λ a. second.0 (first.0 a), λ c. first.1 (second.1 c))
 
--- and they are within the budget
-within_budget : {pages : Pages} (p : Processor) (n : ℕ) (k old : ProcessorValue) → StandsFor pages old p → k.steps ≡ old.steps + n → k.steps ≤ k.budget → k.budget ≡ old.budget → p.steps + n ≤ old.budget
-within_budget p n k old stands steps few same = let begun : p.steps ≡ old.steps = ap (λ (x : Processor). x.steps) stands.same in omega (arith, begun, steps, few, same)
+pub turn_prepared-requires-clause-serves : goal.turn_prepared-requires-clause-serves
+turn_prepared-requires-clause-serves g c =
+    let l = c.loop-made in
+    subst (g.M.Memory.serves l.memory) (sym l.invariant.thread) ((l.invariant.serves c.args.self.now.thread).0 c.requires.serves)
 
 pub turn_prepared-requires-clause-has_step : goal.turn_prepared-requires-clause-has_step
 turn_prepared-requires-clause-has_step g c =
-    let h = c.requires.has_steps in
-    let made = c.run_local-made in
-    let there = gone c.args.prepared.now.pages c.args.image.now.pages c.args.prepared.now.code c.args.translation.now h.processor made.result made.new.self c.args.self.now c.args.ranges.now
-    c.requires.code c.requires.image made.ensures.went h.stands in
-    let within = within_budget h.processor made.result made.new.self c.args.self.now h.stands made.ensures.steps made.ensures.few_steps made.ensures.budget in
-    record { processor = there.processor; stands = there.stands; can = h.can made.result there.processor there.went within }
-
-pub returns-clause-turned : goal.returns-clause-turned
-returns-clause-turned g c p stands =
+    let l = c.loop-made in
     let s = image_setting c.args.image.now.pages c.args.translation.now c.args.ranges.now in
-    let made = c.run_local-made in
+    let first = c.args.memory.now in
+    subst (λ (u : SetUp). HasStep s u l.self) (sym l.invariant.set_up)
+    (has_next s (g.M.Memory.set_up first) (MayCome g.M.Memory.same g.M.Memory.between first) c.args.most l.made c.args.self.now l.self (g.M.Memory.seen first) (g.M.Memory.seen l.memory)
+    c.requires.has_steps l.invariant.turned (omega arith))
+
+pub loop-made-init : goal.loop-made-init
+loop-made-init g c =
+    let first = c.args.memory.now in
     let old = c.args.self.now in
-    let set_up = g.M.Memory.set_up c.args.memory.now in
-    let between = g.M.Memory.between c.args.memory.now in
-    let seen = g.M.Memory.seen c.args.memory.now in
-    let seen' = g.M.Memory.seen c.turn_prepared.new.memory in
-    let there = gone c.args.prepared.now.pages c.args.image.now.pages c.args.prepared.now.code c.args.translation.now p made.result made.new.self old c.args.ranges.now
-    c.requires.code c.requires.image made.ensures.went stands in
-    let within = within_budget p made.result made.new.self old stands made.ensures.steps made.ensures.few_steps made.ensures.budget in
-    let last = c.turn_prepared.ensures.turned there.processor there.stands in
-    let turned : IsTurn s set_up between old.budget there.processor last.processor seen seen' =
-    subst (λ (budget : ℕ). IsTurn s set_up between budget there.processor last.processor seen seen') made.ensures.budget last.turned in
-    let next : suc made.result ≡ made.result + 1 = omega arith in
+    let s = image_setting c.args.image.now.pages c.args.translation.now c.args.ranges.now in
+    let u = g.M.Memory.set_up first in
+    let may = MayCome g.M.Memory.same g.M.Memory.between first in
+    let seen = g.M.Memory.seen first in
+    let made = c.run_local-made in
+    let local = of_prepared c.args.prepared.now.pages c.args.image.now.pages c.args.prepared.now.code c.args.translation.now c.args.ranges.now made.result old made.new.self
+    c.requires.code c.requires.image made.ensures.went in
+    let fits : made.new.self.steps ≤ old.budget = omega (arith, made.ensures.few_steps, made.ensures.budget) in
+    let none : 0 + made.result ≡ made.result = omega arith in
     record {
-      processor = last.processor;
-      stands = last.stands;
-      turned =
-          subst (λ n. IsTurns s set_up between old.budget p seen n last.processor seen') next
-          (Turns (went_are_turns s set_up between old.budget seen p there.processor made.result there.went within) turned);
+      most = made.ensures.most;
+      set_up = refl;
+      behind = NoAccess;
+      serves = λ thread. (λ a. a, λ a. a);
+      budget = made.ensures.budget;
+      thread = made.ensures.thread;
+      steps = made.ensures.steps;
+      few_steps = made.ensures.few_steps;
+      turned = λ p stands.
+          subst (λ n. HasAdvanced s u may old.budget p n made.new.self seen seen) none
+          (goes_on s u may old.budget p 0 made.result old made.new.self seen seen (record { processor = p; stands = stands; turned = NoTurn }) local made.ensures.steps fits);
     }
+
+pub loop-made-preserved : goal.loop-made-preserved
+loop-made-preserved g c =
+    let first = c.args.memory.now in
+    let old = c.args.self.now in
+    let s = image_setting c.args.image.now.pages c.args.translation.now c.args.ranges.now in
+    let u = g.M.Memory.set_up first in
+    let may = MayCome g.M.Memory.same g.M.Memory.between first in
+    let seen = g.M.Memory.seen first in
+    let l = c.loop-made in
+    let kept = l.invariant in
+    let turn = c.turn_prepared in
+    let made = c.run_local-made-in-Went in
+    let local = of_prepared c.args.prepared.now.pages c.args.image.now.pages c.args.prepared.now.code c.args.translation.now c.args.ranges.now made.result turn.new.self made.new.self
+    c.requires.code c.requires.image made.ensures.went in
+    let went : turn.new.self.steps ≡ l.self.steps + 1 = turn.ensures.steps c.in-Went.is in
+    let budget : made.new.self.budget ≡ old.budget = made.ensures.budget ∙ turn.ensures.budget ∙ kept.budget in
+    let fits : made.new.self.steps ≤ old.budget = omega (arith, made.ensures.few_steps, budget) in
+    record {
+      most = omega (arith, made.ensures.most, c.loop-made-test.true);
+      set_up = turn.ensures.set_up ∙ kept.set_up;
+      behind = behind_turn g.M.Memory.same first l.memory turn.new.memory kept.behind turn.ensures.place;
+      serves = λ thread. both (kept.serves thread) (turn.ensures.serves thread);
+      budget = budget;
+      thread = made.ensures.thread ∙ turn.ensures.thread ∙ kept.thread;
+      steps = omega (arith, made.ensures.steps, went, kept.steps);
+      few_steps = made.ensures.few_steps;
+      turned = λ p stands.
+          goes_on s u may old.budget p (l.made + 1) made.result turn.new.self made.new.self seen (g.M.Memory.seen turn.new.memory)
+          (next_turn s u (g.M.Memory.set_up l.memory) may old.budget l.self.budget p l.made l.self turn.new.self seen (g.M.Memory.seen l.memory) (g.M.Memory.seen turn.new.memory)
+          (kept.turned p stands) (g.M.Memory.between l.memory) (λ entries come. record { memory = l.memory; behind = kept.behind; comes = come }) kept.set_up kept.budget turn.ensures.turned)
+          local made.ensures.steps fits;
+    }
+
+pub returns-in-Ended-clause-set_up : goal.returns-in-Ended-clause-set_up
+returns-in-Ended-clause-set_up g c = c.turn_prepared.ensures.set_up ∙ c.loop-made.invariant.set_up
+
+pub returns-in-Ended-clause-place : goal.returns-in-Ended-clause-place
+returns-in-Ended-clause-place g c =
+    behind_turn g.M.Memory.same c.args.memory.now c.loop-made.memory c.turn_prepared.new.memory c.loop-made.invariant.behind c.turn_prepared.ensures.place
+
+pub returns-in-Ended-clause-serves : goal.returns-in-Ended-clause-serves
+returns-in-Ended-clause-serves g c = λ thread. both (c.loop-made.invariant.serves thread) (c.turn_prepared.ensures.serves thread)
+
+pub returns-in-Ended-clause-all : goal.returns-in-Ended-clause-all
+returns-in-Ended-clause-all g c = λ fewer. c.turn_prepared.ensures.ended.0 c.in-Ended.is
+
+pub returns-in-Ended-clause-steps : goal.returns-in-Ended-clause-steps
+returns-in-Ended-clause-steps g c = λ going. absurd (cc (going, c.turn_prepared.ensures.ended.0 c.in-Ended.is))
+
+pub returns-in-Ended-clause-turned : goal.returns-in-Ended-clause-turned
+returns-in-Ended-clause-turned g c p stands =
+    let first = c.args.memory.now in
+    let old = c.args.self.now in
+    let s = image_setting c.args.image.now.pages c.args.translation.now c.args.ranges.now in
+    let may = MayCome g.M.Memory.same g.M.Memory.between first in
+    let l = c.loop-made in
+    let kept = l.invariant in
+    let turn = c.turn_prepared in
+    next_turn s (g.M.Memory.set_up first) (g.M.Memory.set_up l.memory) may old.budget l.self.budget p l.made l.self turn.new.self (g.M.Memory.seen first) (g.M.Memory.seen l.memory)
+    (g.M.Memory.seen turn.new.memory) (kept.turned p stands) (g.M.Memory.between l.memory) (λ entries come. record { memory = l.memory; behind = kept.behind; comes = come }) kept.set_up
+    kept.budget turn.ensures.turned

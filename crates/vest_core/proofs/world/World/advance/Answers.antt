@@ -5,7 +5,7 @@ use Rattle.legal_history.specs.Law.{IsRun}
 use Rattle.tie_switch.specs.Settings.{image_setting}
 use Rattle.vest_core.specs.Views.{world_of}
 use Rattle.vest_core.specs.Worlds.{IsAdvanced, IsLegalWorld, WorldValue}
-use Rattle.vest_core.proofs.Turns.{advanced_is_legal, each_own, has_steps, image_is_sound, is_advanced, same_processors, stands_at}
+use Rattle.vest_core.proofs.Turns.{advanced_is_legal, each_own, has_steps, image_is_sound, is_advanced, served_behind, stands_at}
 use Rattle.vest_core.proofs.world.World.advance.Goals as goal
 
 pub advance-requires-clause-has_steps : goal.advance-requires-clause-has_steps
@@ -17,7 +17,7 @@ advance-requires-clause-has_steps c =
     let k = c.index_mut-advanced.result.now in
     let at = stands_at old c.args.self.now c.from.result c.args.processor k c.self.view_is c.from.ensures c.requires.there c.index_mut-advanced.ensures.value in
     let within = (c.self.invariant.each c.from.result k at).budget in
-    has_steps c.reached_is_steady.ensures c.turns_stay_legal.ensures setting sound c.requires.meets old c.self.invariant.run legal c.from.result k at c.many_turns_keep_reached.ensures.local within
+    has_steps c.reached_is_steady.ensures c.turns_stay_legal.ensures setting sound c.requires.meets old c.self.invariant.run legal c.from.result k at _ (λ entries come. come.comes) within c.args.most
 
 pub invariant_of-self : goal.invariant_of-self
 invariant_of-self c =
@@ -26,7 +26,7 @@ invariant_of-self c =
     let at = stands_at old c.args.self.now c.from.result c.args.processor k c.self.view_is c.from.ensures c.requires.there c.index_mut-advanced.ensures.value in
     record {
       run = subst IsRun (sym c.advance.ensures.set_up) c.self.invariant.run;
-      serves = length-set old.processors c.from.result c.advance.new.self ∙ c.self.invariant.serves ∙ same_processors c.advance.new.memory c.self.inside.memory c.advance.ensures.place;
+      serves = length-set old.processors c.from.result c.advance.new.self ∙ c.self.invariant.serves ∙ served_behind c.advance.new.memory c.self.inside.memory c.advance.ensures.place;
       each = each_own old.processors c.from.result old.budget k c.advance.new.self c.self.invariant.each at c.advance.ensures.thread c.advance.ensures.budget;
     }
 
@@ -40,11 +40,12 @@ returns-clause-advanced c =
     let k = c.index_mut-advanced.result.now in
     let at = stands_at old c.args.self.now c.from.result c.args.processor k c.self.view_is c.from.ensures c.requires.there c.index_mut-advanced.ensures.value in
     let within = (c.self.invariant.each c.from.result k at).budget in
-    let advanced : IsAdvanced setting c.from.result c.advance.result old new =
+    let advanced : IsAdvanced setting c.from.result c.args.most c.advance.result old new =
     is_advanced c.reached_is_steady.ensures c.turns_stay_legal.ensures setting sound c.requires.meets old c.self.invariant.run legal c.from.result k at
-    c.advance.new.memory c.advance.new.self c.advance.result c.advance.ensures.set_up within c.advance.ensures.turned in
-    subst (λ (w : WorldValue). IsAdvanced setting c.args.processor c.advance.result w new) c.self.view_is
-    (subst (λ (n : ℕ). IsAdvanced setting n c.advance.result old new) c.from.ensures advanced)
+    c.advance.new.memory c.advance.new.self c.advance.result c.advance.ensures.set_up within _ (λ entries come. come.comes) c.advance.ensures.turned
+    c.args.most c.advance.ensures.all c.advance.ensures.steps in
+    subst (λ (w : WorldValue). IsAdvanced setting c.args.processor c.args.most c.advance.result w new) c.self.view_is
+    (subst (λ (n : ℕ). IsAdvanced setting n c.args.most c.advance.result old new) c.from.ensures advanced)
 
 pub returns-clause-legal : goal.returns-clause-legal
 returns-clause-legal c =
@@ -56,7 +57,7 @@ returns-clause-legal c =
     let at = stands_at old c.args.self.now c.from.result c.args.processor k c.self.view_is c.from.ensures c.requires.there c.index_mut-advanced.ensures.value in
     let within = (c.self.invariant.each c.from.result k at).budget in
     advanced_is_legal c.reached_is_steady.ensures c.turns_stay_legal.ensures setting sound c.requires.meets old c.self.invariant.run legal c.from.result k at
-    c.advance.new.memory c.advance.new.self c.advance.result c.advance.ensures.set_up within c.advance.ensures.turned
+    c.advance.new.memory c.advance.new.self c.advance.result c.advance.ensures.set_up within _ (λ entries come. come.comes) c.advance.ensures.turned
 
 pub returns-clause-headline : goal.returns-clause-headline
 returns-clause-headline c = λ legal.
