@@ -1,5 +1,5 @@
 -- Turns of one processor of a legal world.
-use Rattle.std.proofs.Common.{◌≡◌, ℕ, ◌<◌, ◌+◌, ◌≤◌, ◌⊎◌, inl, inr, ◌↔◌, false, true, get_or, List, [], length, Some, refl, sym, ap, ◌∙◌, subst, arith}
+use Rattle.std.proofs.Common.{◌≡◌, ℕ, ◌<◌, ◌+◌, ◌⊎◌, inl, inr, ◌↔◌, false, true, get_or, List, [], length, Some, refl, sym, ap, ◌∙◌, subst, arith}
 use Rattle.std.specs.Prelude.{option_map, reverse, slice_get, slice_set}
 use Rattle.block_law.specs.Sound.{IsSound}
 use Rattle.block_law.specs.Translations.{Meets}
