@@ -21,14 +21,13 @@ use std::sync::Wait;
 use std::thread::Threads;
 use system_model::{Range, Translation};
 use tie_switch::Processor;
-use vest_files::Stop;
+use vest_files::{Loaded, Stop};
 use vt_outside::Gate;
 
-/// What is to run: an image and its translation, the input, the limits, and the addresses that threads interpret.
+/// What is to run: an image with its translation, the input, the limits, and the addresses that threads interpret.
 #[derive(Drop)]
 pub struct Task {
-    pub image: Image,
-    pub translation: Translation,
+    pub loaded: Loaded,
     pub taken: Vec<u8>,
     pub limits: Limits,
     pub ranges: Vec<Range>,
@@ -85,21 +84,22 @@ fn run_task<R: Threads + Wait + Sync, G: Gate + Sync>(
     task: &Task,
     gate: &G,
 ) -> Result<(MemState, Vec<Processor>), Stop>
-    requires whole { IsWhole task.now.image }
-    requires meets { Meets (image_meaning task.now.image.pages) task.now.translation }
-    ensures set_up { IfOk result (λ r. r.0.set_up ≡ (running_of task.now.image task.now.taken.items task.now.limits).set_up) }
-    ensures ran { IfOk result (λ r. HasRun (image_setting task.now.image.pages task.now.translation task.now.ranges.items)
-        (running_of task.now.image task.now.taken.items task.now.limits).set_up task.now.limits.budget r.0.history (map processor_of r.1.items)) }
+    requires whole { IsWhole task.now.loaded.image }
+    requires meets { Meets (image_meaning task.now.loaded.image.pages) task.now.loaded.translation }
+    ensures set_up { IfOk result (λ r. r.0.set_up ≡ (running_of task.now.loaded.image task.now.taken.items task.now.limits).set_up) }
+    ensures ran { IfOk result (λ r. HasRun (image_setting task.now.loaded.image.pages task.now.loaded.translation task.now.ranges.items)
+        (running_of task.now.loaded.image task.now.taken.items task.now.limits).set_up task.now.limits.budget r.0.history (map processor_of r.1.items)) }
     ensures err { IfErr result (λ stop. stop ≡ Stop.WantOfMemory) }
 {
-    let prepared = made_ready(alloc, &task.image, &task.translation)?;
-    let running = set_up(alloc, &task.image, &task.taken, task.limits)?;
+    let Loaded { image, translation } = &task.loaded;
+    let prepared = made_ready(alloc, image, translation)?;
+    let running = set_up(alloc, image, &task.taken, task.limits)?;
     Ok(run_all(
         rt,
         running,
-        &task.image,
+        image,
         &task.taken,
-        &task.translation,
+        translation,
         &prepared,
         &task.ranges,
         gate,
@@ -113,8 +113,8 @@ pub fn execute<R: Threads + Wait + Sync, G: Gate + Sync>(
     task: Task,
     gate: &G,
 ) -> Result<Run, Stop>
-    requires whole { IsWhole task.image }
-    requires meets { Meets (image_meaning task.image.pages) task.translation }
+    requires whole { IsWhole task.loaded.image }
+    requires meets { Meets (image_meaning task.loaded.image.pages) task.loaded.translation }
     ensures task { IfOk result (λ run. run.task ≡ task) }
     ensures ran { IfOk result HasMade }
     ensures err { IfErr result (λ stop. stop ≡ Stop.WantOfMemory) }
@@ -130,7 +130,7 @@ pub fn execute<R: Threads + Wait + Sync, G: Gate + Sync>(
 /// What is kept of a run. It takes no memory.
 pub fn kept_of(run: Run) -> Kept
     requires { HasMade run }
-    ensures kept { HasKept run.task.image run.task.translation run.task.taken.items run.task.limits run.task.ranges.items result }
+    ensures kept { HasKept run.task.loaded.image run.task.loaded.translation run.task.taken.items run.task.limits run.task.ranges.items result }
     ensures history { result.history ≡ run.memory.history }
     ensures processors { result.processors ≡ run.processors.items }
 {
@@ -139,15 +139,21 @@ pub fn kept_of(run: Run) -> Kept
         memory,
         processors,
     } = run;
+    let Task {
+        loaded,
+        taken,
+        limits,
+        ranges,
+    } = task;
     Kept {
-        image: Some(task.image),
-        input: task.taken,
+        image: Some(loaded.image),
+        input: taken,
         history: memory.take_history(),
         processors,
-        budget: task.limits.budget,
-        limit: task.limits.events,
-        miss: task.limits.miss,
-        translation: Some(task.translation),
-        ranges: task.ranges,
+        budget: limits.budget,
+        limit: limits.events,
+        miss: limits.miss,
+        translation: Some(loaded.translation),
+        ranges,
     }
 }

@@ -19,7 +19,7 @@ use std::sync::Wait;
 use std::thread::Threads;
 use system_model::Translation;
 use translate::{Target, TranslateRefusal, translate};
-use vest_files::{Done, Stop};
+use vest_files::{Done, Loaded, Stop};
 use vt_outside::{Gate, Sink};
 
 /// The limits of a run where no option gives others.
@@ -64,9 +64,9 @@ fn memory_sum(memory: &MemState) -> u32
 // What `out` takes.
 fn lines_of(number: u32, run: &Run) -> Line
     requires few { number ≤ MOST_GROUPS }
-    ensures { result ≡ lines_of number run.now.task.translation run.now.memory.set_up run.now.memory.history }
+    ensures { result ≡ lines_of number run.now.task.loaded.translation run.now.memory.set_up run.now.memory.history }
 {
-    let translation = &run.task.translation;
+    let translation = &run.task.loaded.translation;
     let map = &translation.map;
     let mapped = map.pairs().len() as u64;
     generated_lines(
@@ -80,9 +80,9 @@ fn lines_of(number: u32, run: &Run) -> Line
 // What `generate` runs: the number's image with its translation, without input, within the default limits.
 fn task_of(alloc: Global, number: u32) -> Result<Task, Stop>
     requires { number ≤ MOST_GROUPS }
-    ensures image { IfOk result (λ task. task.image ≡ generated_image number) }
-    ensures whole { IfOk result (λ task. IsWhole task.image) }
-    ensures translated { IfOk result (λ task. IsTranslated (generated_image number) [] task.translation) }
+    ensures image { IfOk result (λ task. task.loaded.image ≡ generated_image number) }
+    ensures whole { IfOk result (λ task. IsWhole task.loaded.image) }
+    ensures translated { IfOk result (λ task. IsTranslated (generated_image number) [] task.loaded.translation) }
     ensures taken { IfOk result (λ task. task.taken.items ≡ []) }
     ensures limits { IfOk result (λ task. task.limits ≡ default_limits) }
     ensures ranges { IfOk result (λ task. task.ranges.items ≡ []) }
@@ -91,8 +91,7 @@ fn task_of(alloc: Global, number: u32) -> Result<Task, Stop>
     let image = generated(alloc, number)?;
     let translation = translated(alloc, number, &image)?;
     Ok(Task {
-        image,
-        translation,
+        loaded: Loaded { image, translation },
         taken: Vec::new(alloc),
         limits: DEFAULT_LIMITS,
         ranges: Vec::new(alloc),

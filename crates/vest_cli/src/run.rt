@@ -21,7 +21,7 @@ use std::alloc::{AllocError, Global};
 use std::sync::Wait;
 use std::thread::Threads;
 use system_model::Range;
-use vest_files::{Done, Loaded, Stop, load};
+use vest_files::{Done, Stop, load};
 use vt_outside::{Desk, Gate, Sink, Source};
 
 // The addresses that threads interpret, of the words.
@@ -50,9 +50,9 @@ fn task_of<D: Desk, I: Source>(
     desk: &mut D,
     input: &mut I,
 ) -> Result<Task, Stop>
-    ensures loads { IfOk result (λ task. Loads (D.meaning desk.old).files name.now task.image task.translation) }
-    ensures whole { IfOk result (λ task. IsWhole task.image) }
-    ensures meets { IfOk result (λ task. Meets (image_meaning task.image.pages) task.translation) }
+    ensures loads { IfOk result (λ task. Loads (D.meaning desk.old).files name.now task.loaded.image task.loaded.translation) }
+    ensures whole { IfOk result (λ task. IsWhole task.loaded.image) }
+    ensures meets { IfOk result (λ task. Meets (image_meaning task.loaded.image.pages) task.loaded.translation) }
     ensures reads { IfOk result (λ task. ReadsAll (I.meaning input.old) (I.meaning input.new) task.taken.items) }
     ensures limits { IfOk result (λ task. task.limits ≡ limits) }
     ensures ranges { IfOk result (λ task. task.ranges.items ≡ map range_of ranges.now) }
@@ -62,15 +62,14 @@ fn task_of<D: Desk, I: Source>(
     ensures decided { (decision : Decision) → DecidesRun (D.meaning desk.old).files name.now (I.meaning input.old).left decision
         → IsDecided result decision }
 {
-    let Loaded { image, translation } = match load(alloc, desk, name) {
+    let loaded = match load(alloc, desk, name) {
         Ok(loaded) => loaded,
         Err(stop) => return Err(stop),
     };
     let taken = read_input(alloc, input)?;
     let ranges = ranges_of(alloc, ranges)?;
     Ok(Task {
-        image,
-        translation,
+        loaded,
         taken,
         limits,
         ranges,
