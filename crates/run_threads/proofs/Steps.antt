@@ -1,5 +1,5 @@
 -- Turns keep a processor reached by its own entries of what its pass has seen.
-use Rattle.std.proofs.Common.{◌≡◌, ℕ, ◌+◌, ◌≤◌, Bool, true, false, List, [], reverse, refl, sym, ap, ◌∙◌, subst, inl, inr, is_none, arith}
+use Rattle.std.proofs.Common.{◌≡◌, ℕ, ◌+◌, ◌-◌, ◌<◌, ◌≤◌, if◌then◌else◌, Bool, true, false, List, [], reverse, refl, sym, ap, ◌∙◌, subst, inl, inr, is_none, arith}
 use Rattle.std.specs.Prelude.{MatchBool}
 use Rattle.memory_core.specs.declared.entry.Entry.{Entry}
 use Rattle.memory_core.specs.declared.entry.SetUp.{SetUp}

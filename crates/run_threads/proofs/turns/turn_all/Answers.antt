@@ -1,6 +1,5 @@
 -- Each round goes on where the one before ended.
-use Rattle.std.proofs.Common.{◌≡◌, ◌+◌, ◌-◌, ◌<◌, ◌≤◌, ℕ, Bool, true, false, if◌then◌else◌, refl, sym, ap, ◌∙◌, subst, arith}
-use Rattle.memory_core.specs.declared.entry.SetUp.{SetUp}
+use Rattle.std.proofs.Common.{◌^◌, is_none, ◌-◌, refl, sym, ap, ◌∙◌, subst, arith}
 use Rattle.shared_memory.specs.Passes.{set_up_of, number_of, seen_of}
 use Rattle.shared_memory.specs.declared.shared.SharedMemory.{SharedMemory}
 use Rattle.tie_switch.specs.Processors.{HasSteps, processor_of}
@@ -13,16 +12,17 @@ use Rattle.run_threads.proofs.turns.turn_all.Goals as goal
 
 pub advance-requires-clause-has_steps : goal.advance-requires-clause-has_steps
 advance-requires-clause-has_steps g c =
-    let l = c.loop in
+    let l = c.loop-image in
     subst (λ (m : SharedMemory). HasSteps (setting_of c.args.program) (set_up_of m) _ (2 ^ 64 - 1) l.processor (seen_of l.port.pass)) (sym l.invariant.memory)
     (has_steps (setting_of c.args.program) (set_up_of c.args.memory.now) _ (seen_of l.port.pass) l.processor l.invariant.way c.reached_is_steady.ensures c.many_turns_keep_reached.ensures.many
     c.requires.can_run (2 ^ 64 - 1))
 
-pub loop-preserved : goal.loop-preserved
-loop-preserved g c =
-    let l = c.loop in
+pub loop-image-preserved : goal.loop-image-preserved
+loop-image-preserved g c =
+    let l = c.loop-image in
     let kept = l.invariant in
     let e = c.advance.ensures in
+    let way = subst (λ (m : SharedMemory). IsUnderWay (setting_of c.args.program) (set_up_of m) (seen_of l.port.pass) l.processor) (sym kept.memory) kept.way in
     let is = behind_keeps _ (λ port. port.memory.now) (λ m n same. ap (λ x. x.now) same.0) l.port e.place ∙ kept.memory in
     record {
       memory = is;
@@ -30,20 +30,21 @@ loop-preserved g c =
       thread = e.thread ∙ kept.thread;
       budget = e.budget ∙ kept.budget;
       way =
-          goes_on (setting_of c.args.program) (set_up_of c.args.memory.now) _ (seen_of l.port.pass) l.processor kept.way c.many_turns_keep_reached.ensures.many
-          c.advance.result (seen_of c.advance.new.memory.pass) c.advance.new.self e.thread e.budget (e.turned kept.way.processor kept.way.stands);
+          subst (λ (m : SharedMemory). IsUnderWay (setting_of c.args.program) (set_up_of m) (seen_of c.advance.new.memory.pass) c.advance.new.self) kept.memory
+          (goes_on (setting_of c.args.program) (set_up_of l.port.memory.now) _ (seen_of l.port.pass) l.processor way c.many_turns_keep_reached.ensures.many
+          c.advance.result (seen_of c.advance.new.memory.pass) c.advance.new.self e.thread e.budget (e.turned way.processor way.stands));
     }
 
-pub loop-smaller : goal.loop-smaller
-loop-smaller g c =
-    let l = c.loop in
+pub loop-image-smaller : goal.loop-image-smaller
+loop-image-smaller g c =
+    let l = c.loop-image in
     let e = c.advance.ensures in
     let j = c.advance.new.self in
     let some = e.some (omega arith) in
     fewer_left (has_ended (processor_of l.processor).mode) (has_ended (processor_of j).mode) l.processor.budget j.budget l.processor.steps j.steps l.processor.budget
-    (going_by (processor_of l.processor).mode cc) (λ on. omega (arith, e.steps on, some)) e.few_steps e.budget refl
+    (going_by (processor_of l.processor).mode (ap is_none (sym c.end.ensures) ∙ sym c.is_none.ensures ∙ c.loop-image-test.true)) (λ on. omega (arith, e.steps on, some)) e.few_steps e.budget refl
 
 pub returns-clause-ended : goal.returns-clause-ended
 returns-clause-ended g c =
-    let l = c.loop in
-    ends (setting_of c.args.program) (set_up_of c.args.memory.now) (seen_of l.port.pass) l.processor l.invariant.way (ended_by (processor_of l.processor).mode cc)
+    let l = c.loop-image in
+    ends (setting_of c.args.program) (set_up_of c.args.memory.now) (seen_of l.port.pass) l.processor l.invariant.way (ended_by (processor_of l.processor).mode (ap is_none (sym c.end.ensures) ∙ sym c.is_none.ensures ∙ c.loop-image-test.false))

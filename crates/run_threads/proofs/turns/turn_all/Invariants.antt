@@ -6,15 +6,15 @@ use Rattle.run_threads.specs.Processors.{IsUnderWay}
 use Rattle.run_threads.specs.Programs.{setting_of}
 use Rattle.run_threads.proofs.turns.turn_all.Given as goal
 
-abbrev pub invariant-loop : goal.invariant-loop
-invariant-loop g l = record {
-  memory : l.port.memory.now ≡ l.memory;
+abbrev pub invariant-loop-image : goal.invariant-loop-image
+invariant-loop-image g l = record {
+  memory : l.port.memory.now ≡ l.fn.memory;
   number : number_of l.port.pass ≡ l.processor.thread;
-  thread : l.processor.thread ≡ l.initial.processor.thread;
-  budget : l.processor.budget ≡ l.initial.processor.budget;
-  way : IsUnderWay (setting_of l.program) (set_up_of l.memory) (seen_of l.port.pass) l.processor;
+  thread : l.processor.thread ≡ l.fn.processor.thread;
+  budget : l.processor.budget ≡ l.fn.processor.budget;
+  way : IsUnderWay (setting_of l.fn.program) (set_up_of l.fn.memory) (seen_of l.port.pass) l.processor;
 }
 
 -- once it has ended, no round is left
-abbrev pub decreases-loop : goal.decreases-loop
-decreases-loop g l = if has_ended (processor_of l.processor).mode then 0 else l.processor.budget - l.processor.steps + 1
+abbrev pub decreases-loop-image : goal.decreases-loop-image
+decreases-loop-image g l = if has_ended (processor_of l.processor).mode then 0 else l.processor.budget - l.processor.steps + 1
