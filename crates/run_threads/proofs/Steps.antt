@@ -1,8 +1,10 @@
 -- Turns keep a processor reached by its own entries of what its pass has seen.
-use Rattle.std.proofs.Common.{◌≡◌, ℕ, ◌+◌, ◌-◌, ◌<◌, ◌≤◌, if◌then◌else◌, Bool, true, false, List, [], reverse, refl, sym, ap, ◌∙◌, subst, inl, inr, is_none, arith}
+use Rattle.std.proofs.Common.{◌≡◌, ℕ, ◌+◌, ◌-◌, ◌<◌, ◌≤◌, if◌then◌else◌, Bool, true, false, List, [], reverse, refl, sym, ap, ◌∙◌, subst, inl, inr, is_some, arith}
 use Rattle.std.specs.Prelude.{MatchBool}
 use Rattle.memory_core.specs.declared.entry.Entry.{Entry}
 use Rattle.memory_core.specs.declared.entry.SetUp.{SetUp}
+use Rattle.shared_memory.specs.declared.shared.SharedMemory.{SharedMemory}
+use Rattle.shared_memory.specs.Passes.{set_up_of}
 use Rattle.memory_core.specs.Order.{Meets}
 use Rattle.legal_history.specs.OneProcessor.{ReachedIsSteady}
 use Rattle.system_model.specs.Legal.{starts, IsReached, spent}
@@ -84,13 +86,13 @@ module _ (setting : Setting) (set_up : SetUp) (may_come : List Entry → Type 0)
       }
 
 -- ---- its end
-pub ended_by : (m : model.Mode) → is_none (end_of m) ≡ false → has_ended m ≡ true
+pub ended_by : (m : model.Mode) → is_some (end_of m) ≡ true → has_ended m ≡ true
 ended_by model.New e = absurd (cc e)
 ended_by (model.Runs alpha) e = absurd (cc e)
 ended_by (model.Interprets state replies) e = absurd (cc e)
 ended_by (model.Ended end) e = refl
 
-pub going_by : (m : model.Mode) → is_none (end_of m) ≡ true → has_ended m ≡ false
+pub going_by : (m : model.Mode) → is_some (end_of m) ≡ false → has_ended m ≡ false
 going_by model.New e = refl
 going_by (model.Runs alpha) e = refl
 going_by (model.Interprets state replies) e = refl
@@ -131,3 +133,8 @@ begins setting set_up seen k none b =
       stands = b.stands setting.meaning.pages;
       reached = record { was = begun k.thread b.start; within = omega arith; reaches = Begins; now = inl refl };
     })
+
+-- what is asked of many turns, where the memory is the same
+pub by_memory : (setting : Setting) (may_come : List Entry → Type 0) (most : ℕ) (k : ProcessorValue) (seen : List Entry) (m n : SharedMemory) → m ≡ n
+    → HasSteps setting (set_up_of n) may_come most k seen → HasSteps setting (set_up_of m) may_come most k seen
+by_memory setting may_come most k seen m n same h = subst (λ (x : SharedMemory). HasSteps setting (set_up_of x) may_come most k seen) (sym same) h

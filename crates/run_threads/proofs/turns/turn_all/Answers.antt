@@ -1,5 +1,5 @@
 -- Each round goes on where the one before ended.
-use Rattle.std.proofs.Common.{◌^◌, is_none, ◌-◌, refl, sym, ap, ◌∙◌, subst, arith}
+use Rattle.std.proofs.Common.{◌^◌, is_some, not, ◌-◌, refl, sym, ap, ◌∙◌, subst, arith}
 use Rattle.shared_memory.specs.Passes.{set_up_of, number_of, seen_of}
 use Rattle.shared_memory.specs.declared.shared.SharedMemory.{SharedMemory}
 use Rattle.tie_switch.specs.Processors.{HasSteps, processor_of}
@@ -7,13 +7,13 @@ use Rattle.tie_switch.specs.Turns.{has_ended}
 use Rattle.tie_switch.proofs.Advances.{behind_keeps}
 use Rattle.run_threads.specs.Processors.{IsUnderWay}
 use Rattle.run_threads.specs.Programs.{setting_of}
-use Rattle.run_threads.proofs.Steps.{ended_by, ends, fewer_left, goes_on, going_by, has_steps}
+use Rattle.run_threads.proofs.Steps.{by_memory, ended_by, ends, fewer_left, goes_on, going_by, has_steps}
 use Rattle.run_threads.proofs.turns.turn_all.Goals as goal
 
 pub advance-requires-clause-has_steps : goal.advance-requires-clause-has_steps
 advance-requires-clause-has_steps g c =
     let l = c.loop-image in
-    subst (λ (m : SharedMemory). HasSteps (setting_of c.args.program) (set_up_of m) _ (2 ^ 64 - 1) l.processor (seen_of l.port.pass)) (sym l.invariant.memory)
+    by_memory _ _ _ _ _ _ _ l.invariant.memory
     (has_steps (setting_of c.args.program) (set_up_of c.args.memory.now) _ (seen_of l.port.pass) l.processor l.invariant.way c.reached_is_steady.ensures c.many_turns_keep_reached.ensures.many
     c.requires.can_run (2 ^ 64 - 1))
 
@@ -42,9 +42,9 @@ loop-image-smaller g c =
     let j = c.advance.new.self in
     let some = e.some (omega arith) in
     fewer_left (has_ended (processor_of l.processor).mode) (has_ended (processor_of j).mode) l.processor.budget j.budget l.processor.steps j.steps l.processor.budget
-    (going_by (processor_of l.processor).mode (ap is_none (sym c.end.ensures) ∙ sym c.is_none.ensures ∙ c.loop-image-test.true)) (λ on. omega (arith, e.steps on, some)) e.few_steps e.budget refl
+    (going_by (processor_of l.processor).mode (ap is_some (sym c.end.ensures) ∙ c.is_none.ensures ∙ ap not c.loop-image-test.true)) (λ on. omega (arith, e.steps on, some)) e.few_steps e.budget refl
 
 pub returns-clause-ended : goal.returns-clause-ended
 returns-clause-ended g c =
     let l = c.loop-image in
-    ends (setting_of c.args.program) (set_up_of c.args.memory.now) (seen_of l.port.pass) l.processor l.invariant.way (ended_by (processor_of l.processor).mode (ap is_none (sym c.end.ensures) ∙ sym c.is_none.ensures ∙ c.loop-image-test.false))
+    ends (setting_of c.args.program) (set_up_of c.args.memory.now) (seen_of l.port.pass) l.processor l.invariant.way (ended_by (processor_of l.processor).mode (ap is_some (sym c.end.ensures) ∙ c.is_none.ensures ∙ ap not c.loop-image-test.false))
