@@ -44,7 +44,7 @@ pub(crate) fn test_value(
         slots: &[read(width.size(), 0, 1)],
         before: &[],
         target: Target::Nowhere,
-        behind: &[unary(2, MicroOp::Move, width.size(), Arg::Temp(0))],
+        behind: &[unary!(2, MicroOp::Move, width.size(), Arg::Temp(0))],
         exit: Exit::Next,
     };
     assemble(alloc, codes, plan, instr)
@@ -65,8 +65,8 @@ pub(crate) fn bit_test(
         before: &[],
         target: Target::Nowhere,
         behind: &[
-            binary(2, MicroOp::And, size, Arg::Temp(0), Arg::Temp(1)),
-            unary(0, MicroOp::Move, size, Arg::Temp(2)),
+            binary!(2, MicroOp::And, size, Arg::Temp(0), Arg::Temp(1)),
+            unary!(0, MicroOp::Move, size, Arg::Temp(2)),
         ],
         exit: Exit::Next,
     };
@@ -114,9 +114,9 @@ fn assemble_binary(
         BinaryOperation::Multiply => {
             let [extended, equal, overflows] = overflow_by(size);
             let behind = [
-                unary(4, MicroOp::SignExtend, size, Arg::Temp(0)),
-                unary(5, MicroOp::SignExtend, size, Arg::Temp(1)),
-                binary(4, MicroOp::Mul, Size::Quad, Arg::Temp(4), Arg::Temp(5)),
+                unary!(4, MicroOp::SignExtend, size, Arg::Temp(0)),
+                unary!(5, MicroOp::SignExtend, size, Arg::Temp(1)),
+                binary!(4, MicroOp::Mul, Size::Quad, Arg::Temp(4), Arg::Temp(5)),
                 extended,
                 equal,
                 overflows,
@@ -132,7 +132,7 @@ fn assemble_binary(
             )
         }
         _ => {
-            let behind = [unary(0, MicroOp::Move, size, Arg::Temp(2))];
+            let behind = [unary!(0, MicroOp::Move, size, Arg::Temp(2))];
             assemble(
                 alloc,
                 codes,
@@ -160,7 +160,7 @@ pub(crate) fn two_operands(
     let op = micro_of(operation);
     let plan = Plan {
         slots: &[read(size, 1, 2), modified(size, 0)],
-        before: &[binary(2, op, size, Arg::Temp(0), Arg::Temp(1))],
+        before: &[binary!(2, op, size, Arg::Temp(0), Arg::Temp(1))],
         target: Target::Replacement {
             operand: operand(instr, 1),
             size,
@@ -185,7 +185,7 @@ pub(crate) fn three_operands(
     let op = micro_of(operation);
     let plan = Plan {
         slots: &[read(size, 1, 2), read(size, 0, 2), written(size)],
-        before: &[binary(2, op, size, Arg::Temp(0), Arg::Temp(1))],
+        before: &[binary!(2, op, size, Arg::Temp(0), Arg::Temp(1))],
         target: Target::Result {
             operand: operand(instr, 2),
             size,
@@ -209,12 +209,12 @@ pub(crate) fn by_one(
     let (size, one) = (width.size(), Arg::Const(1));
     let plan = Plan {
         slots: &[modified(size, 0)],
-        before: &[binary(2, op, size, Arg::Temp(0), one)],
+        before: &[binary!(2, op, size, Arg::Temp(0), one)],
         target: Target::Replacement {
             operand: operand(instr, 0),
             size,
         },
-        behind: &[unary(1, MicroOp::Move, Size::Byte, one)],
+        behind: &[unary!(1, MicroOp::Move, Size::Byte, one)],
         exit: Exit::Next,
     };
     assemble(alloc, codes, plan, instr)
@@ -234,24 +234,24 @@ pub(crate) fn add_with_carry(
     let plan = Plan {
         slots: &[read(Size::Long, 1, 2), modified(Size::Long, 0)],
         before: &[
-            binary(2, MicroOp::Add, Size::Long, second, first),
-            binary(2, MicroOp::Add, Size::Long, Arg::Temp(2), carry),
+            binary!(2, MicroOp::Add, Size::Long, second, first),
+            binary!(2, MicroOp::Add, Size::Long, Arg::Temp(2), carry),
         ],
         target: Target::Replacement {
             operand: operand(instr, 1),
             size: Size::Long,
         },
         behind: &[
-            unary(4, MicroOp::SignExtend, Size::Long, second),
-            unary(5, MicroOp::SignExtend, Size::Long, first),
-            binary(4, MicroOp::Add, quad, made, Arg::Temp(5)),
-            binary(4, MicroOp::Add, quad, made, carry),
+            unary!(4, MicroOp::SignExtend, Size::Long, second),
+            unary!(5, MicroOp::SignExtend, Size::Long, first),
+            binary!(4, MicroOp::Add, quad, made, Arg::Temp(5)),
+            binary!(4, MicroOp::Add, quad, made, carry),
             extended,
             equal,
             overflows,
-            binary(4, MicroOp::Add, quad, second, first),
-            binary(4, MicroOp::Add, quad, made, carry),
-            binary(4, MicroOp::ShiftRight, quad, made, Arg::Const(32)),
+            binary!(4, MicroOp::Add, quad, second, first),
+            binary!(4, MicroOp::Add, quad, made, carry),
+            binary!(4, MicroOp::ShiftRight, quad, made, Arg::Const(32)),
         ],
         exit: Exit::Next,
     };
@@ -272,23 +272,23 @@ pub(crate) fn subtract_with_carry(
     let plan = Plan {
         slots: &[read(Size::Long, 1, 2), modified(Size::Long, 0)],
         before: &[
-            binary(2, MicroOp::Sub, Size::Long, second, first),
-            binary(2, MicroOp::Sub, Size::Long, Arg::Temp(2), carry),
+            binary!(2, MicroOp::Sub, Size::Long, second, first),
+            binary!(2, MicroOp::Sub, Size::Long, Arg::Temp(2), carry),
         ],
         target: Target::Replacement {
             operand: operand(instr, 1),
             size: Size::Long,
         },
         behind: &[
-            unary(4, MicroOp::SignExtend, Size::Long, second),
-            unary(5, MicroOp::SignExtend, Size::Long, first),
-            binary(4, MicroOp::Sub, quad, made, Arg::Temp(5)),
-            binary(4, MicroOp::Sub, quad, made, carry),
+            unary!(4, MicroOp::SignExtend, Size::Long, second),
+            unary!(5, MicroOp::SignExtend, Size::Long, first),
+            binary!(4, MicroOp::Sub, quad, made, Arg::Temp(5)),
+            binary!(4, MicroOp::Sub, quad, made, carry),
             extended,
             equal,
             overflows,
-            binary(4, MicroOp::Add, quad, first, carry),
-            binary(4, MicroOp::LessUnsigned, quad, second, made),
+            binary!(4, MicroOp::Add, quad, first, carry),
+            binary!(4, MicroOp::LessUnsigned, quad, second, made),
         ],
         exit: Exit::Next,
     };
@@ -311,7 +311,7 @@ fn aligned_slot(base: Operand) -> Slot
 fn word_added() -> Micro
     ensures { result ≡ word_added }
 {
-    binary(2, MicroOp::Add, Size::Word, Arg::Temp(0), Arg::Temp(1))
+    binary!(2, MicroOp::Add, Size::Word, Arg::Temp(0), Arg::Temp(1))
 }
 
 /// An odd address is refused, before it is checked.
@@ -324,7 +324,7 @@ fn aligned_reference() -> [Micro; 5]
         write: true,
     };
     [
-        binary(4, MicroOp::And, Size::Byte, Arg::Temp(3), Arg::Const(1)),
+        binary!(4, MicroOp::And, Size::Byte, Arg::Temp(3), Arg::Const(1)),
         Micro::Refuse { when: 4 },
         check,
         Micro::Locked {
@@ -375,16 +375,16 @@ fn overflow_of_shift() -> [Micro; 10]
     let (count, made, other) = (Arg::Temp(0), Arg::Temp(4), Arg::Temp(5));
     let most = Arg::Const(32);
     [
-        unary(4, MicroOp::Move, byte, count),
-        binary(5, MicroOp::LessUnsigned, byte, most, count),
-        binary(4, MicroOp::SelectNonzero, byte, other, most),
-        unary(5, MicroOp::SignExtend, Size::Long, Arg::Temp(1)),
-        binary(4, MicroOp::ShiftLeft, quad, other, made),
-        unary(5, MicroOp::SignExtend, Size::Long, made),
-        binary(3, MicroOp::Equal, quad, made, other),
+        unary!(4, MicroOp::Move, byte, count),
+        binary!(5, MicroOp::LessUnsigned, byte, most, count),
+        binary!(4, MicroOp::SelectNonzero, byte, other, most),
+        unary!(5, MicroOp::SignExtend, Size::Long, Arg::Temp(1)),
+        binary!(4, MicroOp::ShiftLeft, quad, other, made),
+        unary!(5, MicroOp::SignExtend, Size::Long, made),
+        binary!(3, MicroOp::Equal, quad, made, other),
         inverted(3),
-        binary(4, MicroOp::Less, byte, count, Arg::Const(0)),
-        binary(3, MicroOp::AndNot, byte, Arg::Temp(3), made),
+        binary!(4, MicroOp::Less, byte, count, Arg::Const(0)),
+        binary!(3, MicroOp::AndNot, byte, Arg::Temp(3), made),
     ]
 }
 
@@ -402,11 +402,11 @@ pub(crate) fn arithmetic_shift(
     let plan = Plan {
         slots: &[read(Size::Byte, 0, 1), read(long, 1, 2), written(long)],
         before: &[
-            binary(2, MicroOp::ShiftLeft, long, source, count),
-            binary(4, MicroOp::Sub, Size::Byte, none, count),
-            binary(5, MicroOp::ShiftSigned, long, source, made),
-            binary(4, MicroOp::Less, Size::Byte, count, none),
-            binary(2, MicroOp::SelectNonzero, long, made, other),
+            binary!(2, MicroOp::ShiftLeft, long, source, count),
+            binary!(4, MicroOp::Sub, Size::Byte, none, count),
+            binary!(5, MicroOp::ShiftSigned, long, source, made),
+            binary!(4, MicroOp::Less, Size::Byte, count, none),
+            binary!(2, MicroOp::SelectNonzero, long, made, other),
         ],
         target: Target::Result {
             operand: operand(instr, 2),
@@ -434,17 +434,17 @@ pub(crate) fn rotate(
             written(Size::Long),
         ],
         before: &[
-            binary(4, MicroOp::And, Size::Byte, Arg::Temp(0), Arg::Const(31)),
-            binary(2, MicroOp::ShiftLeft, Size::Long, source, count),
-            binary(4, MicroOp::Sub, Size::Byte, Arg::Const(32), count),
-            binary(5, MicroOp::ShiftRight, Size::Long, source, count),
-            binary(2, MicroOp::Or, Size::Long, Arg::Temp(2), Arg::Temp(5)),
+            binary!(4, MicroOp::And, Size::Byte, Arg::Temp(0), Arg::Const(31)),
+            binary!(2, MicroOp::ShiftLeft, Size::Long, source, count),
+            binary!(4, MicroOp::Sub, Size::Byte, Arg::Const(32), count),
+            binary!(5, MicroOp::ShiftRight, Size::Long, source, count),
+            binary!(2, MicroOp::Or, Size::Long, Arg::Temp(2), Arg::Temp(5)),
         ],
         target: Target::Result {
             operand: operand(instr, 2),
             size: Size::Long,
         },
-        behind: &[unary(0, MicroOp::Move, Size::Long, Arg::Temp(2))],
+        behind: &[unary!(0, MicroOp::Move, Size::Long, Arg::Temp(2))],
         exit: Exit::Next,
     };
     assemble(alloc, codes, plan, instr)

@@ -23,8 +23,8 @@ const BITS_OF_BYTE: u64 = 3;
 fn put_bit_tested(program: &mut Vec<Micro>, state: bool, size: Size) -> Result<(), WantOfMemory>
     ensures { OnOk result (program.new.items ≡ program.old.items ++ bit_tested state size) }
 {
-    let shifted = binary(0, MicroOp::ShiftRight, size, Arg::Temp(1), Arg::Temp(0));
-    let bit = binary(0, MicroOp::And, Size::Byte, Arg::Temp(0), Arg::Const(1));
+    let shifted = binary!(0, MicroOp::ShiftRight, size, Arg::Temp(1), Arg::Temp(0));
+    let bit = binary!(0, MicroOp::And, Size::Byte, Arg::Temp(0), Arg::Const(1));
     if state {
         add(program, &[shifted, bit])
     } else {
@@ -44,8 +44,8 @@ fn with_bit_into(to: u8, size: Size, value: bool) -> [Micro; 2]
     ensures { result ≡ with_bit_into to size value }
 {
     [
-        binary(3, MicroOp::ShiftLeft, size, Arg::Const(1), Arg::Temp(0)),
-        binary(to, storing(value), size, Arg::Temp(1), Arg::Temp(3)),
+        binary!(3, MicroOp::ShiftLeft, size, Arg::Const(1), Arg::Temp(0)),
+        binary!(to, storing(value), size, Arg::Temp(1), Arg::Temp(3)),
     ]
 }
 
@@ -54,7 +54,7 @@ fn put_bit_stored(program: &mut Vec<Micro>, store: BitStore) -> Result<(), WantO
     ensures { OnOk result (program.new.items ≡ program.old.items ++ (Micro.Compute 4 MicroOp.LessUnsigned Size.Long (Arg.Const 31) (Arg.Temp 0) ∷ Micro.Refuse 4 ∷ bit_stored store)) }
 {
     let (last, position) = (Arg::Const(LAST_BIT), Arg::Temp(0));
-    let above = binary(4, MicroOp::LessUnsigned, Size::Long, last, position);
+    let above = binary!(4, MicroOp::LessUnsigned, Size::Long, last, position);
     let refuse = Micro::Refuse { when: 4 };
     match store {
         BitStore::Nothing => add(program, &[above, refuse]),
@@ -120,9 +120,9 @@ fn put_position(program: &mut Vec<Micro>) -> Result<(), WantOfMemory>
 {
     let (bits, last) = (Arg::Const(BITS_OF_BYTE), Arg::Const(LAST_BIT_OF_BYTE));
     let operations = [
-        binary(4, MicroOp::ShiftSigned, Size::Long, Arg::Temp(0), bits),
-        binary(2, MicroOp::Add, Size::Long, Arg::Temp(2), Arg::Temp(4)),
-        binary(0, MicroOp::And, Size::Byte, Arg::Temp(0), last),
+        binary!(4, MicroOp::ShiftSigned, Size::Long, Arg::Temp(0), bits),
+        binary!(2, MicroOp::Add, Size::Long, Arg::Temp(2), Arg::Temp(4)),
+        binary!(0, MicroOp::And, Size::Byte, Arg::Temp(0), last),
     ];
     add(program, &operations)
 }

@@ -55,8 +55,8 @@ fn flag_test(flags: (u8, Option<u8>)) -> Micro
     ensures { result ≡ flag_test flags }
 {
     match flags {
-        (first, None) => unary(0, MicroOp::Move, Size::Byte, Arg::Flag(first)),
-        (first, Some(second)) => binary(
+        (first, None) => unary!(0, MicroOp::Move, Size::Byte, Arg::Flag(first)),
+        (first, Some(second)) => binary!(
             0,
             MicroOp::Or,
             Size::Byte,
@@ -88,7 +88,7 @@ fn conditional_branch(
         other: instr.after,
     });
     if is_negated(condition) {
-        let inversion = binary(0, MicroOp::Xor, Size::Byte, Arg::Temp(0), Arg::Const(1));
+        let inversion = binary!(0, MicroOp::Xor, Size::Byte, Arg::Temp(0), Arg::Const(1));
         Ok(vec![in alloc; test, inversion, leave]?)
     } else {
         Ok(vec![in alloc; test, leave]?)
@@ -102,8 +102,8 @@ fn subroutine_branch(alloc: Global, instr: &Instr) -> Result<Vec<Micro>, AllocEr
     let (stack, below) = (Arg::Register(14), Arg::Const(0xFFFF_FFFC));
     let after = Arg::Const(u64::from(instr.after));
     Ok(vec![in alloc;
-        binary(1, MicroOp::Add, Size::Long, stack, below),
-        unary(2, MicroOp::Move, Size::Long, after),
+        binary!(1, MicroOp::Add, Size::Long, stack, below),
+        unary!(2, MicroOp::Move, Size::Long, after),
         Micro::Probe {
             place: 1,
             count: 4,
@@ -128,7 +128,7 @@ fn subroutine_return(alloc: Global) -> Result<Vec<Micro>, AllocError>
 {
     let stack = Arg::Register(14);
     Ok(vec![in alloc;
-        unary(1, MicroOp::Move, Size::Long, stack),
+        unary!(1, MicroOp::Move, Size::Long, stack),
         Micro::Probe {
             place: 1,
             count: 4,
@@ -139,7 +139,7 @@ fn subroutine_return(alloc: Global) -> Result<Vec<Micro>, AllocError>
             place: 1,
             count: 4
         },
-        binary(5, MicroOp::Add, Size::Long, stack, Arg::Const(4)),
+        binary!(5, MicroOp::Add, Size::Long, stack, Arg::Const(4)),
         Micro::Commit {
             register: 14,
             from: 5

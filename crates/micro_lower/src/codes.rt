@@ -12,15 +12,15 @@ fn signs_by(temp: u8, size: Size) -> [Micro; 2]
 {
     let (value, none) = (Arg::Temp(temp), Arg::Const(0));
     [
-        binary(6, MicroOp::Less, size, value, none),
-        binary(7, MicroOp::Equal, size, value, none),
+        binary!(6, MicroOp::Less, size, value, none),
+        binary!(7, MicroOp::Equal, size, value, none),
     ]
 }
 
 fn cleared(temp: u8) -> Micro
     ensures { result ≡ unary temp MicroOp.Move Size.Byte (Arg.Const 0) }
 {
-    unary(temp, MicroOp::Move, Size::Byte, Arg::Const(0))
+    unary!(temp, MicroOp::Move, Size::Byte, Arg::Const(0))
 }
 
 /// N and Z by comparing the first operand with the second.
@@ -29,8 +29,8 @@ fn put_signs_of_two(program: &mut Vec<Micro>, size: Size) -> Result<(), WantOfMe
 {
     let (first, second) = (Arg::Temp(0), Arg::Temp(1));
     let operations = [
-        binary(6, MicroOp::Less, size, first, second),
-        binary(7, MicroOp::Equal, size, first, second),
+        binary!(6, MicroOp::Less, size, first, second),
+        binary!(7, MicroOp::Equal, size, first, second),
         cleared(8),
     ];
     add(program, &operations)
@@ -45,12 +45,12 @@ fn put_overflow(program: &mut Vec<Micro>, op: MicroOp, size: Size) -> Result<(),
     let operations = [
         negative,
         zero,
-        unary(8, MicroOp::SignExtend, size, Arg::Temp(0)),
-        unary(9, MicroOp::SignExtend, size, Arg::Temp(1)),
-        binary(8, op, Size::Quad, made, other),
-        unary(9, MicroOp::SignExtend, size, Arg::Temp(2)),
-        binary(8, MicroOp::Equal, Size::Quad, made, other),
-        binary(8, MicroOp::Xor, Size::Byte, made, Arg::Const(1)),
+        unary!(8, MicroOp::SignExtend, size, Arg::Temp(0)),
+        unary!(9, MicroOp::SignExtend, size, Arg::Temp(1)),
+        binary!(8, op, Size::Quad, made, other),
+        unary!(9, MicroOp::SignExtend, size, Arg::Temp(2)),
+        binary!(8, MicroOp::Equal, Size::Quad, made, other),
+        binary!(8, MicroOp::Xor, Size::Byte, made, Arg::Const(1)),
     ];
     add(program, &operations)
 }
@@ -75,7 +75,7 @@ fn put_signs(program: &mut Vec<Micro>, nzv: CodeSource) -> Result<(), WantOfMemo
 fn below(size: Size, a: u8, b: u8) -> Micro
     ensures { result ≡ Micro.Compute 9 MicroOp.LessUnsigned size (Arg.Temp a) (Arg.Temp b) }
 {
-    binary(9, MicroOp::LessUnsigned, size, Arg::Temp(a), Arg::Temp(b))
+    binary!(9, MicroOp::LessUnsigned, size, Arg::Temp(a), Arg::Temp(b))
 }
 
 /// C: a sum is below an addend, a subtrahend above.

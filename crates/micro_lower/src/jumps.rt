@@ -25,7 +25,7 @@ pub(crate) fn branch_on_low_bit(
 ) -> Result<Vec<Micro>, WantOfMemory>
     ensures { IfOk result (λ p. p.items ≡ program_of codes (low_bit_plan state instr.now) instr.now) }
 {
-    let bit = binary(0, MicroOp::And, Size::Byte, Arg::Temp(0), Arg::Const(1));
+    let bit = binary!(0, MicroOp::And, Size::Byte, Arg::Temp(0), Arg::Const(1));
     let plan = Plan {
         slots: &[read(Size::Long, 0, 1), displaced(Size::Byte)],
         before: &[bit],
@@ -52,7 +52,7 @@ pub(crate) fn branch_on_low_bit(
 fn less(to: u8, a: Arg, b: Arg) -> Micro
     ensures { result ≡ Micro.Compute to MicroOp.Less Size.Long a b }
 {
-    binary(to, MicroOp::Less, Size::Long, a, b)
+    binary!(to, MicroOp::Less, Size::Long, a, b)
 }
 
 /// SOBGEQ, SOBGTR.
@@ -65,12 +65,12 @@ pub(crate) fn subtract_one_branch(
     ensures { IfOk result (λ p. p.items ≡ program_of codes (subtract_one_plan or_equal instr.now) instr.now) }
 {
     let (index, none) = (Arg::Temp(2), Arg::Const(0));
-    let overflows = binary(3, MicroOp::Equal, Size::Long, index, Arg::Const(GREATEST));
+    let overflows = binary!(3, MicroOp::Equal, Size::Long, index, Arg::Const(GREATEST));
     let at_least = [overflows, less(0, index, none), inverted(0)];
     let above = [overflows, less(0, none, index)];
     let plan = Plan {
         slots: &[modified(Size::Long, 0), displaced(Size::Byte)],
-        before: &[binary(2, MicroOp::Sub, Size::Long, Arg::Temp(0), Arg::Const(1))],
+        before: &[binary!(2, MicroOp::Sub, Size::Long, Arg::Temp(0), Arg::Const(1))],
         target: Target::Replacement {
             operand: operand(instr, 0),
             size: Size::Long,
@@ -91,7 +91,7 @@ pub(crate) fn add_one_branch(
     ensures { IfOk result (λ p. p.items ≡ program_of codes (add_one_plan or_equal instr.now) instr.now) }
 {
     let (limit, index) = (Arg::Temp(1), Arg::Temp(2));
-    let overflows = binary(3, MicroOp::Equal, Size::Long, index, Arg::Const(LEAST));
+    let overflows = binary!(3, MicroOp::Equal, Size::Long, index, Arg::Const(LEAST));
     let at_most = [overflows, less(0, limit, index), inverted(0)];
     let below = [overflows, less(0, index, limit)];
     let plan = Plan {
@@ -100,7 +100,7 @@ pub(crate) fn add_one_branch(
             modified(Size::Long, 0),
             displaced(Size::Byte),
         ],
-        before: &[binary(2, MicroOp::Add, Size::Long, Arg::Temp(0), Arg::Const(1))],
+        before: &[binary!(2, MicroOp::Add, Size::Long, Arg::Temp(0), Arg::Const(1))],
         target: Target::Replacement {
             operand: operand(instr, 1),
             size: Size::Long,
@@ -119,17 +119,17 @@ fn behind_sum(size: Size) -> [Micro; 11]
     let (limit, addend, index) = (Arg::Temp(0), Arg::Temp(1), Arg::Temp(2));
     let (made, other) = (Arg::Temp(4), Arg::Temp(5));
     [
-        unary(4, MicroOp::SignExtend, size, index),
-        unary(5, MicroOp::SignExtend, size, addend),
-        binary(4, MicroOp::Sub, Size::Quad, made, other),
-        unary(5, MicroOp::SignExtend, size, made),
-        binary(3, MicroOp::Equal, Size::Quad, made, other),
+        unary!(4, MicroOp::SignExtend, size, index),
+        unary!(5, MicroOp::SignExtend, size, addend),
+        binary!(4, MicroOp::Sub, Size::Quad, made, other),
+        unary!(5, MicroOp::SignExtend, size, made),
+        binary!(3, MicroOp::Equal, Size::Quad, made, other),
         inverted(3),
-        binary(4, MicroOp::Less, size, limit, index),
-        binary(5, MicroOp::Less, size, index, limit),
-        binary(1, MicroOp::Less, size, addend, Arg::Const(0)),
-        binary(4, MicroOp::SelectNonzero, Size::Byte, addend, other),
-        binary(0, MicroOp::Xor, Size::Byte, made, Arg::Const(1)),
+        binary!(4, MicroOp::Less, size, limit, index),
+        binary!(5, MicroOp::Less, size, index, limit),
+        binary!(1, MicroOp::Less, size, addend, Arg::Const(0)),
+        binary!(4, MicroOp::SelectNonzero, Size::Byte, addend, other),
+        binary!(0, MicroOp::Xor, Size::Byte, made, Arg::Const(1)),
     ]
 }
 
@@ -150,7 +150,7 @@ pub(crate) fn add_compare_branch(
             modified(size, 2),
             displaced(Size::Word),
         ],
-        before: &[binary(2, MicroOp::Add, size, Arg::Temp(2), Arg::Temp(1))],
+        before: &[binary!(2, MicroOp::Add, size, Arg::Temp(2), Arg::Temp(1))],
         target: Target::Replacement {
             operand: operand(instr, 2),
             size,
@@ -206,7 +206,7 @@ pub(crate) fn jump_to_subroutine(
     let after = Arg::Const(u64::from(instr.after));
     let plan = Plan {
         slots: &[addressed(Size::Byte)],
-        before: &[unary(2, MicroOp::Move, Size::Long, after)],
+        before: &[unary!(2, MicroOp::Move, Size::Long, after)],
         target: Target::Stack,
         behind: &[],
         exit: jump_exit(operand(instr, 0)),

@@ -1,8 +1,8 @@
 // Operations behind others, and computations of one and two arguments.
 ghost use Rattle.std.specs.Prelude.{◌≡◌, ◌++◌, OnOk};
 
-use micro_ops::{Arg, Micro, MicroOp};
-use vax_form::{Size, WantOfMemory};
+use micro_ops::Micro;
+use vax_form::WantOfMemory;
 
 pub(crate) fn add(program: &mut Vec<Micro>, operations: &[Micro]) -> Result<(), WantOfMemory>
     ensures { OnOk result (program.new.items ≡ program.old.items ++ operations.now) }
@@ -14,21 +14,24 @@ pub(crate) fn add(program: &mut Vec<Micro>, operations: &[Micro]) -> Result<(), 
 }
 
 /// A computation of one argument.
-pub(crate) fn unary(to: u8, op: MicroOp, size: Size, a: Arg) -> Micro
-    ensures { result ≡ Micro.Compute to op size a (Arg.Const 0) }
-{
-    Micro::Compute {
-        to,
-        op,
-        size,
-        a,
-        b: Arg::Const(0),
-    }
+macro_rules! unary {
+    ($to:expr, $op:expr, $size:expr, $a:expr $(,)?) => {
+        binary!($to, $op, $size, $a, Arg::Const(0))
+    };
 }
 
 /// A computation of two arguments.
-pub(crate) fn binary(to: u8, op: MicroOp, size: Size, a: Arg, b: Arg) -> Micro
-    ensures { result ≡ Micro.Compute to op size a b }
-{
-    Micro::Compute { to, op, size, a, b }
+macro_rules! binary {
+    ($to:expr, $op:expr, $size:expr, $a:expr, $b:expr $(,)?) => {
+        Micro::Compute {
+            to: $to,
+            op: $op,
+            size: $size,
+            a: $a,
+            b: $b,
+        }
+    };
 }
+
+pub(crate) use binary;
+pub(crate) use unary;

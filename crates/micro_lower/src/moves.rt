@@ -46,7 +46,7 @@ pub(crate) fn move_value(
 ) -> Result<Vec<Micro>, WantOfMemory>
     ensures { IfOk result (λ p. p.items ≡ program_of codes (move_plan size instr.now) instr.now) }
 {
-    let before = [unary(2, MicroOp::Move, size, Arg::Temp(0))];
+    let before = [unary!(2, MicroOp::Move, size, Arg::Temp(0))];
     to_second(alloc, codes, instr, read(size, 0, 1), size, &before, &[])
 }
 
@@ -61,7 +61,7 @@ pub(crate) fn move_zero_extended(
     ensures { IfOk result (λ p. p.items ≡ program_of codes (move_zero_extended_plan from to instr.now) instr.now) }
 {
     let (source, size) = (from.size(), to.size());
-    let before = [unary(2, MicroOp::Move, source, Arg::Temp(0))];
+    let before = [unary!(2, MicroOp::Move, source, Arg::Temp(0))];
     to_second(alloc, codes, instr, read(source, 0, 1), size, &before, &[])
 }
 
@@ -77,12 +77,12 @@ pub(crate) fn clear(
     let none = Arg::Const(0);
     let plan = Plan {
         slots: &[written(size)],
-        before: &[unary(2, MicroOp::Move, Size::Byte, none)],
+        before: &[unary!(2, MicroOp::Move, Size::Byte, none)],
         target: Target::Result {
             operand: operand(instr, 0),
             size,
         },
-        behind: &[unary(0, MicroOp::Move, Size::Byte, none)],
+        behind: &[unary!(0, MicroOp::Move, Size::Byte, none)],
         exit: Exit::Next,
     };
     assemble(alloc, codes, plan, instr)
@@ -111,8 +111,8 @@ pub(crate) fn move_complemented(
 {
     let size = width.size();
     let all = Arg::Const(ones(size));
-    let before = [binary(2, MicroOp::Sub, size, all, Arg::Temp(0))];
-    let behind = [unary(0, MicroOp::Move, size, Arg::Temp(2))];
+    let before = [binary!(2, MicroOp::Sub, size, all, Arg::Temp(0))];
+    let behind = [unary!(0, MicroOp::Move, size, Arg::Temp(2))];
     to_second(
         alloc,
         codes,
@@ -134,8 +134,8 @@ pub(crate) fn move_negated(
     ensures { IfOk result (λ p. p.items ≡ program_of codes (move_negated_plan width instr.now) instr.now) }
 {
     let (size, none) = (width.size(), Arg::Const(0));
-    let before = [binary(2, MicroOp::Sub, size, none, Arg::Temp(1))];
-    let behind = [unary(0, MicroOp::Move, Size::Byte, none)];
+    let before = [binary!(2, MicroOp::Sub, size, none, Arg::Temp(1))];
+    let behind = [unary!(0, MicroOp::Move, Size::Byte, none)];
     to_second(
         alloc,
         codes,
@@ -160,11 +160,11 @@ pub(crate) fn convert(
     let (source, size) = (from.size(), to.size());
     let [extended, equal, overflows] = overflow_by(size);
     let before = [
-        unary(2, MicroOp::SignExtend, source, Arg::Temp(0)),
-        unary(2, MicroOp::Move, size, Arg::Temp(2)),
+        unary!(2, MicroOp::SignExtend, source, Arg::Temp(0)),
+        unary!(2, MicroOp::Move, size, Arg::Temp(2)),
     ];
     let behind = [
-        unary(4, MicroOp::SignExtend, source, Arg::Temp(0)),
+        unary!(4, MicroOp::SignExtend, source, Arg::Temp(0)),
         extended,
         equal,
         overflows,
@@ -189,7 +189,7 @@ pub(crate) fn move_address(
 ) -> Result<Vec<Micro>, WantOfMemory>
     ensures { IfOk result (λ p. p.items ≡ program_of codes (move_address_plan size instr.now) instr.now) }
 {
-    let before = [unary(2, MicroOp::Move, Size::Long, Arg::Temp(0))];
+    let before = [unary!(2, MicroOp::Move, Size::Long, Arg::Temp(0))];
     to_second(
         alloc,
         codes,
@@ -212,7 +212,7 @@ pub(crate) fn push(
 {
     let plan = Plan {
         slots: &[slot],
-        before: &[unary(2, MicroOp::Move, Size::Long, Arg::Temp(0))],
+        before: &[unary!(2, MicroOp::Move, Size::Long, Arg::Temp(0))],
         target: Target::Stack,
         behind: &[],
         exit: Exit::Next,

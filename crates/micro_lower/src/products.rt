@@ -20,9 +20,9 @@ fn product() -> [Micro; 3]
 {
     let (first, second) = (Arg::Temp(4), Arg::Temp(5));
     [
-        unary(4, MicroOp::SignExtend, Size::Long, Arg::Temp(0)),
-        unary(5, MicroOp::SignExtend, Size::Long, Arg::Temp(1)),
-        binary(0, MicroOp::Mul, Size::Quad, first, second),
+        unary!(4, MicroOp::SignExtend, Size::Long, Arg::Temp(0)),
+        unary!(5, MicroOp::SignExtend, Size::Long, Arg::Temp(1)),
+        binary!(0, MicroOp::Mul, Size::Quad, first, second),
     ]
 }
 
@@ -61,14 +61,14 @@ fn put_sum(program: &mut Vec<Micro>, instr: &Instr, steps: &mut Steps) -> Result
     let plan = Plan {
         slots: &[read(long, 1, 2), written(quad)],
         before: &[
-            unary(4, MicroOp::SignExtend, long, Arg::Temp(1)),
-            binary(2, MicroOp::Add, quad, Arg::Temp(0), Arg::Temp(4)),
+            unary!(4, MicroOp::SignExtend, long, Arg::Temp(1)),
+            binary!(2, MicroOp::Add, quad, Arg::Temp(0), Arg::Temp(4)),
         ],
         target: Target::Result {
             operand: operand(instr, 3),
             size: quad,
         },
-        behind: &[unary(0, MicroOp::Move, quad, Arg::Temp(2))],
+        behind: &[unary!(0, MicroOp::Move, quad, Arg::Temp(2))],
         exit: Exit::Next,
     };
     let codes = sources_of(Operation::ExtendedMultiply);

@@ -65,7 +65,7 @@ pub(crate) fn displaced(size: Size) -> Slot
 pub(crate) fn inverted(temp: u8) -> Micro
     ensures { result ≡ inverted temp }
 {
-    binary(
+    binary!(
         temp,
         MicroOp::Xor,
         Size::Byte,
@@ -79,8 +79,8 @@ pub(crate) fn overflow_by(size: Size) -> [Micro; 3]
     ensures { result ≡ overflow_by size }
 {
     [
-        unary(5, MicroOp::SignExtend, size, Arg::Temp(2)),
-        binary(3, MicroOp::Equal, Size::Quad, Arg::Temp(4), Arg::Temp(5)),
+        unary!(5, MicroOp::SignExtend, size, Arg::Temp(2)),
+        binary!(3, MicroOp::Equal, Size::Quad, Arg::Temp(4), Arg::Temp(5)),
         inverted(3),
     ]
 }

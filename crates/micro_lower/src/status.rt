@@ -17,13 +17,13 @@ const USER_MODE: u64 = 0x03C0_0000;
 fn doubled() -> Micro
     ensures { result ≡ doubled }
 {
-    binary(2, MicroOp::Add, Size::Byte, Arg::Temp(2), Arg::Temp(2))
+    binary!(2, MicroOp::Add, Size::Byte, Arg::Temp(2), Arg::Temp(2))
 }
 
 fn with_flag(flag: u8) -> Micro
     ensures { result ≡ flag_added flag }
 {
-    binary(2, MicroOp::Add, Size::Byte, Arg::Temp(2), Arg::Flag(flag))
+    binary!(2, MicroOp::Add, Size::Byte, Arg::Temp(2), Arg::Flag(flag))
 }
 
 /// The low byte of the status into 2, from DV down to C, and the operation behind it.
@@ -32,7 +32,7 @@ fn status_and(last: Micro) -> [Micro; 16]
 {
     let double = doubled();
     [
-        unary(2, MicroOp::Move, Size::Byte, Arg::Flag(7)),
+        unary!(2, MicroOp::Move, Size::Byte, Arg::Flag(7)),
         double,
         with_flag(6),
         double,
@@ -60,7 +60,7 @@ pub(crate) fn move_psl(
     ensures { IfOk result (λ p. p.items ≡ program_of codes (move_psl_plan instr.now) instr.now) }
 {
     let mode = Arg::Const(USER_MODE);
-    let mode = binary(2, MicroOp::Add, Size::Long, Arg::Temp(2), mode);
+    let mode = binary!(2, MicroOp::Add, Size::Long, Arg::Temp(2), mode);
     let plan = Plan {
         slots: &[written(Size::Long)],
         before: &status_and(mode),
@@ -87,8 +87,8 @@ pub(crate) fn change_psw(
     ensures { IfOk result (λ p. p.items ≡ program_of codes (change_psw_plan op) instr.now) }
 {
     let (mask, most) = (Arg::Temp(0), Arg::Const(GREATEST_MASK));
-    let above = binary(1, MicroOp::LessUnsigned, Size::Word, most, mask);
-    let changed = binary(2, op, Size::Byte, Arg::Temp(2), mask);
+    let above = binary!(1, MicroOp::LessUnsigned, Size::Word, most, mask);
+    let changed = binary!(2, op, Size::Byte, Arg::Temp(2), mask);
     let mut before = Vec::new(alloc);
     add(&mut before, &[above, Micro::Refuse { when: 1 }])?;
     add(&mut before, &status_and(changed))?;
