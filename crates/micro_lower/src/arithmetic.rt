@@ -3,11 +3,11 @@
 ghost use Rattle.std.specs.Prelude.{◌≡◌, ◌≤◌, IfOk, length};
 ghost use Rattle.vax_form.specs.Size.{size_of};
 ghost use Rattle.micro_lower.specs.Plans.{plan_of, program_of};
-ghost use Rattle.micro_lower.specs.Rows.{compare_plan, test_plan, bit_test_plan, micro_of, behind_binary, two_operands_plan, three_operands_plan, by_one_plan, add_with_carry_plan, subtract_with_carry_plan, word_added, aligned_slot, aligned_reference, add_aligned_plan, overflow_of_shift, arithmetic_shift_plan, rotate_plan};
+ghost use Rattle.micro_lower.specs.Rows.{compare_plan, test_plan, bit_test_plan, micro_of, behind_binary, two_operands_plan, three_operands_plan, by_one_plan, add_with_carry_plan, subtract_with_carry_plan, aligned_slot, add_aligned_plan, arithmetic_shift_plan, rotate_plan};
 
 use crate::micros::{binary, unary};
 use crate::plans::{Plan, Slot, Target, assemble};
-use crate::rows::{inverted, modified, operand, overflow_by, read, register_target, written};
+use crate::rows::{modified, operand, overflow_by, read, register_target, written};
 use micro_ops::{Arg, CodeSources, Exit, LockedOp, Micro, MicroOp};
 use std::alloc::Global;
 use vax_form::{BinaryOperation, Instr, Operand, Size, WantOfMemory, Width};
@@ -220,7 +220,42 @@ pub(crate) fn by_one(
     assemble(alloc, codes, plan, instr)
 }
 
-/// ADWC: C is bit 32 of the sum.
+/// A carry, as an addend.
+const CARRY: Arg = Arg::Flag(3);
+
+/// V into 3: the number in 4 is not the longword in 2 extended.
+const LONG_EXTENDED: Micro = unary!(5, MicroOp::SignExtend, Size::Long, Arg::Temp(2));
+
+const IS_EXTENDED: Micro = binary!(3, MicroOp::Equal, Size::Quad, Arg::Temp(4), Arg::Temp(5));
+
+const OVERFLOWS: Micro = binary!(3, MicroOp::Xor, Size::Byte, Arg::Temp(3), Arg::Const(1));
+
+const SUM_WITH_CARRY: [Micro; 2] = [
+    binary!(2, MicroOp::Add, Size::Long, Arg::Temp(0), Arg::Temp(1)),
+    binary!(2, MicroOp::Add, Size::Long, Arg::Temp(2), CARRY),
+];
+
+/// V, and C, which is bit 32 of the sum.
+const CODES_OF_SUM: [Micro; 10] = [
+    unary!(4, MicroOp::SignExtend, Size::Long, Arg::Temp(0)),
+    unary!(5, MicroOp::SignExtend, Size::Long, Arg::Temp(1)),
+    binary!(4, MicroOp::Add, Size::Quad, Arg::Temp(4), Arg::Temp(5)),
+    binary!(4, MicroOp::Add, Size::Quad, Arg::Temp(4), CARRY),
+    LONG_EXTENDED,
+    IS_EXTENDED,
+    OVERFLOWS,
+    binary!(4, MicroOp::Add, Size::Quad, Arg::Temp(0), Arg::Temp(1)),
+    binary!(4, MicroOp::Add, Size::Quad, Arg::Temp(4), CARRY),
+    binary!(
+        4,
+        MicroOp::ShiftRight,
+        Size::Quad,
+        Arg::Temp(4),
+        Arg::Const(32)
+    ),
+];
+
+/// ADWC.
 pub(crate) fn add_with_carry(
     alloc: Global,
     codes: CodeSources,
@@ -228,37 +263,44 @@ pub(crate) fn add_with_carry(
 ) -> Result<Vec<Micro>, WantOfMemory>
     ensures { IfOk result (λ p. p.items ≡ program_of codes (add_with_carry_plan instr.now) instr.now) }
 {
-    let (quad, carry) = (Size::Quad, Arg::Flag(3));
-    let (first, second, made) = (Arg::Temp(1), Arg::Temp(0), Arg::Temp(4));
-    let [extended, equal, overflows] = overflow_by(Size::Long);
     let plan = Plan {
         slots: &[read(Size::Long, 1, 2), modified(Size::Long, 0)],
-        before: &[
-            binary!(2, MicroOp::Add, Size::Long, second, first),
-            binary!(2, MicroOp::Add, Size::Long, Arg::Temp(2), carry),
-        ],
+        before: &SUM_WITH_CARRY,
         target: Target::Replacement {
             operand: operand(instr, 1),
             size: Size::Long,
         },
-        behind: &[
-            unary!(4, MicroOp::SignExtend, Size::Long, second),
-            unary!(5, MicroOp::SignExtend, Size::Long, first),
-            binary!(4, MicroOp::Add, quad, made, Arg::Temp(5)),
-            binary!(4, MicroOp::Add, quad, made, carry),
-            extended,
-            equal,
-            overflows,
-            binary!(4, MicroOp::Add, quad, second, first),
-            binary!(4, MicroOp::Add, quad, made, carry),
-            binary!(4, MicroOp::ShiftRight, quad, made, Arg::Const(32)),
-        ],
+        behind: &CODES_OF_SUM,
         exit: Exit::Next,
     };
     assemble(alloc, codes, plan, instr)
 }
 
-/// SBWC: C says that the first is below the second with C.
+const DIFFERENCE_WITH_CARRY: [Micro; 2] = [
+    binary!(2, MicroOp::Sub, Size::Long, Arg::Temp(0), Arg::Temp(1)),
+    binary!(2, MicroOp::Sub, Size::Long, Arg::Temp(2), CARRY),
+];
+
+/// V, and C, which says that the first is below the second with C.
+const CODES_OF_DIFFERENCE: [Micro; 9] = [
+    unary!(4, MicroOp::SignExtend, Size::Long, Arg::Temp(0)),
+    unary!(5, MicroOp::SignExtend, Size::Long, Arg::Temp(1)),
+    binary!(4, MicroOp::Sub, Size::Quad, Arg::Temp(4), Arg::Temp(5)),
+    binary!(4, MicroOp::Sub, Size::Quad, Arg::Temp(4), CARRY),
+    LONG_EXTENDED,
+    IS_EXTENDED,
+    OVERFLOWS,
+    binary!(4, MicroOp::Add, Size::Quad, Arg::Temp(1), CARRY),
+    binary!(
+        4,
+        MicroOp::LessUnsigned,
+        Size::Quad,
+        Arg::Temp(0),
+        Arg::Temp(4)
+    ),
+];
+
+/// SBWC.
 pub(crate) fn subtract_with_carry(
     alloc: Global,
     codes: CodeSources,
@@ -266,30 +308,14 @@ pub(crate) fn subtract_with_carry(
 ) -> Result<Vec<Micro>, WantOfMemory>
     ensures { IfOk result (λ p. p.items ≡ program_of codes (subtract_with_carry_plan instr.now) instr.now) }
 {
-    let (quad, carry) = (Size::Quad, Arg::Flag(3));
-    let (first, second, made) = (Arg::Temp(1), Arg::Temp(0), Arg::Temp(4));
-    let [extended, equal, overflows] = overflow_by(Size::Long);
     let plan = Plan {
         slots: &[read(Size::Long, 1, 2), modified(Size::Long, 0)],
-        before: &[
-            binary!(2, MicroOp::Sub, Size::Long, second, first),
-            binary!(2, MicroOp::Sub, Size::Long, Arg::Temp(2), carry),
-        ],
+        before: &DIFFERENCE_WITH_CARRY,
         target: Target::Replacement {
             operand: operand(instr, 1),
             size: Size::Long,
         },
-        behind: &[
-            unary!(4, MicroOp::SignExtend, Size::Long, second),
-            unary!(5, MicroOp::SignExtend, Size::Long, first),
-            binary!(4, MicroOp::Sub, quad, made, Arg::Temp(5)),
-            binary!(4, MicroOp::Sub, quad, made, carry),
-            extended,
-            equal,
-            overflows,
-            binary!(4, MicroOp::Add, quad, first, carry),
-            binary!(4, MicroOp::LessUnsigned, quad, second, made),
-        ],
+        behind: &CODES_OF_DIFFERENCE,
         exit: Exit::Next,
     };
     assemble(alloc, codes, plan, instr)
@@ -308,34 +334,27 @@ fn aligned_slot(base: Operand) -> Slot
 }
 
 /// The sum of the words in 0 and 1 goes into 2.
-fn word_added() -> Micro
-    ensures { result ≡ word_added }
-{
-    binary!(2, MicroOp::Add, Size::Word, Arg::Temp(0), Arg::Temp(1))
-}
+const WORD_ADDED: Micro = binary!(2, MicroOp::Add, Size::Word, Arg::Temp(0), Arg::Temp(1));
+
+const CHECKED: Micro = Micro::Probe {
+    place: 3,
+    count: 2,
+    write: true,
+};
 
 /// An odd address is refused, before it is checked.
-fn aligned_reference() -> [Micro; 5]
-    ensures { result ≡ aligned_reference }
-{
-    let check = Micro::Probe {
+const ALIGNED_REFERENCE: [Micro; 5] = [
+    binary!(4, MicroOp::And, Size::Byte, Arg::Temp(3), Arg::Const(1)),
+    Micro::Refuse { when: 4 },
+    CHECKED,
+    Micro::Locked {
+        to: 0,
         place: 3,
-        count: 2,
-        write: true,
-    };
-    [
-        binary!(4, MicroOp::And, Size::Byte, Arg::Temp(3), Arg::Const(1)),
-        Micro::Refuse { when: 4 },
-        check,
-        Micro::Locked {
-            to: 0,
-            place: 3,
-            kind: LockedOp::AddWord,
-            from: 1,
-        },
-        word_added(),
-    ]
-}
+        kind: LockedOp::AddWord,
+        from: 1,
+    },
+    WORD_ADDED,
+];
 
 /// ADAWI.
 pub(crate) fn add_aligned_word(
@@ -348,7 +367,7 @@ pub(crate) fn add_aligned_word(
     let base = operand(instr, 1);
     let plan = Plan {
         slots: &[read(Size::Word, 1, 2), aligned_slot(base)],
-        before: &[word_added()],
+        before: &[WORD_ADDED],
         target: register_target(base, Size::Word),
         behind: &[],
         exit: Exit::Next,
@@ -356,9 +375,8 @@ pub(crate) fn add_aligned_word(
     match base {
         Operand::Register(_) => assemble(alloc, codes, plan, instr),
         Operand::Unused | Operand::Value(_) | Operand::Place { .. } | Operand::Target(_) => {
-            let before = aligned_reference();
             let plan = Plan {
-                before: &before,
+                before: &ALIGNED_REFERENCE,
                 ..plan
             };
             assemble(alloc, codes, plan, instr)
@@ -368,27 +386,65 @@ pub(crate) fn add_aligned_word(
 
 /// V of ASHL into 3: the source as a signed quadword, shifted by at most 32, is not its low longword, and the count is
 /// not negative.
-fn overflow_of_shift() -> [Micro; 10]
-    ensures { result ≡ overflow_of_shift }
-{
-    let (byte, quad) = (Size::Byte, Size::Quad);
-    let (count, made, other) = (Arg::Temp(0), Arg::Temp(4), Arg::Temp(5));
-    let most = Arg::Const(32);
-    [
-        unary!(4, MicroOp::Move, byte, count),
-        binary!(5, MicroOp::LessUnsigned, byte, most, count),
-        binary!(4, MicroOp::SelectNonzero, byte, other, most),
-        unary!(5, MicroOp::SignExtend, Size::Long, Arg::Temp(1)),
-        binary!(4, MicroOp::ShiftLeft, quad, other, made),
-        unary!(5, MicroOp::SignExtend, Size::Long, made),
-        binary!(3, MicroOp::Equal, quad, made, other),
-        inverted(3),
-        binary!(4, MicroOp::Less, byte, count, Arg::Const(0)),
-        binary!(3, MicroOp::AndNot, byte, Arg::Temp(3), made),
-    ]
-}
+const OVERFLOW_OF_SHIFT: [Micro; 10] = [
+    unary!(4, MicroOp::Move, Size::Byte, Arg::Temp(0)),
+    binary!(
+        5,
+        MicroOp::LessUnsigned,
+        Size::Byte,
+        Arg::Const(32),
+        Arg::Temp(0)
+    ),
+    binary!(
+        4,
+        MicroOp::SelectNonzero,
+        Size::Byte,
+        Arg::Temp(5),
+        Arg::Const(32)
+    ),
+    unary!(5, MicroOp::SignExtend, Size::Long, Arg::Temp(1)),
+    binary!(
+        4,
+        MicroOp::ShiftLeft,
+        Size::Quad,
+        Arg::Temp(5),
+        Arg::Temp(4)
+    ),
+    unary!(5, MicroOp::SignExtend, Size::Long, Arg::Temp(4)),
+    binary!(3, MicroOp::Equal, Size::Quad, Arg::Temp(4), Arg::Temp(5)),
+    OVERFLOWS,
+    binary!(4, MicroOp::Less, Size::Byte, Arg::Temp(0), Arg::Const(0)),
+    binary!(3, MicroOp::AndNot, Size::Byte, Arg::Temp(3), Arg::Temp(4)),
+];
 
-/// ASHL: to the left by the unsigned count, or with a negative count to the right by what it lacks to 256.
+/// To the left by the unsigned count, or with a negative count to the right by what it lacks to 256.
+const SHIFTED: [Micro; 5] = [
+    binary!(
+        2,
+        MicroOp::ShiftLeft,
+        Size::Long,
+        Arg::Temp(1),
+        Arg::Temp(0)
+    ),
+    binary!(4, MicroOp::Sub, Size::Byte, Arg::Const(0), Arg::Temp(0)),
+    binary!(
+        5,
+        MicroOp::ShiftSigned,
+        Size::Long,
+        Arg::Temp(1),
+        Arg::Temp(4)
+    ),
+    binary!(4, MicroOp::Less, Size::Byte, Arg::Temp(0), Arg::Const(0)),
+    binary!(
+        2,
+        MicroOp::SelectNonzero,
+        Size::Long,
+        Arg::Temp(4),
+        Arg::Temp(5)
+    ),
+];
+
+/// ASHL.
 pub(crate) fn arithmetic_shift(
     alloc: Global,
     codes: CodeSources,
@@ -396,29 +452,42 @@ pub(crate) fn arithmetic_shift(
 ) -> Result<Vec<Micro>, WantOfMemory>
     ensures { IfOk result (λ p. p.items ≡ program_of codes (arithmetic_shift_plan instr.now) instr.now) }
 {
-    let (long, none) = (Size::Long, Arg::Const(0));
-    let (count, source) = (Arg::Temp(0), Arg::Temp(1));
-    let (made, other) = (Arg::Temp(4), Arg::Temp(5));
+    let long = Size::Long;
     let plan = Plan {
         slots: &[read(Size::Byte, 0, 1), read(long, 1, 2), written(long)],
-        before: &[
-            binary!(2, MicroOp::ShiftLeft, long, source, count),
-            binary!(4, MicroOp::Sub, Size::Byte, none, count),
-            binary!(5, MicroOp::ShiftSigned, long, source, made),
-            binary!(4, MicroOp::Less, Size::Byte, count, none),
-            binary!(2, MicroOp::SelectNonzero, long, made, other),
-        ],
+        before: &SHIFTED,
         target: Target::Result {
             operand: operand(instr, 2),
             size: long,
         },
-        behind: &overflow_of_shift(),
+        behind: &OVERFLOW_OF_SHIFT,
         exit: Exit::Next,
     };
     assemble(alloc, codes, plan, instr)
 }
 
-/// ROTL: by the count modulo 32, and what it lacks to 32 to the right.
+/// By the count modulo 32, and what it lacks to 32 to the right.
+const ROTATED: [Micro; 5] = [
+    binary!(4, MicroOp::And, Size::Byte, Arg::Temp(0), Arg::Const(31)),
+    binary!(
+        2,
+        MicroOp::ShiftLeft,
+        Size::Long,
+        Arg::Temp(1),
+        Arg::Temp(4)
+    ),
+    binary!(4, MicroOp::Sub, Size::Byte, Arg::Const(32), Arg::Temp(4)),
+    binary!(
+        5,
+        MicroOp::ShiftRight,
+        Size::Long,
+        Arg::Temp(1),
+        Arg::Temp(4)
+    ),
+    binary!(2, MicroOp::Or, Size::Long, Arg::Temp(2), Arg::Temp(5)),
+];
+
+/// ROTL.
 pub(crate) fn rotate(
     alloc: Global,
     codes: CodeSources,
@@ -426,20 +495,13 @@ pub(crate) fn rotate(
 ) -> Result<Vec<Micro>, WantOfMemory>
     ensures { IfOk result (λ p. p.items ≡ program_of codes (rotate_plan instr.now) instr.now) }
 {
-    let (source, count) = (Arg::Temp(1), Arg::Temp(4));
     let plan = Plan {
         slots: &[
             read(Size::Byte, 0, 1),
             read(Size::Long, 1, 2),
             written(Size::Long),
         ],
-        before: &[
-            binary!(4, MicroOp::And, Size::Byte, Arg::Temp(0), Arg::Const(31)),
-            binary!(2, MicroOp::ShiftLeft, Size::Long, source, count),
-            binary!(4, MicroOp::Sub, Size::Byte, Arg::Const(32), count),
-            binary!(5, MicroOp::ShiftRight, Size::Long, source, count),
-            binary!(2, MicroOp::Or, Size::Long, Arg::Temp(2), Arg::Temp(5)),
-        ],
+        before: &ROTATED,
         target: Target::Result {
             operand: operand(instr, 2),
             size: Size::Long,
