@@ -7,10 +7,10 @@ ghost use Rattle.micro_lower.specs.Rows.{compare_plan, test_plan, bit_test_plan,
 
 use crate::micros::{binary, unary};
 use crate::plans::{Plan, Slot, Target, assemble};
-use crate::rows::{modified, operand, overflow_by, read, register_target, written};
+use crate::rows::{modified, operand, overflow_by, read, register_target, slot, written};
 use micro_ops::{Arg, CodeSources, Exit, LockedOp, Micro, MicroOp};
 use std::alloc::Global;
-use vax_form::{BinaryOperation, Instr, Operand, Size, WantOfMemory, Width};
+use vax_form::{Access, BinaryOperation, Instr, Operand, Size, WantOfMemory, Width};
 
 /// CMP.
 pub(crate) fn compare(
@@ -196,6 +196,9 @@ pub(crate) fn three_operands(
     assemble_binary(alloc, operation, size, plan, codes, instr)
 }
 
+/// 1 into 1.
+const ONE: Micro = unary!(1, MicroOp::Move, Size::Byte, Arg::Const(1));
+
 /// INC, DEC.
 pub(crate) fn by_one(
     alloc: Global,
@@ -206,15 +209,15 @@ pub(crate) fn by_one(
 ) -> Result<Vec<Micro>, WantOfMemory>
     ensures { IfOk result (λ p. p.items ≡ program_of codes (by_one_plan op width instr.now) instr.now) }
 {
-    let (size, one) = (width.size(), Arg::Const(1));
+    let size = width.size();
     let plan = Plan {
         slots: &[modified(size, 0)],
-        before: &[binary!(2, op, size, Arg::Temp(0), one)],
+        before: &[binary!(2, op, size, Arg::Temp(0), Arg::Const(1))],
         target: Target::Replacement {
             operand: operand(instr, 0),
             size,
         },
-        behind: &[unary!(1, MicroOp::Move, Size::Byte, one)],
+        behind: &[ONE],
         exit: Exit::Next,
     };
     assemble(alloc, codes, plan, instr)
@@ -255,6 +258,12 @@ const CODES_OF_SUM: [Micro; 10] = [
     ),
 ];
 
+/// The second is modified.
+const LONGWORDS: [Slot; 2] = [
+    slot!(Access::Read, Size::Long, 1, 2),
+    slot!(Access::Modify, Size::Long, 0, 3),
+];
+
 /// ADWC.
 pub(crate) fn add_with_carry(
     alloc: Global,
@@ -264,7 +273,7 @@ pub(crate) fn add_with_carry(
     ensures { IfOk result (λ p. p.items ≡ program_of codes (add_with_carry_plan instr.now) instr.now) }
 {
     let plan = Plan {
-        slots: &[read(Size::Long, 1, 2), modified(Size::Long, 0)],
+        slots: &LONGWORDS,
         before: &SUM_WITH_CARRY,
         target: Target::Replacement {
             operand: operand(instr, 1),
@@ -309,7 +318,7 @@ pub(crate) fn subtract_with_carry(
     ensures { IfOk result (λ p. p.items ≡ program_of codes (subtract_with_carry_plan instr.now) instr.now) }
 {
     let plan = Plan {
-        slots: &[read(Size::Long, 1, 2), modified(Size::Long, 0)],
+        slots: &LONGWORDS,
         before: &DIFFERENCE_WITH_CARRY,
         target: Target::Replacement {
             operand: operand(instr, 1),
@@ -444,6 +453,13 @@ const SHIFTED: [Micro; 5] = [
     ),
 ];
 
+/// The count, the source and the result.
+const SHIFT: [Slot; 3] = [
+    slot!(Access::Read, Size::Byte, 0, 1),
+    slot!(Access::Read, Size::Long, 1, 2),
+    slot!(Access::Write, Size::Long, 2, 3),
+];
+
 /// ASHL.
 pub(crate) fn arithmetic_shift(
     alloc: Global,
@@ -454,7 +470,7 @@ pub(crate) fn arithmetic_shift(
 {
     let long = Size::Long;
     let plan = Plan {
-        slots: &[read(Size::Byte, 0, 1), read(long, 1, 2), written(long)],
+        slots: &SHIFT,
         before: &SHIFTED,
         target: Target::Result {
             operand: operand(instr, 2),
@@ -487,6 +503,9 @@ const ROTATED: [Micro; 5] = [
     binary!(2, MicroOp::Or, Size::Long, Arg::Temp(2), Arg::Temp(5)),
 ];
 
+/// The result is also in 0.
+const COPY: Micro = unary!(0, MicroOp::Move, Size::Long, Arg::Temp(2));
+
 /// ROTL.
 pub(crate) fn rotate(
     alloc: Global,
@@ -496,17 +515,13 @@ pub(crate) fn rotate(
     ensures { IfOk result (λ p. p.items ≡ program_of codes (rotate_plan instr.now) instr.now) }
 {
     let plan = Plan {
-        slots: &[
-            read(Size::Byte, 0, 1),
-            read(Size::Long, 1, 2),
-            written(Size::Long),
-        ],
+        slots: &SHIFT,
         before: &ROTATED,
         target: Target::Result {
             operand: operand(instr, 2),
             size: Size::Long,
         },
-        behind: &[unary!(0, MicroOp::Move, Size::Long, Arg::Temp(2))],
+        behind: &[COPY],
         exit: Exit::Next,
     };
     assemble(alloc, codes, plan, instr)

@@ -5,11 +5,11 @@ ghost use Rattle.micro_lower.specs.Plans.{program_of};
 ghost use Rattle.micro_lower.specs.Rows.{bit_tested, storing, with_bit_into, bit_stored, locked_op, byte_program, before_bit, bit_target, bit_branch_plan};
 
 use crate::micros::{add, binary};
-use crate::plans::{Plan, Target, assemble};
-use crate::rows::{branch_exit, displaced, field, inverted, operand, read, register_target};
+use crate::plans::{Plan, Slot, Target, assemble};
+use crate::rows::{branch_exit, operand, register_target, slot};
 use micro_ops::{Arg, CodeSources, LockedOp, Micro, MicroOp};
 use std::alloc::Global;
-use vax_form::{BitBranch, BitStore, Instr, Operand, Size, WantOfMemory};
+use vax_form::{Access, BitBranch, BitStore, Instr, Operand, Size, WantOfMemory};
 
 /// The greatest number of a bit in a register, and in a byte.
 const LAST_BIT: u64 = 31;
@@ -19,16 +19,20 @@ const LAST_BIT_OF_BYTE: u64 = 7;
 /// Bytes to the number of bits: the power of two.
 const BITS_OF_BYTE: u64 = 3;
 
+/// The last bit of 0 alone, and the other one for it.
+const BIT: Micro = binary!(0, MicroOp::And, Size::Byte, Arg::Temp(0), Arg::Const(1));
+
+const INVERTED: Micro = binary!(0, MicroOp::Xor, Size::Byte, Arg::Temp(0), Arg::Const(1));
+
 /// Whether the bit of that number in 0 of the value in 1 is as the branch wants it.
 fn put_bit_tested(program: &mut Vec<Micro>, state: bool, size: Size) -> Result<(), WantOfMemory>
     ensures { OnOk result (program.new.items ≡ program.old.items ++ bit_tested state size) }
 {
     let shifted = binary!(0, MicroOp::ShiftRight, size, Arg::Temp(1), Arg::Temp(0));
-    let bit = binary!(0, MicroOp::And, Size::Byte, Arg::Temp(0), Arg::Const(1));
     if state {
-        add(program, &[shifted, bit])
+        add(program, &[shifted, BIT])
     } else {
-        add(program, &[shifted, bit, inverted(0)])
+        add(program, &[shifted, BIT, INVERTED])
     }
 }
 
@@ -49,18 +53,25 @@ fn with_bit_into(to: u8, size: Size, value: bool) -> [Micro; 2]
     ]
 }
 
+const ABOVE: Micro = binary!(
+    4,
+    MicroOp::LessUnsigned,
+    Size::Long,
+    Arg::Const(LAST_BIT),
+    Arg::Temp(0)
+);
+
+const REFUSED: Micro = Micro::Refuse { when: 4 };
+
 /// A position above 31 is no bit of a register. What is left in the register goes into 2.
 fn put_bit_stored(program: &mut Vec<Micro>, store: BitStore) -> Result<(), WantOfMemory>
     ensures { OnOk result (program.new.items ≡ program.old.items ++ (Micro.Compute 4 MicroOp.LessUnsigned Size.Long (Arg.Const 31) (Arg.Temp 0) ∷ Micro.Refuse 4 ∷ bit_stored store)) }
 {
-    let (last, position) = (Arg::Const(LAST_BIT), Arg::Temp(0));
-    let above = binary!(4, MicroOp::LessUnsigned, Size::Long, last, position);
-    let refuse = Micro::Refuse { when: 4 };
     match store {
-        BitStore::Nothing => add(program, &[above, refuse]),
+        BitStore::Nothing => add(program, &[ABOVE, REFUSED]),
         BitStore::Plain(value) | BitStore::Interlocked(value) => {
             let [unit, made] = with_bit_into(2, Size::Long, value);
-            add(program, &[above, refuse, unit, made])
+            add(program, &[ABOVE, REFUSED, unit, made])
         }
     }
 }
@@ -75,24 +86,30 @@ fn locked_op(value: bool) -> LockedOp
     }
 }
 
+const CHECKED_FOR_READ: Micro = Micro::Probe {
+    place: 2,
+    count: 1,
+    write: false,
+};
+
+const CHECKED_FOR_WRITE: Micro = Micro::Probe {
+    place: 2,
+    count: 1,
+    write: true,
+};
+
+const FOUND: Micro = Micro::Read {
+    to: 1,
+    place: 2,
+    count: 1,
+};
+
 /// The byte at the address in 2 goes into 1, and the bit in it is left so.
 fn put_byte(program: &mut Vec<Micro>, store: BitStore) -> Result<(), WantOfMemory>
     ensures { OnOk result (program.new.items ≡ program.old.items ++ byte_program store) }
 {
-    let check = |write: bool| -> Micro {
-        Micro::Probe {
-            place: 2,
-            count: 1,
-            write,
-        }
-    };
-    let found = Micro::Read {
-        to: 1,
-        place: 2,
-        count: 1,
-    };
     match store {
-        BitStore::Nothing => add(program, &[check(false), found]),
+        BitStore::Nothing => add(program, &[CHECKED_FOR_READ, FOUND]),
         BitStore::Plain(value) => {
             let [unit, made] = with_bit_into(3, Size::Byte, value);
             let written = Micro::Write {
@@ -100,7 +117,7 @@ fn put_byte(program: &mut Vec<Micro>, store: BitStore) -> Result<(), WantOfMemor
                 count: 1,
                 from: 3,
             };
-            add(program, &[check(true), found, unit, made, written])
+            add(program, &[CHECKED_FOR_WRITE, FOUND, unit, made, written])
         }
         BitStore::Interlocked(value) => {
             let locked = Micro::Locked {
@@ -109,22 +126,34 @@ fn put_byte(program: &mut Vec<Micro>, store: BitStore) -> Result<(), WantOfMemor
                 kind: locked_op(value),
                 from: 0,
             };
-            add(program, &[check(true), locked])
+            add(program, &[CHECKED_FOR_WRITE, locked])
         }
     }
 }
+
+const POSITION: [Micro; 3] = [
+    binary!(
+        4,
+        MicroOp::ShiftSigned,
+        Size::Long,
+        Arg::Temp(0),
+        Arg::Const(BITS_OF_BYTE)
+    ),
+    binary!(2, MicroOp::Add, Size::Long, Arg::Temp(2), Arg::Temp(4)),
+    binary!(
+        0,
+        MicroOp::And,
+        Size::Byte,
+        Arg::Temp(0),
+        Arg::Const(LAST_BIT_OF_BYTE)
+    ),
+];
 
 /// The position is a signed number of bits from the address in 2: the byte that has the bit, and its number there.
 fn put_position(program: &mut Vec<Micro>) -> Result<(), WantOfMemory>
     ensures { OnOk result (program.new.items ≡ program.old.items ++ (Micro.Compute 4 MicroOp.ShiftSigned Size.Long (Arg.Temp 0) (Arg.Const 3) ∷ Micro.Compute 2 MicroOp.Add Size.Long (Arg.Temp 2) (Arg.Temp 4) ∷ Micro.Compute 0 MicroOp.And Size.Byte (Arg.Temp 0) (Arg.Const 7) ∷ [])) }
 {
-    let (bits, last) = (Arg::Const(BITS_OF_BYTE), Arg::Const(LAST_BIT_OF_BYTE));
-    let operations = [
-        binary!(4, MicroOp::ShiftSigned, Size::Long, Arg::Temp(0), bits),
-        binary!(2, MicroOp::Add, Size::Long, Arg::Temp(2), Arg::Temp(4)),
-        binary!(0, MicroOp::And, Size::Byte, Arg::Temp(0), last),
-    ];
-    add(program, &operations)
+    add(program, &POSITION)
 }
 
 /// A bit of a register, or of memory.
@@ -157,6 +186,13 @@ fn bit_target(base: Operand, store: BitStore) -> Target
     }
 }
 
+/// The position, the base and the target.
+const BIT_AND_TARGET: [Slot; 3] = [
+    slot!(Access::Read, Size::Long, 0, 1),
+    slot!(Access::Field, Size::Byte, 1, 2),
+    slot!(Access::Branch, Size::Byte, 0, 1),
+];
+
 /// BBS, BBC, BBSS, BBCS, BBSC, BBCC, BBSSI, BBCCI.
 pub(crate) fn branch_on_bit(
     alloc: Global,
@@ -170,11 +206,7 @@ pub(crate) fn branch_on_bit(
     let mut before = Vec::new(alloc);
     put_before_bit(&mut before, base, branch)?;
     let plan = Plan {
-        slots: &[
-            read(Size::Long, 0, 1),
-            field(Size::Byte),
-            displaced(Size::Byte),
-        ],
+        slots: &BIT_AND_TARGET,
         before: &before,
         target: bit_target(base, branch.store),
         behind: &[],

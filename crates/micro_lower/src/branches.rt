@@ -73,6 +73,8 @@ fn leave(alloc: Global, exit: Exit) -> Result<Vec<Micro>, AllocError>
     Ok(vec![in alloc; Micro::Leave(exit)]?)
 }
 
+const INVERTED: Micro = binary!(0, MicroOp::Xor, Size::Byte, Arg::Temp(0), Arg::Const(1));
+
 /// BNEQ to BCS.
 fn conditional_branch(
     alloc: Global,
@@ -88,64 +90,74 @@ fn conditional_branch(
         other: instr.after,
     });
     if is_negated(condition) {
-        let inversion = binary!(0, MicroOp::Xor, Size::Byte, Arg::Temp(0), Arg::Const(1));
-        Ok(vec![in alloc; test, inversion, leave]?)
+        Ok(vec![in alloc; test, INVERTED, leave]?)
     } else {
         Ok(vec![in alloc; test, leave]?)
     }
 }
 
+const STACK: Arg = Arg::Register(14);
+
+/// The place below the top of the stack goes into 1.
+const BELOW: Micro = binary!(1, MicroOp::Add, Size::Long, STACK, Arg::Const(0xFFFF_FFFC));
+
+const CHECKED: Micro = Micro::Probe {
+    place: 1,
+    count: 4,
+    write: true,
+};
+
+const PUSHED: Micro = Micro::Write {
+    place: 1,
+    count: 4,
+    from: 2,
+};
+
+const COMMITTED: Micro = Micro::Commit {
+    register: 14,
+    from: 1,
+};
+
 /// BSB: the address behind the instruction is pushed.
 fn subroutine_branch(alloc: Global, instr: &Instr) -> Result<Vec<Micro>, AllocError>
     ensures { IfOk result (λ p. p.items ≡ subroutine_program (target (operand instr.now 0)) instr.now.after) }
 {
-    let (stack, below) = (Arg::Register(14), Arg::Const(0xFFFF_FFFC));
     let after = Arg::Const(u64::from(instr.after));
     Ok(vec![in alloc;
-        binary!(1, MicroOp::Add, Size::Long, stack, below),
+        BELOW,
         unary!(2, MicroOp::Move, Size::Long, after),
-        Micro::Probe {
-            place: 1,
-            count: 4,
-            write: true
-        },
-        Micro::Write {
-            place: 1,
-            count: 4,
-            from: 2
-        },
-        Micro::Commit {
-            register: 14,
-            from: 1
-        },
+        CHECKED,
+        PUSHED,
+        COMMITTED,
         Micro::Leave(Exit::Fixed(target(instr))),
     ]?)
 }
+
+const RETURN: [Micro; 6] = [
+    unary!(1, MicroOp::Move, Size::Long, STACK),
+    Micro::Probe {
+        place: 1,
+        count: 4,
+        write: false,
+    },
+    Micro::Read {
+        to: 0,
+        place: 1,
+        count: 4,
+    },
+    binary!(5, MicroOp::Add, Size::Long, STACK, Arg::Const(4)),
+    Micro::Commit {
+        register: 14,
+        from: 5,
+    },
+    Micro::Leave(Exit::Computed(0)),
+];
 
 /// RSB: the PC is popped.
 fn subroutine_return(alloc: Global) -> Result<Vec<Micro>, AllocError>
     ensures { IfOk result (λ p. p.items ≡ return_program) }
 {
-    let stack = Arg::Register(14);
-    Ok(vec![in alloc;
-        unary!(1, MicroOp::Move, Size::Long, stack),
-        Micro::Probe {
-            place: 1,
-            count: 4,
-            write: false
-        },
-        Micro::Read {
-            to: 0,
-            place: 1,
-            count: 4
-        },
-        binary!(5, MicroOp::Add, Size::Long, stack, Arg::Const(4)),
-        Micro::Commit {
-            register: 14,
-            from: 5
-        },
-        Micro::Leave(Exit::Computed(0)),
-    ]?)
+    Ok(Vec::from_array(alloc, RETURN)?)
 }
 
 /// The program of an operation that evaluates no operand specifier; None for any other.

@@ -17,11 +17,15 @@ fn signs_by(temp: u8, size: Size) -> [Micro; 2]
     ]
 }
 
-fn cleared(temp: u8) -> Micro
-    ensures { result ≡ unary temp MicroOp.Move Size.Byte (Arg.Const 0) }
-{
-    unary!(temp, MicroOp::Move, Size::Byte, Arg::Const(0))
-}
+const NO_OVERFLOW: Micro = unary!(8, MicroOp::Move, Size::Byte, Arg::Const(0));
+
+const NO_CARRY: Micro = unary!(9, MicroOp::Move, Size::Byte, Arg::Const(0));
+
+/// The numbers in 8 and 9 are the same.
+const SAME: Micro = binary!(8, MicroOp::Equal, Size::Quad, Arg::Temp(8), Arg::Temp(9));
+
+/// V for its opposite.
+const OTHERWISE: Micro = binary!(8, MicroOp::Xor, Size::Byte, Arg::Temp(8), Arg::Const(1));
 
 /// N and Z by comparing the first operand with the second.
 fn put_signs_of_two(program: &mut Vec<Micro>, size: Size) -> Result<(), WantOfMemory>
@@ -31,7 +35,7 @@ fn put_signs_of_two(program: &mut Vec<Micro>, size: Size) -> Result<(), WantOfMe
     let operations = [
         binary!(6, MicroOp::Less, size, first, second),
         binary!(7, MicroOp::Equal, size, first, second),
-        cleared(8),
+        NO_OVERFLOW,
     ];
     add(program, &operations)
 }
@@ -49,8 +53,8 @@ fn put_overflow(program: &mut Vec<Micro>, op: MicroOp, size: Size) -> Result<(),
         unary!(9, MicroOp::SignExtend, size, Arg::Temp(1)),
         binary!(8, op, Size::Quad, made, other),
         unary!(9, MicroOp::SignExtend, size, Arg::Temp(2)),
-        binary!(8, MicroOp::Equal, Size::Quad, made, other),
-        binary!(8, MicroOp::Xor, Size::Byte, made, Arg::Const(1)),
+        SAME,
+        OTHERWISE,
     ];
     add(program, &operations)
 }
@@ -61,7 +65,7 @@ fn put_signs(program: &mut Vec<Micro>, nzv: CodeSource) -> Result<(), WantOfMemo
     match nzv {
         CodeSource::Result(size) => {
             let [negative, zero] = signs_by(0, size);
-            add(program, &[negative, zero, cleared(8)])
+            add(program, &[negative, zero, NO_OVERFLOW])
         }
         CodeSource::Add(size) => put_overflow(program, MicroOp::Add, size),
         CodeSource::Sub(size) => put_overflow(program, MicroOp::Sub, size),
@@ -83,7 +87,7 @@ fn put_carry(program: &mut Vec<Micro>, c: CodeSource) -> Result<(), WantOfMemory
     ensures { OnOk result (program.new.items ≡ program.old.items ++ carry_program c) }
 {
     match c {
-        CodeSource::Zero => add(program, &[cleared(9)]),
+        CodeSource::Zero => add(program, &[NO_CARRY]),
         CodeSource::Add(size) => add(program, &[below(size, 2, 0)]),
         CodeSource::Sub(size) | CodeSource::Compare(size) => add(program, &[below(size, 0, 1)]),
         CodeSource::Kept | CodeSource::Result(_) | CodeSource::Computed(_) | CodeSource::Psw => Ok(

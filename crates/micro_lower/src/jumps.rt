@@ -5,16 +5,29 @@ ghost use Rattle.micro_lower.specs.Plans.{program_of};
 ghost use Rattle.micro_lower.specs.Rows.{low_bit_plan, down_test, subtract_one_plan, up_test, add_one_plan, behind_sum, add_compare_plan, jump_exit, jump_plan, jump_to_subroutine_plan, change_mode_plan};
 
 use crate::micros::{binary, unary};
-use crate::plans::{Plan, Target, assemble};
-use crate::rows::{addressed, branch_exit, displaced, inverted, modified, operand, read};
+use crate::plans::{Plan, Slot, Target, assemble};
+use crate::rows::{branch_exit, displaced, inverted, modified, operand, read, slot};
 use micro_ops::{Arg, CodeSources, Exit, Micro, MicroOp};
 use std::alloc::Global;
-use vax_form::{Base, Instr, Operand, Size, WantOfMemory, Width};
+use vax_form::{Access, Base, Instr, Operand, Size, WantOfMemory, Width};
 
 /// The greatest longword, and the least, as signed numbers.
 const GREATEST: u64 = 0x7FFF_FFFF;
 
 const LEAST: u64 = 0x8000_0000;
+
+/// 1 for 0, and 0 for 1.
+const INVERTED: Micro = binary!(0, MicroOp::Xor, Size::Byte, Arg::Temp(0), Arg::Const(1));
+
+/// The last bit of 0 alone.
+const BIT: Micro = binary!(0, MicroOp::And, Size::Byte, Arg::Temp(0), Arg::Const(1));
+
+const INVERTED_BIT: [Micro; 2] = [BIT, INVERTED];
+
+const SOURCE_AND_TARGET: [Slot; 2] = [
+    slot!(Access::Read, Size::Long, 0, 1),
+    slot!(Access::Branch, Size::Byte, 0, 1),
+];
 
 /// BLBS, BLBC.
 pub(crate) fn branch_on_low_bit(
@@ -25,10 +38,9 @@ pub(crate) fn branch_on_low_bit(
 ) -> Result<Vec<Micro>, WantOfMemory>
     ensures { IfOk result (λ p. p.items ≡ program_of codes (low_bit_plan state instr.now) instr.now) }
 {
-    let bit = binary!(0, MicroOp::And, Size::Byte, Arg::Temp(0), Arg::Const(1));
     let plan = Plan {
-        slots: &[read(Size::Long, 0, 1), displaced(Size::Byte)],
-        before: &[bit],
+        slots: &SOURCE_AND_TARGET,
+        before: &[BIT],
         target: Target::Nowhere,
         behind: &[],
         exit: branch_exit(instr, 1),
@@ -36,12 +48,11 @@ pub(crate) fn branch_on_low_bit(
     if state {
         assemble(alloc, codes, plan, instr)
     } else {
-        let before = [bit, inverted(0)];
         assemble(
             alloc,
             codes,
             Plan {
-                before: &before,
+                before: &INVERTED_BIT,
                 ..plan
             },
             instr,
@@ -49,11 +60,31 @@ pub(crate) fn branch_on_low_bit(
     }
 }
 
-fn less(to: u8, a: Arg, b: Arg) -> Micro
-    ensures { result ≡ Micro.Compute to MicroOp.Less Size.Long a b }
-{
-    binary!(to, MicroOp::Less, Size::Long, a, b)
-}
+const ONE_LESS: [Micro; 1] = [binary!(2, MicroOp::Sub, Size::Long, Arg::Temp(0), Arg::Const(1))];
+
+const IS_GREATEST: Micro = binary!(
+    3,
+    MicroOp::Equal,
+    Size::Long,
+    Arg::Temp(2),
+    Arg::Const(GREATEST)
+);
+
+const AT_LEAST_ZERO: [Micro; 3] = [
+    IS_GREATEST,
+    binary!(0, MicroOp::Less, Size::Long, Arg::Temp(2), Arg::Const(0)),
+    INVERTED,
+];
+
+const ABOVE_ZERO: [Micro; 2] = [
+    IS_GREATEST,
+    binary!(0, MicroOp::Less, Size::Long, Arg::Const(0), Arg::Temp(2)),
+];
+
+const INDEX_AND_TARGET: [Slot; 2] = [
+    slot!(Access::Modify, Size::Long, 0, 3),
+    slot!(Access::Branch, Size::Byte, 0, 1),
+];
 
 /// SOBGEQ, SOBGTR.
 pub(crate) fn subtract_one_branch(
@@ -64,22 +95,49 @@ pub(crate) fn subtract_one_branch(
 ) -> Result<Vec<Micro>, WantOfMemory>
     ensures { IfOk result (λ p. p.items ≡ program_of codes (subtract_one_plan or_equal instr.now) instr.now) }
 {
-    let (index, none) = (Arg::Temp(2), Arg::Const(0));
-    let overflows = binary!(3, MicroOp::Equal, Size::Long, index, Arg::Const(GREATEST));
-    let at_least = [overflows, less(0, index, none), inverted(0)];
-    let above = [overflows, less(0, none, index)];
     let plan = Plan {
-        slots: &[modified(Size::Long, 0), displaced(Size::Byte)],
-        before: &[binary!(2, MicroOp::Sub, Size::Long, Arg::Temp(0), Arg::Const(1))],
+        slots: &INDEX_AND_TARGET,
+        before: &ONE_LESS,
         target: Target::Replacement {
             operand: operand(instr, 0),
             size: Size::Long,
         },
-        behind: if or_equal { &at_least } else { &above },
+        behind: if or_equal {
+            &AT_LEAST_ZERO
+        } else {
+            &ABOVE_ZERO
+        },
         exit: branch_exit(instr, 1),
     };
     assemble(alloc, codes, plan, instr)
 }
+
+const ONE_MORE: [Micro; 1] = [binary!(2, MicroOp::Add, Size::Long, Arg::Temp(0), Arg::Const(1))];
+
+const IS_LEAST: Micro = binary!(
+    3,
+    MicroOp::Equal,
+    Size::Long,
+    Arg::Temp(2),
+    Arg::Const(LEAST)
+);
+
+const AT_MOST_LIMIT: [Micro; 3] = [
+    IS_LEAST,
+    binary!(0, MicroOp::Less, Size::Long, Arg::Temp(1), Arg::Temp(2)),
+    INVERTED,
+];
+
+const BELOW_LIMIT: [Micro; 2] = [
+    IS_LEAST,
+    binary!(0, MicroOp::Less, Size::Long, Arg::Temp(2), Arg::Temp(1)),
+];
+
+const LIMIT_INDEX_AND_TARGET: [Slot; 3] = [
+    slot!(Access::Read, Size::Long, 1, 2),
+    slot!(Access::Modify, Size::Long, 0, 3),
+    slot!(Access::Branch, Size::Byte, 0, 1),
+];
 
 /// AOBLEQ, AOBLSS.
 pub(crate) fn add_one_branch(
@@ -90,22 +148,18 @@ pub(crate) fn add_one_branch(
 ) -> Result<Vec<Micro>, WantOfMemory>
     ensures { IfOk result (λ p. p.items ≡ program_of codes (add_one_plan or_equal instr.now) instr.now) }
 {
-    let (limit, index) = (Arg::Temp(1), Arg::Temp(2));
-    let overflows = binary!(3, MicroOp::Equal, Size::Long, index, Arg::Const(LEAST));
-    let at_most = [overflows, less(0, limit, index), inverted(0)];
-    let below = [overflows, less(0, index, limit)];
     let plan = Plan {
-        slots: &[
-            read(Size::Long, 1, 2),
-            modified(Size::Long, 0),
-            displaced(Size::Byte),
-        ],
-        before: &[binary!(2, MicroOp::Add, Size::Long, Arg::Temp(0), Arg::Const(1))],
+        slots: &LIMIT_INDEX_AND_TARGET,
+        before: &ONE_MORE,
         target: Target::Replacement {
             operand: operand(instr, 1),
             size: Size::Long,
         },
-        behind: if or_equal { &at_most } else { &below },
+        behind: if or_equal {
+            &AT_MOST_LIMIT
+        } else {
+            &BELOW_LIMIT
+        },
         exit: branch_exit(instr, 2),
     };
     assemble(alloc, codes, plan, instr)
@@ -177,6 +231,8 @@ fn jump_exit(operand: Operand) -> Exit
     }
 }
 
+const ADDRESS: [Slot; 1] = [slot!(Access::Address, Size::Byte, 0, 1)];
+
 /// JMP.
 pub(crate) fn jump(
     alloc: Global,
@@ -186,7 +242,7 @@ pub(crate) fn jump(
     ensures { IfOk result (λ p. p.items ≡ program_of codes (jump_plan instr.now) instr.now) }
 {
     let plan = Plan {
-        slots: &[addressed(Size::Byte)],
+        slots: &ADDRESS,
         before: &[],
         target: Target::Nowhere,
         behind: &[],
@@ -205,7 +261,7 @@ pub(crate) fn jump_to_subroutine(
 {
     let after = Arg::Const(u64::from(instr.after));
     let plan = Plan {
-        slots: &[addressed(Size::Byte)],
+        slots: &ADDRESS,
         before: &[unary!(2, MicroOp::Move, Size::Long, after)],
         target: Target::Stack,
         behind: &[],
@@ -213,6 +269,8 @@ pub(crate) fn jump_to_subroutine(
     };
     assemble(alloc, codes, plan, instr)
 }
+
+const CODE: [Slot; 1] = [slot!(Access::Read, Size::Word, 0, 1)];
 
 /// CHMK.
 pub(crate) fn change_mode(
@@ -223,7 +281,7 @@ pub(crate) fn change_mode(
     ensures { IfOk result (λ p. p.items ≡ program_of codes change_mode_plan instr.now) }
 {
     let plan = Plan {
-        slots: &[read(Size::Word, 0, 1)],
+        slots: &CODE,
         before: &[],
         target: Target::Nowhere,
         behind: &[],

@@ -65,6 +65,11 @@ pub(crate) fn move_zero_extended(
     to_second(alloc, codes, instr, read(source, 0, 1), size, &before, &[])
 }
 
+/// 0 into 0, and into the result.
+const NONE: Micro = unary!(0, MicroOp::Move, Size::Byte, Arg::Const(0));
+
+const NO_RESULT: Micro = unary!(2, MicroOp::Move, Size::Byte, Arg::Const(0));
+
 /// CLR.
 pub(crate) fn clear(
     alloc: Global,
@@ -74,15 +79,14 @@ pub(crate) fn clear(
 ) -> Result<Vec<Micro>, WantOfMemory>
     ensures { IfOk result (λ p. p.items ≡ program_of codes (clear_plan size instr.now) instr.now) }
 {
-    let none = Arg::Const(0);
     let plan = Plan {
         slots: &[written(size)],
-        before: &[unary!(2, MicroOp::Move, Size::Byte, none)],
+        before: &[NO_RESULT],
         target: Target::Result {
             operand: operand(instr, 0),
             size,
         },
-        behind: &[unary!(0, MicroOp::Move, Size::Byte, none)],
+        behind: &[NONE],
         exit: Exit::Next,
     };
     assemble(alloc, codes, plan, instr)
@@ -135,7 +139,7 @@ pub(crate) fn move_negated(
 {
     let (size, none) = (width.size(), Arg::Const(0));
     let before = [binary!(2, MicroOp::Sub, size, none, Arg::Temp(1))];
-    let behind = [unary!(0, MicroOp::Move, Size::Byte, none)];
+    let behind = [NONE];
     to_second(
         alloc,
         codes,
@@ -180,6 +184,9 @@ pub(crate) fn convert(
     )
 }
 
+/// A longword from 0.
+const MOVED: Micro = unary!(2, MicroOp::Move, Size::Long, Arg::Temp(0));
+
 /// MOVA.
 pub(crate) fn move_address(
     alloc: Global,
@@ -189,14 +196,13 @@ pub(crate) fn move_address(
 ) -> Result<Vec<Micro>, WantOfMemory>
     ensures { IfOk result (λ p. p.items ≡ program_of codes (move_address_plan size instr.now) instr.now) }
 {
-    let before = [unary!(2, MicroOp::Move, Size::Long, Arg::Temp(0))];
     to_second(
         alloc,
         codes,
         instr,
         addressed(size),
         Size::Long,
-        &before,
+        &[MOVED],
         &[],
     )
 }
@@ -212,7 +218,7 @@ pub(crate) fn push(
 {
     let plan = Plan {
         slots: &[slot],
-        before: &[unary!(2, MicroOp::Move, Size::Long, Arg::Temp(0))],
+        before: &[MOVED],
         target: Target::Stack,
         behind: &[],
         exit: Exit::Next,

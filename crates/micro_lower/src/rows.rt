@@ -2,63 +2,58 @@
 ghost use Rattle.std.specs.Prelude.{◌≡◌, ◌<◌};
 ghost use Rattle.vax_meaning.specs.Branches.{target};
 ghost use Rattle.vax_meaning.specs.Evaluation.{operand};
-ghost use Rattle.micro_lower.specs.Rows.{slot, read, written, modified, field, addressed, displaced, inverted, overflow_by, register_target, branch_exit};
+ghost use Rattle.micro_lower.specs.Rows.{read, written, modified, addressed, displaced, inverted, overflow_by, register_target, branch_exit};
 
 use crate::micros::{binary, unary};
 use crate::plans::{Slot, Target};
 use micro_ops::{Arg, Exit, Micro, MicroOp};
 use vax_form::{Access, Instr, Operand, Size};
 
-fn slot(access: Access, size: Size, to: u8, place: u8) -> Slot
-    ensures { result ≡ slot access size to place }
-{
-    Slot {
-        access,
-        size,
-        to,
-        place,
-    }
+macro_rules! slot {
+    ($access:expr, $size:expr, $to:expr, $place:expr) => {
+        Slot {
+            access: $access,
+            size: $size,
+            to: $to,
+            place: $place,
+        }
+    };
 }
+
+pub(crate) use slot;
 
 pub(crate) fn read(size: Size, to: u8, place: u8) -> Slot
     ensures { result ≡ read size to place }
 {
-    slot(Access::Read, size, to, place)
+    slot!(Access::Read, size, to, place)
 }
 
 /// The address goes into 3, and is found through 2.
 pub(crate) fn written(size: Size) -> Slot
     ensures { result ≡ written size }
 {
-    slot(Access::Write, size, 2, 3)
+    slot!(Access::Write, size, 2, 3)
 }
 
 /// The value goes into that temporary, the address into 3.
 pub(crate) fn modified(size: Size, to: u8) -> Slot
     ensures { result ≡ modified size to }
 {
-    slot(Access::Modify, size, to, 3)
-}
-
-/// The longword of a register goes into 1, an address into 2.
-pub(crate) fn field(size: Size) -> Slot
-    ensures { result ≡ field size }
-{
-    slot(Access::Field, size, 1, 2)
+    slot!(Access::Modify, size, to, 3)
 }
 
 /// The address goes into 0.
 pub(crate) fn addressed(size: Size) -> Slot
     ensures { result ≡ addressed size }
 {
-    slot(Access::Address, size, 0, 1)
+    slot!(Access::Address, size, 0, 1)
 }
 
 /// A displacement is in the instruction, and takes no temporary.
 pub(crate) fn displaced(size: Size) -> Slot
     ensures { result ≡ displaced size }
 {
-    slot(Access::Branch, size, 0, 1)
+    slot!(Access::Branch, size, 0, 1)
 }
 
 /// 1 for 0, and 0 for 1.

@@ -18,7 +18,7 @@ use crate::moves::{
 };
 use crate::products::extended_multiply;
 use crate::rows::{addressed, read};
-use crate::status::{change_psw, move_psl};
+use crate::status::{clear_psw, move_psl, set_psw};
 use micro_ops::{CodeSources, Micro, MicroOp, sources_of};
 use std::alloc::Global;
 use vax_form::{BinaryOperation, Instr, Operation, Size, WantOfMemory};
@@ -46,8 +46,8 @@ fn lower_move(
         Operation::PushAddress(size) => Some(push(alloc, codes, instr, addressed(size))),
         Operation::PushLong => Some(push(alloc, codes, instr, read(Size::Long, 0, 1))),
         Operation::MovePsl => Some(move_psl(alloc, codes, instr)),
-        Operation::BitSetPsw => Some(change_psw(alloc, codes, instr, MicroOp::Or)),
-        Operation::BitClearPsw => Some(change_psw(alloc, codes, instr, MicroOp::AndNot)),
+        Operation::BitSetPsw => Some(set_psw(alloc, codes, instr)),
+        Operation::BitClearPsw => Some(clear_psw(alloc, codes, instr)),
         _ => None,
     }
 }
