@@ -29,6 +29,7 @@ pub mod Keeping
 pub mod KeptRows
 pub mod Instructions
 pub mod ShiftRows
+pub mod SlotLoop
 pub mod PswRows
 pub mod BitValues
 pub mod BitRows
