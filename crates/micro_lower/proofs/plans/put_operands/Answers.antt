@@ -1,5 +1,5 @@
--- One operand more is put in its slot.
-use Rattle.micro_lower.proofs.SlotLoop.{program_more, steps_more}
+-- One operand more is put in its slot, until there is none.
+use Rattle.micro_lower.proofs.SlotLoop.{program_more, steps_more, program_all, steps_all}
 use Rattle.micro_lower.proofs.plans.put_operands.Goals as goal
 
 pub loop-i-preserved : goal.loop-i-preserved
@@ -9,4 +9,12 @@ loop-i-preserved c =
     record {
       program = program_more c.args.slots.now c.loop-i.i _ c.args.instr.now _ _ below put.steps _ _ _ put.program c.loop-i.invariant.program;
       steps = steps_more c.args.slots.now c.loop-i.i _ c.args.instr.now _ _ below put.steps _ c.loop-i.invariant.steps;
+    }
+
+pub returns : goal.returns
+returns c =
+    let end = c.loop-i-test.false in
+    record {
+      program = program_all c.args.slots.now c.loop-i.i c.args.instr.now _ end _ _ c.loop-i.invariant.program;
+      steps = steps_all c.args.slots.now c.loop-i.i c.args.instr.now _ end _ c.loop-i.invariant.steps;
     }
