@@ -110,9 +110,12 @@ impl Form {
 
     /// Whether the codes of the instruction come from there.
     fn has_sources(&self) -> bool {
-        match self.opcode {
-            Some(opcode) => operation_of(opcode).map(sources_of) == Some(self.sources),
-            None => true,
+        let Some(opcode) = self.opcode else {
+            return true;
+        };
+        match operation_of(opcode) {
+            Some(operation) => sources_of(operation) == self.sources,
+            None => false,
         }
     }
 }

@@ -5,7 +5,6 @@ use Rattle.vax_form.specs.declared.operation.Operation.{Operation}
 use Rattle.alpha_encode.specs.declared.instr.AlphaInstr.{AlphaInstr}
 use Rattle.block_law.specs.CodeWords.{LeavesCodes}
 use Rattle.code_runs.specs.Codes.{code_sources}
-use Rattle.code_runs.specs.Rules.{rules_behind}
 use Rattle.exception_records.specs.Codes.{all_ready, is_ready}
 use Rattle.exception_records.specs.declared.rules.Rules.{Rules}
 use Rattle.micro_ops.specs.Sources.{from, sources_of}
@@ -33,5 +32,6 @@ block-requires-clause-codes c =
     let same : option_map_or sources_of (operation_at c.args.opcode) (from Kept Kept) ≡ c.sources_of-sources.result =
     ap (λ (o : Option Operation). option_map_or sources_of o (from Kept Kept)) is ∙ sym c.sources_of-sources.ensures in
     subst (λ (words : List AlphaInstr). LeavesCodes c.sources_of-sources.result all_ready behind words) (sym c.deref.ensures.value)
-    (subst (λ (rules : Rules). LeavesCodes c.sources_of-sources.result all_ready rules words) (sym c.in-Ok.ensures.rules)
-    (subst (λ (s : CodeSources). LeavesCodes s all_ready (rules_behind s c.args.live all_ready) words) same (c.in-Ok.ensures.leaves all_ready)))
+    (subst (λ (s : CodeSources). LeavesCodes s all_ready behind words) same
+    (subst (λ (rules : Rules). LeavesCodes (option_map_or sources_of (operation_at c.args.opcode) (from Kept Kept)) all_ready rules words) (sym c.in-Ok.ensures.rules)
+    (c.in-Ok.ensures.leaves all_ready)))
