@@ -35,6 +35,20 @@ held_call q found place None t p c Next h = h
 pub no_point : (t : Tree) (p : Placement) (c : Alpha) (Next : Alpha → Tree → Type 0) → Called (call_of 0x80) None Plain t p c Next → ⊥
 no_point t p c Next h = h
 
+-- serve, raise or trap there
+pub no_point_to_serve : (t : Tree) (p : Placement) (c : Alpha) (Next : Alpha → Tree → Type 0) → Called (call_of 0x82) None Plain t p c Next → ⊥
+no_point_to_serve t p c Next h = h
+
+pub no_point_to_raise : (t : Tree) (p : Placement) (c : Alpha) (Next : Alpha → Tree → Type 0) → Called (call_of 0x83) None Plain t p c Next → ⊥
+no_point_to_raise t p c Next h = h
+
+pub no_point_to_trap : (t : Tree) (p : Placement) (c : Alpha) (Next : Alpha → Tree → Type 0) → Called (call_of 0x84) None Plain t p c Next → ⊥
+no_point_to_trap t p c Next h = h
+
+-- call PAL 85
+pub no_call_85 : (point : Option Point) (phase : Phase) (t : Tree) (p : Placement) (c : Alpha) (Next : Alpha → Tree → Type 0) → Called (call_of 0x85) point phase t p c Next → ⊥
+no_call_85 point phase t p c Next h = h
+
 -- switch to the interpreter at an address that has a block
 pub mapped_switch : (s : VaxState) (p : Placement) (c : Alpha) (word : ℕ) (Next : Alpha → Tree → Type 0) → p.maps (target c.regs) ≡ Some word → Called (call_of 0x86) None Plain (Ends (Finish s)) p c Next → ⊥
 mapped_switch s p c word Next at h = let none = h.2 in cc
