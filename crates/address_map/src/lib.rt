@@ -9,6 +9,7 @@ mod tables;
 ghost use Rattle.std.specs.Prelude.{◌≡◌, IfErr, IfOk, OnOk, map};
 
 use crate::beginnings::beginnings;
+use exact_lists::list_of;
 use std::alloc::{AllocError, Global};
 use std::marker::Model;
 pub use tables::Tables;
@@ -168,5 +169,9 @@ fn map_of(alloc: Global, pairs: &[(u32, u32)]) -> Result<AddressMap, AllocError>
 fn swapped(alloc: Global, pairs: &[(u32, u32)]) -> Result<Vec<(u32, u32)>, AllocError>
     ensures { IfOk result (λ v. v.items ≡ map swap pairs.now) }
 {
-    pairs.iter().map(|pair| (pair.1, pair.0)).collect(alloc)
+    list_of(
+        alloc,
+        pairs.len(),
+        pairs.iter().map(|pair| (pair.1, pair.0)),
+    )
 }

@@ -10,6 +10,7 @@ ghost use Rattle.vax_form.specs.Row.{class_at};
 ghost use Rattle.flow_discovery.specs.Reach.{IsReach, has, most};
 ghost use Rattle.flow_discovery.specs.Starts.{starts};
 
+use exact_lists::list_of;
 use image_file::{Image, Start};
 use std::alloc::{AllocError, Global};
 use vax_form::{Class, Instr};
@@ -50,10 +51,16 @@ impl From<AllocError> for FlowRefusal {
     }
 }
 
+fn thread_starts(alloc: Global, threads: &[Start]) -> Result<Vec<u32>, AllocError>
+    ensures { IfOk result (λ v. v.items ≡ map (λ thread. thread.pc) threads.now) }
+{
+    list_of(alloc, threads.len(), threads.iter().map(|thread| thread.pc))
+}
+
 fn all_starts(alloc: Global, image: &Image, hints: &[u32]) -> Result<Vec<u32>, AllocError>
     ensures { IfOk result (λ v. v.items ≡ starts image.now hints.now) }
 {
-    let mut all: Vec<u32> = image.threads.iter().map(|thread| thread.pc).collect(alloc)?;
+    let mut all = thread_starts(alloc, &image.threads)?;
     all.extend_from_slice(image.entries.as_slice())?;
     all.extend_from_slice(hints)?;
     Ok(all)

@@ -4,6 +4,7 @@ ghost use Rattle.exception_records.specs.Points.{point_at};
 ghost use Rattle.exception_records.specs.declared.points.Point.{Point};
 ghost use Rattle.prepared_code.specs.Sources.{block_by, block_of};
 
+use exact_lists::list_of;
 use exception_records::{Points, Rules};
 use std::alloc::{AllocError, Global};
 use vax_form::Pages;
@@ -47,8 +48,11 @@ pub(crate) fn blocks_of(
 ) -> Result<Vec<Block>, AllocError>
     ensures { IfOk result (λ v. v.items ≡ map (block_of points.now pages.now) pairs.now) }
 {
-    pairs
-        .iter()
-        .map(|pair| block_by(points, pages, pair.0, pair.1))
-        .collect(alloc)
+    list_of(
+        alloc,
+        pairs.len(),
+        pairs
+            .iter()
+            .map(|pair| block_by(points, pages, pair.0, pair.1)),
+    )
 }

@@ -17,6 +17,7 @@ use crate::execute::{Task, execute, kept_of};
 use crate::input::read_input;
 use crate::kept::Kept;
 use command_words::Limits;
+use exact_lists::list_of;
 use std::alloc::{AllocError, Global};
 use std::sync::Wait;
 use std::thread::Threads;
@@ -28,7 +29,11 @@ use vt_outside::{Desk, Gate, Sink, Source};
 fn ranges_of(alloc: Global, ranges: &[command_words::Range]) -> Result<Vec<Range>, AllocError>
     ensures { IfOk result (λ v. v.items ≡ map range_of ranges.now) }
 {
-    ranges.iter().map(|range| range_of(*range)).collect(alloc)
+    list_of(
+        alloc,
+        ranges.len(),
+        ranges.iter().map(|range| range_of(*range)),
+    )
 }
 
 fn range_of(range: command_words::Range) -> Range
