@@ -2,7 +2,6 @@
 ghost use Rattle.std.specs.Prelude.{◌≡◌, IfOk};
 ghost use Rattle.system_model.specs.Counted.{is_counted, pick_of, order};
 
-use exact_lists::list_of;
 use memory_core::{Entry, Kind};
 use std::alloc::{AllocError, Global};
 use vax_form::{Pick, WantOfMemory};
@@ -18,14 +17,11 @@ pub fn order_of(alloc: Global, history: &[Entry]) -> Result<Vec<Pick>, WantOfMem
 fn picks(alloc: Global, history: &[Entry]) -> Result<Vec<Pick>, AllocError>
     ensures { IfOk result (λ picks. picks.items ≡ order history.now) }
 {
-    list_of(
-        alloc,
-        history.len(),
-        history
-            .iter()
-            .filter(|entry| is_counted(entry))
-            .map(|entry| pick_of(entry)),
-    )
+    history
+        .iter()
+        .filter(|entry| is_counted(entry))
+        .map(|entry| pick_of(entry))
+        .collect(alloc)
 }
 
 fn is_counted(entry: &Entry) -> bool

@@ -7,6 +7,7 @@
 //! run is kept (`execute`). `specs/Vest.antt` has the whole meaning, and `specs/Keeping.antt` what is known of a run.
 #![tactic(auto)]
 
+mod conclude;
 mod deliver;
 mod execute;
 mod generate;
@@ -16,6 +17,7 @@ mod run;
 mod threads;
 mod top;
 
+pub use conclude::refuse;
 pub use kept::Kept;
-pub use top::{refuse, vest};
+pub use top::vest;
 pub use vest_files::{Status, Stop};

@@ -2,25 +2,23 @@
 ghost use Rattle.std.specs.Prelude.{◌≡◌, ◌⊎◌, IfOk, IfErr, None};
 ghost use Rattle.command_words.specs.Answers.{command_value};
 ghost use Rattle.vest_files.specs.Decided.{Decision, IsDecided};
-ghost use Rattle.vest_files.specs.Line.{line_of};
-ghost use Rattle.vest_files.specs.Status.{status_of};
 ghost use Rattle.vest_cli.specs.Words.{CanBeObeyed, spelled};
 ghost use Rattle.vest_cli.specs.Lent.{lent};
 ghost use Rattle.vest_cli.specs.Kept.{nothing_kept};
-ghost use Rattle.vest_cli.specs.Stopping.{Concludes, LeavesAll, RefusesWords, Says, usage_line};
+ghost use Rattle.vest_cli.specs.Stopping.{LeavesAll};
 ghost use Rattle.vest_cli.specs.Decided.{DecidesCall, DecidesOn, IsOrFault, IsOrWant, NoneFailed};
 ghost use Rattle.vest_cli.specs.Vest.{Does, Ends, StopsAt};
 
+use crate::conclude::{conclude, refuse_words};
 use crate::generate::generate;
 use crate::kept::Kept;
 use crate::run::run;
-use command_words::{Command, WordsFault, read_words};
-use report_text::Line;
+use command_words::{Command, read_words};
 use std::alloc::Global;
 use std::sync::Wait;
 use std::thread::Threads;
 use vest_files::{Done, Status, Stop, list_file, translate_file};
-use vt_outside::{Desk, Gate, Sink, Source, write_all};
+use vt_outside::{Desk, Gate, Sink, Source};
 
 /// Obeys one command line. `words` are the words after the program's name. It may wait, where the image has several threads.
 pub fn vest<R: Threads + Wait + Sync, D: Desk, I: Source, K: Sink, E: Sink, G: Gate + Sync>(
@@ -57,52 +55,6 @@ pub fn vest<R: Threads + Wait + Sync, D: Desk, I: Source, K: Sink, E: Sink, G: G
         }
         Err(fault) => refuse_words(fault, report),
     }
-}
-
-// The status, and where the command stopped, why.
-fn conclude<E: Sink>(ended: Result<Done, Stop>, report: &mut E) -> Status
-    ensures { Concludes ended result (E.meaning report.old) (E.meaning report.new) }
-{
-    match ended {
-        Ok(done) => done.status(),
-        Err(stop) => refuse(&stop, report),
-    }
-}
-
-/// Says why a call stops. A fault of the report changes no status.
-pub fn refuse<E: Sink>(stop: &Stop, report: &mut E) -> Status
-    ensures status { result ≡ status_of stop.now }
-    ensures line { Says (line_of stop.now) (E.meaning report.old) (E.meaning report.new) }
-{
-    let line = stop.line();
-    let _ = write_all(report, line.as_slice());
-    stop.status()
-}
-
-fn refuse_words<E: Sink>(fault: WordsFault, report: &mut E) -> Status
-    ensures { RefusesWords fault result (E.meaning report.old) (E.meaning report.new) }
-{
-    match fault {
-        WordsFault::Usage => tell_usage(report),
-        WordsFault::WantOfMemory => refuse(&Stop::WantOfMemory, report),
-    }
-}
-
-fn tell_usage<E: Sink>(report: &mut E) -> Status
-    ensures status { result ≡ Status.Usage }
-    ensures line { Says usage_line (E.meaning report.old) (E.meaning report.new) }
-{
-    let line = usage_line();
-    let _ = write_all(report, line.as_slice());
-    Status::Usage
-}
-
-fn usage_line() -> Line
-    ensures { result ≡ usage_line }
-{
-    let mut line = Line::new();
-    line.push_text(b"usage: vest COMMAND WORDS\n");
-    line
 }
 
 // What the command does, or why it stops before it has written anything.

@@ -1,0 +1,57 @@
+// How a call ends: its status, and the line that says why it stopped.
+ghost use Rattle.std.specs.Prelude.{◌≡◌};
+ghost use Rattle.vest_files.specs.Line.{line_of};
+ghost use Rattle.vest_files.specs.Status.{status_of};
+ghost use Rattle.vest_cli.specs.Stopping.{Concludes, RefusesWords, Says, usage_line};
+
+use command_words::WordsFault;
+use report_text::Line;
+use vest_files::{Done, Status, Stop};
+use vt_outside::{Sink, write_all};
+
+/// The status, and where the command stopped, why.
+pub(crate) fn conclude<E: Sink>(ended: Result<Done, Stop>, report: &mut E) -> Status
+    ensures { Concludes ended result (E.meaning report.old) (E.meaning report.new) }
+{
+    match ended {
+        Ok(done) => done.status(),
+        Err(stop) => refuse(&stop, report),
+    }
+}
+
+/// Says why a call stops. A fault of the report changes no status.
+pub fn refuse<E: Sink>(stop: &Stop, report: &mut E) -> Status
+    ensures status { result ≡ status_of stop.now }
+    ensures line { Says (line_of stop.now) (E.meaning report.old) (E.meaning report.new) }
+{
+    let line = stop.line();
+    let _ = write_all(report, line.as_slice());
+    stop.status()
+}
+
+/// Says why no command was spelled.
+pub(crate) fn refuse_words<E: Sink>(fault: WordsFault, report: &mut E) -> Status
+    ensures { RefusesWords fault result (E.meaning report.old) (E.meaning report.new) }
+{
+    match fault {
+        WordsFault::Usage => tell_usage(report),
+        WordsFault::WantOfMemory => refuse(&Stop::WantOfMemory, report),
+    }
+}
+
+fn tell_usage<E: Sink>(report: &mut E) -> Status
+    ensures status { result ≡ Status.Usage }
+    ensures line { Says usage_line (E.meaning report.old) (E.meaning report.new) }
+{
+    let line = usage_line();
+    let _ = write_all(report, line.as_slice());
+    Status::Usage
+}
+
+fn usage_line() -> Line
+    ensures { result ≡ usage_line }
+{
+    let mut line = Line::new();
+    line.push_text(b"usage: vest COMMAND WORDS\n");
+    line
+}
