@@ -87,6 +87,21 @@ fn micro_of(operation: BinaryOperation) -> MicroOp
     }
 }
 
+/// V of a product whose operands are in 0 and 1.
+fn product_overflow(size: Size) -> [Micro; 6]
+    ensures { result ≡ behind_binary BinaryOperation.Multiply size }
+{
+    let [extended, equal, overflows] = overflow_by(size);
+    [
+        unary!(4, MicroOp::SignExtend, size, Arg::Temp(0)),
+        unary!(5, MicroOp::SignExtend, size, Arg::Temp(1)),
+        binary!(4, MicroOp::Mul, Size::Quad, Arg::Temp(4), Arg::Temp(5)),
+        extended,
+        equal,
+        overflows,
+    ]
+}
+
 /// A row with two operands in 0 and 1: V of a product is computed, and a logical result is also in 0.
 fn assemble_binary(
     alloc: Global,
@@ -99,51 +114,14 @@ fn assemble_binary(
     requires { length plan.slots.now ≤ 6 }
     ensures { IfOk result (λ p. p.items ≡ program_of codes (record (plan_of plan.entry) { behind = behind_binary operation size }) instr.now) }
 {
-    match operation {
-        BinaryOperation::Add | BinaryOperation::Subtract => {
-            assemble(
-                alloc,
-                codes,
-                Plan {
-                    behind: &[],
-                    ..plan
-                },
-                instr,
-            )
-        }
-        BinaryOperation::Multiply => {
-            let [extended, equal, overflows] = overflow_by(size);
-            let behind = [
-                unary!(4, MicroOp::SignExtend, size, Arg::Temp(0)),
-                unary!(5, MicroOp::SignExtend, size, Arg::Temp(1)),
-                binary!(4, MicroOp::Mul, Size::Quad, Arg::Temp(4), Arg::Temp(5)),
-                extended,
-                equal,
-                overflows,
-            ];
-            assemble(
-                alloc,
-                codes,
-                Plan {
-                    behind: &behind,
-                    ..plan
-                },
-                instr,
-            )
-        }
-        _ => {
-            let behind = [unary!(0, MicroOp::Move, size, Arg::Temp(2))];
-            assemble(
-                alloc,
-                codes,
-                Plan {
-                    behind: &behind,
-                    ..plan
-                },
-                instr,
-            )
-        }
-    }
+    let overflow = product_overflow(size);
+    let moved = [unary!(0, MicroOp::Move, size, Arg::Temp(2))];
+    let behind: &[Micro] = match operation {
+        BinaryOperation::Add | BinaryOperation::Subtract => &[],
+        BinaryOperation::Multiply => &overflow,
+        _ => &moved,
+    };
+    assemble(alloc, codes, Plan { behind, ..plan }, instr)
 }
 
 /// ADD2, SUB2, MUL2, BIS2, BIC2, XOR2.
