@@ -1,11 +1,9 @@
 #!/usr/bin/env python3
 """Refuses each growth of the built program's memory in turn: for a run of the sample image, a run of an image with 32 threads,
 `translate` and `list`. Each such call has to end with status 9, `no memory` on standard error and nothing on standard output or
-under the second name, but in two cases. A list that is made from an iterator asks for as many places as the iterator hints, and
-where these are refused, for one: there the call has to end so where both are refused. And what a new thread was to do is done by the
-thread at hand where none can be made, so these growths change nothing of what a call leaves. Then, that a run takes no memory once
-its processors step: it takes as many growths as one whose budget is one step, and succeeds where every growth behind those would be
-refused.
+under the second name. What a new thread was to do is done by the thread at hand where none can be made, so the growths of new
+threads alone change nothing of what a call leaves. Then, that a run takes no memory once its processors step: it takes as many
+growths as one whose budget is one step, and succeeds where every growth behind those would be refused.
 
 tools/refused_growth.py PROGRAM
 
@@ -125,20 +123,18 @@ def refuse_each(bench, name, words, threads):
     status, _, report, growths = whole
     if status != 0:
         sys.exit(f"{name}: status {status}: {report}")
-    once, twice, threadless, wrong = 0, 0, 0, 0
+    refused, threadless, wrong = 0, 0, 0
     for number in range(growths):
         found = bench.call(words, number)
         if is_refused(bench, found):
-            once += 1
-        elif found[:3] == whole[:3] and is_refused(bench, bench.call(words, number, number + 1)):
-            twice += 1
+            refused += 1
         elif found[:3] == whole[:3] and threadless < threads - 1:
             threadless += 1
         else:
             print(f"{name}: growth {number} refused: {found[:3]}")
             wrong += 1
-    print(f"{name}: {growths} growths: where it is refused {once} calls end with status 9 and leave nothing, {twice} where the next one "
-          f"is refused too; {threadless} are new threads")
+    print(f"{name}: {growths} growths: {refused} calls in which one is refused end with status 9 and leave nothing; {threadless} are "
+          "new threads")
     return wrong
 
 

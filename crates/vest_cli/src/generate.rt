@@ -6,8 +6,8 @@ ghost use Rattle.vest_files.specs.Stages.{IsTranslated};
 ghost use Rattle.vest_cli.specs.Generate.{Generates, default_limits, lines_of, memory_sum};
 ghost use Rattle.vest_cli.specs.Kept.{nothing_kept};
 
-use crate::deliver::deliver;
-use crate::execute::{Run, Task, execute, kept_of};
+use crate::execute::{Run, Task, execute};
+use crate::finish::finish;
 use crate::kept::Kept;
 use command_words::Limits;
 use generated_flow::reaches_few;
@@ -120,7 +120,5 @@ pub fn generate<R: Threads + Wait + Sync, K: Sink, E: Sink, G: Gate + Sync>(
     let task = task_of(alloc, number)?;
     let run = execute(rt, alloc, task, gate)?;
     let lines = lines_of(number, &run);
-    let done = deliver(lines.as_slice(), &run.processors, out, report);
-    *kept = kept_of(run);
-    Ok(done)
+    Ok(finish(run, Some(lines), out, report, kept))
 }

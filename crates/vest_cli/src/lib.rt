@@ -10,6 +10,7 @@
 mod conclude;
 mod deliver;
 mod execute;
+mod finish;
 mod generate;
 mod input;
 mod kept;

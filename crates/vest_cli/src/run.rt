@@ -12,8 +12,8 @@ ghost use Rattle.vest_files.specs.Decided.{Decision, IsDecided};
 ghost use Rattle.vest_files.specs.Loading.{Loads};
 ghost use Rattle.vest_files.specs.Stages.{SameFiles};
 
-use crate::deliver::deliver;
-use crate::execute::{Task, execute, kept_of};
+use crate::execute::{Task, execute};
+use crate::finish::finish;
 use crate::input::read_input;
 use crate::kept::Kept;
 use command_words::Limits;
@@ -67,12 +67,9 @@ fn task_of<D: Desk, I: Source>(
     ensures decided { (decision : Decision) → DecidesRun (D.meaning desk.old).files name.now (I.meaning input.old).left decision
         → IsDecided result decision }
 {
-    let loaded = match load(alloc, desk, name) {
-        Ok(loaded) => loaded,
-        Err(stop) => return Err(stop),
-    };
-    let taken = read_input(alloc, input)?;
     let ranges = ranges_of(alloc, ranges)?;
+    let loaded = load(alloc, desk, name)?;
+    let taken = read_input(alloc, input)?;
     Ok(Task {
         loaded,
         taken,
@@ -112,7 +109,5 @@ pub fn run<R: Threads + Wait + Sync, D: Desk, I: Source, K: Sink, E: Sink, G: Ga
 {
     let task = task_of(alloc, name, limits, ranges, desk, input)?;
     let run = execute(rt, alloc, task, gate)?;
-    let done = deliver(run.memory.output(), &run.processors, out, report);
-    *kept = kept_of(run);
-    Ok(done)
+    Ok(finish(run, None, out, report, kept))
 }
