@@ -2,10 +2,10 @@
 ghost use Rattle.std.specs.Prelude.{IfOk};
 ghost use Rattle.image_file.specs.Whole.{IsWhole};
 
-use anyhow::{Context, Result, anyhow};
+use anyhow::{Result, bail};
 use image_file::{Image, read_image};
-use row_tally::{bytes, longword, pieces};
-use std::alloc::{AllocError, Global};
+use row_tally::{RowFault, bytes, longword, pieces};
+use std::alloc::Global;
 
 /// Where the code stands.
 const CODE: u32 = 0x200;
@@ -28,141 +28,199 @@ struct Section<'a> {
     stored: &'a [u8],
 }
 
-/// Numbers written as FIRST=SECOND with commas between, none for `-`.
-pub fn pairs_of(alloc: Global, text: &str) -> Result<Vec<(u32, u32)>> {
+/// Two numbers written as FIRST=SECOND.
+pub fn pair_of(piece: &str) -> Result<(u32, u32), RowFault> {
+    let (first, second) = two_sides(piece)?;
+    Ok((longword(first)?, longword(second)?))
+}
+
+fn two_sides(piece: &str) -> Result<(&str, &str), RowFault> {
+    match piece.split_once('=') {
+        Some(sides) => Ok(sides),
+        None => Err(RowFault::OtherCount),
+    }
+}
+
+fn push_pairs(pairs: &mut Vec<(u32, u32)>, pieces: &[&str]) -> Result<(), RowFault> {
+    for piece in pieces {
+        let pair = pair_of(piece)?;
+        pairs.push(pair)?;
+    }
+    Ok(())
+}
+
+/// Pairs with commas between, none for `-`.
+pub fn pairs_of(alloc: Global, text: &str) -> Result<Vec<(u32, u32)>, RowFault> {
+    let pieces = pieces(alloc, text)?;
     let mut pairs = Vec::new(alloc);
-    if text == "-" {
-        return Ok(pairs);
-    }
-    for piece in &pieces(alloc, text)? {
-        let (first, second) = piece.split_once('=').context("a pair")?;
-        pairs.push((longword(first)?, longword(second)?))?;
-    }
+    push_pairs(&mut pairs, &pieces)?;
     Ok(pairs)
 }
 
 /// The bytes of a field, none for `-`.
-pub fn bytes_or_none(alloc: Global, field: &str) -> Result<Vec<u8>> {
+pub fn bytes_or_none(alloc: Global, field: &str) -> Result<Vec<u8>, RowFault> {
     if field == "-" {
         return Ok(Vec::new(alloc));
     }
-    Ok(bytes(alloc, field)?)
+    bytes(alloc, field)
 }
 
-/// A count, of threads, of sections or of bytes.
-fn count_of(count: usize) -> Result<u32> {
-    match u32::try_from(count) {
-        Ok(count) => Ok(count),
-        Err(_) => Err(anyhow!("too many")),
+/// An image file that is put together, and whether all of its bytes were put.
+#[derive(Drop)]
+struct File {
+    bytes: Vec<u8>,
+    is_whole: bool,
+}
+
+impl File {
+    fn put(&mut self, bytes: &[u8]) {
+        if self.bytes.extend_from_slice(bytes).is_err() {
+            self.is_whole = false;
+        }
+    }
+
+    fn put_longword(&mut self, longword: u32) {
+        self.put(&longword.to_le_bytes());
+    }
+
+    /// A count that is too large is put as one that no file has.
+    fn put_count(&mut self, count: usize) {
+        self.put_longword(u32::try_from(count).unwrap_or(u32::MAX));
+    }
+
+    /// The place of a section, and how many bytes it stores.
+    fn put_place(&mut self, section: &Section<'_>) {
+        self.put_longword(section.first);
+        self.put_longword(section.size);
+        self.put_count(section.stored.len());
+        self.put_longword(u32::from(section.writable));
+    }
+
+    /// Threads that start at a PC with an SP each, and how many sections come behind.
+    fn put_head(&mut self, starts: &[(u32, u32)], sections: usize) {
+        self.put(b"VXIM\x01\0");
+        let threads = u16::try_from(starts.len()).unwrap_or(u16::MAX);
+        self.put(&threads.to_le_bytes());
+        self.put_count(sections);
+        for (pc, sp) in starts {
+            self.put_longword(*pc);
+            self.put_longword(*sp);
+        }
+    }
+
+    fn put_sections(&mut self, sections: &[Section<'_>]) {
+        for section in sections {
+            self.put_place(section);
+        }
+        for section in sections {
+            self.put(section.stored);
+        }
     }
 }
 
-fn push_longwords(file: &mut Vec<u8>, longwords: &[u32]) -> Result<(), AllocError> {
-    for longword in longwords {
-        file.extend_from_slice(&longword.to_le_bytes())?;
-    }
-    Ok(())
-}
-
-/// The places of sections, and how many bytes each stores.
-fn push_places(file: &mut Vec<u8>, sections: &[Section<'_>]) -> Result<()> {
-    for section in sections {
-        let stored = count_of(section.stored.len())?;
-        let flags = u32::from(section.writable);
-        push_longwords(file, &[section.first, section.size, stored, flags])?;
-    }
-    Ok(())
-}
-
-/// The file of threads that start at a PC with an SP each, and sections.
-fn file_of(alloc: Global, starts: &[(u32, u32)], sections: &[Section<'_>]) -> Result<Vec<u8>> {
-    let counts = [count_of(starts.len())? << 16 | 1, count_of(sections.len())?];
-    let mut file = Vec::from_slice(alloc, b"VXIM")?;
-    push_longwords(&mut file, &counts)?;
-    for (pc, sp) in starts {
-        push_longwords(&mut file, &[*pc, *sp])?;
-    }
-    push_places(&mut file, sections)?;
-    for section in sections {
-        file.extend_from_slice(section.stored)?;
-    }
-    Ok(file)
-}
-
-fn read(alloc: Global, file: &[u8]) -> Result<Image>
+fn read(alloc: Global, file: &File) -> Result<Image>
     ensures { IfOk result IsWhole }
 {
-    match read_image(alloc, file) {
+    if !file.is_whole {
+        bail!("want of memory");
+    }
+    match read_image(alloc, &file.bytes) {
         Ok(image) => Ok(image),
-        Err(refusal) => Err(anyhow!("no image: {refusal:?}")),
+        Err(refusal) => bail!("no image: {refusal:?}"),
     }
 }
 
-/// The image of threads that start at a PC with an SP each, the code, and a writable section from an address on.
-fn image_with(
-    alloc: Global,
-    starts: &[(u32, u32)],
-    code: &[u8],
-    first: u32,
-    stored: &[u8],
-) -> Result<Image>
+/// The image of threads that start at a PC with an SP each, and sections.
+fn image_with(alloc: Global, starts: &[(u32, u32)], sections: &[Section<'_>]) -> Result<Image>
     ensures { IfOk result IsWhole }
 {
-    let sections = [
-        Section {
-            first: CODE,
-            size: SIZE,
-            writable: false,
-            stored: code,
-        },
-        Section {
-            first,
-            size: SIZE,
-            writable: true,
-            stored,
-        },
-    ];
-    let file = file_of(alloc, starts, &sections)?;
+    let mut file = File {
+        bytes: Vec::new(alloc),
+        is_whole: true,
+    };
+    file.put_head(starts, sections.len());
+    file.put_sections(sections);
     read(alloc, &file)
 }
 
-/// The image of threads, by the fields with the code and with the writable section, written as FIRST=BYTES.
-pub fn image_of(alloc: Global, starts: &[(u32, u32)], code: &str, writable: &str) -> Result<Image>
-    ensures { IfOk result IsWhole }
-{
-    let (first, stored) = writable.split_once('=').context("a section")?;
-    let first = longword(first)?;
-    let code = bytes(alloc, code)?;
-    let stored = bytes_or_none(alloc, stored)?;
-    image_with(alloc, starts, &code, first, &stored)
+/// What the sections of an image store.
+#[derive(Drop)]
+struct Stored {
+    code: Vec<u8>,
+    first: u32,
+    writable: Vec<u8>,
 }
 
-/// The image of threads, by the fields with the code and with what the writable section at 1000 stores.
-pub fn image_in(alloc: Global, starts: &[(u32, u32)], code: &str, stored: &str) -> Result<Image>
+/// The address of a writable section and the field of what it stores, written as FIRST=BYTES, or as BYTES of one at 1000.
+fn place_of(field: &str) -> Result<(u32, &str), RowFault> {
+    match field.split_once('=') {
+        Some((first, stored)) => Ok((longword(first)?, stored)),
+        None => Ok((WRITABLE, field)),
+    }
+}
+
+fn stored_of(alloc: Global, code: &str, writable: &str) -> Result<Stored, RowFault> {
+    let (first, stored) = place_of(writable)?;
+    let code = bytes(alloc, code)?;
+    let writable = bytes_or_none(alloc, stored)?;
+    Ok(Stored {
+        code,
+        first,
+        writable,
+    })
+}
+
+/// The section with the code.
+fn code_section(code: &[u8], size: u32) -> Section<'_> {
+    Section {
+        first: CODE,
+        size,
+        writable: false,
+        stored: code,
+    }
+}
+
+fn writable_section(first: u32, stored: &[u8]) -> Section<'_> {
+    Section {
+        first,
+        size: SIZE,
+        writable: true,
+        stored,
+    }
+}
+
+/// The image of threads that start at a PC with an SP each, by the fields with the code and with the writable section.
+fn image_from(alloc: Global, starts: &[(u32, u32)], code: &str, writable: &str) -> Result<Image>
     ensures { IfOk result IsWhole }
 {
-    let code = bytes(alloc, code)?;
-    let stored = bytes_or_none(alloc, stored)?;
-    image_with(alloc, starts, &code, WRITABLE, &stored)
+    let stored = stored_of(alloc, code, writable)?;
+    let sections = [
+        code_section(&stored.code, SIZE),
+        writable_section(stored.first, &stored.writable),
+    ];
+    image_with(alloc, starts, &sections)
+}
+
+/// The image of threads, by the fields with their starts, with the code and with the writable section.
+pub fn image_of(alloc: Global, starts: &str, code: &str, writable: &str) -> Result<Image>
+    ensures { IfOk result IsWhole }
+{
+    let starts = pairs_of(alloc, starts)?;
+    image_from(alloc, &starts, code, writable)
 }
 
 /// The same of one thread.
-pub fn plain_image(alloc: Global, code: &str, stored: &str) -> Result<Image>
+pub fn plain_image(alloc: Global, code: &str, writable: &str) -> Result<Image>
     ensures { IfOk result IsWhole }
 {
-    image_in(alloc, &[(CODE, STACK)], code, stored)
+    image_from(alloc, &[(CODE, STACK)], code, writable)
 }
 
 /// The image of one thread, whose code fills its only section.
 pub fn code_alone(alloc: Global, code: &[u8]) -> Result<Image>
     ensures { IfOk result IsWhole }
 {
-    let section = Section {
-        first: CODE,
-        size: count_of(code.len())?,
-        writable: false,
-        stored: code,
-    };
-    let file = file_of(alloc, &[(CODE, STACK)], &[section])?;
-    read(alloc, &file)
+    let size = u32::try_from(code.len()).unwrap_or(u32::MAX);
+    let section = code_section(code, size);
+    image_with(alloc, &[(CODE, STACK)], &[section])
 }

@@ -3,17 +3,18 @@ ghost use Rattle.image_file.specs.Whole.{IsWhole};
 ghost use Rattle.world_rows.specs.Ready.{CanRun};
 
 use crate::driven::check_driven;
-use crate::images::{image_in, pairs_of};
+use crate::images::{image_of, pair_of};
 use crate::nothing::nothing_translated;
 use crate::programs::{Limits, Program, made_ready};
-use crate::texts::bytes_text;
+use crate::report::Report;
+use crate::texts::put_bytes;
 use crate::worlds::{pick, world_of};
-use anyhow::{Context, Result};
+use anyhow::Result;
 use image_file::Image;
-use row_tally::{fields, longword};
+use row_tally::{RowFault, four_fields, longword};
 use std::alloc::{AllocError, Global};
 use system_model::End;
-use vest_core::World;
+use vest_core::{Processor, World};
 
 /// The longest lists of picks.
 const MOST_PICKS: u32 = 12;
@@ -29,7 +30,7 @@ fn ran(alloc: Global, program: Program<'_>, picks: u32, turns: u32) -> Result<Wo
     requires whole { IsWhole program.image.now }
     requires meets { CanRun program }
 {
-    let mut world = world_of(alloc, program, Vec::new(alloc), LIMITS)?;
+    let mut world = world_of(alloc, program, &[], LIMITS)?;
     for turn in 0..turns.min(MOST_PICKS) {
         let thread = u8::from(picks >> turn & 1 == 1);
         pick(&mut world, program, thread)?;
@@ -44,16 +45,29 @@ struct Shown {
     count: u32,
 }
 
-/// What is left in the bytes that the row asks for, and the exit of each thread. None: one has not exited.
-fn left_text(alloc: Global, world: &World, shown: Shown) -> Result<Option<String>, AllocError> {
-    let mut text = bytes_text(alloc, world, shown.first, shown.count)?;
-    for processor in world.processors() {
+/// The exits of threads. Tells whether each has exited.
+fn put_exits(report: &mut Report, processors: &[Processor]) -> bool {
+    for processor in processors {
         match processor.end() {
-            Some(End::Exit(value)) => write!(text, " exit {value:08X}")?,
-            _ => return Ok(None),
+            Some(End::Exit(value)) => {
+                report.put(" exit ");
+                report.longword(value);
+            }
+            _ => return false,
         }
     }
-    Ok(Some(text))
+    true
+}
+
+/// What is left in the bytes that the row asks for, and the exit of each thread. None: one has not exited.
+fn left_text(alloc: Global, world: &World, shown: Shown) -> Result<Option<String>, AllocError> {
+    let mut report = Report::new(alloc);
+    put_bytes(&mut report, world.memory(), shown.first, shown.count);
+    if put_exits(&mut report, world.processors()) {
+        Ok(Some(report.end()?))
+    } else {
+        Ok(None)
+    }
 }
 
 /// What is left, and behind how many lists of picks.
@@ -91,8 +105,49 @@ fn left_behind(
     Ok(left_text(alloc, &world, shown)?)
 }
 
-/// What is left behind every list of so many picks that ends both threads.
-fn outcomes_of(alloc: Global, image: &Image, length: u32, shown: Shown) -> Result<Vec<Outcome>>
+/// Counts what is left behind every list of so many picks that ends both threads.
+fn count_all(
+    alloc: Global,
+    outcomes: &mut Vec<Outcome>,
+    program: Program<'_>,
+    length: u32,
+    shown: Shown,
+) -> Result<()>
+    requires whole { IsWhole program.image.now }
+    requires meets { CanRun program }
+{
+    for picks in 0..1u32 << length.min(MOST_PICKS) {
+        if let Some(text) = left_behind(alloc, program, picks, length, shown)? {
+            count(outcomes, text)?;
+        }
+    }
+    Ok(())
+}
+
+fn outcomes_of(alloc: Global, program: Program<'_>, length: u32, shown: Shown) -> Result<String>
+    requires whole { IsWhole program.image.now }
+    requires meets { CanRun program }
+{
+    let mut outcomes = Vec::new(alloc);
+    count_all(alloc, &mut outcomes, program, length, shown)?;
+    Ok(outcomes_text(alloc, &outcomes)?)
+}
+
+fn outcomes_text(alloc: Global, outcomes: &[Outcome]) -> Result<String, AllocError> {
+    let mut report = Report::new(alloc);
+    for (place, outcome) in outcomes.iter().enumerate() {
+        if place > 0 {
+            report.put("; ");
+        }
+        report.count(u64::from(outcome.lists));
+        report.put(" ");
+        report.put(outcome.text.as_str());
+    }
+    report.end()
+}
+
+/// What is left of an image of which nothing is translated.
+fn answer_of(alloc: Global, image: &Image, length: u32, shown: Shown) -> Result<String>
     requires { IsWhole image.now }
 {
     let translation = nothing_translated(alloc, image)?;
@@ -104,40 +159,19 @@ fn outcomes_of(alloc: Global, image: &Image, length: u32, shown: Shown) -> Resul
         ranges: &[],
         miss: 0,
     };
-    let mut outcomes = Vec::new(alloc);
-    for picks in 0..1u32 << length.min(MOST_PICKS) {
-        if let Some(text) = left_behind(alloc, program, picks, length, shown)? {
-            count(&mut outcomes, text)?;
-        }
-    }
-    Ok(outcomes)
+    outcomes_of(alloc, program, length, shown)
 }
 
-fn outcomes_text(alloc: Global, outcomes: &[Outcome]) -> Result<String, AllocError> {
-    let mut text = String::new(alloc);
-    for (place, outcome) in outcomes.iter().enumerate() {
-        if place > 0 {
-            text.push_str("; ")?;
-        }
-        write!(text, "{} {}", outcome.lists, outcome.text)?;
-    }
-    Ok(text)
-}
-
-/// The first bytes that a field asks for.
-fn shown_of(alloc: Global, field: &str) -> Result<Shown> {
-    let pairs = pairs_of(alloc, field)?;
-    let (first, count) = *pairs.first().context("bytes to show")?;
+/// The bytes that a field asks for.
+fn shown_of(field: &str) -> Result<Shown, RowFault> {
+    let (first, count) = pair_of(field)?;
     Ok(Shown { first, count })
 }
 
 /// How often what is left behind the lists of picks of a row, in the order in which they come: STARTS CODE LENGTH SHOWN.
 pub fn answer(alloc: Global, question: &str) -> Result<String> {
-    let fields = fields(alloc, question, 4)?;
-    let length = longword(fields[2])?;
-    let shown = shown_of(alloc, fields[3])?;
-    let starts = pairs_of(alloc, fields[0])?;
-    let image = image_in(alloc, &starts, fields[1], "-")?;
-    let outcomes = outcomes_of(alloc, &image, length, shown)?;
-    Ok(outcomes_text(alloc, &outcomes)?)
+    let (starts, code, length, shown) = four_fields(question)?;
+    let (length, shown) = (longword(length)?, shown_of(shown)?);
+    let image = image_of(alloc, starts, code, "-")?;
+    answer_of(alloc, &image, length, shown)
 }

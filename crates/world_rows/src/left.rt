@@ -1,79 +1,125 @@
-// What is left of a world, in text.
-use crate::texts::{end_text, memory_text, order_text};
+// What is left of a world: its processors, the order of its references, its output, and bytes of its memory.
+use crate::report::Report;
+use crate::texts::{
+    order_in, put_end, put_memory, put_order, put_output, put_place, put_registers,
+};
 use anyhow::Result;
 use std::alloc::{AllocError, Global};
 use system_model::End;
 use vest_core::{Processor, World};
 
-/// The registers that a report tells.
-const REGISTERS: u8 = 15;
+/// What is told of a processor behind its end.
+#[derive(Clone, Copy)]
+pub enum Told {
+    /// Where that is no exit PC, processor status and registers.
+    Stopped,
+    /// PC, processor status, how many instructions it retired, and registers.
+    State,
+    /// Where that is no exit PC and processor status; then how many instructions it retired, how many steps were interpreted, R0
+    /// and R1.
+    Steps,
+}
 
-/// PC, processor status, and the registers.
-fn state_text(alloc: Global, processor: &Processor) -> Result<String, AllocError> {
+fn put_retired(report: &mut Report, processor: &Processor) {
+    report.put(" retired ");
+    report.count(processor.retired());
+}
+
+/// PC, processor status and registers.
+fn put_stopped(report: &mut Report, processor: &Processor) {
     let state = processor.shown();
-    let psl = state.psl();
-    let mut text = format!(in alloc; "pc {:08X} psl {psl:08X} registers", state.pc)?;
-    for number in 0..REGISTERS {
-        let register = state.register(number);
-        write!(text, " {register:X}")?;
-    }
-    Ok(text)
+    put_place(report, &state);
+    put_registers(report, &state);
 }
 
-/// How a processor ended, and its state where that is no exit.
-fn processor_text(alloc: Global, processor: &Processor) -> Result<String, AllocError> {
+/// PC, processor status, how many instructions were retired, and registers.
+fn put_state(report: &mut Report, processor: &Processor) {
+    let state = processor.shown();
+    put_place(report, &state);
+    put_retired(report, processor);
+    put_registers(report, &state);
+}
+
+/// How many instructions a processor retired, how many of its steps were interpreted, R0 and R1.
+fn put_counts(report: &mut Report, processor: &Processor) {
+    let state = processor.shown();
+    put_retired(report, processor);
+    report.put(" interpreted ");
+    report.count(processor.interpreted_steps());
+    report.put(" r0 ");
+    report.longword(state.register(0));
+    report.put(" r1 ");
+    report.longword(state.register(1));
+}
+
+/// PC and processor status if they are told, and counts.
+fn put_steps(report: &mut Report, processor: &Processor, has_exited: bool) {
+    if !has_exited {
+        put_place(report, &processor.shown());
+    }
+    put_counts(report, processor);
+}
+
+fn put_processor(report: &mut Report, processor: &Processor, told: Told) {
     let end = processor.end();
-    let text = end_text(alloc, end)?;
-    if let Some(End::Exit(_)) = end {
-        return Ok(text);
+    let has_exited = matches!(end, Some(End::Exit(_)));
+    put_end(report, end);
+    match told {
+        Told::Stopped if has_exited => {}
+        Told::Stopped => put_stopped(report, processor),
+        Told::State => put_state(report, processor),
+        Told::Steps => put_steps(report, processor, has_exited),
     }
-    let state = state_text(alloc, processor)?;
-    format!(in alloc; "{text} {state}")
 }
 
-/// How the processors ended, with semicolons between, and their states where that is no exit.
-pub fn ends_text(alloc: Global, world: &World) -> Result<String, AllocError> {
-    let mut text = String::new(alloc);
-    for processor in world.processors() {
-        if !text.is_empty() {
-            text.push_str("; ")?;
+/// The processors, with semicolons between.
+pub fn put_processors(report: &mut Report, processors: &[Processor], told: Told) {
+    for (thread, processor) in processors.iter().enumerate() {
+        if thread > 0 {
+            report.put("; ");
         }
-        let one = processor_text(alloc, processor)?;
-        text.push_str(one.as_str())?;
+        put_processor(report, processor, told);
     }
-    Ok(text)
 }
 
-/// The states of the processors, and how many instructions each retired.
-pub fn states_text(alloc: Global, world: &World) -> Result<String, AllocError> {
-    let mut text = String::new(alloc);
-    for processor in world.processors() {
-        let state = state_text(alloc, processor)?;
-        let retired = processor.retired();
-        write!(text, "; {state} retired {retired}")?;
+/// The output, with spaces between its bytes where processors are told of that stopped.
+fn put_output_of(report: &mut Report, output: &[u8], told: Told) {
+    report.put("; output");
+    if let Told::Stopped = told {
+        put_output(report, output, " ");
+    } else {
+        report.put(" ");
+        put_output(report, output, "");
     }
-    Ok(text)
 }
 
-/// The output, in pairs of digits.
-fn output_text(alloc: Global, world: &World) -> Result<String, AllocError> {
-    let mut text = String::from_str(alloc, "output")?;
-    for byte in world.memory().output() {
-        write!(text, " {byte:02X}")?;
-    }
-    Ok(text)
+/// The processors, the output, and the bytes that a row asks for.
+pub fn states_text(
+    alloc: Global,
+    world: &World,
+    shown: &[(u32, u32)],
+) -> Result<String, AllocError> {
+    let mut report = Report::new(alloc);
+    put_processors(&mut report, world.processors(), Told::State);
+    put_output_of(&mut report, world.memory().output(), Told::State);
+    put_memory(&mut report, world.memory(), shown);
+    report.end()
 }
 
-/// The ends, the order, the output, and the bytes that a row asks for.
-pub fn left_text(alloc: Global, world: &World, shown: &[(u32, u32)]) -> Result<String> {
-    let mut text = ends_text(alloc, world)?;
-    let order = order_text(alloc, world)?;
-    let output = output_text(alloc, world)?;
-    let memory = memory_text(alloc, world, shown)?;
-    text.push_str("; ")?;
-    text.push_str(order.as_str())?;
-    text.push_str("; ")?;
-    text.push_str(output.as_str())?;
-    text.push_str(memory.as_str())?;
-    Ok(text)
+/// The processors, the order, the output, and the bytes that a row asks for.
+pub fn left_text(alloc: Global, world: &World, shown: &[(u32, u32)], told: Told) -> Result<String> {
+    let order = order_in(alloc, world)?;
+    let mut report = Report::new(alloc);
+    put_processors(&mut report, world.processors(), told);
+    put_order(&mut report, &order);
+    put_output_of(&mut report, world.memory().output(), told);
+    put_memory(&mut report, world.memory(), shown);
+    Ok(report.end()?)
+}
+
+/// The processors alone, with their states where they did not exit.
+pub fn ends_text(alloc: Global, world: &World) -> Result<String, AllocError> {
+    let mut report = Report::new(alloc);
+    put_processors(&mut report, world.processors(), Told::Stopped);
+    report.end()
 }

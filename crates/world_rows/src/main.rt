@@ -3,7 +3,7 @@
 //! what translations have.
 //!
 //! `images` makes the image of a row, `programs` translates it, `worlds` picks its processors, `driven` compares a world with
-//! the driven threads, `texts`, `shown` and `left` say in text what is left. `turns`, `interleavings` and `runs` go through the
+//! the driven threads, `report`, `texts` and `left` say in text what is left. `turns`, `interleavings` and `runs` go through the
 //! files, and `translations` says what a translation has; `nothing` is a translation of nothing.
 #![tactic(auto)]
 
@@ -13,8 +13,8 @@ mod interleavings;
 mod left;
 mod nothing;
 mod programs;
+mod report;
 mod runs;
-mod shown;
 mod texts;
 mod translations;
 mod turns;

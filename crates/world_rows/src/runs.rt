@@ -7,15 +7,13 @@ ghost use Rattle.image_meaning.specs.Meant.{image_meaning};
 ghost use Rattle.world_rows.specs.Ready.{CanRun, IsReady};
 
 use crate::driven::check_driven;
-use crate::images::{bytes_or_none, image_in, image_of, pairs_of, plain_image};
-use crate::left::{ends_text, left_text, states_text};
+use crate::images::{bytes_or_none, image_of, pairs_of, plain_image};
+use crate::left::{Told, ends_text, left_text, states_text};
 use crate::programs::{Limits, Program, made_ready, translated};
-use crate::shown;
-use crate::texts::memory_text;
 use crate::worlds::{pick_to_its_end, world_of};
 use anyhow::{Result, bail};
 use image_file::Image;
-use row_tally::fields;
+use row_tally::{five_fields, two_fields};
 use std::alloc::{AllocError, Global};
 use system_model::{Range, Translation};
 use vest_core::World;
@@ -32,11 +30,10 @@ const MOST_TURNS: u32 = 20_000;
 /// Every second store conditional of a processor fails.
 const EVERY_SECOND: u16 = 2;
 
-/// The ways in which an image runs: with all of its translation; where all, or every second mapped instruction, is interpreted
-/// besides; where stores fail.
+/// The ways in which an image runs besides that with all of its translation: where all, or every second mapped instruction, is
+/// interpreted; where stores fail.
 #[derive(Clone, Copy, Debug)]
 enum Way {
-    Translated,
     AllInterpreted,
     HalfInterpreted,
     StoresFail,
@@ -88,7 +85,7 @@ fn push_ranges(
     way: Way,
 ) -> Result<(), AllocError> {
     match way {
-        Way::Translated | Way::StoresFail => {}
+        Way::StoresFail => {}
         Way::AllInterpreted => ranges.push(Range {
             thread,
             first: 0,
@@ -126,154 +123,150 @@ fn run_all(world: &mut World, program: Program<'_>, threads: u8) -> Result<()>
     Ok(())
 }
 
-/// The world in which each thread ran to its end.
-fn ran(alloc: Global, program: Program<'_>, threads: u8, input: Vec<u8>) -> Result<World>
+/// The world in which each thread of a case ran to its end, which has to be what the driven threads leave.
+fn ran(alloc: Global, case: &Case, program: Program<'_>) -> Result<World>
     requires whole { IsWhole program.image.now }
     requires meets { CanRun program }
 {
-    let mut world = world_of(alloc, program, input, LIMITS)?;
-    run_all(&mut world, program, threads)?;
+    let mut world = world_of(alloc, program, &case.input, LIMITS)?;
+    run_all(&mut world, program, case.threads)?;
+    check_driven(alloc, program.image, &case.input, &world)?;
     Ok(world)
 }
 
-/// The world in which each thread of a case ran to its end, which has to be what the driven threads leave.
-fn world_in(alloc: Global, case: &Case, translation: &Translation, way: Way) -> Result<World>
+/// What is left of a case that runs in a way, and each state.
+fn text_in(alloc: Global, case: &Case, program: Program<'_>, way: Way) -> Result<String>
+    requires whole { IsWhole program.image.now }
+    requires meets { CanRun program }
+{
+    let ranges = ranges_of(alloc, program.translation, case.threads, way)?;
+    let miss = way.miss();
+    let program = Program {
+        ranges: &ranges,
+        miss,
+        ..program
+    };
+    let world = ran(alloc, case, program)?;
+    left_text(alloc, &world, &case.shown, Told::State)
+}
+
+/// Refuses a way in which something else is left.
+fn check_way(alloc: Global, case: &Case, program: Program<'_>, way: Way, left: &str) -> Result<()>
+    requires whole { IsWhole program.image.now }
+    requires meets { CanRun program }
+{
+    let other = text_in(alloc, case, program, way)?;
+    if other.as_str() != left {
+        bail!("{left}, but {other} in the way {way:?}");
+    }
+    Ok(())
+}
+
+fn check_ways(alloc: Global, case: &Case, program: Program<'_>, left: &str) -> Result<()>
+    requires whole { IsWhole program.image.now }
+    requires meets { CanRun program }
+{
+    for way in OTHER_WAYS {
+        check_way(alloc, case, program, way, left)?;
+    }
+    Ok(())
+}
+
+/// The world of a case with all of its translation. What is left and each state have to be the same in each other way.
+fn compared_in(alloc: Global, case: &Case, program: Program<'_>) -> Result<World>
+    requires whole { IsWhole program.image.now }
+    requires meets { CanRun program }
+{
+    let world = ran(alloc, case, program)?;
+    let left = left_text(alloc, &world, &case.shown, Told::State)?;
+    check_ways(alloc, case, program, &left)?;
+    Ok(world)
+}
+
+/// Whether an image runs in the other ways too.
+#[derive(Clone, Copy)]
+enum Ways {
+    One,
+    All,
+}
+
+/// The world of a case with its translation, in all ways or in one.
+fn world_in(alloc: Global, case: &Case, translation: &Translation, ways: Ways) -> Result<World>
     requires whole { IsWhole case.now.image }
     requires meets { Meets (image_meaning case.now.image.pages) translation.now }
 {
-    let ranges = ranges_of(alloc, translation, case.threads, way)?;
     let prepared = made_ready(alloc, &case.image, translation)?;
     let program = Program {
         image: &case.image,
         translation,
         prepared: &prepared,
-        ranges: &ranges,
-        miss: way.miss(),
+        ranges: &[],
+        miss: 0,
     };
-    let world = ran(alloc, program, case.threads, case.input.to_vec(alloc)?)?;
-    check_driven(alloc, &case.image, &case.input, &world)?;
-    Ok(world)
-}
-
-fn threads_in(starts: &[(u32, u32)]) -> Result<u8> {
-    match u8::try_from(starts.len()) {
-        Ok(threads) => Ok(threads),
-        Err(_) => bail!("too many threads"),
+    match ways {
+        Ways::One => ran(alloc, case, program),
+        Ways::All => compared_in(alloc, case, program),
     }
 }
 
-/// Where the writable section of a row stands.
-#[derive(Clone, Copy, PartialEq, Eq)]
-enum Writable {
-    Told,
-    Usual,
+fn world_of_case(alloc: Global, case: &Case, ways: Ways) -> Result<World>
+    requires { IsWhole case.now.image }
+{
+    let translation = translated(alloc, &case.image)?;
+    world_in(alloc, case, &translation, ways)
 }
 
-fn image_by(
-    alloc: Global,
-    starts: &[(u32, u32)],
-    code: &str,
-    stored: &str,
-    writable: Writable,
-) -> Result<Image>
-    ensures { IfOk result IsWhole }
+/// The case of an image whose threads have that input, and the bytes that are shown.
+fn case_with(image: Image, input: Vec<u8>, shown: Vec<(u32, u32)>) -> Case
+    requires { IsWhole image }
+    ensures { IsWhole result.image }
 {
-    match writable {
-        Writable::Told => image_of(alloc, starts, code, stored),
-        Writable::Usual => image_in(alloc, starts, code, stored),
-    }
-}
-
-/// The case of a row: STARTS CODE WRITABLE INPUT SHOWN.
-fn case_of(alloc: Global, question: &str, writable: Writable) -> Result<Case>
-    ensures { IfOk result (λ case. IsWhole case.image) }
-{
-    let fields = fields(alloc, question, 5)?;
-    let starts = pairs_of(alloc, fields[0])?;
-    let threads = threads_in(&starts)?;
-    let input = bytes_or_none(alloc, fields[3])?;
-    let shown = pairs_of(alloc, fields[4])?;
-    let image = image_by(alloc, &starts, fields[1], fields[2], writable)?;
-    Ok(Case {
+    let threads = u8::try_from(image.threads.len()).unwrap_or(u8::MAX);
+    Case {
         image,
         threads,
         input,
         shown,
-    })
-}
-
-/// What is left of a world, and each state.
-fn whole_text(alloc: Global, world: &World, shown: &[(u32, u32)]) -> Result<String> {
-    let mut text = left_text(alloc, world, shown)?;
-    let states = states_text(alloc, world)?;
-    text.push_str(states.as_str())?;
-    Ok(text)
-}
-
-/// What is left of a case that runs in a way.
-fn text_in(alloc: Global, case: &Case, translation: &Translation, way: Way) -> Result<String>
-    requires whole { IsWhole case.now.image }
-    requires meets { Meets (image_meaning case.now.image.pages) translation.now }
-{
-    let world = world_in(alloc, case, translation, way)?;
-    whole_text(alloc, &world, &case.shown)
-}
-
-/// The world of a case with its translation. What is left and each state have to be the same in each other way.
-fn compared(alloc: Global, case: &Case) -> Result<World>
-    requires { IsWhole case.now.image }
-{
-    let translation = translated(alloc, &case.image)?;
-    let world = world_in(alloc, case, &translation, Way::Translated)?;
-    let left = whole_text(alloc, &world, &case.shown)?;
-    for way in OTHER_WAYS {
-        let other = text_in(alloc, case, &translation, way)?;
-        if other.as_str() != left.as_str() {
-            bail!("{left}, but {other} in the way {way:?}");
-        }
     }
-    Ok(world)
+}
+
+/// The case of a row: STARTS CODE WRITABLE INPUT SHOWN.
+fn case_of(alloc: Global, question: &str) -> Result<Case>
+    ensures { IfOk result (λ case. IsWhole case.image) }
+{
+    let (starts, code, writable, input, shown) = five_fields(question)?;
+    let image = image_of(alloc, starts, code, writable)?;
+    let input = bytes_or_none(alloc, input)?;
+    let shown = pairs_of(alloc, shown)?;
+    Ok(case_with(image, input, shown))
 }
 
 /// What is left of a row: STARTS CODE WRITABLE INPUT SHOWN.
 pub fn left(alloc: Global, question: &str) -> Result<String> {
-    let case = case_of(alloc, question, Writable::Told)?;
-    let world = compared(alloc, &case)?;
-    left_text(alloc, &world, &case.shown)
+    let case = case_of(alloc, question)?;
+    let world = world_of_case(alloc, &case, Ways::All)?;
+    left_text(alloc, &world, &case.shown, Told::Stopped)
 }
 
 /// The ends and the whole states of all processors, the output, and the bytes that the row asks for: STARTS CODE STORED INPUT
 /// SHOWN.
 pub fn states(alloc: Global, question: &str) -> Result<String> {
-    let case = case_of(alloc, question, Writable::Usual)?;
-    let world = compared(alloc, &case)?;
-    let mut text = shown::ends_text(alloc, &world)?;
-    let output = shown::output_text(alloc, &world)?;
-    let memory = memory_text(alloc, &world, &case.shown)?;
-    text.push_str("; ")?;
-    text.push_str(output.as_str())?;
-    text.push_str(memory.as_str())?;
-    Ok(text)
+    let case = case_of(alloc, question)?;
+    let world = world_of_case(alloc, &case, Ways::All)?;
+    Ok(states_text(alloc, &world, &case.shown)?)
 }
 
-/// The case of one thread, with its code and what the writable section stores: CODE STORED.
-fn plain_case(alloc: Global, question: &str) -> Result<Case>
-    ensures { IfOk result (λ case. IsWhole case.image) }
-{
-    let fields = fields(alloc, question, 2)?;
-    let image = plain_image(alloc, fields[0], fields[1])?;
-    Ok(Case {
-        image,
-        threads: 1,
-        input: Vec::new(alloc),
-        shown: Vec::new(alloc),
-    })
+/// The world of one thread, with its code and what the writable section stores: CODE STORED.
+fn plain_world(alloc: Global, question: &str, ways: Ways) -> Result<World> {
+    let (code, stored) = two_fields(question)?;
+    let image = plain_image(alloc, code, stored)?;
+    let case = case_with(image, Vec::new(alloc), Vec::new(alloc));
+    world_of_case(alloc, &case, ways)
 }
 
 /// How the thread of a row ends: CODE STORED.
 pub fn end(alloc: Global, question: &str) -> Result<String> {
-    let case = plain_case(alloc, question)?;
-    let world = compared(alloc, &case)?;
+    let world = plain_world(alloc, question, Ways::All)?;
     Ok(ends_text(alloc, &world)?)
 }
 
@@ -287,9 +280,7 @@ fn steps_of(world: &World) -> u64 {
 
 /// How many steps of the thread of a row are interpreted: CODE STORED.
 pub fn interpreted(alloc: Global, question: &str) -> Result<String> {
-    let case = plain_case(alloc, question)?;
-    let translation = translated(alloc, &case.image)?;
-    let world = world_in(alloc, &case, &translation, Way::Translated)?;
+    let world = plain_world(alloc, question, Ways::One)?;
     let steps = steps_of(&world);
     Ok(format!(in alloc; "{steps}")?)
 }

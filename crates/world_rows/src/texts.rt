@@ -1,30 +1,60 @@
-// What is left of a world, in text.
+// Parts of what is left of a world, in text.
+use crate::report::Report;
 use anyhow::{Result, bail};
-use std::alloc::{AllocError, Global};
+use memory_core::MemState;
+use std::alloc::Global;
 use system_model::{End, order_of};
-use vax_form::{Exception, Pick};
+use vax_form::{Exception, Pick, VaxState};
 use vest_core::World;
 
-fn exception_text(alloc: Global, exception: Exception) -> Result<String, AllocError> {
-    let vector = exception.vector();
+/// The registers that a report tells.
+const REGISTERS: u8 = 15;
+
+fn put_exception(report: &mut Report, exception: Exception) {
     let parameter = exception.parameter();
+    report.put("exception ");
+    report.byte(exception.vector());
     match exception {
         Exception::AccessViolation { .. } => {
-            let intent = exception.intent();
-            format!(in alloc; "exception {vector:02X} address {parameter:08X} intent {intent}")
+            report.put(" address ");
+            report.longword(parameter);
+            report.put(" intent ");
+            report.count(u64::from(exception.intent()));
         }
-        Exception::Arithmetic(_) => format!(in alloc; "exception {vector:02X} type {parameter}"),
-        _ => format!(in alloc; "exception {vector:02X}"),
+        Exception::Arithmetic(_) => {
+            report.put(" type ");
+            report.count(u64::from(parameter));
+        }
+        _ => {}
     }
 }
 
 /// How a processor ended.
-pub fn end_text(alloc: Global, end: Option<End>) -> Result<String, AllocError> {
+pub fn put_end(report: &mut Report, end: Option<End>) {
     match end {
-        Some(End::Exit(value)) => format!(in alloc; "exit {value:08X}"),
-        Some(End::Raised(exception)) => exception_text(alloc, exception),
-        Some(End::Spent) => String::from_str(alloc, "spent"),
-        None => String::from_str(alloc, "goes on"),
+        Some(End::Exit(value)) => {
+            report.put("exit ");
+            report.longword(value);
+        }
+        Some(End::Raised(exception)) => put_exception(report, exception),
+        Some(End::Spent) => report.put("spent"),
+        None => report.put("goes on"),
+    }
+}
+
+/// PC and processor status.
+pub fn put_place(report: &mut Report, state: &VaxState) {
+    report.put(" pc ");
+    report.longword(state.pc);
+    report.put(" psl ");
+    report.longword(state.psl());
+}
+
+pub fn put_registers(report: &mut Report, state: &VaxState) {
+    report.put(" registers");
+    for number in 0..REGISTERS {
+        report.put(" ");
+        report.digits(state.register(number));
     }
 }
 
@@ -36,43 +66,42 @@ pub fn order_in(alloc: Global, world: &World) -> Result<Vec<Pick>> {
     }
 }
 
-/// The references in order: a thread and how many instructions it had retired.
-pub fn order_text(alloc: Global, world: &World) -> Result<String> {
-    let mut text = String::from_str(alloc, "order")?;
-    for pick in &order_in(alloc, world)? {
-        write!(text, " {}:{}", pick.thread, pick.retired)?;
+/// References in order: a thread and how many instructions it had retired.
+pub fn put_order(report: &mut Report, order: &[Pick]) {
+    report.put("; order");
+    for pick in order {
+        report.put(" ");
+        report.count(u64::from(pick.thread));
+        report.put(":");
+        report.count(pick.retired);
     }
-    Ok(text)
+}
+
+/// The output, in pairs of digits, each behind this.
+pub fn put_output(report: &mut Report, output: &[u8], before: &str) {
+    for byte in output {
+        report.put(before);
+        report.byte(*byte);
+    }
 }
 
 /// So many bytes of memory from an address on, in pairs of digits.
-pub fn bytes_text(
-    alloc: Global,
-    world: &World,
-    first: u32,
-    count: u32,
-) -> Result<String, AllocError> {
-    let mut text = format!(in alloc; "bytes {first:X} ")?;
+pub fn put_bytes(report: &mut Report, memory: &MemState, first: u32, count: u32) {
+    report.put("bytes ");
+    report.digits(first);
+    report.put(" ");
     for place in 0..count {
-        match world.memory().byte(first.wrapping_add(place)) {
-            Some(byte) => write!(text, "{byte:02X}")?,
-            None => text.push_str("--")?,
+        match memory.byte(first.wrapping_add(place)) {
+            Some(byte) => report.byte(byte),
+            None => report.put("--"),
         }
     }
-    Ok(text)
 }
 
 /// The bytes that a row asks for.
-pub fn memory_text(
-    alloc: Global,
-    world: &World,
-    shown: &[(u32, u32)],
-) -> Result<String, AllocError> {
-    let mut text = String::new(alloc);
+pub fn put_memory(report: &mut Report, memory: &MemState, shown: &[(u32, u32)]) {
     for (first, count) in shown {
-        let bytes = bytes_text(alloc, world, *first, *count)?;
-        text.push_str("; ")?;
-        text.push_str(bytes.as_str())?;
+        report.put("; ");
+        put_bytes(report, memory, *first, *count);
     }
-    Ok(text)
 }

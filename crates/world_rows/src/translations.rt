@@ -1,7 +1,8 @@
 // What translations have: the mapped addresses, and the rules of condition codes there.
 use crate::images::code_alone;
 use crate::programs::translated;
-use anyhow::{Context, Result, bail};
+use crate::report::Report;
+use anyhow::{Result, bail};
 use exception_records::{CodeRule, Points, Rules};
 use image_file::Image;
 use row_tally::{bytes, longword};
@@ -13,26 +14,32 @@ use vax_form::Size;
 /// The opcode of NOP.
 const NOP: u8 = 0x01;
 
-fn addresses_text(alloc: Global, translation: &Translation) -> Result<String, AllocError> {
-    let map = &translation.map;
-    let mut text = String::new(alloc);
-    for (address, _) in map.pairs() {
-        if !text.is_empty() {
-            text.push_str(" ")?;
+/// The translation of a code.
+fn translation_of(alloc: Global, question: &str) -> Result<Translation> {
+    let code = bytes(alloc, question)?;
+    let image = code_alone(alloc, &code)?;
+    translated(alloc, &image)
+}
+
+fn addresses_text(alloc: Global, pairs: &[(u32, u32)]) -> Result<String, AllocError> {
+    let mut report = Report::new(alloc);
+    for (place, (address, _)) in pairs.iter().enumerate() {
+        if place > 0 {
+            report.put(" ");
         }
-        write!(text, "{address:X}")?;
+        report.digits(*address);
     }
-    if text.is_empty() {
-        text.push_str("none")?;
+    if pairs.is_empty() {
+        report.put("none");
     }
-    Ok(text)
+    report.end()
 }
 
 /// The mapped addresses of a code, or that there are none.
 pub fn mapped(alloc: Global, question: &str) -> Result<String> {
-    let image = code_alone(alloc, &bytes(alloc, question)?)?;
-    let translation = translated(alloc, &image)?;
-    Ok(addresses_text(alloc, &translation)?)
+    let translation = translation_of(alloc, question)?;
+    let map = &translation.map;
+    Ok(addresses_text(alloc, map.pairs())?)
 }
 
 fn size_text(size: Size) -> &'static str {
@@ -44,58 +51,55 @@ fn size_text(size: Size) -> &'static str {
     }
 }
 
-fn sized_text(alloc: Global, rule: &str, size: Size) -> Result<String, AllocError> {
-    let size = size_text(size);
-    format!(in alloc; "{rule}-{size}")
+fn put_sized(report: &mut Report, rule: &str, size: Size) {
+    report.put(rule);
+    report.put(size_text(size));
 }
 
-fn rule_text(alloc: Global, rule: CodeRule) -> Result<String, AllocError> {
+fn put_rule(report: &mut Report, rule: CodeRule) {
     match rule {
-        CodeRule::Ready => String::from_str(alloc, "ready"),
-        CodeRule::Zero => String::from_str(alloc, "zero"),
-        CodeRule::Result { size } => sized_text(alloc, "result", size),
-        CodeRule::Add { size } => sized_text(alloc, "add", size),
-        CodeRule::Sub { size } => sized_text(alloc, "sub", size),
-        CodeRule::Compare { size } => sized_text(alloc, "compare", size),
+        CodeRule::Ready => report.put(" ready"),
+        CodeRule::Zero => report.put(" zero"),
+        CodeRule::Result { size } => put_sized(report, " result-", size),
+        CodeRule::Add { size } => put_sized(report, " add-", size),
+        CodeRule::Sub { size } => put_sized(report, " sub-", size),
+        CodeRule::Compare { size } => put_sized(report, " compare-", size),
     }
 }
 
 /// The rules of N, Z, V and C, each behind a space.
-fn rules_text(alloc: Global, rules: Rules) -> Result<String, AllocError> {
-    let mut text = String::new(alloc);
-    for rule in [rules.n, rules.z, rules.v, rules.c] {
-        let one = rule_text(alloc, rule)?;
-        text.push_str(" ")?;
-        text.push_str(one.as_str())?;
-    }
-    Ok(text)
+fn put_rules(report: &mut Report, rules: Rules) {
+    put_rule(report, rules.n);
+    put_rule(report, rules.z);
+    put_rule(report, rules.v);
+    put_rule(report, rules.c);
 }
 
 /// The rules at an address, whose block begins at a word.
-fn rules_at(alloc: Global, points: &Points, address: u32, word: u32) -> Result<String> {
-    let point = points.find(word).context("a point")?;
-    let rules = rules_text(alloc, point.rules)?;
-    Ok(format!(in alloc; "{address:X}{rules}")?)
+fn put_rules_at(report: &mut Report, points: &Points, address: u32, word: u32) {
+    report.digits(address);
+    match points.find(word) {
+        Some(point) => put_rules(report, point.rules),
+        None => report.put(" no point"),
+    }
 }
 
-fn all_rules(alloc: Global, translation: &Translation) -> Result<String> {
-    let (map, points) = (&translation.map, &translation.points);
-    let mut text = String::new(alloc);
-    for (address, word) in map.pairs() {
-        if !text.is_empty() {
-            text.push_str("; ")?;
+fn rules_text(alloc: Global, points: &Points, pairs: &[(u32, u32)]) -> Result<String, AllocError> {
+    let mut report = Report::new(alloc);
+    for (place, (address, word)) in pairs.iter().enumerate() {
+        if place > 0 {
+            report.put("; ");
         }
-        let rules = rules_at(alloc, points, *address, *word)?;
-        text.push_str(rules.as_str())?;
+        put_rules_at(&mut report, points, *address, *word);
     }
-    Ok(text)
+    report.end()
 }
 
 /// The rules of N, Z, V and C at each mapped address of a code.
 pub fn rules(alloc: Global, question: &str) -> Result<String> {
-    let image = code_alone(alloc, &bytes(alloc, question)?)?;
-    let translation = translated(alloc, &image)?;
-    all_rules(alloc, &translation)
+    let translation = translation_of(alloc, question)?;
+    let (map, points) = (&translation.map, &translation.points);
+    Ok(rules_text(alloc, points, map.pairs())?)
 }
 
 /// The image of so many NOPs.

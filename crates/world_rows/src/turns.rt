@@ -1,16 +1,15 @@
 // One world a row: processors are picked as the row says.
-ghost use Rattle.std.specs.Prelude.{IfOk};
+ghost use Rattle.std.specs.Prelude.{◌≡◌, length, IfOk};
 ghost use Rattle.block_law.specs.Translations.{Meets};
 ghost use Rattle.image_file.specs.Whole.{IsWhole};
 ghost use Rattle.image_meaning.specs.Meant.{image_meaning};
 ghost use Rattle.world_rows.specs.Ready.{CanRun, IsReady};
 
 use crate::driven::check_driven;
-use crate::images::{bytes_or_none, image_in, pairs_of};
+use crate::images::{bytes_or_none, image_of, pairs_of};
+use crate::left::{Told, left_text};
 use crate::nothing::nothing_translated;
 use crate::programs::{Limits, Program, made_ready, translated};
-use crate::shown::{output_text, processors_text};
-use crate::texts::{memory_text, order_text};
 use crate::worlds::{advance_often, pick_often, world_of};
 use anyhow::{Context, Result, anyhow, bail};
 use image_file::Image;
@@ -57,20 +56,6 @@ fn run(world: &mut World, program: Program<'_>, picks: &[(u32, u32)], pace: Pace
     Ok(())
 }
 
-/// What is left of a world: its processors, its order, its output, and the bytes that the row asks for.
-fn left_text(alloc: Global, world: &World, shown: &[(u32, u32)]) -> Result<String> {
-    let mut text = processors_text(alloc, world)?;
-    let order = order_text(alloc, world)?;
-    let output = output_text(alloc, world)?;
-    let memory = memory_text(alloc, world, shown)?;
-    text.push_str("; ")?;
-    text.push_str(order.as_str())?;
-    text.push_str("; ")?;
-    text.push_str(output.as_str())?;
-    text.push_str(memory.as_str())?;
-    Ok(text)
-}
-
 /// A row: an image, its input, the limits, the threads that are picked, and the bytes that are shown.
 #[derive(Drop)]
 struct Case {
@@ -88,17 +73,16 @@ fn limits_of(budget: &str, entries: &str) -> Result<Limits> {
     })
 }
 
-/// The case of a row: STARTS CODE STORED INPUT BUDGET LIMIT PICKS SHOWN.
-fn case_of(alloc: Global, question: &str) -> Result<Case>
+/// The case of the fields STARTS CODE STORED INPUT BUDGET LIMIT PICKS SHOWN.
+fn case_in(alloc: Global, fields: &[&str]) -> Result<Case>
+    requires { length fields.now ≡ 8 }
     ensures { IfOk result (λ case. IsWhole case.image) }
 {
-    let fields = fields(alloc, question, 8)?;
     let limits = limits_of(fields[4], fields[5])?;
-    let starts = pairs_of(alloc, fields[0])?;
+    let image = image_of(alloc, fields[0], fields[1], fields[2])?;
     let input = bytes_or_none(alloc, fields[3])?;
     let picks = pairs_of(alloc, fields[6])?;
     let shown = pairs_of(alloc, fields[7])?;
-    let image = image_in(alloc, &starts, fields[1], fields[2])?;
     Ok(Case {
         image,
         input,
@@ -108,14 +92,42 @@ fn case_of(alloc: Global, question: &str) -> Result<Case>
     })
 }
 
-/// The world of a case, where its threads were picked.
-fn ran(alloc: Global, case: &Case, program: Program<'_>, pace: Pace) -> Result<World>
+fn case_of(alloc: Global, question: &str) -> Result<Case>
+    ensures { IfOk result (λ case. IsWhole case.image) }
+{
+    let fields = fields(alloc, question, 8)?;
+    case_in(alloc, &fields)
+}
+
+/// What is left of the world of a case where its threads were picked, which has to be what the driven threads leave.
+fn left_at(alloc: Global, case: &Case, program: Program<'_>, pace: Pace) -> Result<String>
     requires whole { IsWhole program.image.now }
     requires meets { CanRun program }
 {
-    let mut world = world_of(alloc, program, case.input.to_vec(alloc)?, case.limits)?;
+    let mut world = world_of(alloc, program, &case.input, case.limits)?;
     run(&mut world, program, &case.picks, pace)?;
-    Ok(world)
+    check_driven(alloc, program.image, &case.input, &world)?;
+    left_text(alloc, &world, &case.shown, Told::Steps)
+}
+
+/// What is left of it where turns are made one at a time, which has to be what is left where many are made at once.
+fn left_at_each(alloc: Global, case: &Case, program: Program<'_>) -> Result<String>
+    requires whole { IsWhole program.image.now }
+    requires meets { CanRun program }
+{
+    let left = left_at(alloc, case, program, Pace::One)?;
+    let other = left_at(alloc, case, program, Pace::Many)?;
+    if other.as_str() != left.as_str() {
+        bail!("{other} where many turns are made at once");
+    }
+    Ok(left)
+}
+
+/// At which paces a world runs.
+#[derive(Clone, Copy)]
+enum Paces {
+    One,
+    Each,
 }
 
 /// What is left of the world of a case with a translation, where these addresses are interpreted.
@@ -124,7 +136,7 @@ fn left_in(
     case: &Case,
     translation: &Translation,
     ranges: &[Range],
-    pace: Pace,
+    paces: Paces,
 ) -> Result<String>
     requires whole { IsWhole case.now.image }
     requires meets { Meets (image_meaning case.now.image.pages) translation.now }
@@ -137,22 +149,28 @@ fn left_in(
         ranges,
         miss: 0,
     };
-    let world = ran(alloc, case, program, pace)?;
-    check_driven(alloc, &case.image, &case.input, &world)?;
-    left_text(alloc, &world, &case.shown)
+    match paces {
+        Paces::One => left_at(alloc, case, program, Pace::One),
+        Paces::Each => left_at_each(alloc, case, program),
+    }
 }
 
 /// What is left of the world of a row, with nothing translated.
 pub fn answer(alloc: Global, question: &str) -> Result<String> {
     let case = case_of(alloc, question)?;
     let translation = nothing_translated(alloc, &case.image)?;
-    left_in(alloc, &case, &translation, &[], Pace::One)
+    left_in(alloc, &case, &translation, &[], Paces::One)
 }
 
-/// The addresses of a thread, written as THREAD:FIRST-LAST.
+/// A thread and its addresses, written as THREAD:FIRST-LAST.
+fn parts_of(text: &str) -> Option<(&str, &str, &str)> {
+    let (thread, addresses) = text.split_once(':')?;
+    let (first, last) = addresses.split_once('-')?;
+    Some((thread, first, last))
+}
+
 fn range_of(text: &str) -> Result<Range> {
-    let (thread, addresses) = text.split_once(':').context("a thread")?;
-    let (first, last) = addresses.split_once('-').context("two addresses")?;
+    let (thread, first, last) = parts_of(text).context("a range")?;
     Ok(Range {
         thread: u8::try_from(longword(thread)?)?,
         first: longword(first)?,
@@ -160,16 +178,26 @@ fn range_of(text: &str) -> Result<Range> {
     })
 }
 
+fn push_ranges(ranges: &mut Vec<Range>, pieces: &[&str]) -> Result<()> {
+    for piece in pieces {
+        let range = range_of(piece)?;
+        ranges.push(range)?;
+    }
+    Ok(())
+}
+
 /// Ranges with commas between, none for `-`.
 fn ranges_of(alloc: Global, text: &str) -> Result<Vec<Range>> {
+    let pieces = pieces(alloc, text)?;
     let mut ranges = Vec::new(alloc);
-    if text == "-" {
-        return Ok(ranges);
-    }
-    for piece in &pieces(alloc, text)? {
-        ranges.push(range_of(piece)?)?;
-    }
+    push_ranges(&mut ranges, &pieces)?;
     Ok(ranges)
+}
+
+fn answer_in(alloc: Global, question: &str, ranges: &[Range]) -> Result<String> {
+    let case = case_of(alloc, question)?;
+    let translation = translated(alloc, &case.image)?;
+    left_in(alloc, &case, &translation, ranges, Paces::Each)
 }
 
 /// The same with its translation, where the ranges before the row are interpreted, whether turns are made one at a time or many at
@@ -177,12 +205,5 @@ fn ranges_of(alloc: Global, text: &str) -> Result<Vec<Range>> {
 pub fn answer_translated(alloc: Global, question: &str) -> Result<String> {
     let (ranges, question) = question.split_once(' ').context("ranges")?;
     let ranges = ranges_of(alloc, ranges)?;
-    let case = case_of(alloc, question)?;
-    let translation = translated(alloc, &case.image)?;
-    let left = left_in(alloc, &case, &translation, &ranges, Pace::One)?;
-    let other = left_in(alloc, &case, &translation, &ranges, Pace::Many)?;
-    if other.as_str() != left.as_str() {
-        bail!("{other} where many turns are made at once");
-    }
-    Ok(left)
+    answer_in(alloc, question, &ranges)
 }

@@ -9,24 +9,14 @@ use std::alloc::Global;
 use vest_core::{Turn, World};
 
 /// A world before its first turn.
-pub fn world_of(
-    alloc: Global,
-    program: Program<'_>,
-    input: Vec<u8>,
-    limits: Limits,
-) -> Result<World>
+pub fn world_of(alloc: Global, program: Program<'_>, input: &[u8], limits: Limits) -> Result<World>
     requires whole { IsWhole program.image.now }
     requires meets { CanRun program }
     ensures { IfOk result (IsReady program.entry) }
 {
-    match World::new(
-        alloc,
-        program.image,
-        input,
-        limits.budget,
-        limits.entries,
-        program.miss,
-    ) {
+    let (image, miss) = (program.image, program.miss);
+    let input = input.to_vec(alloc)?;
+    match World::new(alloc, image, input, limits.budget, limits.entries, miss) {
         Ok(world) => Ok(world),
         Err(_) => bail!("want of memory"),
     }
