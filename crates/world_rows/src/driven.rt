@@ -7,6 +7,7 @@ use image_file::Image;
 use memory_core::MemState;
 use std::alloc::{AllocError, Global};
 use system_model::End;
+use vax_form::Pick;
 use vax_run::{DrivenRun, ThreadRun, driven};
 use vest_core::{Processor, World};
 
@@ -58,19 +59,32 @@ fn is_as(world: &World, run: &DrivenRun) -> bool {
         && are_at(world.processors(), run.threads.as_slice())
 }
 
+/// What the threads do that are driven by an order up to these counts of retired instructions.
+fn driven_in(
+    alloc: Global,
+    image: &Image,
+    input: &[u8],
+    order: &[Pick],
+    counts: &[u64],
+) -> Result<Option<DrivenRun>>
+    requires { IsWhole image.now }
+{
+    if counts.len() != image.threads.len() {
+        bail!("another number of processors");
+    }
+    match driven(alloc, image, input, order, counts) {
+        Ok(run) => Ok(run),
+        Err(_) => bail!("want of memory"),
+    }
+}
+
 /// What the threads do that are driven by a world's order.
 fn driven_by(alloc: Global, image: &Image, input: &[u8], world: &World) -> Result<Option<DrivenRun>>
     requires { IsWhole image.now }
 {
     let order = order_in(alloc, world)?;
     let counts = retired_by(alloc, world.processors())?;
-    if counts.len() != image.threads.len() {
-        bail!("another number of processors");
-    }
-    match driven(alloc, image, input, &order, &counts) {
-        Ok(run) => Ok(run),
-        Err(_) => bail!("want of memory"),
-    }
+    driven_in(alloc, image, input, &order, &counts)
 }
 
 /// Refuses a world that is not what the threads do that are driven by its order.

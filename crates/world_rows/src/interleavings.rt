@@ -1,6 +1,8 @@
 // Every interleaving of the turns of two threads.
+ghost use Rattle.block_law.specs.Translations.{Meets};
 ghost use Rattle.image_file.specs.Whole.{IsWhole};
-ghost use Rattle.world_rows.specs.Ready.{CanRun};
+ghost use Rattle.image_meaning.specs.Meant.{image_meaning};
+ghost use Rattle.world_rows.specs.Ready.{CanRun, IsReady};
 
 use crate::driven::check_driven;
 use crate::images::{image_of, pair_of};
@@ -11,9 +13,9 @@ use crate::texts::put_bytes;
 use crate::worlds::{pick, world_of};
 use anyhow::Result;
 use image_file::Image;
-use row_tally::{RowFault, four_fields, longword};
+use row_tally::{Given, RowFault, four_fields, longword};
 use std::alloc::{AllocError, Global};
-use system_model::End;
+use system_model::{End, Translation};
 use vest_core::{Processor, World};
 
 /// The longest lists of picks.
@@ -25,16 +27,24 @@ const LIMITS: Limits = Limits {
     entries: 100,
 };
 
-/// The world behind a list of picks: thread 1 where a bit is set and thread 0 where it is not, from the lowest bit on.
+/// Picks thread 1 where a bit is set and thread 0 where it is not, from the lowest bit on.
+fn pick_each(world: &mut World, program: Program<'_>, picks: u32, turns: u32) -> Result<()>
+    requires { IsReady program world.old }
+{
+    for turn in 0..turns.min(MOST_PICKS) {
+        let thread = u8::from(picks >> turn & 1 == 1);
+        pick(world, program, thread)?;
+    }
+    Ok(())
+}
+
+/// The world behind a list of picks.
 fn ran(alloc: Global, program: Program<'_>, picks: u32, turns: u32) -> Result<World>
     requires whole { IsWhole program.image.now }
     requires meets { CanRun program }
 {
     let mut world = world_of(alloc, program, &[], LIMITS)?;
-    for turn in 0..turns.min(MOST_PICKS) {
-        let thread = u8::from(picks >> turn & 1 == 1);
-        pick(&mut world, program, thread)?;
-    }
+    pick_each(&mut world, program, picks, turns)?;
     Ok(world)
 }
 
@@ -89,7 +99,15 @@ fn count(outcomes: &mut Vec<Outcome>, text: String) -> Result<(), AllocError> {
     Ok(())
 }
 
-/// What is left behind a list of picks, which is compared with the driven threads.
+/// What is left of a world, which is compared with the driven threads.
+fn left_of(alloc: Global, world: &World, image: &Image, shown: Shown) -> Result<Option<String>>
+    requires { IsWhole image.now }
+{
+    check_driven(alloc, image, &[], world)?;
+    Ok(left_text(alloc, world, shown)?)
+}
+
+/// What is left behind a list of picks.
 fn left_behind(
     alloc: Global,
     program: Program<'_>,
@@ -101,8 +119,7 @@ fn left_behind(
     requires meets { CanRun program }
 {
     let world = ran(alloc, program, picks, turns)?;
-    check_driven(alloc, program.image, &[], &world)?;
-    Ok(left_text(alloc, &world, shown)?)
+    left_of(alloc, &world, program.image, shown)
 }
 
 /// Counts what is left behind every list of so many picks that ends both threads.
@@ -146,20 +163,40 @@ fn outcomes_text(alloc: Global, outcomes: &[Outcome]) -> Result<String, AllocErr
     report.end()
 }
 
-/// What is left of an image of which nothing is translated.
-fn answer_of(alloc: Global, image: &Image, length: u32, shown: Shown) -> Result<String>
-    requires { IsWhole image.now }
+/// The lists of picks of a row, by their length, and the bytes that it asks for.
+#[derive(Clone, Copy)]
+struct Asked {
+    length: u32,
+    shown: Shown,
+}
+
+/// What is left of an image with a translation.
+fn answer_in(
+    alloc: Global,
+    image: &Image,
+    translation: &Translation,
+    asked: Asked,
+) -> Result<String>
+    requires whole { IsWhole image.now }
+    requires meets { Meets (image_meaning image.now.pages) translation.now }
 {
-    let translation = nothing_translated(alloc, image)?;
-    let prepared = made_ready(alloc, image, &translation)?;
+    let prepared = made_ready(alloc, image, translation)?;
     let program = Program {
         image,
-        translation: &translation,
+        translation,
         prepared: &prepared,
         ranges: &[],
         miss: 0,
     };
-    outcomes_of(alloc, program, length, shown)
+    outcomes_of(alloc, program, asked.length, asked.shown)
+}
+
+/// What is left of an image of which nothing is translated.
+fn answer_of(alloc: Global, image: &Image, asked: Asked) -> Result<String>
+    requires { IsWhole image.now }
+{
+    let translation = nothing_translated(alloc, image)?;
+    answer_in(alloc, image, &translation, asked)
 }
 
 /// The bytes that a field asks for.
@@ -168,10 +205,17 @@ fn shown_of(field: &str) -> Result<Shown, RowFault> {
     Ok(Shown { first, count })
 }
 
+fn asked_of(length: &str, shown: &str) -> Result<Asked, RowFault> {
+    Ok(Asked {
+        length: longword(length)?,
+        shown: shown_of(shown)?,
+    })
+}
+
 /// How often what is left behind the lists of picks of a row, in the order in which they come: STARTS CODE LENGTH SHOWN.
-pub fn answer(alloc: Global, question: &str) -> Result<String> {
+pub fn answer(alloc: Global, _given: &Given<'_>, question: &str) -> Result<String> {
     let (starts, code, length, shown) = four_fields(question)?;
-    let (length, shown) = (longword(length)?, shown_of(shown)?);
+    let asked = asked_of(length, shown)?;
     let image = image_of(alloc, starts, code, "-")?;
-    answer_of(alloc, &image, length, shown)
+    answer_of(alloc, &image, asked)
 }

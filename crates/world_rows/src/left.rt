@@ -123,3 +123,10 @@ pub fn ends_text(alloc: Global, world: &World) -> Result<String, AllocError> {
     put_processors(&mut report, world.processors(), Told::Stopped);
     report.end()
 }
+
+/// A count alone.
+pub fn count_text(alloc: Global, count: u64) -> Result<String, AllocError> {
+    let mut report = Report::new(alloc);
+    report.count(count);
+    report.end()
+}

@@ -21,52 +21,12 @@ mod turns;
 mod worlds;
 
 use anyhow::{Context, Result, bail};
-use row_tally::{Families, Tally, rows};
+use row_tally::{Given, Tally, ask_rows};
 use std::alloc::Global;
-use std::fs;
-
-/// A file of rows.
-#[derive(Clone, Copy)]
-enum Topic {
-    Turns,
-    Ranges,
-    Interleavings,
-    Modes,
-    Translations,
-}
-
-const TOPICS: [Topic; 5] = [
-    Topic::Turns,
-    Topic::Ranges,
-    Topic::Interleavings,
-    Topic::Modes,
-    Topic::Translations,
-];
-
-impl Topic {
-    fn file(self) -> &'static str {
-        match self {
-            Topic::Turns => "turns.txt",
-            Topic::Ranges => "ranges.txt",
-            Topic::Interleavings => "interleavings.txt",
-            Topic::Modes => "modes.txt",
-            Topic::Translations => "translations.txt",
-        }
-    }
-
-    fn answer(self, alloc: Global, question: &str) -> Result<String> {
-        match self {
-            Topic::Turns => turns::answer(alloc, question),
-            Topic::Ranges => turns::answer_translated(alloc, question),
-            Topic::Interleavings => interleavings::answer(alloc, question),
-            Topic::Modes => runs::states(alloc, question),
-            Topic::Translations => answer_of_kind(alloc, question),
-        }
-    }
-}
+use std::fs::Files;
 
 /// The answer to a question that begins with its kind.
-fn answer_of_kind(alloc: Global, question: &str) -> Result<String> {
+fn answer_of_kind(alloc: Global, _given: &Given<'_>, question: &str) -> Result<String> {
     let (kind, rest) = question.split_once(' ').context("a kind")?;
     match kind {
         "mapped" => translations::mapped(alloc, rest),
@@ -79,37 +39,19 @@ fn answer_of_kind(alloc: Global, question: &str) -> Result<String> {
     }
 }
 
-/// Whether the answer of a row is what stands there; else it is printed.
-fn agrees(rt: &(impl Print + AllocGlobal), topic: Topic, row: &str) -> Result<bool> {
-    let (question, wanted) = row.split_once(": ").context("an answer")?;
-    let found = topic.answer(rt.alloc(), question)?;
-    let agrees = found.as_str() == wanted;
-    if !agrees {
-        println!(rt; "{question}: it is {found}, not {wanted}")?;
-    }
-    Ok(agrees)
-}
-
-/// Answers the questions of a file, one a row.
-fn run(rt: &(impl Print + AllocGlobal), topic: Topic, table: &str) -> Result<Tally> {
-    let mut families = Families::NONE;
-    for row in &rows(rt.alloc(), table)? {
-        if let Some(name) = row.strip_prefix("family ") {
-            families.begin(rt, name)?;
-        } else {
-            families.count(agrees(rt, topic, row)?);
-        }
-    }
-    families.begin(rt, "")?;
-    Ok(families.before)
+/// Asks the questions of the files.
+fn ask_all(rt: &(impl Files + Print + AllocGlobal)) -> Result<Tally> {
+    let mut all = Tally::NONE;
+    all.add(ask_rows(rt, "turns.txt", turns::answer)?);
+    all.add(ask_rows(rt, "ranges.txt", turns::answer_translated)?);
+    all.add(ask_rows(rt, "interleavings.txt", interleavings::answer)?);
+    all.add(ask_rows(rt, "modes.txt", runs::states)?);
+    all.add(ask_rows(rt, "translations.txt", answer_of_kind)?);
+    Ok(all)
 }
 
 fn main(rt: HostRuntime) -> Result<()> {
-    let mut all = Tally::NONE;
-    for topic in TOPICS {
-        let table = fs::read_to_string(&rt, topic.file()).context(topic.file())?;
-        all.add(run(&rt, topic, table.as_str())?);
-    }
+    let all = ask_all(&rt)?;
     all.print(&rt, "all")?;
     all.verdict()
 }

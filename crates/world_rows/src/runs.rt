@@ -1,6 +1,5 @@
 // Images that run with all of their translation and are compared with the driven threads, and with what is left where all or every
 // second mapped instruction is interpreted, and where stores fail.
-ghost use Rattle.std.specs.Prelude.{IfOk};
 ghost use Rattle.block_law.specs.Translations.{Meets};
 ghost use Rattle.image_file.specs.Whole.{IsWhole};
 ghost use Rattle.image_meaning.specs.Meant.{image_meaning};
@@ -8,15 +7,15 @@ ghost use Rattle.world_rows.specs.Ready.{CanRun, IsReady};
 
 use crate::driven::check_driven;
 use crate::images::{bytes_or_none, image_of, pairs_of, plain_image};
-use crate::left::{Told, ends_text, left_text, states_text};
+use crate::left::{Told, count_text, ends_text, left_text, states_text};
 use crate::programs::{Limits, Program, made_ready, translated};
 use crate::worlds::{pick_to_its_end, world_of};
 use anyhow::{Result, bail};
 use image_file::Image;
-use row_tally::{five_fields, two_fields};
+use row_tally::{Given, RowFault, five_fields, two_fields};
 use std::alloc::{AllocError, Global};
 use system_model::{Range, Translation};
-use vest_core::World;
+use vest_core::{Processor, World};
 
 /// More steps than a processor of a row takes, and more entries than a history of a row has.
 const LIMITS: Limits = Limits {
@@ -51,13 +50,26 @@ impl Way {
     }
 }
 
-/// The threads of an image and its input, as a row has them.
+/// What a row asks for.
+#[derive(Clone, Copy, PartialEq, Eq)]
+enum Asked {
+    /// How each thread ends, the order, the output and bytes.
+    Left,
+    /// The whole states, the output and bytes.
+    States,
+    /// How each thread ends.
+    Ends,
+    /// How many steps are interpreted with all of the translation; no other way is tried.
+    Steps,
+}
+
+/// How many threads a row has, their input, the bytes that are shown, and what is asked.
 #[derive(Drop)]
 struct Case {
-    image: Image,
     threads: u8,
     input: Vec<u8>,
     shown: Vec<(u32, u32)>,
+    asked: Asked,
 }
 
 fn push_every_second(
@@ -123,14 +135,22 @@ fn run_all(world: &mut World, program: Program<'_>, threads: u8) -> Result<()>
     Ok(())
 }
 
-/// The world in which each thread of a case ran to its end, which has to be what the driven threads leave.
+/// Runs each thread of a case to its end, which has to leave what the driven threads leave.
+fn run_driven(alloc: Global, world: &mut World, case: &Case, program: Program<'_>) -> Result<()>
+    requires whole { IsWhole program.image.now }
+    requires ready { IsReady program world.old }
+{
+    run_all(world, program, case.threads)?;
+    check_driven(alloc, program.image, &case.input, world)
+}
+
+/// The world in which each thread of a case ran to its end.
 fn ran(alloc: Global, case: &Case, program: Program<'_>) -> Result<World>
     requires whole { IsWhole program.image.now }
     requires meets { CanRun program }
 {
     let mut world = world_of(alloc, program, &case.input, LIMITS)?;
-    run_all(&mut world, program, case.threads)?;
-    check_driven(alloc, program.image, &case.input, &world)?;
+    run_driven(alloc, &mut world, case, program)?;
     Ok(world)
 }
 
@@ -172,115 +192,142 @@ fn check_ways(alloc: Global, case: &Case, program: Program<'_>, left: &str) -> R
     Ok(())
 }
 
-/// The world of a case with all of its translation. What is left and each state have to be the same in each other way.
-fn compared_in(alloc: Global, case: &Case, program: Program<'_>) -> Result<World>
+/// Refuses a world of which something else is left in another way.
+fn check_others(alloc: Global, world: &World, case: &Case, program: Program<'_>) -> Result<()>
     requires whole { IsWhole program.image.now }
     requires meets { CanRun program }
 {
-    let world = ran(alloc, case, program)?;
-    let left = left_text(alloc, &world, &case.shown, Told::State)?;
-    check_ways(alloc, case, program, &left)?;
-    Ok(world)
+    let left = left_text(alloc, world, &case.shown, Told::State)?;
+    check_ways(alloc, case, program, left.as_str())
 }
 
-/// Whether an image runs in the other ways too.
-#[derive(Clone, Copy)]
-enum Ways {
-    One,
-    All,
-}
-
-/// The world of a case with its translation, in all ways or in one.
-fn world_in(alloc: Global, case: &Case, translation: &Translation, ways: Ways) -> Result<World>
-    requires whole { IsWhole case.now.image }
-    requires meets { Meets (image_meaning case.now.image.pages) translation.now }
-{
-    let prepared = made_ready(alloc, &case.image, translation)?;
-    let program = Program {
-        image: &case.image,
-        translation,
-        prepared: &prepared,
-        ranges: &[],
-        miss: 0,
-    };
-    match ways {
-        Ways::One => ran(alloc, case, program),
-        Ways::All => compared_in(alloc, case, program),
-    }
-}
-
-fn world_of_case(alloc: Global, case: &Case, ways: Ways) -> Result<World>
-    requires { IsWhole case.now.image }
-{
-    let translation = translated(alloc, &case.image)?;
-    world_in(alloc, case, &translation, ways)
-}
-
-/// The case of an image whose threads have that input, and the bytes that are shown.
-fn case_with(image: Image, input: Vec<u8>, shown: Vec<(u32, u32)>) -> Case
-    requires { IsWhole image }
-    ensures { IsWhole result.image }
-{
-    let threads = u8::try_from(image.threads.len()).unwrap_or(u8::MAX);
-    Case {
-        image,
-        threads,
-        input,
-        shown,
-    }
-}
-
-/// The case of a row: STARTS CODE WRITABLE INPUT SHOWN.
-fn case_of(alloc: Global, question: &str) -> Result<Case>
-    ensures { IfOk result (λ case. IsWhole case.image) }
-{
-    let (starts, code, writable, input, shown) = five_fields(question)?;
-    let image = image_of(alloc, starts, code, writable)?;
-    let input = bytes_or_none(alloc, input)?;
-    let shown = pairs_of(alloc, shown)?;
-    Ok(case_with(image, input, shown))
-}
-
-/// What is left of a row: STARTS CODE WRITABLE INPUT SHOWN.
-pub fn left(alloc: Global, question: &str) -> Result<String> {
-    let case = case_of(alloc, question)?;
-    let world = world_of_case(alloc, &case, Ways::All)?;
-    left_text(alloc, &world, &case.shown, Told::Stopped)
-}
-
-/// The ends and the whole states of all processors, the output, and the bytes that the row asks for: STARTS CODE STORED INPUT
-/// SHOWN.
-pub fn states(alloc: Global, question: &str) -> Result<String> {
-    let case = case_of(alloc, question)?;
-    let world = world_of_case(alloc, &case, Ways::All)?;
-    Ok(states_text(alloc, &world, &case.shown)?)
-}
-
-/// The world of one thread, with its code and what the writable section stores: CODE STORED.
-fn plain_world(alloc: Global, question: &str, ways: Ways) -> Result<World> {
-    let (code, stored) = two_fields(question)?;
-    let image = plain_image(alloc, code, stored)?;
-    let case = case_with(image, Vec::new(alloc), Vec::new(alloc));
-    world_of_case(alloc, &case, ways)
-}
-
-/// How the thread of a row ends: CODE STORED.
-pub fn end(alloc: Global, question: &str) -> Result<String> {
-    let world = plain_world(alloc, question, Ways::All)?;
-    Ok(ends_text(alloc, &world)?)
-}
-
-fn steps_of(world: &World) -> u64 {
+/// How many steps are interpreted.
+fn steps_of(processors: &[Processor]) -> u64 {
     let mut steps: u64 = 0;
-    for processor in world.processors() {
+    for processor in processors {
         steps = steps.saturating_add(processor.interpreted_steps());
     }
     steps
 }
 
+fn asked_text(alloc: Global, world: &World, case: &Case) -> Result<String> {
+    match case.asked {
+        Asked::Left => left_text(alloc, world, &case.shown, Told::Stopped),
+        Asked::States => Ok(states_text(alloc, world, &case.shown)?),
+        Asked::Ends => Ok(ends_text(alloc, world)?),
+        Asked::Steps => Ok(count_text(alloc, steps_of(world.processors()))?),
+    }
+}
+
+fn answer_at(alloc: Global, world: &World, case: &Case, program: Program<'_>) -> Result<String>
+    requires whole { IsWhole program.image.now }
+    requires meets { CanRun program }
+{
+    if case.asked != Asked::Steps {
+        check_others(alloc, world, case, program)?;
+    }
+    asked_text(alloc, world, case)
+}
+
+fn answer_by(alloc: Global, case: &Case, program: Program<'_>) -> Result<String>
+    requires whole { IsWhole program.image.now }
+    requires meets { CanRun program }
+{
+    let world = ran(alloc, case, program)?;
+    answer_at(alloc, &world, case, program)
+}
+
+/// The answer where an image runs with a translation.
+fn answer_in(alloc: Global, image: &Image, translation: &Translation, case: &Case) -> Result<String>
+    requires whole { IsWhole image.now }
+    requires meets { Meets (image_meaning image.now.pages) translation.now }
+{
+    let prepared = made_ready(alloc, image, translation)?;
+    let program = Program {
+        image,
+        translation,
+        prepared: &prepared,
+        ranges: &[],
+        miss: 0,
+    };
+    answer_by(alloc, case, program)
+}
+
+fn answer_of(alloc: Global, image: &Image, case: &Case) -> Result<String>
+    requires { IsWhole image.now }
+{
+    let translation = translated(alloc, image)?;
+    answer_in(alloc, image, &translation, case)
+}
+
+/// The fields INPUT SHOWN of a row, and what it asks for.
+#[derive(Clone, Copy)]
+struct Row<'a> {
+    input: &'a str,
+    shown: &'a str,
+    asked: Asked,
+}
+
+fn case_of(alloc: Global, image: &Image, row: Row<'_>) -> Result<Case, RowFault> {
+    let threads = u8::try_from(image.threads.len()).unwrap_or(u8::MAX);
+    let input = bytes_or_none(alloc, row.input)?;
+    let shown = pairs_of(alloc, row.shown)?;
+    Ok(Case {
+        threads,
+        input,
+        shown,
+        asked: row.asked,
+    })
+}
+
+fn answer_for(alloc: Global, image: &Image, row: Row<'_>) -> Result<String>
+    requires { IsWhole image.now }
+{
+    let case = case_of(alloc, image, row)?;
+    answer_of(alloc, image, &case)
+}
+
+/// The answer to a row: STARTS CODE WRITABLE INPUT SHOWN.
+fn answer(alloc: Global, question: &str, asked: Asked) -> Result<String> {
+    let (starts, code, writable, input, shown) = five_fields(question)?;
+    let image = image_of(alloc, starts, code, writable)?;
+    let row = Row {
+        input,
+        shown,
+        asked,
+    };
+    answer_for(alloc, &image, row)
+}
+
+/// The answer to a row of one thread, with its code and what the writable section stores: CODE STORED.
+fn plain_answer(alloc: Global, question: &str, asked: Asked) -> Result<String> {
+    let (code, stored) = two_fields(question)?;
+    let image = plain_image(alloc, code, stored)?;
+    let row = Row {
+        input: "-",
+        shown: "-",
+        asked,
+    };
+    answer_for(alloc, &image, row)
+}
+
+/// What is left of a row: STARTS CODE WRITABLE INPUT SHOWN.
+pub fn left(alloc: Global, question: &str) -> Result<String> {
+    answer(alloc, question, Asked::Left)
+}
+
+/// The ends and the whole states of all processors, the output, and the bytes that the row asks for: STARTS CODE STORED INPUT
+/// SHOWN.
+pub fn states(alloc: Global, _given: &Given<'_>, question: &str) -> Result<String> {
+    answer(alloc, question, Asked::States)
+}
+
+/// How the thread of a row ends: CODE STORED.
+pub fn end(alloc: Global, question: &str) -> Result<String> {
+    plain_answer(alloc, question, Asked::Ends)
+}
+
 /// How many steps of the thread of a row are interpreted: CODE STORED.
 pub fn interpreted(alloc: Global, question: &str) -> Result<String> {
-    let world = plain_world(alloc, question, Ways::One)?;
-    let steps = steps_of(&world);
-    Ok(format!(in alloc; "{steps}")?)
+    plain_answer(alloc, question, Asked::Steps)
 }

@@ -35,11 +35,15 @@ fn addresses_text(alloc: Global, pairs: &[(u32, u32)]) -> Result<String, AllocEr
     report.end()
 }
 
+fn mapped_text(alloc: Global, translation: &Translation) -> Result<String> {
+    let map = &translation.map;
+    Ok(addresses_text(alloc, map.pairs())?)
+}
+
 /// The mapped addresses of a code, or that there are none.
 pub fn mapped(alloc: Global, question: &str) -> Result<String> {
     let translation = translation_of(alloc, question)?;
-    let map = &translation.map;
-    Ok(addresses_text(alloc, map.pairs())?)
+    mapped_text(alloc, &translation)
 }
 
 fn size_text(size: Size) -> &'static str {
@@ -95,11 +99,15 @@ fn rules_text(alloc: Global, points: &Points, pairs: &[(u32, u32)]) -> Result<St
     report.end()
 }
 
+fn rules_in(alloc: Global, translation: &Translation) -> Result<String> {
+    let (map, points) = (&translation.map, &translation.points);
+    Ok(rules_text(alloc, points, map.pairs())?)
+}
+
 /// The rules of N, Z, V and C at each mapped address of a code.
 pub fn rules(alloc: Global, question: &str) -> Result<String> {
     let translation = translation_of(alloc, question)?;
-    let (map, points) = (&translation.map, &translation.points);
-    Ok(rules_text(alloc, points, map.pairs())?)
+    rules_in(alloc, &translation)
 }
 
 /// The image of so many NOPs.
@@ -115,12 +123,24 @@ fn mapped_in(alloc: Global, image: &Image) -> Result<usize, TranslateRefusal> {
     Ok(map.pairs().len())
 }
 
-/// How many instructions of a section of so many bytes, each a NOP, are mapped, or with which count they are refused.
-pub fn flow(alloc: Global, question: &str) -> Result<String> {
-    let image = all_nops(alloc, longword(question)?)?;
-    match mapped_in(alloc, &image) {
-        Ok(count) => Ok(format!(in alloc; "mapped {count}")?),
-        Err(TranslateRefusal::Flow { count }) => Ok(format!(in alloc; "refused {count}")?),
+fn flow_text(alloc: Global, word: &str, count: u64) -> Result<String, AllocError> {
+    let mut report = Report::new(alloc);
+    report.put(word);
+    report.count(count);
+    report.end()
+}
+
+fn flow_of(alloc: Global, image: &Image) -> Result<String> {
+    match mapped_in(alloc, image) {
+        Ok(count) => Ok(flow_text(alloc, "mapped ", count as u64)?),
+        Err(TranslateRefusal::Flow { count }) => Ok(flow_text(alloc, "refused ", count)?),
         Err(TranslateRefusal::WantOfMemory) => bail!("want of memory"),
     }
+}
+
+/// How many instructions of a section of so many bytes, each a NOP, are mapped, or with which count they are refused.
+pub fn flow(alloc: Global, question: &str) -> Result<String> {
+    let count = longword(question)?;
+    let image = all_nops(alloc, count)?;
+    flow_of(alloc, &image)
 }

@@ -1,5 +1,5 @@
 // One world a row: processors are picked as the row says.
-ghost use Rattle.std.specs.Prelude.{◌≡◌, length, IfOk};
+ghost use Rattle.std.specs.Prelude.{IfOk};
 ghost use Rattle.block_law.specs.Translations.{Meets};
 ghost use Rattle.image_file.specs.Whole.{IsWhole};
 ghost use Rattle.image_meaning.specs.Meant.{image_meaning};
@@ -13,7 +13,7 @@ use crate::programs::{Limits, Program, made_ready, translated};
 use crate::worlds::{advance_often, pick_often, world_of};
 use anyhow::{Context, Result, anyhow, bail};
 use image_file::Image;
-use row_tally::{fields, longword, number, pieces};
+use row_tally::{Given, RowFault, five_fields, longword, number, pieces};
 use std::alloc::Global;
 use system_model::{Range, Translation};
 use vest_core::World;
@@ -56,35 +56,30 @@ fn run(world: &mut World, program: Program<'_>, picks: &[(u32, u32)], pace: Pace
     Ok(())
 }
 
-/// A row: an image, its input, the limits, the threads that are picked, and the bytes that are shown.
+/// The input of a row, the limits, the threads that are picked, and the bytes that are shown.
 #[derive(Drop)]
 struct Case {
-    image: Image,
     input: Vec<u8>,
     limits: Limits,
     picks: Vec<(u32, u32)>,
     shown: Vec<(u32, u32)>,
 }
 
-fn limits_of(budget: &str, entries: &str) -> Result<Limits> {
+fn limits_of(budget: &str, entries: &str) -> Result<Limits, RowFault> {
     Ok(Limits {
         budget: number(budget)?,
         entries: longword(entries)?,
     })
 }
 
-/// The case of the fields STARTS CODE STORED INPUT BUDGET LIMIT PICKS SHOWN.
-fn case_in(alloc: Global, fields: &[&str]) -> Result<Case>
-    requires { length fields.now ≡ 8 }
-    ensures { IfOk result (λ case. IsWhole case.image) }
-{
-    let limits = limits_of(fields[4], fields[5])?;
-    let image = image_of(alloc, fields[0], fields[1], fields[2])?;
-    let input = bytes_or_none(alloc, fields[3])?;
-    let picks = pairs_of(alloc, fields[6])?;
-    let shown = pairs_of(alloc, fields[7])?;
+/// The case of the fields INPUT BUDGET LIMIT PICKS SHOWN.
+fn case_of(alloc: Global, fields: &str) -> Result<Case, RowFault> {
+    let (input, budget, entries, picks, shown) = five_fields(fields)?;
+    let limits = limits_of(budget, entries)?;
+    let input = bytes_or_none(alloc, input)?;
+    let picks = pairs_of(alloc, picks)?;
+    let shown = pairs_of(alloc, shown)?;
     Ok(Case {
-        image,
         input,
         limits,
         picks,
@@ -92,74 +87,139 @@ fn case_in(alloc: Global, fields: &[&str]) -> Result<Case>
     })
 }
 
-fn case_of(alloc: Global, question: &str) -> Result<Case>
-    ensures { IfOk result (λ case. IsWhole case.image) }
+/// What is left of a world where the threads of its case were picked, which has to be what the driven threads leave.
+fn left_of(
+    alloc: Global,
+    world: &mut World,
+    program: Program<'_>,
+    case: &Case,
+    pace: Pace,
+) -> Result<String>
+    requires whole { IsWhole program.image.now }
+    requires ready { IsReady program world.old }
 {
-    let fields = fields(alloc, question, 8)?;
-    case_in(alloc, &fields)
+    run(world, program, &case.picks, pace)?;
+    check_driven(alloc, program.image, &case.input, world)?;
+    left_text(alloc, world, &case.shown, Told::Steps)
 }
 
-/// What is left of the world of a case where its threads were picked, which has to be what the driven threads leave.
-fn left_at(alloc: Global, case: &Case, program: Program<'_>, pace: Pace) -> Result<String>
+fn left_at(alloc: Global, program: Program<'_>, case: &Case, pace: Pace) -> Result<String>
     requires whole { IsWhole program.image.now }
     requires meets { CanRun program }
 {
     let mut world = world_of(alloc, program, &case.input, case.limits)?;
-    run(&mut world, program, &case.picks, pace)?;
-    check_driven(alloc, program.image, &case.input, &world)?;
-    left_text(alloc, &world, &case.shown, Told::Steps)
+    left_of(alloc, &mut world, program, case, pace)
 }
 
 /// What is left of it where turns are made one at a time, which has to be what is left where many are made at once.
-fn left_at_each(alloc: Global, case: &Case, program: Program<'_>) -> Result<String>
+fn left_at_each(alloc: Global, program: Program<'_>, case: &Case) -> Result<String>
     requires whole { IsWhole program.image.now }
     requires meets { CanRun program }
 {
-    let left = left_at(alloc, case, program, Pace::One)?;
-    let other = left_at(alloc, case, program, Pace::Many)?;
+    let left = left_at(alloc, program, case, Pace::One)?;
+    let other = left_at(alloc, program, case, Pace::Many)?;
     if other.as_str() != left.as_str() {
         bail!("{other} where many turns are made at once");
     }
     Ok(left)
 }
 
-/// At which paces a world runs.
+/// Whether an image is run with nothing translated, one turn at a time, or with its translation, at each pace.
 #[derive(Clone, Copy)]
-enum Paces {
-    One,
-    Each,
+enum Way {
+    Interpreted,
+    Translated,
 }
 
-/// What is left of the world of a case with a translation, where these addresses are interpreted.
-fn left_in(
-    alloc: Global,
-    case: &Case,
-    translation: &Translation,
-    ranges: &[Range],
-    paces: Paces,
-) -> Result<String>
-    requires whole { IsWhole case.now.image }
-    requires meets { Meets (image_meaning case.now.image.pages) translation.now }
+fn left_by(alloc: Global, program: Program<'_>, case: &str, way: Way) -> Result<String>
+    requires whole { IsWhole program.image.now }
+    requires meets { CanRun program }
 {
-    let prepared = made_ready(alloc, &case.image, translation)?;
-    let program = Program {
-        image: &case.image,
-        translation,
-        prepared: &prepared,
-        ranges,
-        miss: 0,
-    };
-    match paces {
-        Paces::One => left_at(alloc, case, program, Pace::One),
-        Paces::Each => left_at_each(alloc, case, program),
+    let case = case_of(alloc, case)?;
+    match way {
+        Way::Interpreted => left_at(alloc, program, &case, Pace::One),
+        Way::Translated => left_at_each(alloc, program, &case),
     }
 }
 
-/// What is left of the world of a row, with nothing translated.
-pub fn answer(alloc: Global, question: &str) -> Result<String> {
-    let case = case_of(alloc, question)?;
-    let translation = nothing_translated(alloc, &case.image)?;
-    left_in(alloc, &case, &translation, &[], Paces::One)
+/// The fields of an image, STARTS CODE STORED, and what is behind them.
+#[derive(Clone, Copy)]
+struct Row<'a> {
+    starts: &'a str,
+    code: &'a str,
+    stored: &'a str,
+    case: &'a str,
+}
+
+fn row_of(question: &str) -> Option<Row<'_>> {
+    let (starts, rest) = question.split_once(' ')?;
+    let (code, rest) = rest.split_once(' ')?;
+    let (stored, case) = rest.split_once(' ')?;
+    Some(Row {
+        starts,
+        code,
+        stored,
+        case,
+    })
+}
+
+/// An image, its case, the addresses that are interpreted, and the way in which it is run.
+#[derive(Clone, Copy)]
+struct Asked<'a> {
+    image: &'a Image,
+    case: &'a str,
+    ranges: &'a [Range],
+    way: Way,
+}
+
+/// What is left of the world of an image with a translation.
+fn left_in(alloc: Global, asked: Asked<'_>, translation: &Translation) -> Result<String>
+    requires whole { IsWhole asked.image.now }
+    requires meets { Meets (image_meaning asked.image.now.pages) translation.now }
+{
+    let prepared = made_ready(alloc, asked.image, translation)?;
+    let program = Program {
+        image: asked.image,
+        translation,
+        prepared: &prepared,
+        ranges: asked.ranges,
+        miss: 0,
+    };
+    left_by(alloc, program, asked.case, asked.way)
+}
+
+fn translation_in(alloc: Global, asked: Asked<'_>) -> Result<Translation>
+    ensures { IfOk result (Meets (image_meaning asked.entry.image.now.pages)) }
+{
+    match asked.way {
+        Way::Interpreted => nothing_translated(alloc, asked.image),
+        Way::Translated => translated(alloc, asked.image),
+    }
+}
+
+fn left_as_asked(alloc: Global, asked: Asked<'_>) -> Result<String>
+    requires { IsWhole asked.image.now }
+{
+    let translation = translation_in(alloc, asked)?;
+    left_in(alloc, asked, &translation)
+}
+
+/// What is left of the world of a row: STARTS CODE STORED INPUT BUDGET LIMIT PICKS SHOWN.
+fn answer_in(alloc: Global, question: &str, ranges: &[Range], way: Way) -> Result<String> {
+    let row = row_of(question).context("an image")?;
+    let image = image_of(alloc, row.starts, row.code, row.stored)?;
+    let asked = Asked {
+        image: &image,
+        case: row.case,
+        ranges,
+        way,
+    };
+    left_as_asked(alloc, asked)
+}
+
+/// The same with nothing translated.
+pub fn answer(alloc: Global, _given: &Given<'_>, question: &str) -> Result<String> {
+    answer_in(alloc, question, &[], Way::Interpreted)
 }
 
 /// A thread and its addresses, written as THREAD:FIRST-LAST.
@@ -169,16 +229,25 @@ fn parts_of(text: &str) -> Option<(&str, &str, &str)> {
     Some((thread, first, last))
 }
 
-fn range_of(text: &str) -> Result<Range> {
-    let (thread, first, last) = parts_of(text).context("a range")?;
+fn thread_of(digits: &str) -> Result<u8, RowFault> {
+    match u8::try_from(longword(digits)?) {
+        Ok(thread) => Ok(thread),
+        Err(_) => Err(RowFault::NoNumber),
+    }
+}
+
+fn range_of(text: &str) -> Result<Range, RowFault> {
+    let Some((thread, first, last)) = parts_of(text) else {
+        return Err(RowFault::OtherCount);
+    };
     Ok(Range {
-        thread: u8::try_from(longword(thread)?)?,
+        thread: thread_of(thread)?,
         first: longword(first)?,
         last: longword(last)?,
     })
 }
 
-fn push_ranges(ranges: &mut Vec<Range>, pieces: &[&str]) -> Result<()> {
+fn push_ranges(ranges: &mut Vec<Range>, pieces: &[&str]) -> Result<(), RowFault> {
     for piece in pieces {
         let range = range_of(piece)?;
         ranges.push(range)?;
@@ -187,23 +256,17 @@ fn push_ranges(ranges: &mut Vec<Range>, pieces: &[&str]) -> Result<()> {
 }
 
 /// Ranges with commas between, none for `-`.
-fn ranges_of(alloc: Global, text: &str) -> Result<Vec<Range>> {
+fn ranges_of(alloc: Global, text: &str) -> Result<Vec<Range>, RowFault> {
     let pieces = pieces(alloc, text)?;
     let mut ranges = Vec::new(alloc);
     push_ranges(&mut ranges, &pieces)?;
     Ok(ranges)
 }
 
-fn answer_in(alloc: Global, question: &str, ranges: &[Range]) -> Result<String> {
-    let case = case_of(alloc, question)?;
-    let translation = translated(alloc, &case.image)?;
-    left_in(alloc, &case, &translation, ranges, Paces::Each)
-}
-
 /// The same with its translation, where the ranges before the row are interpreted, whether turns are made one at a time or many at
 /// once.
-pub fn answer_translated(alloc: Global, question: &str) -> Result<String> {
+pub fn answer_translated(alloc: Global, _given: &Given<'_>, question: &str) -> Result<String> {
     let (ranges, question) = question.split_once(' ').context("ranges")?;
     let ranges = ranges_of(alloc, ranges)?;
-    answer_in(alloc, question, &ranges)
+    answer_in(alloc, question, &ranges, Way::Translated)
 }
