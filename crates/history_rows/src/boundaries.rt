@@ -1,13 +1,14 @@
 // Where threads go on in Alpha code, what registers show there, and the picks of counted entries.
+use crate::machine::order_kept;
 use crate::runs::print_order;
-use address_map::build;
+use address_map::{AddressMap, build};
 use alpha_machine::Cpu;
 use exception_records::{CodeRule, Rules};
 use memory_core::{Entry, Kind};
 use std::alloc::{AllocError, Global};
-use std::io;
-use system_model::{Range, order_of, shown, word_for};
-use vax_form::{Flags, Size};
+use std::io::{self, ErrorKind};
+use system_model::{Range, shown, word_for};
+use vax_form::{Flags, Pick, Size};
 
 /// The mapped addresses, and the words at which their blocks begin.
 const PAIRS: [(u32, u32); 3] = [(0x200, 0), (0x207, 5), (0x20D, 9)];
@@ -38,46 +39,91 @@ const COMES_TO: [(u8, u32); 6] = [
 
 /// Threads that come to mapped addresses, to others, and to their own and other threads' ranges: the word at which each goes on
 /// in Alpha code.
-pub fn words(rt: &impl Print, alloc: Global) -> io::Result<()> {
-    let map = build(alloc, &PAIRS).map_err(|_| AllocError)?;
-    for (thread, address) in COMES_TO {
-        print!(rt; "thread {thread} at {address:08X} ")?;
-        match word_for(&map, &RANGES, thread, address) {
-            Some(word) => println!(rt; "goes on at word {word}")?,
-            None => println!(rt; "is interpreted")?,
-        }
+fn words(rt: &impl Print, alloc: Global) -> io::Result<()> {
+    let map = match build(alloc, &PAIRS) {
+        Ok(map) => map,
+        Err(_) => return Err(ErrorKind::OutOfMemory.into()),
+    };
+    for (thread, address) in &COMES_TO {
+        print_word(rt, &map, *thread, *address)?;
     }
     Ok(())
 }
 
-/// ADDB3 of 80 and 80 by its operands, which has Z and V; C is ready, and N in its register too.
-pub fn states(rt: &impl Print) -> io::Result<()> {
-    let sum = CodeRule::Add { size: Size::Byte };
-    let rules = Rules {
-        n: sum,
-        z: sum,
-        v: sum,
-        c: CodeRule::Ready,
-    };
-    let mut cpu = Cpu { r: [0; 32], pc: 3 };
-    cpu.r[1] = 0xFFFF_FFFF_8000_0001;
-    cpu.r[16] = 1;
-    cpu.r[19] = 1;
-    cpu.r[20] = 0x20;
-    cpu.r[28] = 0x80;
-    cpu.r[29] = 0x80;
-    for n in [false, true] {
-        let held = Flags {
-            n,
-            z: false,
-            v: false,
-            c: false,
-        };
-        let state = shown(&cpu, 0x207, &rules, &held, 0);
-        let (r1, pc, psw) = (state.r[1], state.pc, state.psw);
-        println!(rt; "N held {n}: R1 {r1:08X} pc {pc:08X} psw {psw:02X}")?;
+fn print_word(rt: &impl Print, map: &AddressMap, thread: u8, address: u32) -> io::Result<()> {
+    print!(rt; "thread {thread} at {address:08X} ")?;
+    match word_for(map, &RANGES, thread, address) {
+        Some(word) => println!(rt; "goes on at word {word}"),
+        None => println!(rt; "is interpreted"),
     }
-    Ok(())
+}
+
+const SUM: CodeRule = CodeRule::Add { size: Size::Byte };
+
+/// ADDB3 of 80 and 80 by its operands, which has Z and V; C is ready.
+const RULES: Rules = Rules {
+    n: SUM,
+    z: SUM,
+    v: SUM,
+    c: CodeRule::Ready,
+};
+
+/// N and C are in R16 and R19, and R28 and R29 are the operands.
+const REGISTERS: [u64; 32] = [
+    0,
+    0xFFFF_FFFF_8000_0001,
+    0,
+    0,
+    0,
+    0,
+    0,
+    0,
+    0,
+    0,
+    0,
+    0,
+    0,
+    0,
+    0,
+    0,
+    1,
+    0,
+    0,
+    1,
+    0x20,
+    0,
+    0,
+    0,
+    0,
+    0,
+    0,
+    0,
+    0x80,
+    0x80,
+    0,
+    0,
+];
+
+fn print_state(rt: &impl Print, n: bool) -> io::Result<()> {
+    let cpu = Cpu {
+        r: REGISTERS,
+        pc: 3,
+    };
+    let held = Flags {
+        n,
+        z: false,
+        v: false,
+        c: false,
+    };
+    let state = shown(&cpu, 0x207, &RULES, &held, 0);
+    let (r1, pc, psw) = (state.r[1], state.pc, state.psw);
+    println!(rt; "N held {n}: R1 {r1:08X} pc {pc:08X} psw {psw:02X}")
+}
+
+/// The state that registers show, where N is in its register too and where it is not.
+fn states(rt: &impl Print) -> io::Result<()> {
+    print_state(rt, false)?;
+    print_state(rt, true)
 }
 
 /// A processor, how many instructions it has retired, the kind of an entry, and whether its store was made.
@@ -96,22 +142,42 @@ static HISTORY: [Made; 9] = [
     (0, 4, Kind::Get, true),
 ];
 
-/// The order that a history keeps: load-locked accesses and stores that failed don't count.
-pub fn counted_entries(rt: &impl Print, alloc: Global) -> io::Result<()> {
-    let mut history = Vec::new(alloc);
-    for &(processor, retired, kind, success) in &HISTORY {
-        history.push(Entry {
-            retired,
-            before: 0,
-            after: 0,
-            quad: 0x1000,
-            processor,
-            kind,
-            success,
-        })?;
+fn entry_of(made: &Made) -> Entry {
+    let (processor, retired, kind, success) = *made;
+    Entry {
+        retired,
+        before: 0,
+        after: 0,
+        quad: 0x1000,
+        processor,
+        kind,
+        success,
     }
-    let order = order_of(alloc, history.as_slice()).map_err(|_| AllocError)?;
+}
+
+fn history_of(alloc: Global, all: &[Made]) -> Result<Vec<Entry>, AllocError> {
+    let mut history = Vec::new(alloc);
+    for made in all {
+        history.push(entry_of(made))?;
+    }
+    Ok(history)
+}
+
+/// The order that a history keeps: load-locked accesses and stores that failed don't count.
+fn counted_order(alloc: Global) -> io::Result<Vec<Pick>> {
+    let history = history_of(alloc, &HISTORY)?;
+    order_kept(alloc, &history)
+}
+
+fn counted_entries(rt: &impl Print, alloc: Global) -> io::Result<()> {
+    let order = counted_order(alloc)?;
     print!(rt; "counted entries: ")?;
-    print_order(rt, order.as_slice())?;
+    print_order(rt, &order)?;
     println!(rt; "")
+}
+
+pub fn boundaries(rt: &impl Print, alloc: Global) -> io::Result<()> {
+    words(rt, alloc)?;
+    states(rt)?;
+    counted_entries(rt, alloc)
 }

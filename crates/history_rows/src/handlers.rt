@@ -3,6 +3,7 @@ ghost use Rattle.image_file.specs.Whole.{IsWhole};
 
 use crate::images::image_of;
 use crate::runs::{Bytes, print_by_order};
+use image_file::Image;
 use std::alloc::{AllocError, Global};
 use std::io::{self, ErrorKind};
 use vax_form::Pick;
@@ -222,15 +223,20 @@ fn order_of(alloc: Global, references: &[(u64, u8)]) -> Result<Vec<Pick>, AllocE
     Ok(order)
 }
 
+fn print_on(rt: &impl Print, alloc: Global, image: &Image, row: &Row) -> io::Result<()>
+    requires { IsWhole image.now }
+{
+    let order = order_of(alloc, row.references)?;
+    print!(rt; "{}: ", row.name)?;
+    print_by_order(rt, alloc, image, &order, &[row.count], row.bytes)
+}
+
 fn print_row(rt: &impl Print, alloc: Global, row: &Row) -> io::Result<()> {
     if row.code.len() > 512 || row.stored.len() > 512 {
         return Err(ErrorKind::InvalidData.into());
     }
     let image = image_of(alloc, &[0x200], row.code, row.stored)?;
-    let order = order_of(alloc, row.references)?;
-    let name = row.name;
-    print!(rt; "{name}: ")?;
-    print_by_order(rt, alloc, &image, &order, &[row.count], row.bytes)
+    print_on(rt, alloc, &image, row)
 }
 
 /// Exceptions that a handler takes, and resumptions.

@@ -41,6 +41,17 @@ fn is_same(entry: &Entry, reference: &Reference, before: &DrivenRun, after: &Dri
         && quadword_at(after, entry.quad) == Some(entry.after)
 }
 
+// Whether the entry is the access of the last reference, where there are both runs.
+fn is_between(entry: &Entry, before: Option<&DrivenRun>, after: Option<&DrivenRun>) -> bool {
+    let (Some(before), Some(after)) = (before, after) else {
+        return false;
+    };
+    match after.references.last() {
+        Some(reference) => is_same(entry, reference, before, after),
+        None => false,
+    }
+}
+
 // Whether the entry is the access of the reference that the pick at that place makes: on the reference's quadword, with
 // that quadword before and after the reference.
 fn matches_at(
@@ -54,13 +65,7 @@ fn matches_at(
 {
     let before = run_behind(alloc, image, order, place)?;
     let after = run_behind(alloc, image, order, place.saturating_add(1))?;
-    let (Some(before), Some(after)) = (before, after) else {
-        return Ok(false);
-    };
-    match after.references.last() {
-        Some(reference) => Ok(is_same(entry, reference, &before, &after)),
-        None => Ok(false),
-    }
+    Ok(is_between(entry, before.as_ref(), after.as_ref()))
 }
 
 // An entry that is neither load-locked nor a store conditional that failed.
@@ -84,6 +89,21 @@ fn matches(alloc: Global, image: &Image, history: &[Entry], order: &[Pick]) -> i
     Ok(true)
 }
 
+fn verdict_of(
+    alloc: Global,
+    image: &Image,
+    history: &[Entry],
+    order: &[Pick],
+) -> io::Result<&'static str>
+    requires { IsWhole image.now }
+{
+    Ok(if matches(alloc, image, history, order)? {
+        "matches"
+    } else {
+        "doesn't match"
+    })
+}
+
 /// Prints whether the history of a machine matches the references of the threads that are driven by its order, the order,
 /// what the threads leave of these bytes, and the end of each.
 pub fn print_history(
@@ -97,10 +117,7 @@ pub fn print_history(
     requires { IsWhole image.now }
 {
     let order = machine.order(alloc)?;
-    if matches(alloc, image, machine.history(), &order)? {
-        print!(rt; "matches ")?;
-    } else {
-        print!(rt; "doesn't match ")?;
-    }
+    let verdict = verdict_of(alloc, image, machine.history(), &order)?;
+    print!(rt; "{verdict} ")?;
     print_by_order(rt, alloc, image, &order, counts, bytes)
 }

@@ -13,21 +13,28 @@ fn push_longwords(file: &mut Vec<u8>, longwords: &[u32]) -> Result<(), AllocErro
     Ok(())
 }
 
+/// The header of version 1, for two sections, and the threads.
+fn head_of(alloc: Global, starts: &[u32]) -> Result<Vec<u8>, AllocError>
+    requires { length starts.now ≤ 16 }
+{
+    let threads = starts.len() as u8;
+    let mut head = b"VXIM\x01\0".to_vec(alloc)?;
+    head.extend_from_slice(&[threads, 0, 2, 0, 0, 0])?;
+    for start in starts {
+        push_longwords(&mut head, &[*start, 0x1200])?;
+    }
+    Ok(head)
+}
+
 fn file_of(alloc: Global, starts: &[u32], code: &[u8], stored: &[u8]) -> Result<Vec<u8>, AllocError>
     requires starts { length starts.now ≤ 16 }
     requires code { length code.now ≤ 512 }
     requires stored { length stored.now ≤ 512 }
 {
-    let mut file = Vec::new(alloc);
-    file.extend_from_slice(b"VXIM")?;
-    for half in [1, starts.len() as u16, 2, 0] {
-        file.extend_from_slice(&half.to_le_bytes())?;
-    }
-    for start in starts {
-        push_longwords(&mut file, &[*start, 0x1200])?;
-    }
-    push_longwords(&mut file, &[0x200, 0x200, code.len() as u32, 0])?;
-    push_longwords(&mut file, &[0x1000, 0x200, stored.len() as u32, 1])?;
+    let (code_bytes, stored_bytes) = (code.len() as u32, stored.len() as u32);
+    let mut file = head_of(alloc, starts)?;
+    push_longwords(&mut file, &[0x200, 0x200, code_bytes, 0])?;
+    push_longwords(&mut file, &[0x1000, 0x200, stored_bytes, 1])?;
     file.extend_from_slice(code)?;
     file.extend_from_slice(stored)?;
     Ok(file)
@@ -49,5 +56,8 @@ pub fn image_of(alloc: Global, starts: &[u32], code: &[u8], stored: &[u8]) -> io
     ensures { IfOk result IsWhole }
 {
     let file = file_of(alloc, starts, code, stored)?;
-    read_image(alloc, &file).map_err(error_of)
+    match read_image(alloc, &file) {
+        Ok(image) => Ok(image),
+        Err(refusal) => Err(error_of(refusal)),
+    }
 }

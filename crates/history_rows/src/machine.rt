@@ -114,7 +114,7 @@ impl Machine {
 
     /// The order of references that the history keeps.
     pub fn order(&self, alloc: Global) -> io::Result<Vec<Pick>> {
-        order_of(alloc, self.memory.history()).map_err(|_| ErrorKind::OutOfMemory.into())
+        order_kept(alloc, self.memory.history())
     }
 
     /// How many store conditionals failed.
@@ -124,6 +124,14 @@ impl Machine {
             .iter()
             .filter(|entry| entry.kind == Kind::StoreConditional && !entry.success)
             .count()
+    }
+}
+
+/// The order of references that a history keeps.
+pub fn order_kept(alloc: Global, history: &[Entry]) -> io::Result<Vec<Pick>> {
+    match order_of(alloc, history) {
+        Ok(order) => Ok(order),
+        Err(_) => Err(ErrorKind::OutOfMemory.into()),
     }
 }
 

@@ -19,19 +19,8 @@ use std::io;
 
 fn main(rt: HostRuntime) -> io::Result<()> {
     let alloc = rt.alloc();
-    stores::byte_in_a_quadword(&rt, alloc)?;
-    stores::word_across_quadwords(&rt, alloc)?;
-    stores::word_across_pages(&rt, alloc)?;
-    stores::neighbours(&rt, alloc)?;
-    stores::stores_that_miss(&rt, alloc)?;
-    orders::increments(&rt, alloc)?;
-    orders::longword_in_one(&rt, alloc)?;
-    orders::longword_by_accesses(&rt, alloc)?;
-    orders::increments_by_accesses(&rt, alloc)?;
-    orders::other_accesses(&rt, alloc)?;
+    stores::stores(&rt, alloc)?;
+    orders::orders(&rt, alloc)?;
     handlers::handlers(&rt, alloc)?;
-    boundaries::words(&rt, alloc)?;
-    boundaries::states(&rt)?;
-    boundaries::counted_entries(&rt, alloc)?;
-    Ok(())
+    boundaries::boundaries(&rt, alloc)
 }

@@ -48,7 +48,7 @@ const BYTE: Bytes = Bytes {
 const INCREMENT: [u8; 8] = [0x96, 0x9F, 0x00, 0x10, 0x00, 0x00, 0xBC, 0x01];
 
 /// Two threads increment one byte: each reads and writes it. For every list of four picks, what is left in the byte.
-pub fn increments(rt: &impl Print, alloc: Global) -> io::Result<()> {
+fn increments(rt: &impl Print, alloc: Global) -> io::Result<()> {
     let image = image_of(alloc, &[0x200, 0x200], &INCREMENT, &[])?;
     for threads in 0..16 {
         print!(rt; "increments: ")?;
@@ -71,7 +71,7 @@ const AROUND: Bytes = Bytes {
 
 /// One thread reads an unaligned longword within a quadword, and the other writes it. For every list of at most three
 /// picks, what is left, and the end of each thread.
-pub fn longword_in_one(rt: &impl Print, alloc: Global) -> io::Result<()> {
+fn longword_in_one(rt: &impl Print, alloc: Global) -> io::Result<()> {
     let image = image_of(alloc, &[0x200, 0x209], &LONGWORD, &[])?;
     for length in 0..4 {
         for threads in 0..1 << length {
@@ -110,7 +110,7 @@ fn print_accesses(rt: &impl Print, alloc: Global, image: &Image, place: u8) -> i
 
 /// The same by accesses, with the load before, between and behind those of the write: what is loaded, the order that is
 /// kept, and the threads driven by it.
-pub fn longword_by_accesses(rt: &impl Print, alloc: Global) -> io::Result<()> {
+fn longword_by_accesses(rt: &impl Print, alloc: Global) -> io::Result<()> {
     let image = image_of(alloc, &[0x200, 0x209], &LONGWORD, &[])?;
     for place in 0..3 {
         print_accesses(rt, alloc, &image, place)?;
@@ -194,7 +194,7 @@ fn print_increments(rt: &impl Print, alloc: Global, image: &Image, threads: u32)
 
 /// The increments by accesses, for every list of four picks by which each processor makes its two references: the
 /// history matches the threads driven by its order.
-pub fn increments_by_accesses(rt: &impl Print, alloc: Global) -> io::Result<()> {
+fn increments_by_accesses(rt: &impl Print, alloc: Global) -> io::Result<()> {
     let image = image_of(alloc, &[0x200, 0x200], &INCREMENT, &[])?;
     for threads in 0..16 {
         print_increments(rt, alloc, &image, threads)?;
@@ -230,8 +230,16 @@ fn print_at_once(rt: &impl Print, alloc: Global, image: &Image) -> io::Result<()
 }
 
 /// Histories of other accesses than the threads make: they add 2 to the byte, or increment it in one access each.
-pub fn other_accesses(rt: &impl Print, alloc: Global) -> io::Result<()> {
+fn other_accesses(rt: &impl Print, alloc: Global) -> io::Result<()> {
     let image = image_of(alloc, &[0x200, 0x200], &INCREMENT, &[])?;
     print_by_two(rt, alloc, &image)?;
     print_at_once(rt, alloc, &image)
+}
+
+pub fn orders(rt: &impl Print, alloc: Global) -> io::Result<()> {
+    increments(rt, alloc)?;
+    longword_in_one(rt, alloc)?;
+    longword_by_accesses(rt, alloc)?;
+    increments_by_accesses(rt, alloc)?;
+    other_accesses(rt, alloc)
 }

@@ -4,7 +4,7 @@ ghost use Rattle.image_file.specs.Whole.{IsWhole};
 use image_file::Image;
 use std::alloc::Global;
 use std::io::{self, ErrorKind};
-use vax_form::{Exception, Pick};
+use vax_form::{Exception, Pick, VaxState};
 use vax_run::{DrivenRun, ThreadRun, driven};
 
 /// Drives the threads of an image by an order, without input, and shows each after that many instructions.
@@ -19,7 +19,10 @@ pub fn run_by(
     if counts.len() != image.threads.len() {
         return Err(ErrorKind::InvalidInput.into());
     }
-    driven(alloc, image, &[], order, counts).map_err(|_| ErrorKind::OutOfMemory.into())
+    match driven(alloc, image, &[], order, counts) {
+        Ok(run) => Ok(run),
+        Err(_) => Err(ErrorKind::OutOfMemory.into()),
+    }
 }
 
 /// Prints the picks of an order.
@@ -43,21 +46,21 @@ pub fn byte_at(run: &DrivenRun, address: u32) -> Option<u8> {
     None
 }
 
+fn print_raised(rt: &impl Print, state: &VaxState, exception: Exception) -> io::Result<()> {
+    let r0 = state.r[0];
+    if let Exception::AccessViolation { address, write } = exception {
+        let r1 = state.r[1];
+        return print!(rt; " access violation {address:08X} write {write} R0 {r0:08X} R1 {r1:08X}");
+    }
+    let (vector, psl) = (exception.vector(), state.psl());
+    let (pc, sp) = (state.pc, state.r[14]);
+    print!(rt; " exception {vector:02X} pc {pc:08X} psl {psl:08X} R0 {r0:08X} SP {sp:08X}")
+}
+
 fn print_thread(rt: &impl Print, thread: &ThreadRun) -> io::Result<()> {
-    let r0 = thread.state.r[0];
     match thread.raised {
-        Some(Exception::AccessViolation { address, write }) => {
-            let r1 = thread.state.r[1];
-            print!(rt; " access violation {address:08X} write {write} R0 {r0:08X} R1 {r1:08X}")
-        }
-        Some(exception) => {
-            let vector = exception.vector();
-            let pc = thread.state.pc;
-            let psl = thread.state.psl();
-            let sp = thread.state.r[14];
-            print!(rt; " exception {vector:02X} pc {pc:08X} psl {psl:08X} R0 {r0:08X} SP {sp:08X}")
-        }
-        None if thread.exited => print!(rt; " exit {r0:08X}"),
+        Some(exception) => print_raised(rt, &thread.state, exception),
+        None if thread.exited => print!(rt; " exit {:08X}", thread.state.r[0]),
         None => print!(rt; " goes on"),
     }
 }

@@ -72,7 +72,7 @@ fn byte_at_place(rt: &impl Print, alloc: Global, k: u8) -> io::Result<()> {
 }
 
 /// A byte is stored at each place of a quadword: one pick, and the other seven bytes stand.
-pub fn byte_in_a_quadword(rt: &impl Print, alloc: Global) -> io::Result<()> {
+fn byte_in_a_quadword(rt: &impl Print, alloc: Global) -> io::Result<()> {
     for k in 0..8 {
         byte_at_place(rt, alloc, k)?;
     }
@@ -88,7 +88,7 @@ const fn word_code(address: [u8; 2]) -> [u8; 17] {
 }
 
 /// A word is stored in two quadwords: two picks.
-pub fn word_across_quadwords(rt: &impl Print, alloc: Global) -> io::Result<()> {
+fn word_across_quadwords(rt: &impl Print, alloc: Global) -> io::Result<()> {
     let word = Bytes {
         address: 0x1006,
         count: 4,
@@ -99,7 +99,7 @@ pub fn word_across_quadwords(rt: &impl Print, alloc: Global) -> io::Result<()> {
 }
 
 /// Its second byte would be in a page that the image lacks: no pick, and a pick wants nothing.
-pub fn word_across_pages(rt: &impl Print, alloc: Global) -> io::Result<()> {
+fn word_across_pages(rt: &impl Print, alloc: Global) -> io::Result<()> {
     let byte = Bytes {
         address: 0x11FF,
         count: 1,
@@ -127,6 +127,9 @@ const STORES: u64 = 4_096;
 
 // How many instructions a thread retires: two before its stores, two with each, and the exit.
 const INSTRUCTIONS: u64 = 2 + 2 * STORES + 1;
+
+// Both threads come to their ends.
+const COUNTS: [u64; 2] = [INSTRUCTIONS, INSTRUCTIONS];
 
 // A processor that stores its thread's number in the byte of that number, again and again: what it found by its
 // load-locked access, and how many of its store conditionals succeeded.
@@ -186,21 +189,19 @@ fn order_of_two(alloc: Global, image: &Image) -> io::Result<Vec<Pick>>
     machine.order(alloc)
 }
 
+fn print_neighbours(rt: &impl Print, alloc: Global, image: &Image, order: &[Pick]) -> io::Result<()>
+    requires { IsWhole image.now }
+{
+    let (first, second) = (counted(order, 0), counted(order, 1));
+    print!(rt; "stores of two threads: counted {first} {second}")?;
+    print_driven(rt, alloc, image, order, &COUNTS, QUADWORD)
+}
+
 /// Two threads store neighbouring bytes, in turns: each has its entries counted.
-pub fn neighbours(rt: &impl Print, alloc: Global) -> io::Result<()> {
+fn neighbours(rt: &impl Print, alloc: Global) -> io::Result<()> {
     let image = image_of(alloc, &[0x200, 0x200], &LOOP, &[0xFF; 8])?;
     let order = order_of_two(alloc, &image)?;
-    let first = counted(&order, 0);
-    let second = counted(&order, 1);
-    print!(rt; "stores of two threads: counted {first} {second}")?;
-    print_driven(
-        rt,
-        alloc,
-        &image,
-        &order,
-        &[INSTRUCTIONS, INSTRUCTIONS],
-        QUADWORD,
-    )
+    print_neighbours(rt, alloc, &image, &order)
 }
 
 // One processor that stores, each second of whose store conditionals fails.
@@ -215,24 +216,26 @@ fn machine_that_misses(alloc: Global, image: &Image) -> io::Result<Machine>
     Ok(machine)
 }
 
-fn print_misses(
-    rt: &impl Print,
-    alloc: Global,
-    image: &Image,
-    order: &[Pick],
-    failed: usize,
-) -> io::Result<()>
+fn print_misses(rt: &impl Print, alloc: Global, image: &Image, machine: &Machine) -> io::Result<()>
     requires { IsWhole image.now }
 {
-    let counted = counted(order, 0);
+    let order = machine.order(alloc)?;
+    let (counted, failed) = (counted(&order, 0), machine.failed());
     print!(rt; "stores that miss: counted {counted} failed {failed}")?;
-    print_driven(rt, alloc, image, order, &[INSTRUCTIONS], QUADWORD)
+    print_driven(rt, alloc, image, &order, &[INSTRUCTIONS], QUADWORD)
 }
 
 /// One thread stores, and each second of its store conditionals fails.
-pub fn stores_that_miss(rt: &impl Print, alloc: Global) -> io::Result<()> {
+fn stores_that_miss(rt: &impl Print, alloc: Global) -> io::Result<()> {
     let image = image_of(alloc, &[0x200], &LOOP, &[0xFF; 8])?;
     let machine = machine_that_misses(alloc, &image)?;
-    let order = machine.order(alloc)?;
-    print_misses(rt, alloc, &image, &order, machine.failed())
+    print_misses(rt, alloc, &image, &machine)
+}
+
+pub fn stores(rt: &impl Print, alloc: Global) -> io::Result<()> {
+    byte_in_a_quadword(rt, alloc)?;
+    word_across_quadwords(rt, alloc)?;
+    word_across_pages(rt, alloc)?;
+    neighbours(rt, alloc)?;
+    stores_that_miss(rt, alloc)
 }
