@@ -3,6 +3,7 @@ use Rattle.std.proofs.Common.{◌≡◌, ℕ, ◌+◌, ◌*◌, ◌/◌, ◌%◌
 use Rattle.std.specs.Prelude.{◌⊎◌, ◌&&◌}
 use Rattle.std.specs.List.{list_all}
 use Rattle.std.specs.Map.{lookup}
+use Rattle.std.proofs.lemmas.Bool.{and_parts}
 use Rattle.alpha_encode.specs.declared.instr.MemoryOp.{MemoryOp}
 use Rattle.alpha_encode.specs.declared.instr.MemoryOp.TheVariants.{Lda}
 use Rattle.alpha_encode.specs.declared.instr.BranchOp.{BranchOp}
@@ -47,10 +48,6 @@ pub chosen : {A : Type 0} (b : Bool) (x a : A) (r : Option A) → cond b (Some x
 chosen true x a r e = inl (refl, cc)
 chosen false x a r e = inr (refl, e)
 
-pub and_true : (a b : Bool) → (a && b) ≡ true → (a ≡ true) × (b ≡ true)
-and_true true b e = (refl, e)
-and_true false b e = cc
-
 -- each row has the code that its instruction finds
 abbrev pub has_codes : {A : Type 0} → (A → ℕ) → List (ℕ × A) → Bool
 has_codes code_of rows = list_all (λ row. eqb (code_of row.1) row.0) rows
@@ -59,7 +56,7 @@ has_codes code_of rows = list_all (λ row. eqb (code_of row.1) row.0) rows
 found_has : {A : Type 0} (code_of : A → ℕ) (test : ℕ → Bool) (rows : List (ℕ × A)) (op : A) → has_codes code_of rows ≡ true → lookup test rows ≡ Some op → test (code_of op) ≡ true
 found_has code_of test [] op all e = cc
 found_has code_of test (row ∷ rows) op all e =
-    let parts = and_true (eqb (code_of row.1) row.0) (has_codes code_of rows) all in
+    let parts = and_parts (eqb (code_of row.1) row.0) (has_codes code_of rows) all in
     ⊎_elim
     (λ (h : (test row.0 ≡ true) × (row.1 ≡ op)). let code = eqb-true (code_of row.1) row.0 parts.0 in cc)
     (λ (h : (test row.0 ≡ false) × (lookup test rows ≡ Some op)). found_has code_of test rows op parts.1 h.1)
@@ -73,7 +70,7 @@ branch_of_found opcode op e = eqb-true (branch_opcode op) opcode (found_has bran
 
 pub operate_of_found : (opcode function : ℕ) (op : OperateOp) → operate_at opcode function ≡ Some op → ((operate_code op).0 ≡ opcode) × ((operate_code op).1 ≡ function)
 operate_of_found opcode function op e =
-    let both = and_true _ _ (found_has (code_of operate_op.eq operate_rows) (λ code. eqb (code / 2 ^ 8) opcode && eqb (code % 2 ^ 8) function) operate_rows op refl e) in
+    let both = and_parts _ _ (found_has (code_of operate_op.eq operate_rows) (λ code. eqb (code / 2 ^ 8) opcode && eqb (code % 2 ^ 8) function) operate_rows op refl e) in
     (eqb-true (operate_code op).0 opcode both.0, eqb-true (operate_code op).1 function both.1)
 
 -- an opcode and a function are one code

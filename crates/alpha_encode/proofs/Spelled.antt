@@ -2,6 +2,8 @@
 use Rattle.std.proofs.Common.{◌≡◌, ℕ, ◌+◌, ◌-◌, ◌/◌, ◌%◌, ◌^◌, ◌<◌, refl, sym, ap, ◌∙◌, subst, arith, inl, inr, ⊎_elim, Option, Some, None, Bool, true, false, cond, eqb, eqb-true, leb-true}
 use Rattle.std.specs.Prelude.{◌⊎◌, ◌≢◌, pos, negsuc, ◌<ℤ◌, ◌≤ℤ◌, nat_lt, nat_le, ◌&&◌, IfSome, IfNone}
 use Rattle.std.specs.Int.{cast_unsigned, cast_signed, w16, w32}
+use Rattle.std.specs.Option.{option_or}
+use Rattle.std.proofs.lemmas.Bool.{and_parts}
 use borrow.Author.Gap.{read_sfits}
 use Rattle.std.proofs.lemmas.Int.{of_z-to_z, ints}
 use Rattle.alpha_encode.specs.declared.instr.Second.{Second}
@@ -9,13 +11,13 @@ use Rattle.alpha_encode.specs.declared.instr.Second.TheVariants.{Register, Liter
 use Rattle.alpha_encode.specs.declared.instr.AlphaInstr.{AlphaInstr}
 use Rattle.alpha_encode.specs.declared.instr.AlphaInstr.TheVariants.{Memory, Branch, Operate, Jump, Pal}
 use Rattle.alpha_encode.specs.Rows.{memory_at, branch_at, operate_at}
-use Rattle.alpha_encode.specs.Words.{IsEncodable, IsSecond, Spells, word_of, instr_at, second_at, second_field, or_else, with_some, with_both, jump_at, pal_at, signed_21}
-use Rattle.alpha_encode.proofs.Rows.{chosen, and_true, memory_of_found, branch_of_found, operate_of_found}
+use Rattle.alpha_encode.specs.Words.{IsEncodable, IsSecond, Spells, word_of, instr_at, second_at, second_field, with_some, with_both, jump_at, pal_at, signed_21}
+use Rattle.alpha_encode.proofs.Rows.{chosen, memory_of_found, branch_of_found, operate_of_found}
 use Rattle.alpha_encode.proofs.Reread.{again}
 
-or_else_of : {A : Type 0} (a b : Option A) (x : A) → or_else a b ≡ Some x → (a ≡ Some x) ⊎ (b ≡ Some x)
-or_else_of None b x e = inr e
-or_else_of (Some a) b x e = inl e
+option_or_of : {A : Type 0} (a b : Option A) (x : A) → option_or a b ≡ Some x → (a ≡ Some x) ⊎ (b ≡ Some x)
+option_or_of None b x e = inr e
+option_or_of (Some a) b x e = inl e
 
 with_some_of : {A B : Type 0} (o : Option A) (f : A → B) (x : B) → with_some o f ≡ Some x → (a : A) × (o ≡ Some a) × (f a ≡ x)
 with_some_of None f x e = cc
@@ -85,7 +87,7 @@ jump_spells : (w : ℕ) (i : AlphaInstr) → w < 2 ^ 32 → jump_at w ≡ Some i
 jump_spells w i h e =
     ⊎_elim
     (λ (a : (eqb (w / 2 ^ 26) 0x1a && eqb (w % 2 ^ 16) 0 ≡ true) × (Jump (w / 2 ^ 21 % 32) (w / 2 ^ 16 % 32) ≡ i)).
-    let parts = and_true (eqb (w / 2 ^ 26) 0x1a) (eqb (w % 2 ^ 16) 0) a.0 in
+    let parts = and_parts (eqb (w / 2 ^ 26) 0x1a) (eqb (w % 2 ^ 16) 0) a.0 in
     let opcode = eqb-true (w / 2 ^ 26) 0x1a parts.0 in
     let zeros = eqb-true (w % 2 ^ 16) 0 parts.1 in
     subst (Spells w) a.1 ((omega arith, omega arith), omega arith))
@@ -96,7 +98,7 @@ pal_spells : (w : ℕ) (i : AlphaInstr) → pal_at w ≡ Some i → Spells w i
 pal_spells w i e =
     ⊎_elim
     (λ (a : (nat_le 0x80 w && nat_le w 0x86 ≡ true) × (Pal w ≡ i)).
-    let parts = and_true (nat_le 0x80 w) (nat_le w 0x86) a.0 in
+    let parts = and_parts (nat_le 0x80 w) (nat_le w 0x86) a.0 in
     subst (Spells w) a.1 ((leb-true 0x80 w parts.0, leb-true w 0x86 parts.1), refl))
     (λ (a : (nat_le 0x80 w && nat_le w 0x86 ≡ false) × (None ≡ Some i)). let no = a.1 in cc)
     (chosen (nat_le 0x80 w && nat_le w 0x86) (Pal w) i None e)
@@ -107,7 +109,7 @@ spelled w i h e =
     ⊎_elim (branch_spells w i h) (λ e.
     ⊎_elim (operate_spells w i h) (λ e.
     ⊎_elim (jump_spells w i h) (pal_spells w i)
-    (or_else_of _ _ i e)) (or_else_of _ _ i e)) (or_else_of _ _ i e)) (or_else_of _ _ i e)
+    (option_or_of _ _ i e)) (option_or_of _ _ i e)) (option_or_of _ _ i e)) (option_or_of _ _ i e)
 
 -- what a call that gives this answer may promise
 pub found_of : (w : ℕ) → w < 2 ^ 32 → (r : Option AlphaInstr) → r ≡ instr_at w → IfSome r (Spells w)

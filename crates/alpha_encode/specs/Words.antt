@@ -2,6 +2,7 @@
 -- Alpha Architecture Reference Manual, chapter "Instruction Formats": bit 31 is the highest.
 use Rattle.std.specs.Prelude.{ℕ, ℤ, pos, negsuc, ◌≡◌, ◌+◌, ◌-◌, ◌*◌, ◌/◌, ◌%◌, ◌^◌, ◌<◌, ◌≤◌, ◌<ℤ◌, ◌≤ℤ◌, ◌==◌, nat_lt, nat_le, Option, Some, None, if◌then◌else◌, ◌&&◌, FitsSigned}
 use Rattle.std.specs.Int.{cast_unsigned, cast_signed, w16, w32}
+use Rattle.std.specs.Option.{option_or}
 use Rattle.alpha_encode.specs.declared.instr.Second.{Second}
 use Rattle.alpha_encode.specs.declared.instr.Second.TheVariants.{Register, Literal}
 use Rattle.alpha_encode.specs.declared.instr.AlphaInstr.{AlphaInstr}
@@ -58,11 +59,6 @@ second_at field =
 abbrev pub signed_21 : ℕ → ℤ
 signed_21 n = cast_signed w32 (if nat_lt n (2 ^ 20) then n else n + (2 ^ 32 - 2 ^ 21))
 
--- the first that there is
-abbrev pub or_else : {A : Type 0} → Option A → Option A → Option A
-or_else None other = other
-or_else (Some a) other = Some a
-
 abbrev pub with_some : {A B : Type 0} → Option A → (A → B) → Option B
 with_some None f = None
 with_some (Some a) f = Some (f a)
@@ -85,7 +81,7 @@ instr_at word =
     let opcode = word / 2 ^ 26 in
     let ra = word / 2 ^ 21 % 2 ^ 5 in
     let rb = word / 2 ^ 16 % 2 ^ 5 in
-    or_else (with_some (memory_at opcode) (λ op. Memory op ra rb (cast_signed w16 (word % 2 ^ 16))))
-    (or_else (with_some (branch_at opcode) (λ op. Branch op ra (signed_21 (word % 2 ^ 21))))
-    (or_else (with_both (operate_at opcode (word / 2 ^ 5 % 2 ^ 7)) (second_at (word / 2 ^ 12 % 2 ^ 9)) (λ op rb. Operate op ra rb (word % 2 ^ 5)))
-    (or_else (jump_at word) (pal_at word))))
+    option_or (with_some (memory_at opcode) (λ op. Memory op ra rb (cast_signed w16 (word % 2 ^ 16))))
+    (option_or (with_some (branch_at opcode) (λ op. Branch op ra (signed_21 (word % 2 ^ 21))))
+    (option_or (with_both (operate_at opcode (word / 2 ^ 5 % 2 ^ 7)) (second_at (word / 2 ^ 12 % 2 ^ 9)) (λ op rb. Operate op ra rb (word % 2 ^ 5)))
+    (option_or (jump_at word) (pal_at word))))

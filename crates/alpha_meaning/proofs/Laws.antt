@@ -10,7 +10,7 @@ use Rattle.alpha_meaning.specs.declared.access.AlphaAccess.{AlphaAccess}
 use Rattle.alpha_meaning.specs.State.{Alpha, Regs, at_place}
 use Rattle.alpha_meaning.specs.Memory.{kind_of}
 use Rattle.alpha_meaning.specs.Act.{Does, Goes, Asks, Calls, act, finished, memory_act_by, memory_finish_by}
-use Rattle.alpha_meaning.specs.Pieces.{quad_of, loaded, changed, Allowed, Kinds, Plan, Access, Over, Wants, Wanted, Nothing, wants, Suits, retry_steps, Phase, Plain, Held, Failed, Made, Accesses, Acts, Steps, Forth, phase_after, Piece, Choose, Ended, Runs, piece}
+use Rattle.alpha_meaning.specs.Pieces.{quad_of, loaded, changed, Allowed, Kinds, Plan, Access, Over, Wants, Wanted, Nothing, wants, Suits, retry_steps, Phase, Plain, Held, Failed, Made, Accesses, Acts, Steps, Forth, phase_after, Piece, Choose, Ended, Runs}
 
 -- ---- one step, from one tree to another
 -- the second tree wants the same access, for which the same kinds may be made, and related trees follow

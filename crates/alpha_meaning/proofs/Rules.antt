@@ -1,7 +1,8 @@
 -- How to prove that a piece runs its plan, instruction by instruction.
 use Rattle.std.proofs.Common.{◌≡◌, ℕ, zero, suc, ◌+◌, ◌-◌, ◌*◌, ◌/◌, ◌%◌, ◌^◌, ◌<◌, ◌≤◌, refl, sym, ap, ◌∙◌, subst, arith, List, [], ◌∷◌, ◌++◌, length, Some, Bool, true, false, eqb, eqb-true, cond, add-zero}
-use Rattle.std.specs.Prelude.{ℤ, ◌&&◌, nat_lt}
+use Rattle.std.specs.Prelude.{ℤ, nat_lt}
 use Rattle.std.specs.List.{list_all}
+use Rattle.std.proofs.lemmas.Bool.{and_parts}
 use Rattle.std.proofs.lemmas.Bool.Decides.{nat_tests}
 use Rattle.std.proofs.Math.Nat.{mod-mod}
 use Rattle.vt_words.specs.Quad.{field_of, with_field_of}
@@ -35,7 +36,7 @@ ahead (Failed place) pc pc' lt = rw (is_less pc pc' lt) refl
     is_less a b lt = grind (arith, nat_tests)
 
 -- a branch that links is taken
-not_linked : (op : BranchOp) (a : ℕ) → taken op a ≡ false → links op ≡ false
+pub not_linked : (op : BranchOp) (a : ℕ) → taken op a ≡ false → links op ≡ false
 not_linked Br a e = cc
 not_linked Bsr a e = cc
 not_linked op a e = refl
@@ -132,11 +133,7 @@ module _ {A : Type 0} (p : Piece) (Ends : A → Regs → Type 0) where
       )
 
 -- ---- operate instructions in a row
-pub and_true : (a b : Bool) → (a && b) ≡ true → (a ≡ true) × (b ≡ true)
-and_true true b e = (refl, e)
-and_true false b e = cc
-
-act_operate : (i : AlphaInstr) (f : Regs) (pc : ℕ) → is_operate i ≡ true → act i (at_place f pc) ≡ Goes (at_place (effect i f) (pc + 1))
+pub act_operate : (i : AlphaInstr) (f : Regs) (pc : ℕ) → is_operate i ≡ true → act i (at_place f pc) ≡ Goes (at_place (effect i f) (pc + 1))
 act_operate (Operate op ra rb rc) f pc h = refl
 act_operate (Memory op ra rb disp) f pc h = cc
 act_operate (Branch op ra disp) f pc h = cc
@@ -150,7 +147,7 @@ operates p Ends most need phase [] f pc t has ok from to rest =
     let same : need ≡ 0 + need = omega arith in
     subst (λ m. Always p Ends most m phase (at_place f pc) t) same (subst (λ x. Always p Ends most need phase (at_place f x) t) here rest)
 operates p Ends most need phase (i ∷ is) f pc t has ok from to rest =
-    let parts = and_true (is_operate i) (list_all is_operate is) ok in
+    let parts = and_parts (is_operate i) (list_all is_operate is) ok in
     let place : pc + suc (length is) ≡ pc + 1 + length is = omega arith in
     let count : length is + need + 1 ≡ suc (length is) + need = omega arith in
     subst (λ m. Always p Ends most m phase (at_place f pc) t) count
@@ -177,8 +174,8 @@ effect_only may old f (Pal n) h a o = o
 pub effects_only : (is : List AlphaInstr) (may : ℕ → Bool) (old f : Regs) → list_all (fine may) is ≡ true → Only may old f → Only may old (effects is f)
 effects_only [] may old f ok o = o
 effects_only (i ∷ is) may old f ok o =
-    let parts = and_true (fine may i) (list_all (fine may) is) ok in
-    let here = and_true (is_operate i) (may (written i)) parts.0 in
+    let parts = and_parts (fine may i) (list_all (fine may) is) ok in
+    let here = and_parts (is_operate i) (may (written i)) parts.0 in
     effects_only is may old (effect i f) parts.1 (effect_only may old f i here.0 here.1 o)
 
 -- ---- where words stand

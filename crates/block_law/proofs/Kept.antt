@@ -1,6 +1,7 @@
 -- What the registers show where others of them change, and where one is written.
 use Rattle.std.proofs.Common.{◌≡◌, ℕ, zero, suc, ◌%◌, ◌^◌, ◌<◌, refl, ◌∙◌, arith, List, [], ◌∷◌, Option, Some, None, Bool, true, false}
 use Rattle.std.specs.Prelude.{ℤ, ◌==◌, ◌||◌, if◌then◌else◌, slice_set}
+use Rattle.std.proofs.lemmas.Bool.{and_parts}
 use Rattle.std.proofs.lemmas.Bool.Decides.{nat_tests}
 use Rattle.vax_form.specs.declared.state.Flags.{Flags}
 use Rattle.std.specs.List.{list_all}
@@ -13,7 +14,6 @@ use Rattle.alpha_meaning.specs.State.{Alpha, Regs, put}
 use Rattle.alpha_meaning.specs.Act.{links, link_of, memory_act_by, memory_finish_by}
 use Rattle.alpha_meaning.specs.Memory.{kind_of}
 use Rattle.alpha_meaning.specs.Loops.{is_operate, effect, effects}
-use Rattle.alpha_meaning.proofs.Rules.{and_true}
 use Rattle.exception_records.specs.Shown.{registers_shown, psw_shown}
 use Rattle.exception_records.specs.declared.rules.Rules.{Rules}
 use Rattle.block_law.specs.Placements.{Placement, InForm, state_shown}
@@ -113,7 +113,7 @@ unwritten_stay (Pal number) c n e = tt
 pub effects_stay : (is : List AlphaInstr) (f : Regs) (n : ℕ) → list_all is_operate is ≡ true → writes_register n is ≡ false → effects is f n ≡ f n
 effects_stay [] f n ok e = refl
 effects_stay (i ∷ is) f n ok e =
-    let parts = and_true (is_operate i) (list_all is_operate is) ok in
+    let parts = and_parts (is_operate i) (list_all is_operate is) ok in
     let rest = neither (register_written i == n) (writes_register n is) e in
     effects_stay is (effect i f) n parts.1 rest.1 ∙ effect_stays i parts.0 rest.0
   where

@@ -9,7 +9,7 @@ use Rattle.vax_form.specs.declared.state.Reference.{Reference}
 use Rattle.vax_form.specs.declared.state.VaxState.{VaxState}
 use Rattle.alpha_meaning.specs.State.{Alpha, Regs}
 use Rattle.alpha_meaning.specs.declared.access.AlphaAccess.{AlphaAccess}
-use Rattle.alpha_meaning.specs.Act.{Does, Asks, act}
+use Rattle.alpha_meaning.specs.Act.{Asks, act}
 use Rattle.alpha_meaning.specs.Pieces.{Allowed, Phase, Plain, Held, Wants, Suits, Acts, Steps}
 use Rattle.exception_records.specs.declared.points.Point.{Point}
 use Rattle.exception_records.specs.declared.rules.CodeRule.TheVariants.{Zero}

@@ -1,6 +1,7 @@
 -- How to prove, word by word, that a block follows a tree.
 use Rattle.std.proofs.Common.{◌≡◌, ℕ, zero, suc, ◌+◌, ◌-◌, ◌%◌, ◌^◌, ◌<◌, ◌≤◌, refl, sym, ◌∙◌, subst, arith, List, [], ◌∷◌, length, Option, Some, None, Bool, true, false}
 use Rattle.std.specs.Prelude.{ℤ, ◌*◌, nat_lt}
+use Rattle.std.proofs.lemmas.Bool.{and_parts}
 use Rattle.std.proofs.lemmas.Bool.Decides.{nat_tests}
 use Rattle.std.specs.List.{list_all}
 use Rattle.vt_words.specs.Quad.{sign_extended}
@@ -11,13 +12,12 @@ use Rattle.vax_form.specs.declared.state.Exception.{Exception}
 use Rattle.vax_form.specs.declared.state.VaxState.{VaxState}
 use Rattle.alpha_encode.specs.declared.instr.BranchOp.{BranchOp}
 use Rattle.alpha_encode.specs.declared.instr.AlphaInstr.{AlphaInstr}
-use Rattle.alpha_encode.specs.declared.instr.BranchOp.TheVariants.{Br, Bsr}
-use Rattle.alpha_encode.specs.declared.instr.AlphaInstr.TheVariants.{Memory, Branch, Operate, Jump, Pal}
+use Rattle.alpha_encode.specs.declared.instr.AlphaInstr.TheVariants.{Branch, Pal}
 use Rattle.alpha_meaning.specs.State.{Alpha, Regs, put, at_place}
 use Rattle.alpha_meaning.specs.Act.{Does, Goes, Calls, act, taken, links, target_of}
 use Rattle.alpha_meaning.specs.Loops.{is_operate, effect, effects}
 use Rattle.alpha_meaning.specs.Pieces.{Kinds, Plan, Phase, Plain, Acts, Steps, Runs, HasAt, piece, retry_steps}
-use Rattle.alpha_meaning.proofs.Rules.{and_true}
+use Rattle.alpha_meaning.proofs.Rules.{act_operate, not_linked}
 use Rattle.exception_records.specs.Points.{raised_at}
 use Rattle.exception_records.specs.declared.points.Point.{Point}
 use Rattle.block_law.specs.References.{wants}
@@ -37,19 +37,6 @@ pub record IsAt (p : Placement) (pc : ℕ) (i : AlphaInstr) : Type 0 where
   pub is : p.fetch pc ≡ Some i
   pub low : p.first ≤ pc
   pub high : pc < p.end
-
--- a branch that links is taken
-not_linked : (op : BranchOp) (a : ℕ) → taken op a ≡ false → links op ≡ false
-not_linked Br a e = cc
-not_linked Bsr a e = cc
-not_linked op a e = refl
-
-act_operate : (i : AlphaInstr) (f : Regs) (pc : ℕ) → is_operate i ≡ true → act i (at_place f pc) ≡ Goes (at_place (effect i f) (pc + 1))
-act_operate (Operate op ra rb rc) f pc h = refl
-act_operate (Memory op ra rb disp) f pc h = cc
-act_operate (Branch op ra disp) f pc h = cc
-act_operate (Jump ra rb) f pc h = cc
-act_operate (Pal n) f pc h = cc
 
 module _ (p : Placement) (made : Option Round) where
   -- what is owed behind a local step, and behind a call
@@ -119,7 +106,7 @@ module _ (p : Placement) (made : Option Round) where
       let same : need ≡ 0 + need = omega arith in
       subst (λ m. Always p made m (at_place f pc) t) same (subst (λ x. Always p made need (at_place f x) t) here rest)
   operates need (i ∷ is) f pc t has ok low high inside rest =
-      let parts = and_true (is_operate i) (list_all is_operate is) ok in
+      let parts = and_parts (is_operate i) (list_all is_operate is) ok in
       let place : pc + suc (length is) ≡ pc + 1 + length is = omega arith in
       let count : length is + need + 1 ≡ suc (length is) + need = omega arith in
       subst (λ m. Always p made m (at_place f pc) t) count

@@ -1,7 +1,7 @@
 -- What the words have to do that leave the condition codes of an instruction. In a block they stand behind its commits,
 -- where R21 to R26 hold the temporaries 0 to 5 of its micro program.
 -- VAX Architecture Reference Manual, "Processor Status Longword", the condition codes.
-use Rattle.std.specs.Prelude.{◌≡◌, ℕ, ◌<◌, ◌≤◌, ◌+◌, ◌==◌, ◌&&◌, ◌||◌, not, Bool, true, false, List, length}
+use Rattle.std.specs.Prelude.{◌≡◌, ℕ, ◌<◌, ◌≤◌, ◌+◌, ◌==◌, ◌&&◌, ◌||◌, Bool, true, List, length}
 use Rattle.std.specs.List.{list_all}
 use Rattle.vax_form.specs.declared.state.Flags.{Flags}
 use Rattle.vax_form.specs.declared.state.VaxState.{VaxState}

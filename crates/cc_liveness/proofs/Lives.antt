@@ -11,7 +11,7 @@ use Rattle.cc_liveness.specs.Liveness.{at, reads, writes, ends, IsLive, passes, 
 
 -- Codes one by one
 
-holds_all : (code : Code) → holds code all ≡ true
+pub holds_all : (code : Code) → holds code all ≡ true
 holds_all negative = refl
 holds_all zero_code = refl
 holds_all overflow = refl
@@ -57,11 +57,11 @@ true_or : (a b : Bool) → a ≡ true → (a || b) ≡ true
 true_or true b is = refl
 true_or false b is = absurd (cc is)
 
-read_passes : (read written live : Bool) → read ≡ true → passes read written live ≡ true
+pub read_passes : (read written live : Bool) → read ≡ true → passes read written live ≡ true
 read_passes true written live is = refl
 read_passes false written live is = absurd (cc is)
 
-unwritten_passes : (read written live : Bool) → written ≡ false → live ≡ true → passes read written live ≡ true
+pub unwritten_passes : (read written live : Bool) → written ≡ false → live ≡ true → passes read written live ≡ true
 unwritten_passes true written live not_written is = refl
 unwritten_passes false true live not_written is = absurd (cc not_written)
 unwritten_passes false false live not_written is = is

@@ -52,22 +52,14 @@ fn backward(alloc: Global, run: &[CodeUse]) -> Result<Vec<Flags>, AllocError>
     Ok(found)
 }
 
-/// The live codes from the first instruction to the last.
-fn forward(alloc: Global, run: &[CodeUse]) -> Result<Vec<Flags>, AllocError>
+/// The condition codes that are live behind each instruction of a run.
+pub fn live(alloc: Global, run: &[CodeUse]) -> Result<Vec<Flags>, WantOfMemory>
     ensures live { IfOk result (λ found. AreLive run.now found.items) }
     ensures recursion { IfOk result (λ found. found.items ≡ live_codes run.now) }
 {
     let mut found = backward(alloc, run)?;
     found.reverse();
     Ok(found)
-}
-
-/// The condition codes that are live behind each instruction of a run.
-pub fn live(alloc: Global, run: &[CodeUse]) -> Result<Vec<Flags>, WantOfMemory>
-    ensures live { IfOk result (λ found. AreLive run.now found.items) }
-    ensures recursion { IfOk result (λ found. found.items ≡ live_codes run.now) }
-{
-    forward(alloc, run).map_err(|_| WantOfMemory)
 }
 
 /// The codes that the recursion from the last instruction to the first finds are those that are live.

@@ -33,6 +33,16 @@ pub struct Rules {
     pub c: CodeRule,
 }
 
+impl Rules {
+    /// Each code is ready in its register.
+    pub const READY: Rules = Rules {
+        n: CodeRule::Ready,
+        z: CodeRule::Ready,
+        v: CodeRule::Ready,
+        c: CodeRule::Ready,
+    };
+}
+
 // The least number that doesn't fit the size.
 fn limit(size: Size) -> u128
     ensures value { result ≡ modulus (bytes_of size) }

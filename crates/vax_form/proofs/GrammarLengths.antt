@@ -17,7 +17,7 @@ pub option_map-none : {A B : Type 0} (f : A → B) (o : Option A) → option_map
 option_map-none f None e = refl
 option_map-none f (Some x) e = absurd cc
 
-bytes_of-most : (size : Size) → bytes_of size ≤ 8
+pub bytes_of-most : (size : Size) → bytes_of size ≤ 8
 bytes_of-most Byte = omega arith
 bytes_of-most Word = omega arith
 bytes_of-most Long = omega arith

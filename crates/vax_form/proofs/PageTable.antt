@@ -1,8 +1,8 @@
 -- Where the bytes of a page table's read-only ranges stand.
-use Rattle.std.proofs.Common.{subst, ◌≡◌, ℕ, ◌+◌, ◌-◌, ◌*◌, ◌/◌, ◌<◌, ◌≤◌, Bool, true, false, List, [], ◌∷◌, Some, length, refl, ap, sym, ◌∙◌, arith, nat_le, nat_lt, not, ◌&&◌, ◌||◌, cond}
+use Rattle.std.proofs.Common.{subst, ◌≡◌, ℕ, ◌+◌, ◌-◌, ◌*◌, ◌/◌, ◌<◌, ◌≤◌, Bool, true, false, List, [], ◌∷◌, Some, length, refl, ap, sym, ◌∙◌, arith, nat_le, nat_lt, not, ◌||◌, cond}
 use Rattle.std.specs.Prelude.{find, option_map, is_some}
 use Rattle.std.specs.List.{list_any}
-use Rattle.std.proofs.lemmas.Bool.{ltb-true, leb-true}
+use Rattle.std.proofs.lemmas.Bool.{and_parts, ltb-true, leb-true}
 use Rattle.vax_form.specs.PageTable.{PageTable, has_page, code_bytes, code_length, AreRising, ArePlaced, IsPageTable}
 use Rattle.vax_form.specs.Pages.{has_code}
 use Rattle.vax_form.specs.declared.pages.PageRange.{PageRange}
@@ -12,17 +12,13 @@ found_is_some f test [] = refl
 found_is_some f test (x ∷ xs) =
     elim (test x) as (λ b. is_some (option_map f (cond b (Some x) (find test xs))) ≡ (b || list_any test xs)) [ true ↦ refl | false ↦ found_is_some f test xs ]
 
-found_passes : {X : Type 0} (test : X → Bool) (xs : List X) (x : X) → find test xs ≡ Some x → test x ≡ true
+pub found_passes : {X : Type 0} (test : X → Bool) (xs : List X) (x : X) → find test xs ≡ Some x → test x ≡ true
 found_passes test [] x found = absurd cc
 found_passes {X} test (y ∷ ys) x found =
     (elim (test y) as (λ b. test y ≡ b → cond b (Some y) (find test ys) ≡ Some x → test x ≡ true) [
       | true ↦ λ passes same. let here : y ≡ x = cc in ap test (sym here) ∙ passes
       | false ↦ λ fails later. found_passes test ys x later
     ]) refl found
-
-both_true : (a b : Bool) → (a && b) ≡ true → (a ≡ true) × (b ≡ true)
-both_true true b both = (refl, both)
-both_true false b both = absurd cc
 
 read_only : (writable : Bool) (n : ℕ) → not writable ≡ true → cond writable 0 n ≡ n
 read_only true n is = absurd cc
@@ -35,8 +31,8 @@ pub record IsCodeOf (address : ℕ) (r : PageRange) : Type 0 where
 
 has_code_within : (address : ℕ) (r : PageRange) → has_code address r ≡ true → IsCodeOf address r
 has_code_within address r has =
-    let parts = both_true (has_page (address / 512) r) (not r.writable) has in
-    let places = both_true (nat_le r.first (address / 512)) (nat_lt (address / 512) (r.first + r.count)) parts.0 in
+    let parts = and_parts (has_page (address / 512) r) (not r.writable) has in
+    let places = and_parts (nat_le r.first (address / 512)) (nat_lt (address / 512) (r.first + r.count)) parts.0 in
     let low : r.first ≤ address / 512 = leb-true r.first (address / 512) places.0 in
     let high : address / 512 < r.first + r.count = ltb-true (address / 512) (r.first + r.count) places.1 in
     record { above = omega arith; below = omega arith; bytes = read_only r.writable (512 * r.count) parts.1 }
@@ -52,7 +48,7 @@ placed_within (s ∷ ss) address place r placed found =
     (elim (has_code address s) as (λ b. has_code address s ≡ b → cond b (Some s) (find (has_code address) ss) ≡ Some r → r.place + code_bytes r ≤ place + (code_bytes s + code_length ss)) [
       | true ↦ λ passes same.
           let here : s ≡ r = cc in
-          let parts = both_true (has_page (address / 512) s) (not s.writable) passes in
+          let parts = and_parts (has_page (address / 512) s) (not s.writable) passes in
           let at : s.place ≡ place = code_placed s.writable place s.place 0 parts.1 placed.0 in
           let bound : s.place + code_bytes s ≤ place + (code_bytes s + code_length ss) = omega arith in
           let P : PageRange → Type 0 = λ t. t.place + code_bytes t ≤ place + (code_bytes s + code_length ss) in

@@ -1,7 +1,7 @@
 -- What is told of an exception: its vector, and what comes with it.
 -- VAX Architecture Reference Manual, "Exceptions and Interrupts": the vectors of the System Control Block, and the
 -- parameters of each exception.
-use Rattle.std.specs.Prelude.{ℕ, Bool, if◌then◌else◌}
+use Rattle.std.specs.Prelude.{ℕ, if◌then◌else◌}
 use Rattle.vax_form.specs.declared.state.Exception.{Exception}
 use Rattle.vax_form.specs.declared.state.Exception.TheVariants.{ReservedInstruction, ReservedOperand, ReservedMode, AccessViolation, Breakpoint, Arithmetic}
 

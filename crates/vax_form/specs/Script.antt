@@ -1,6 +1,6 @@
 -- Scripts: what an instruction does in order, each step computed from the state and the replies before it.
 -- VAX Architecture Reference Manual, "Instruction Descriptions": the operation of each instruction.
-use Rattle.std.specs.Prelude.{◌≡◌, ℕ, List, [], ◌∷◌, ◌++◌, Bool, false, Option, Some, None, Result, Ok, Err, if◌then◌else◌}
+use Rattle.std.specs.Prelude.{ℕ, List, [], ◌∷◌, ◌++◌, Bool, false, Option, Some, None, Result, Ok, Err, if◌then◌else◌}
 use Rattle.vax_form.specs.Pages.{first_bad, code_byte_at}
 use Rattle.vax_form.specs.declared.pages.Pages.{Pages}
 use Rattle.vax_form.specs.declared.state.VaxState.{VaxState}

@@ -1,6 +1,6 @@
 -- The addresses that the operands of an instruction name, as far as its code fixes them.
 -- VAX Architecture Reference Manual, "Control Instructions"; "Operand Specifier Notation".
-use Rattle.std.specs.Prelude.{ℕ, Bool, false, List, ◌++◌, Option, Some, None, option_and_then, slice_index_or}
+use Rattle.std.specs.Prelude.{ℕ, false, List, ◌++◌, Option, Some, None, option_and_then, slice_index_or}
 use Rattle.std.specs.List.{filter_map}
 use Rattle.std.specs.Option.{option_to_list}
 use Rattle.vax_form.specs.Operation.{operation_at}

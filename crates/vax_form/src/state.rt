@@ -1,6 +1,8 @@
 // The state of a VAX thread.
 ghost use Rattle.std.specs.Prelude.{◌≡◌};
 
+use std::alloc::AllocError;
+
 /// The processor status longword of a thread is this and its low word: user mode, now and before.
 pub const USER_MODE: u32 = 0x03C0_0000;
 
@@ -184,3 +186,9 @@ pub struct Pick {
 /// The answer of a call that could not get the memory that it needs.
 #[derive(Clone, Copy, Debug, PartialEq, Eq)]
 pub struct WantOfMemory;
+
+impl From<AllocError> for WantOfMemory {
+    fn from(_: AllocError) -> WantOfMemory {
+        WantOfMemory
+    }
+}

@@ -4,3 +4,4 @@ pub mod Fields
 pub mod Joined
 pub mod Shifting
 pub mod Extended
+pub mod Longwords

@@ -1,4 +1,3 @@
-use Rattle.std.proofs.Common.{rules}
 use Rattle.vt_words.specs.Quad.{four, eight}
 use Rattle.alpha_meaning.proofs.memory.bytes_of.Goals as goal
 

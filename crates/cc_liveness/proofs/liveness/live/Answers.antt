@@ -3,7 +3,7 @@ use Rattle.std.proofs.lemmas.List.{reverse-reverse}
 use Rattle.vax_form.specs.declared.state.Flags.{Flags}
 use Rattle.cc_liveness.specs.Liveness.{AreLive, live_codes}
 use Rattle.cc_liveness.proofs.Lives.{recursion_is_liveness}
-use Rattle.cc_liveness.proofs.liveness.forward.Goals as goal
+use Rattle.cc_liveness.proofs.liveness.live.Goals as goal
 
 pub returns-clause-live : goal.returns-clause-live
 returns-clause-live c =
