@@ -1,9 +1,9 @@
 -- Tables with one page more, and with one number more.
-use Rattle.std.proofs.Common.{◌≡◌, ◌≢◌, ℕ, suc, ◌+◌, ◌-◌, ◌*◌, ◌/◌, ◌%◌, ◌<◌, ◌≤◌, Bool, true, false, cond, List, [], ◌++◌, Option, Some, None, length, replicate, get_or, set, refl, sym, ap, subst, ◌∙◌, arith, eqb, nat_lt, ltb-true, ltb-false}
-use Rattle.std.proofs.lemmas.Bool.{eq-eqb, ne_eqb, eqb-true, eqb-false}
+use Rattle.std.proofs.Common.{◌≡◌, ◌≢◌, ℕ, suc, ◌+◌, ◌-◌, ◌*◌, ◌/◌, ◌%◌, ◌<◌, ◌≤◌, Bool, true, false, cond, ◌++◌, Option, Some, None, length, replicate, get_or, set, refl, sym, ap, subst, ◌∙◌, arith, eqb, nat_lt, ltb-true, ltb-false}
+use Rattle.std.proofs.lemmas.Bool.{eqb-true, eqb-false}
 use Rattle.std.proofs.lemmas.List.{length-set, length-append, length-replicate, get_or-set_same, get_or-set_other, get_or_append_left, get_or-append_right, get_or-replicate}
 use Rattle.address_map.specs.Tables.{count_below, TablesValue, tables, IsInside, Holds}
-use Rattle.address_map.proofs.Counting.{count_same, count_rises, count_past, count_none, same_page, and_page, and_here, and_other, count_more}
+use Rattle.address_map.proofs.Counting.{count_same, count_past, count_none, same_page, and_page, and_here, and_other, count_more}
 
 abbrev upper_of : (ℕ → Bool) → ℕ → ℕ
 upper_of has page = cond (has page) (suc (count_below has page)) 0

@@ -1,7 +1,6 @@
 -- What is found by a number in a list in which that number rises.
 use Rattle.std.proofs.Common.{◌≡◌, ◌≢◌, ◌<◌, ◌≤◌, ℕ, Bool, true, false, zero, suc, refl, sym, ap, arith, List, [], ◌∷◌, length, get_or, eqb, nat_lt, ltb-true, ltb-false, Option, Some, None, Ok, Err}
 use Rattle.std.specs.Prelude.{find}
-use Rattle.std.specs.List.{AllAdjacentBelow}
 use Rattle.std.specs.List.Sorted.{IsBinarySearchResult, IsNonDecreasingBy, IsPartitionPoint}
 use Rattle.std.specs.declared.cmp.Ordering.TheVariants.{Greater, Less}
 use Rattle.std.specs.Ordering.{nat_cmp, ordering_index}

@@ -1,9 +1,9 @@
 -- What the tables of a map show of its pairs.
-use Rattle.std.proofs.Common.{◌≡◌, ℕ, zero, suc, ◌+◌, ◌-◌, ◌*◌, ◌/◌, ◌%◌, ◌<◌, ◌≤◌, Bool, true, false, cond, List, [], ◌∷◌, Option, Some, None, length, get_or, map, refl, sym, ap, subst, ◌∙◌, arith, eqb}
-use Rattle.std.specs.Prelude.{find, option_map, slice_get, slice_index}
+use Rattle.std.proofs.Common.{◌≡◌, ℕ, zero, suc, ◌+◌, ◌-◌, ◌*◌, ◌/◌, ◌<◌, Bool, true, false, List, [], ◌∷◌, Option, Some, None, length, get_or, map, refl, ap, ◌∙◌, arith, eqb}
+use Rattle.std.specs.Prelude.{slice_get, slice_index}
 use Rattle.std.proofs.lemmas.List.{get_or-map, length-map}
 use Rattle.address_map.specs.Pairs.{Pair, AllRise, KeysRise, swap, word_at, address_at}
-use Rattle.address_map.specs.Tables.{has_page, count_below, table_number, upper_word, lower_place, first_page, end_page, page_span, TablesValue, IsInside, HasTables, AreTablesOf}
+use Rattle.address_map.specs.Tables.{has_page, count_below, table_number, upper_word, lower_place, first_page, end_page, page_span, TablesValue, IsInside, AreTablesOf}
 use Rattle.address_map.proofs.Holding.{within}
 use Rattle.address_map.proofs.Lookups.{addresses_rise}
 use Rattle.address_map.proofs.Entering.{span_is}

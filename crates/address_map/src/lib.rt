@@ -9,7 +9,6 @@ mod tables;
 ghost use Rattle.std.specs.Prelude.{◌≡◌, IfErr, IfOk, OnOk, map};
 
 use crate::beginnings::beginnings;
-use exact_lists::list_of;
 use std::alloc::{AllocError, Global};
 use std::marker::Model;
 pub use tables::Tables;
@@ -169,9 +168,9 @@ fn map_of(alloc: Global, pairs: &[(u32, u32)]) -> Result<AddressMap, AllocError>
 fn swapped(alloc: Global, pairs: &[(u32, u32)]) -> Result<Vec<(u32, u32)>, AllocError>
     ensures { IfOk result (λ v. v.items ≡ map swap pairs.now) }
 {
-    list_of(
-        alloc,
-        pairs.len(),
-        pairs.iter().map(|pair| (pair.1, pair.0)),
-    )
+    let mut by_word = Vec::with_capacity(alloc, pairs.len())?;
+    for &(address, word) in pairs {
+        by_word.push((word, address))?;
+    }
+    Ok(by_word)
 }

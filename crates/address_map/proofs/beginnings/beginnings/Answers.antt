@@ -1,4 +1,4 @@
-use Rattle.std.proofs.Common.{◌≡◌, ap, arith, Option}
+use Rattle.std.proofs.Common.{ap, arith, Option}
 use Rattle.std.specs.Option.{option_map}
 use Rattle.address_map.specs.Pairs.{Pair}
 use Rattle.address_map.proofs.Lookups.{find_none}

@@ -1,6 +1,6 @@
-use Rattle.std.proofs.Common.{◌≡◌, ◌<◌, ◌≤◌, ◌+◌, ◌-◌, ◌*◌, ◌/◌, ◌%◌, ◌∙◌, Some, length, get_or, slice_index, set, take, sym, ap, subst, arith, vec_len}
-use Rattle.address_map.specs.Tables.{TablesValue, tables, opened, IsInside, HasTables}
-use Rattle.address_map.proofs.Entering.{inside_page, spot, spot_within, entered, few_tables}
+use Rattle.std.proofs.Common.{◌≡◌, ◌+◌, ◌-◌, ◌*◌, ◌/◌, ◌%◌, ◌∙◌, Some, length, get_or, slice_index, set, take, sym, ap, subst, arith}
+use Rattle.address_map.specs.Tables.{TablesValue, tables, opened, HasTables}
+use Rattle.address_map.proofs.Entering.{inside_page, spot_within, entered, few_tables}
 use Rattle.address_map.proofs.tables.enter.Goals as goal
 
 pub overflow_sub-number : goal.overflow_sub-number

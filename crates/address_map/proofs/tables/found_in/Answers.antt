@@ -1,4 +1,4 @@
-use Rattle.std.proofs.Common.{◌≡◌, ◌≢◌, ◌≤◌, ◌<◌, ◌+◌, ◌-◌, ◌*◌, ◌/◌, ◌%◌, ◌∙◌, Some, None, length, slice_index, get_or, sym, ap, arith}
+use Rattle.std.proofs.Common.{◌/◌, ◌∙◌, None, sym, arith}
 use Rattle.address_map.specs.Tables.{tables, IsInside}
 use Rattle.address_map.proofs.Entering.{found_outside, found_empty, found_within, found_there}
 use Rattle.address_map.proofs.tables.found_in.Goals as goal

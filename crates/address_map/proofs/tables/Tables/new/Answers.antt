@@ -1,6 +1,6 @@
-use Rattle.std.proofs.Common.{◌≡◌, ◌∙◌, length, replicate, sym, ap, subst, [], List, ℕ, Option}
+use Rattle.std.proofs.Common.{◌≡◌, ◌∙◌, length, replicate, sym, ap, subst, []}
 use Rattle.std.proofs.lemmas.List.{length-replicate}
-use Rattle.address_map.specs.Tables.{page_span, TablesValue, tables, HasTables}
+use Rattle.address_map.specs.Tables.{TablesValue, tables, HasTables}
 use Rattle.address_map.proofs.Entering.{none_yet}
 use Rattle.address_map.proofs.tables.Tables.new.Goals as goal
 
