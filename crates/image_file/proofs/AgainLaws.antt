@@ -1,10 +1,10 @@
 -- What is spelled so is read.
-use Rattle.std.proofs.Common.{◌≡◌, ℕ, ◌+◌, ◌*◌, ◌%◌, ◌^◌, ◌<◌, ◌≤◌, Bool, true, false, not, cond, ◌&&◌, List, [], ◌∷◌, ◌++◌, length, drop, refl, sym, ap, ◌∙◌, arith, append_assoc, map, None, Ok, nat_lt, nat_le}
+use Rattle.std.proofs.Common.{◌≡◌, ℕ, ◌+◌, ◌*◌, ◌^◌, ◌<◌, ◌≤◌, Bool, true, false, not, cond, List, [], ◌∷◌, ◌++◌, length, drop, refl, sym, ap, ◌∙◌, arith, append_assoc, map, None, Ok, nat_lt}
 use Rattle.std.specs.Prelude.{position, ◌==◌}
 use Rattle.std.specs.List.{flat_map, list_all, list_any}
 use Rattle.std.specs.Int.{w32, to_le_bytes}
 use Rattle.std.proofs.lemmas.Bool.Decides.{nat_tests}
-use Rattle.std.proofs.lemmas.Bool.{le-ltb, leb-true}
+use Rattle.std.proofs.lemmas.Bool.{le-ltb}
 use Rattle.std.proofs.lemmas.List.{length-append, length-map, take_at, drop_at}
 use Rattle.std.proofs.lemmas.Nat.{from_le_bytes-to_le_bytes_2}
 use Rattle.image_file.specs.declared.limits.TheConstants.{MAGIC, MOST_SECTIONS, MOST_ENTRIES}
@@ -17,16 +17,17 @@ use Rattle.image_file.specs.Spelling.{start_bytes, row_bytes, row_of, header_byt
 use Rattle.image_file.specs.Pages.{pages_of}
 use Rattle.image_file.specs.Whole.{IsStart, IsWhole}
 use Rattle.image_file.specs.Reading.{half, word, tables_end, counts_in, counts_allowed, counts_of, start_in, row_in, table_in, threads_in, rows_in, entries_in, layout_of, sections_in, image_in, image_of}
-use Rattle.image_file.proofs.ListLaws.{both_true, none_position, none_fails, each_passes}
+use Rattle.image_file.proofs.ListLaws.{none_position, none_fails, each_passes}
+use Rattle.image_file.proofs.RowLaws.{sound_row}
+use Rattle.image_file.proofs.LengthLaws.{stored_of, whole_length}
 use Rattle.image_file.proofs.FieldLaws.{word_again, table_again, length-written}
 use Rattle.image_file.proofs.StartLaws.{start_again, start_long}
-use Rattle.image_file.proofs.ReadLaws.{done, image_is}
+use Rattle.image_file.proofs.Versions.{few}
+use Rattle.image_file.proofs.StepLaws.{done}
+use Rattle.image_file.proofs.ReadLaws.{image_is}
 
 above_zero : (n : ℕ) → 1 ≤ n → (n == 0) ≡ false
 above_zero n some = grind (arith, nat_tests)
-
-few_threads : (version n : ℕ) → n ≤ most_threads version → n ≤ 65535
-few_threads version n = elim (version == 1) as (λ b. n ≤ cond b 16 32 → n ≤ 65535) [ true ↦ λ few. omega arith | false ↦ λ few. omega arith ]
 
 small_version : (version : ℕ) → is_version version ≡ true → version < 2 ^ 16
 small_version version is = grind (arith, nat_tests)
@@ -72,15 +73,8 @@ record RowFits (r : Row) : Type 0 where
 
 row_fits : (r : Row) → is_sound r ≡ true → RowFits r
 row_fits r sound =
-    let end_test : Bool = nat_le (r.start + r.size) 2147483648 in
-    let front : Bool = (r.start % 512 == 0) && nat_lt 0 r.size in
-    let a = both_true (front && nat_le r.stored r.size && end_test) (nat_le r.flags 1) sound in
-    let b = both_true (front && nat_le r.stored r.size) end_test a.0 in
-    let c = both_true front (nat_le r.stored r.size) b.0 in
-    let end : r.start + r.size ≤ 2147483648 = leb-true _ _ b.1 in
-    let stored : r.stored ≤ r.size = leb-true _ _ c.1 in
-    let flags : r.flags ≤ 1 = leb-true _ _ a.1 in
-    record { start = omega (arith, end); size = omega (arith, end); stored = omega (arith, end, stored); flags = omega (arith, flags) }
+    let is = sound_row r sound in
+    record { start = omega (arith, is.end); size = omega (arith, is.end); stored = omega (arith, is.end, is.stored); flags = omega (arith, is.flags) }
 
 row_again : (r : Row) (rest : List ℕ) → is_sound r ≡ true → row_in (row_bytes r ++ rest) ≡ r
 row_again r rest sound =
@@ -96,19 +90,12 @@ flag_back : (writable : Bool) → (cond writable 1 0 == 1) ≡ writable
 flag_back true = refl
 flag_back false = refl
 
-abbrev stored_of : SectionValue → List ℕ
-stored_of s = s.stored
-
 sections_again : (ss : List SectionValue) → sections_in (map row_of ss) (flat_map stored_of ss) ≡ ss
 sections_again [] = refl
 sections_again (s ∷ ss) =
     (λ i. record { start = s.start; size = s.size; writable = flag_back s.writable i; stored = take_at s.stored (flat_map stored_of ss) (length s.stored) refl i }
     ∷ sections_in (map row_of ss) (drop_at s.stored (flat_map stored_of ss) (length s.stored) refl i))
     ∙ ap (λ rest. s ∷ rest) (sections_again ss)
-
-stored_length : (ss : List SectionValue) → length (flat_map stored_of ss) ≡ stored_bytes (map row_of ss)
-stored_length [] = refl
-stored_length (s ∷ ss) = omega (arith, length-append s.stored (flat_map stored_of ss), stored_length ss)
 
 -- the five parts in a row
 regroup : (a b c d e : List ℕ) → a ++ b ++ c ++ d ++ e ≡ a ++ (b ++ (c ++ (d ++ e)))
@@ -137,10 +124,8 @@ read_again image whole =
     let b_long : length b ≡ width * t = length-written (IsStart v) width (start_bytes v) (start_long v) image.threads room.starts_fit in
     let c_long : length c ≡ 16 * n = length-written (λ r. is_sound r ≡ true) 16 row_bytes (λ x fit. refl) rows rows_sound ∙ ap (λ m. 16 * m) (length-map image.sections row_of) in
     let d_long : length d ≡ 4 * k = length-written (λ (m : ℕ). m < 2 ^ 32) 4 (to_le_bytes w32) (λ x fit. refl) image.entries room.entries_fit in
-    let e_long : length e ≡ stored_bytes rows = stored_length image.sections in
-    let long : length bytes ≡ 12 + width * t + 16 * n + 4 * k + stored_bytes rows =
-    omega (arith, length-append a (b ++ (c ++ (d ++ e))), length-append b (c ++ (d ++ e)), length-append c (d ++ e), length-append d e, b_long, c_long, d_long, e_long) in
-    let threads_few : t ≤ 65535 = few_threads v t room.threads in
+    let long : length bytes ≡ 12 + width * t + 16 * n + 4 * k + stored_bytes rows = ap length (sym parts) ∙ whole_length image whole in
+    let threads_few : t ≤ 255 = few v t room.threads in
     let numbers : counts_in bytes ≡ counts = λ i. record {
       version = from_le_bytes-to_le_bytes_2 v (small_version v room.version) i;
       threads = from_le_bytes-to_le_bytes_2 t (omega (arith, threads_few)) i;

@@ -2,10 +2,13 @@ pub mod TableItems
 pub mod Overlaps
 pub mod Placing
 pub mod ListLaws
+pub mod RowLaws
+pub mod StepLaws
 pub mod FieldLaws
 pub mod StartLaws
 pub mod ReadLaws
 pub mod SpelledLaws
+pub mod LengthLaws
 pub mod AgainLaws
 pub mod WriteLaws
 pub mod Found

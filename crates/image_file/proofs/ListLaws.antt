@@ -1,23 +1,11 @@
--- Small laws about tests and places in lists.
-use Rattle.std.proofs.Common.{get_or, drop, add-one, ◌≡◌, ◌≤◌, ◌<◌, ℕ, suc, ◌+◌, Bool, true, false, not, cond, ◌&&◌, ◌||◌, List, [], ◌∷◌, Some, None, length, refl, sym, ap, ◌∙◌, arith, nat_lt}
+-- Small laws about places in lists.
+use Rattle.std.proofs.Common.{get_or, drop, add-one, ◌≡◌, ◌≤◌, ◌<◌, ℕ, suc, ◌+◌, Bool, true, false, not, cond, List, [], ◌∷◌, Some, None, length, refl, sym, ap, ◌∙◌, arith, nat_lt}
 use Rattle.std.specs.Prelude.{position, find, unwrap_or}
 use Rattle.std.proofs.Math.Seq.{drop-cons}
 use Rattle.std.proofs.lemmas.List.{drop_all}
 use Rattle.std.specs.List.{list_all, AllByRecursion, position_or_len, prefix_len}
 use Rattle.std.proofs.lemmas.List.Sums.{prefix_len-le-length}
-use Rattle.std.proofs.lemmas.Bool.{ltb-false, le-ltb}
-
-pub both_true : (a b : Bool) → (a && b) ≡ true → (a ≡ true) × (b ≡ true)
-both_true true b both = (refl, both)
-both_true false b both = absurd cc
-
-pub neither : (a b : Bool) → (a || b) ≡ false → (a ≡ false) × (b ≡ false)
-neither true b none = absurd cc
-neither false b none = (refl, none)
-
-pub was_true : (b : Bool) → not b ≡ false → b ≡ true
-was_true true is = refl
-was_true false is = absurd cc
+use Rattle.std.proofs.lemmas.Bool.{and_parts, ltb-false, le-ltb, not-false}
 
 -- where no element passes a test, its first place is none
 none_to_len : {X : Type 0} (p : X → Bool) (xs : List X) → position p xs ≡ None → length xs ≤ position_or_len p xs
@@ -48,15 +36,15 @@ none_position p xs none = rw (none_len p xs none, le-ltb (length xs) (length xs)
 -- no element fails where all pass
 pub all_pass : {X : Type 0} (p : X → Bool) (xs : List X) → AllByRecursion (λ x. not (p x) ≡ false) xs → list_all p xs ≡ true
 all_pass p [] pass = refl
-all_pass p (x ∷ xs) pass = rw (was_true (p x) pass.0) (all_pass p xs pass.1)
+all_pass p (x ∷ xs) pass = rw (not-false (p x) pass.0) (all_pass p xs pass.1)
 
 pub none_fails : {X : Type 0} (p : X → Bool) (xs : List X) → list_all p xs ≡ true → AllByRecursion (λ x. not (p x) ≡ false) xs
 none_fails p [] pass = tt
-none_fails p (x ∷ xs) pass = let both = both_true (p x) (list_all p xs) pass in (ap not both.0, none_fails p xs both.1)
+none_fails p (x ∷ xs) pass = let both = and_parts (p x) (list_all p xs) pass in (ap not both.0, none_fails p xs both.1)
 
 pub each_passes : {X : Type 0} (p : X → Bool) (xs : List X) → list_all p xs ≡ true → AllByRecursion (λ x. p x ≡ true) xs
 each_passes p [] pass = tt
-each_passes p (x ∷ xs) pass = let both = both_true (p x) (list_all p xs) pass in (both.0, each_passes p xs both.1)
+each_passes p (x ∷ xs) pass = let both = and_parts (p x) (list_all p xs) pass in (both.0, each_passes p xs both.1)
 
 -- the place that `position` gives, or the end
 pub position_or_end : {X : Type 0} (p : X → Bool) (xs : List X) → unwrap_or (position p xs) (length xs) ≡ position_or_len p xs

@@ -1,10 +1,11 @@
 -- Looking for a pair of rows that share a page, one row after the other.
 use Rattle.std.proofs.Common.{◌≡◌, ℕ, ◌+◌, ◌-◌, ◌<◌, List, ◌∷◌, Option, Some, None, length, get_or, drop, take, sym, ap, ◌∙◌, arith, add-one}
 use Rattle.std.specs.Prelude.{position, option_map}
+use Rattle.std.specs.Option.{option_or}
 use Rattle.std.proofs.Math.Seq.{drop-cons}
 use Rattle.std.proofs.lemmas.List.{take_all, length-drop}
 use Rattle.image_file.specs.declared.rows.Row.{Row}
-use Rattle.image_file.specs.Rows.{page_bytes, shares_page, or_else, first_overlap, total_bytes}
+use Rattle.image_file.specs.Rows.{page_bytes, shares_page, first_overlap, total_bytes}
 
 abbrev no_row : Row
 no_row = record { start = 0; size = 0; stored = 0; flags = 0 }
@@ -13,7 +14,7 @@ rows_from : (rows : List Row) (k : ℕ) → k < length rows → drop k rows ≡ 
 rows_from rows k within = drop-cons rows k no_row within ∙ ap (λ n. get_or rows k no_row ∷ drop n rows) (sym (add-one k))
 
 abbrev next_pair : ℕ → Option ℕ → Option (ℕ × ℕ) → Option (ℕ × ℕ)
-next_pair k next others = or_else (option_map (λ n. (k, k + 1 + n)) next) others
+next_pair k next others = option_or (option_map (λ n. (k, k + 1 + n)) next) others
 
 step : (rows : List Row) (k : ℕ) → k < length rows
     → first_overlap k (drop k rows)

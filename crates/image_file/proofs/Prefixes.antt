@@ -18,20 +18,20 @@ use Rattle.image_file.proofs.AgainLaws.{allowed, counts_pass, layout_pass}
 
 -- ---- what stands in front of the cut
 
-cut : (at kept : ℕ) (bytes : List ℕ) → at ≤ kept → drop at (take kept bytes) ≡ take (kept - at) (drop at bytes)
+pub cut : (at kept : ℕ) (bytes : List ℕ) → at ≤ kept → drop at (take kept bytes) ≡ take (kept - at) (drop at bytes)
 cut at kept bytes before = let whole : kept ≡ at + (kept - at) = omega arith in ap (λ n. drop at (take n bytes)) whole ∙ drop-take at (kept - at) bytes
 
 -- what reads no further than its first bytes
-abbrev IsFront : {X : Type 0} → ℕ → (List ℕ → X) → Type 0
+abbrev pub IsFront : {X : Type 0} → ℕ → (List ℕ → X) → Type 0
 IsFront width read = (kept : ℕ) (bytes : List ℕ) → width ≤ kept → read (take kept bytes) ≡ read bytes
 
 half_front : IsFront 2 half
 half_front kept bytes wide = ap (from_le_bytes w16) (take-take 2 kept bytes wide)
 
-word_front : IsFront 4 word
+pub word_front : IsFront 4 word
 word_front kept bytes wide = ap (from_le_bytes w32) (take-take 4 kept bytes wide)
 
-front_at : {X : Type 0} (width : ℕ) (read : List ℕ → X) → IsFront width read → (at kept : ℕ) (bytes : List ℕ) → at + width ≤ kept → read (drop at (take kept bytes)) ≡ read (drop at bytes)
+pub front_at : {X : Type 0} (width : ℕ) (read : List ℕ → X) → IsFront width read → (at kept : ℕ) (bytes : List ℕ) → at + width ≤ kept → read (drop at (take kept bytes)) ≡ read (drop at bytes)
 front_at width read front at kept bytes wide = ap read (cut at kept bytes (omega arith)) ∙ front (kept - at) (drop at bytes) (omega arith)
 
 row_front : IsFront 16 row_in
@@ -42,7 +42,7 @@ row_front kept bytes wide = λ i. record {
   flags = front_at 4 word word_front 12 kept bytes (omega arith) i;
 }
 
-table_front : {X : Type 0} (width : ℕ) (read : List ℕ → X) → IsFront width read → (count kept : ℕ) (bytes : List ℕ) → width * count ≤ kept → table_in width read count (take kept bytes) ≡ table_in width read count bytes
+pub table_front : {X : Type 0} (width : ℕ) (read : List ℕ → X) → IsFront width read → (count kept : ℕ) (bytes : List ℕ) → width * count ≤ kept → table_in width read count (take kept bytes) ≡ table_in width read count bytes
 table_front width read front zero kept bytes wide = refl
 table_front width read front (suc count) kept bytes wide =
     let more : width * suc count ≡ width + width * count = omega arith in
@@ -50,7 +50,7 @@ table_front width read front (suc count) kept bytes wide =
     ap (table_in width read count) (cut width kept bytes (omega (arith, more))) ∙ table_front width read front count (kept - width) (drop width bytes) (omega (arith, more)) in
     λ i. front kept bytes (omega (arith, more)) i ∷ rest i
 
-table_at : {X : Type 0} (width : ℕ) (read : List ℕ → X) → IsFront width read → (at count kept : ℕ) (bytes : List ℕ) → at + width * count ≤ kept → table_in width read count (drop at (take kept bytes)) ≡ table_in width read count (drop at bytes)
+pub table_at : {X : Type 0} (width : ℕ) (read : List ℕ → X) → IsFront width read → (at count kept : ℕ) (bytes : List ℕ) → at + width * count ≤ kept → table_in width read count (drop at (take kept bytes)) ≡ table_in width read count (drop at bytes)
 table_at width read front at count kept bytes wide = ap (table_in width read count) (cut at kept bytes (omega arith)) ∙ table_front width read front count (kept - at) (drop at bytes) (omega arith)
 
 -- ---- the refusal
@@ -58,7 +58,7 @@ table_at width read front at count kept bytes wide = ap (table_in width read cou
 abbrev refused : {X : Type 0} → ℕ → Result X ImageRefusal
 refused kept = Err (Truncated kept)
 
-cut_length : (kept : ℕ) (bytes : List ℕ) → kept < length bytes → length (take kept bytes) ≡ kept
+pub cut_length : (kept : ℕ) (bytes : List ℕ) → kept < length bytes → length (take kept bytes) ≡ kept
 cut_length kept bytes short = omega (arith, length-take kept bytes)
 
 -- cut in the header

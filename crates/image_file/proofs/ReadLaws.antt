@@ -1,14 +1,13 @@
 -- What reading answers, step by step.
-use Rattle.std.proofs.Common.{◌≡◌, ℕ, zero, suc, ◌+◌, ◌-◌, ◌≤◌, Bool, true, false, not, cond, List, [], ◌∷◌, length, take, drop, refl, sym, ap, subst, ◌∙◌, arith, map, Option, Some, None, Result, Ok, Err, nat_lt}
+use Rattle.std.proofs.Common.{◌≡◌, ℕ, zero, suc, ◌+◌, ◌-◌, ◌≤◌, true, false, not, cond, List, [], ◌∷◌, length, take, drop, refl, sym, ap, subst, ◌∙◌, arith, map, None, Ok, nat_lt}
 use Rattle.std.specs.Prelude.{position, ◌==◌}
 use Rattle.std.specs.List.{list_all, list_any}
-use Rattle.std.proofs.lemmas.Bool.{ltb-false, leb-true, eqb-true, le-ltb}
+use Rattle.std.proofs.lemmas.Bool.{and_parts, eqb-true, le-ltb, ltb-false, not-false}
 use Rattle.std.proofs.lemmas.List.{length-take, length-drop, take_all}
 use Rattle.image_file.specs.declared.limits.TheConstants.{MAGIC, HEADER, MOST_SECTIONS, MOST_ENTRIES}
 use Rattle.image_file.specs.Limits.{is_version, most_threads, most_bytes}
 use Rattle.image_file.specs.declared.rows.Row.{Row}
 use Rattle.image_file.specs.declared.header.Counts.{Counts}
-use Rattle.image_file.specs.declared.refusal.ImageRefusal.{ImageRefusal}
 use Rattle.image_file.specs.declared.refusal.ImageRefusal.TheVariants.{Truncated, BadMagic, BadVersion, NoThread, TooManyThreads, TooManySections, BadSection, Overlap, TooLarge, Trailing}
 use Rattle.image_file.specs.Values.{SectionValue, ImageValue}
 use Rattle.image_file.specs.Rows.{is_sound, has_code, first_overlap, total_bytes, stored_bytes}
@@ -16,27 +15,11 @@ use Rattle.image_file.specs.Spelling.{row_of}
 use Rattle.image_file.specs.Pages.{pages_of}
 use Rattle.vax_form.specs.PageTable.{PageTable}
 use Rattle.image_file.specs.declared.image.Start.{Start}
-use Rattle.image_file.specs.Reading.{◌>>=◌, refuse_if, refuse_at, half, word, tables_end, counts_in, counts_allowed, counts_of, threads_in, rows_in, entries_in, layout_of, sections_in, image_in, image_of}
-use Rattle.image_file.proofs.ListLaws.{both_true, was_true, position_none, all_pass}
-
--- a step that didn't refuse
-pub bind_ok : {A B : Type 0} (r : Result A ImageRefusal) (f : A → Result B ImageRefusal) (y : B) → (r >>= f) ≡ Ok y → (x : A) × (r ≡ Ok x) × (f x ≡ Ok y)
-bind_ok (Ok x) f y e = (x, refl, e)
-bind_ok (Err d) f y e = absurd cc
-
-pub passed : (b : Bool) (d : ImageRefusal) (x : Unit {0}) → refuse_if b d ≡ Ok x → b ≡ false
-passed true d x e = absurd cc
-passed false d x e = refl
-
-pub passed_at : {X : Type 0} (o : Option X) (d : X → ImageRefusal) (x : Unit {0}) → refuse_at o d ≡ Ok x → o ≡ None
-passed_at None d x e = refl
-passed_at (Some y) d x e = absurd cc
-
-abbrev pub done : {A : Type 0} → A → Result A ImageRefusal
-done x = Ok x
-
-pub ok_is : {A : Type 0} (x y : A) → done x ≡ done y → x ≡ y
-ok_is x y e = cc
+use Rattle.image_file.specs.Steps.{refuse_if, refuse_at}
+use Rattle.image_file.specs.Reading.{half, word, tables_end, counts_in, counts_allowed, counts_of, threads_in, rows_in, entries_in, layout_of, sections_in, image_in, image_of}
+use Rattle.image_file.proofs.ListLaws.{position_none, all_pass}
+use Rattle.image_file.proofs.RowLaws.{sound_row}
+use Rattle.image_file.proofs.StepLaws.{bind_ok, passed, passed_at, done, ok_is}
 
 -- ---- the tables' layout
 
@@ -66,14 +49,11 @@ flag_again zero small = refl
 flag_again (suc zero) small = refl
 flag_again (suc (suc n)) small = absurd (omega arith)
 
-flags_small : (r : Row) → is_sound r ≡ true → r.flags ≤ 1
-flags_small r sound = leb-true _ _ (both_true _ _ sound).1
-
 pub rows_again : (rows : List Row) (bytes : List ℕ) → list_all is_sound rows ≡ true → stored_bytes rows ≤ length bytes → map row_of (sections_in rows bytes) ≡ rows
 rows_again [] bytes sound long = refl
 rows_again (r ∷ rs) bytes sound long =
-    let both = both_true (is_sound r) (list_all is_sound rs) sound in
-    let small : r.flags ≤ 1 = flags_small r both.0 in
+    let both = and_parts (is_sound r) (list_all is_sound rs) sound in
+    let small : r.flags ≤ 1 = (sound_row r both.0).flags in
     let stored : length (take r.stored bytes) ≡ r.stored = omega (arith, length-take r.stored bytes) in
     λ i. record { start = r.start; size = r.size; stored = stored i; flags = flag_again r.flags small i } ∷ rows_again rs (drop r.stored bytes) both.1 (omega (arith, length-drop r.stored bytes)) i
 
@@ -178,8 +158,8 @@ counts_ok bytes counts e =
     let is : counts_in bytes ≡ counts = ok_is _ _ f.2 in
     let allowed : IsAllowed counts = subst IsAllowed is (allowed_ok (counts_in bytes) d.0 d.1) in
     record {
-      magic = eqb-true _ _ (was_true _ (passed _ _ b.0 b.1));
-      version = subst (λ (k : Counts). is_version k.version ≡ true) is (was_true _ (passed _ _ c.0 c.1));
+      magic = eqb-true _ _ (not-false _ (passed _ _ b.0 b.1));
+      version = subst (λ (k : Counts). is_version k.version ≡ true) is (not-false _ (passed _ _ c.0 c.1));
       some = allowed.some;
       threads = allowed.threads;
       sections = allowed.sections;

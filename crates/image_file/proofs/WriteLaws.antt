@@ -1,18 +1,13 @@
 -- Parts appended one after the other.
 use mir.Val.{bool_byte}
-use Rattle.std.proofs.Common.{false, cond, ◌≡◌, ◌<◌, ℕ, zero, suc, ◌+◌, Bool, true, List, [], ◌∷◌, ◌++◌, length, get_or, take, refl, sym, ap, ◌∙◌, arith, append_assoc, map, Result, Ok, Err}
-use Rattle.std.specs.Prelude.{IfOk}
-use Rattle.std.specs.Global.{Vec}
+use Rattle.std.proofs.Common.{false, cond, ◌≡◌, ◌<◌, ◌^◌, ℕ, zero, suc, ◌+◌, Bool, true, List, [], ◌∷◌, ◌++◌, length, get_or, take, refl, sym, ap, ◌∙◌, arith, append_assoc, map}
 use Rattle.std.specs.List.{flat_map, list_all, AllByRecursion}
 use Rattle.std.proofs.lemmas.List.{take_more, map-append, append-nil}
 use Rattle.std.proofs.lemmas.Grind.{flat_map-append}
-use Rattle.image_file.specs.Values.{SectionValue, ImageValue}
+use Rattle.image_file.specs.Values.{SectionValue}
 use Rattle.image_file.specs.Rows.{is_sound}
-use Rattle.image_file.specs.Spelling.{row_of, row_bytes, spelling}
-use Rattle.image_file.specs.Whole.{IsWhole}
-use Rattle.image_file.specs.Reading.{image_of}
+use Rattle.image_file.specs.Spelling.{row_of, row_bytes}
 use Rattle.image_file.proofs.ListLaws.{each_passes}
-use Rattle.image_file.proofs.AgainLaws.{read_again}
 
 pub four_parts : (o a b c d : List ℕ) → o ++ a ++ b ++ c ++ d ≡ o ++ (a ++ b ++ c ++ d)
 four_parts o a b c d = simp append_assoc
@@ -39,9 +34,9 @@ rows_more old out new sections k s within is before more =
     ∙ ap (λ rest. bytes (take k sections) ++ rest) (append-nil (row_bytes (row_of s))) in
     more ∙ ap (λ o. o ++ row_bytes (row_of s)) before ∙ append_assoc old (bytes (take k sections)) (row_bytes (row_of s)) ∙ ap (λ rest. old ++ rest) (sym all)
 
-pub spelled_again : (image : ImageValue) (E : Type 0) (r : Result (Vec ℕ) E) → IsWhole image → IfOk r (λ v. v.items ≡ spelling image) → IfOk r (λ v. image_of v.items ≡ Ok image)
-spelled_again image E (Ok v) whole spelled = ap image_of spelled ∙ read_again image whole
-spelled_again image E (Err e) whole spelled = tt
+pub all_long : (numbers : List ℕ) → ((k : ℕ) → get_or numbers k 0 < 2 ^ 32) → AllByRecursion (λ (n : ℕ). n < 2 ^ 32) numbers
+all_long [] each = tt
+all_long (n ∷ ns) each = (each 0, all_long ns (λ k. each (suc k)))
 
 -- a truth value as a number
 pub flag_byte : (b : Bool) → bool_byte b ≡ cond b 1 0

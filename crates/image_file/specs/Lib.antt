@@ -7,5 +7,6 @@ pub mod Refusal
 pub mod Rows
 pub mod Spelling
 pub mod Start
+pub mod Steps
 pub mod Values
 pub mod Whole

@@ -1,5 +1,5 @@
 -- The image that the bytes of a file mean, or the first reason for which they mean none.
-use Rattle.std.specs.Prelude.{◌≡◌, ℕ, zero, suc, ◌+◌, ◌*◌, ◌==◌, Bool, not, List, [], ◌∷◌, length, take, drop, Option, Some, None, Result, Ok, Err, nat_lt, position, replicate, if◌then◌else◌}
+use Rattle.std.specs.Prelude.{◌≡◌, ℕ, zero, suc, ◌+◌, ◌*◌, ◌==◌, not, List, [], ◌∷◌, length, take, drop, Result, Ok, Err, nat_lt, position, replicate, if◌then◌else◌}
 use Rattle.std.specs.List.{list_any}
 use Rattle.std.specs.Int.{w16, w32, from_le_bytes}
 use Rattle.image_file.specs.declared.image.Start.{Start}
@@ -12,24 +12,13 @@ use Rattle.image_file.specs.Limits.{is_version, most_threads, most_bytes, start_
 use Rattle.image_file.specs.Values.{SectionValue, ImageValue}
 use Rattle.image_file.specs.Rows.{is_sound, has_code, first_overlap, total_bytes, stored_bytes}
 use Rattle.image_file.specs.Pages.{pages_of}
-
-infixl 10 ◌>>=◌
-abbrev pub ◌>>=◌ : {A B : Type 0} → Result A ImageRefusal → (A → Result B ImageRefusal) → Result B ImageRefusal
-(Ok x) >>= f = f x
-(Err e) >>= f = Err e
+use Rattle.image_file.specs.Steps.{◌>>=◌, refuse_if, refuse_at}
 
 -- a call's answer, seen by view, is what reading gives, unless memory ran out
 abbrev pub Gives : {X Y : Type 0} → (X → Y) → Result X ImageRefusal → Result Y ImageRefusal → Type 0
 Gives view (Ok x) read = read ≡ Ok (view x)
 Gives view (Err WantOfMemory) read = Unit {0}
 Gives view (Err e) read = read ≡ Err e
-
-abbrev pub refuse_if : Bool → ImageRefusal → Result (Unit {0}) ImageRefusal
-refuse_if fails refusal = if fails then Err refusal else Ok tt
-
-abbrev pub refuse_at : {X : Type 0} → Option X → (X → ImageRefusal) → Result (Unit {0}) ImageRefusal
-refuse_at None refusal = Ok tt
-refuse_at (Some x) refusal = Err (refusal x)
 
 -- the number in the first two bytes, and in the first four
 abbrev pub half : List ℕ → ℕ

@@ -1,5 +1,6 @@
 -- Rows of the section table, and the pages that they stand for.
-use Rattle.std.specs.Prelude.{ℕ, ◌+◌, ◌*◌, ◌/◌, ◌%◌, ◌==◌, ◌&&◌, ◌||◌, Bool, Option, Some, None, option_map, List, [], ◌∷◌, nat_le, nat_lt, position}
+use Rattle.std.specs.Prelude.{ℕ, ◌+◌, ◌*◌, ◌/◌, ◌%◌, ◌==◌, ◌&&◌, ◌||◌, Bool, Option, None, option_map, List, [], ◌∷◌, nat_le, nat_lt, position}
+use Rattle.std.specs.Option.{option_or}
 use Rattle.image_file.specs.declared.limits.TheConstants.{ADDRESS_END}
 use Rattle.image_file.specs.declared.rows.Row.{Row}
 
@@ -23,14 +24,10 @@ has_code address r = (r.flags == 0) && has_page (address / 512) r
 abbrev pub shares_page : Row → Row → Bool
 shares_page r s = has_page (s.start / 512) r || has_page (r.start / 512) s
 
-abbrev pub or_else : {X : Type 0} → Option X → Option X → Option X
-or_else None other = other
-or_else (Some x) other = Some x
-
 -- the first section that shares a page with a later one, and the first such one; `low` is the first row's number
 abbrev pub first_overlap : ℕ → List Row → Option (ℕ × ℕ)
 first_overlap low [] = None
-first_overlap low (r ∷ rs) = or_else (option_map (λ next. (low, low + 1 + next)) (position (shares_page r) rs)) (first_overlap (low + 1) rs)
+first_overlap low (r ∷ rs) = option_or (option_map (λ next. (low, low + 1 + next)) (position (shares_page r) rs)) (first_overlap (low + 1) rs)
 
 -- the bytes of all sections, each with the rest of its last page
 abbrev pub total_bytes : List Row → ℕ

@@ -2,7 +2,7 @@
 ghost use Rattle.std.specs.Prelude.{◌≡◌, ◌≤◌, ◌<◌, not, length, position, IfSome};
 ghost use Rattle.std.specs.List.{list_any};
 ghost use Rattle.image_file.specs.Rows.{is_sound, shares_page, has_code, first_overlap, total_bytes};
-ghost use Rattle.image_file.specs.Reading.{refuse_at, layout_of};
+ghost use Rattle.image_file.specs.Reading.{layout_of};
 
 use crate::limits::*;
 use crate::refusal::ImageRefusal;

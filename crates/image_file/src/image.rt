@@ -52,7 +52,8 @@ impl Model for Section {
 impl Section {
     ghost use Rattle.image_file.specs.Memory.{has_address, byte_at};
 
-    fn has(&self, address: u32) -> bool
+    /// Whether the address is in a page of the section.
+    pub fn has(&self, address: u32) -> bool
         ensures { result ≡ has_address address self.now }
     {
         let page = address / 512;

@@ -1,6 +1,6 @@
 // Writes an image file.
-ghost use Rattle.std.specs.Prelude.{◌≡◌, ◌++◌, length, true, map, IfOk, OnOk, Ok};
-ghost use Rattle.std.specs.List.{flat_map, list_all};
+ghost use Rattle.std.specs.Prelude.{◌≡◌, ℕ, ◌<◌, ◌^◌, ◌++◌, length, true, map, IfOk, OnOk, Ok};
+ghost use Rattle.std.specs.List.{flat_map, list_all, AllByRecursion};
 ghost use Rattle.std.specs.Int.{w32, to_le_bytes};
 ghost use Rattle.image_file.specs.Values.{SectionValue};
 ghost use Rattle.image_file.specs.Rows.{is_sound};
@@ -30,8 +30,10 @@ fn put_header(
     Ok(())
 }
 
-fn put_words(out: &mut Vec<u8>, words: &[u32]) -> Result<(), AllocError>
-    ensures { OnOk result (out.new.items ≡ out.old.items ++ flat_map (to_le_bytes w32) words.now) }
+/// Appends the bytes of each word, the lowest first.
+pub fn put_words(out: &mut Vec<u8>, words: &[u32]) -> Result<(), AllocError>
+    ensures bytes { OnOk result (out.new.items ≡ out.old.items ++ flat_map (to_le_bytes w32) words.now) }
+    ensures fit { OnOk result (AllByRecursion (λ (n : ℕ). n < 2 ^ 32) words.now) }
 {
     for word in words {
         out.extend_from_slice(&word.to_le_bytes())?;
@@ -89,10 +91,11 @@ fn put_stored(out: &mut Vec<u8>, sections: &[Section]) -> Result<(), AllocError>
     Ok(())
 }
 
-#[tactic(auto, unfolding(crate::specs::Spelling::spelling))]
-fn spelled(alloc: Global, image: &Image) -> Result<Vec<u8>, AllocError>
+/// The bytes of a whole image's file.
+pub fn write_image(alloc: Global, image: &Image) -> Result<Vec<u8>, WantOfMemory>
     requires { IsWhole image.now }
-    ensures { IfOk result (λ v. v.items ≡ spelling image.now) }
+    ensures spelled { IfOk result (λ v. v.items ≡ spelling image.now) }
+    ensures read_again { IfOk result (λ v. image_of v.items ≡ Ok image.now) }
 {
     let mut out = Vec::new(alloc);
     put_header(
@@ -107,13 +110,4 @@ fn spelled(alloc: Global, image: &Image) -> Result<Vec<u8>, AllocError>
     put_words(&mut out, &image.entries)?;
     put_stored(&mut out, &image.sections)?;
     Ok(out)
-}
-
-/// The bytes of a whole image's file.
-pub fn write_image(alloc: Global, image: &Image) -> Result<Vec<u8>, WantOfMemory>
-    requires { IsWhole image.now }
-    ensures spelled { IfOk result (λ v. v.items ≡ spelling image.now) }
-    ensures read_again { IfOk result (λ v. image_of v.items ≡ Ok image.now) }
-{
-    spelled(alloc, image).map_err(|_| WantOfMemory)
 }

@@ -10,23 +10,24 @@ use Rattle.address_map.specs.Pairs.{Pair}
 use Rattle.image_file.specs.Values.{ImageValue}
 use Rattle.image_file.specs.Spelling as Image
 use Rattle.image_file.specs.Reading.{word, table_in, image_of}
+use Rattle.image_file.specs.Steps.{refuse_if, refuse_at}
 use Rattle.image_file.proofs.FieldLaws.{IsBytes, IsBytes-drop, IsBytes-take, take_join, word_back, word_fits, word_again, length-table, table_back, table_all, table_again, length-written}
 use Rattle.image_file.proofs.AgainLaws as ImageAgain
 use Rattle.image_file.proofs.Found as ImageFound
+use Rattle.image_file.proofs.LengthLaws.{whole_length, whole_small}
+use Rattle.image_file.proofs.StepLaws.{bind_ok, passed, passed_at, done}
 use Rattle.translated_file.specs.declared.header.Header.{Header}
 use Rattle.translated_file.specs.Values.{PartsValue}
 use Rattle.translated_file.specs.Spelling.{word_bytes, header_bytes, front_bytes, parts_bytes, pair_words, tail_words, written_parts}
-use Rattle.translated_file.specs.Steps.{Gives, refuse_if, refuse_at}
-use Rattle.translated_file.specs.Reading.{hints_at, tail_at, header_in, header_of, image_bytes_in, hints_in, first_fall, parts_in, parts_of}
+use Rattle.translated_file.specs.Reading.{Gives, hints_at, tail_at, header_in, header_of, image_bytes_in, hints_in, first_fall, parts_in, parts_of}
 use Rattle.translated_file.specs.Comparing.{whole_words, first_difference, refusal_at, tail_compared, tail_place}
 use Rattle.translated_file.specs.Whole.{IsLong, IsLongPair, AreHints, AreWhole, IsTranslation}
 use Rattle.translated_file.specs.Laws.{WrittenIsAccepted, AcceptedIsWritten}
 use Rattle.vax_form.specs.GrammarLaws.{AreBytes}
 use Rattle.translated_file.specs.declared.refusal.TranslatedRefusal.{TranslatedRefusal}
 use Rattle.translated_file.specs.declared.refusal.TranslatedRefusal.TheVariants.{Truncated}
-use Rattle.translated_file.proofs.LengthLaws.{whole_length, whole_small}
 use Rattle.translated_file.proofs.FallLaws.{none_falls, rises}
-use Rattle.translated_file.proofs.PartsLaws.{bind_ok, passed, passed_at, done, IsHeader, header_ok, header_pass, parts_ok, parts_pass}
+use Rattle.translated_file.proofs.PartsLaws.{IsHeader, header_ok, header_pass, parts_ok, parts_pass}
 
 -- ---- what is written, read again
 

@@ -2,17 +2,17 @@
 use Rattle.std.proofs.Common.{◌≡◌, ◌≢◌, ℕ, zero, suc, ◌+◌, ◌*◌, ◌/◌, ◌<◌, ◌≤◌, true, false, cond, List, [], ◌∷◌, ◌++◌, Option, Some, None, Result, Ok, Err, length, get_or, drop, refl, sym, ap, ◌∙◌, arith, add-one}
 use Rattle.std.specs.Prelude.{◌==◌}
 use Rattle.std.specs.List.{flat_map}
+use Rattle.std.specs.Option.{option_or}
 use Rattle.std.specs.Result.{result_and}
 use Rattle.std.proofs.Math.Seq.{drop-cons}
 use Rattle.std.proofs.lemmas.Bool.{eq-eqb, ne_eqb}
 use Rattle.std.proofs.lemmas.List.{drop_all, drop-drop, length-append}
 use Rattle.address_map.specs.Pairs.{Pair}
-use Rattle.image_file.specs.Rows.{or_else}
 use Rattle.image_file.specs.Reading.{word, table_in}
+use Rattle.image_file.specs.Steps.{refuse_at}
 use Rattle.image_file.proofs.FieldLaws.{length-table}
 use Rattle.translated_file.specs.declared.refusal.TranslatedRefusal.{TranslatedRefusal}
 use Rattle.translated_file.specs.Spelling.{pair_words, tail_words}
-use Rattle.translated_file.specs.Steps.{refuse_at}
 use Rattle.translated_file.specs.Comparing.{whole_words, Difference, first_difference, refusal_at, length_compared, tail_compared}
 
 -- ---- the words of a tail
@@ -89,31 +89,31 @@ drop_nil : (n : ℕ) → drop {A = ℕ} n [] ≡ []
 drop_nil zero = refl
 drop_nil (suc n) = refl
 
-split : (place : ℕ) (a b found : List ℕ) → first_difference place (a ++ b) found ≡ or_else (first_difference place a found) (first_difference (place + length a) b (drop (length a) found))
+split : (place : ℕ) (a b found : List ℕ) → first_difference place (a ++ b) found ≡ option_or (first_difference place a found) (first_difference (place + length a) b (drop (length a) found))
 split place [] b found = let same : place ≡ place + 0 = omega arith in ap (λ n. first_difference n b found) same
 split place (w ∷ ws) b [] = sym (ap (first_difference (place + length (w ∷ ws)) b) (drop_nil (length (w ∷ ws))) ∙ nothing_found (place + length (w ∷ ws)) b)
 split place (w ∷ ws) b (x ∷ xs) =
     let next : place + 1 + length ws ≡ place + suc (length ws) = omega arith in
-    elim (x == w) as (λ c. cond c (first_difference (place + 1) (ws ++ b) xs) (Some (place, x, w)) ≡ or_else (cond c (first_difference (place + 1) ws xs) (Some (place, x, w))) (first_difference (place + suc (length ws)) b (drop (length ws) xs))) [
-      | true ↦ split (place + 1) ws b xs ∙ ap (λ n. or_else (first_difference (place + 1) ws xs) (first_difference n b (drop (length ws) xs))) next
+    elim (x == w) as (λ c. cond c (first_difference (place + 1) (ws ++ b) xs) (Some (place, x, w)) ≡ option_or (cond c (first_difference (place + 1) ws xs) (Some (place, x, w))) (first_difference (place + suc (length ws)) b (drop (length ws) xs))) [
+      | true ↦ split (place + 1) ws b xs ∙ ap (λ n. option_or (first_difference (place + 1) ws xs) (first_difference n b (drop (length ws) xs))) next
       | false ↦ refl
     ]
 
-pub two_lists : (place : ℕ) (a b tail : List ℕ) → from_place place (a ++ b) tail ≡ or_else (from_place place a tail) (from_place (place + length a) b tail)
+pub two_lists : (place : ℕ) (a b tail : List ℕ) → from_place place (a ++ b) tail ≡ option_or (from_place place a tail) (from_place (place + length a) b tail)
 two_lists place a b tail =
     split place a b (drop place (whole_words tail))
-    ∙ ap (λ rest. or_else (from_place place a tail) (first_difference (place + length a) b rest)) (drop-drop (length a) place (whole_words tail))
+    ∙ ap (λ rest. option_or (from_place place a tail) (first_difference (place + length a) b rest)) (drop-drop (length a) place (whole_words tail))
 
 -- ---- one check behind another
 
 abbrev pub refused : Option Difference → Result (Unit {0}) TranslatedRefusal
 refused d = refuse_at d refusal_at
 
-goes_on : (a b : Option Difference) (u : Unit {0}) → Ok u ≡ refused a → refused (or_else a b) ≡ refused b
+goes_on : (a b : Option Difference) (u : Unit {0}) → Ok u ≡ refused a → refused (option_or a b) ≡ refused b
 goes_on None b u passes = refl
 goes_on (Some d) b u passes = absurd cc
 
-stops : (a b : Option Difference) (e : TranslatedRefusal) → Err e ≡ refused a → Err e ≡ refused (or_else a b)
+stops : (a b : Option Difference) (e : TranslatedRefusal) → Err e ≡ refused a → Err e ≡ refused (option_or a b)
 stops None b e refuses = absurd cc
 stops (Some d) b e refuses = refuses
 
@@ -130,15 +130,15 @@ abbrev pub from_pair : ℕ → ℕ → List Pair → List ℕ → Option Differe
 from_pair place number pairs tail = from_place (place + 2 * number) (flat_map pair_words (drop number pairs)) tail
 
 at_pair : (place number : ℕ) (pairs : List Pair) (tail : List ℕ) → number < length pairs
-    → from_pair place number pairs tail ≡ or_else (from_place (place + 2 * number) (pair_words (pair_at pairs number)) tail) (from_pair place (number + 1) pairs tail)
+    → from_pair place number pairs tail ≡ option_or (from_place (place + 2 * number) (pair_words (pair_at pairs number)) tail) (from_pair place (number + 1) pairs tail)
 at_pair place number pairs tail within =
     let p = pair_at pairs number in
     let next : place + 2 * number + 2 ≡ place + 2 * (number + 1) = omega arith in
     ap (λ ws. from_place (place + 2 * number) ws tail) (pair_here pairs number within)
     ∙ two_lists (place + 2 * number) (pair_words p) (flat_map pair_words (drop (number + 1) pairs)) tail
-    ∙ ap (λ n. or_else (from_place (place + 2 * number) (pair_words p) tail) (from_place n (flat_map pair_words (drop (number + 1) pairs)) tail)) next
+    ∙ ap (λ n. option_or (from_place (place + 2 * number) (pair_words p) tail) (from_place n (flat_map pair_words (drop (number + 1) pairs)) tail)) next
 
-none_then : (a b : Option Difference) (u : Unit {0}) → Ok u ≡ refused a → or_else a b ≡ b
+none_then : (a b : Option Difference) (u : Unit {0}) → Ok u ≡ refused a → option_or a b ≡ b
 none_then None b u passes = refl
 none_then (Some d) b u passes = absurd cc
 
@@ -161,27 +161,27 @@ abbrev pub pairs_part : List ℕ → List Pair → List ℕ → Option Differenc
 pairs_part words pairs tail = from_place (1 + length words + 1) (flat_map pair_words pairs) tail
 
 four_parts : (words : List ℕ) (pairs : List Pair) (tail : List ℕ)
-    → first_difference 0 (tail_words words pairs) (whole_words tail) ≡ or_else (count_part words tail) (or_else (words_part words tail) (or_else (pair_count_part words pairs tail) (pairs_part words pairs tail)))
+    → first_difference 0 (tail_words words pairs) (whole_words tail) ≡ option_or (count_part words tail) (option_or (words_part words tail) (option_or (pair_count_part words pairs tail) (pairs_part words pairs tail)))
 four_parts words pairs tail =
     let m = length pairs in
     let flat = flat_map pair_words pairs in
     two_lists 0 (length words ∷ []) (words ++ m ∷ flat) tail
-    ∙ ap (or_else (count_part words tail)) (two_lists 1 words (m ∷ flat) tail ∙ ap (or_else (words_part words tail)) (two_lists (1 + length words) (m ∷ []) flat tail))
+    ∙ ap (option_or (count_part words tail)) (two_lists 1 words (m ∷ flat) tail ∙ ap (option_or (words_part words tail)) (two_lists (1 + length words) (m ∷ []) flat tail))
 
 -- the difference of whole tails
 abbrev pub whole_part : List ℕ → List Pair → List ℕ → Option Difference
 whole_part words pairs tail = first_difference 0 (tail_words words pairs) (whole_words tail)
 
 behind_count : (words : List ℕ) (pairs : List Pair) (tail : List ℕ) (u : Unit {0}) → Ok u ≡ refused (count_part words tail)
-    → refused (or_else (words_part words tail) (or_else (pair_count_part words pairs tail) (pairs_part words pairs tail))) ≡ refused (whole_part words pairs tail)
+    → refused (option_or (words_part words tail) (option_or (pair_count_part words pairs tail) (pairs_part words pairs tail))) ≡ refused (whole_part words pairs tail)
 behind_count words pairs tail u a = sym (ap refused (four_parts words pairs tail) ∙ goes_on (count_part words tail) _ u a)
 
 behind_words : (words : List ℕ) (pairs : List Pair) (tail : List ℕ) (u v : Unit {0}) → Ok u ≡ refused (count_part words tail) → Ok v ≡ refused (words_part words tail)
-    → refused (or_else (pair_count_part words pairs tail) (pairs_part words pairs tail)) ≡ refused (whole_part words pairs tail)
+    → refused (option_or (pair_count_part words pairs tail) (pairs_part words pairs tail)) ≡ refused (whole_part words pairs tail)
 behind_words words pairs tail u v a b = sym (goes_on (words_part words tail) _ v b) ∙ behind_count words pairs tail u a
 
 pub second_refuses : (words : List ℕ) (pairs : List Pair) (tail : List ℕ) (u : Unit {0}) (e : TranslatedRefusal) → Ok u ≡ refused (count_part words tail) → Err e ≡ refused (words_part words tail) → Err e ≡ refused (whole_part words pairs tail)
-second_refuses words pairs tail u e a b = stops (words_part words tail) (or_else (pair_count_part words pairs tail) (pairs_part words pairs tail)) e b ∙ behind_count words pairs tail u a
+second_refuses words pairs tail u e a b = stops (words_part words tail) (option_or (pair_count_part words pairs tail) (pairs_part words pairs tail)) e b ∙ behind_count words pairs tail u a
 
 pub third_refuses : (words : List ℕ) (pairs : List Pair) (tail : List ℕ) (u v : Unit {0}) (e : TranslatedRefusal) → Ok u ≡ refused (count_part words tail) → Ok v ≡ refused (words_part words tail) → Err e ≡ refused (pair_count_part words pairs tail)
     → Err e ≡ refused (whole_part words pairs tail)

@@ -1,4 +1,3 @@
-pub mod LengthLaws
 pub mod FallLaws
 pub mod Differences
 pub mod PartsLaws

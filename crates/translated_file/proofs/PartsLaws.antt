@@ -1,39 +1,20 @@
 -- What reading answers, step by step.
-use Rattle.std.proofs.Common.{◌≡◌, ℕ, ◌-◌, ◌≤◌, Bool, true, false, not, List, length, take, drop, refl, sym, ap, subst, ◌∙◌, arith, Option, Some, None, Result, Ok, Err, nat_lt}
+use Rattle.std.proofs.Common.{◌≡◌, ℕ, ◌-◌, ◌≤◌, true, false, not, List, length, take, drop, refl, sym, ap, subst, ◌∙◌, arith, None, Result, Ok, Err, nat_lt}
 use Rattle.std.specs.Prelude.{◌==◌}
-use Rattle.std.proofs.lemmas.Bool.{ltb-false, eqb-true, le-ltb}
+use Rattle.std.proofs.lemmas.Bool.{eqb-true, le-ltb, ltb-false, not-false}
 use Rattle.std.proofs.lemmas.List.{length-drop, take_all}
 use Rattle.image_file.specs.Values.{ImageValue}
 use Rattle.image_file.specs.Reading.{word, table_in, image_of}
+use Rattle.image_file.specs.Steps.{refuse_if, refuse_at}
 use Rattle.image_file.specs.declared.refusal.ImageRefusal.{ImageRefusal}
-use Rattle.image_file.proofs.ListLaws.{was_true}
+use Rattle.image_file.proofs.StepLaws.{bind_ok, passed, passed_at, done, ok_is}
 use Rattle.translated_file.specs.declared.header.Header.{Header}
 use Rattle.translated_file.specs.declared.limits.TheConstants.{MAGIC, HEADER, MOST_HINTS}
 use Rattle.translated_file.specs.declared.refusal.TranslatedRefusal.{TranslatedRefusal}
 use Rattle.translated_file.specs.declared.refusal.TranslatedRefusal.TheVariants.{Truncated, BadMagic, BadVersion, Inner, NotTheTranslation, Trailing, BadHint, WantOfMemory}
 use Rattle.translated_file.specs.Limits.{is_version}
 use Rattle.translated_file.specs.Values.{PartsValue}
-use Rattle.translated_file.specs.Steps.{◌>>=◌, Gives, refuse_if, refuse_at}
-use Rattle.translated_file.specs.Reading.{hints_at, tail_at, header_in, header_of, image_bytes_in, hints_in, of_image, first_fall, parts_in, parts_of}
-
--- a step that didn't refuse
-pub bind_ok : {A B : Type 0} (r : Result A TranslatedRefusal) (f : A → Result B TranslatedRefusal) (y : B) → (r >>= f) ≡ Ok y → (x : A) × (r ≡ Ok x) × (f x ≡ Ok y)
-bind_ok (Ok x) f y e = (x, refl, e)
-bind_ok (Err d) f y e = absurd cc
-
-pub passed : (b : Bool) (d : TranslatedRefusal) (x : Unit {0}) → refuse_if b d ≡ Ok x → b ≡ false
-passed true d x e = absurd cc
-passed false d x e = refl
-
-pub passed_at : {X : Type 0} (o : Option X) (d : X → TranslatedRefusal) (x : Unit {0}) → refuse_at o d ≡ Ok x → o ≡ None
-passed_at None d x e = refl
-passed_at (Some y) d x e = absurd cc
-
-abbrev pub done : {A : Type 0} → A → Result A TranslatedRefusal
-done x = Ok x
-
-ok_is : {A : Type 0} (x y : A) → done x ≡ done y → x ≡ y
-ok_is x y e = cc
+use Rattle.translated_file.specs.Reading.{Gives, hints_at, tail_at, header_in, header_of, image_bytes_in, hints_in, of_image, first_fall, parts_in, parts_of}
 
 image_passed : (r : Result ImageValue ImageRefusal) (image : ImageValue) → of_image r ≡ Ok image → r ≡ Ok image
 image_passed (Ok x) image e = let same : x ≡ image = ok_is x image e in ap (λ (i : ImageValue). Ok i) same
@@ -58,8 +39,8 @@ header_ok bytes header e =
     let f = bind_ok (refuse_if (nat_lt (length bytes) (tail_at (header_in bytes))) (Truncated (length bytes))) _ header d.2 in
     let is : header_in bytes ≡ header = ok_is _ _ f.2 in
     record {
-      magic = eqb-true _ _ (was_true _ (passed _ _ b.0 b.1));
-      version = subst (λ (h : Header). is_version h.version ≡ true) is (was_true _ (passed _ _ c.0 c.1));
+      magic = eqb-true _ _ (not-false _ (passed _ _ b.0 b.1));
+      version = subst (λ (h : Header). is_version h.version ≡ true) is (not-false _ (passed _ _ c.0 c.1));
       few = subst (λ (h : Header). h.hints ≤ MOST_HINTS) is (ltb-false _ _ (passed _ _ d.0 d.1));
       tail = subst (λ (h : Header). tail_at h ≤ length bytes) is (ltb-false _ _ (passed _ _ f.0 f.1));
       is = is;

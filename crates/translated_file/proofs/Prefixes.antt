@@ -1,13 +1,15 @@
 -- A file that is cut: what stands in front of the cut, and the refusal.
 use Rattle.std.proofs.Common.{◌≡◌, ℕ, zero, suc, ◌+◌, ◌-◌, ◌*◌, ◌/◌, ◌<◌, ◌≤◌, true, false, cond, List, [], ◌∷◌, length, take, drop, refl, ap, ◌∙◌, arith, inl, inr, Some, None, Ok, Err, nat_lt}
 use Rattle.std.specs.Prelude.{◌==◌}
-use Rattle.std.specs.Int.{w32, from_le_bytes}
 use Rattle.std.proofs.lemmas.Bool.{cases_lt, lt-ltb, le-ltb}
-use Rattle.std.proofs.lemmas.List.{length-take, length-drop, take-take, drop-take}
+use Rattle.std.proofs.lemmas.List.{length-take, length-drop, take-take}
 use Rattle.address_map.specs.Pairs.{Pair}
 use Rattle.image_file.specs.Spelling as Image
 use Rattle.image_file.specs.Reading.{word, table_in, image_of}
 use Rattle.image_file.proofs.FieldLaws.{length-table}
+use Rattle.image_file.proofs.LengthLaws.{read_length}
+use Rattle.image_file.proofs.Prefixes.{cut, word_front, front_at, table_front, table_at, cut_length}
+use Rattle.image_file.proofs.StepLaws.{bind_ok}
 use Rattle.translated_file.specs.declared.header.Header.{Header}
 use Rattle.translated_file.specs.declared.limits.TheConstants.{MAGIC, HEADER, MOST_HINTS}
 use Rattle.translated_file.specs.declared.refusal.TranslatedRefusal.{TranslatedRefusal}
@@ -18,37 +20,16 @@ use Rattle.translated_file.specs.Spelling.{tail_words}
 use Rattle.translated_file.specs.Reading.{hints_at, tail_at, header_in, header_of, image_bytes_in, hints_in, first_fall, parts_in, parts_of}
 use Rattle.translated_file.specs.Comparing.{whole_words, first_difference, tail_compared, tail_place, compared, accepted}
 use Rattle.translated_file.specs.Laws.{PrefixesAreRefused}
-use Rattle.translated_file.proofs.LengthLaws.{read_length}
-use Rattle.translated_file.proofs.PartsLaws.{bind_ok, header_ok, header_pass, IsRead, parts_ok, parts_pass}
+use Rattle.translated_file.proofs.PartsLaws.{header_ok, header_pass, IsRead, parts_ok, parts_pass}
 use Rattle.translated_file.proofs.BothWays.{Agrees, tail_ok}
 
 -- ---- what stands in front of the cut
 
-cut : (at kept : ℕ) (bytes : List ℕ) → at ≤ kept → drop at (take kept bytes) ≡ take (kept - at) (drop at bytes)
-cut at kept bytes before = let whole : kept ≡ at + (kept - at) = omega arith in ap (λ n. drop at (take n bytes)) whole ∙ drop-take at (kept - at) bytes
-
-word_front : (kept : ℕ) (bytes : List ℕ) → 4 ≤ kept → word (take kept bytes) ≡ word bytes
-word_front kept bytes wide = ap (from_le_bytes w32) (take-take 4 kept bytes wide)
-
-word_at : (at kept : ℕ) (bytes : List ℕ) → at + 4 ≤ kept → word (drop at (take kept bytes)) ≡ word (drop at bytes)
-word_at at kept bytes wide = ap word (cut at kept bytes (omega arith)) ∙ word_front (kept - at) (drop at bytes) (omega arith)
-
-words_front : (count kept : ℕ) (bytes : List ℕ) → 4 * count ≤ kept → table_in 4 word count (take kept bytes) ≡ table_in 4 word count bytes
-words_front zero kept bytes wide = refl
-words_front (suc count) kept bytes wide =
-    let more : 4 * suc count ≡ 4 + 4 * count = omega arith in
-    let rest : table_in 4 word count (drop 4 (take kept bytes)) ≡ table_in 4 word count (drop 4 bytes) =
-    ap (table_in 4 word count) (cut 4 kept bytes (omega (arith, more))) ∙ words_front count (kept - 4) (drop 4 bytes) (omega (arith, more)) in
-    λ i. word_front kept bytes (omega (arith, more)) i ∷ rest i
-
-cut_length : (kept : ℕ) (bytes : List ℕ) → kept < length bytes → length (take kept bytes) ≡ kept
-cut_length kept bytes short = omega (arith, length-take kept bytes)
-
 header_kept : (bytes : List ℕ) (header : Header) (kept : ℕ) → header_in bytes ≡ header → 16 ≤ kept → header_in (take kept bytes) ≡ header
 header_kept bytes header kept is long = (λ i. record {
-  version = word_at 4 kept bytes (omega arith) i;
-  image_bytes = word_at 8 kept bytes (omega arith) i;
-  hints = word_at 12 kept bytes (omega arith) i;
+  version = front_at 4 word word_front 4 kept bytes (omega arith) i;
+  image_bytes = front_at 4 word word_front 8 kept bytes (omega arith) i;
+  hints = front_at 4 word word_front 12 kept bytes (omega arith) i;
 }) ∙ is
 
 -- ---- cut in front of the tail
@@ -95,7 +76,7 @@ words_cut : (kept : ℕ) (tail : List ℕ) → kept < length tail → whole_word
 words_cut kept tail short =
     let long = cut_length kept tail short in
     ap (λ n. table_in 4 word (n / 4) (take kept tail)) long
-    ∙ words_front (kept / 4) kept tail (omega arith)
+    ∙ table_front 4 word word_front (kept / 4) kept tail (omega arith)
     ∙ table_take (kept / 4) (length tail / 4) tail (omega (arith, short))
 
 tail_cut : (at kept : ℕ) (tail wanted : List ℕ) → Agrees tail wanted → kept < length tail → tail_compared at (take kept tail) wanted ≡ Err (Truncated (at + kept))
@@ -114,7 +95,7 @@ parts_kept bytes parts kept read short long =
     let length_is = cut_length kept bytes short in
     let headed = header_pass (take kept bytes) header (word_front kept bytes (omega arith) ∙ is.magic) is.version is.few (omega (arith, length_is)) (header_kept bytes header kept is.is (omega arith)) in
     let image : image_bytes_in header (take kept bytes) ≡ image_bytes_in header bytes = ap (take header.image_bytes) (cut 16 kept bytes (omega arith)) ∙ take-take header.image_bytes (kept - 16) (drop 16 bytes) (omega arith) in
-    let hints : hints_in header (take kept bytes) ≡ hints_in header bytes = ap (table_in 4 word header.hints) (cut (hints_at header) kept bytes (omega arith)) ∙ words_front header.hints (kept - hints_at header) (drop (hints_at header) bytes) (omega arith) in
+    let hints : hints_in header (take kept bytes) ≡ hints_in header bytes = table_at 4 word word_front (hints_at header) header.hints kept bytes (omega arith) in
     parts_pass (take kept bytes) header read.image headed (ap image_of image ∙ read.read) (ap first_fall hints ∙ read.rising)
 
 -- the tail stands where the header says

@@ -1,7 +1,5 @@
 -- What was written is the spelling, and its numbers are longwords.
-use Rattle.std.proofs.Common.{◌≡◌, ℕ, suc, ◌+◌, ◌^◌, ◌<◌, List, [], ◌∷◌, ◌++◌, length, get_or, take, refl, sym, ap, subst, ◌∙◌, arith, Result, Ok, Err}
-use Rattle.std.specs.Prelude.{IfOk, OnOk}
-use Rattle.std.specs.Global.{Vec}
+use Rattle.std.proofs.Common.{◌≡◌, ℕ, ◌+◌, ◌^◌, ◌<◌, List, [], ◌∷◌, ◌++◌, length, take, refl, sym, ap, subst, ◌∙◌, arith, Ok}
 use Rattle.std.specs.List.{flat_map, AllByRecursion}
 use Rattle.std.proofs.lemmas.List.{take_more}
 use Rattle.std.proofs.lemmas.List.Concat.{flat_map-append}
@@ -9,17 +7,13 @@ use Rattle.address_map.specs.Pairs.{Pair}
 use Rattle.image_file.specs.Values.{ImageValue}
 use Rattle.image_file.specs.Spelling as Image
 use Rattle.image_file.specs.Whole.{IsWhole}
+use Rattle.image_file.proofs.LengthLaws.{whole_length, whole_small}
 use Rattle.translated_file.specs.Spelling.{word_bytes, header_bytes, front_bytes, pair_words, tail_words, written_parts, spelling}
 use Rattle.translated_file.specs.Reading.{parts_of}
 use Rattle.translated_file.specs.Comparing.{tail_place, accepted}
 use Rattle.translated_file.specs.Whole.{IsLong, AreHints}
-use Rattle.translated_file.proofs.LengthLaws.{whole_length, whole_small}
 use Rattle.translated_file.proofs.Differences.{pair_at}
 use Rattle.translated_file.proofs.BothWays.{read_again, tail_agrees, all_append}
-
-pub all_long : (numbers : List ℕ) → ((k : ℕ) → get_or numbers k 0 < 2 ^ 32) → AllByRecursion IsLong numbers
-all_long [] each = tt
-all_long (n ∷ ns) each = (each 0, all_long ns (λ k. each (suc k)))
 
 pub pair_fits : (pairs : List Pair) (k : ℕ) → k < length pairs → AllByRecursion IsLong (flat_map pair_words (take k pairs)) → AllByRecursion IsLong (pair_words (pair_at pairs k)) → AllByRecursion IsLong (flat_map pair_words (take (k + 1) pairs))
 pair_fits pairs k within before here =
@@ -29,22 +23,15 @@ pair_fits pairs k within before here =
 pub image_small : (image : ImageValue) (bytes : List ℕ) → IsWhole image → bytes ≡ Image.spelling image → length bytes < 2 ^ 32
 image_small image bytes whole is = omega (arith, ap length is, whole_length image whole, whole_small image whole)
 
-abbrev pub raw : ℕ → List ℕ → List ℕ → List ℕ → List Pair → List ℕ
+abbrev raw : ℕ → List ℕ → List ℕ → List ℕ → List Pair → List ℕ
 raw version image hints words pairs = header_bytes version (length image) (length hints) ++ image ++ word_bytes hints ++ word_bytes (tail_words words pairs)
 
 pub raw_is : (version : ℕ) (image : ImageValue) (bytes hints words : List ℕ) (pairs found : List Pair) → bytes ≡ Image.spelling image → found ≡ pairs → raw version bytes hints words found ≡ spelling version image hints words pairs
 unfolding front_bytes
 raw_is version image bytes hints words pairs found is same = λ i. raw version (is i) hints words (same i)
 
-pub written_reads : (E : Type 0) (r : Result (Vec ℕ) E) (image : ImageValue) (hints words : List ℕ) (pairs : List Pair) → IsWhole image → AreHints hints → IfOk r (λ v. v.items ≡ spelling 1 image hints words pairs)
-    → IfOk r (λ v. parts_of v.items ≡ Ok (written_parts 1 image hints words pairs))
-written_reads E (Ok v) image hints words pairs whole are spelled = ap parts_of spelled ∙ read_again (written_parts 1 image hints words pairs) (record { version = refl; image = whole; hints = are })
-written_reads E (Err e) image hints words pairs whole are spelled = tt
+pub written_reads : (bytes : List ℕ) (image : ImageValue) (hints words : List ℕ) (pairs : List Pair) → IsWhole image → AreHints hints → bytes ≡ spelling 1 image hints words pairs → parts_of bytes ≡ Ok (written_parts 1 image hints words pairs)
+written_reads bytes image hints words pairs whole are spelled = ap parts_of spelled ∙ read_again (written_parts 1 image hints words pairs) (record { version = refl; image = whole; hints = are })
 
-accepted_by : (bytes : List ℕ) (image : ImageValue) (hints words : List ℕ) (pairs : List Pair) → parts_of bytes ≡ Ok (written_parts 1 image hints words pairs) → AllByRecursion IsLong (tail_words words pairs) → accepted bytes words pairs ≡ Ok tt
-accepted_by bytes image hints words pairs read fit = rw read (tail_agrees (tail_place (written_parts 1 image hints words pairs)) (tail_words words pairs) fit)
-
-pub written_compares : (E : Type 0) (r : Result (Vec ℕ) E) (image : ImageValue) (hints words : List ℕ) (pairs : List Pair) → IfOk r (λ v. parts_of v.items ≡ Ok (written_parts 1 image hints words pairs)) → OnOk r (AllByRecursion IsLong (tail_words words pairs))
-    → IfOk r (λ v. accepted v.items words pairs ≡ Ok tt)
-written_compares E (Ok v) image hints words pairs read fit = accepted_by v.items image hints words pairs read fit
-written_compares E (Err e) image hints words pairs read fit = tt
+pub written_compares : (bytes : List ℕ) (image : ImageValue) (hints words : List ℕ) (pairs : List Pair) → parts_of bytes ≡ Ok (written_parts 1 image hints words pairs) → AllByRecursion IsLong (tail_words words pairs) → accepted bytes words pairs ≡ Ok tt
+written_compares bytes image hints words pairs read fit = rw read (tail_agrees (tail_place (written_parts 1 image hints words pairs)) (tail_words words pairs) fit)

@@ -4,6 +4,5 @@ pub mod Limits
 pub mod Reading
 pub mod Refusal
 pub mod Spelling
-pub mod Steps
 pub mod Values
 pub mod Whole

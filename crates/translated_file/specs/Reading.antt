@@ -1,15 +1,21 @@
 -- The parts that the bytes of a file mean, or the first reason for which they mean none.
-use Rattle.std.specs.Prelude.{ℕ, ◌+◌, ◌*◌, ◌==◌, not, List, [], ◌∷◌, length, take, drop, Option, Some, None, Result, Ok, Err, nat_lt, if◌then◌else◌}
+use Rattle.std.specs.Prelude.{◌≡◌, ℕ, ◌+◌, ◌*◌, ◌==◌, not, List, [], ◌∷◌, length, take, drop, Option, Some, None, Result, Ok, Err, nat_lt, if◌then◌else◌}
 use Rattle.image_file.specs.declared.refusal.ImageRefusal.{ImageRefusal}
 use Rattle.image_file.specs.Values.{ImageValue}
 use Rattle.image_file.specs.Reading.{word, table_in, image_of}
+use Rattle.image_file.specs.Steps.{◌>>=◌, refuse_if, refuse_at}
 use Rattle.translated_file.specs.declared.header.Header.{Header}
 use Rattle.translated_file.specs.declared.limits.TheConstants.{MAGIC, HEADER, WORD_BYTES, MOST_HINTS}
 use Rattle.translated_file.specs.declared.refusal.TranslatedRefusal.{TranslatedRefusal}
-use Rattle.translated_file.specs.declared.refusal.TranslatedRefusal.TheVariants.{Truncated, BadMagic, BadVersion, Inner, BadHint}
+use Rattle.translated_file.specs.declared.refusal.TranslatedRefusal.TheVariants.{Truncated, BadMagic, BadVersion, Inner, BadHint, WantOfMemory}
 use Rattle.translated_file.specs.Limits.{is_version}
-use Rattle.translated_file.specs.Steps.{◌>>=◌, refuse_if, refuse_at}
 use Rattle.translated_file.specs.Values.{PartsValue}
+
+-- a call's answer, seen by view, is what reading gives, unless memory ran out
+abbrev pub Gives : {X Y : Type 0} → (X → Y) → Result X TranslatedRefusal → Result Y TranslatedRefusal → Type 0
+Gives view (Ok x) read = read ≡ Ok (view x)
+Gives view (Err WantOfMemory) read = Unit {0}
+Gives view (Err e) read = read ≡ Err e
 
 -- where the hints stand, and the tail
 abbrev pub hints_at : Header → ℕ

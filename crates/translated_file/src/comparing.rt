@@ -1,17 +1,16 @@
 //! The tail of a file beside a translation.
 ghost use Rattle.std.specs.Prelude.{◌≡◌, ◌≤◌, ◌<◌, ◌+◌, ◌*◌, ◌^◌, length, drop};
 ghost use Rattle.std.specs.List.{flat_map};
+ghost use Rattle.image_file.specs.Steps.{refuse_at};
 ghost use Rattle.translated_file.specs.Spelling.{pair_words, tail_words};
-ghost use Rattle.translated_file.specs.Steps.{refuse_at};
 ghost use Rattle.translated_file.specs.Comparing.{whole_words, first_difference, refusal_at, length_compared, tail_place, compared};
 ghost use Rattle.translated_file.specs.Whole.{AreWhole};
 
-use crate::fields::word_at;
-use crate::lengths::image_length;
 use crate::limits::*;
 use crate::parts::Parts;
 use crate::refusal::TranslatedRefusal;
 use address_map::AddressMap;
+use image_file::{image_length, word_at};
 
 /// Whether the tail has these words from a place on, as far as its words go.
 fn check_words(tail: &[u8], place: usize, wanted: &[u32]) -> Result<(), TranslatedRefusal>

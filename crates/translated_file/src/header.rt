@@ -2,9 +2,9 @@
 ghost use Rattle.std.specs.Prelude.{◌≡◌, ◌≤◌, ◌<◌, ◌^◌, length, IfOk};
 ghost use Rattle.translated_file.specs.Reading.{hints_at, tail_at, header_of};
 
-use crate::fields::word_at;
 use crate::limits::*;
 use crate::refusal::TranslatedRefusal;
+use image_file::word_at;
 
 /// The version, how many bytes the image has, and how many hints there are.
 #[derive(Clone, Copy, Debug, PartialEq, Eq)]

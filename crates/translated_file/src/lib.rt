@@ -2,10 +2,8 @@
 #![tactic(auto)]
 
 mod comparing;
-mod fields;
 mod header;
 pub mod laws;
-mod lengths;
 mod limits;
 mod parts;
 mod reading;

@@ -1,18 +1,17 @@
 //! The parts of a translated file from its bytes.
 ghost use Rattle.std.specs.Prelude.{◌≡◌, ◌≤◌, ◌*◌, ◌<◌, length, IfOk, IfSome, Ok};
 ghost use Rattle.image_file.specs.Reading.{word, table_in, image_of};
+ghost use Rattle.image_file.specs.Steps.{refuse_at};
 ghost use Rattle.translated_file.specs.Values.{PartsValue};
 ghost use Rattle.translated_file.specs.Spelling.{parts_bytes};
-ghost use Rattle.translated_file.specs.Steps.{Gives, refuse_at};
-ghost use Rattle.translated_file.specs.Reading.{of_image, first_fall, parts_of};
+ghost use Rattle.translated_file.specs.Reading.{Gives, of_image, first_fall, parts_of};
 ghost use Rattle.translated_file.specs.Whole.{AreWhole};
 
-use crate::fields::word_at;
 use crate::header::header_of;
 use crate::limits::*;
 use crate::parts::Parts;
 use crate::refusal::TranslatedRefusal;
-use image_file::{Image, ImageRefusal, read_image};
+use image_file::{Image, ImageRefusal, read_image, word_at};
 use std::alloc::{AllocError, Global};
 
 fn image_of(alloc: Global, bytes: &[u8]) -> Result<Image, TranslatedRefusal>

@@ -9,19 +9,9 @@ ghost use Rattle.translated_file.specs.Whole.{IsLong, Rise};
 
 use crate::limits::*;
 use address_map::AddressMap;
-use image_file::{Image, write_image};
+use image_file::{Image, put_words, write_image};
 use std::alloc::{AllocError, Global};
 use vax_form::WantOfMemory;
-
-fn put_words(out: &mut Vec<u8>, words: &[u32]) -> Result<(), AllocError>
-    ensures bytes { OnOk result (out.new.items ≡ out.old.items ++ word_bytes words.now) }
-    ensures fit { OnOk result (AllByRecursion IsLong words.now) }
-{
-    for word in words {
-        out.extend_from_slice(&word.to_le_bytes())?;
-    }
-    Ok(())
-}
 
 fn put_pairs(out: &mut Vec<u8>, pairs: &[(u32, u32)]) -> Result<(), AllocError>
     ensures bytes { OnOk result (out.new.items ≡ out.old.items ++ word_bytes (flat_map pair_words pairs.now)) }
@@ -98,5 +88,5 @@ pub fn write_translated(
     ensures accepted { IfOk result (λ v. accepted v.items words.now map.now ≡ Ok tt) }
 {
     let bytes = write_image(alloc, image)?;
-    spelled(alloc, VERSION, &bytes, hints, words, map.pairs()).map_err(|_| WantOfMemory)
+    Ok(spelled(alloc, VERSION, &bytes, hints, words, map.pairs())?)
 }

@@ -1,6 +1,5 @@
 use Rattle.std.proofs.Common.{ap, subst, ◌∙◌, arith}
-use Rattle.translated_file.specs.Steps.{Gives}
-use Rattle.translated_file.specs.Reading.{parts_of}
+use Rattle.translated_file.specs.Reading.{Gives, parts_of}
 use Rattle.translated_file.proofs.BothWays.{is_found, read_again}
 use Rattle.translated_file.proofs.reading.read_parts.Goals as goal
 

@@ -1,10 +1,9 @@
-use Rattle.std.proofs.Common.{◌≡◌, ◌∙◌, arith, rules}
-use Rattle.std.specs.Prelude.{IfOk, OnOk}
+use Rattle.std.proofs.Common.{◌∙◌, arith}
 use Rattle.std.specs.List.{AllByRecursion}
-use Rattle.std.proofs.lemmas.Result.{IfOk-weaker}
-use Rattle.translated_file.specs.Spelling.{tail_words, spelling}
+use Rattle.image_file.proofs.WriteLaws.{all_long}
+use Rattle.translated_file.specs.Spelling.{tail_words}
 use Rattle.translated_file.specs.Whole.{IsLong, AreHints}
-use Rattle.translated_file.proofs.WriteLaws.{all_long, image_small, raw, raw_is, written_reads, written_compares}
+use Rattle.translated_file.proofs.WriteLaws.{image_small, raw_is, written_reads, written_compares}
 use Rattle.translated_file.proofs.writing.write_translated.Goals as goal
 
 pub spelled-requires-clause-image : goal.spelled-requires-clause-image
@@ -12,17 +11,15 @@ spelled-requires-clause-image c = image_small c.args.image.now c.deref.result.no
 
 pub returns-clause-spelled : goal.returns-clause-spelled
 returns-clause-spelled c =
-    let bytes : IfOk c.map_err.result (λ v. v.items ≡ raw 1 c.deref.result.now c.args.hints.now c.args.words.now c.pairs.result.now) = search rules in
-    IfOk-weaker c.map_err.result (λ v. v.items ≡ raw 1 c.deref.result.now c.args.hints.now c.args.words.now c.pairs.result.now) (λ v. v.items ≡ spelling 1 c.args.image.now c.args.hints.now c.args.words.now c.args.map.now)
-    (λ v is. is ∙ raw_is 1 c.args.image.now c.deref.result.now c.args.hints.now c.args.words.now c.args.map.now c.pairs.result.now (c.deref.ensures.value ∙ c.in_ok-bytes.ensures.spelled) c.pairs.ensures.pairs) bytes
+    c.in_ok-spelled.ensures.bytes
+    ∙ raw_is 1 c.args.image.now c.deref.result.now c.args.hints.now c.args.words.now c.args.map.now c.pairs.result.now (c.deref.ensures.value ∙ c.in_ok-bytes.ensures.spelled) c.pairs.ensures.pairs
 
 pub returns-clause-read_again : goal.returns-clause-read_again
 returns-clause-read_again c =
     let hints : AreHints c.args.hints.now = record { few = c.requires.few; fit = all_long c.args.hints.now (λ k. omega (arith, c.type_inv.hints k)); rise = c.requires.rise } in
-    written_reads _ c.map_err.result c.args.image.now c.args.hints.now c.args.words.now c.args.map.now c.requires.image hints (returns-clause-spelled c)
+    written_reads c.in_ok-spelled.field-0.items c.args.image.now c.args.hints.now c.args.words.now c.args.map.now c.requires.image hints (returns-clause-spelled c)
 
 pub returns-clause-accepted : goal.returns-clause-accepted
 returns-clause-accepted c =
-    let found : OnOk c.map_err.result (AllByRecursion IsLong (tail_words c.args.words.now c.pairs.result.now)) = search rules in
-    let fit : OnOk c.map_err.result (AllByRecursion IsLong (tail_words c.args.words.now c.args.map.now)) = rw (← c.pairs.ensures.pairs) found in
-    written_compares _ c.map_err.result c.args.image.now c.args.hints.now c.args.words.now c.args.map.now (returns-clause-read_again c) fit
+    let fit : AllByRecursion IsLong (tail_words c.args.words.now c.args.map.now) = rw (← c.pairs.ensures.pairs) c.in_ok-spelled.ensures.fit in
+    written_compares c.in_ok-spelled.field-0.items c.args.image.now c.args.hints.now c.args.words.now c.args.map.now (returns-clause-read_again c) fit

@@ -1,36 +1,11 @@
-//! The length of a whole image's file, from its tables.
-ghost use Rattle.std.specs.Prelude.{◌≡◌, ◌≤◌, ◌<◌, ◌^◌, length, map};
-ghost use Rattle.image_file.specs.Limits.{start_width};
+// The length of a whole image's file, from its tables.
+ghost use Rattle.std.specs.Prelude.{◌≡◌, ◌<◌, ◌^◌, length, map};
 ghost use Rattle.image_file.specs.Rows.{stored_bytes};
 ghost use Rattle.image_file.specs.Spelling.{row_of, spelling};
 ghost use Rattle.image_file.specs.Whole.{IsWhole};
 
-use image_file::{Image, Section};
-
-/// The bytes of an image's header, and of a row of each of its tables.
-const IMAGE_HEADER: usize = 12;
-
-const VERSION_1: u16 = 1;
-
-const START_BYTES_1: usize = 8;
-
-const START_BYTES_2: usize = 64;
-
-const SECTION_BYTES: usize = 16;
-
-const ENTRY_BYTES: usize = 4;
-
-/// The bytes of a thread in an image of that version.
-fn start_width(version: u16) -> usize
-    ensures value { result ≡ start_width version }
-    ensures bound { result ≤ 64 }
-{
-    if version == VERSION_1 {
-        START_BYTES_1
-    } else {
-        START_BYTES_2
-    }
-}
+use crate::image::{Image, Section};
+use crate::limits::*;
 
 /// How many bytes of the sections are stored.
 fn stored_bytes(sections: &[Section]) -> usize
@@ -50,9 +25,9 @@ pub fn image_length(image: &Image) -> usize
     ensures value { result ≡ length (spelling image.now) }
     ensures bound { result < 2 ^ 32 }
 {
-    IMAGE_HEADER
+    HEADER
         + start_width(image.version) * image.threads.len()
-        + SECTION_BYTES * image.sections.len()
+        + ROW_BYTES * image.sections.len()
         + ENTRY_BYTES * image.entries.len()
         + stored_bytes(&image.sections)
 }

@@ -1,6 +1,6 @@
 use Rattle.std.proofs.Common.{arith}
-use Rattle.translated_file.proofs.WriteLaws.{all_long}
-use Rattle.translated_file.proofs.writing.put_words.Goals as goal
+use Rattle.image_file.proofs.WriteLaws.{all_long}
+use Rattle.image_file.proofs.writing.put_words.Goals as goal
 
 pub returns-clause-fit : goal.returns-clause-fit
 returns-clause-fit c = all_long c.args.words.now (λ k. omega (arith, c.type_inv.words k))

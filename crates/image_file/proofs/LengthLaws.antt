@@ -1,9 +1,8 @@
 -- The length of an image's file, by its tables.
-use Rattle.std.proofs.Common.{◌≡◌, ℕ, zero, suc, ◌+◌, ◌*◌, ◌^◌, ◌<◌, ◌≤◌, Bool, true, false, cond, ◌&&◌, List, [], ◌∷◌, ◌++◌, length, drop, refl, sym, ap, ◌∙◌, arith, map, replicate, Ok, nat_lt, nat_le}
-use Rattle.std.specs.Prelude.{◌==◌, ◌%◌}
+use Rattle.std.proofs.Common.{◌≡◌, ℕ, zero, suc, ◌+◌, ◌*◌, ◌^◌, ◌<◌, ◌≤◌, Bool, true, false, cond, List, [], ◌∷◌, ◌++◌, length, drop, refl, sym, ap, ◌∙◌, arith, map, replicate, Ok}
+use Rattle.std.specs.Prelude.{◌==◌}
 use Rattle.std.specs.List.{flat_map, AllByRecursion}
 use Rattle.std.specs.Int.{w32, to_le_bytes}
-use Rattle.std.proofs.lemmas.Bool.{leb-true}
 use Rattle.std.proofs.lemmas.List.{length-append, length-drop, length-map}
 use Rattle.image_file.specs.declared.image.Start.{Start}
 use Rattle.image_file.specs.declared.rows.Row.{Row}
@@ -13,7 +12,8 @@ use Rattle.image_file.specs.Rows.{is_sound, page_bytes, total_bytes, stored_byte
 use Rattle.image_file.specs.Spelling.{first_bytes, start_bytes, row_bytes, row_of, header_bytes, spelling}
 use Rattle.image_file.specs.Whole.{IsStart, IsWhole}
 use Rattle.image_file.specs.Reading.{word, table_in, first_in, start_in, row_in, tables_end, rows_at, rows_in, image_in, image_of}
-use Rattle.image_file.proofs.ListLaws.{both_true, each_passes}
+use Rattle.image_file.proofs.ListLaws.{each_passes}
+use Rattle.image_file.proofs.RowLaws.{sound_row}
 use Rattle.image_file.proofs.FieldLaws.{length-table, length-written}
 use Rattle.image_file.proofs.StartLaws.{start_long}
 use Rattle.image_file.proofs.ReadLaws.{image_ok, rows_again}
@@ -24,7 +24,7 @@ any : {X : Type 0} (xs : List X) → AllByRecursion (λ x. Unit {0}) xs
 any [] = tt
 any (x ∷ xs) = (tt, any xs)
 
-abbrev stored_of : SectionValue → List ℕ
+abbrev pub stored_of : SectionValue → List ℕ
 stored_of s = s.stored
 
 stored_length : (ss : List SectionValue) → length (flat_map stored_of ss) ≡ stored_bytes (map row_of ss)
@@ -66,14 +66,7 @@ pub whole_length : (image : ImageValue) → IsWhole image → length (spelling i
 whole_length image whole = spelled_length image (whole_starts image.version image.threads whole.room.starts_fit)
 
 stored_within : (r : Row) → is_sound r ≡ true → r.stored ≤ page_bytes r.size
-stored_within r sound =
-    let end_test : Bool = nat_le (r.start + r.size) 2147483648 in
-    let front : Bool = (r.start % 512 == 0) && nat_lt 0 r.size in
-    let a = both_true (front && nat_le r.stored r.size && end_test) (nat_le r.flags 1) sound in
-    let b = both_true (front && nat_le r.stored r.size) end_test a.0 in
-    let c = both_true front (nat_le r.stored r.size) b.0 in
-    let stored : r.stored ≤ r.size = leb-true _ _ c.1 in
-    omega (arith, stored)
+stored_within r sound = let is = sound_row r sound in omega (arith, is.stored)
 
 stored_small : (rows : List Row) → AllByRecursion (λ r. is_sound r ≡ true) rows → stored_bytes rows ≤ total_bytes rows
 stored_small [] all = omega arith

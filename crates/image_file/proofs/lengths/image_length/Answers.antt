@@ -3,8 +3,8 @@ use Rattle.image_file.specs.Limits.{start_width}
 use Rattle.image_file.specs.Rows.{stored_bytes}
 use Rattle.image_file.specs.Spelling.{row_of}
 use Rattle.image_file.specs.Values.{ImageValue}
-use Rattle.translated_file.proofs.LengthLaws.{table_sum, whole_length, whole_small, whole_stored}
-use Rattle.translated_file.proofs.lengths.image_length.Goals as goal
+use Rattle.image_file.proofs.LengthLaws.{table_sum, whole_length, whole_small, whole_stored}
+use Rattle.image_file.proofs.lengths.image_length.Goals as goal
 
 pub stored_bytes-requires : goal.stored_bytes-requires
 stored_bytes-requires c =
