@@ -1,11 +1,11 @@
 -- A memory's fields behind an entry.
-use Rattle.std.proofs.Common.{◌≡◌, ◌≢◌, ℕ, suc, ◌<◌, ◌≤◌, ◌+◌, ◌%◌, ◌^◌, Bool, true, false, if◌then◌else◌, List, [], ◌∷◌, ◌++◌, length, Option, Some, None, IfSome, Vec, slice_index_or, reverse, vec_capacity, vec_len, refl, sym, ap, ◌∙◌, subst, arith, length-append, add-one}
+use Rattle.std.proofs.Common.{◌≡◌, ℕ, suc, ◌<◌, ◌≤◌, ◌+◌, ◌%◌, ◌^◌, Bool, true, false, if◌then◌else◌, List, [], ◌∷◌, ◌++◌, length, Option, Some, None, IfSome, Vec, slice_index_or, reverse, vec_capacity, vec_len, refl, sym, ap, ◌∙◌, subst, arith, length-append, add-one}
 use Rattle.std.proofs.lemmas.List.{length-reverse}
 use Rattle.std.specs.declared.alloc.Global.{Global}
 use Rattle.vax_form.specs.declared.pages.PageRange.{PageRange}
 use Rattle.vax_form.specs.Pages.{is_allowed}
 use Rattle.memory_core.specs.declared.entry.Change.{Change}
-use Rattle.memory_core.specs.declared.entry.Change.TheVariants.{Nothing, Bytes, AddWord, SetBit, ClearBit, Byte}
+use Rattle.memory_core.specs.declared.entry.Change.TheVariants.{Byte}
 use Rattle.memory_core.specs.declared.entry.Kind.{Kind}
 use Rattle.memory_core.specs.declared.entry.Kind.TheVariants.{StoreConditional, Put, Get}
 use Rattle.memory_core.specs.declared.entry.Entry.{Entry}
@@ -16,7 +16,7 @@ use Rattle.memory_core.specs.declared.state.MemState.TheInside.{Inside}
 use Rattle.memory_core.specs.Changes.{IsInRange, Allows, is_change_of, leaves}
 use Rattle.memory_core.specs.Contents.{output_of, entry_for}
 use Rattle.memory_core.specs.Fields.{IsKept, AreCurrent, stored_at}
-use Rattle.memory_core.specs.Kinds.{is_memory, is_put, is_get, writes}
+use Rattle.memory_core.specs.Kinds.{is_memory, is_put, is_get}
 use Rattle.memory_core.specs.Order.{left_by, input_at, gets, succeeds, Fits, Meets}
 use Rattle.memory_core.specs.Places.{quad_place}
 use Rattle.memory_core.specs.Requests.{CanMake}

@@ -1,10 +1,10 @@
 -- Bytes replaced one after the other.
-use Rattle.std.proofs.Common.{◌≡◌, ◌≢◌, ℕ, ◌<◌, ◌≤◌, ◌+◌, ◌==◌, Bool, true, false, List, length, if◌then◌else◌, slice_index, slice_set, refl, sym, ap, ◌∙◌, arith}
+use Rattle.std.proofs.Common.{◌≡◌, ◌≢◌, ℕ, ◌<◌, ◌≤◌, ◌+◌, ◌==◌, List, length, if◌then◌else◌, slice_index, slice_set, ◌∙◌, arith}
 use Rattle.std.proofs.lemmas.Bool.Decides.{nat_tests}
 use Rattle.std.proofs.lemmas.Grind.{elements}
 use Rattle.std.proofs.lemmas.List.{length-set}
 use Rattle.std.specs.Int.{bit_at}
-use Rattle.memory_core.specs.Bytes.{quad_of, with_bytes}
+use Rattle.memory_core.specs.Bytes.{quad_of}
 
 abbrev pub choice : (mask : ℕ) (new old : List ℕ) → ℕ → ℕ
 choice mask new old k = if bit_at mask k == 1 then slice_index new k else slice_index old k

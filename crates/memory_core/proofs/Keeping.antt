@@ -1,5 +1,5 @@
 -- What an entry makes of what a memory keeps.
-use Rattle.std.proofs.Common.{◌≡◌, ◌≢◌, ℕ, zero, suc, ◌<◌, ◌≤◌, ◌+◌, ◌-◌, ◌*◌, ◌/◌, ◌%◌, ◌^◌, ◌==◌, ◌&&◌, Bool, true, false, if◌then◌else◌, List, [], ◌∷◌, ◌++◌, length, Option, Some, None, slice_index_or, slice_set, map, reverse, refl, sym, ap, ◌∙◌, subst, arith, add-one}
+use Rattle.std.proofs.Common.{◌≡◌, ◌≢◌, ℕ, suc, ◌<◌, ◌≤◌, ◌+◌, ◌-◌, ◌%◌, ◌^◌, ◌==◌, ◌&&◌, Bool, true, false, if◌then◌else◌, List, [], ◌∷◌, ◌++◌, length, Option, Some, None, slice_index_or, slice_set, map, reverse, refl, sym, ap, ◌∙◌, arith, add-one}
 use Rattle.std.specs.List.{filter}
 use Rattle.std.proofs.lemmas.Bool.Decides.{nat_tests}
 use Rattle.std.proofs.lemmas.Grind.{elements}
@@ -7,13 +7,13 @@ use Rattle.std.proofs.lemmas.List.{length-set, reverse-append, map-append, lengt
 use Rattle.std.proofs.lemmas.List.Elements.{filter-append}
 use Rattle.vax_form.specs.declared.pages.PageRange.{PageRange}
 use Rattle.memory_core.specs.declared.entry.Kind.{Kind}
-use Rattle.memory_core.specs.declared.entry.Kind.TheVariants.{Load, LoadLocked, Store, StoreConditional, TieRead, TieWrite, TieLocked, Put, Get}
+use Rattle.memory_core.specs.declared.entry.Kind.TheVariants.{LoadLocked, StoreConditional}
 use Rattle.memory_core.specs.declared.entry.Entry.{Entry}
 use Rattle.memory_core.specs.declared.entry.SetUp.{SetUp}
 use Rattle.memory_core.specs.declared.reservation.Reservation.{Reservation}
 use Rattle.memory_core.specs.Kinds.{is_memory, writes, is_conditional, is_put, is_get}
 use Rattle.memory_core.specs.Contents.{output_of}
-use Rattle.memory_core.specs.Order.{stands_on, left_by, block_of, reserved_by, reserved, tries, gets}
+use Rattle.memory_core.specs.Order.{left_by, block_of, reserved_by, reserved, tries, gets}
 use Rattle.memory_core.specs.Places.{quad_place}
 use Rattle.memory_core.specs.Reservations.{holds, own_next, other_next, next_reservation}
 use Rattle.memory_core.specs.Fields.{IsKept, IsAt, AreCurrent, stored_at}

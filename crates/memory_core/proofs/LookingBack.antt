@@ -1,7 +1,6 @@
 -- Looking back over the entries.
-use Rattle.std.proofs.Common.{◌≡◌, ◌≢◌, ℕ, ◌<◌, ◌/◌, ◌==◌, ◌&&◌, Bool, true, false, if◌then◌else◌, suc, List, [], ◌∷◌, ◌++◌, reverse, refl, sym, ap, ◌∙◌, subst, arith}
+use Rattle.std.proofs.Common.{◌≡◌, ℕ, ◌==◌, ◌&&◌, Bool, true, false, if◌then◌else◌, suc, List, [], ◌∷◌, ◌++◌, reverse, refl, sym, ap, ◌∙◌, subst}
 use Rattle.std.specs.Prelude.{not}
-use Rattle.std.proofs.lemmas.Bool.Decides.{nat_tests}
 use Rattle.std.proofs.lemmas.List.{reverse-append}
 use Rattle.memory_core.specs.declared.entry.Change.{Change}
 use Rattle.memory_core.specs.declared.entry.Kind.{Kind}
@@ -10,9 +9,9 @@ use Rattle.memory_core.specs.declared.entry.Entry.{Entry}
 use Rattle.memory_core.specs.declared.entry.SetUp.{SetUp}
 use Rattle.memory_core.specs.Changes.{leaves}
 use Rattle.memory_core.specs.Kinds.{is_memory, writes, is_conditional, is_get}
-use Rattle.memory_core.specs.Laws.{PairsAgree, BeginningsMeet, ReadersLeave, OpeningIsFound, first_found}
+use Rattle.memory_core.specs.Laws.{PairsAgree, BeginningsMeet, OpeningIsFound, first_found}
 use Rattle.memory_core.specs.Opening.{opening}
-use Rattle.memory_core.specs.Order.{own, stands_on, left_by, block_of, reserved_by, reserved, tries, strikes, succeeds, gets, input_at, found, Fits, Meets}
+use Rattle.memory_core.specs.Order.{own, stands_on, left_by, block_of, reserved_by, reserved, tries, strikes, gets, input_at, Fits, Meets}
 use Rattle.memory_core.proofs.Choices.{if_true, first_true, second_true, same_number, equal_number}
 
 -- what doesn't write leaves what it found

@@ -1,30 +1,17 @@
 -- The bytes that a change doesn't name stand.
-use Rattle.std.proofs.Common.{◌≡◌, ◌≢◌, ℕ, zero, suc, ◌<◌, ◌≤◌, ◌+◌, ◌-◌, ◌*◌, ◌/◌, ◌%◌, ◌^◌, ◌==◌, ◌||◌, Bool, true, false, if◌then◌else◌, List, [], ◌∷◌, slice_index, refl, sym, ap, ◌∙◌, subst, arith, lit<, ⊎_elim, bit_and, bit_or}
+use Rattle.std.proofs.Common.{◌≡◌, ℕ, zero, suc, ◌<◌, ◌≤◌, ◌+◌, ◌-◌, ◌*◌, ◌/◌, ◌%◌, ◌^◌, ◌==◌, ◌||◌, Bool, true, false, if◌then◌else◌, refl, sym, ap, ◌∙◌, arith, lit<, ⊎_elim, bit_and, bit_or}
 use Rattle.std.proofs.lemmas.Bool.{cases_lt}
 use Rattle.std.proofs.lemmas.Bool.Decides.{nat_tests}
 use Rattle.std.proofs.lemmas.Nat.{or_shr, or_mod, and_shr, and_mod, and_mask, pow-add, pow_pos, shl-shr, pow_below, mod_below}
 use Rattle.std.proofs.lemmas.Nat.Bits.{bit_at_cat_low, bit_at-zero, bit_at_above}
 use Rattle.std.proofs.Math.Nat.{div-eq_of_lt, mul-mod_left}
 use Rattle.std.specs.Int.Bits.{or_zero_r}
-use Rattle.std.specs.Int.{w64, bit_at, byte_at, from_le_bytes, to_le_bytes}
+use Rattle.std.specs.Int.{bit_at, byte_at}
+pub use Rattle.vt_words.proofs.Spreads.{below_8}
 use Rattle.memory_core.proofs.Choices.{if_false}
-use Rattle.memory_core.specs.declared.entry.Change.{Change}
 use Rattle.memory_core.specs.declared.entry.Change.TheVariants.{Nothing, Bytes, AddWord, SetBit, ClearBit, Byte}
 use Rattle.memory_core.specs.Bytes.{quad_of, with_bytes, word_at}
-use Rattle.memory_core.specs.Changes.{IsInRange, changed, touches}
 use Rattle.memory_core.specs.Laws.{OthersStay}
-
--- what holds of each number below 8
-pub below_8 : (P : ℕ → Type 0) → P 0 → P 1 → P 2 → P 3 → P 4 → P 5 → P 6 → P 7 → (k : ℕ) → k < 8 → P k
-below_8 P a b c d e f g h zero l = a
-below_8 P a b c d e f g h (suc zero) l = b
-below_8 P a b c d e f g h (suc (suc zero)) l = c
-below_8 P a b c d e f g h (suc (suc (suc zero))) l = d
-below_8 P a b c d e f g h (suc (suc (suc (suc zero)))) l = e
-below_8 P a b c d e f g h (suc (suc (suc (suc (suc zero))))) l = f
-below_8 P a b c d e f g h (suc (suc (suc (suc (suc (suc zero)))))) l = g
-below_8 P a b c d e f g h (suc (suc (suc (suc (suc (suc (suc zero))))))) l = h
-below_8 P a b c d e f g h (suc (suc (suc (suc (suc (suc (suc (suc k)))))))) l = absurd (omega arith)
 
 pub byte_at-lt : (at n : ℕ) → byte_at at n < 256
 byte_at-lt zero n = mod_below n 256 (lit< tt)
@@ -43,7 +30,7 @@ byte_at-quad_of f h at l =
     let a7 : f 7 < 256 = h 7 (lit< tt) in
     below_8 (λ at. byte_at at (quad_of f) ≡ f at) (omega arith) (omega arith) (omega arith) (omega arith) (omega arith) (omega arith) (omega arith) (omega arith) at l
 
-choice_lt : (b : Bool) (x y : ℕ) → x < 256 → y < 256 → (if b then x else y) < 256
+pub choice_lt : (b : Bool) (x y : ℕ) → x < 256 → y < 256 → (if b then x else y) < 256
 choice_lt true x y h g = h
 choice_lt false x y h g = g
 
@@ -54,7 +41,7 @@ byte_at-with_bytes mask value before at l =
     byte_at-quad_of (λ k. if bit_at mask k == 1 then byte_at k value else byte_at k before)
     (λ k _. choice_lt (bit_at mask k == 1) (byte_at k value) (byte_at k before) (byte_at-lt k value) (byte_at-lt k before)) at l
 
-not_one : (b : ℕ) (x y : ℕ) → b ≡ 0 → (if b == 1 then x else y) ≡ y
+pub not_one : (b : ℕ) (x y : ℕ) → b ≡ 0 → (if b == 1 then x else y) ≡ y
 not_one b x y h = rw h refl
 
 -- the mask of the two bytes of a word
@@ -72,7 +59,7 @@ word_mask place at t =
     (cases_lt at place)
 
 -- byte `at`, by powers of two
-byte_is : (at n : ℕ) → at < 8 → byte_at at n ≡ n / 2 ^ (8 * at) % 2 ^ 8
+pub byte_is : (at n : ℕ) → at < 8 → byte_at at n ≡ n / 2 ^ (8 * at) % 2 ^ 8
 byte_is at n l = below_8 (λ at. byte_at at n ≡ n / 2 ^ (8 * at) % 2 ^ 8) (omega arith) refl refl refl refl refl refl refl at l
 
 -- a bit in another byte

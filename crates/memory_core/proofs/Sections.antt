@@ -1,10 +1,10 @@
 -- The quadwords that an image starts with, by its sections.
-use Rattle.std.proofs.Common.{◌≡◌, ℕ, ◌<◌, ◌≤◌, ◌+◌, ◌-◌, ◌/◌, ◌%◌, ◌==◌, ◌&&◌, Bool, true, false, cond, List, [], ◌∷◌, Option, Some, None, option_map, unwrap_or, slice_index, find, map, refl, sym, ap, ◌∙◌, subst, arith}
+use Rattle.std.proofs.Common.{◌≡◌, ℕ, ◌≤◌, ◌+◌, ◌-◌, ◌/◌, ◌%◌, Bool, true, false, cond, List, [], ◌∷◌, Option, Some, None, option_map, unwrap_or, slice_index, find, map, sym, ap, ◌∙◌, subst, arith}
 use Rattle.std.proofs.lemmas.Bool.Decides.{nat_tests}
-use Rattle.std.specs.Prelude.{nat_le, nat_lt}
 use Rattle.std.specs.List.{list_all}
+use Rattle.vax_form.proofs.PageTable.{found_passes}
 use Rattle.image_file.specs.Memory.{has_address, byte_in}
-use Rattle.image_file.specs.Rows.{is_sound, has_page, page_count}
+use Rattle.image_file.specs.Rows.{is_sound, has_page}
 use Rattle.image_file.specs.Spelling.{row_of}
 use Rattle.image_file.specs.Values.{SectionValue, ImageValue}
 use Rattle.image_file.specs.Whole.{IsWhole}
@@ -41,14 +41,6 @@ found_step P y x rest here later true h = let same : y ≡ x = cc h in subst P s
 found_step P y x rest here later false h = later h
 
 -- what passes a test is found by another, and what all pass
-found_passes : {A : Type 0} (test : A → Bool) (xs : List A) (x : A) → find test xs ≡ Some x → test x ≡ true
-found_passes test [] x h = absurd (cc h)
-found_passes test (y ∷ ys) x h = passes_step (test y) refl h (found_passes test ys x)
-  where
-    passes_step : (b : Bool) → test y ≡ b → cond b (Some y) (find test ys) ≡ Some x → (find test ys ≡ Some x → test x ≡ true) → test x ≡ true
-    passes_step true t h later = let same : y ≡ x = cc h in ap test (sym same) ∙ t
-    passes_step false t h later = later h
-
 found_among : {A B : Type 0} (test : A → Bool) (form : A → B) (all : B → Bool) (xs : List A) (x : A) → list_all all (map form xs) ≡ true → find test xs ≡ Some x → all (form x) ≡ true
 found_among test form all [] x a h = absurd (cc h)
 found_among test form all (y ∷ ys) x a h =

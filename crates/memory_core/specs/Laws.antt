@@ -1,5 +1,5 @@
 -- Laws of the order of accesses. Lists of entries are newest first but where a history is named.
-use Rattle.std.specs.Prelude.{◌≡◌, ℕ, ◌<◌, Bool, true, false, List, [], ◌∷◌, ◌++◌, reverse, if◌then◌else◌}
+use Rattle.std.specs.Prelude.{◌≡◌, ℕ, ◌<◌, true, false, List, [], ◌∷◌, ◌++◌, reverse, if◌then◌else◌}
 use Rattle.std.specs.Int.{byte_at}
 use Rattle.memory_core.specs.declared.entry.Change.{Change}
 use Rattle.memory_core.specs.declared.entry.Entry.{Entry}

@@ -1,9 +1,10 @@
 -- The order of accesses. A list of entries is newest first: its tail is the past of its first entry.
 -- Alpha Architecture Reference Manual, "Load Memory Data into Integer Register Locked" and "Store Integer Register Data
 -- into Memory Conditional": a reservation covers an aligned block of 16 bytes.
-use Rattle.std.specs.Prelude.{◌≡◌, ℕ, suc, ◌+◌, ◌/◌, ◌%◌, ◌==◌, ◌&&◌, Bool, true, false, not, List, [], ◌∷◌, length, filter, slice_index_or, if◌then◌else◌}
+use Rattle.std.specs.Prelude.{◌≡◌, ℕ, suc, ◌/◌, ◌%◌, ◌==◌, ◌&&◌, Bool, true, false, not, List, [], ◌∷◌, filter, if◌then◌else◌}
+pub use Rattle.vax_form.specs.Made.{input_at}
 use Rattle.memory_core.specs.declared.entry.Kind.{Kind}
-use Rattle.memory_core.specs.declared.entry.Kind.TheVariants.{Load, LoadLocked, Store, StoreConditional, TieRead, TieWrite, TieLocked, Put, Get}
+use Rattle.memory_core.specs.declared.entry.Kind.TheVariants.{LoadLocked, StoreConditional}
 use Rattle.memory_core.specs.declared.entry.Change.{Change}
 use Rattle.memory_core.specs.declared.entry.Entry.{Entry}
 use Rattle.memory_core.specs.declared.entry.Request.{Request}
@@ -65,29 +66,27 @@ abbrev pub gets : List Entry → ℕ
 gets [] = 0
 gets (e ∷ past) = if is_get e.kind then suc (gets past) else gets past
 
--- the input byte of that number, and minus 1 as a longword behind the last
-abbrev pub input_at : List ℕ → ℕ → ℕ
-input_at input n = slice_index_or input n 0xFFFF_FFFF
-
 -- what an access finds: its quadword; the next input byte; nothing
 abbrev pub found : SetUp → List Entry → Kind → (quad : ℕ) → ℕ
 found set_up past kind quad =
     if is_memory kind then left_by set_up past quad else if is_get kind then input_at set_up.input (gets past) else 0
 
+-- the entry of a request, by what it found and whether it succeeded
+abbrev pub entry_by : Request → (before : ℕ) → (success : Bool) → Entry
+entry_by request before success = record {
+  retired = request.retired;
+  before = before;
+  after = leaves request.kind success request.change before;
+  quad = if is_memory request.kind then request.quad else 0;
+  processor = request.processor;
+  kind = request.kind;
+  success = success;
+}
+
 -- the entry of a request behind its past
 abbrev pub entry_of : SetUp → List Entry → Request → Entry
 entry_of set_up past request =
-    let before = found set_up past request.kind request.quad in
-    let success = succeeds set_up past request.processor request.kind request.quad in
-    record {
-      retired = request.retired;
-      before = before;
-      after = leaves request.kind success request.change before;
-      quad = if is_memory request.kind then request.quad else 0;
-      processor = request.processor;
-      kind = request.kind;
-      success = success;
-    }
+    entry_by request (found set_up past request.kind request.quad) (succeeds set_up past request.processor request.kind request.quad)
 
 -- an entry that the order allows behind its past: it finds what the past left, and leaves that with some change of its kind
 pub record Fits (set_up : SetUp) (past : List Entry) (e : Entry) : Type 0 where

@@ -38,15 +38,7 @@ fn opening_quad(image: &Image, address: u32) -> u64
 fn section_of(image: &Image, address: u32) -> Option<&Section>
     ensures { option_copied result ≡ find (has_address address) image.now.sections }
 {
-    image.sections.iter().find(|s| has_address(s, address))
-}
-
-fn has_address(section: &Section, address: u32) -> bool
-    ensures { result ≡ has_address address section.now }
-{
-    let page = address / 512;
-    let first = section.start / 512;
-    first <= page && page - first < section.size.div_ceil(512)
+    image.sections.iter().find(|section| section.has(address))
 }
 
 // Eight bytes of a section, 0 behind those that are stored.

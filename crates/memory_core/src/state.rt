@@ -14,7 +14,7 @@ use crate::index::PageIndex;
 use crate::page::{opening_quads, store};
 use crate::reservation::{Reservation, note, strikes};
 use image_file::Image;
-use std::alloc::{AllocError, Global};
+use std::alloc::Global;
 use std::marker::Model;
 use std::snapshot::Snapshot;
 use vax_form::WantOfMemory;
@@ -62,7 +62,21 @@ impl MemState {
         requires { IsWhole image.now }
         ensures { IfOk result (λ m. m ≡ fresh image.now input.items processors limit miss) }
     {
-        MemState::reserve(alloc, image, input, processors, limit, miss).map_err(|_| WantOfMemory)
+        let index = PageIndex::new(alloc, &image.pages)?;
+        let quads = opening_quads(alloc, image)?;
+        let reservations = vec![in alloc; Reservation::NONE; processors as usize]?;
+        Ok(MemState {
+            image: Snapshot::of(image),
+            input,
+            limit,
+            miss,
+            index,
+            quads,
+            reservations,
+            taken: 0,
+            output: Vec::with_capacity(alloc, limit as usize)?,
+            history: Vec::with_capacity(alloc, limit as usize)?,
+        })
     }
 
     /// Makes one access, or answers `Full` where the history has its limit. It takes no memory.
@@ -127,35 +141,6 @@ impl MemState {
         ensures limit { length self.history ≤ self.set_up.limit }
     {
         self.history
-    }
-
-    // All the memory that accesses use.
-    fn reserve(
-        alloc: Global,
-        image: &Image,
-        input: Vec<u8>,
-        processors: u8,
-        limit: u32,
-        miss: u16,
-    ) -> Result<MemState, AllocError>
-        requires { IsWhole image.now }
-        ensures { IfOk result (λ m. m ≡ fresh image.now input.items processors limit miss) }
-    {
-        let index = PageIndex::new(alloc, &image.pages)?;
-        let quads = opening_quads(alloc, image)?;
-        let reservations = vec![in alloc; Reservation::NONE; processors as usize]?;
-        Ok(MemState {
-            image: Snapshot::of(image),
-            input,
-            limit,
-            miss,
-            index,
-            quads,
-            reservations,
-            taken: 0,
-            output: Vec::with_capacity(alloc, limit as usize)?,
-            history: Vec::with_capacity(alloc, limit as usize)?,
-        })
     }
 
     // The quadword that has the byte at an address, now.

@@ -11,15 +11,12 @@ ghost use Rattle.prepared_code.specs.Effects.{behind};
 
 use crate::effect::{Effect, commit};
 use crate::prepared::Prepared;
-use alpha_encode::{AlphaInstr, MemoryOp};
+use alpha_encode::{AlphaInstr, MemoryOp, registers};
 use alpha_machine::Cpu;
 use alpha_meaning::{
     AlphaAccess, AlphaKind, access_of, address_of, extended, extension_of, kind_of,
 };
 use vt_words::field;
-
-/// The register that reads zero and isn't written.
-const ZERO: u8 = 31;
 
 /// A memory instruction, and the access that it asks for.
 #[derive(Clone, Copy, Debug, PartialEq, Eq)]
@@ -36,7 +33,11 @@ fn register(cpu: &Cpu, n: u8) -> u64
     requires { n < 32 }
     ensures { result ≡ regs_of cpu.now.r n }
 {
-    if n == ZERO { 0 } else { cpu.r[n as usize] }
+    if n == registers::ZERO {
+        0
+    } else {
+        cpu.r[n as usize]
+    }
 }
 
 impl Asked {
@@ -55,7 +56,7 @@ impl Asked {
                 let value = extended(extension_of(self.op), self.access.bytes, value);
                 (self.register, value)
             }
-            AlphaKind::Store => (ZERO, 0),
+            AlphaKind::Store => (registers::ZERO, 0),
             AlphaKind::StoreConditional => (self.register, u64::from(success)),
         };
         Effect {

@@ -100,22 +100,6 @@ pub fn prepare<'a>(
     requires few { length words.now ≤ most_words }
     ensures { IfOk result (λ p. p ≡ source_of words.now map.now points.now pages.now) }
 {
-    match prepared_by(alloc, words, map, points, pages) {
-        Ok(prepared) => Ok(prepared),
-        Err(_) => Err(WantOfMemory),
-    }
-}
-
-fn prepared_by<'a>(
-    alloc: Global,
-    words: &'a [u32],
-    map: &'a AddressMap,
-    points: &'a Points,
-    pages: &'a Pages,
-) -> Result<Prepared<'a>, AllocError>
-    requires few { length words.now ≤ most_words }
-    ensures { IfOk result (λ p. p ≡ source_of words.now map.now points.now pages.now) }
-{
     let pairs = map.pairs();
     Ok(Prepared {
         words,

@@ -4,13 +4,12 @@ use Rattle.std.specs.Int.{w16, to_le_bytes}
 use Rattle.std.specs.List.{list_all, AllByRecursion}
 use Rattle.std.proofs.lemmas.Bool.{le-leb, lt-ltb}
 use Rattle.std.proofs.lemmas.List.{append-nil, take_all}
-use Rattle.vax_form.specs.PageTable.{PageTable, IsPageTable}
+use Rattle.vax_form.specs.PageTable.{PageTable}
 use Rattle.vax_form.specs.declared.pages.PageRange.{PageRange}
 use Rattle.image_file.specs.Pages.{section_bytes, pages_of}
 use Rattle.image_file.specs.Rows.{is_sound, first_overlap, page_bytes, page_count}
 use Rattle.image_file.specs.Spelling.{row_of, spelling}
 use Rattle.image_file.specs.Whole.{IsStart, HasRoom, IsLaidOut, IsWhole}
-use Rattle.image_file.proofs.PageLaws.{pages_sound}
 use Rattle.report_text.specs.declared.images.Group.{Group}
 use Rattle.report_text.specs.declared.images.Group.TheVariants.{Add, ExclusiveOr, Rotate, Store}
 use Rattle.report_text.specs.Generated.{next_number, number_of_group, group_of, group_bytes, groups, front_bytes, back_bytes, generated_code, generated_start, code_section, sections_with, image_with}

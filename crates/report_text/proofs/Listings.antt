@@ -5,8 +5,7 @@ use Rattle.std.specs.Int.{to_be_bytes, w32}
 use Rattle.std.specs.List.{AllByRecursion, flat_map, list_all}
 use Rattle.std.proofs.lemmas.List.{drop-drop}
 use Rattle.std.proofs.Math.Seq.{drop-cons, take-length}
-use Rattle.std.proofs.lemmas.Bool.{le-leb, leb-true}
-use Rattle.image_file.proofs.ListLaws.{both_true}
+use Rattle.std.proofs.lemmas.Bool.{and_parts, le-leb, leb-true}
 use Rattle.hex.specs.Hex.{encode_upper, encode_with, upper_digits}
 use Rattle.address_map.specs.Pairs.{AllRise, Pair}
 use Rattle.report_text.specs.Digits.{digits_from, eight_digits}
@@ -126,7 +125,7 @@ block_pushed address first words digits text so_far whole is pushed ended =
 within_by : (words : List ℕ) (pairs : List Pair) → list_all (λ (pair : Pair). nat_le pair.1 (length words)) pairs ≡ true → AreWithin words pairs
 within_by words [] pass = tt
 within_by words (p ∷ pairs) pass =
-    let both = both_true (nat_le p.1 (length words)) (list_all (λ (pair : Pair). nat_le pair.1 (length words)) pairs) pass in
+    let both = and_parts (nat_le p.1 (length words)) (list_all (λ (pair : Pair). nat_le pair.1 (length words)) pairs) pass in
     (leb-true _ _ both.0, within_by words pairs both.1)
 
 by_within : (words : List ℕ) (pairs : List Pair) → AreWithin words pairs → list_all (λ (pair : Pair). nat_le pair.1 (length words)) pairs ≡ true

@@ -32,13 +32,6 @@ pub fn listing(alloc: Global, words: &[u32], map: &AddressMap) -> Result<Vec<u8>
     requires { AreWithin words.now map.now }
     ensures { IfOk result (λ text. text.items ≡ listing_text words.now map.now) }
 {
-    lines_of(alloc, words, map).map_err(|_| WantOfMemory)
-}
-
-fn lines_of(alloc: Global, words: &[u32], map: &AddressMap) -> Result<Vec<u8>, AllocError>
-    requires { AreWithin words.now map.now }
-    ensures { IfOk result (λ text. text.items ≡ listing_text words.now map.now) }
-{
     let pairs = map.pairs();
     let mut text = Vec::new(alloc);
     for (place, (address, first)) in pairs.iter().enumerate() {

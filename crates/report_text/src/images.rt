@@ -203,7 +203,8 @@ fn threads_of(alloc: Global) -> Result<Vec<Start>, AllocError>
     vec![in alloc; start; THREADS]
 }
 
-fn image_of(alloc: Global, number: u32) -> Result<Image, AllocError>
+/// The image that is generated for a number up to 32,000: a whole one of version 1.
+pub fn generated(alloc: Global, number: u32) -> Result<Image, WantOfMemory>
     requires { number ≤ MOST_GROUPS }
     ensures exact { IfOk result (λ image. image ≡ generated_image number) }
     ensures whole { IfOk result (λ image. IsWhole image) }
@@ -217,15 +218,6 @@ fn image_of(alloc: Global, number: u32) -> Result<Image, AllocError>
         entries: Vec::new(alloc),
         pages,
     })
-}
-
-/// The image that is generated for a number up to 32,000: a whole one of version 1.
-pub fn generated(alloc: Global, number: u32) -> Result<Image, WantOfMemory>
-    requires { number ≤ MOST_GROUPS }
-    ensures exact { IfOk result (λ image. image ≡ generated_image number) }
-    ensures whole { IfOk result (λ image. IsWhole image) }
-{
-    image_of(alloc, number).map_err(|_| WantOfMemory)
 }
 
 /// The length of that image's file. It takes no memory.

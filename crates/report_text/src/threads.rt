@@ -7,7 +7,7 @@ ghost use Rattle.report_text.specs.Offer.{Offers};
 ghost use Rattle.report_text.specs.Report.{detail_of, state_text, end_text, thread_text, report_text};
 
 use crate::line::{LINE_ROOM, Line};
-use std::alloc::{AllocError, Global};
+use std::alloc::Global;
 use system_model::End;
 use vax_form::{Exception, VaxState, WantOfMemory};
 use vt_outside::{Sink, write_all};
@@ -41,12 +41,6 @@ pub fn offer<E: Sink>(
 
 /// The lines of all threads in their order, by end, shown state and count of retired instructions.
 pub fn report(alloc: Global, processors: &[(End, VaxState, u64)]) -> Result<Vec<u8>, WantOfMemory>
-    ensures { IfOk result (λ lines. lines.items ≡ report_text processors.now) }
-{
-    lines_of(alloc, processors).map_err(|_| WantOfMemory)
-}
-
-fn lines_of(alloc: Global, processors: &[(End, VaxState, u64)]) -> Result<Vec<u8>, AllocError>
     ensures { IfOk result (λ lines. lines.items ≡ report_text processors.now) }
 {
     let mut lines = Vec::new(alloc);

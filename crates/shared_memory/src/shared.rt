@@ -12,7 +12,7 @@ use crate::view::View;
 use atomic_table::{Refused, Table};
 use crossbeam_utils::sync::EventCount;
 use memory_core::{MemState, Reply, Request};
-use std::alloc::{AllocError, Global};
+use std::alloc::Global;
 use std::snapshot::Snapshot;
 use std::sync::Wait;
 use vax_form::WantOfMemory;
@@ -33,7 +33,16 @@ impl SharedMemory {
         requires { state.history ≡ [] }
         ensures { IfOk result (λ r. (start_of r.0 ≡ state) × IsKeeperOf r.0 r.1 × IsNew r.1) }
     {
-        SharedMemory::share(alloc, state).map_err(|_| WantOfMemory)
+        let start = Snapshot::of(&state);
+        let mut slots = Vec::with_capacity(alloc, 1)?;
+        slots.push_reserved(Some(state));
+        match Table::new(alloc, &[0, 0], slots, &start) {
+            Ok((table, seat)) => {
+                let waiting = EventCount::new();
+                Ok((SharedMemory { table, waiting }, Pass { seat }))
+            }
+            Err(Refused { slots: _ }) => Err(WantOfMemory),
+        }
     }
 
     /// A pass for a processor that had none before. It has seen what the keeper has.
@@ -101,21 +110,5 @@ impl SharedMemory {
         let whole = closed.take(0);
         closed.free();
         whole.unwrap()
-    }
-
-    fn share(alloc: Global, state: MemState) -> Result<(SharedMemory, Pass), AllocError>
-        requires { state.history ≡ [] }
-        ensures { IfOk result (λ r. (start_of r.0 ≡ state) × IsKeeperOf r.0 r.1 × IsNew r.1) }
-    {
-        let start = Snapshot::of(&state);
-        let mut slots = Vec::with_capacity(alloc, 1)?;
-        slots.push_reserved(Some(state));
-        match Table::new(alloc, &[0, 0], slots, &start) {
-            Ok((table, seat)) => {
-                let waiting = EventCount::new();
-                Ok((SharedMemory { table, waiting }, Pass { seat }))
-            }
-            Err(Refused { slots: _ }) => Err(AllocError),
-        }
     }
 }

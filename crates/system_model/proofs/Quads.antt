@@ -8,7 +8,11 @@ use Rattle.std.specs.Int.{bit_at, byte_at}
 use Rattle.memory_core.specs.Bytes.{quad_of, with_bytes, word_at}
 use Rattle.memory_core.specs.Changes as quadwords
 use Rattle.memory_core.specs.declared.entry.Change.TheVariants as changes
-use Rattle.memory_core.proofs.Neighbours.{below_8, byte_at-quad_of, byte_at-with_bytes, others_stay}
+use Rattle.memory_core.proofs.Choices.{same_number}
+use Rattle.memory_core.proofs.Filling.{same_quad}
+use Rattle.memory_core.proofs.Neighbours.{byte_at-lt, byte_at-quad_of, byte_at-with_bytes, choice_lt, not_one, others_stay}
+pub use Rattle.memory_core.proofs.Neighbours.{byte_is}
+use Rattle.vt_words.proofs.Spreads.{below_8}
 use Rattle.vt_words.specs.Quad.{field_of}
 use Rattle.vax_form.specs.declared.state.RefKind.{RefKind}
 use Rattle.vax_form.specs.declared.state.RefKind.TheVariants.{Read, Write, Add, SetBit, ClearBit, Put, Get}
@@ -19,19 +23,6 @@ use Rattle.system_model.specs.Quadwords.{quad_at, quad_address, change_by}
 use Rattle.system_model.specs.Laws.{QuadwordChanges, OtherQuadwordsStay, QuadwordReplies}
 
 -- ---- quadwords and their bytes
-
--- two quadwords of the same bytes
-pub quad_of-same : (f g : ℕ → ℕ) → ((k : ℕ) → k < 8 → f k ≡ g k) → quad_of f ≡ quad_of g
-quad_of-same f g same =
-    let e0 = same 0 (lit< tt) in
-    let e1 = same 1 (lit< tt) in
-    let e2 = same 2 (lit< tt) in
-    let e3 = same 3 (lit< tt) in
-    let e4 = same 4 (lit< tt) in
-    let e5 = same 5 (lit< tt) in
-    let e6 = same 6 (lit< tt) in
-    let e7 = same 7 (lit< tt) in
-    rw (e0, e1, e2, e3, e4, e5, e6, e7) refl
 
 -- a quadword by its bytes
 pub quad_of-bytes : (n : ℕ) → n < 2 ^ 64 → quad_of (λ k. byte_at k n) ≡ n
@@ -49,10 +40,6 @@ quad_of-lt f h =
     let a7 : f 7 < 256 = h 7 (lit< tt) in
     omega arith
 
--- byte `at`, by powers of two
-pub byte_is : (at n : ℕ) → at < 8 → byte_at at n ≡ n / 2 ^ (8 * at) % 2 ^ 8
-byte_is at n l = below_8 (λ at. byte_at at n ≡ n / 2 ^ (8 * at) % 2 ^ 8) (omega arith) refl refl refl refl refl refl refl at l
-
 -- a byte of a quadword of memory
 pub byte_at-quad_at : (byte : ℕ → ℕ) (quad k : ℕ) → AreBytes byte → k < 8 → byte_at k (quad_at byte quad) ≡ byte (quad + k)
 byte_at-quad_at byte quad k are l = byte_at-quad_of (λ at. byte (quad + at)) (λ at _. are (quad + at)) k l
@@ -67,15 +54,15 @@ next_byte j value l =
     below_8 (λ j. byte_at j (value / 256) ≡ byte_at (suc j) value)
     (omega arith) (omega arith) (omega arith) (omega arith) (omega arith) (omega arith) (omega arith) (omega arith) j l
 
+put_there : (byte : ℕ → ℕ) (address at value : ℕ) → address ≡ at → with_byte byte address value at ≡ value
+put_there byte address at value same = grind (arith, nat_tests)
+
 pub with_value_inside : (byte : ℕ → ℕ) (address count value j : ℕ) → address + count ≤ 2 ^ 32 → count ≤ 8 → j < count → with_value byte address count value (address + j) ≡ byte_at j value
 with_value_inside byte address zero value j small few l = absurd (omega arith)
 with_value_inside byte address (suc count) value zero small few l =
     let here : address % 2 ^ 32 ≡ address + 0 = omega arith in
     with_value_elsewhere (with_byte byte (address % 2 ^ 32) (value % 256)) (address + 1) count (value / 256) (address + 0) (omega arith) (inl (omega arith))
     ∙ put_there byte (address % 2 ^ 32) (address + 0) (value % 256) here
-  where
-    put_there : (byte : ℕ → ℕ) (address at value : ℕ) → address ≡ at → with_byte byte address value at ≡ value
-    put_there byte address at value same = grind (arith, nat_tests)
 with_value_inside byte address (suc count) value (suc j) small few l =
     let e : address + suc j ≡ address + 1 + j = omega arith in
     ap (with_value (with_byte byte (address % 2 ^ 32) (value % 256)) (address + 1) count (value / 256)) e
@@ -118,9 +105,6 @@ shifted_byte value place j l =
 chosen : (b : ℕ) (x y : ℕ) → b ≡ 1 → (if b == 1 then x else y) ≡ x
 chosen b x y h = rw h refl
 
-passed : (b : ℕ) (x y : ℕ) → b ≡ 0 → (if b == 1 then x else y) ≡ y
-passed b x y h = rw h refl
-
 -- the bytes of a quadword that a mask from a place on names, and the others
 pub masked_inside : (place count value before k : ℕ) → k < 8 → place ≤ k → k < place + count → byte_at k (with_bytes (2 ^ (place + count) - 2 ^ place) (value * 2 ^ (8 * place)) before) ≡ byte_at (k - place) value
 masked_inside place count value before k l low high =
@@ -133,7 +117,7 @@ masked_inside place count value before k l low high =
 pub masked_outside : (place count value before k : ℕ) → k < 8 → (k < place) ⊎ (place + count ≤ k) → byte_at k (with_bytes (2 ^ (place + count) - 2 ^ place) (value * 2 ^ (8 * place)) before) ≡ byte_at k before
 masked_outside place count value before k l apart =
     byte_at-with_bytes (2 ^ (place + count) - 2 ^ place) (value * 2 ^ (8 * place)) before k l
-    ∙ passed (bit_at (2 ^ (place + count) - 2 ^ place) k) (byte_at k (value * 2 ^ (8 * place))) (byte_at k before)
+    ∙ not_one (bit_at (2 ^ (place + count) - 2 ^ place) k) (byte_at k (value * 2 ^ (8 * place))) (byte_at k before)
     (⊎_elim (λ h. bit_at_mask_below place (place + count) k h) (λ h. bit_at_mask_above place (place + count) k h) apart)
 
 pub word_mask : (place : ℕ) → 3 * 2 ^ place ≡ 2 ^ (place + 2) - 2 ^ place
@@ -142,19 +126,11 @@ word_mask place = let p = pow-add 2 place 2 in omega arith
 -- a masked quadword is a quadword of bytes
 pub with_bytes-lt : (mask value before : ℕ) → with_bytes mask value before < 2 ^ 64
 unfolding with_bytes
-with_bytes-lt mask value before = quad_of-lt (λ at. if bit_at mask at == 1 then byte_at at value else byte_at at before) (λ at l. small (bit_at mask at == 1) (byte_at at value) (byte_at at before) (byte_lt at value) (byte_lt at before))
-  where
-    small : (b : Bool) (x y : ℕ) → x < 256 → y < 256 → (if b then x else y) < 256
-    small true x y h k = h
-    small false x y h k = k
-
-    byte_lt : (at n : ℕ) → byte_at at n < 256
-    byte_lt zero n = mod_below n 256 (lit< tt)
-    byte_lt (suc at) n = mod_below (n / 256 ^ suc at) 256 (lit< tt)
+with_bytes-lt mask value before = quad_of-lt (λ at. if bit_at mask at == 1 then byte_at at value else byte_at at before) (λ at l. choice_lt (bit_at mask at == 1) (byte_at at value) (byte_at at before) (byte_at-lt at value) (byte_at-lt at before))
 
 -- a quadword of memory is the number that has its bytes
 pub quad_at-is : (byte : ℕ → ℕ) (quad n : ℕ) → n < 2 ^ 64 → ((k : ℕ) → k < 8 → byte (quad + k) ≡ byte_at k n) → quad_at byte quad ≡ n
-quad_at-is byte quad n small same = quad_of-same (λ at. byte (quad + at)) (λ at. byte_at at n) same ∙ quad_of-bytes n small
+quad_at-is byte quad n small same = same_quad (λ at. byte (quad + at)) (λ at. byte_at at n) same ∙ quad_of-bytes n small
 
 -- ---- what a reference makes of its quadword
 
@@ -185,12 +161,6 @@ module _ (byte : ℕ → ℕ) (quad place : ℕ) (are : AreBytes byte) (small : 
   replaced value n l fits is others =
       quad_at-is (with_byte byte ((quad + place) % 2 ^ 32) value) quad n fits (λ k b. each k b (k == place) refl)
     where
-      put_there : (byte : ℕ → ℕ) (address at value : ℕ) → address ≡ at → with_byte byte address value at ≡ value
-      put_there byte address at value same = grind (arith, nat_tests)
-
-      same_place : (k place : ℕ) → (k == place) ≡ true → k ≡ place
-      same_place k place h = grind (arith, nat_tests)
-
       apart : (k place : ℕ) → (k == place) ≡ false → (k < place) ⊎ (place < k)
       apart k place h = ⊎_elim (λ (l : k < place). inl l) (λ (l : place ≤ k). inr (grind (arith, nat_tests))) (cases_lt k place)
 
@@ -199,7 +169,7 @@ module _ (byte : ℕ → ℕ) (quad place : ℕ) (are : AreBytes byte) (small : 
 
       each : (k : ℕ) → k < 8 → (b : Bool) → (k == place) ≡ b → with_byte byte ((quad + place) % 2 ^ 32) value (quad + k) ≡ byte_at k n
       each k b true h =
-          let e : k ≡ place = same_place k place h in
+          let e : k ≡ place = same_number k place h in
           let there : (quad + place) % 2 ^ 32 ≡ quad + k = omega arith in
           put_there byte ((quad + place) % 2 ^ 32) (quad + k) value there ∙ sym is ∙ ap (λ m. byte_at m n) (sym e)
       each k b false h =
@@ -340,5 +310,5 @@ outside address count quad k within aligned other l =
 
 pub other_quadwords_stay : OtherQuadwordsStay
 other_quadwords_stay reference byte quad fits aligned other =
-    quad_of-same (λ at. changed reference byte (quad + at)) (λ at. byte (quad + at))
+    same_quad (λ at. changed reference byte (quad + at)) (λ at. byte (quad + at))
     (λ k l. named_alone reference byte (quad + k) fits (outside reference.address (byte_count reference) quad k fits.within aligned other l))

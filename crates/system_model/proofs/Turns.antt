@@ -1,13 +1,13 @@
 -- What keeps a processor reached by its own entries, and makes a history legal.
 use Rattle.std.proofs.Common.{◌≡◌, ℕ, zero, suc, ◌+◌, ◌≤◌, ◌==◌, Bool, true, if◌then◌else◌, List, [], ◌∷◌, ◌++◌, length, Some, refl, sym, ap, ◌∙◌, subst, arith, ◌⊎◌, inl, inr, ⊎_elim}
 use Rattle.std.specs.Prelude.{option_map, slice_get}
-use Rattle.std.proofs.lemmas.Bool.Decides.{nat_tests}
 use Rattle.std.proofs.lemmas.List.{length-append}
 use Rattle.std.proofs.lemmas.List.Elements.{filter-append}
 use Rattle.image_file.specs.Start.{start_state}
 use Rattle.image_file.specs.declared.image.Start.{Start}
 use Rattle.memory_core.specs.declared.entry.Entry.{Entry}
 use Rattle.memory_core.specs.Order.{own}
+use Rattle.memory_core.proofs.Choices.{equal_number}
 use Rattle.vax_form.specs.declared.state.VaxState.{VaxState}
 use Rattle.system_model.specs.Settings.{Setting}
 use Rattle.system_model.specs.Processors.{Processor, begun, entry_by, Reaches, Begins, Steps, Takes}
@@ -15,14 +15,11 @@ use Rattle.system_model.specs.Legal.{IsGoing, IsSpent, IsReached}
 use Rattle.system_model.specs.Laws.{begun_from, BeginningsAreLegal, StepsKeepReached, AccessesKeepReached, EndsKeepReached, OthersKeepReached, RequestsAreOwn, ReachedAreLegal}
 use Rattle.system_model.proofs.Requests.{IsStep, Makes, makes}
 
-itself : (a b : ℕ) → a ≡ b → (a == b) ≡ true
-itself a b h = grind (arith, nat_tests)
-
 own_if : (b : Bool) (e : Entry) (mine : List Entry) (c : Bool) → b ≡ c → (if b then e ∷ mine else mine) ≡ (if c then e ∷ mine else mine)
 own_if b e mine c h = ap (λ x. if x then e ∷ mine else mine) h
 
 -- a processor that goes on is what it was
-going_is : (setting : Setting) (budget limit : ℕ) (entries : List Entry) (was p : Processor) → IsGoing p.mode → (p ≡ was) ⊎ IsSpent setting budget limit entries was p → p ≡ was
+pub going_is : (setting : Setting) (budget limit : ℕ) (entries : List Entry) (was p : Processor) → IsGoing p.mode → (p ≡ was) ⊎ IsSpent setting budget limit entries was p → p ≡ was
 going_is setting budget limit entries was p g (inl e) = e
 going_is setting budget limit entries was p g (inr s) = absurd (subst (λ (x : Processor). IsGoing x.mode) s.is g)
 
@@ -32,7 +29,7 @@ reached_thread setting first n mine p (Steps {p = q} r e) = (subst (Makes q) e (
 reached_thread setting first n mine p (Takes {mine = older} {p = q} r e before success) = ((subst (Makes q) e (makes setting q)).1 before success).thread ∙ reached_thread setting first _ older q r
 
 -- ---- the beginning
-begun_length : (n : ℕ) (xs : List Start) → length (begun_from n xs) ≡ length xs
+pub begun_length : (n : ℕ) (xs : List Start) → length (begun_from n xs) ≡ length xs
 begun_length n [] = refl
 begun_length n (x ∷ xs) = ap suc (begun_length (n + 1) xs)
 
@@ -70,7 +67,7 @@ reached_from : (setting : Setting) (budget limit : ℕ) (entries : List Entry) (
 reached_from setting budget limit entries thread start p r going =
     subst (λ (x : Processor). Reaches setting (begun thread start) x.steps (own thread entries) x) (sym (going_is setting budget limit entries r.was p going r.now)) r.reaches
 
-reached_within : (setting : Setting) (budget limit : ℕ) (entries : List Entry) (thread : ℕ) (start : VaxState) (p : Processor) → IsReached setting budget limit entries thread start p → IsGoing p.mode → p.steps ≤ budget
+pub reached_within : (setting : Setting) (budget limit : ℕ) (entries : List Entry) (thread : ℕ) (start : VaxState) (p : Processor) → IsReached setting budget limit entries thread start p → IsGoing p.mode → p.steps ≤ budget
 reached_within setting budget limit entries thread start p r going =
     subst (λ (x : Processor). x.steps ≤ budget) (sym (going_is setting budget limit entries r.was p going r.now)) r.within
 
@@ -96,7 +93,7 @@ accesses_keep_reached setting budget limit entries thread start p request on bef
     let q = on before success in
     let from = reached_from setting budget limit entries thread start p r going in
     let its_own : own thread (made ∷ entries) ≡ made ∷ own thread entries =
-    own_if (request.processor == thread) made (own thread entries) true (itself request.processor thread (requests_are_own setting budget limit entries thread start p request on r going e)) in
+    own_if (request.processor == thread) made (own thread entries) true (equal_number request.processor thread (requests_are_own setting budget limit entries thread start p request on r going e)) in
     let makes_one : IsStep p q = (subst (Makes p) e (makes setting p)).1 before success in
     record {
       was = q;

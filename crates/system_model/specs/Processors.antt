@@ -6,8 +6,7 @@ use Rattle.memory_core.specs.declared.entry.Entry.{Entry}
 use Rattle.memory_core.specs.declared.entry.Kind.{Kind}
 use Rattle.memory_core.specs.declared.entry.Kind.TheVariants as kinds
 use Rattle.memory_core.specs.declared.entry.Request.{Request}
-use Rattle.memory_core.specs.Changes.{leaves}
-use Rattle.memory_core.specs.Kinds.{is_memory}
+pub use Rattle.memory_core.specs.Order.{entry_by}
 use Rattle.vax_form.specs.State.{register}
 use Rattle.vax_form.specs.Tree.{Tree, Ending, Finish, Exit, Trap, Answer, answer}
 use Rattle.vax_form.specs.Tree as trees
@@ -164,18 +163,6 @@ mode_of setting p mode = mode
 -- what the processor does in its next turn
 abbrev pub turn : Setting → Processor → Turn
 turn setting p = turn_in setting p (mode_of setting p p.mode)
-
--- the entry of a request, by what it found and whether it succeeded
-abbrev pub entry_by : Request → (before : ℕ) → (success : Bool) → Entry
-entry_by request before success = record {
-  retired = request.retired;
-  before = before;
-  after = leaves request.kind success request.change before;
-  quad = if is_memory request.kind then request.quad else 0;
-  processor = request.processor;
-  kind = request.kind;
-  success = success;
-}
 
 -- a processor that began so, after so many turns, with its own entries, newest first
 pub data Reaches (setting : Setting) (first : Processor) : ℕ → List Entry → Processor → Type 0 where

@@ -3,7 +3,7 @@ ghost use Rattle.std.specs.Prelude.{◌≡◌, IfOk};
 ghost use Rattle.system_model.specs.Counted.{is_counted, pick_of, order};
 
 use memory_core::{Entry, Kind};
-use std::alloc::{AllocError, Global};
+use std::alloc::Global;
 use vax_form::{Pick, WantOfMemory};
 
 /// The order of references that a history keeps, oldest first: a pick for each entry but the load-locked ones and the
@@ -11,17 +11,12 @@ use vax_form::{Pick, WantOfMemory};
 pub fn order_of(alloc: Global, history: &[Entry]) -> Result<Vec<Pick>, WantOfMemory>
     ensures { IfOk result (λ picks. picks.items ≡ order history.now) }
 {
-    picks(alloc, history).map_err(|_| WantOfMemory)
-}
-
-fn picks(alloc: Global, history: &[Entry]) -> Result<Vec<Pick>, AllocError>
-    ensures { IfOk result (λ picks. picks.items ≡ order history.now) }
-{
-    history
+    let picks: Vec<Pick> = history
         .iter()
         .filter(|entry| is_counted(entry))
         .map(|entry| pick_of(entry))
-        .collect(alloc)
+        .collect(alloc)?;
+    Ok(picks)
 }
 
 fn is_counted(entry: &Entry) -> bool

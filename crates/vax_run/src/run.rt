@@ -1,11 +1,11 @@
 // The threads driven by an order of references.
-ghost use Rattle.std.specs.Prelude.{◌≡◌, ◌≤◌, ℕ, IfOk, length};
+ghost use Rattle.std.specs.Prelude.{◌≡◌, IfOk, length};
 ghost use Rattle.image_file.specs.Whole.{IsWhole};
 ghost use Rattle.vax_run.specs.Values.{driven_value};
 
 use crate::world::World;
 use image_file::Image;
-use std::alloc::{AllocError, Global};
+use std::alloc::Global;
 use std::marker::Model;
 use vax_driven::ThreadRun;
 use vax_form::{Pick, Reference, WantOfMemory};
@@ -38,20 +38,6 @@ pub fn driven(
     counts: &[u64],
 ) -> Result<Option<DrivenRun>, WantOfMemory>
     requires whole { IsWhole image.now }
-    requires counts { length counts.now ≡ length image.now.threads }
-    ensures { IfOk result (λ run. run ≡ driven_value image.now input.now order.now counts.now) }
-{
-    run(alloc, image, input, order, counts).map_err(|_| WantOfMemory)
-}
-
-fn run(
-    alloc: Global,
-    image: &Image,
-    input: &[u8],
-    order: &[Pick],
-    counts: &[u64],
-) -> Result<Option<DrivenRun>, AllocError>
-    requires threads { length image.now.threads ≤ 255 }
     requires counts { length counts.now ≡ length image.now.threads }
     ensures { IfOk result (λ run. run ≡ driven_value image.now input.now order.now counts.now) }
 {

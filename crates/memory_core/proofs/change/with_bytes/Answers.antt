@@ -1,6 +1,6 @@
-use Rattle.std.proofs.Common.{◌≡◌, ◌+◌, ◌∙◌, refl, arith, subst}
-use Rattle.memory_core.specs.Bytes.{quad_of, with_bytes}
-use Rattle.memory_core.proofs.Filling.{Filled, filled_set, filled_same, filled_all, choice}
+use Rattle.std.proofs.Common.{◌≡◌, ◌∙◌, refl, arith, subst}
+use Rattle.memory_core.specs.Bytes.{with_bytes}
+use Rattle.memory_core.proofs.Filling.{Filled, filled_set, filled_same, filled_all}
 use Rattle.memory_core.proofs.change.with_bytes.Goals as goal
 use Rattle.memory_core.proofs.change.with_bytes.Goals.{then-mask-at-eq1, else-mask-at-eq1}
 

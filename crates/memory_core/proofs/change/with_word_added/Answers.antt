@@ -1,4 +1,4 @@
-use Rattle.std.proofs.Common.{◌≡◌, ◌*◌, ◌%◌, ◌^◌, ◌/◌, ◌+◌, ◌<◌, ◌≤◌, lit<, refl, arith}
+use Rattle.std.proofs.Common.{◌≡◌, ◌*◌, ◌%◌, ◌^◌, ◌/◌, ◌<◌, ◌≤◌, lit<, refl, arith}
 use Rattle.std.proofs.lemmas.Nat.{shl_whole, and_mask, mod_below}
 use Rattle.memory_core.proofs.change.with_word_added.Goals as goal
 

@@ -1,4 +1,4 @@
-use Rattle.std.proofs.Common.{◌≡◌, ◌≤◌, ◌-◌, ◌∙◌, ap, sym, arith, find, Some, None}
+use Rattle.std.proofs.Common.{◌≡◌, ◌-◌, ◌∙◌, ap, sym, arith, find, Some}
 use Rattle.image_file.specs.Memory.{has_address}
 use Rattle.image_file.specs.Values.{SectionValue}
 use Rattle.memory_core.proofs.Sections.{opening_outside, opening_inside, found_low}

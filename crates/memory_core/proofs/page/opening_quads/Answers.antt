@@ -1,4 +1,3 @@
-use Rattle.std.proofs.Common.{◌≡◌, ◌+◌, ◌*◌, ◌++◌, ap, ◌∙◌}
 use Rattle.memory_core.proofs.Placing.{rising_low}
 use Rattle.memory_core.proofs.page.opening_quads.Goals as goal
 

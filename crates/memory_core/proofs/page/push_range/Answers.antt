@@ -1,4 +1,4 @@
-use Rattle.std.proofs.Common.{◌≡◌, ◌+◌, ◌*◌, ◌++◌, ap, ◌∙◌, [], ◌∷◌, List, ℕ, append_assoc, sym}
+use Rattle.std.proofs.Common.{◌*◌, ◌++◌, ap, ◌∙◌, [], ◌∷◌, List, ℕ, append_assoc, sym}
 use Rattle.memory_core.specs.Places.{quads_from}
 use Rattle.memory_core.proofs.Placing.{quads_from-push}
 use Rattle.memory_core.proofs.page.push_range.Goals as goal

@@ -1,4 +1,4 @@
-use Rattle.std.proofs.Common.{◌∙◌, arith}
+use Rattle.std.proofs.Common.{arith}
 use Rattle.shared_memory.proofs.Keeps.{wins}
 use Rattle.shared_memory.proofs.steps.try_win.Goals as goal
 

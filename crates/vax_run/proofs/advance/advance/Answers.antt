@@ -1,4 +1,4 @@
-use Rattle.std.proofs.Common.{sym, ap, ◌∙◌, arith}
+use Rattle.std.proofs.Common.{ap, ◌∙◌, arith}
 use Rattle.vax_long.specs.Pending.{moment_at}
 use Rattle.vax_run.specs.Answered.{reached_of}
 use Rattle.vax_run.proofs.Answering.{never}

@@ -1,6 +1,4 @@
-use Rattle.std.proofs.Common.{◌≡◌, ◌∙◌, ◌++◌, ◌∷◌, [], ap, sym, subst, refl, true, reverse}
-use Rattle.vax_form.specs.Pages.{is_allowed}
-use Rattle.memory_core.specs.declared.entry.Entry.{Entry}
+use Rattle.std.proofs.Common.{◌++◌, ◌∷◌, [], sym, subst, refl, reverse}
 use Rattle.memory_core.specs.Contents.{Contents}
 use Rattle.memory_core.specs.Order.{Meets}
 use Rattle.memory_core.proofs.Entering.{entry_readable, fits_entry, meets-push}

@@ -1,4 +1,4 @@
-use Rattle.std.proofs.Common.{◌≡◌, ◌<◌, ◌^◌, ◌∙◌, ap, arith, length, slice_index_or}
+use Rattle.std.proofs.Common.{◌<◌, ◌∙◌, ap, arith, length}
 use Rattle.memory_core.specs.Contents.{Contents}
 use Rattle.memory_core.specs.Reservations.{none}
 use Rattle.memory_core.proofs.Entering.{tries_fit}

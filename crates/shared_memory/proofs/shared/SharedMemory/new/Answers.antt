@@ -3,7 +3,7 @@ use Rattle.atomic_table.specs.Table.{opening}
 use Rattle.memory_core.specs.Contents.{Contents}
 use Rattle.shared_memory.specs.Rule.{behind, Kept, keeper_of}
 use Rattle.shared_memory.proofs.Keeper.{starts}
-use Rattle.shared_memory.proofs.shared.SharedMemory.share.Goals as goal
+use Rattle.shared_memory.proofs.shared.SharedMemory.new.Goals as goal
 
 pub new-requires : goal.new-requires
 new-requires c = let k = c.of-start.result.value in

@@ -2,7 +2,7 @@ use Rattle.std.proofs.Common.{◌+◌, ◌≤◌, ◌++◌, List, get_or, length
 use Rattle.address_map.specs.Pairs.{AllRise, Pair}
 use Rattle.report_text.specs.Listing.{AreWithin, block_text, block_words, end_before}
 use Rattle.report_text.proofs.Listings.{block_ends, block_moved, block_rises, rest_of}
-use Rattle.report_text.proofs.blocks.lines_of.Goals as goal
+use Rattle.report_text.proofs.blocks.listing.Goals as goal
 
 pub block_words-block-requires-clause-rises : goal.block_words-block-requires-clause-rises
 block_words-block-requires-clause-rises c =

@@ -5,7 +5,7 @@ use Rattle.memory_core.specs.Places.{quads_of}
 use Rattle.memory_core.specs.Reservations.{none}
 use Rattle.memory_core.specs.declared.reservation.Reservation.{Reservation}
 use Rattle.memory_core.proofs.Making.{fresh_sound}
-use Rattle.memory_core.proofs.state.MemState.reserve.Goals as goal
+use Rattle.memory_core.proofs.state.MemState.new.Goals as goal
 
 pub invariant_of-result-2 : goal.invariant_of-result-2
 invariant_of-result-2 c =

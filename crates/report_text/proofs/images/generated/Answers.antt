@@ -3,7 +3,7 @@ use Rattle.image_file.specs.Pages.{pages_of}
 use Rattle.image_file.specs.Whole.{IsWhole}
 use Rattle.report_text.specs.Generated.{generated_code, image_with, sections_with}
 use Rattle.report_text.proofs.GeneratedLaws.{code_few, code_some, whole_with}
-use Rattle.report_text.proofs.images.image_of.Goals as goal
+use Rattle.report_text.proofs.images.generated.Goals as goal
 
 pub pages_of-requires-clause-few : goal.pages_of-requires-clause-few
 pages_of-requires-clause-few c =
