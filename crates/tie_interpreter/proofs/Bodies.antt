@@ -1,6 +1,6 @@
 -- Going through a body shows the head of its tree.
-use Rattle.std.proofs.Common.{◌≡◌, Result, Ok, Err, refl, ap, sym, subst}
-use Rattle.vax_form.specs.Tree.{Tree, ends_with, ending, ending_outcome, head_outcome}
+use Rattle.std.proofs.Common.{Result, Ok, Err, refl}
+use Rattle.vax_form.specs.Tree.{ends_with}
 use Rattle.vax_form.specs.declared.script.End.{End}
 use Rattle.vax_form.specs.declared.script.Stop.{Stop}
 use Rattle.vax_form.specs.declared.script.Stop.TheVariants.{Wants, Fails}
@@ -9,18 +9,11 @@ use Rattle.vax_meaning.specs.Fed.{Fed}
 use Rattle.vax_meaning.specs.Play.{Uses}
 use Rattle.vax_meaning.specs.Instructions.{body}
 use Rattle.vax_meaning.specs.declared.cursor.Cursor.{Cursor}
-use Rattle.tie_operands.specs.Steps.{Shows, FaultsAtHead, step_of}
 use Rattle.tie_operands.specs.declared.step.TieStep.TheVariants.{Want, Raised}
 use Rattle.tie_operands.proofs.Whole.{shows_stop}
+use Rattle.tie_operands.proofs.Passing.{shows_end}
 use Rattle.tie_interpreter.specs.Rest.{body_tree, body_at, PassesBody}
 use Rattle.tie_interpreter.specs.declared.body.Body.{Body}
-
--- an end shows itself
-shows_end : (before : VaxState) (tree : Tree) (end : End) (state : VaxState) → tree ≡ ends_with end state → Shows before tree (step_of (ending_outcome (ending end state)))
-shows_end before tree end state is = record {
-  head = ap (λ t. step_of (head_outcome before t)) (sym is);
-  faults = subst FaultsAtHead (sym is) tt;
-}
 
 pub body_passes : (before : VaxState) (closing : Body) (old new : Cursor) (result : Result End Stop)
     → Fed (body closing.operation closing.instr closing.thread closing.values) old result new → Uses 4 old result new → PassesBody before closing old result new

@@ -1,5 +1,5 @@
 -- What is seen of a script that was run is what is seen of its tree.
-use Rattle.std.proofs.Common.{◌≡◌, ℕ, Result, Ok, Err, sym, ap, ◌∙◌}
+use Rattle.std.proofs.Common.{◌≡◌, Result, Ok, Err, sym, ap, ◌∙◌}
 use Rattle.vax_form.specs.Script.{Script}
 use Rattle.vax_form.specs.Tree.{answer, outcome, run_outcome, instruction_tree}
 use Rattle.vax_form.specs.declared.script.End.{End}

@@ -26,8 +26,9 @@ pub fn beside(down: bool, address: u32) -> u32
     }
 }
 
-/// The first of many bytes from the address on that may not be used with that intent.
-pub(crate) fn first_bad(pages: &Pages, address: u32, count: u16, write: bool) -> Option<u32>
+/// The first of so many bytes from the address on, which goes on at 0 behind the last, that may not be read or, where
+/// `write` is, written; none where all may.
+pub fn first_bad(pages: &Pages, address: u32, count: u16, write: bool) -> Option<u32>
     ensures { result ≡ first_bad pages.now write address count }
 {
     let mut place = address;

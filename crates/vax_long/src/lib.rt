@@ -14,7 +14,7 @@ mod registers;
 mod searching;
 mod standing;
 
-pub use bytes::{beside, beyond, check_string, fetch_byte, read_byte, write_byte};
+pub use bytes::{beside, beyond, check_string, fetch_byte, first_bad, read_byte, write_byte};
 pub use calls::{call_general, call_stack, return_from_procedure};
 pub use indexing::index;
 pub use instructions::{long_body, long_operation_of, long_operation_run};

@@ -4,6 +4,7 @@ use Rattle.std.specs.Prelude.{ℕ, zero, suc, ◌-◌, List, [], ◌∷◌, slic
 use Rattle.vax_form.specs.Size.{bytes_of}
 use Rattle.vax_form.specs.Row.{row_with, row_of_operation}
 use Rattle.vax_form.specs.Script.{Script, ◌>>=◌, pure, bind, get}
+pub use Rattle.vax_form.specs.Targets.{operand_of as operand}
 use Rattle.vax_form.specs.declared.operation.Operation.{Operation}
 use Rattle.vax_form.specs.declared.operation.Operation.TheVariants.{AddAlignedWord}
 use Rattle.vax_form.specs.declared.row.Row.{Row}
@@ -19,9 +20,6 @@ use Rattle.vax_meaning.specs.declared.operands.Location.TheVariants.{InMemory, I
 use Rattle.vax_meaning.specs.declared.evaluation.Evaluated.{Evaluated}
 use Rattle.vax_meaning.specs.Memory.{low_bytes, fetch}
 use Rattle.vax_meaning.specs.Operands.{locate, modify_at, register_value}
-
-abbrev pub operand : Instr → ℕ → Operand
-operand instr place = slice_index_or instr.operands place Unused
 
 -- an operand that is not evaluated
 abbrev pub nothing : Evaluated

@@ -2,10 +2,9 @@
 use Rattle.std.specs.Prelude.{◌≡◌, ℕ, List, ◌+◌, ◌<◌, ◌≤◌, length, Result, Ok, Err}
 use Rattle.vax_form.specs.declared.script.Stop.{Stop}
 use Rattle.vax_form.specs.declared.script.Stop.TheVariants.{Wants, Fails}
-use Rattle.vax_form.specs.declared.state.Exception.{Exception}
-use Rattle.vax_form.specs.declared.state.Exception.TheVariants.{Arithmetic}
 use Rattle.vax_form.specs.declared.state.Outcome.{Outcome}
 use Rattle.vax_form.specs.declared.state.Outcome.TheVariants as outcomes
+pub use Rattle.vax_form.specs.Ranges.{IsFault}
 use Rattle.vax_form.specs.Script.{Script, Moment, run}
 use Rattle.vax_meaning.specs.declared.cursor.Cursor.{Cursor}
 
@@ -16,11 +15,6 @@ view c = record { state = c.state; pages = c.pages.now; replies = c.replies.now 
 abbrev pub Plays : {A : Type 0} → Script A → Cursor → Result A Stop → Cursor → Type 0
 Plays script old (Ok x) new = run script (view old) ≡ Ok (x, view new)
 Plays script old (Err e) new = run script (view old) ≡ Err (e, new.replies.now)
-
--- a fault: an arithmetic exception is a trap, with which no script fails
-abbrev pub IsFault : Exception → Type 0
-IsFault (Arithmetic kind) = ⊥
-IsFault _ = Unit {0}
 
 -- how many replies are used at most: what wants one more had fewer, and what fails does so by a fault
 abbrev pub Uses : {A : Type 0} → ℕ → Cursor → Result A Stop → Cursor → Type 0

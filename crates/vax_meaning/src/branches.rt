@@ -15,8 +15,8 @@ use crate::operands::{put, register_of, set_register_of};
 use vax_form::{Condition, End, Instr, Operand, Size, Stop, Width};
 use vt_words::{Coded, add, signed, sub};
 
-/// Where a branch goes.
-fn target(operand: Operand) -> u32
+/// Where a branch goes: the target of its operand, 0 for an operand of another kind.
+pub fn target(operand: Operand) -> u32
     ensures { result ≡ target operand }
 {
     match operand {

@@ -15,6 +15,7 @@ mod memory;
 mod moves;
 mod operands;
 
+pub use branches::target;
 pub use codes::{go_to, set_codes, set_pc, sign_of};
 pub use cursor::Cursor;
 pub use evaluation::{
