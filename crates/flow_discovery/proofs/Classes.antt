@@ -1,5 +1,5 @@
 -- No instruction that stands in the code has a reserved opcode.
-use Rattle.std.proofs.Common.{◌≡◌, ◌≢◌, ℕ, Bool, true, false, Option, Some, None, refl, ap, ◌∙◌, sym}
+use Rattle.std.proofs.Common.{◌≡◌, ◌≢◌, ℕ, true, Option, Some, None}
 use Rattle.std.specs.Option.{is_some, option_map}
 use Rattle.vax_form.specs.GrammarRows.{operand_types}
 use Rattle.vax_form.specs.Operation.{operation_at}

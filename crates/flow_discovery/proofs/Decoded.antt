@@ -1,9 +1,8 @@
 -- What is known of an address at which an instruction stands.
-use Rattle.std.proofs.Common.{◌≡◌, ◌≢◌, ◌∙◌, ◌+◌, ◌<◌, ◌^◌, ℕ, Bool, true, false, ◌||◌, cond, List, [], ◌∷◌, length, map, Option, Some, None, refl, subst, sym, ap, arith}
-use Rattle.std.specs.List.{find, list_any}
+use Rattle.std.proofs.Common.{◌≡◌, ◌≢◌, ◌∙◌, ◌+◌, ◌<◌, ◌^◌, ℕ, true, List, [], ◌∷◌, length, Option, Some, None, refl, subst, sym, ap, arith}
 use Rattle.std.specs.Option.{is_some, option_map, unwrap_or}
 use Rattle.vax_form.specs.Pages.{code_byte_at, has_code, is_code}
-use Rattle.vax_form.specs.Grammar.{Found, instruction, past, reserved_instruction, reserved_mode, wrapped}
+use Rattle.vax_form.specs.Grammar.{past, wrapped}
 use Rattle.vax_form.specs.GrammarFound.{fetched, found, found_in, in_front_of}
 use Rattle.vax_form.specs.GrammarReading.{Shown, complete, reserved, instruction_of, read_instruction, read_operands, read_specifiers}
 use Rattle.vax_form.specs.GrammarRows.{operand_types}
@@ -14,6 +13,7 @@ use Rattle.vax_form.specs.declared.instr.Size.{Size}
 use Rattle.vax_form.specs.declared.pages.Pages.{Pages}
 use Rattle.vax_form.specs.Row.{class_at}
 use Rattle.vax_form.specs.declared.row.Class.TheVariants.{Reserved}
+use Rattle.vax_form.proofs.PageTable.{found_is_some}
 use Rattle.flow_discovery.proofs.Classes.{listed_class}
 use Rattle.flow_discovery.specs.Reach.{instruction_at, instruction_in}
 
@@ -24,20 +24,12 @@ unfolding found_in read_instruction
 first_byte pc None rest instr e = cc
 first_byte pc (Some b) rest instr e = refl
 
-is_some-find : {X Y : Type 0} (f : X → Y) (p : X → Bool) (xs : List X) → is_some (option_map f (find p xs)) ≡ list_any p xs
-is_some-find f p [] = refl
-is_some-find f p (x ∷ xs) = go (p x) (is_some-find f p xs)
-  where
-    go : (b : Bool) → is_some (option_map f (find p xs)) ≡ list_any p xs → is_some (option_map f (cond b (Some x) (find p xs))) ≡ (b || list_any p xs)
-    go true e = refl
-    go false e = e
-
 pub code_at : (pages : Pages) (address : ℕ) (instr : Instr) → address < 2 ^ 32 → instruction_at pages address ≡ Some instr → is_code pages address ≡ true
 unfolding instruction_at found fetched
 code_at pages address instr small e =
     let same : wrapped address ≡ address = omega arith in
     let first = first_byte address (code_byte_at pages (wrapped address)) (fetched pages (address + 1) 63) instr e in
-    sym (is_some-find _ (has_code address) pages.ranges) ∙ rw same at first
+    sym (found_is_some _ (has_code address) pages.ranges) ∙ rw same at first
 
 -- ---- it has the address, and its opcode isn't reserved
 

@@ -1,8 +1,8 @@
 -- The instructions at the members.
-use Rattle.std.proofs.Common.{◌≡◌, ◌≢◌, ◌∙◌, ◌≤◌, ◌||◌, ℕ, Bool, true, false, refl, sym, ap, ap₂, List, [], ◌∷◌, length, map, nat_eq, Option, Some, None, true≢false}
+use Rattle.std.proofs.Common.{◌≡◌, ◌≢◌, ◌∙◌, ℕ, true, refl, sym, ap, ap₂, List, [], ◌∷◌, length, map, nat_eq, Option, Some, None, true≢false}
 use Rattle.std.specs.List.{All, cons_option, filter_map}
 use Rattle.std.specs.Option.{is_some}
-use Rattle.std.proofs.lemmas.Bool.{eq-eqb}
+use Rattle.std.proofs.lemmas.Bool.{eq-eqb, or_right}
 use Rattle.std.proofs.lemmas.List.Elements.{All-cons, All-nil}
 use Rattle.std.proofs.lemmas.List.{length-map}
 use Rattle.vax_form.specs.Row.{class_at}
@@ -12,10 +12,6 @@ use Rattle.vax_form.specs.declared.pages.Pages.{Pages}
 use Rattle.flow_discovery.specs.Reach.{AreReached, IsReach, decodes, has, instruction_at}
 use Rattle.flow_discovery.proofs.Decoded.{address_of, class_of}
 use Rattle.flow_discovery.proofs.Work.{decoded}
-
-or_right : (a b : Bool) → b ≡ true → (a || b) ≡ true
-or_right true b e = refl
-or_right false b e = e
 
 module _ (pages : Pages) where
   abbrev read : List ℕ → List Instr

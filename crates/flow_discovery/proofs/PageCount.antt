@@ -1,7 +1,8 @@
 -- Different addresses in read-only pages are at most as many as the bytes of those pages.
-use Rattle.std.proofs.Common.{◌≡◌, ◌∙◌, ◌<◌, ◌≤◌, ◌+◌, ◌*◌, ◌/◌, ◌||◌, ◌&&◌, ℕ, Bool, not, cond, true, false, zero, suc, refl, sym, ap, ap₂, arith, List, [], ◌∷◌, ◌++◌, length, length-append, nat_eq, nat_le, nat_lt, leb-true, ltb-true, true≢false}
+use Rattle.std.proofs.Common.{◌≡◌, ◌∙◌, ◌<◌, ◌≤◌, ◌+◌, ◌*◌, ◌/◌, ◌||◌, ℕ, Bool, not, cond, true, false, zero, suc, refl, sym, ap, ap₂, arith, List, [], ◌∷◌, ◌++◌, length, length-append, nat_eq, nat_le, nat_lt, leb-true, ltb-true, true≢false}
 use Rattle.std.specs.List.{IsDistinct}
 use Rattle.std.specs.Cmp.{nat_eq_equiv}
+use Rattle.std.proofs.lemmas.Bool.{and_parts}
 use Rattle.std.proofs.lemmas.List.Folds.{list_any-append}
 use Rattle.std.proofs.lemmas.Map.Made.{length-le_from_is_member}
 use Rattle.std.specs.List.{list_any}
@@ -9,10 +10,6 @@ use Rattle.vax_form.specs.PageTable.{code_bytes, code_length, has_page}
 use Rattle.vax_form.specs.Pages.{has_code}
 use Rattle.vax_form.specs.declared.pages.PageRange.{PageRange}
 use Rattle.flow_discovery.specs.Reach.{has}
-
-both : (a b : Bool) → (a && b) ≡ true → (a ≡ true) × (b ≡ true)
-both true b e = (refl, e)
-both false b e = absurd (true≢false (sym e))
 
 -- so many numbers from a number on
 abbrev counted_from : ℕ → ℕ → List ℕ
@@ -44,8 +41,8 @@ length_addresses (r ∷ rest) =
 -- an address in a read-only range is among its bytes
 range_has : (r : PageRange) (x : ℕ) → has_code x r ≡ true → has (counted_from (512 * r.first) (code_bytes r)) x ≡ true
 range_has r x e =
-    let parts = both (has_page (x / 512) r) (not r.writable) e in
-    let page = both (nat_le r.first (x / 512)) (nat_lt (x / 512) (r.first + r.count)) parts.0 in
+    let parts = and_parts (has_page (x / 512) r) (not r.writable) e in
+    let page = and_parts (nat_le r.first (x / 512)) (nat_lt (x / 512) (r.first + r.count)) parts.0 in
     let low : r.first ≤ x / 512 = leb-true r.first (x / 512) page.0 in
     let high : x / 512 < r.first + r.count = ltb-true (x / 512) (r.first + r.count) page.1 in
     readable r.writable parts.1 (counted_has (512 * r.first) (512 * r.count) x (omega arith) (omega arith))

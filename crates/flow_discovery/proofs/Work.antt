@@ -1,12 +1,11 @@
 -- What the work list has found, and what it has still to visit.
-use Rattle.std.proofs.Common.{◌≡◌, ◌∙◌, ◌<◌, ◌≤◌, ◌+◌, ◌^◌, ◌||◌, ◌&&◌, ◌⊎◌, ℕ, Bool, cond, true, false, zero, suc, refl, sym, ap, arith, inl, inr, List, [], ◌∷◌, ◌++◌, length, filter, take, nat_eq, eqb-true, nat_lt, ltb-true, ltb-false, slice_index_or, Option, Some, None, true≢false, length-append}
+use Rattle.std.proofs.Common.{◌≡◌, ◌∙◌, ◌<◌, ◌≤◌, ◌+◌, ◌^◌, ◌||◌, ◌&&◌, ℕ, Bool, cond, true, false, zero, suc, refl, sym, ap, arith, inl, inr, List, [], ◌∷◌, ◌++◌, length, filter, take, nat_eq, eqb-true, nat_lt, ltb-true, ltb-false, slice_index_or, Option, Some, None, true≢false, length-append}
 use Rattle.std.specs.Prelude.{slice_get}
 use Rattle.std.specs.List.{IsDistinct}
 use Rattle.std.specs.Option.{is_some}
 use Rattle.vax_form.specs.Pages.{is_code}
-use Rattle.std.proofs.lemmas.Map.Steps.{length-le_from_distinct_below}
 use Rattle.std.proofs.Math.ListN.{get_or-append}
-use Rattle.std.proofs.lemmas.Bool.{eq-eqb}
+use Rattle.std.proofs.lemmas.Bool.{and_parts, or_cases, or_left, or_right, eq-eqb}
 use Rattle.std.specs.List.Sorted.{IsSorted}
 use Rattle.std.specs.Ordering.{nat_cmp}
 use Rattle.std.proofs.lemmas.List.Sorted.{IsNonDecreasingBy-from_sort}
@@ -19,14 +18,6 @@ use Rattle.vax_form.specs.declared.pages.Pages.{Pages}
 use Rattle.flow_discovery.specs.Reach.{AreReached, HasMembers, Member, decodes, has, instruction_at, start, step, successors}
 use Rattle.flow_discovery.proofs.Decoded.{code_at}
 use Rattle.flow_discovery.proofs.PageCount.{few_in_pages}
-
-both : (a b : Bool) → (a && b) ≡ true → (a ≡ true) × (b ≡ true)
-both true b e = (refl, e)
-both false b e = absurd (true≢false (sym e))
-
-either : (a b : Bool) → (a || b) ≡ true → (a ≡ true) ⊎ (b ≡ true)
-either true b e = inl refl
-either false b e = inr e
 
 -- ---- adding addresses to a list
 
@@ -123,13 +114,6 @@ all_keep (x ∷ xs) ks k d lt =
 
 -- ---- places
 
-or_right : (a b : Bool) → b ≡ true → (a || b) ≡ true
-or_right true b e = refl
-or_right false b e = e
-
-or_left : (a b : Bool) → a ≡ true → (a || b) ≡ true
-or_left a b e = rw e refl
-
 -- an address of the list has a place
 place_of : (ks : List ℕ) (a : ℕ) → has ks a ≡ true → (k : ℕ) × (k < length ks) × (slice_index_or ks k 0 ≡ a)
 place_of [] a h = absurd (true≢false (sym h))
@@ -171,7 +155,7 @@ module _ (pages : Pages) (starts : List ℕ) where
   has_wanted xs a h d = has_filter (decodes pages) xs a ∙ rw (h, d) refl
 
   from_wanted : (xs : List ℕ) (a : ℕ) → has (wanted xs) a ≡ true → (has xs a ≡ true) × (decodes pages a ≡ true)
-  from_wanted xs a h = both (has xs a) (decodes pages a) (sym (has_filter (decodes pages) xs a) ∙ h)
+  from_wanted xs a h = and_parts (has xs a) (decodes pages a) (sym (has_filter (decodes pages) xs a) ∙ h)
 
   pub begins : (keys : List ℕ) → keys ≡ insert_all nat_eq [] (wanted starts) → Found keys 0
   begins keys is = record {
@@ -192,7 +176,7 @@ module _ (pages : Pages) (starts : List ℕ) where
       let stays : (k : ℕ) → k < length keys → slice_index_or after k 0 ≡ slice_index_or keys k 0 = λ k less. ap (λ ks. slice_index_or ks k 0) is ∙ all_keep (wanted (successors pages address)) keys k 0 less in
       let member : Member pages starts address = rw here (found.sound (slice_index_or keys at 0) (at_place keys at lt)) in
       record {
-        sound = λ a h. elim (either (has keys a) (has (wanted (successors pages address)) a) (sym (grown a) ∙ h)) [
+        sound = λ a h. elim (or_cases (has keys a) (has (wanted (successors pages address)) a) (sym (grown a) ∙ h)) [
           | inl old ↦ found.sound a old
           | inr new ↦ step address a member (from_wanted (successors pages address) a new).0 (from_wanted (successors pages address) a new).1
         ];

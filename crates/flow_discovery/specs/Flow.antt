@@ -1,6 +1,6 @@
 -- The addresses to which control may go on from an instruction, as far as its code shows them.
 -- VAX Architecture Reference Manual, "Control Instructions" and "Procedure Call Instructions".
-use Rattle.std.specs.Prelude.{ℕ, ◌+◌, ◌*◌, Bool, true, false, List, [], ◌∷◌, ◌++◌, Option, Some, None, option_map, option_and_then, nat_lt, if◌then◌else◌}
+use Rattle.std.specs.Prelude.{ℕ, ◌+◌, ◌*◌, Bool, true, false, List, [], ◌∷◌, ◌++◌, Option, option_map, option_and_then, nat_lt, if◌then◌else◌}
 use Rattle.std.specs.List.{filter_map, range_with_len}
 use Rattle.std.specs.Option.{option_map_or, option_to_list}
 use Rattle.vax_form.specs.Grammar.{extended, wrapped}

@@ -1,6 +1,6 @@
 -- The addresses of instructions that can be reached: the least set that has the starts, and with each of its members
 -- the addresses to which that goes on, as far as instructions stand there.
-use Rattle.std.specs.Prelude.{◌≡◌, ◌↔◌, ◌<◌, ◌++◌, ℕ, Bool, IsTrue, List, [], All, Option, Some, None, is_some, length, map, nat_eq}
+use Rattle.std.specs.Prelude.{◌≡◌, ◌↔◌, ◌<◌, ℕ, Bool, IsTrue, List, [], All, Option, Some, None, is_some, length, map, nat_eq}
 use Rattle.std.specs.Option.{option_map_or}
 use Rattle.std.specs.List.{list_any}
 use Rattle.std.specs.List.Sorted.{IsStrictlyIncreasing}

@@ -33,14 +33,11 @@ use Rattle.cc_liveness.specs.Codes.{holds, none, all, all_but_carry}
 use Rattle.cc_liveness.specs.Codes as code
 use Rattle.cc_liveness.specs.Uses.{tested_by}
 use Rattle.image_meaning.proofs.Alike.{Case, Stand, Uses, use_pure, use_bind, use_then, use_either, use_ask, use_check, use_fail, use_get}
-use Rattle.image_meaning.proofs.AlikeStates.{use_get_register, use_set_register, use_pc, use_go_to, use_finish, use_handler, use_pending, same_carry, same_overflow, same_zero, same_negative, use_all, use_three}
+use Rattle.image_meaning.proofs.AlikeStates.{use_get_register, use_set_register, use_pc, use_go_to, use_finish, use_handler, use_pending, same_carry, same_overflow, same_zero, same_negative, use_all, use_three, anywhere}
 use Rattle.image_meaning.proofs.AlikeOperands.{use_read, use_write, use_fetch, use_lock, use_code_word, use_put}
 use Rattle.image_meaning.proofs.AlikeMoves.{use_none, use_give, use_push}
 
 -- ---- branches: where control goes is elsewhere
-anywhere : (c : Case) {pc : ℕ} → c.used.ends ≡ true → c.used.ends ≡ false → pc ≡ c.after
-anywhere c e f = absurd (cc (e, f))
-
 same_condition : {c : Case} {k : Flags} {g : Bool} (condition : Condition) (s t : VaxState) → k ≡ tested_by condition → Stand c k g s t → branches.holds condition s ≡ branches.holds condition t
 unfolding branches.holds tested_by
 same_condition NotEqual s t e stand = ap not (same_zero s t (ap (holds code.zero_code) e) stand)

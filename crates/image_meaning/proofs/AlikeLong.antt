@@ -24,12 +24,9 @@ use Rattle.vax_long.specs.Strings.{beyond, beside, move_bytes, move_string, fill
 use Rattle.cc_liveness.specs.Codes.{holds, none, all}
 use Rattle.block_law.specs.CodeWords.{codes_in}
 use Rattle.image_meaning.proofs.Alike.{Case, Stand, Follow, Equal, Uses, follow_bind, follow_get, follow_change, use_pure, use_bind, use_then, use_either, use_ask, use_check, use_fail}
-use Rattle.image_meaning.proofs.AlikeStates.{use_registers, use_get_register, use_set_register, use_pc, use_go_to, use_all, none_out}
+use Rattle.image_meaning.proofs.AlikeStates.{use_registers, use_get_register, use_set_register, use_pc, use_go_to, use_all, none_out, anywhere}
 use Rattle.image_meaning.proofs.AlikeOperands.{use_read, use_write, use_fetch, use_code_word, use_store}
 use Rattle.image_meaning.proofs.AlikeMoves.{use_none}
-
-anywhere : (c : Case) {pc : ℕ} → c.used.ends ≡ true → c.used.ends ≡ false → pc ≡ c.after
-anywhere c e f = absurd (cc (e, f))
 
 -- what is read of a state: all but its codes
 abbrev Seen : VaxState → VaxState → Type 0

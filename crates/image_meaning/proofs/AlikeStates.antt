@@ -13,7 +13,9 @@ use Rattle.vax_meaning.specs.Codes.{with_codes, carry_of, overflow_of, zero_of, 
 use Rattle.vax_meaning.specs.Operands.{get_register, set_register}
 use Rattle.cc_liveness.specs.Codes.{Code, holds, codes, all, all_but_carry}
 use Rattle.cc_liveness.specs.Codes as code
+use Rattle.cc_liveness.proofs.Lives.{holds_all}
 use Rattle.block_law.specs.CodeWords.{codes_in}
+use Rattle.image_meaning.proofs.States.{bit_below}
 use Rattle.image_meaning.proofs.Alike.{Case, Stand, Uses, use_pure, use_then, use_get, follow_change}
 
 -- ---- registers, the PC and the rest
@@ -104,35 +106,35 @@ use_finish pc e there =
     ap (λ b. if b && trap_enabled s then Traps 1 else Done) (same_overflow s t e stand)
     ∙ ap (λ b. if overflow_of t && b then Traps 1 else Done) (same_trap_enabled s t stand)))
 
+-- an instruction that ends a run goes on anywhere
+pub anywhere : (c : Case) {pc : ℕ} → c.used.ends ≡ true → c.used.ends ≡ false → pc ≡ c.after
+anywhere c e f = absurd (cc (e, f))
+
 -- ---- codes that are written
 abbrev pub packed : (n z v c : Bool) → ℕ
 packed n z v c = bit n * 8 + bit z * 4 + bit v * 2 + bit c
-
-small : (b : Bool) → bit b ≤ 1
-small true = omega arith
-small false = omega arith
 
 is_one : (b : Bool) → (bit b == 1) ≡ b
 is_one true = refl
 is_one false = refl
 
 packed_less : (n z v c : Bool) → packed n z v c < 16
-packed_less n z v c = let a = small n in let b = small z in let d = small v in let e = small c in omega arith
+packed_less n z v c = let a = bit_below n in let b = bit_below z in let d = bit_below v in let e = bit_below c in omega arith
 
 codes_packed : (u : ℕ) (n z v c : Bool) (which : Code) → holds which (codes_in (u * 16 + packed n z v c)) ≡ holds which (codes n z v c)
-codes_packed u n z v c code.negative = ap (λ x. x == 1) (by (bit n) (bit z) (bit v) (bit c) (small n) (small z) (small v) (small c)) ∙ is_one n
+codes_packed u n z v c code.negative = ap (λ x. x == 1) (by (bit n) (bit z) (bit v) (bit c) (bit_below n) (bit_below z) (bit_below v) (bit_below c)) ∙ is_one n
   where
     by : (a b d e : ℕ) → a ≤ 1 → b ≤ 1 → d ≤ 1 → e ≤ 1 → (u * 16 + (a * 8 + b * 4 + d * 2 + e)) / 8 % 2 ≡ a
     by a b d e p q r s = omega arith
-codes_packed u n z v c code.zero_code = ap (λ x. x == 1) (by (bit n) (bit z) (bit v) (bit c) (small n) (small z) (small v) (small c)) ∙ is_one z
+codes_packed u n z v c code.zero_code = ap (λ x. x == 1) (by (bit n) (bit z) (bit v) (bit c) (bit_below n) (bit_below z) (bit_below v) (bit_below c)) ∙ is_one z
   where
     by : (a b d e : ℕ) → a ≤ 1 → b ≤ 1 → d ≤ 1 → e ≤ 1 → (u * 16 + (a * 8 + b * 4 + d * 2 + e)) / 4 % 2 ≡ b
     by a b d e p q r s = omega arith
-codes_packed u n z v c code.overflow = ap (λ x. x == 1) (by (bit n) (bit z) (bit v) (bit c) (small n) (small z) (small v) (small c)) ∙ is_one v
+codes_packed u n z v c code.overflow = ap (λ x. x == 1) (by (bit n) (bit z) (bit v) (bit c) (bit_below n) (bit_below z) (bit_below v) (bit_below c)) ∙ is_one v
   where
     by : (a b d e : ℕ) → a ≤ 1 → b ≤ 1 → d ≤ 1 → e ≤ 1 → (u * 16 + (a * 8 + b * 4 + d * 2 + e)) / 2 % 2 ≡ d
     by a b d e p q r s = omega arith
-codes_packed u n z v c code.carry = ap (λ x. x == 1) (by (bit n) (bit z) (bit v) (bit c) (small n) (small z) (small v) (small c)) ∙ is_one c
+codes_packed u n z v c code.carry = ap (λ x. x == 1) (by (bit n) (bit z) (bit v) (bit c) (bit_below n) (bit_below z) (bit_below v) (bit_below c)) ∙ is_one c
   where
     by : (a b d e : ℕ) → a ≤ 1 → b ≤ 1 → d ≤ 1 → e ≤ 1 → (u * 16 + (a * 8 + b * 4 + d * 2 + e)) / 1 % 2 ≡ e
     by a b d e p q r s = omega arith
@@ -160,14 +162,8 @@ stand_codes n z v d n' z' v' d' s t alike one other stand = record {
   on = stand.on;
 }
 
-all_hold : (which : Code) → holds which all ≡ true
-all_hold code.negative = refl
-all_hold code.zero_code = refl
-all_hold code.overflow = refl
-all_hold code.carry = refl
-
 pub none_out : {P : Type 0} (writes : Flags) (which : Code) → writes ≡ all → holds which writes ≡ false → P
-none_out writes which e h = let is = all_hold which in absurd (cc (ap (holds which) e, is, h))
+none_out writes which e h = let is = holds_all which in absurd (cc (ap (holds which) e, is, h))
 
 -- all four codes
 pub use_all : {pages : Pages} {c : Case} {k : Flags} {g : Bool} (n z v d : Bool) → c.used.writes ≡ all → Uses pages c k g c.used.writes g (change (with_codes n z v d))

@@ -20,7 +20,8 @@ use Rattle.vax_meaning.specs.Evaluation.{operand, nothings, nothing, find, read_
 use Rattle.vax_form.specs.declared.pages.Pages.{Pages}
 use Rattle.image_meaning.proofs.Keeping.{Keeps, Any, keep_pure, keep_bind, keep_get}
 use Rattle.image_meaning.proofs.Memory.{keep_fetch}
-use Rattle.image_meaning.proofs.Operands.{FitsOperand, FitsLocation, Writable, bytes_least, bytes_most, keep_locate, keep_modify_at}
+use Rattle.vax_form.proofs.GrammarLengths.{bytes_of-most}
+use Rattle.image_meaning.proofs.Operands.{FitsOperand, FitsLocation, Writable, bytes_least, keep_locate, keep_modify_at}
 
 -- what is modified may be written where it is
 abbrev pub IfModified : Access → Type 0 → Type 0
@@ -74,7 +75,7 @@ keep_read_found : {pages : Pages} {w : Bool} (from : Operand) (at : Location) (s
 unfolding read_found
 keep_read_found (Value value) at size fits = keep_pure tt
 keep_read_found (Register n) at size fits = keep_get (λ state is. tt)
-keep_read_found (Place base index) (InMemory address) size fits = keep_bind (keep_fetch address (bytes_of size) fits (bytes_least size) (bytes_most size)) (λ value _. keep_pure tt)
+keep_read_found (Place base index) (InMemory address) size fits = keep_bind (keep_fetch address (bytes_of size) fits (bytes_least size) (bytes_of-most size)) (λ value _. keep_pure tt)
 keep_read_found (Place base index) (InRegister n) size fits = keep_pure tt
 keep_read_found Unused at size fits = keep_pure tt
 keep_read_found (Target address) at size fits = keep_pure tt

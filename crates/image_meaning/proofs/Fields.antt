@@ -20,7 +20,7 @@ use Rattle.vax_form.specs.declared.pages.Pages.{Pages}
 use Rattle.image_meaning.proofs.Keeping.{Keeps, Any, keep_pure, keep_bind, keep_then, keep_choice, keep_fail, keep_written, kept, stay_check_write}
 use Rattle.image_meaning.proofs.Allowed.{first_allowed, read_allowed}
 use Rattle.image_meaning.proofs.States.{IsLongword, low_longword}
-use Rattle.image_meaning.proofs.Memory.{keep_read, keep_write, keep_fetch, keep_lock}
+use Rattle.image_meaning.proofs.Memory.{byte_fits, keep_read, keep_write, keep_fetch, keep_lock}
 use Rattle.image_meaning.proofs.Operands.{FitsLocation, low_fits, keep_put}
 use Rattle.image_meaning.proofs.Evaluations.{FitsValues}
 use Rattle.image_meaning.proofs.Codes.{FitsInstr, keep_go_to, pc_after_is}
@@ -97,9 +97,6 @@ unfolding leave_bit
 keep_leave_bit n registers position Nothing = keep_written (keep_pure tt)
 keep_leave_bit n registers position (Plain value) = keep_put (InRegister n) Long (with_bits registers (position % 32) 1 (bit value)) tt tt tt
 keep_leave_bit n registers position (Interlocked value) = keep_put (InRegister n) Long (with_bits registers (position % 32) 1 (bit value)) tt tt tt
-
-byte_fits : (address : ℕ) → address % 8 + 1 ≤ 8
-byte_fits address = omega arith
 
 keep_byte_found : {pages : Pages} (address number : ℕ) (store : BitStore) → IsLongword address → number < 8 → Keeps pages false true Any (byte_found address number store)
 unfolding byte_found

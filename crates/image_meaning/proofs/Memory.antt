@@ -13,6 +13,10 @@ use Rattle.image_meaning.proofs.Keeping.{Keeps, Stays, Any, kept, stay_pure, sta
 use Rattle.image_meaning.proofs.Allowed.{Allows, first_allowed}
 use Rattle.image_meaning.proofs.States.{IsLongword, low_longword}
 
+-- a byte stands in one quadword
+pub byte_fits : (address : ℕ) → address % 8 + 1 ≤ 8
+byte_fits address = omega arith
+
 pub stay_read_part : {pages : Pages} {w : Bool} (address count : ℕ) → IsLongword address → address % 8 + count ≤ 8 → is_allowed pages address false ≡ true
     → Stays pages w w Any (read_part address count)
 stay_read_part address count small within may =

@@ -1,6 +1,7 @@
 -- Operands: where they are is an address, and evaluating them leaves a state.
 use Rattle.std.proofs.Common.{ℕ, ◌+◌, ◌-◌, ◌*◌, ◌/◌, ◌%◌, ◌<◌, ◌≤◌, ◌^◌, min, Bool, true, false, Option, Some, None, arith, lit<}
 use Rattle.vax_form.specs.Size.{bytes_of, size_of}
+use Rattle.vax_form.proofs.GrammarLengths.{bytes_of-most}
 use Rattle.vax_form.specs.State.{IsState, register, with_register}
 use Rattle.vax_form.specs.declared.instr.Size.{Size}
 use Rattle.vax_form.specs.declared.instr.Size.TheVariants.{Byte, Word, Long, Quad}
@@ -47,12 +48,6 @@ FitsSize Byte value = Unit {0}
 FitsSize Word value = Unit {0}
 FitsSize Long value = Unit {0}
 FitsSize Quad value = value < 2 ^ 64
-
-pub bytes_most : (size : Size) → bytes_of size ≤ 8
-bytes_most Byte = omega arith
-bytes_most Word = omega arith
-bytes_most Long = omega arith
-bytes_most Quad = omega arith
 
 pub bytes_least : (size : Size) → 1 ≤ bytes_of size
 bytes_least Byte = omega arith
@@ -128,7 +123,7 @@ unfolding modify_at
 keep_modify_at (InRegister n) size fits = keep_get (λ state is. tt)
 keep_modify_at {pages = pages} (InMemory address) size fits =
     keep_bind (kept (stay_check_write address (bytes_of size) fits)) (λ _ all.
-    keep_bind {P = Any} (keep_read address (bytes_of size) fits (bytes_least size) (bytes_most size) (read_allowed pages address (bytes_of size) all)) (λ value _. keep_pure all))
+    keep_bind {P = Any} (keep_read address (bytes_of size) fits (bytes_least size) (bytes_of-most size) (read_allowed pages address (bytes_of size) all)) (λ value _. keep_pure all))
 
 with_low_is : (size : Size) (old value : ℕ) → IsLongword old → IsLongword (with_low size old value)
 with_low_is Byte old value small = omega arith
@@ -150,7 +145,7 @@ pub keep_put : {pages : Pages} {w : Bool} (location : Location) (size : Size) (v
     → Keeps pages w true Any (put location size value)
 unfolding put
 keep_put (InRegister n) size value fits sized may = keep_written (keep_change (λ state is. put_register_is n size value state sized is))
-keep_put (InMemory address) size value fits sized may = keep_write address (bytes_of size) value fits (bytes_least size) (bytes_most size) may
+keep_put (InMemory address) size value fits sized may = keep_write address (bytes_of size) value fits (bytes_least size) (bytes_of-most size) may
 
 pub keep_store : {pages : Pages} (location : Location) (size : Size) (value : ℕ) → FitsLocation location → FitsSize size value → Keeps pages false true Any (store location size value)
 unfolding store

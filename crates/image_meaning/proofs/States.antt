@@ -43,7 +43,7 @@ with_handler_is handler state small is = record { registers = is.registers; long
 pub with_pending_is : (pending : Pending) (state : VaxState) → IsState state → IsState (with_pending pending state)
 with_pending_is pending state is = record { registers = is.registers; longwords = is.longwords; pc = is.pc; psw = is.psw; handler = is.handler }
 
-bit_below : (b : Bool) → bit b ≤ 1
+pub bit_below : (b : Bool) → bit b ≤ 1
 bit_below true = omega arith
 bit_below false = omega arith
 

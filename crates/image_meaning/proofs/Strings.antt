@@ -1,5 +1,5 @@
 -- Character strings, byte by byte, and INDEX.
-use Rattle.std.proofs.Common.{ℕ, zero, suc, ◌+◌, ◌-◌, ◌%◌, ◌≤◌, ◌^◌, ◌==◌, min, Bool, true, false, not, arith, lit<, List}
+use Rattle.std.proofs.Common.{ℕ, zero, suc, ◌+◌, ◌-◌, ◌≤◌, ◌^◌, ◌==◌, min, Bool, true, false, not, arith, lit<, List}
 use Rattle.std.specs.Prelude.{nat_le}
 use Rattle.vax_form.specs.Script.{change}
 use Rattle.vax_form.specs.State.{IsState, with_register}
@@ -16,15 +16,12 @@ use Rattle.vax_form.specs.declared.pages.Pages.{Pages}
 use Rattle.image_meaning.proofs.Keeping.{Keeps, Any, keep_pure, keep_bind, keep_then, keep_either, keep_change, keep_written, kept, stay_bind, stay_check_read, stay_check_write}
 use Rattle.image_meaning.proofs.Allowed.{Allows, Walk, first_allowed, walk_up, walk_string}
 use Rattle.image_meaning.proofs.States.{IsLongword, low_longword, with_register_is}
-use Rattle.image_meaning.proofs.Memory.{stay_read_part, stay_write_part}
+use Rattle.image_meaning.proofs.Memory.{byte_fits, stay_read_part, stay_write_part}
 use Rattle.image_meaning.proofs.Operands.{keep_set_register, keep_store}
 use Rattle.image_meaning.proofs.Evaluations.{FitsValues}
 use Rattle.image_meaning.proofs.Codes.{FitsInstr, keep_codes, keep_comparison, keep_pc, keep_go_to}
 
 -- ---- addresses and counts
-
-byte_fits : (address : ℕ) → address % 8 + 1 ≤ 8
-byte_fits address = omega arith
 
 beyond_is : (address count : ℕ) → IsLongword (beyond address count)
 beyond_is address count = low_longword (address + count)

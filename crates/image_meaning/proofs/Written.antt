@@ -1,9 +1,7 @@
 -- An instruction's opcode is the byte at its address.
-use Rattle.std.proofs.Common.{◌≡◌, ℕ, ◌+◌, ◌<◌, ◌%◌, ◌^◌, List, ◌∷◌, length, Option, Some, refl, sym, ap, ◌∙◌, subst, arith}
-use Rattle.std.specs.Prelude.{slice_get}
-use Rattle.vax_form.specs.Grammar.{Spells, instruction, wrapped}
-use Rattle.vax_form.specs.GrammarFound.{IsFetched, Stands, found}
-use Rattle.vax_form.specs.GrammarLaws.{AreBytes}
+use Rattle.std.proofs.Common.{◌≡◌, ℕ, ◌+◌, ◌<◌, ◌^◌, List, ◌∷◌, Some, sym, ap, ◌∙◌, subst, arith}
+use Rattle.vax_form.specs.Grammar.{instruction, wrapped}
+use Rattle.vax_form.specs.GrammarFound.{IsFetched, Stands}
 use Rattle.vax_form.specs.Pages.{code_byte_at}
 use Rattle.vax_form.specs.declared.instr.Instr.{Instr}
 use Rattle.vax_form.specs.declared.pages.Pages.{Pages}

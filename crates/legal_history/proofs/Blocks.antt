@@ -1,6 +1,7 @@
 -- What a block's judgement owes at each step of a processor.
-use Rattle.std.proofs.Common.{◌≡◌, ℕ, ◌<◌, ◌≤◌, ◌+◌, ◌-◌, ◌*◌, ◌/◌, ◌%◌, ◌^◌, ◌==◌, ◌&&◌, ◌⊎◌, inl, inr, Bool, true, false, if◌then◌else◌, [], Option, Some, None, refl, sym, ap, ◌∙◌, subst, arith, lit<}
+use Rattle.std.proofs.Common.{◌≡◌, ℕ, ◌<◌, ◌≤◌, ◌+◌, ◌-◌, ◌*◌, ◌/◌, ◌%◌, ◌^◌, ◌==◌, ◌⊎◌, inl, inr, Bool, true, false, if◌then◌else◌, [], Option, Some, None, refl, sym, ap, ◌∙◌, subst, arith, lit<}
 use Rattle.std.specs.Prelude.{nat_lt}
+use Rattle.std.proofs.lemmas.Bool.{and_from}
 use Rattle.std.proofs.lemmas.Bool.Decides.{nat_tests}
 use Rattle.std.proofs.Math.Path.{fun_ext}
 use Rattle.vt_words.specs.Quad.{sign_extended}
@@ -67,10 +68,6 @@ longword_of n (inr h) = omega (arith, h)
 
 zero_test : (n : ℕ) → n ≡ 0 → (n == 0) ≡ true
 zero_test n h = grind (arith, nat_tests)
-
-both_true : (a b : Bool) → a ≡ true → b ≡ true → (a && b) ≡ true
-both_true true b h k = k
-both_true false b h k = absurd (cc h)
 
 -- the lock that a phase is
 abbrev pub phase_lock : Phase → Option Lock
@@ -424,7 +421,7 @@ module _ (setting : Setting) (thread : ℕ) (sound : IsSound setting.meaning) (r
     acts_owed lt i phase t c spare round (Calls number) is h = called_owed lt (call_of number) (point_at setting.code.points c.pc) phase t c spare (stepped round) h
     acts_owed lt i phase t c spare round (Asks a) is h =
         let within = asks_within i c a is h.0 in
-        let defined : is_defined setting a ≡ true = both_true (a.address % a.bytes == 0) (is_allowed setting.meaning.pages (quad_of a) (stores a.kind)) (zero_test (a.address % a.bytes) h.0) h.1 in
+        let defined : is_defined setting a ≡ true = and_from (a.address % a.bytes == 0) (is_allowed setting.meaning.pages (quad_of a) (stores a.kind)) (zero_test (a.address % a.bytes) h.0) h.1 in
         subst (λ x. OwedNext setting.meaning.pages (Owes b held) (IsForm setting) (λ l. l) (setting.meaning.kinds b.pc) retired (phase_lock phase) spare t (accesses x setting m i a c)) (sym defined)
         (access_owed a.kind phase a.address a.bytes a.value i c spare round t within h.2 h.3)
 

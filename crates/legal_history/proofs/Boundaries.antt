@@ -1,11 +1,12 @@
 -- Boundaries: registers set from a state show it, and a mapped boundary begins a block.
-use Rattle.std.proofs.Common.{◌≡◌, ℕ, zero, suc, ◌<◌, ◌≤◌, ◌+◌, ◌-◌, ◌*◌, ◌/◌, ◌%◌, ◌^◌, ◌==◌, Bool, true, false, if◌then◌else◌, List, [], ◌∷◌, length, Option, Some, None, refl, sym, ap, ◌∙◌, arith, lit<, All}
+use Rattle.std.proofs.Common.{◌≡◌, ℕ, zero, suc, ◌<◌, ◌≤◌, ◌+◌, ◌*◌, ◌/◌, ◌%◌, ◌^◌, ◌==◌, Bool, true, false, if◌then◌else◌, List, [], ◌∷◌, length, Option, Some, None, refl, sym, ap, ◌∙◌, arith, lit<, All}
 use Rattle.block_law.specs.Rounds.{block_steps, new_round}
 use Rattle.std.specs.Prelude.{nat_lt, map, slice_index}
 use Rattle.std.specs.List.{list_any}
 use Rattle.std.proofs.lemmas.Bool.Decides.{nat_tests}
 use Rattle.vt_words.specs.Quad.{sign_extended}
 use Rattle.vt_words.specs.Values.{bit}
+use Rattle.vt_words.proofs.Longwords.{extended_low, extended_again}
 use Rattle.address_map.specs.Pairs.{word_at}
 use Rattle.alpha_meaning.specs.Pieces.{Plain}
 use Rattle.alpha_meaning.specs.State.{Regs, at_place}
@@ -27,18 +28,8 @@ use Rattle.system_model.specs.Processors.{all_held, registers_of}
 use Rattle.block_law.specs.Sound.{IsSound}
 use Rattle.legal_history.proofs.Blocks.{IsForm, Owes}
 
-low_of : (x : ℕ) → sign_extended x 32 % 2 ^ 32 ≡ x % 2 ^ 32
-low_of x = by (nat_lt (x % 2 ^ 32) (2 ^ 31))
-  where
-    by : (b : Bool) → (if b then x % 2 ^ 32 else x % 2 ^ 32 + (2 ^ 64 - 2 ^ 32)) % 2 ^ 32 ≡ x % 2 ^ 32
-    by true = omega arith
-    by false = omega arith
-
-extended_again : (x : ℕ) → sign_extended (sign_extended x 32) 32 ≡ sign_extended x 32
-extended_again x = ap (λ low. if nat_lt low (2 ^ 31) then low else low + (2 ^ 64 - 2 ^ 32)) (low_of x)
-
 low_small : (x : ℕ) → x < 2 ^ 32 → sign_extended x 32 % 2 ^ 32 ≡ x
-low_small x h = low_of x ∙ small
+low_small x h = extended_low x ∙ small
   where
     small : x % 2 ^ 32 ≡ x
     small = omega arith

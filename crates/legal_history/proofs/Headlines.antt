@@ -5,6 +5,7 @@ use Rattle.std.specs.Prelude.{map, option_map, slice_get}
 use Rattle.std.specs.List.{AllByRecursion}
 use Rattle.std.proofs.lemmas.List.{length-append}
 use Rattle.std.proofs.lemmas.List.Elements.{All-nil, All-cons}
+use Rattle.std.proofs.lemmas.Option.{slice_get_within}
 use Rattle.alpha_meaning.specs.State.{Alpha, Regs, at_place}
 use Rattle.image_file.specs.Start.{start_state}
 use Rattle.image_file.specs.Whole.{StartFits}
@@ -52,11 +53,6 @@ beyond : {A : Type 0} (xs : List A) (n : ℕ) → slice_get xs n ≡ None → le
 beyond [] n h = omega arith
 beyond (x ∷ xs) zero h = absurd (cc h)
 beyond (x ∷ xs) (suc n) h = omega (arith, beyond xs n h)
-
-pub within : {A : Type 0} (xs : List A) (n : ℕ) (x : A) → slice_get xs n ≡ Some x → n < length xs
-within [] n x h = absurd (cc h)
-within (y ∷ ys) zero x h = omega arith
-within (y ∷ ys) (suc n) x h = omega (arith, within ys n x h)
 
 pub there_is : {A : Type 0} (xs : List A) (n : ℕ) → n < length xs → (x : A) × (slice_get xs n ≡ Some x)
 there_is [] n h = absurd (omega arith)
@@ -166,7 +162,7 @@ module _ (setting : Setting) (set_up : SetUp) (budget : ℕ) (entries : List Ent
   -- the facts of each processor
   each_facts : (thread : ℕ) (p : Processor) → slice_get processors thread ≡ Some p → Facts setting begin thread (own thread entries) p
   each_facts thread p at =
-      let lt = within processors thread p at in
+      let lt = slice_get_within processors thread p at in
       let s = there_is set_up.image.threads thread (omega (arith, lt, legal.count)) in
       let h : begin thread ≡ Some (start_state s.0) = ap (option_map start_state) s.1 in
       facts_of setting set_up entries sound meets run legal.order budget thread (start_state s.0) p h (legal.each thread (start_state s.0) p h at)

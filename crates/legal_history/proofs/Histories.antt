@@ -47,46 +47,20 @@ other_place false a q h t = absurd (cc t)
 silent_writes : (kind : Kind) (success : Bool) → counts kind success ≡ false → writes kind success ≡ false
 silent_writes kinds.LoadLocked success c = refl
 silent_writes kinds.StoreConditional success c = c
-silent_writes kinds.Load success c = absurd (cc c)
-silent_writes kinds.Store success c = absurd (cc c)
-silent_writes kinds.TieRead success c = absurd (cc c)
-silent_writes kinds.TieWrite success c = absurd (cc c)
-silent_writes kinds.TieLocked success c = absurd (cc c)
-silent_writes kinds.Put success c = absurd (cc c)
-silent_writes kinds.Get success c = absurd (cc c)
+silent_writes kind success c = absurd (cc c)
 
 silent_kind : (kind : Kind) (success : Bool) → counts kind success ≡ false → is_memory kind ≡ true
-silent_kind kinds.LoadLocked success c = refl
-silent_kind kinds.StoreConditional success c = refl
-silent_kind kinds.Load success c = refl
-silent_kind kinds.Store success c = refl
-silent_kind kinds.TieRead success c = refl
-silent_kind kinds.TieWrite success c = refl
-silent_kind kinds.TieLocked success c = refl
 silent_kind kinds.Put success c = absurd (cc c)
 silent_kind kinds.Get success c = absurd (cc c)
+silent_kind kind success c = refl
 
 no_put : (kind : Kind) → is_memory kind ≡ true → is_put kind ≡ false
 no_put kinds.Put m = absurd (cc m)
-no_put kinds.Load m = refl
-no_put kinds.LoadLocked m = refl
-no_put kinds.Store m = refl
-no_put kinds.StoreConditional m = refl
-no_put kinds.TieRead m = refl
-no_put kinds.TieWrite m = refl
-no_put kinds.TieLocked m = refl
-no_put kinds.Get m = absurd (cc m)
+no_put kind m = refl
 
 no_get : (kind : Kind) → is_memory kind ≡ true → is_get kind ≡ false
-no_get kinds.Put m = absurd (cc m)
-no_get kinds.Load m = refl
-no_get kinds.LoadLocked m = refl
-no_get kinds.Store m = refl
-no_get kinds.StoreConditional m = refl
-no_get kinds.TieRead m = refl
-no_get kinds.TieWrite m = refl
-no_get kinds.TieLocked m = refl
 no_get kinds.Get m = absurd (cc m)
+no_get kind m = refl
 
 memory_output : (past : List Entry) (e : Entry) → is_put e.kind ≡ false → output_of (e ∷ past) ≡ output_of past
 memory_output past e h = rw h refl

@@ -8,7 +8,7 @@ use Rattle.vax_form.specs.References.{FitsQuadword}
 use Rattle.vax_form.specs.State.{Answers, AnswersKind}
 use Rattle.vax_form.specs.declared.state.Reference.{Reference}
 use Rattle.vax_form.specs.declared.state.RefKind.{RefKind}
-use Rattle.vax_form.specs.declared.state.RefKind.TheVariants.{Read, Write, Add, SetBit, ClearBit, Put, Get}
+use Rattle.vax_form.specs.declared.state.RefKind.TheVariants.{Read, Put, Get}
 use Rattle.block_law.specs.References.{reply_by}
 use Rattle.block_law.proofs.Blocks.{reply_answers}
 use Rattle.system_model.specs.Processors.{request_of, entry_by, kind_by}
@@ -20,13 +20,9 @@ use Rattle.legal_history.proofs.Judged.{share_by}
 use Rattle.system_model.specs.Quadwords.{place_of, quad_address, change_by, change_of, reply_from, IsOfKind, IsOf}
 
 fits_kind : (what : RefKind) (r : Reference) (e : Entry) (lock : Option Lock) → IsOfKind what r e → IsFair e.kind lock e.quad e.before e.success → AnswersKind what r.count (reply_by what (place_of r) r.count e.before)
-fits_kind Read r e lock i f = reply_answers Read (place_of r) r.count e.before refl
-fits_kind (Write value) r e lock i f = reply_answers (Write value) (place_of r) r.count e.before refl
-fits_kind (Add value) r e lock i f = reply_answers (Add value) (place_of r) r.count e.before refl
-fits_kind (SetBit n) r e lock i f = reply_answers (SetBit n) (place_of r) r.count e.before refl
-fits_kind (ClearBit n) r e lock i f = reply_answers (ClearBit n) (place_of r) r.count e.before refl
 fits_kind (Put byte) r e lock i f = refl
 fits_kind Get r e lock i f = f.input i
+fits_kind what r e lock i f = reply_answers what (place_of r) r.count e.before refl
 
 -- what is replied by an entry of a reference can be given to it
 pub reply_fits : (r : Reference) (e : Entry) (lock : Option Lock) → IsOf r e → IsFair e.kind lock e.quad e.before e.success → Answers r (reply_from r e)
@@ -35,12 +31,7 @@ reply_fits r e lock i f = fits_kind r.kind r e lock i f
 -- ---- interpreted references
 tie_counts_by : (what : RefKind) (success : Bool) → counts (kind_by what) success ≡ true
 tie_counts_by Read success = refl
-tie_counts_by (Write value) success = refl
-tie_counts_by (Add value) success = refl
-tie_counts_by (SetBit n) success = refl
-tie_counts_by (ClearBit n) success = refl
-tie_counts_by (Put byte) success = refl
-tie_counts_by Get success = refl
+tie_counts_by what success = refl
 
 pub tie_counts : (q : Reference) (success : Bool) → counts (kind_by q.kind) success ≡ true
 tie_counts q success = tie_counts_by q.kind success
@@ -53,13 +44,9 @@ accessed : (what : RefKind) (r : Reference) → r.kind ≡ what → (before : �
 accessed what r k before = ap (λ (w : RefKind). changed (change_by w (place_of r) r.count) before) (sym k)
 
 tie_is_by : (what : RefKind) (r : Reference) → r.kind ≡ what → (thread retired before : ℕ) (success : Bool) → FitsQuadword r → IsOfKind what r (entry_by (asked_by what r thread retired) before success)
-tie_is_by Read r k thread retired before success fits = record { memory = refl; fits = fits; quad = refl; after = accessed Read r k before }
-tie_is_by (Write value) r k thread retired before success fits = record { memory = refl; fits = fits; quad = refl; after = accessed (Write value) r k before }
-tie_is_by (Add value) r k thread retired before success fits = record { memory = refl; fits = fits; quad = refl; after = accessed (Add value) r k before }
-tie_is_by (SetBit n) r k thread retired before success fits = record { memory = refl; fits = fits; quad = refl; after = accessed (SetBit n) r k before }
-tie_is_by (ClearBit n) r k thread retired before success fits = record { memory = refl; fits = fits; quad = refl; after = accessed (ClearBit n) r k before }
 tie_is_by (Put byte) r k thread retired before success fits = (refl, refl)
 tie_is_by Get r k thread retired before success fits = refl
+tie_is_by what r k thread retired before success fits = record { memory = refl; fits = fits; quad = refl; after = accessed what r k before }
 
 -- the entry of an interpreted reference is of it
 pub tie_is : (r : Reference) (thread retired before : ℕ) (success : Bool) → FitsQuadword r → IsOf r (entry_by (request_of thread retired r) before success)
@@ -68,48 +55,28 @@ tie_is r thread retired before success fits = tie_is_by r.kind r refl thread ret
 -- it is no lock, has none before it, and allows as many steps more as a block may take
 tie_free_by : (what : RefKind) (quad before : ℕ) → lock_by (kind_by what) quad before ≡ None
 tie_free_by Read quad before = refl
-tie_free_by (Write value) quad before = refl
-tie_free_by (Add value) quad before = refl
-tie_free_by (SetBit n) quad before = refl
-tie_free_by (ClearBit n) quad before = refl
-tie_free_by (Put byte) quad before = refl
-tie_free_by Get quad before = refl
+tie_free_by what quad before = refl
 
 pub tie_free : (q : Reference) (quad before : ℕ) → lock_by (kind_by q.kind) quad before ≡ None
 tie_free q quad before = tie_free_by q.kind quad before
 
 tie_paired_by : (what : RefKind) (quad : ℕ) → Paired (kind_by what) None quad
 tie_paired_by Read quad = tt
-tie_paired_by (Write value) quad = tt
-tie_paired_by (Add value) quad = tt
-tie_paired_by (SetBit n) quad = tt
-tie_paired_by (ClearBit n) quad = tt
-tie_paired_by (Put byte) quad = tt
-tie_paired_by Get quad = tt
+tie_paired_by what quad = tt
 
 pub tie_paired : (q : Reference) (lock : Option Lock) (quad : ℕ) → lock ≡ None → Paired (kind_by q.kind) lock quad
 tie_paired q lock quad free = subst (λ l. Paired (kind_by q.kind) l quad) (sym free) (tie_paired_by q.kind quad)
 
 tie_kind_by : (what : RefKind) → IsTie (kind_by what)
 tie_kind_by Read = tt
-tie_kind_by (Write value) = tt
-tie_kind_by (Add value) = tt
-tie_kind_by (SetBit n) = tt
-tie_kind_by (ClearBit n) = tt
-tie_kind_by (Put byte) = tt
-tie_kind_by Get = tt
+tie_kind_by what = tt
 
 pub tie_kind : (q : Reference) → IsTie (kind_by q.kind)
 tie_kind q = tie_kind_by q.kind
 
 tie_share_by : (what : RefKind) (success : Bool) (share : ℕ) → share_by (kind_by what) success share ≡ share + block_steps
 tie_share_by Read success share = refl
-tie_share_by (Write value) success share = refl
-tie_share_by (Add value) success share = refl
-tie_share_by (SetBit n) success share = refl
-tie_share_by (ClearBit n) success share = refl
-tie_share_by (Put byte) success share = refl
-tie_share_by Get success share = refl
+tie_share_by what success share = refl
 
 pub tie_share : (q : Reference) (success : Bool) (share : ℕ) → share_by (kind_by q.kind) success share ≡ share + block_steps
 tie_share q success share = tie_share_by q.kind success share

@@ -3,6 +3,7 @@ use Rattle.std.proofs.Common.{◌≡◌, ℕ, zero, suc, ◌<◌, ◌≤◌, Boo
 use Rattle.std.specs.Prelude.{◌==◌, if◌then◌else◌, slice_get}
 use Rattle.std.specs.List.{AllByRecursion}
 use Rattle.std.proofs.lemmas.List.Elements.{All-from_get_or}
+use Rattle.std.proofs.lemmas.Option.{slice_get_within}
 use Rattle.image_file.specs.Memory.{byte_in}
 use Rattle.image_file.specs.Limits.{most_threads}
 use Rattle.image_file.specs.Whole.{StartFits, IsStart, IsWhole}
@@ -10,7 +11,6 @@ use Rattle.image_file.specs.declared.image.Start.{Start}
 use Rattle.memory_core.specs.declared.entry.SetUp.{SetUp}
 use Rattle.vax_form.specs.References.{AreBytes}
 use Rattle.legal_history.specs.Law.{IsRun}
-use Rattle.legal_history.proofs.Headlines.{within}
 
 start_fits : (version : ℕ) (starts : List Start) (thread : ℕ) (start : Start) → AllByRecursion (IsStart version) starts → slice_get starts thread ≡ Some start → StartFits start
 start_fits version [] thread start fit at = absurd (cc at)
@@ -28,7 +28,7 @@ pub whole_is_run : (set_up : SetUp) → IsWhole set_up.image → AreBytes (byte_
 whole_is_run set_up whole image input = record {
   bytes = record { image = image; input = All-from_get_or (λ byte. byte < 256) set_up.input 0 (λ k lt. input k) };
   starts = λ thread start at.
-      let number : thread < length set_up.image.threads = within set_up.image.threads thread start at in
+      let number : thread < length set_up.image.threads = slice_get_within set_up.image.threads thread start at in
       let fits = start_fits set_up.image.version set_up.image.threads thread start whole.room.starts_fit at in
       (omega (arith, number, whole.room.threads, few_threads set_up.image.version), fits);
 }

@@ -1,4 +1,4 @@
-use Rattle.std.proofs.Common.{◌≡◌, ◌∙◌, ◌≤◌, ℕ, List, ap, arith, refl, subst, length}
+use Rattle.std.proofs.Common.{◌≡◌, ◌∙◌, ℕ, List, ap, arith, refl, subst, length}
 use Rattle.std.specs.List.{filter_map}
 use Rattle.vax_form.specs.declared.pages.Pages.{Pages}
 use Rattle.flow_discovery.specs.Reach.{AreReached, IsReach, instruction_at}
