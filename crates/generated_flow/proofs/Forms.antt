@@ -2,6 +2,7 @@
 use Rattle.std.proofs.Common.{◌≡◌, ℕ, ◌+◌, ◌≤◌, List, [], ◌∷◌, length, refl, arith, lit<}
 use Rattle.std.specs.Int.{w16, to_le_bytes}
 use Rattle.vax_form.specs.Grammar.{Spells, number, padded, wrapped, immediate, literal, place, register, word_displacement, extended}
+use Rattle.vax_form.specs.GrammarRows.{operand_types}
 use Rattle.vax_form.specs.Operation.{operation_at, integer_opcodes, control_opcodes, mixed_opcodes, move_opcodes, bit_opcodes}
 use Rattle.vax_form.specs.Row.{operands_of}
 use Rattle.vax_form.specs.declared.instr.Access.TheVariants.{Read, Write, Modify}
@@ -10,7 +11,7 @@ use Rattle.vax_form.specs.declared.instr.Instr.{Instr}
 use Rattle.vax_form.specs.declared.instr.Operand.{Operand}
 use Rattle.vax_form.specs.declared.instr.Operand.TheVariants.{Value, Register, Place}
 use Rattle.vax_form.specs.declared.instr.Size.TheVariants.{Byte, Word, Long}
-use Rattle.std.specs.Prelude.{None, false}
+use Rattle.std.specs.Prelude.{Some, None, false}
 use Rattle.flow_discovery.specs.Flow.{falls_through, goes_on, jump_addresses}
 use Rattle.vax_form.specs.declared.pages.Pages.{Pages}
 use Rattle.report_text.specs.Generated.{group_bytes, group_of}
@@ -75,63 +76,46 @@ move at m n small_m small_n =
       goes = λ pages. refl;
     }
 
+-- an instruction with the operands #byte and R2
+abbrev to_register : (at opcode byte : ℕ) → Instr
+to_register at opcode byte = instr_of at opcode 2 4 (Value (number (byte ∷ [])) ∷ Register 2 ∷ [])
+
+-- one that changes the second, and goes on behind itself
+changes_register : (at opcode byte : ℕ) → operand_types opcode ≡ Some ((Read, Byte) ∷ (Modify, Byte) ∷ [])
+    → ((pages : Pages) → goes_on pages (to_register at opcode byte) ≡ wrapped (at + 4) ∷ []) → Goes at (opcode ∷ 0x8F ∷ byte ∷ 0x52 ∷ [])
+changes_register at opcode byte is goes = record {
+  instr = to_register at opcode byte;
+  spells = record {
+    opcode = opcode;
+    types = (Read, Byte) ∷ (Modify, Byte) ∷ [];
+    rest = 0x8F ∷ byte ∷ 0x52 ∷ [];
+    operands = Value (number (byte ∷ [])) ∷ Register 2 ∷ [];
+    is_opcode = is;
+    are_bytes = refl;
+    are_operands = (
+      0x8F ∷ byte ∷ [],
+      0x52 ∷ [],
+      Value (number (byte ∷ [])),
+      Register 2 ∷ [],
+      refl,
+      refl,
+      immediate (byte ∷ []) refl refl refl refl,
+      (0x52 ∷ [], [], Register 2, [], refl, refl, register 2 (lit< tt) (λ e. cc) refl refl, (refl, refl)),
+    );
+    is_instr = refl;
+  };
+  goes = goes;
+}
+
 -- ADDB2 #byte, R2
 add : (at byte : ℕ) → Goes at (0x80 ∷ 0x8F ∷ byte ∷ 0x52 ∷ [])
 unfolding operation_at integer_opcodes control_opcodes mixed_opcodes move_opcodes bit_opcodes operands_of goes_on falls_through jump_addresses
-add at byte =
-    let two : List Operand = Value (number (byte ∷ [])) ∷ Register 2 ∷ [] in
-    record {
-      instr = instr_of at 0x80 2 4 two;
-      spells = record {
-        opcode = 0x80;
-        types = (Read, Byte) ∷ (Modify, Byte) ∷ [];
-        rest = 0x8F ∷ byte ∷ 0x52 ∷ [];
-        operands = two;
-        is_opcode = refl;
-        are_bytes = refl;
-        are_operands = (
-          0x8F ∷ byte ∷ [],
-          0x52 ∷ [],
-          Value (number (byte ∷ [])),
-          Register 2 ∷ [],
-          refl,
-          refl,
-          immediate (byte ∷ []) refl refl refl refl,
-          (0x52 ∷ [], [], Register 2, [], refl, refl, register 2 (lit< tt) (λ e. cc) refl refl, (refl, refl)),
-        );
-        is_instr = refl;
-      };
-      goes = λ pages. refl;
-    }
+add at byte = changes_register at 0x80 byte refl (λ pages. refl)
 
 -- XORB2 #byte, R2
 exclusive_or : (at byte : ℕ) → Goes at (0x8C ∷ 0x8F ∷ byte ∷ 0x52 ∷ [])
 unfolding operation_at integer_opcodes control_opcodes mixed_opcodes move_opcodes bit_opcodes operands_of goes_on falls_through jump_addresses
-exclusive_or at byte =
-    let two : List Operand = Value (number (byte ∷ [])) ∷ Register 2 ∷ [] in
-    record {
-      instr = instr_of at 0x8C 2 4 two;
-      spells = record {
-        opcode = 0x8C;
-        types = (Read, Byte) ∷ (Modify, Byte) ∷ [];
-        rest = 0x8F ∷ byte ∷ 0x52 ∷ [];
-        operands = two;
-        is_opcode = refl;
-        are_bytes = refl;
-        are_operands = (
-          0x8F ∷ byte ∷ [],
-          0x52 ∷ [],
-          Value (number (byte ∷ [])),
-          Register 2 ∷ [],
-          refl,
-          refl,
-          immediate (byte ∷ []) refl refl refl refl,
-          (0x52 ∷ [], [], Register 2, [], refl, refl, register 2 (lit< tt) (λ e. cc) refl refl, (refl, refl)),
-        );
-        is_instr = refl;
-      };
-      goes = λ pages. refl;
-    }
+exclusive_or at byte = changes_register at 0x8C byte refl (λ pages. refl)
 
 -- ROTL #3, R2, R2
 rotate : (at : ℕ) → Goes at (0x9C ∷ 0x03 ∷ 0x52 ∷ 0x52 ∷ [])

@@ -1,11 +1,12 @@
 -- The history behind the last pass that is joined is legal for the processors.
-use Rattle.std.proofs.Common.{◌≡◌, ℕ, ◌<◌, ◌≤◌, ◌==◌, ◌⊎◌, inl, inr, Bool, true, false, if◌then◌else◌, List, [], ◌∷◌, ◌++◌, Some, length, get_or, reverse, take, refl, sym, ap, ◌∙◌, subst, arith, length-append}
+use Rattle.std.proofs.Common.{◌≡◌, ℕ, ◌<◌, ◌≤◌, ◌==◌, ◌⊎◌, inl, inr, Bool, true, false, if◌then◌else◌, List, [], ◌∷◌, ◌++◌, Some, length, get_or, reverse, take, sym, ap, ◌∙◌, subst, arith, length-append}
 use Rattle.std.specs.Prelude.{map, slice_get}
 use Rattle.std.specs.List.{AllByRecursion}
 use Rattle.std.proofs.lemmas.Bool.{cases_lt}
 use Rattle.std.proofs.lemmas.Bool.Decides.{nat_tests}
 use Rattle.std.proofs.lemmas.List.{reverse-append, length-map, length-reverse, nil_from_length}
 use Rattle.std.proofs.lemmas.List.Elements.{filter-append}
+use Rattle.std.proofs.lemmas.Option.{same_Some}
 use Rattle.std.proofs.Math.Seq.{take-append_seam}
 use Rattle.memory_core.specs.Contents.{Contents}
 use Rattle.memory_core.specs.Order.{own}
@@ -24,28 +25,12 @@ use Rattle.system_model.specs.Processors.{Processor}
 use Rattle.system_model.specs.Settings.{Setting}
 use Rattle.tie_switch.specs.Processors.{ProcessorValue, processor_of}
 use Rattle.tie_switch.specs.Turns.{has_ended}
+use Rattle.tie_switch.proofs.Turns.{own_reverse}
 use Rattle.run_threads.specs.declared.job.Job.{Job}
 use Rattle.run_threads.specs.Jobs.{IsDone, IsJoined, HasSplit, HasJoined}
-use Rattle.run_threads.proofs.Places.{first_of, some-is, mapped_at, all_mapped}
+use Rattle.run_threads.proofs.Places.{first_of, mapped_at, all_mapped}
 
 -- ---- entries of one thread
--- where none is the thread's, none is told the other way round
-own_reverse : (thread : ℕ) (entries : List Entry) → own thread entries ≡ [] → own thread (reverse entries) ≡ []
-own_reverse thread [] none = refl
-own_reverse thread (e ∷ entries) none =
-    ap (own thread) (reverse-append (e ∷ []) entries)
-    ∙ filter-append (λ (x : Entry). x.processor == thread) (reverse entries) (e ∷ [])
-    ∙ ap (λ mine. mine ++ own thread (e ∷ [])) (own_reverse thread entries (after (e.processor == thread) none))
-    ∙ here (e.processor == thread) none
-  where
-    here : (b : Bool) → (if b then e ∷ own thread entries else own thread entries) ≡ [] → (if b then e ∷ [] else []) ≡ []
-    here true none = absurd (cc none)
-    here false none = refl
-
-    after : (b : Bool) → (if b then e ∷ own thread entries else own thread entries) ≡ [] → own thread entries ≡ []
-    after true none = absurd (cc none)
-    after false none = none
-
 -- where no thread from n on has any, all are of threads below
 all_below : (n : ℕ) (entries : List Entry) → ((p : ℕ) → n ≤ p → own p entries ≡ []) → AllByRecursion (λ (e : Entry). e.processor < n) entries
 all_below n [] none = tt
@@ -71,7 +56,7 @@ module _ (others_law : OthersKeepReached) (setting : Setting) (memory : SharedMe
   pub reached_by_all : (thread : ℕ) (job : Job) (k : ProcessorValue) → IsDone setting memory budget thread job → IsJoined v job k
       → (start : VaxState) → starts (set_up_of memory).image thread ≡ Some start → IsReached setting budget (set_up_of memory).limit (reverse v.seen) thread start (processor_of k)
   reached_by_all thread job k done joined start begins =
-      let same : done.pass ≡ joined.pass = some-is done.pass joined.pass (sym done.has.there ∙ joined.there) in
+      let same : done.pass ≡ joined.pass = same_Some done.pass joined.pass (sym done.has.there ∙ joined.there) in
       let number : number_of joined.pass ≡ thread = ap number_of (sym same) ∙ done.has.of_it.is.number_is in
       let fits = closed.ended joined.place (ended_as (view_of joined.pass)) joined.at in
       let later = fits.seen.0 in
@@ -81,7 +66,7 @@ module _ (others_law : OthersKeepReached) (setting : Setting) (memory : SharedMe
       let turned : reverse v.seen ≡ reverse later ++ reverse seen = ap reverse (sym fits.seen.1) ∙ reverse-append seen later in
       let few : length (reverse later ++ reverse seen) ≤ (set_up_of memory).limit = omega (arith, closed.legal.room, ap length turned, length-reverse v.seen) in
       let ended = done.ended in
-      let start_is : ended.start ≡ start = some-is ended.start start (sym ended.starts_so ∙ (ap (starts (set_up_of memory).image) done.has.thread_is ∙ begins)) in
+      let start_is : ended.start ≡ start = same_Some ended.start start (sym ended.starts_so ∙ (ap (starts (set_up_of memory).image) done.has.thread_is ∙ begins)) in
       let by_seen : IsReached setting job.processor.budget (set_up_of memory).limit (reverse seen) job.processor.thread ended.start (processor_of job.processor) =
       subst (λ (p : Pass). IsReached setting job.processor.budget (set_up_of memory).limit (reverse (seen_of p)) job.processor.thread ended.start (processor_of job.processor)) same ended.reached in
       let with_budget : IsReached setting budget (set_up_of memory).limit (reverse seen) job.processor.thread ended.start (processor_of job.processor) =

@@ -1,6 +1,7 @@
 -- Passes are joined one after the other.
 use Rattle.std.proofs.Common.{◌≡◌, ℕ, suc, ◌<◌, ◌+◌, List, [], ◌∷◌, ◌++◌, Some, length, get_or, refl, sym, ap, ◌∙◌, subst, arith, length-append}
 use Rattle.std.proofs.lemmas.List.{get_or_default}
+use Rattle.std.proofs.lemmas.Option.{same_Some}
 use lib.ListN.{get_elem?}
 use Rattle.memory_core.specs.Order.{own}
 use Rattle.shared_memory.specs.declared.pass.Pass.{Pass}
@@ -12,7 +13,7 @@ use Rattle.shared_memory.specs.Views as views
 use Rattle.tie_switch.specs.Processors.{ProcessorValue}
 use Rattle.run_threads.specs.declared.job.Job.{Job}
 use Rattle.run_threads.specs.Jobs.{HasPass, AllHavePasses, IsJoined, HasJoined}
-use Rattle.run_threads.proofs.Places.{each-snoc, some-is}
+use Rattle.run_threads.proofs.Places.{each-snoc}
 
 -- one that was joined stays so
 joined_still : (other v w : View) (job : Job) (k : ProcessorValue) → views.HasJoined other v w → IsJoined v job k → IsJoined w job k
@@ -34,7 +35,7 @@ has_pass memory jobs job n all inside at =
 pub its_pass : (memory : SharedMemory) (job : Job) (n : ℕ) (taken : Pass) → (pass : Pass) × HasPass memory n job pass → job.pass ≡ Some taken
     → IsPassOf memory (number_of taken) taken
 its_pass memory job n taken has there =
-    subst (λ (p : Pass). IsPassOf memory (number_of p) p) (some-is has.0 taken (sym has.1.there ∙ there))
+    subst (λ (p : Pass). IsPassOf memory (number_of p) p) (same_Some has.0 taken (sym has.1.there ∙ there))
     (subst (λ (m : ℕ). IsPassOf memory m has.0) (sym has.1.of_it.is.number_is) has.1.of_it)
 
 pub joins_one : (memory : SharedMemory) (given : List ℕ) (keeper next pass : Pass) (jobs : List Job) (ended more : List ProcessorValue) (job : Job) (n : ℕ)

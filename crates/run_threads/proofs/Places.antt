@@ -2,6 +2,7 @@
 use Rattle.std.proofs.Common.{◌≡◌, ℕ, zero, suc, ◌<◌, List, [], ◌∷◌, ◌++◌, Some, length, get_or, refl, sym, arith}
 use Rattle.std.specs.Prelude.{map, slice_get}
 use Rattle.std.specs.List.{AllByRecursion}
+use Rattle.std.proofs.lemmas.Option.{same_Some}
 
 -- at each place, and of one behind them
 pub each-snoc : {A : Type 0} (P : ℕ → A → Type 0) (l : List A) (a : A) → ((j : ℕ) (d : A) → j < length l → P j (get_or l j d)) → P (length l) a
@@ -23,12 +24,9 @@ pub record IsMapped {A B : Type 0} (f : A → B) (l : List A) (j : ℕ) (b : B) 
   pub at : get_or l j of ≡ of
   pub is : b ≡ f of
 
-pub some-is : {A : Type 0} (x y : A) → Some x ≡ Some y → x ≡ y
-some-is x y e = cc
-
 pub mapped_at : {A B : Type 0} (f : A → B) (l : List A) (j : ℕ) (b : B) → slice_get (map f l) j ≡ Some b → IsMapped f l j b
 mapped_at f [] j b e = absurd cc
-mapped_at f (x ∷ l) zero b e = record { of = x; inside = omega arith; at = refl; is = some-is b (f x) (sym e) }
+mapped_at f (x ∷ l) zero b e = record { of = x; inside = omega arith; at = refl; is = same_Some b (f x) (sym e) }
 mapped_at f (x ∷ l) (suc j) b e =
     let m = mapped_at f l j b e in record { of = m.of; inside = omega (arith, m.inside); at = m.at; is = m.is }
 

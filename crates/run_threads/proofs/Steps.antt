@@ -5,6 +5,7 @@ use Rattle.memory_core.specs.declared.entry.Entry.{Entry}
 use Rattle.memory_core.specs.declared.entry.SetUp.{SetUp}
 use Rattle.shared_memory.specs.declared.shared.SharedMemory.{SharedMemory}
 use Rattle.shared_memory.specs.Passes.{set_up_of}
+use Rattle.shared_memory.specs.Views.{Any}
 use Rattle.memory_core.specs.Order.{Meets}
 use Rattle.legal_history.specs.OneProcessor.{ReachedIsSteady}
 use Rattle.system_model.specs.Legal.{starts, IsReached, spent}
@@ -24,37 +25,33 @@ use Rattle.vax_form.specs.declared.state.VaxState.{VaxState}
 use Rattle.run_threads.specs.Processors.{HasEnded, IsBegun, IsUnderWay}
 use Rattle.run_threads.specs.Programs.{CanRun}
 
--- whatever entries of others come
-abbrev pub any : List Entry → Type 0
-any entries = Unit {0}
-
 -- ---- the order of what is seen
 module _ (set_up : SetUp) (p q : Processor) (old new : List Entry) (order : Meets set_up (reverse old)) where
   stays : (r : Processor) → IsStill r q old new → Meets set_up (reverse new)
   stays r still = subst (λ (seen : List Entry). Meets set_up (reverse seen)) (sym still.seen) order
 
-  made : (turn : Turn) → Makes turn set_up any p q old new → Meets set_up (reverse new)
+  made : (turn : Turn) → Makes turn set_up Any p q old new → Meets set_up (reverse new)
   made (Went r) m = stays r m
   made (Asks request on) (inl m) = m.entry.order
   made (Asks request on) (inr r) = r.over.order
   made Over m = stays p m
   made Stuck m = absurd m
 
-  ordered : (setting : Setting) (b : Bool) → MatchBool b (IsStill (spent p) q old new) (Makes (model.turn setting p) set_up any p q old new) → Meets set_up (reverse new)
+  ordered : (setting : Setting) (b : Bool) → MatchBool b (IsStill (spent p) q old new) (Makes (model.turn setting p) set_up Any p q old new) → Meets set_up (reverse new)
   ordered setting true still = stays (spent p) still
   ordered setting false m = made (model.turn setting p) m
 
 -- behind many turns
 many_ordered : (setting : Setting) (set_up : SetUp) (budget : ℕ) (p : Processor) (old : List Entry) → Meets set_up (reverse old)
-    → {n : ℕ} {q : Processor} {new : List Entry} → IsTurns setting set_up any budget p old n q new → Meets set_up (reverse new)
+    → {n : ℕ} {q : Processor} {new : List Entry} → IsTurns setting set_up Any budget p old n q new → Meets set_up (reverse new)
 many_ordered setting set_up budget p old order NoTurn = order
 many_ordered setting set_up budget p old order (Turns {p = x} {q = y} {old = mid} {new = new} more last) =
     ordered set_up x y mid new (many_ordered setting set_up budget p old order more) setting (is_out budget x) last
 
 -- ---- many turns, whatever entries may come
 module _ (setting : Setting) (set_up : SetUp) (may_come : List Entry → Type 0) (seen : List Entry) (k : ProcessorValue) (way : IsUnderWay setting set_up seen k) where
-  over_any : (n : ℕ) (q : Processor) (new : List Entry) → IsTurns setting set_up may_come k.budget way.processor seen n q new → IsTurns setting set_up any k.budget way.processor seen n q new
-  over_any n q new made = more_turns setting set_up may_come any (λ entries come. tt) k.budget way.processor seen made
+  over_any : (n : ℕ) (q : Processor) (new : List Entry) → IsTurns setting set_up may_come k.budget way.processor seen n q new → IsTurns setting set_up Any k.budget way.processor seen n q new
+  over_any n q new made = more_turns setting set_up may_come Any (λ entries come. tt) k.budget way.processor seen made
 
   -- behind each it has a step, and memory can make it
   pub has_steps : ReachedIsSteady → ManyTurnsKeepReached → CanRun setting set_up → (most : ℕ) → HasSteps setting set_up may_come most k seen

@@ -1,5 +1,5 @@
 // Running threads.
-ghost use Rattle.std.specs.Prelude.{◌≡◌, ◌≤◌, [], true, map, reverse, IfOk, vec_capacity};
+ghost use Rattle.std.specs.Prelude.{◌≡◌, true, map, reverse, IfOk};
 ghost use Rattle.std.specs.List.{AllByRecursion};
 ghost use Rattle.image_file.specs.Whole.{IsWhole};
 ghost use Rattle.block_law.specs.Translations.{Meets};
@@ -49,14 +49,6 @@ impl Model for Running {
     ghost invariant = { λ r. IsRunning r.memory r.keeper r.budget r.jobs.items r.ended };
 }
 
-// An empty list with room for so many.
-fn room_for<T>(alloc: Global, count: u8) -> Result<Vec<T>, WantOfMemory>
-    ensures empty { IfOk result (λ list. list.items ≡ []) }
-    ensures room { IfOk result (λ list. count ≤ vec_capacity list) }
-{
-    Vec::with_capacity(alloc, usize::from(count)).map_err(|_| WantOfMemory)
-}
-
 impl Running {
     ghost use Rattle.run_threads.specs.Runs.{RunningValue};
 
@@ -75,8 +67,8 @@ impl Running {
     {
         images_are_runs(image, &input);
         let count = image.threads.len() as u8;
-        let jobs = room_for(alloc, count)?;
-        let ended = room_for(alloc, count)?;
+        let jobs = Vec::with_capacity(alloc, usize::from(count))?;
+        let ended = Vec::with_capacity(alloc, usize::from(count))?;
         let state = MemState::new(alloc, image, input, count, limit, miss)?;
         let (memory, mut keeper) = SharedMemory::new(alloc, state)?;
         let jobs = split_all(&memory, &mut keeper, image, count, budget, jobs);

@@ -1,10 +1,12 @@
 -- A turn keeps a processor reached by its own entries, and a history and its processors legal.
-use Rattle.std.proofs.Common.{◌≡◌, ◌≢◌, ℕ, zero, suc, ◌<◌, ◌≤◌, ◌==◌, ◌&&◌, ◌⊎◌, inl, inr, Bool, true, false, if◌then◌else◌, List, [], ◌∷◌, ◌++◌, length, Some, refl, sym, ap, ◌∙◌, subst, arith}
+use Rattle.std.proofs.Common.{◌≡◌, ◌≢◌, ℕ, zero, suc, ◌<◌, ◌≤◌, ◌==◌, ◌&&◌, inl, inr, Bool, true, false, if◌then◌else◌, List, [], ◌∷◌, ◌++◌, length, Some, refl, sym, ap, ◌∙◌, subst, arith}
 use Rattle.std.specs.Prelude.{MatchBool, option_map, reverse, slice_get, slice_set}
 use Rattle.std.specs.List.{AllByRecursion}
+use Rattle.std.proofs.lemmas.Bool.{and_parts}
 use Rattle.std.proofs.lemmas.Bool.Decides.{nat_tests}
-use Rattle.std.proofs.lemmas.List.{append-nil, reverse-append, length-reverse}
+use Rattle.std.proofs.lemmas.List.{append-nil, reverse-append, length-reverse, length-set}
 use Rattle.std.proofs.lemmas.List.Elements.{filter-append}
+use Rattle.std.proofs.lemmas.Option.{slice_get_within}
 use Rattle.image_file.specs.Start.{start_state}
 use Rattle.memory_core.specs.Contents.{entry_for}
 use Rattle.memory_core.specs.Order.{own, Meets}
@@ -13,9 +15,10 @@ use Rattle.memory_core.specs.declared.entry.Request.{Request}
 use Rattle.memory_core.specs.declared.entry.SetUp.{SetUp}
 use Rattle.vax_form.specs.declared.state.VaxState.{VaxState}
 use Rattle.system_model.specs.Laws.{StepsKeepReached, AccessesKeepReached, EndsKeepReached, OthersKeepReached, RequestsAreOwn, ReachedAreLegal}
-use Rattle.system_model.specs.Legal.{starts, spent, IsGoing, IsAsking, IsSpent, IsReached, IsLegal}
+use Rattle.system_model.specs.Legal.{starts, spent, IsGoing, IsAsking, IsReached, IsLegal}
 use Rattle.system_model.specs.Processors.{Mode, New, Runs, Interprets, Ended, Processor, Turn, Went, Asks, Over, Stuck, turn, turn_in, mode_of, entry_by}
 use Rattle.system_model.specs.Settings.{Setting}
+use Rattle.system_model.proofs.Turns.{reached_within}
 use Rattle.tie_switch.specs.Laws.{TurnsKeepReached, TurnsStayLegal}
 use Rattle.tie_switch.specs.Turns.{IsMade, IsRefused, IsStill, Makes, goes_on, is_out, IsTurn}
 
@@ -26,11 +29,6 @@ going_by (Runs alpha) e = tt
 going_by (Interprets state replies) e = tt
 going_by (Ended end) e = absurd (cc e)
 
-both_tests : (a b : Bool) → (a && b) ≡ true → (a ≡ true) × (b ≡ true)
-both_tests true true e = (refl, refl)
-both_tests true false e = absurd (cc e)
-both_tests false b e = absurd (cc e)
-
 goes_by : (m : Mode) → IsGoing m → goes_on m ≡ true
 goes_by New g = refl
 goes_by (Runs alpha) g = refl
@@ -40,15 +38,6 @@ goes_by (Ended end) g = absurd g
 second_test : (a b : Bool) → a ≡ true → (a && b) ≡ false → b ≡ false
 second_test true b e out = out
 second_test false b e out = absurd (cc e)
-
--- one that goes on is what it was, and made no more steps than the budget
-now_is : (setting : Setting) (budget limit : ℕ) (entries : List Entry) (was p : Processor) → IsGoing p.mode → (p ≡ was) ⊎ IsSpent setting budget limit entries was p → p ≡ was
-now_is setting budget limit entries was p g (inl same) = same
-now_is setting budget limit entries was p g (inr s) = absurd (subst (λ (x : Processor). IsGoing x.mode) s.is g)
-
-steps_within : (setting : Setting) (budget limit : ℕ) (entries : List Entry) (thread : ℕ) (start : VaxState) (p : Processor) → IsReached setting budget limit entries thread start p → IsGoing p.mode → p.steps ≤ budget
-steps_within setting budget limit entries thread start p r g =
-    subst (λ (x : Processor). x.steps ≤ budget) (sym (now_is setting budget limit entries r.was p g r.now)) r.within
 
 -- its turn is not over
 abbrev IsStep : Turn → Type 0
@@ -68,7 +57,7 @@ going setting p t e h = going_in setting p p.mode (subst IsStep (sym e) h)
 
 -- ---- lists
 -- where none of the entries is the thread's, none is told the other way round
-own_reverse : (thread : ℕ) (entries : List Entry) → own thread entries ≡ [] → own thread (reverse entries) ≡ []
+pub own_reverse : (thread : ℕ) (entries : List Entry) → own thread entries ≡ [] → own thread (reverse entries) ≡ []
 own_reverse thread [] none = refl
 own_reverse thread (e ∷ entries) none =
     let here : own thread (e ∷ []) ≡ [] = by (e.processor == thread) none in
@@ -104,12 +93,7 @@ all_more : {A : Type 0} (P Q : A → Type 0) (xs : List A) → ((x : A) → P x 
 all_more P Q [] more all = tt
 all_more P Q (x ∷ xs) more all = (more x all.0, all_more P Q xs more all.1)
 
-set_length : {A : Type 0} (xs : List A) (n : ℕ) (y : A) → length (slice_set xs n y) ≡ length xs
-set_length [] n y = refl
-set_length (x ∷ xs) zero y = refl
-set_length (x ∷ xs) (suc n) y = ap suc (set_length xs n y)
-
-get_same : {A : Type 0} (xs : List A) (n : ℕ) (x y : A) → slice_get xs n ≡ Some x → slice_get (slice_set xs n y) n ≡ Some y
+pub get_same : {A : Type 0} (xs : List A) (n : ℕ) (x y : A) → slice_get xs n ≡ Some x → slice_get (slice_set xs n y) n ≡ Some y
 get_same [] n x y h = absurd (cc h)
 get_same (z ∷ zs) zero x y h = refl
 get_same (z ∷ zs) (suc n) x y h = get_same zs n x y h
@@ -120,11 +104,6 @@ get_other (z ∷ zs) zero zero y h = absurd (h refl)
 get_other (z ∷ zs) zero (suc m) y h = refl
 get_other (z ∷ zs) (suc n) zero y h = refl
 get_other (z ∷ zs) (suc n) (suc m) y h = get_other zs n m y (λ e. h (ap suc e))
-
-within : {A : Type 0} (xs : List A) (n : ℕ) (x : A) → slice_get xs n ≡ Some x → n < length xs
-within [] n x h = absurd (cc h)
-within (y ∷ ys) zero x h = omega arith
-within (y ∷ ys) (suc n) x h = omega (arith, within ys n x h)
 
 there_is : {A : Type 0} (xs : List A) (n : ℕ) → n < length xs → (x : A) × (slice_get xs n ≡ Some x)
 there_is [] n h = absurd (omega arith)
@@ -196,7 +175,7 @@ module _ (steps : StepsKeepReached) (accesses : AccessesKeepReached) (ends : End
   -- a processor that goes on, and whose steps don't equal the budget, has steps left
   has_more : IsGoing p.mode → is_out budget p ≡ false → p.steps < budget
   has_more g out =
-      let within : p.steps ≤ budget = steps_within setting budget set_up.limit (reverse old) thread start p reached g in
+      let within : p.steps ≤ budget = reached_within setting budget set_up.limit (reverse old) thread start p reached g in
       let other : (p.steps == budget) ≡ false = second_test (goes_on p.mode) (p.steps == budget) (goes_by p.mode g) out in
       less p.steps budget within other
     where
@@ -214,7 +193,7 @@ module _ (steps : StepsKeepReached) (accesses : AccessesKeepReached) (ends : End
 
   by_out : (b : Bool) (q : Processor) (new : List Entry) → is_out budget p ≡ b → MatchBool b (IsStill (spent p) q old new) (Makes (turn setting p) set_up may_come p q old new) → Keeps new q
   by_out true q new e m =
-      let tests = both_tests (goes_on p.mode) (p.steps == budget) e in
+      let tests = and_parts (goes_on p.mode) (p.steps == budget) e in
       still (spent p) q new m (ends setting budget set_up.limit (reverse old) thread start p reached (going_by p.mode tests.0) (inl (same_number p.steps budget tests.1)))
     where
       same_number : (n m : ℕ) → (n == m) ≡ true → n ≡ m
@@ -281,7 +260,7 @@ module _ (kept : TurnsKeepReached) (others : OthersKeepReached) (requests : Requ
     (turned : IsTurn setting set_up (λ between. between ≡ []) budget p q old new) where
   its_start : (start : VaxState) × (starts set_up.image thread ≡ Some start)
   its_start =
-      let s = there_is set_up.image.threads thread (omega (arith, within processors thread p at, legal.count)) in
+      let s = there_is set_up.image.threads thread (omega (arith, slice_get_within processors thread p at, legal.count)) in
       (start_state s.0, ap (option_map start_state) s.1)
 
   its_requests : (request : Request) (on : ℕ → Bool → Processor) → turn setting p ≡ Asks request on → request.processor ≡ thread
@@ -333,8 +312,8 @@ module _ (kept : TurnsKeepReached) (others : OthersKeepReached) (requests : Requ
 
   all_known : AllByRecursion (λ e. e.processor < length (slice_set processors thread q)) (reverse new)
   all_known =
-      let count : length (slice_set processors thread q) ≡ length processors = set_length processors thread q in
-      let there : thread < length processors = within processors thread p at in
+      let count : length (slice_set processors thread q) ≡ length processors = length-set processors thread q in
+      let there : thread < length processors = slice_get_within processors thread p at in
       let g = here_grown in
       subst (AllByRecursion (λ e. e.processor < length (slice_set processors thread q))) (sym g.seen)
       (all_append (λ e. e.processor < length (slice_set processors thread q)) g.added (reverse old)
@@ -346,7 +325,7 @@ module _ (kept : TurnsKeepReached) (others : OthersKeepReached) (requests : Requ
       let g = here_grown in
       are_legal setting set_up budget (reverse new) (slice_set processors thread q) legal.pages (g.order legal.order)
       (omega (arith, g.room (omega (arith, legal.room, length-reverse old)), length-reverse new))
-      (set_length processors thread q ∙ legal.count) all_known (λ u start x s h. each_reached u start x s h (thread == u) refl)
+      (length-set processors thread q ∙ legal.count) all_known (λ u start x s h. each_reached u start x s h (thread == u) refl)
 
 pub turns_stay_legal : TurnsKeepReached → OthersKeepReached → RequestsAreOwn → ReachedAreLegal → TurnsStayLegal
 turns_stay_legal kept others requests are_legal setting set_up budget history new processors thread p q legal at t =

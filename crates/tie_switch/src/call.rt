@@ -15,17 +15,17 @@ ghost use Rattle.tie_switch.specs.Accesses.{AllCanAsk};
 ghost use Rattle.tie_switch.specs.Seen as seen;
 ghost use Rattle.tie_switch.specs.Seen.{setting_of, next_of};
 
-use crate::first_bad::first_bad;
 use crate::place::{Last, Next, Place, Wanted};
 use crate::processor::Processor;
 use crate::registers::{target, with_r0};
-use crate::setting::{READY, Setting};
+use crate::setting::Setting;
 use alpha_encode::{pal, registers};
 use alpha_machine::Cpu;
 use exception_records::{Point, Rules};
 use memory_core::{Change, Kind, Request};
 use prepared_code::probe_count;
 use vax_form::{Exception, Pending, VaxState};
+use vax_long::first_bad;
 
 /// A PALcode call, by its number.
 #[derive(Clone, Copy)]
@@ -141,7 +141,7 @@ impl Processor {
     fn finish_ready(&self, cpu: &Cpu) -> Last
         ensures { seen.last_of result ≡ Comes (Finish (state_at (processor_of self.now).boundary (state_of cpu.now).regs (target (state_of cpu.now).regs) all_ready (processor_of self.now).held)) }
     {
-        Last::Finish(self.state_at(cpu, target(cpu), &READY, &self.held))
+        Last::Finish(self.state_at(cpu, target(cpu), &Rules::READY, &self.held))
     }
 
     // The instruction is done, and raises an arithmetic trap.

@@ -13,7 +13,7 @@ ghost use Rattle.vax_form.specs.Pages.{code_byte_at};
 ghost use Rattle.vax_form.specs.declared.state.Pending.TheVariants.{Nothing};
 
 use crate::laws::{landings_are_turns, probes_are_turns, steps_are_turns};
-use crate::setting::{READY, codes_by};
+use crate::setting::codes_by;
 use alpha_machine::Cpu;
 use exception_records::Rules;
 use prepared_code::{Block, Landing, Prepared};
@@ -52,7 +52,7 @@ fn block_rules(block: &Block) -> Rules
 {
     match block.rules {
         Some(rules) => rules,
-        None => READY,
+        None => Rules::READY,
     }
 }
 

@@ -2,14 +2,14 @@
 //!
 //! `processor` keeps a thread between its turns, `next` gives what the word at which it stands does, `call` has the
 //! PALcode calls, `request` and `reference` the accesses to memory, `registers` what Alpha registers show of a VAX state,
-//! `interpreted` what a thread does at a state a reference at a time, and `turn` makes one step over any memory.
+//! `interpreted` what a thread does at a state a reference at a time, `turn` makes one step over any memory, and `ready`
+//! makes a translation ready to be run.
 #![tactic(auto)]
 
 mod access;
 mod arrive;
 mod call;
 mod course;
-mod first_bad;
 mod interpreted;
 pub mod laws;
 mod many;
@@ -17,6 +17,7 @@ mod next;
 mod pending;
 mod place;
 mod processor;
+mod ready;
 mod reference;
 mod registers;
 mod request;
@@ -25,5 +26,6 @@ mod tie;
 mod turn;
 
 pub use processor::Processor;
+pub use ready::made_ready;
 pub use system_model::{End, Range};
 pub use turn::Turn;

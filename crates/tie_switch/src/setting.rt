@@ -7,7 +7,7 @@ ghost use Rattle.system_model.specs.Steps.{rules_of};
 ghost use Rattle.tie_switch.specs.Seen.{setting_of};
 
 use cc_liveness::code_use;
-use exception_records::{CodeRule, Rules};
+use exception_records::Rules;
 use system_model::{Range, Translation, word_for};
 use vax_form::{Flags, Pages, Pending, VaxState, operation_of};
 
@@ -18,13 +18,6 @@ pub(crate) struct Setting<'a> {
     pub code: &'a Translation,
     pub ranges: &'a [Range],
 }
-
-pub(crate) const READY: Rules = Rules {
-    n: CodeRule::Ready,
-    z: CodeRule::Ready,
-    v: CodeRule::Ready,
-    c: CodeRule::Ready,
-};
 
 const NO_CODES: Flags = Flags {
     n: false,
@@ -59,7 +52,7 @@ pub(crate) fn rules_at(code: &Translation, word: u32) -> Rules
 {
     match code.points.find(word) {
         Some(point) => point.rules,
-        None => READY,
+        None => Rules::READY,
     }
 }
 

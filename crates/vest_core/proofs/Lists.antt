@@ -1,5 +1,5 @@
--- Two lists side by side, and the places of a list.
-use Rattle.std.proofs.Common.{◌≡◌, ℕ, zero, suc, ◌<◌, ◌⊎◌, inl, inr, get_or, List, [], ◌∷◌, length, Some, refl, sym, ap, subst, arith}
+-- Two lists side by side, and lists of which one element is changed.
+use Rattle.std.proofs.Common.{◌≡◌, ℕ, zero, suc, ◌⊎◌, inl, inr, List, [], ◌∷◌, Some, refl, sym, ap, subst}
 use Rattle.std.specs.Prelude.{slice_get, slice_set}
 use Rattle.std.specs.List.{AllZip}
 
@@ -20,38 +20,11 @@ module _ {A B : Type 0} (R : A → B → Type 0) where
   changed_beside (a ∷ xs) (b ∷ ys) zero x y all r = (r, all.1)
   changed_beside (a ∷ xs) (b ∷ ys) (suc n) x y all r = (all.0, changed_beside xs ys n x y all.1 r)
 
--- a place below the length has an element
-pub there_is : {A : Type 0} (xs : List A) (n : ℕ) → n < length xs → (x : A) × (slice_get xs n ≡ Some x)
-there_is [] n h = absurd (omega (arith, h))
-there_is (x ∷ xs) zero h = (x, refl)
-there_is (x ∷ xs) (suc n) h = there_is xs n (omega (arith, h))
-
-pub got : {A : Type 0} (xs : List A) (n : ℕ) (d : A) → n < length xs → slice_get xs n ≡ Some (get_or xs n d)
-got [] n d h = absurd (omega (arith, h))
-got (x ∷ xs) zero d h = refl
-got (x ∷ xs) (suc n) d h = got xs n d (omega (arith, h))
-
-pub within : {A : Type 0} (xs : List A) (n : ℕ) (x : A) → slice_get xs n ≡ Some x → n < length xs
-within [] n x at = absurd (cc at)
-within (a ∷ xs) zero x at = omega arith
-within (a ∷ xs) (suc n) x at = let h : n < length xs = within xs n x at in omega (arith, h)
-
-pub set_there : {A : Type 0} (xs : List A) (n : ℕ) (x y : A) → slice_get xs n ≡ Some x → slice_get (slice_set xs n y) n ≡ Some y
-set_there [] n x y at = absurd (cc at)
-set_there (a ∷ xs) zero x y at = refl
-set_there (a ∷ xs) (suc n) x y at = set_there xs n x y at
-
 -- an element put where it stands
 pub set_same : {A : Type 0} (xs : List A) (n : ℕ) (x : A) → slice_get xs n ≡ Some x → slice_set xs n x ≡ xs
 set_same [] n x at = refl
 set_same (a ∷ xs) zero x at = let same : a ≡ x = cc at in ap (λ y. y ∷ xs) (sym same)
 set_same (a ∷ xs) (suc n) x at = ap (λ ys. a ∷ ys) (set_same xs n x at)
-
--- of two elements put at one place the second stays
-pub set_again : {A : Type 0} (xs : List A) (n : ℕ) (x y : A) → slice_set (slice_set xs n x) n y ≡ slice_set xs n y
-set_again [] n x y = refl
-set_again (a ∷ xs) zero x y = refl
-set_again (a ∷ xs) (suc n) x y = ap (λ ys. a ∷ ys) (set_again xs n x y)
 
 -- what stands at a place where one was changed
 pub at_changed : {A : Type 0} (xs : List A) (n m : ℕ) (y x : A) → slice_get (slice_set xs n y) m ≡ Some x

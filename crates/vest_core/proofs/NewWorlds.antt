@@ -2,10 +2,13 @@
 use Rattle.std.proofs.Common.{◌≡◌, ℕ, zero, suc, ◌+◌, ◌⊎◌, inl, inr, List, [], ◌∷◌, ◌++◌, length, Some, refl, sym, ap, ◌∙◌, subst, arith}
 use Rattle.std.specs.Prelude.{reverse, slice_get}
 use Rattle.std.specs.List.{AllZip}
+use Rattle.std.proofs.lemmas.Option.{slice_get_within}
+use Rattle.std.proofs.lemmas.Slice.Zip.{AllZip-long}
 use Rattle.image_file.specs.Start.{start_state}
 use Rattle.image_file.specs.Values.{ImageValue}
 use Rattle.image_file.specs.declared.image.Start.{Start}
 use Rattle.legal_history.specs.Law.{IsRun}
+use Rattle.legal_history.proofs.Headlines.{there_is}
 use Rattle.memory_core.specs.Contents.{Contents, fresh}
 use Rattle.memory_core.specs.declared.entry.Entry.{Entry}
 use Rattle.memory_core.specs.declared.entry.SetUp.{SetUp}
@@ -13,10 +16,10 @@ use Rattle.system_model.specs.Legal.{IsLegal}
 use Rattle.system_model.specs.Laws.{BeginningsAreLegal, begun_from}
 use Rattle.system_model.specs.Processors.{Processor, begun}
 use Rattle.system_model.specs.Settings.{Setting}
+use Rattle.system_model.proofs.Turns.{begun_length}
 use Rattle.tie_switch.specs.Processors.{ProcessorValue, StandsFor}
 use Rattle.vax_form.specs.declared.pages.Pages.{Pages}
 use Rattle.vest_core.specs.Worlds.{IsLegalWorld, IsManned, IsOf}
-use Rattle.vest_core.proofs.Lists.{there_is, within}
 
 -- what a loop over the threads makes
 pub record IsBegun (thread budget : ℕ) (start : Start) (k : ProcessorValue) : Type 0 where
@@ -57,19 +60,9 @@ no_pages = record { ranges = []; code = [] }
 pub are_own : (threads : List Start) (budget : ℕ) (ks : List ProcessorValue) → length ks ≡ length threads → AreBegun 0 budget threads ks
     → (n : ℕ) (k : ProcessorValue) → slice_get ks n ≡ Some k → IsOf n budget k
 are_own threads budget ks same each n k at =
-    let there = there_is threads n (omega (arith, within ks n k at, same)) in
+    let there = there_is threads n (omega (arith, slice_get_within ks n k at, same)) in
     let b = each n k there.0 at there.1 in
     record { thread = sym (ap (λ (p : Processor). p.thread) (b.stands no_pages).same) ∙ omega arith; budget = b.most }
-
-beside_length : {A B : Type 0} (R : A → B → Type 0) (xs : List A) (ys : List B) → AllZip R xs ys → length xs ≡ length ys
-beside_length R [] [] all = refl
-beside_length R [] (y ∷ ys) all = absurd all
-beside_length R (x ∷ xs) [] all = absurd all
-beside_length R (x ∷ xs) (y ∷ ys) all = ap suc (beside_length R xs ys all.1)
-
-begun_length : (n : ℕ) (xs : List Start) → length (begun_from n xs) ≡ length xs
-begun_length n [] = refl
-begun_length n (x ∷ xs) = ap suc (begun_length (n + 1) xs)
 
 module _ (image : ImageValue) (input : List ℕ) (budget limit miss : ℕ) (threads : List Start) (its : threads ≡ image.threads)
     (memory : Contents) (is : memory ≡ fresh image input (length threads) limit miss) (ks : List ProcessorValue) where
@@ -78,7 +71,7 @@ module _ (image : ImageValue) (input : List ℕ) (budget limit miss : ℕ) (thre
       → IsManned (record { memory = memory; processors = ks; budget = budget })
   is_manned stand each run = record {
     run = run memory.set_up (ap (λ (m : Contents). m.set_up.image) is) (ap (λ (m : Contents). m.set_up.input) is);
-    serves = beside_length (StandsFor no_pages) ks (begun_from 0 threads) (stand no_pages) ∙ begun_length 0 threads ∙ sym (ap (λ (m : Contents). m.processors) is);
+    serves = sym (AllZip-long (StandsFor no_pages) ks (begun_from 0 threads) (stand no_pages)) ∙ begun_length 0 threads ∙ sym (ap (λ (m : Contents). m.processors) is);
     each = each;
   }
 

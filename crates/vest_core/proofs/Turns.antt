@@ -1,6 +1,7 @@
 -- Turns of one processor of a legal world.
 use Rattle.std.proofs.Common.{◌≡◌, ℕ, ◌<◌, ◌+◌, ◌⊎◌, inl, inr, ◌↔◌, false, true, get_or, List, [], length, Some, refl, sym, ap, ◌∙◌, subst, arith}
 use Rattle.std.specs.Prelude.{option_map, reverse, slice_get, slice_set}
+use Rattle.std.proofs.lemmas.Option.{slice_get-get_or, slice_get_within}
 use Rattle.block_law.specs.Sound.{IsSound}
 use Rattle.block_law.specs.Translations.{Meets}
 use Rattle.image_file.specs.Start.{start_state}
@@ -10,6 +11,7 @@ use Rattle.image_meaning.specs.Meant.{all_kinds, codes_written, image_meaning, n
 use Rattle.legal_history.specs.Headline.{HasFewSteps}
 use Rattle.legal_history.specs.Law.{IsRun}
 use Rattle.legal_history.specs.OneProcessor.{IsSteady, ReachedIsSteady}
+use Rattle.legal_history.proofs.Headlines.{there_is}
 use Rattle.memory_core.specs.Contents.{Contents}
 use Rattle.memory_core.specs.Order.{own}
 use Rattle.memory_core.specs.declared.entry.Entry.{Entry}
@@ -24,11 +26,12 @@ use Rattle.tie_switch.specs.Turns.{has_ended}
 use Rattle.tie_switch.specs.declared.turn.Turn.{Turn}
 use Rattle.tie_switch.specs.declared.turn.Turn.TheVariants.{Went, Ended}
 use Rattle.tie_switch.proofs.Advances.{behind_keeps, more_turns}
+use Rattle.tie_switch.proofs.Turns.{get_same}
 use Rattle.vax_form.specs.GrammarLaws.{AreBytes}
 use Rattle.vax_form.specs.declared.pages.Pages.{Pages}
 use Rattle.vax_form.specs.declared.state.VaxState.{VaxState}
 use Rattle.vest_core.specs.Worlds.{IsAdvanced, IsLegalWorld, IsOf, IsPicked, WorldValue}
-use Rattle.vest_core.proofs.Lists.{beside, changed_beside, there_is, got, set_there, within, at_changed}
+use Rattle.vest_core.proofs.Lists.{beside, changed_beside, at_changed}
 use Rattle.vest_core.proofs.ManyTurns.{many_stay_legal}
 
 -- ---- few steps are behind the processor that stands for one of which that is so
@@ -46,7 +49,7 @@ module _ (steady_law : ReachedIsSteady) (legal_law : TurnsStayLegal)
   start_of : (set_up : SetUp) (budget : ℕ) (entries : List Entry) (processors : List Processor) (thread : ℕ) (p : Processor)
       → IsLegal setting set_up budget entries processors → slice_get processors thread ≡ Some p → (start : VaxState) × (starts set_up.image thread ≡ Some start)
   start_of set_up budget entries processors thread p legal at =
-      let there = there_is set_up.image.threads thread (omega (arith, within processors thread p at, legal.count)) in
+      let there = there_is set_up.image.threads thread (omega (arith, slice_get_within processors thread p at, legal.count)) in
       (start_state there.0, ap (option_map start_state) there.1)
 
   -- a processor of a legal run has a step, and few are behind it
@@ -79,7 +82,7 @@ module _ (steady_law : ReachedIsSteady) (legal_law : TurnsStayLegal)
               subst (λ (b : ℕ). IsTurns setting old.memory.set_up no_others b its.0 old.memory.history n q new) same_budget
               (more_turns setting old.memory.set_up may_come no_others none k.budget its.0 old.memory.history turns) in
               let behind = many_stay_legal legal_law setting old.memory.set_up old.budget thread its.0 old.memory.history legal.processors legal.legal its.1 made in
-              let here = set_there legal.processors thread its.0 q its.1 in
+              let here = get_same legal.processors thread its.0 q its.1 in
               let steady = is_steady old.memory.set_up old.budget (reverse new) (slice_set legal.processors thread q) thread q run behind here in
               record { goes_on = steady.goes_on; asks = steady.asks };
         }
@@ -98,7 +101,7 @@ module _ (steady_law : ReachedIsSteady) (legal_law : TurnsStayLegal)
       unfolding stays_legal
       few_steps =
           let run_now : IsRun new.set_up = subst IsRun (sym same) run in
-          let here : slice_get (slice_set legal.processors thread q) thread ≡ Some q = set_there legal.processors thread (its_processor).0 q (its_processor).1 in
+          let here : slice_get (slice_set legal.processors thread q) thread ≡ Some q = get_same legal.processors thread (its_processor).0 q (its_processor).1 in
           let steady = is_steady new.set_up old.budget (reverse new.history) (slice_set legal.processors thread q) thread q run_now (stays_legal).legal here in
           few_of setting.meaning.pages j q (own thread (reverse new.history)) stands steady.steps
 
@@ -200,4 +203,4 @@ image_is_sound law image pages same bytes =
 pub stands_at : (w seen : WorldValue) (n processor : ℕ) (k : ProcessorValue) → w ≡ seen → n ≡ processor → processor < length seen.processors → k ≡ get_or w.processors n k
     → slice_get w.processors n ≡ Some k
 stands_at w seen n processor k same is there value =
-    got w.processors n k (omega (arith, is, there, ap (λ (x : WorldValue). length x.processors) same)) ∙ ap Some (sym value)
+    slice_get-get_or w.processors n k (omega (arith, is, there, ap (λ (x : WorldValue). length x.processors) same)) ∙ ap Some (sym value)

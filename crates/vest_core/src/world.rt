@@ -76,9 +76,7 @@ impl World {
         images_are_runs(image, &input);
         beginnings_are_legal();
         let threads = image.threads.as_slice();
-        let Ok(processors) = begun(alloc, threads, budget) else {
-            return Err(WantOfMemory);
-        };
+        let processors = begun(alloc, threads, budget)?;
         let memory = MemState::new(alloc, image, input, threads.len() as u8, limit, miss)?;
         Ok(World {
             memory,

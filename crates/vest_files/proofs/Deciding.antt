@@ -1,5 +1,5 @@
 -- What stages found, or why they stop, beside what told files decide.
-use Rattle.std.proofs.Common.{◌≡◌, ◌<◌, ◌≤◌, ◌⊎◌, ℕ, Bool, true, false, List, [], length, nat_lt, Option, Some, None, Result, Ok, Err, refl, sym, ap, subst, inl, inr, arith}
+use Rattle.std.proofs.Common.{◌≡◌, ◌<◌, ◌≤◌, ℕ, Bool, true, false, List, [], length, nat_lt, Option, Some, None, Result, Ok, Err, subst, inl, inr, arith}
 use Rattle.std.specs.Prelude.{IfErr, IfOk, MatchBool, MatchResult}
 use Rattle.std.proofs.lemmas.Result.{IfErr-weaker, IfOk-weaker}
 use Rattle.std.proofs.lemmas.Bool.Decides.{nat_tests}
@@ -7,7 +7,6 @@ use Rattle.vt_outside.specs.Desk.{Files, DeskMeaning, IsLonger}
 use Rattle.image_file.specs.Values.{ImageValue}
 use Rattle.image_file.specs.Reading.{image_of}
 use Rattle.image_file.specs.declared.refusal.ImageRefusal.{ImageRefusal}
-use Rattle.translated_file.specs.Comparing.{compared}
 use Rattle.translated_file.specs.Reading.{parts_of}
 use Rattle.translated_file.specs.Values.{PartsValue}
 use Rattle.translated_file.specs.declared.refusal.TranslatedRefusal.{TranslatedRefusal}
@@ -19,9 +18,8 @@ use Rattle.vest_files.specs.Loading.{DecidesBytes, DecidesFile, DecidesFlow, Dec
 use Rattle.vest_files.specs.Loading.{IsOfImage, IsOfTranslated, Loads, StopsAtImageFile, StopsAtLoad, StopsAtTranslatedFile}
 use Rattle.vest_files.specs.Refusal.{RefusalValue}
 use Rattle.vest_files.specs.Stages.{HasParts, IsFile, IsImage, IsTranslated, RefusesFlow, RefusesImage, RefusesParts, RefusesTail, StopsAtFile, StopsWhere}
-use Rattle.vest_files.specs.Translate.{DecidesTranslate, StopsTranslate, Translates}
+use Rattle.vest_files.specs.Translate.{DecidesTranslate, StopsTranslate}
 use Rattle.vest_files.specs.declared.stages.TheConstants.{FILE_LIMIT}
-use Rattle.vest_files.specs.declared.status.Done.{Done}
 use Rattle.vest_files.specs.declared.status.Status.TheVariants as status
 use Rattle.vest_files.specs.declared.stop.Stop.{Stop}
 use Rattle.vest_files.specs.declared.stop.Stop.TheVariants.{Absent, Refused, ReadFault, TooLong, WantOfMemory}

@@ -1,8 +1,8 @@
 -- Rising lists of numbers: two with the same members are one list, and one whose members another has is not longer.
-use Rattle.std.proofs.Common.{◌≡◌, ◌<◌, ◌≤◌, ◌+◌, ◌||◌, ℕ, suc, Bool, true, false, List, [], ◌∷◌, length, nat_eq, refl, sym, ap, subst, arith, inl, inr}
+use Rattle.std.proofs.Common.{◌≡◌, ◌<◌, ◌≤◌, ◌+◌, ℕ, suc, true, List, [], ◌∷◌, length, nat_eq, refl, sym, ap, subst, arith, inl, inr}
 use Rattle.std.specs.Prelude.{slice_index, ◌⊎◌}
 use Rattle.std.specs.List.Sorted.{IsStrictlyIncreasing}
-use Rattle.std.proofs.lemmas.Bool.{cases_eq}
+use Rattle.std.proofs.lemmas.Bool.{cases_eq, or_cases, or_left, or_right}
 use Rattle.std.proofs.lemmas.Bool.Decides.{nat_tests}
 use Rattle.flow_discovery.specs.Reach.{AreReached, AreTooMany, has, most}
 use Rattle.translate.specs.Refusal.{AreFew}
@@ -30,21 +30,9 @@ same_test a b h = grind (arith, nat_tests)
 own_test : (a : ℕ) → nat_eq a a ≡ true
 own_test a = grind (arith, nat_tests)
 
-either : (a b : Bool) → (a || b) ≡ true → (a ≡ true) ⊎ (b ≡ true)
-either true b h = inl refl
-either false b h = inr h
-
-or_left : (a b : Bool) → a ≡ true → (a || b) ≡ true
-or_left true b h = refl
-or_left false b h = absurd cc
-
-or_right : (a b : Bool) → b ≡ true → (a || b) ≡ true
-or_right true b h = refl
-or_right false b h = h
-
 above : (n : ℕ) (xs : List ℕ) (a : ℕ) → Rising n xs → has xs a ≡ true → n ≤ a
 above n [] a r h = absurd cc
-above n (x ∷ xs) a r h = by (either (nat_eq a x) (has xs a) h) (above (x + 1) xs a r.1)
+above n (x ∷ xs) a r h = by (or_cases (nat_eq a x) (has xs a) h) (above (x + 1) xs a r.1)
   where
     by : (nat_eq a x ≡ true) ⊎ (has xs a ≡ true) → (has xs a ≡ true → x + 1 ≤ a) → n ≤ a
     by (inl e) later = let same : a ≡ x = same_test a x e in let low : n ≤ x = r.0 in omega (arith, same, low)
@@ -57,7 +45,7 @@ first_least x xs a r h = above x (x ∷ xs) a (omega arith, r) h
 -- and its other numbers are among those of the other list but its first
 behind : (x y : ℕ) (xs ys : List ℕ) → x ≡ y → Rising (x + 1) xs → ((a : ℕ) → has (x ∷ xs) a ≡ true → has (y ∷ ys) a ≡ true)
     → (a : ℕ) → has xs a ≡ true → has ys a ≡ true
-behind x y xs ys same r in' a h = by (either (nat_eq a y) (has ys a) (in' a (or_right (nat_eq a x) (has xs a) h)))
+behind x y xs ys same r in' a h = by (or_cases (nat_eq a y) (has ys a) (in' a (or_right (nat_eq a x) (has xs a) h)))
   where
     by : (nat_eq a y ≡ true) ⊎ (has ys a ≡ true) → has ys a ≡ true
     by (inl e) = absurd (let is : a ≡ y = same_test a y e in let up : x + 1 ≤ a = above (x + 1) xs a r h in omega (arith, is, up, same))
@@ -89,7 +77,7 @@ contained n m (x ∷ xs) (y ∷ ys) r s f =
     (λ g. contained x (y + 1) (x ∷ xs) ys (omega arith, r.1) s.1 g)
   where
     beyond : y + 1 ≤ x → (a : ℕ) → has (x ∷ xs) a ≡ true → has ys a ≡ true
-    beyond more a h = left (either (nat_eq a y) (has ys a) (f a h))
+    beyond more a h = left (or_cases (nat_eq a y) (has ys a) (f a h))
       where
         left : (nat_eq a y ≡ true) ⊎ (has ys a ≡ true) → has ys a ≡ true
         left (inl e) = absurd (let is : a ≡ y = same_test a y e in let up : x ≤ a = first_least x xs a r.1 h in omega (arith, is, up, more))

@@ -1,32 +1,16 @@
 -- The sizes of a translation.
-use Rattle.std.proofs.Common.{◌≡◌, ◌<◌, ◌≤◌, ◌+◌, ◌||◌, ℕ, Bool, true, false, cond, List, [], ◌∷◌, Option, Some, None, length, map, get_or, nat_eq, refl, sym, ap, subst, ◌∙◌, arith}
-use Rattle.std.specs.Prelude.{find, ◌==◌}
-use Rattle.std.specs.List.{AllByRecursion}
+use Rattle.std.proofs.Common.{◌<◌, ◌≤◌, ◌+◌, ℕ, List, length, map, get_or, ◌∙◌, arith}
 use Rattle.std.specs.List.Sorted.{IsStrictlyIncreasing}
-use Rattle.std.specs.Option.{option_map, is_some}
-use Rattle.std.proofs.lemmas.Bool.Decides.{nat_tests}
 use Rattle.std.proofs.lemmas.List.{get_or-map, length-map}
 use Rattle.std.proofs.lemmas.List.Elements.{recursion_from_All}
-use Rattle.address_map.specs.Pairs.{AllRise, Pair, word_at}
+use Rattle.address_map.specs.Pairs.{AllRise, Pair}
 use Rattle.address_map.proofs.Lookups.{word_at-pair}
 use Rattle.block_law.specs.Translations.{Code, Meaning, Meets}
-use Rattle.flow_discovery.specs.Reach.{has, most}
 use Rattle.image_file.specs.Values.{ImageValue}
 use Rattle.report_text.specs.Listing.{AreWithin}
+use Rattle.translate.proofs.Reached.{is_mapped}
 use Rattle.vest_files.specs.Stages.{IsTranslated}
 use Rattle.vest_files.proofs.Members.{not_longer}
-
--- an address among those of the map is mapped
-is_mapped : (pairs : List Pair) (a : ℕ) → is_some (word_at pairs a) ≡ has (map (λ (p : Pair). p.0) pairs) a
-is_mapped [] a = refl
-is_mapped (p ∷ pairs) a = by (nat_eq a p.0) (p.0 == a) (grind (arith, nat_tests)) (is_mapped pairs a)
-  where
-    by : (b c : Bool) → b ≡ c → is_some (word_at pairs a) ≡ has (map (λ (q : Pair). q.0) pairs) a
-        → is_some (option_map (λ (q : Pair). q.1) (cond c (Some p) (find (λ (q : Pair). q.0 == a) pairs))) ≡ (b || has (map (λ (q : Pair). q.0) pairs) a)
-    by true true e h = refl
-    by true false e h = absurd (cc e)
-    by false true e h = absurd (cc e)
-    by false false e h = h
 
 addresses_rise : (pairs : List Pair) → AllRise pairs → IsStrictlyIncreasing (map (λ (p : Pair). p.0) pairs)
 addresses_rise pairs rise k lt =

@@ -3,7 +3,7 @@ use Rattle.std.specs.Prelude.{◌≡◌, Result, Ok, Err}
 use Rattle.vest_files.specs.Status.{status_of}
 use Rattle.vest_files.specs.declared.status.Status.{Status}
 use Rattle.vest_files.specs.declared.stop.Stop.{Stop}
-use Rattle.vest_files.specs.declared.stop.Stop.TheVariants.{Absent, Refused, ReadFault, TooLong, WantOfMemory}
+use Rattle.vest_files.specs.declared.stop.Stop.TheVariants.{ReadFault, WantOfMemory}
 
 -- it stops with that status, or it goes on to the end
 pub data Decision : Type 0 where

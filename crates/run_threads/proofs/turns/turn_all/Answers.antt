@@ -2,7 +2,7 @@
 use Rattle.std.proofs.Common.{◌^◌, is_some, not, ◌-◌, refl, sym, ap, ◌∙◌, subst, arith}
 use Rattle.shared_memory.specs.Passes.{set_up_of, number_of, seen_of}
 use Rattle.shared_memory.specs.declared.shared.SharedMemory.{SharedMemory}
-use Rattle.tie_switch.specs.Processors.{HasSteps, processor_of}
+use Rattle.tie_switch.specs.Processors.{processor_of}
 use Rattle.tie_switch.specs.Turns.{has_ended}
 use Rattle.tie_switch.proofs.Advances.{behind_keeps}
 use Rattle.run_threads.specs.Processors.{IsUnderWay}

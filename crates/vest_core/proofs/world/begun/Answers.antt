@@ -1,6 +1,6 @@
 use Rattle.std.proofs.Common.{◌≡◌, ℕ, [], ◌∷◌, ◌+◌, get_or, length, slice_get, sym, ap, ◌∙◌, subst, arith}
 use Rattle.std.proofs.lemmas.List.{length-append}
-use Rattle.vest_core.proofs.Lists.{got}
+use Rattle.std.proofs.lemmas.Option.{slice_get-get_or}
 use Rattle.vest_core.proofs.NewWorlds.{AreBegun, IsBegun, are_own, are_zipped, one_more}
 use Rattle.vest_core.proofs.world.begun.Goals as goal
 
@@ -15,7 +15,7 @@ loop-thread-preserved c =
       count = ap length items ∙ length-append ks (c.new.result ∷ []) ∙ ap (λ n. n + 1) count;
       each = subst (AreBegun 0 c.args.budget threads) (sym items)
           (one_more threads c.args.budget ks c.new.result start c.loop-thread.invariant.each
-          (ap (slice_get threads) count ∙ got threads c.loop-thread.thread (record { pc = 0; sp = 0; first = [] }) c.loop-thread-test.true)
+          (ap (slice_get threads) count ∙ slice_get-get_or threads c.loop-thread.thread (record { pc = 0; sp = 0; first = [] }) c.loop-thread-test.true)
           (subst (λ (n : ℕ). IsBegun n c.args.budget start c.new.result) (sym count) (record { stands = c.new.ensures.stands; most = c.new.ensures.budget })));
     }
 

@@ -18,6 +18,6 @@ invariant_of-result c =
       run = c.images_are_runs.ensures (set_up_of memory) image (input ∙ sym c.deref.ensures.value);
       split = subst (λ (n : ℕ). HasSplit memory c.split_all-jobs.new.keeper c.args.budget c.split_all-jobs.result.items n) count split;
       some = omega (arith, split.many, c.requires.whole.room.some_thread, ap (λ (i : ImageValue). length i.threads) image, count);
-      empty = c.in_ok-ended.ensures.empty;
-      room = omega (arith, split.many, c.in_ok-ended.ensures.room);
+      empty = c.in_ok-ended.ensures.items;
+      room = omega (arith, split.many, c.in_ok-ended.ensures.capacity);
     }

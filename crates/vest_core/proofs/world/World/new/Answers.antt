@@ -8,7 +8,7 @@ invariant_of-result c =
     let image = c.args.image.now in
     let threads = c.as_slice-threads.ensures.value ∙ ap (λ (i : ImageValue). i.threads) c.image.view_is in
     is_manned image c.args.input.items c.args.budget c.args.limit c.args.miss c.as_slice-threads.result.now threads c.in_ok-memory.memory c.in_ok-memory.ensures
-    c.in-Ok.processors.items (c.in-Ok.ensures.stand) (c.in-Ok.ensures.own)
+    c.in_ok-processors.processors.items (c.in_ok-processors.ensures.stand) (c.in_ok-processors.ensures.own)
     (λ set_up is_image is_input. c.images_are_runs.ensures set_up is_image (is_input ∙ sym c.deref.ensures.value))
 
 pub returns-clause-legal : goal.returns-clause-legal
@@ -16,4 +16,4 @@ returns-clause-legal c = λ setting pages.
     let image = c.args.image.now in
     let threads = c.as_slice-threads.ensures.value ∙ ap (λ (i : ImageValue). i.threads) c.image.view_is in
     begins image c.args.input.items c.args.budget c.args.limit c.args.miss c.as_slice-threads.result.now threads
-    c.in_ok-memory.memory c.in_ok-memory.ensures c.in-Ok.processors.items c.beginnings_are_legal.ensures setting pages (c.in-Ok.ensures.stand setting.meaning.pages)
+    c.in_ok-memory.memory c.in_ok-memory.ensures c.in_ok-processors.processors.items c.beginnings_are_legal.ensures setting pages (c.in_ok-processors.ensures.stand setting.meaning.pages)
