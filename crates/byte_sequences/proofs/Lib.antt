@@ -1,4 +1,3 @@
-pub mod Forms
 pub mod Operands
 pub mod ReadLaws
 pub mod WriteLaws

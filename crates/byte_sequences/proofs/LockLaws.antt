@@ -18,12 +18,13 @@ use Rattle.alpha_meaning.specs.Pieces.{Fetch, Terms, Access, Over, Plain, Runs, 
 use Rattle.alpha_meaning.specs.Loops.{is_operate, effect, effects, fine}
 use Rattle.alpha_meaning.proofs.Rules.{done, operates, put_only, effects_only}
 use Rattle.alpha_meaning.proofs.Retry.{Changes, turns}
+use Rattle.alpha_meaning.proofs.Registers.{eqb_self}
 use Rattle.micro_ops.specs.declared.program.LockedOp.{LockedOp}
 use Rattle.micro_ops.specs.declared.program.LockedOp.TheVariants.{AddWord, SetBit, ClearBit}
 use Rattle.byte_sequences.specs.Instructions.{IsArgument, is_scratch, is_scratch_or}
 use Rattle.byte_sequences.specs.Words.{word_added, bit_changed, locked_loop, locked_code}
 use Rattle.byte_sequences.specs.Promises.{MayRetry, Holds, LockedPlan}
-use Rattle.byte_sequences.proofs.Operands.{other, eqb_self, or_true}
+use Rattle.byte_sequences.proofs.Operands.{other, or_true}
 use Rattle.byte_sequences.proofs.WriteLaws.{with_field_fits, IsReady}
 
 -- one shifted to a bit of a byte

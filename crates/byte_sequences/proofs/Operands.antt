@@ -1,11 +1,10 @@
 -- Registers that are kept, and the parts of an operand of 1, 2, 4 or 8 bytes.
-use Rattle.std.proofs.Common.{◌≡◌, ℕ, ◌+◌, ◌-◌, ◌*◌, ◌/◌, ◌%◌, ◌^◌, ◌<◌, ◌≤◌, refl, arith, List, [], ◌∷◌, Bool, true, false, eqb, cond, ne_eqb, eq-eqb, lit≤}
+use Rattle.std.proofs.Common.{◌≡◌, ℕ, ◌+◌, ◌-◌, ◌*◌, ◌/◌, ◌%◌, ◌^◌, ◌<◌, ◌≤◌, refl, arith, List, [], ◌∷◌, Bool, true, false, eqb, ne_eqb}
 use Rattle.std.specs.Prelude.{pos, nat_lt, nat_le, ◌||◌, if◌then◌else◌}
 use Rattle.std.specs.Int.{cast_unsigned, w64}
 use Rattle.std.proofs.lemmas.Bool.Decides.{nat_tests}
 use Rattle.vt_words.specs.Quad.{IsCount, one as c1, two as c2, four as c4, eight as c8, field_of, crossing}
 use Rattle.vt_words.proofs.Spreads.{below_8}
-use Rattle.alpha_meaning.specs.State.{Regs, put}
 use Rattle.alpha_meaning.specs.Result.{times}
 use Rattle.byte_sequences.specs.Instructions.{IsArgument}
 
@@ -13,18 +12,9 @@ use Rattle.byte_sequences.specs.Instructions.{IsArgument}
 pub other : (n k : ℕ) → IsArgument n → 24 < k → eqb n k ≡ false
 other n k a h = let low = a.low in let high = a.high in ne_eqb n k (λ (e : n ≡ k). absurd (omega arith))
 
-pub eqb_self : (n : ℕ) → eqb n n ≡ true
-eqb_self n = eq-eqb n n refl
-
 pub or_true : (b : Bool) → (b || true) ≡ true
 or_true true = refl
 or_true false = refl
-
-pub put_same : (f : Regs) (n v : ℕ) → eqb n 31 ≡ false → put f n v n ≡ v
-put_same f n v e = rw (e, eqb_self n) refl
-
-pub put_other : (f : Regs) (n v m : ℕ) → eqb m n ≡ false → put f n v m ≡ f m
-put_other f n v m e = elim (eqb n 31) as (λ b. cond b (f m) (cond (eqb m n) v (f m)) ≡ f m) [ true ↦ refl | false ↦ rw e refl ]
 
 -- ---- parts
 -- does the operand lie in one quadword?
@@ -50,12 +40,6 @@ test_same a c some le = grind (arith, nat_tests)
 
 pub byte_within : (a : ℕ) → lies_within a 1 ≡ true
 byte_within a = grind (arith, nat_tests)
-
-pub some_bytes : {c : ℕ} → IsCount c → 1 ≤ c
-some_bytes c1 = lit≤ tt
-some_bytes c2 = lit≤ tt
-some_bytes c4 = lit≤ tt
-some_bytes c8 = lit≤ tt
 
 pub disp_is : {c : ℕ} → IsCount c → times (cast_unsigned w64 (pos (c - 1))) 1 ≡ c - 1
 disp_is c1 = refl

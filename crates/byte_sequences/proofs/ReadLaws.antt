@@ -19,11 +19,13 @@ use Rattle.alpha_meaning.specs.Result.{plus, times, result_of, one_if}
 use Rattle.alpha_meaning.specs.Pieces.{Fetch, Terms, Plan, Access, Over, Plain, Piece, Runs, HasAt, piece, Only}
 use Rattle.alpha_meaning.specs.Loops.{effects}
 use Rattle.alpha_meaning.proofs.Rules.{Always, done, roomy, goes, load, operates, put_only, effects_only, has_front, has_back, loaded_whole}
+use Rattle.alpha_meaning.proofs.Registers.{eqb_self, put_same, put_other}
+use Rattle.alpha_meaning.proofs.Rows.{count_some}
 use Rattle.byte_sequences.specs.Instructions.{IsArgument, is_scratch, is_scratch_or}
 use Rattle.byte_sequences.specs.Words.{extract_low, extract_high, byte_read, read_test, tested_read, unaligned_read, read_code}
 use Rattle.byte_sequences.specs.Plans.{quad_of_part, read_plan}
 use Rattle.byte_sequences.specs.Promises.{Holds, ReadsPlan}
-use Rattle.byte_sequences.proofs.Operands.{other, eqb_self, or_true, put_same, put_other, lies_within, next_of, parts_by, is_across, test_same, byte_within, some_bytes, disp_is, next_quad, of_parts, crossing_is}
+use Rattle.byte_sequences.proofs.Operands.{other, or_true, lies_within, next_of, parts_by, is_across, test_same, byte_within, disp_is, next_quad, of_parts, crossing_is}
 
 low_is : {c : ℕ} → IsCount c → (a b held : ℕ) → result_of (extract_low c) a b held ≡ ext_low (2 ^ c - 1) a b
 low_is c1 a b held = refl
@@ -104,7 +106,7 @@ module _ (fetch : Fetch) (terms : Terms) (pc : ℕ) (f : Regs) (place c to : ℕ
   place_first x = put_other (got x) 25 _ place (other place 25 a_place (lit< tt)) ∙ place_got x
 
   test_is : (x : ℕ) → first x 26 ≡ one_if (lies_within (f place) c)
-  test_is x = ap (λ y. one_if (nat_lt y (9 - c))) (and_mask (f place) 3) ∙ ap one_if (test_same (f place) c (some_bytes is_count) (count_le is_count))
+  test_is x = ap (λ y. one_if (nat_lt y (9 - c))) (and_mask (f place) 3) ∙ ap one_if (test_same (f place) c (count_some is_count) (count_le is_count))
 
   first_is : (before x : ℕ) → x ≡ before → first x 25 ≡ ext_low (2 ^ c - 1) before (f place)
   first_is before x e = low_is is_count x (got x place) x ∙ ap (λ a. ext_low (2 ^ c - 1) x a) (place_got x) ∙ ap (λ v. ext_low (2 ^ c - 1) v (f place)) e

@@ -22,11 +22,12 @@ use Rattle.alpha_meaning.specs.Pieces.{Fetch, Terms, Plan, Access, Over, Plain, 
 use Rattle.alpha_meaning.specs.Loops.{is_operate, effect, effects, retry}
 use Rattle.alpha_meaning.proofs.Rules.{Always, done, roomy, goes, store, operates, put_only, effects_only, has_front, has_back, changed_low}
 use Rattle.alpha_meaning.proofs.Retry.{Changes, turns}
+use Rattle.alpha_meaning.proofs.Rows.{count_some}
 use Rattle.byte_sequences.specs.Instructions.{IsArgument, is_scratch}
 use Rattle.byte_sequences.specs.Words.{insert_low, insert_high, mask_low, mask_high, replacing, first_write, second_write, write_test, tested_second_write, unaligned_write, longword_write, quadword_write, write_code}
 use Rattle.byte_sequences.specs.Plans.{quad_of_part, write_plan}
 use Rattle.byte_sequences.specs.Promises.{MayRetry, MayStore, MayWrite, stored_bytes, Keeps, WritesPlan}
-use Rattle.byte_sequences.proofs.Operands.{other, lies_within, next_of, parts_by, is_within, is_across, test_same, byte_within, some_bytes, next_quad}
+use Rattle.byte_sequences.proofs.Operands.{other, lies_within, next_of, parts_by, is_within, is_across, test_same, byte_within, next_quad}
 
 -- a changed quadword is one
 pub with_field_fits : (q at c v : ℕ) → at + c ≤ 8 → q < 2 ^ 64 → with_field_of q at c v < 2 ^ 64
@@ -158,7 +159,7 @@ module _ (p : Piece) (f : Regs) (place from : ℕ) (a_place : IsArgument place) 
 
     first_loop : (b : Bool) → lies_within (f place) c ≡ b → IsLoop (f place / 8 * 8) (f from) (f place) (mask_low c) (insert_low c) (first_change b)
     first_loop true e =
-        let le = is_within (f place) c e (some_bytes is_count) in
+        let le = is_within (f place) c e (count_some is_count) in
         record { aligned = omega arith; below = omega arith; value = low_value (first_change true) (λ x lt. replaced x (f from) (f place) lt is_count le); fits = λ x lt. with_field_fits x (f place % 8) c (f from) le lt }
     first_loop false e =
         let gt = is_across (f place) c e in
@@ -218,7 +219,7 @@ module _ (p : Piece) (f : Regs) (place from : ℕ) (a_place : IsArgument place) 
       test_is : (g : Regs) → IsReady is_scratch f (f place / 8 * 8) g → effects (write_test place c) g 25 ≡ one_if (lies_within (f place) c)
       test_is g r =
           ap (λ x. one_if (nat_lt (bit_and x 7) (9 - c))) (place_in g r.only) ∙ ap (λ x. one_if (nat_lt x (9 - c))) (and_mask (f place) 3) ∙
-          ap one_if (test_same (f place) c (some_bytes is_count) (count_le is_count))
+          ap one_if (test_same (f place) c (count_some is_count) (count_le is_count))
 
       tail : (most L : ℕ) (g : Regs) (b : Bool) → lies_within (f place) c ≡ b → IsReady is_scratch f (f place / 8 * 8) g → HasAt p.fetch (L + 2) (Branch Bne 25 (pos 7) ∷ second_write place c from) → p.from ≤ L → L + 10 ≡ p.to
           → Always p (Keeps f) most 8 Plain (at_place (effects (write_test place c) g) (L + 2)) (write_rest b)

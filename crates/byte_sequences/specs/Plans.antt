@@ -4,6 +4,7 @@ use Rattle.std.specs.Prelude.{ℕ, ◌+◌, ◌*◌, ◌/◌, ◌%◌, ◌^◌, 
 use Rattle.vt_words.specs.Quad.{field_of, with_field_of}
 use Rattle.alpha_meaning.specs.Result.{inverse}
 use Rattle.alpha_meaning.specs.Pieces.{Plan, Access, Over, bind}
+use Rattle.micro_ops.specs.Meaning.{locked_count}
 use Rattle.micro_ops.specs.declared.program.LockedOp.{LockedOp}
 use Rattle.micro_ops.specs.declared.program.LockedOp.TheVariants.{AddWord, SetBit, ClearBit}
 
@@ -34,12 +35,6 @@ write_plan (part ∷ rest) value =
     Access (quad_of_part part) (with_bytes_of_part part value) (λ before. write_plan rest (value / 2 ^ (8 * part.1)))
 
 -- ---- interlocked changes
--- a word, or the byte that has the bit
-abbrev pub locked_count : LockedOp → ℕ
-locked_count AddWord = 2
-locked_count SetBit = 1
-locked_count ClearBit = 1
-
 -- what the word or byte becomes; a sum keeps its low 16 bits
 abbrev pub locked_value : LockedOp → (before from : ℕ) → ℕ
 locked_value AddWord before from = before + from

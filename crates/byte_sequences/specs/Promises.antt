@@ -6,10 +6,11 @@ use Rattle.alpha_meaning.specs.State.{Regs, at_place}
 use Rattle.alpha_meaning.specs.Pieces.{Fetch, Terms, Plan, Plain, Runs, HasAt, piece, Only}
 use Rattle.micro_ops.specs.declared.program.LockedOp.{LockedOp}
 use Rattle.micro_ops.specs.declared.program.LockedOp.TheVariants.{AddWord, SetBit, ClearBit}
+use Rattle.micro_ops.specs.Meaning.{locked_count}
 use Rattle.vax_form.specs.Parts.{parts}
 use Rattle.byte_sequences.specs.Instructions.{is_scratch, is_scratch_or}
 use Rattle.byte_sequences.specs.Words.{by_count}
-use Rattle.byte_sequences.specs.Plans.{quad_of_part, read_plan, write_plan, locked_count, locked_plan}
+use Rattle.byte_sequences.specs.Plans.{quad_of_part, read_plan, write_plan, locked_plan}
 
 -- ---- what has to be allowed
 pub record MayRead (terms : Terms) (address count : ℕ) : Type 0 where

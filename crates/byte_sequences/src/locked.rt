@@ -92,5 +92,5 @@ pub fn locked_words(
     ensures writes { IfOk result (λ words. list_all (writes_only (is_scratch_or to)) words.items ≡ true) }
     ensures words { IfOk result (λ words. words.items ≡ locked_code kind place from to) }
 {
-    locked_code(alloc, place, kind, from, to).map_err(|_| WantOfMemory)
+    Ok(locked_code(alloc, place, kind, from, to)?)
 }

@@ -75,5 +75,5 @@ pub fn read_words(
     ensures writes { IfOk result (λ words. list_all (writes_only (is_scratch_or to)) words.items ≡ true) }
     ensures words { IfOk result (λ words. words.items ≡ read_code place count to) }
 {
-    read_code(alloc, place, count, to).map_err(|_| WantOfMemory)
+    Ok(read_code(alloc, place, count, to)?)
 }

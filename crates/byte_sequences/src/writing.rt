@@ -165,5 +165,5 @@ pub fn write_words(
     ensures scratch { IfOk result (λ words. list_all (writes_only is_scratch) words.items ≡ true) }
     ensures words { IfOk result (λ words. words.items ≡ write_code place count from) }
 {
-    write_code(alloc, place, count, from).map_err(|_| WantOfMemory)
+    Ok(write_code(alloc, place, count, from)?)
 }

@@ -1,15 +1,14 @@
 -- Computed numbers fit their size.
 use Rattle.std.proofs.Common.{ℕ, ◌+◌, ◌-◌, ◌*◌, ◌/◌, ◌%◌, ◌^◌, ◌<◌, refl, sym, subst, arith, Bool, true, false}
-use Rattle.std.specs.Prelude.{nat_lt, ◌==◌, int_lt, bit_or, bit_xor, if◌then◌else◌}
-use Rattle.std.proofs.lemmas.Nat.{and_le_l, or_lt, xor_lt, mod_below, mul-lt, div_below, shr_le}
+use Rattle.std.specs.Prelude.{nat_lt, ◌==◌, int_lt, if◌then◌else◌}
+use Rattle.std.proofs.lemmas.Nat.{and_le_l, mod_below, mul-lt, div_below, shr_le}
 use Rattle.vax_form.specs.declared.instr.Size.{Size}
-use Rattle.vax_form.specs.declared.instr.Size.TheVariants.{Byte, Word, Long, Quad}
 use Rattle.vt_words.specs.Values.{bit}
 use Rattle.micro_ops.specs.declared.program.MicroOp.{MicroOp}
 use Rattle.micro_ops.specs.declared.program.MicroOp.TheVariants.{Move, Add, Sub, Mul, And, Or, Xor, AndNot, ShiftLeft, ShiftRight, ShiftSigned, SignExtend, ZeroExtend, Equal, Less, LessUnsigned, SelectNonzero, MulHigh}
 use Rattle.micro_ops.specs.Values.{bits_of, limit_of, low, signed, sign_of, signed_right, value_from}
+use Rattle.micro_ops.proofs.Sizes.{low_below, or_fits, xor_fits}
 use Rattle.compute_sequences.specs.Bounds.{computed_limit, ComputedFits}
-use Rattle.compute_sequences.proofs.Numbers.{low_below}
 use Rattle.compute_sequences.proofs.Shifting.{limit_some, signed_right_is, quad_fits, extended_is}
 
 module _ (size : Size) where
@@ -39,18 +38,6 @@ module _ (size : Size) where
 
   sign_fits : (n : ℕ) → sign_of size n < limit
   sign_fits n = let two = limit_some size in either_fits (nat_lt n (limit / 2)) 0 (limit - 1) some (omega (arith, two))
-
-or_fits : (size : Size) (a b : ℕ) → a < limit_of size → b < limit_of size → bit_or a b < limit_of size
-or_fits Byte a b = or_lt 8 a b
-or_fits Word a b = or_lt 16 a b
-or_fits Long a b = or_lt 32 a b
-or_fits Quad a b = or_lt 64 a b
-
-xor_fits : (size : Size) (a b : ℕ) → a < limit_of size → b < limit_of size → bit_xor a b < limit_of size
-xor_fits Byte a b = xor_lt 8 a b
-xor_fits Word a b = xor_lt 16 a b
-xor_fits Long a b = xor_lt 32 a b
-xor_fits Quad a b = xor_lt 64 a b
 
 value_fits : (op : MicroOp) (size : Size) (a b held : ℕ) → a < limit_of size → b < limit_of size → value_from op size a b held < computed_limit op size
 unfolding value_from

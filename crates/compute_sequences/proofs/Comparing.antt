@@ -12,7 +12,7 @@ use Rattle.alpha_meaning.specs.Result.{one_if, result_of, signed as signed_quad}
 use Rattle.micro_ops.specs.declared.program.MicroOp.{MicroOp}
 use Rattle.micro_ops.specs.declared.program.MicroOp.TheVariants as ops
 use Rattle.micro_ops.specs.Values.{bits_of, limit_of, low, signed, value_from}
-use Rattle.compute_sequences.proofs.Numbers.{low_below}
+use Rattle.micro_ops.proofs.Sizes.{low_below}
 
 -- the low bytes as the highest ones
 abbrev pub raised : Size → ℕ → ℕ

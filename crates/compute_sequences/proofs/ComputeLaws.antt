@@ -7,16 +7,18 @@ use Rattle.vt_words.specs.Quad.{sign_extended}
 use Rattle.alpha_encode.specs.declared.instr.AlphaInstr.{AlphaInstr}
 use Rattle.alpha_encode.specs.declared.instr.OperateOp.TheVariants as row
 use Rattle.alpha_meaning.specs.State.{Regs}
+use Rattle.alpha_meaning.proofs.Registers.{eqb_self}
 use Rattle.micro_ops.specs.declared.program.Arg.{Arg}
 use Rattle.micro_ops.specs.declared.program.MicroOp.{MicroOp}
 use Rattle.micro_ops.specs.declared.program.MicroOp.TheVariants.{Add, Sub, Mul, And, Or, Xor, AndNot, ShiftLeft, ShiftRight, ShiftSigned, SignExtend, Equal, Less, LessUnsigned, MulHigh}
 use Rattle.micro_ops.specs.Uses.{is_unary, is_select}
 use Rattle.micro_ops.specs.Values.{low, bits_of, value_from}
+use Rattle.micro_ops.proofs.Sizes.{low_below}
 use Rattle.compute_sequences.specs.Registers.{IsTarget, IsArgument, register_at, value_at, is_loaded, may_change}
 use Rattle.compute_sequences.specs.Words.{narrow, load_code, first_register, second_target, second_register, free_of, other_of, unary_code, binary_code}
 use Rattle.compute_sequences.specs.Promises.{LeavesAt, IsComputed}
-use Rattle.compute_sequences.proofs.Straight.{eqb_self, Fine, Each, each_append, afters, afters_append, straight}
-use Rattle.compute_sequences.proofs.Numbers.{zapped, low_below, adds, subtracts, multiplies, ands, ors, xors, clears}
+use Rattle.compute_sequences.proofs.Straight.{Fine, Each, each_append, afters, afters_append, straight}
+use Rattle.compute_sequences.proofs.Numbers.{zapped, adds, subtracts, multiplies, ands, ors, xors, clears}
 use Rattle.compute_sequences.proofs.Comparing.{equals, orders, signed_orders}
 use Rattle.compute_sequences.proofs.Shifting.{signs_by_low}
 use Rattle.compute_sequences.proofs.ConstantLaws.{target_real, target_fits, may_target}

@@ -9,12 +9,13 @@ use Rattle.alpha_encode.specs.Halves.{low_half}
 use Rattle.alpha_encode.specs.Words.{IsEncodable}
 use Rattle.alpha_meaning.specs.State.{Regs}
 use Rattle.alpha_meaning.specs.Result.{plus, times}
+use Rattle.alpha_meaning.proofs.Registers.{eqb_self}
 use Rattle.micro_ops.specs.Values.{low}
 use Rattle.micro_ops.specs.WordCounts.{by_size}
 use Rattle.compute_sequences.specs.Registers.{IsTarget, may_change}
 use Rattle.compute_sequences.specs.Constants.{high_long, low_long, code_of_size, least_size, constant_code}
 use Rattle.compute_sequences.specs.Promises.{LeavesConstant, HasLow}
-use Rattle.compute_sequences.proofs.Straight.{eqb_self, Fine, Each, each_map, all_of, afters, straight}
+use Rattle.compute_sequences.proofs.Straight.{Fine, Each, each_map, all_of, afters, straight}
 use Rattle.compute_sequences.proofs.Shifting.{below}
 use Rattle.compute_sequences.proofs.Halves.{with_halves, short_low, short_exact, long_low, quad_is}
 

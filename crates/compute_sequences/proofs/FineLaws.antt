@@ -1,6 +1,7 @@
 -- The words of each form run one after another, write what they may, have encodings, and are as many as counted.
 use Rattle.std.proofs.Common.{◌≡◌, ℕ, ◌<◌, ◌≤◌, refl, arith, [], ◌∷◌, ◌++◌, length, Bool, true, false, eqb, lit<, lit≤}
 use Rattle.std.specs.Prelude.{◌||◌, nat_lt, if◌then◌else◌}
+use Rattle.alpha_meaning.proofs.Registers.{eqb_self}
 use Rattle.vax_form.specs.declared.instr.Size.{Size}
 use Rattle.vax_form.specs.declared.instr.Size.TheVariants.{Byte, Word, Long, Quad}
 use Rattle.alpha_encode.specs.declared.instr.OperateOp.{OperateOp}
@@ -15,7 +16,7 @@ use Rattle.micro_ops.specs.Values.{bits_of}
 use Rattle.micro_ops.specs.WordCounts.{operation_words, argument_words}
 use Rattle.compute_sequences.specs.Registers.{IsTarget, IsArgument, may_change}
 use Rattle.compute_sequences.specs.Words.{narrow, raise, extend, load_code, free_of, other_of, lowered, compared, counted, within_size, left_shift, right_shift, signed_start, signed_rest, signed_shift, high_product, unary_code, binary_code}
-use Rattle.compute_sequences.proofs.Straight.{eqb_self, Fine, Each, each_append}
+use Rattle.compute_sequences.proofs.Straight.{Fine, Each, each_append}
 use Rattle.compute_sequences.proofs.ConstantLaws.{constant_fine, constant_length}
 
 module _ (may : ℕ → Bool) where

@@ -10,12 +10,14 @@ use Rattle.alpha_encode.specs.declared.instr.OperateOp.{OperateOp}
 use Rattle.alpha_encode.specs.declared.instr.OperateOp.TheVariants as row
 use Rattle.alpha_meaning.specs.State.{Regs}
 use Rattle.alpha_meaning.specs.Result.{one_if, minus, result_of}
+use Rattle.alpha_meaning.proofs.Registers.{eqb_self}
 use Rattle.micro_ops.specs.declared.program.MicroOp.{MicroOp}
 use Rattle.micro_ops.specs.declared.program.MicroOp.TheVariants as ops
 use Rattle.micro_ops.specs.Values.{bits_of, limit_of, low, signed_right, sign_of, value_from}
+use Rattle.micro_ops.proofs.Sizes.{low_below}
 use Rattle.compute_sequences.specs.Words.{mask_of, extend, lowered, compared, left_shift, right_shift, signed_shift, high_product}
-use Rattle.compute_sequences.proofs.Straight.{eqb_self, afters}
-use Rattle.compute_sequences.proofs.Numbers.{low_kept, low_quad, low_below, Lowers}
+use Rattle.compute_sequences.proofs.Straight.{afters}
+use Rattle.compute_sequences.proofs.Numbers.{low_kept, low_quad, Lowers}
 use Rattle.compute_sequences.proofs.Comparing.{raised, Compares}
 use Rattle.compute_sequences.proofs.Shifting.{or_nothing, left_low, right_low, signed_low, raised_byte, raised_word, added_long, signs_quad}
 

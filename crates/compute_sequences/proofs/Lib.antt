@@ -1,4 +1,3 @@
-pub mod Outcomes
 pub mod Straight
 pub mod Halves
 pub mod ConstantLaws

@@ -28,12 +28,6 @@ zapped Word n held = low_kept Word n
 zapped Long n held = low_kept Long n
 zapped Quad n held = low_kept Quad n
 
-pub low_below : (size : Size) (n : ℕ) → low size n < limit_of size
-low_below Byte n = omega arith
-low_below Word n = omega arith
-low_below Long n = omega arith
-low_below Quad n = omega arith
-
 pub low_quad : (n : ℕ) → n < 2 ^ 64 → low Quad n ≡ n
 low_quad n lt = mod-eq_of_lt lt
 

@@ -14,14 +14,15 @@ use Rattle.alpha_encode.specs.declared.instr.OperateOp.TheVariants as row
 use Rattle.alpha_encode.specs.declared.instr.Second.TheVariants.{Register, Literal}
 use Rattle.alpha_meaning.specs.State.{Regs, put}
 use Rattle.alpha_meaning.specs.Result.{one_if, result_of}
+use Rattle.alpha_meaning.proofs.Registers.{eqb_self, put_same, put_other}
 use Rattle.micro_ops.specs.Values.{low, bits_of}
+use Rattle.micro_ops.proofs.Sizes.{low_below}
 use Rattle.compute_sequences.specs.declared.overflow.Arithmetic.{Arithmetic}
 use Rattle.compute_sequences.specs.declared.overflow.Arithmetic.TheVariants.{Sum, Difference}
 use Rattle.compute_sequences.specs.Registers.{IsTarget, may_change}
 use Rattle.compute_sequences.specs.Words.{extend}
 use Rattle.compute_sequences.specs.Overflow.{quad_operation, overflow_code, overflows, IsOverflow, LeavesOverflow}
-use Rattle.compute_sequences.proofs.Straight.{eqb_self, put_same, put_other, Fine, Each, each_append, afters, afters_append, straight}
-use Rattle.compute_sequences.proofs.Numbers.{low_below}
+use Rattle.compute_sequences.proofs.Straight.{Fine, Each, each_append, afters, afters_append, straight}
 use Rattle.compute_sequences.proofs.Shifting.{signs_by_low, raised_byte, raised_word, added_long}
 use Rattle.compute_sequences.proofs.Overflowing.{overflow_is}
 use Rattle.compute_sequences.proofs.ConstantLaws.{target_real, target_fits, may_target}

@@ -11,13 +11,14 @@ use Rattle.alpha_encode.specs.declared.instr.AlphaInstr.{AlphaInstr}
 use Rattle.alpha_encode.specs.declared.instr.AlphaInstr.TheVariants.{Operate}
 use Rattle.alpha_meaning.specs.State.{Regs}
 use Rattle.alpha_meaning.specs.Pieces.{Only}
+use Rattle.alpha_meaning.proofs.Registers.{eqb_self}
 use Rattle.micro_ops.specs.declared.program.Arg.{Arg}
 use Rattle.micro_ops.specs.declared.program.Arg.TheVariants.{Temp, Register, Flag, Const}
 use Rattle.micro_ops.specs.Values.{low}
 use Rattle.compute_sequences.specs.Registers.{IsTarget, IsArgument, register_at, value_at, is_loaded}
 use Rattle.compute_sequences.specs.Constants.{constant_code}
 use Rattle.compute_sequences.specs.Words.{load_code, first_register, second_target, second_register}
-use Rattle.compute_sequences.proofs.Straight.{eqb_self, afters, afters_only, same}
+use Rattle.compute_sequences.proofs.Straight.{afters, afters_only, same}
 use Rattle.compute_sequences.proofs.Numbers.{low_kept}
 use Rattle.compute_sequences.proofs.ConstantLaws.{constant_low, constant_below, target_fits, target_real}
 use Rattle.compute_sequences.proofs.FineLaws.{load_fine}

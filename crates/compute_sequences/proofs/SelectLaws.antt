@@ -12,6 +12,7 @@ use Rattle.alpha_encode.specs.declared.instr.Second.TheVariants.{Register}
 use Rattle.alpha_encode.specs.Words.{IsEncodable}
 use Rattle.alpha_meaning.specs.State.{Regs, put}
 use Rattle.alpha_meaning.specs.Result.{result_of}
+use Rattle.alpha_meaning.proofs.Registers.{eqb_self}
 use Rattle.micro_ops.specs.declared.program.Arg.{Arg}
 use Rattle.micro_ops.specs.declared.program.Arg.TheVariants as arguments
 use Rattle.micro_ops.specs.Values.{low}
@@ -19,7 +20,7 @@ use Rattle.micro_ops.specs.WordCounts.{argument_words}
 use Rattle.compute_sequences.specs.Registers.{IsTarget, IsArgument, register_at, value_at, is_loaded, may_change}
 use Rattle.compute_sequences.specs.Words.{mask_of, narrow, load_code, first_register, chosen}
 use Rattle.compute_sequences.specs.Promises.{LeavesAt, changes_only}
-use Rattle.compute_sequences.proofs.Straight.{eqb_self, Fine, Each, each_append, each_encodable, each_writes, afters, afters_append, straight}
+use Rattle.compute_sequences.proofs.Straight.{Fine, Each, each_append, each_encodable, each_writes, afters, afters_append, straight}
 use Rattle.compute_sequences.proofs.Numbers.{zapped, low_quad}
 use Rattle.compute_sequences.proofs.ConstantLaws.{target_real, target_fits, may_target}
 use Rattle.compute_sequences.proofs.FineLaws.{fine_two, fine_narrow, load_fine, load_length, scratch_may}

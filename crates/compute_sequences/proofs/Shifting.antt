@@ -15,7 +15,8 @@ use Rattle.vt_words.specs.Values.{value_of}
 use Rattle.alpha_encode.specs.declared.instr.OperateOp.TheVariants as row
 use Rattle.alpha_meaning.specs.Result.{one_if, plus, minus, long, result_of, arithmetic_right, signed as signed_quad}
 use Rattle.micro_ops.specs.Values.{bits_of, limit_of, low, signed, sign_of, signed_right}
-use Rattle.compute_sequences.proofs.Numbers.{low_below, low_of_quad}
+use Rattle.micro_ops.proofs.Sizes.{low_below}
+use Rattle.compute_sequences.proofs.Numbers.{low_of_quad}
 
 -- ---- counts
 -- a shift counts modulo 64, which a count below the size's bits is

@@ -1,5 +1,5 @@
 -- Words that run one after another: instructions of the operate format, LDA and LDAH.
-use Rattle.std.proofs.Common.{◌≡◌, ℕ, suc, ◌+◌, ◌≤◌, refl, subst, arith, List, [], ◌∷◌, ◌++◌, length, Bool, true, false, eqb, cond, eq-eqb}
+use Rattle.std.proofs.Common.{◌≡◌, ℕ, suc, ◌+◌, ◌≤◌, refl, subst, arith, List, [], ◌∷◌, ◌++◌, length, Bool, true, false}
 use Rattle.std.specs.Prelude.{All}
 use Rattle.std.specs.List.{list_all}
 use Rattle.std.proofs.lemmas.List.Elements.{All-cons, All-nil}
@@ -16,16 +16,6 @@ use Rattle.alpha_meaning.specs.Pieces.{Plan, Over, Plain, Piece, HasAt, piece, O
 use Rattle.alpha_meaning.proofs.Rules.{Always, done, goes, put_only}
 use Rattle.compute_sequences.specs.Registers.{may_change}
 use Rattle.compute_sequences.specs.Promises.{Leaves, LeavesAt, changes_only}
-
--- ---- registers
-pub eqb_self : (n : ℕ) → eqb n n ≡ true
-eqb_self n = eq-eqb n n refl
-
-pub put_same : (f : Regs) (n v : ℕ) → eqb n 31 ≡ false → put f n v n ≡ v
-put_same f n v e = rw (e, eqb_self n) refl
-
-pub put_other : (f : Regs) (n v m : ℕ) → eqb m n ≡ false → put f n v m ≡ f m
-put_other f n v m e = elim (eqb n 31) as (λ b. cond b (f m) (cond (eqb m n) v (f m)) ≡ f m) [ true ↦ refl | false ↦ rw e refl ]
 
 -- ---- one instruction
 abbrev pub is_local : AlphaInstr → Bool

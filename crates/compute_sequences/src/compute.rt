@@ -174,5 +174,5 @@ pub fn compute_words(
     ensures writes { IfOk result (λ words. list_all (changes_only (may_change to)) words.items ≡ true) }
     ensures words { IfOk result (λ words. words.items ≡ compute_code op size a b to) }
 {
-    compute_code(alloc, op, size, a, b, to).map_err(|_| WantOfMemory)
+    Ok(compute_code(alloc, op, size, a, b, to)?)
 }

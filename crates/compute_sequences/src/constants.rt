@@ -124,5 +124,5 @@ pub fn constant_words(
     ensures writes { IfOk result (λ words. list_all (changes_only (may_change to)) words.items ≡ true) }
     ensures words { IfOk result (λ words. words.items ≡ constant_code value size to) }
 {
-    constant_code(alloc, value, size, to).map_err(|_| WantOfMemory)
+    Ok(constant_code(alloc, value, size, to)?)
 }

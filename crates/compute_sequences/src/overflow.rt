@@ -73,5 +73,5 @@ pub fn overflow_words(
     ensures writes { IfOk result (λ words. list_all (changes_only (may_change to)) words.items ≡ true) }
     ensures words { IfOk result (λ words. words.items ≡ overflow_code arithmetic width x y to) }
 {
-    overflow_code(alloc, arithmetic, width, x, y, to).map_err(|_| WantOfMemory)
+    Ok(overflow_code(alloc, arithmetic, width, x, y, to)?)
 }

@@ -1,5 +1,7 @@
+pub mod Held
 pub mod Lists
 pub mod Parts
+pub mod Sizes
 pub mod Tables
 pub mod UsesOfOthers
 pub mod Walks

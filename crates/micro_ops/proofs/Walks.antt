@@ -2,6 +2,7 @@
 use Rattle.std.proofs.Common.{◌≡◌, ℕ, ◌+◌, ◌-◌, ◌<◌, refl, sym, ap, ◌∙◌, Bool, true, false, List, [], ◌∷◌, ◌++◌, length, get_or, take, drop, Option, Some, None, zero-add, add_assoc}
 use Rattle.std.specs.Prelude.{◌&&◌, ◌||◌, not, option_and_then, if◌then◌else◌}
 use Rattle.std.specs.List.{list_all}
+use Rattle.std.proofs.lemmas.Bool.{and_parts}
 use Rattle.std.proofs.lemmas.List.Sums.{sum_by-append, sum_by-cons}
 use Rattle.std.proofs.lemmas.List.{take_rest, drop_more}
 use Rattle.micro_ops.specs.declared.codes.CodeSources.{CodeSources}
@@ -60,17 +61,13 @@ walks_joined codes known (operation ∷ first) second =
     let o = step codes known operation in
     joined_on codes first second known.ended o (joined_step codes first second (λ behind. walks_joined codes behind first second) o)
 
-both_true : (a b : Bool) → (a && b) ≡ true → (a ≡ true) × (b ≡ true)
-both_true true b e = (refl, e)
-both_true false b e = cc
-
 left_out_low : (low used : Bool) → low ≡ true → (not low && used) ≡ false
 left_out_low true used e = refl
 left_out_low false used e = cc
 
 pub none_left_out : NoneLeftOut
 none_left_out codes (Compute to op size a b) behind low =
-    left_out_low (is_low to) _ (both_true (is_low to) _ (both_true (is_low to && is_low_argument a) _ low).0).0
+    left_out_low (is_low to) _ (and_parts (is_low to) _ (and_parts (is_low to && is_low_argument a) _ low).0).0
 none_left_out codes operation behind low = refl
 
 pub words_joined : WordsJoined
@@ -83,7 +80,7 @@ words_of_low false words e = refl
 pub words_of_piece : WordsOfPiece
 words_of_piece codes [] program low = sym (zero-add (program_words codes program))
 words_of_piece codes (operation ∷ piece) program low =
-    let parts = both_true (names_low operation) (list_all names_low piece) low in
+    let parts = and_parts (names_low operation) (list_all names_low piece) low in
     let here : words_with codes operation (piece ++ program) ≡ words_of operation = words_of_low _ _ (none_left_out codes operation (piece ++ program) parts.0) in
     let rest : program_words codes (piece ++ program) ≡ piece_words piece + program_words codes program = words_of_piece codes piece program parts.1 in
     let all : piece_words (operation ∷ piece) ≡ words_of operation + piece_words piece = sum_by-cons words_of operation piece in
@@ -97,6 +94,6 @@ or_true false false = refl
 pub piece_keeps_low : PieceKeepsLow
 piece_keeps_low codes [] program low = refl
 piece_keeps_low codes (operation ∷ piece) program low =
-    let parts = both_true (names_low operation) (list_all names_low piece) low in
+    let parts = and_parts (names_low operation) (list_all names_low piece) low in
     let here : keeps_low codes operation (piece ++ program) ≡ true = rw parts.0 (or_true (is_codes operation) (is_left_out codes operation (piece ++ program))) in
     rw here (piece_keeps_low codes piece program parts.1)

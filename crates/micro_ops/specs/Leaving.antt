@@ -1,8 +1,8 @@
 -- What the temporaries hold where a program leaves: the operands of the rule by which its codes are told, the result, and
 -- the codes that have no rule. Values are zero-extended at the rule's size.
 use Rattle.std.specs.Prelude.{◌≡◌, ℕ, ◌<◌, ◌==◌, nat_lt, int_lt, List, false}
+use Rattle.vax_form.specs.Ranges.{ending_state}
 use Rattle.vax_form.specs.Size.{bytes_of}
-use Rattle.vax_form.specs.Tree.{Ending, Finish, Exit, Trap}
 use Rattle.vax_form.specs.declared.instr.Size.{Size}
 use Rattle.vax_form.specs.declared.state.VaxState.{VaxState}
 use Rattle.vt_words.specs.Values.{bit}
@@ -17,13 +17,8 @@ use Rattle.micro_ops.specs.Course.{AtLeaves}
 use Rattle.micro_ops.specs.Meaning.{Temps, Departure, Ended, Serves, Left, flag_of, denote}
 
 -- the state that is left, before a service acts
-abbrev pub state_of_ending : Ending → VaxState
-state_of_ending (Finish state) = state
-state_of_ending (Exit state) = state
-state_of_ending (Trap kind state) = state
-
 abbrev pub state_left : Departure → VaxState
-state_left (Ended ending) = state_of_ending ending
+state_left (Ended ending) = ending_state ending
 state_left (Serves code state) = state
 
 -- a comparison: V is 0, and C says that the first is below the second as unsigned numbers
