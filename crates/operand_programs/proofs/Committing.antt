@@ -1,33 +1,28 @@
 -- Pushes fit alike, and commits and results fit behind whatever committed nothing.
-use Rattle.std.proofs.Common.{◌≡◌, ℕ, zero, suc, ◌+◌, ◌<◌, ◌≤◌, eqb, Bool, true, false, List, [], ◌∷◌, ◌++◌, length, get_or, set, map, Option, Some, None, refl, sym, ap, ◌∙◌, subst, arith, inl, inr, lit<, length-set}
+use Rattle.std.proofs.Common.{◌≡◌, ℕ, zero, suc, ◌+◌, ◌<◌, ◌≤◌, eqb, Bool, true, false, List, [], ◌∷◌, ◌++◌, length, get_or, set, Some, None, refl, sym, ap, ◌∙◌, subst, arith, inl, inr, lit<, length-set}
 use Rattle.std.specs.Prelude.{not, min, option_and_then, if◌then◌else◌}
-use Rattle.std.proofs.lemmas.Bool.{and_parts, not-true, eqb-true, cases_eq, cases_lt, both_ways}
+use Rattle.std.proofs.lemmas.Bool.{and_parts, not-true, eqb-true, cases_eq, both_ways}
 use Rattle.std.proofs.lemmas.Bool.Decides.{eqb_tells}
 use Rattle.std.proofs.lemmas.List.{length-map, map-set, set-set, set_comm}
-use Rattle.vax_form.specs.Grammar.{HasRegister}
-use Rattle.vax_form.specs.declared.instr.Operand.{Operand}
 use Rattle.vax_form.specs.declared.instr.Operand.TheVariants.{Unused, Value, Register, Place, Target}
-use Rattle.vax_form.specs.declared.instr.Size.{Size}
 use Rattle.vax_form.specs.declared.instr.Size.TheVariants.{Byte, Word, Long, Quad}
 use Rattle.micro_ops.specs.Fits.{step, walk}
 use Rattle.micro_ops.specs.Known.{held, holds, has_flag, is_something, is_committed, behind_write, behind_commit}
 use Rattle.micro_ops.specs.declared.codes.CodeSources.{CodeSources}
 use Rattle.micro_ops.specs.declared.known.Holding.TheVariants.{Nothing, Wide, Longword}
-use Rattle.micro_ops.specs.declared.known.Checked.TheVariants.{Nowhere}
 use Rattle.micro_ops.specs.declared.known.Known.{Known}
 use Rattle.micro_ops.specs.declared.program.Arg.TheVariants as args
 use Rattle.micro_ops.specs.declared.program.Arg.TheVariants.{Temp, Const}
 use Rattle.micro_ops.specs.declared.program.Micro.{Micro}
 use Rattle.micro_ops.specs.declared.program.Micro.TheVariants.{Compute, Commit}
 use Rattle.micro_ops.specs.declared.program.MicroOp.TheVariants as ops
-use Rattle.operand_programs.specs.Specifiers.{sum_into, store_program, commit_one, commit_program}
+use Rattle.micro_ops.proofs.Held.{flag_other, held_other}
+use Rattle.operand_programs.specs.Specifiers.{sum_into, store_program, commit_program}
 use Rattle.operand_programs.specs.InOrder.{no_steps}
-use Rattle.operand_programs.specs.Results.{push_program, steps_behind_push, steps_left, low_program, pair_program, give_program, finish_program}
-use Rattle.operand_programs.specs.Registers.{NamesRegisters}
+use Rattle.operand_programs.specs.Results.{steps_behind_push, low_program, pair_program, finish_program}
 use Rattle.operand_programs.specs.Knowing.{KnowsMore, FitsBetween}
 use Rattle.operand_programs.specs.Behind.{are_clear, is_uncommitted, behind_commits, stepping, finishing, PushFits, CommitsFit, FinishFits}
-use Rattle.operand_programs.proofs.Held.{flag_set, flag_other, held_other}
-use Rattle.operand_programs.proofs.More.{no_more, same_check, knows_itself, covers_write, fits_joined, knowing_less}
+use Rattle.operand_programs.proofs.More.{no_more, knows_itself, covers_write, fits_joined, knowing_less}
 use Rattle.operand_programs.proofs.Walking.{clear_flag, nothing_fits, computes, register_fits, sums_register, commits}
 
 -- ---- the stack

@@ -10,7 +10,6 @@ pub mod Finishing
 pub mod Ordered
 pub mod Short
 pub mod Low
-pub mod Held
 pub mod More
 pub mod Walking
 pub mod OperandWalks

@@ -1,7 +1,7 @@
 -- Operands and the end name the temporaries 0 to 5 alone.
 use Rattle.std.proofs.Common.{◌≡◌, ℕ, ◌+◌, ◌<◌, Bool, true, false, List, [], ◌∷◌, ◌++◌, get_or, Option, Some, None, refl, ◌∙◌, arith, inl, inr}
-use Rattle.std.specs.Prelude.{◌&&◌, min}
-use Rattle.std.proofs.lemmas.Bool.{lt-ltb}
+use Rattle.std.specs.Prelude.{min}
+use Rattle.std.proofs.lemmas.Bool.{lt-ltb, and_from}
 use Rattle.std.proofs.lemmas.Bool.Decides.{eqb_tells}
 use Rattle.std.proofs.lemmas.List.Folds.{list_all-append}
 use Rattle.vax_form.specs.Size.{bytes_of}
@@ -26,11 +26,8 @@ use Rattle.operand_programs.specs.declared.specifiers.Pointer.{Pointer}
 low_4 : (temp : ℕ) → temp < 4 → is_low temp ≡ true
 low_4 temp lt = lt-ltb temp 6 (omega (arith, lt))
 
-both : (a b : Bool) → a ≡ true → b ≡ true → (a && b) ≡ true
-both a b x y = rw (x, y) refl
-
 pub joined_low : (first second : List Micro) → IsLowPiece first → IsLowPiece second → IsLowPiece (first ++ second)
-joined_low first second x y = list_all-append names_low first second ∙ both _ _ x y
+joined_low first second x y = list_all-append names_low first second ∙ and_from _ _ x y
 
 sum_low : (to : ℕ) (from : Option ℕ) (offset : ℕ) → is_low to ≡ true → names_low (sum_into to from offset) ≡ true
 sum_low to None offset low = rw low refl

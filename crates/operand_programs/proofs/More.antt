@@ -1,5 +1,5 @@
 -- A program that fits behind what is known also fits where more is known.
-use Rattle.std.proofs.Common.{◌≡◌, ℕ, ◌<◌, ◌≤◌, eqb, Bool, true, false, List, [], ◌∷◌, ◌++◌, length, Option, Some, None, refl, sym, ap, ◌∙◌, subst, arith, inl, inr, length-set}
+use Rattle.std.proofs.Common.{◌≡◌, ℕ, ◌<◌, Bool, true, false, List, [], ◌∷◌, length, Option, Some, None, refl, sym, ap, ◌∙◌, subst, inl, inr, length-set}
 use Rattle.std.specs.Prelude.{◌&&◌, ◌||◌, not, if◌then◌else◌, option_and_then}
 use Rattle.std.proofs.lemmas.Bool.{cases_eq, cases_lt, both_ways}
 use Rattle.micro_ops.specs.Fits.{argument_fits, place_fits, reference_fits, code_fits, exit_holds, exit_fits, signs_are_held, carry_is_held, sources_fit, is_from_values, is_from_psw, when_fits, step, walk, same}
@@ -21,8 +21,8 @@ use Rattle.micro_ops.specs.declared.program.Exit.TheVariants as exits
 use Rattle.micro_ops.specs.declared.program.Micro.{Micro}
 use Rattle.micro_ops.specs.declared.program.Micro.TheVariants.{Compute, Probe, Refuse, Read, Write, Locked, Commit, Codes, SetPsw, Leave}
 use Rattle.micro_ops.proofs.Walks.{walks_joined}
+use Rattle.micro_ops.proofs.Held.{SameRest, flag_more, high_held, held_set, held_same, held_other, held_behind, lost_behind, rest_kept}
 use Rattle.operand_programs.specs.Knowing.{IsNoMore, IsSameCheck, KnowsMore, FitsBetween, FitsBehindMore, FitsJoined}
-use Rattle.operand_programs.proofs.Held.{SameRest, flag_more, high_held, held_set, held_same, held_other, held_behind, lost_behind, rest_kept}
 
 -- ---- tests
 abbrev Implies : Bool → Bool → Type 0

@@ -1,6 +1,6 @@
 -- Operands fit behind whatever changed nothing.
-use Rattle.std.proofs.Common.{◌≡◌, ℕ, ◌+◌, ◌<◌, ◌≤◌, eqb, Bool, true, false, List, [], ◌∷◌, ◌++◌, get_or, Option, Some, None, refl, sym, ap, subst, ◌∙◌, arith, inl, inr, lit<, lit≤}
-use Rattle.std.specs.Prelude.{min, nat_le}
+use Rattle.std.proofs.Common.{◌≡◌, ℕ, ◌+◌, ◌<◌, eqb, Bool, true, false, List, [], ◌∷◌, get_or, Option, Some, None, refl, sym, ap, subst, ◌∙◌, arith, inl, inr, lit<, lit≤}
+use Rattle.std.specs.Prelude.{min}
 use Rattle.std.proofs.lemmas.Bool.{eqb-false, ne_eqb, cases_lt}
 use Rattle.vax_form.specs.Size.{bytes_of}
 use Rattle.vax_form.specs.Grammar.{HasRegister}
@@ -18,13 +18,12 @@ use Rattle.micro_ops.specs.Uses.{leaves_longword}
 use Rattle.micro_ops.specs.declared.codes.CodeSources.{CodeSources}
 use Rattle.micro_ops.specs.declared.known.Checked.{Checked}
 use Rattle.micro_ops.specs.declared.known.Checked.TheVariants.{Nowhere, At}
-use Rattle.micro_ops.specs.declared.known.Holding.{Holding}
 use Rattle.micro_ops.specs.declared.known.Holding.TheVariants.{Wide, Longword}
 use Rattle.micro_ops.specs.declared.known.Known.{Known}
 use Rattle.micro_ops.specs.declared.program.Arg.TheVariants.{Temp, Const}
-use Rattle.micro_ops.specs.declared.program.Micro.{Micro}
 use Rattle.micro_ops.specs.declared.program.Micro.TheVariants.{Compute, Probe, Read}
 use Rattle.micro_ops.specs.declared.program.MicroOp.TheVariants as ops
+use Rattle.micro_ops.proofs.Held.{held_same, held_other, held_behind, lost_behind}
 use Rattle.operand_programs.specs.Specifiers.{sum_into, address_program, index_program, place_program, pointer_of, steps_behind, upper_half_program, register_program}
 use Rattle.operand_programs.specs.Operands.{access_program, operand_program, steps_behind_specifier, IsFor}
 use Rattle.operand_programs.specs.InOrder.{operands_program}
@@ -33,7 +32,6 @@ use Rattle.operand_programs.specs.Knowing.{KnowsMore, FitsBetween}
 use Rattle.operand_programs.specs.Behind.{is_in_memory, value_holding, behind_access_of, before_access, behind_operand, behind_operands, lasting, IsFit, AreFit, OperandFits, OperandsFit}
 use Rattle.operand_programs.specs.declared.operands.Specifier.{Specifier}
 use Rattle.operand_programs.specs.declared.specifiers.Pointer.{Pointer}
-use Rattle.operand_programs.proofs.Held.{held_same, held_other, held_behind, lost_behind}
 use Rattle.operand_programs.proofs.More.{no_more, most, knows_itself, covers_write, covers_checked, more_write, fits_joined, knowing_less, knowing_more}
 use Rattle.operand_programs.proofs.Walking.{IsOpen, IsSettled, opens, open_write, open_checked, settled_write, lasting_settled, nothing_fits, computes, holds_it, sums, is_size_count, checked_at, checks, reads}
 

@@ -5,7 +5,7 @@ use Rattle.vax_form.specs.Tree.{tree_of}
 use Rattle.vax_form.specs.declared.instr.Access.{Access}
 use Rattle.vax_form.specs.declared.instr.Access.TheVariants as accesses
 use Rattle.vax_form.specs.declared.instr.Operand.{Operand}
-use Rattle.vax_form.specs.declared.instr.Operand.TheVariants.{Unused, Value, Register, Place, Target}
+use Rattle.vax_form.specs.declared.instr.Operand.TheVariants.{Place}
 use Rattle.vax_form.specs.declared.instr.Size.{Size}
 use Rattle.vax_meaning.specs.Evaluation.{nothing, operands_from, find, obtain, read_found}
 use Rattle.vax_meaning.specs.Operands.{locate}
@@ -14,25 +14,23 @@ use Rattle.micro_ops.specs.Meaning.{Temps}
 use Rattle.operand_programs.specs.Specifiers.{steps_behind_operand}
 use Rattle.operand_programs.specs.Pieces.{with_temps}
 use Rattle.operand_programs.specs.Operands.{IsPlaced, IsLeftAs, IsBase, steps_behind_access, steps_behind_specifier}
-use Rattle.operand_programs.specs.InOrder.{evaluate_all, EvaluatesAll, operands_program, IsOutside, Lasts, KeptByAll, InOrder, OfInstruction}
+use Rattle.operand_programs.specs.InOrder.{evaluate_all, EvaluatesAll, operands_program, IsOutside, Lasts, KeptByAll, InOrder, OfInstruction, steps_behind_all}
 use Rattle.operand_programs.specs.declared.operands.Specifier.{Specifier}
 use Rattle.operand_programs.proofs.Evaluating.{evaluates_one}
 use Rattle.operand_programs.proofs.Places.{steps_length}
 
 pub operand_steps_length : (operand : Operand) (size : Size) (steps : List ℕ) → length (steps_behind_operand operand size steps) ≡ length steps
 operand_steps_length (Place base index) size steps = steps_length base (bytes_of size) steps
-operand_steps_length (Register n) size steps = refl
-operand_steps_length Unused size steps = refl
-operand_steps_length (Value value) size steps = refl
-operand_steps_length (Target address) size steps = refl
+operand_steps_length operand size steps = refl
 
 pub access_steps_length : (access : Access) (operand : Operand) (size : Size) (steps : List ℕ) → length (steps_behind_access access operand size steps) ≡ length steps
-access_steps_length accesses.Read operand size steps = operand_steps_length operand size steps
-access_steps_length accesses.Write operand size steps = operand_steps_length operand size steps
-access_steps_length accesses.Modify operand size steps = operand_steps_length operand size steps
-access_steps_length accesses.Address operand size steps = operand_steps_length operand size steps
-access_steps_length accesses.Field operand size steps = operand_steps_length operand size steps
 access_steps_length accesses.Branch operand size steps = refl
+access_steps_length access operand size steps = operand_steps_length operand size steps
+
+pub all_steps_length : (specifiers : List Specifier) (steps : List ℕ) → length (steps_behind_all specifiers steps) ≡ length steps
+all_steps_length [] steps = refl
+all_steps_length (specifier ∷ specifiers) steps =
+    all_steps_length specifiers (steps_behind_specifier specifier steps) ∙ access_steps_length specifier.access specifier.operand specifier.size steps
 
 -- what an operand left stays where its temporaries stay
 module _ (operand : Operand) (size : Size) (evaluated : Evaluated) (to place : ℕ) (later : List Specifier) (before after : Temps) (kept : KeptByAll later before after) where

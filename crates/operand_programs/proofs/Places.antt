@@ -113,9 +113,7 @@ pub steps_length : (base : Base) (size : ℕ) (steps : List ℕ) → length (ste
 steps_length (Decrement n) size steps = length-set steps n _
 steps_length (Increment n) size steps = length-set steps n _
 steps_length (IncrementDeferred n) size steps = length-set steps n _
-steps_length (Deferred n) size steps = refl
-steps_length (Offset n offset deferred) size steps = refl
-steps_length (Fixed address deferred) size steps = refl
+steps_length base size steps = refl
 
 by_one : (address value : ℕ) → (address % 4294967296 + value % 4294967296) % 4294967296 ≡ (address + value * 1 % 4294967296) % 4294967296
 by_one address value = omega arith

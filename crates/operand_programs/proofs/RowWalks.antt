@@ -1,20 +1,15 @@
 -- A row fits where that can be computed of its pieces.
-use Rattle.std.proofs.Common.{◌≡◌, ℕ, ◌+◌, ◌<◌, ◌≤◌, Bool, true, false, List, [], ◌∷◌, ◌++◌, length, replicate, Option, Some, None, refl, sym, ap, ◌∙◌, subst, arith, inl, inr, lit≤, length-set}
+use Rattle.std.proofs.Common.{◌≡◌, ℕ, ◌+◌, ◌<◌, ◌≤◌, Bool, true, false, List, [], ◌∷◌, ◌++◌, length, Option, Some, None, refl, sym, ap, ◌∙◌, subst, arith, inl, inr, length-set}
 use Rattle.std.specs.Prelude.{◌&&◌, nat_lt, nat_le, option_and_then, sum_by, min}
 use Rattle.std.specs.List.{list_all}
 use Rattle.std.proofs.lemmas.Bool.{and_parts, and_from, ltb-true, leb-true, le-leb, cases_lt, both_ways}
 use Rattle.std.proofs.lemmas.List.{length-map, length-replicate, get_or-replicate}
 use Rattle.std.proofs.lemmas.List.Sums.{sum_by-append, sum_by-cons}
-use Rattle.vax_form.specs.Size.{bytes_of}
-use Rattle.vax_form.specs.declared.instr.Access.{Access}
-use Rattle.vax_form.specs.declared.instr.Access.TheVariants as accesses
-use Rattle.vax_form.specs.declared.instr.Base.{Base}
-use Rattle.vax_form.specs.declared.instr.Base.TheVariants.{Deferred, Decrement, Increment, IncrementDeferred, Offset, Fixed}
 use Rattle.vax_form.specs.declared.instr.Operand.{Operand}
 use Rattle.vax_form.specs.declared.instr.Operand.TheVariants.{Unused, Value, Register, Place, Target}
 use Rattle.vax_form.specs.declared.instr.Size.{Size}
 use Rattle.vax_form.specs.declared.instr.Size.TheVariants.{Byte, Word, Long, Quad}
-use Rattle.micro_ops.specs.Fits.{walk, when_fits, is_ended, all_keep_low, most_words, fits, names_low}
+use Rattle.micro_ops.specs.Fits.{walk, when_fits, is_ended, all_keep_low, most_words}
 use Rattle.micro_ops.specs.Known.{at_start, holds, has_flag}
 use Rattle.micro_ops.specs.Laws.{IsLowPiece, piece_words}
 use Rattle.micro_ops.specs.WordCounts.{words_of, program_words}
@@ -23,53 +18,27 @@ use Rattle.micro_ops.specs.declared.known.Known.{Known}
 use Rattle.micro_ops.specs.declared.program.Micro.{Micro}
 use Rattle.micro_ops.proofs.Tables.{at_index}
 use Rattle.micro_ops.proofs.Walks.{walks_joined, words_of_piece, piece_keeps_low}
-use Rattle.operand_programs.specs.Specifiers.{steps_behind, steps_behind_operand, commit_program}
-use Rattle.operand_programs.specs.Operands.{operand_program, steps_behind_access, steps_behind_specifier}
+use Rattle.micro_ops.proofs.Held.{flag_past}
+use Rattle.operand_programs.specs.Specifiers.{commit_program}
+use Rattle.operand_programs.specs.Operands.{operand_program, steps_behind_specifier}
 use Rattle.operand_programs.specs.InOrder.{operands_program, steps_behind_all, no_steps}
-use Rattle.operand_programs.specs.Results.{push_program, result_program, replacement_program, steps_behind_push, finish_program}
+use Rattle.operand_programs.specs.Results.{push_program, result_program, replacement_program, finish_program}
 use Rattle.operand_programs.specs.Words.{words_of_steps, operand_most}
 use Rattle.operand_programs.specs.Knowing.{KnowsMore, FitsBetween}
 use Rattle.operand_programs.specs.Behind.{AreFit, is_unchanged, is_uncommitted, behind_operands, behind_commits, stepping, finishing}
-use Rattle.operand_programs.specs.Rows.{Piece, Evaluates, Operates, Stores, Replaces, Pushes, Finishes, Commits, piece_program, steps_behind_piece, row_program, all_registers, behind_piece, walk_row, piece_most, piece_is_low, PieceIsFit, PiecesAreFit, row_fits, RowFits}
+use Rattle.operand_programs.specs.Rows.{Piece, Evaluates, Operates, Stores, Replaces, Pushes, Finishes, Commits, piece_program, steps_behind_piece, row_program, all_registers, behind_piece, walk_row, piece_most, piece_is_low, PieceIsFit, PiecesAreFit, RowFits}
 use Rattle.operand_programs.specs.declared.operands.Specifier.{Specifier}
-use Rattle.operand_programs.proofs.Held.{flag_past}
-use Rattle.operand_programs.proofs.More.{no_more, same_check, knows_itself, fits_behind_more, knowing_less}
+use Rattle.operand_programs.proofs.More.{no_more, knows_itself, fits_behind_more, knowing_less}
 use Rattle.operand_programs.proofs.OperandWalks.{operands_fit}
 use Rattle.operand_programs.proofs.Committing.{push_fits, commits_fit, finish_fits}
 use Rattle.operand_programs.proofs.Short.{operand_is_short, result_is_short, replacement_is_short, push_is_short, finish_is_short}
 use Rattle.operand_programs.proofs.Low.{joined_low, operand_is_low, result_is_low, replacement_is_low, push_is_low, finish_is_low, commits_are_low}
+use Rattle.operand_programs.proofs.Ordered.{all_steps_length}
 
 -- ---- steps
 -- there is a step for each register
-base_whole : (base : Base) (size : ℕ) (steps : List ℕ) → length (steps_behind base size steps) ≡ length steps
-base_whole (Decrement n) size steps = length-set steps n _
-base_whole (Increment n) size steps = length-set steps n _
-base_whole (IncrementDeferred n) size steps = length-set steps n _
-base_whole (Deferred n) size steps = refl
-base_whole (Offset n offset deferred) size steps = refl
-base_whole (Fixed address deferred) size steps = refl
-
-operand_whole : (operand : Operand) (size : Size) (steps : List ℕ) → length (steps_behind_operand operand size steps) ≡ length steps
-operand_whole (Place base index) size steps = base_whole base (bytes_of size) steps
-operand_whole Unused size steps = refl
-operand_whole (Value value) size steps = refl
-operand_whole (Register n) size steps = refl
-operand_whole (Target address) size steps = refl
-
-access_whole : (access : Access) (operand : Operand) (size : Size) (steps : List ℕ) → length (steps_behind_access access operand size steps) ≡ length steps
-access_whole accesses.Branch operand size steps = refl
-access_whole accesses.Read operand size steps = operand_whole operand size steps
-access_whole accesses.Write operand size steps = operand_whole operand size steps
-access_whole accesses.Modify operand size steps = operand_whole operand size steps
-access_whole accesses.Address operand size steps = operand_whole operand size steps
-access_whole accesses.Field operand size steps = operand_whole operand size steps
-
-all_whole : (specifiers : List Specifier) (steps : List ℕ) → length (steps_behind_all specifiers steps) ≡ length steps
-all_whole [] steps = refl
-all_whole (specifier ∷ specifiers) steps = all_whole specifiers (steps_behind_specifier specifier steps) ∙ access_whole specifier.access specifier.operand specifier.size steps
-
 piece_whole : (piece : Piece) (steps : List ℕ) → length steps ≡ 15 → length (steps_behind_piece piece steps) ≡ 15
-piece_whole (Evaluates specifiers) steps whole = all_whole specifiers steps ∙ whole
+piece_whole (Evaluates specifiers) steps whole = all_steps_length specifiers steps ∙ whole
 piece_whole (Operates operations) steps whole = whole
 piece_whole (Stores operand size place from) steps whole = whole
 piece_whole (Replaces operand size place from) steps whole = whole

@@ -1,14 +1,14 @@
 -- One operation behind what is known.
-use Rattle.std.proofs.Common.{◌≡◌, ℕ, zero, suc, ◌<◌, ◌≤◌, eqb, Bool, true, false, List, [], ◌∷◌, ◌++◌, length, Option, Some, None, refl, sym, ap, ◌∙◌, arith, inl, inr}
-use Rattle.std.specs.Prelude.{◌&&◌, ◌||◌, not, nat_lt, nat_le, option_and_then, if◌then◌else◌}
+use Rattle.std.proofs.Common.{◌≡◌, ℕ, zero, suc, ◌<◌, ◌≤◌, eqb, Bool, true, false, List, [], ◌∷◌, length, Option, Some, None, refl, ap, ◌∙◌, arith, inl, inr}
+use Rattle.std.specs.Prelude.{◌&&◌, ◌||◌, not, nat_le, option_and_then, if◌then◌else◌}
 use Rattle.std.specs.List.{list_any}
-use Rattle.std.proofs.lemmas.Bool.{lt-ltb, eq-eqb, ne_eqb, cases_lt, and_from, and_parts, eqb-true, not-true, both_ways}
+use Rattle.std.proofs.lemmas.Bool.{lt-ltb, eq-eqb, cases_lt, and_from, and_parts, eqb-true, not-true}
 use Rattle.std.proofs.lemmas.Bool.Decides.{eqb_tells}
 use Rattle.vax_form.specs.Size.{bytes_of}
 use Rattle.vax_form.specs.declared.instr.Size.{Size}
 use Rattle.vax_form.specs.declared.instr.Size.TheVariants.{Byte, Word, Long, Quad}
 use Rattle.micro_ops.specs.Fits.{argument_fits, computation_fits, commit_fits, is_count, are_apart, holding_of, when_fits, step, walk}
-use Rattle.micro_ops.specs.Known.{held, with_held, holds, has_flag, is_longword, is_something, is_committed, no_high, behind_write, behind_access, behind_commit}
+use Rattle.micro_ops.specs.Known.{held, holds, has_flag, is_longword, is_something, is_committed, behind_write, behind_access, behind_commit}
 use Rattle.micro_ops.specs.Uses.{is_unary, is_select, leaves_longword}
 use Rattle.micro_ops.specs.declared.codes.CodeSources.{CodeSources}
 use Rattle.micro_ops.specs.declared.known.Checked.{Checked}
@@ -21,12 +21,12 @@ use Rattle.micro_ops.specs.declared.program.Arg.TheVariants.{Register}
 use Rattle.micro_ops.specs.declared.program.Micro.{Micro}
 use Rattle.micro_ops.specs.declared.program.Micro.TheVariants.{Compute, Probe, Read, Commit}
 use Rattle.micro_ops.specs.declared.program.MicroOp.{MicroOp}
+use Rattle.micro_ops.proofs.Held.{held_other, held_behind, lost_behind, rest_kept}
 use Rattle.operand_programs.specs.Specifiers.{sum_into}
 use Rattle.operand_programs.specs.Registers.{IndexIsNamed}
 use Rattle.operand_programs.specs.Knowing.{KnowsMore, FitsBetween}
 use Rattle.operand_programs.specs.Behind.{are_clear, is_uncommitted, is_unchanged, lasting}
-use Rattle.operand_programs.proofs.Held.{held_same, held_other, held_behind, lost_behind, rest_kept}
-use Rattle.operand_programs.proofs.More.{no_more, same_check, knows_itself, fits_behind_more, knowing_less}
+use Rattle.operand_programs.proofs.More.{no_more, same_check, fits_behind_more, knowing_less}
 
 -- ---- what is open
 -- nothing was changed

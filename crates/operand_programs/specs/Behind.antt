@@ -1,5 +1,5 @@
 -- How much is known, at least, behind the parts of a program that evaluate operands, push, and commit.
-use Rattle.std.specs.Prelude.{◌≡◌, ℕ, ◌+◌, ◌==◌, ◌<◌, ◌&&◌, Bool, true, false, not, List, [], ◌∷◌, length, map, min, slice_set, nat_le, if◌then◌else◌}
+use Rattle.std.specs.Prelude.{◌≡◌, ℕ, ◌+◌, ◌==◌, ◌<◌, ◌&&◌, Bool, true, false, not, List, [], ◌∷◌, length, map, min, slice_set, nat_le}
 use Rattle.std.specs.List.{list_any}
 use Rattle.vax_form.specs.Size.{bytes_of}
 use Rattle.vax_form.specs.declared.instr.Access.{Access}
@@ -15,7 +15,6 @@ use Rattle.micro_ops.specs.declared.known.Checked.TheVariants.{Nowhere, At}
 use Rattle.micro_ops.specs.declared.known.Holding.{Holding}
 use Rattle.micro_ops.specs.declared.known.Holding.TheVariants.{Nothing, Longword}
 use Rattle.micro_ops.specs.declared.known.Known.{Known}
-use Rattle.micro_ops.specs.declared.program.Micro.{Micro}
 use Rattle.operand_programs.specs.Specifiers.{commit_program}
 use Rattle.operand_programs.specs.Operands.{operand_program, IsPlaced}
 use Rattle.operand_programs.specs.InOrder.{operands_program, no_steps}

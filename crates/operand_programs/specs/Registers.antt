@@ -1,5 +1,5 @@
 -- Operands that name the registers R0 to R14 alone. A program may read and commit no other.
-use Rattle.std.specs.Prelude.{ℕ, ◌<◌, List, [], ◌∷◌, Option, Some, None}
+use Rattle.std.specs.Prelude.{ℕ, ◌<◌, List, Option, Some, None}
 use Rattle.vax_form.specs.Grammar.{HasRegister, Specifies}
 use Rattle.vax_form.specs.declared.instr.Access.{Access}
 use Rattle.vax_form.specs.declared.instr.Base.{Base}

@@ -2,6 +2,7 @@
 -- VAX Architecture Reference Manual, "Operand Specifier Formats": a byte or a word keeps the upper bits of its register.
 use Rattle.std.specs.Prelude.{◌≡◌, ℕ, ◌+◌, ◌-◌, ◌^◌, ◌<◌, ◌==◌, false, Some, List, [], ◌∷◌, ◌++◌, length, min, slice_index, slice_set}
 use Rattle.vax_form.specs.Size.{bytes_of}
+use Rattle.vax_form.specs.Script.{Script}
 use Rattle.vax_form.specs.State.{with_core}
 use Rattle.vax_form.specs.Tree.{Tree, tree_of}
 use Rattle.vax_form.specs.declared.instr.Operand.{Operand}
@@ -41,23 +42,22 @@ abbrev pub given : Location → Size → (value : ℕ) → VaxState → VaxState
 given (InRegister n) size value state = put_register n size value state
 given (InMemory address) size value state = state
 
--- the piece does what the instruction does that stores the temporary's value where the operand is
-abbrev pub StoresResult : Operand → Size → (place from : ℕ) → List Micro → Type 0
-StoresResult operand size place from piece = (sources : CodeSources) (start : VaxState) (pages : Pages) (thread : ℕ) (program : List Micro) (found : Found) (standing : Standing)
+-- the piece does what the instruction does that gives the temporary's value to where the operand is
+abbrev pub Gives : (Location → Size → (value : ℕ) → Script (Unit {0})) → Operand → Size → (place from : ℕ) → List Micro → Type 0
+Gives give operand size place from piece = (sources : CodeSources) (start : VaxState) (pages : Pages) (thread : ℕ) (program : List Micro) (found : Found) (standing : Standing)
     (location : Location) (state : VaxState) (rest : Unit {0} → VaxState → Tree)
     → IsAt operand location (standing.temps place)
     → Agrees (CodesComeFrom sources start) (leaving pages thread) (course_of program found standing) (rest tt (given location size (standing.temps from) state))
     → Agrees (CodesComeFrom sources start) (leaving pages thread) (course_of (piece ++ program) found standing)
-    (tree_of pages (store location size (standing.temps from)) state rest)
+    (tree_of pages (give location size (standing.temps from)) state rest)
 
--- the same of an operand that was checked before
+-- the value is checked and stored
+abbrev pub StoresResult : Operand → Size → (place from : ℕ) → List Micro → Type 0
+StoresResult = Gives store
+
+-- the value replaces that of an operand that was checked before
 abbrev pub ReplacesOperand : Operand → Size → (place from : ℕ) → List Micro → Type 0
-ReplacesOperand operand size place from piece = (sources : CodeSources) (start : VaxState) (pages : Pages) (thread : ℕ) (program : List Micro) (found : Found) (standing : Standing)
-    (location : Location) (state : VaxState) (rest : Unit {0} → VaxState → Tree)
-    → IsAt operand location (standing.temps place)
-    → Agrees (CodesComeFrom sources start) (leaving pages thread) (course_of program found standing) (rest tt (given location size (standing.temps from) state))
-    → Agrees (CodesComeFrom sources start) (leaving pages thread) (course_of (piece ++ program) found standing)
-    (tree_of pages (put location size (standing.temps from)) state rest)
+ReplacesOperand = Gives put
 
 -- ---- registers
 -- the steps of the registers that take no result

@@ -1,6 +1,6 @@
 -- Programs made of pieces: operands, operations that are the same for all operands, and what becomes of the result. Such a
 -- program fits where the least that its pieces leave known, and the most words that they count, say so.
-use Rattle.std.specs.Prelude.{◌≡◌, ℕ, ◌+◌, ◌<◌, ◌&&◌, Bool, true, List, [], ◌∷◌, ◌++◌, sum_by, replicate, nat_lt, nat_le, Option, Some, None, option_and_then}
+use Rattle.std.specs.Prelude.{◌≡◌, ℕ, ◌+◌, ◌&&◌, Bool, true, List, [], ◌∷◌, ◌++◌, sum_by, replicate, nat_lt, nat_le, Option, option_and_then}
 use Rattle.std.specs.List.{list_all}
 use Rattle.vax_form.specs.declared.instr.Operand.{Operand}
 use Rattle.vax_form.specs.declared.instr.Size.{Size}

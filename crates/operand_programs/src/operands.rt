@@ -129,5 +129,6 @@ pub fn put_operand(
     ensures program { OnOk result (program.new.items ≡ program.old.items ++ operand_program specifier steps.old) }
     ensures steps { OnOk result (steps.new ≡ steps_behind_specifier specifier steps.old) }
 {
-    put_access(program, specifier, steps).map_err(|_| WantOfMemory)
+    put_access(program, specifier, steps)?;
+    Ok(())
 }

@@ -58,7 +58,8 @@ pub fn put_result(
     ensures stores { StoresResult operand size place from (result_program operand size place from) }
     ensures program { OnOk result (program.new.items ≡ program.old.items ++ result_program operand size place from) }
 {
-    append_result(program, operand, size, place, from).map_err(|_| WantOfMemory)
+    append_result(program, operand, size, place, from)?;
+    Ok(())
 }
 
 fn append_replacement(
@@ -89,7 +90,8 @@ pub fn put_replacement(
     ensures replaces { ReplacesOperand operand size place from (replacement_program operand size place from) }
     ensures program { OnOk result (program.new.items ≡ program.old.items ++ replacement_program operand size place from) }
 {
-    append_replacement(program, operand, size, place, from).map_err(|_| WantOfMemory)
+    append_replacement(program, operand, size, place, from)?;
+    Ok(())
 }
 
 /// What was added to one register goes into it.
@@ -123,7 +125,8 @@ pub fn put_steps(program: &mut Vec<Micro>, steps: &Steps) -> Result<(), WantOfMe
     ensures commits { CommitsSteps steps.now (commit_program 0 steps.now) }
     ensures program { OnOk result (program.new.items ≡ program.old.items ++ commit_program 0 steps.now) }
 {
-    put_commits(program, steps).map_err(|_| WantOfMemory)
+    put_commits(program, steps)?;
+    Ok(())
 }
 
 /// The low bits of a register are replaced.
@@ -247,7 +250,8 @@ pub fn put_finish(
     ensures finishes { from < 4 → IsGivable operand size → Finishes operand size steps.now from (finish_program operand size steps.now from) }
     ensures program { OnOk result (program.new.items ≡ program.old.items ++ finish_program operand size steps.now from) }
 {
-    put_registers(program, operand, size, steps, from).map_err(|_| WantOfMemory)
+    put_registers(program, operand, size, steps, from)?;
+    Ok(())
 }
 
 fn put_below(
@@ -276,5 +280,6 @@ pub fn put_push(
     ensures program { OnOk result (program.new.items ≡ program.old.items ++ push_program steps.old place from) }
     ensures steps { OnOk result (steps.new ≡ steps_behind_push steps.old) }
 {
-    put_below(program, steps, place, from).map_err(|_| WantOfMemory)
+    put_below(program, steps, place, from)?;
+    Ok(())
 }
