@@ -118,8 +118,10 @@ pub fn lay_out(
     // They are a function of the blocks.
     ensures value { IfOk result (λ code. record { words = code.0.items; map = code.1.items; points = code.2.items } ≡ layout blocks.now) }
 {
-    let places = places(alloc, blocks).map_err(|_| WantOfMemory)?;
-    let map = build(alloc, places.as_slice()).map_err(|_| WantOfMemory)?;
-    let (words, points) = code(alloc, &map, blocks).map_err(|_| WantOfMemory)?;
+    let places = places(alloc, blocks)?;
+    let Ok(map) = build(alloc, places.as_slice()) else {
+        return Err(WantOfMemory);
+    };
+    let (words, points) = code(alloc, &map, blocks)?;
     Ok((words, places, points))
 }

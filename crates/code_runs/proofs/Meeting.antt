@@ -9,9 +9,10 @@ use Rattle.vax_form.specs.declared.row.Class.TheVariants.{Translated}
 use Rattle.vax_form.specs.declared.state.Flags.{Flags}
 use Rattle.cc_liveness.specs.Codes.{Code, all, holds, none}
 use Rattle.cc_liveness.specs.Codes as code
-use Rattle.cc_liveness.specs.Liveness.{live_behind, passes, wanted_before}
+use Rattle.cc_liveness.specs.Liveness.{wanted_before}
 use Rattle.cc_liveness.specs.Uses.{code_use_of, goes_on, use_of}
 use Rattle.cc_liveness.specs.declared.uses.CodeUse.{CodeUse}
+use Rattle.cc_liveness.proofs.Lives.{read_passes}
 use Rattle.micro_ops.specs.Sources.{from, sources_of}
 use Rattle.micro_ops.specs.declared.codes.CodeSource.TheVariants.{Kept}
 use Rattle.exception_records.specs.Codes.{all_ready, is_ready}
@@ -20,7 +21,7 @@ use Rattle.exception_records.specs.declared.rules.CodeRule.TheVariants as rule
 use Rattle.exception_records.specs.declared.rules.Rules.{Rules}
 use Rattle.code_runs.specs.Ready.{AreReady}
 use Rattle.code_runs.specs.Rules.{rules_behind}
-use Rattle.code_runs.proofs.Ready.{live_are_ready}
+use Rattle.code_runs.proofs.Ready.{live_are_ready, ready_all, wanted_live}
 use Rattle.code_runs.specs.Runs.{AreInOrder, instr_at, joined_to, no_instr}
 use Rattle.code_runs.specs.Codes.{code_sources, codes_at, joined_behind, live_at, rules_before}
 use Rattle.code_runs.specs.Promises.{AreTranslated, RulesAlwaysMeet, RulesMeet}
@@ -29,25 +30,9 @@ use Rattle.code_runs.proofs.Joined.{joined, joined_alone, joined_is_behind, none
 use Rattle.code_runs.proofs.Chains.{live_last, live_more, rules_first, rules_more}
 
 -- ---- sets of codes that are ready
-ready_all : (set : Flags) → AreReady set all_ready
-ready_all set code.negative h = refl
-ready_all set code.zero_code h = refl
-ready_all set code.overflow h = refl
-ready_all set code.carry h = refl
-
-holds_all : (c : Code) → holds c all ≡ true
-holds_all code.negative = refl
-holds_all code.zero_code = refl
-holds_all code.overflow = refl
-holds_all code.carry = refl
-
 is_ready_rule : (r : CodeRule) → is_ready r ≡ true → r ≡ rule.Ready
 is_ready_rule rule.Ready e = refl
-is_ready_rule rule.Zero e = absurd cc
-is_ready_rule (rule.Result size) e = absurd cc
-is_ready_rule (rule.Add size) e = absurd cc
-is_ready_rule (rule.Sub size) e = absurd cc
-is_ready_rule (rule.Compare size) e = absurd cc
+is_ready_rule r e = absurd cc
 
 all_are_ready : (rules : Rules) → AreReady all rules → rules ≡ all_ready
 all_are_ready rules h =
@@ -64,23 +49,12 @@ all_are_ready rules h =
         ∙ ap (λ (r : CodeRule). record { n = rule.Ready; z = rule.Ready; v = r; c = rules.c }) v
         ∙ ap (λ (r : CodeRule). record { n = rule.Ready; z = rule.Ready; v = rule.Ready; c = r }) c
 
-passes_read : (reads writes live : Bool) → reads ≡ true → passes reads writes live ≡ true
-passes_read reads writes live e = rw e refl
-
 -- what an instruction reads is wanted before it
 reads_wanted : (its : CodeUse) (live : Flags) (c : Code) → holds c its.reads ≡ true → holds c (wanted_before its live) ≡ true
-reads_wanted its live code.negative h = passes_read its.reads.n its.writes.n live.n h
-reads_wanted its live code.zero_code h = passes_read its.reads.z its.writes.z live.z h
-reads_wanted its live code.overflow h = passes_read its.reads.v its.writes.v live.v h
-reads_wanted its live code.carry h = passes_read its.reads.c its.writes.c live.c h
-
--- what is wanted behind an instruction is live there
-wanted_live : (its : CodeUse) (wanted : Flags) (rules : Rules) → AreReady (live_behind its wanted) rules → AreReady wanted rules
-wanted_live its wanted rules h = go its.ends h
-  where
-    go : (b : Bool) → AreReady (cond b all wanted) rules → AreReady wanted rules
-    go true h = λ c e. h c (holds_all c)
-    go false h = h
+reads_wanted its live code.negative h = read_passes its.reads.n its.writes.n live.n h
+reads_wanted its live code.zero_code h = read_passes its.reads.z its.writes.z live.z h
+reads_wanted its live code.overflow h = read_passes its.reads.v its.writes.v live.v h
+reads_wanted its live code.carry h = read_passes its.reads.c its.writes.c live.c h
 
 -- ---- an instruction
 -- the codes that are live behind it are ready there, if those that are wanted before it are ready before
@@ -114,7 +88,7 @@ module _ (instrs : List Instr) (order : AreInOrder instrs) (translated : AreTran
           let ready = live_ready (instr_at instrs p) (live_at instrs p) (rules_before instrs p) (translated p no_instr (omega arith)) (earlier p (omega arith) (omega arith)) in
           let live = live_more instrs order p place (joined_is_behind instrs order p place e) in
           let shown = subst (λ (set : Flags). AreReady set (codes_at instrs p).behind) live ready in
-          subst (λ (rules : Rules). AreReady wanted rules) (sym (rules_more instrs order place p lt e)) (wanted_live (use_of (instr_at instrs p)) wanted (codes_at instrs p).behind shown)
+          subst (λ (rules : Rules). AreReady wanted rules) (sym (rules_more instrs order place p lt e)) (λ c h. shown c (wanted_live (use_of (instr_at instrs p)) wanted c h))
 
   behind_ready : (place : ℕ) → place < length instrs → AreReady (live_at instrs place) (codes_at instrs place).behind
   behind_ready place lt =

@@ -14,6 +14,7 @@ use Rattle.cc_liveness.specs.Codes as code
 use Rattle.cc_liveness.specs.declared.uses.CodeUse.{CodeUse}
 use Rattle.cc_liveness.specs.Liveness.{passes, live_behind, wanted_by, live_codes}
 use Rattle.cc_liveness.specs.Uses.{code_use_of, written_by_binary}
+use Rattle.cc_liveness.proofs.Lives.{holds_all, unwritten_passes}
 use Rattle.micro_ops.specs.declared.codes.CodeSource.{CodeSource}
 use Rattle.micro_ops.specs.declared.codes.CodeSource.TheVariants.{Kept}
 use Rattle.micro_ops.specs.Sources.{sources_of, is_written, codes_written_by}
@@ -24,32 +25,16 @@ use Rattle.code_runs.specs.Rules.{rule_behind, rules_behind}
 use Rattle.code_runs.specs.Ready.{AreReady, SourcesAreWritten, LiveAreReady, RunsAreReady, AreReadyAlong, AllTranslated, rules_of_run}
 
 -- ---- what is written
-two_written : (operation : BinaryOperation) (width : Width) → class_of_binary operation ≡ Translated
+binary_written : (operation : BinaryOperation) (width : Width) → class_of_binary operation ≡ Translated
     → codes_written_by (sources_of (operations.TwoOperands operation width)) ≡ written_by_binary operation
 unfolding sources_of written_by_binary
-two_written binary.Add width h = refl
-two_written binary.Subtract width h = refl
-two_written binary.Multiply width h = refl
-two_written binary.Divide width h = absurd (cc h)
-two_written binary.BitSet width h = refl
-two_written binary.BitClear width h = refl
-two_written binary.ExclusiveOr width h = refl
-
-three_written : (operation : BinaryOperation) (width : Width) → class_of_binary operation ≡ Translated
-    → codes_written_by (sources_of (operations.ThreeOperands operation width)) ≡ written_by_binary operation
-unfolding sources_of written_by_binary
-three_written binary.Add width h = refl
-three_written binary.Subtract width h = refl
-three_written binary.Multiply width h = refl
-three_written binary.Divide width h = absurd (cc h)
-three_written binary.BitSet width h = refl
-three_written binary.BitClear width h = refl
-three_written binary.ExclusiveOr width h = refl
+binary_written binary.Divide width h = absurd (cc h)
+binary_written operation width h = refl
 
 pub sources_are_written : SourcesAreWritten
 unfolding sources_of code_use_of class_of_operation
-sources_are_written (operations.TwoOperands operation width) h = two_written operation width h
-sources_are_written (operations.ThreeOperands operation width) h = three_written operation width h
+sources_are_written (operations.TwoOperands operation width) h = binary_written operation width h
+sources_are_written (operations.ThreeOperands operation width) h = binary_written operation width h
 sources_are_written (operations.ExtractField signed) h = absurd (cc h)
 sources_are_written operations.InsertField h = absurd (cc h)
 sources_are_written (operations.Case width) h = absurd (cc h)
@@ -57,14 +42,9 @@ sources_are_written (operations.Long operation) h = absurd (cc h)
 sources_are_written _ h = refl
 
 -- ---- what is ready
--- a code that isn't written, and is live, is wanted before
-wanted : (reads writes live : Bool) → writes ≡ false → live ≡ true → passes reads writes live ≡ true
-wanted true writes live e f = refl
-wanted false writes live e f = rw (e, f) refl
-
 ready_behind : (source : CodeSource) (reads writes live : Bool) (before : CodeRule) → is_written source ≡ writes → live ≡ true
     → (passes reads writes live ≡ true → is_ready before ≡ true) → is_ready (rule_behind source live before) ≡ true
-ready_behind Kept reads writes live before w l h = h (wanted reads writes live (sym w) l)
+ready_behind Kept reads writes live before w l h = h (unwritten_passes reads writes live (sym w) l)
 ready_behind source reads writes live before w l h = rw l refl
 
 pub live_are_ready : LiveAreReady
@@ -80,15 +60,9 @@ live_are_ready operation live before translated h = by
     by code.carry l = ready_behind (sources_of operation).c (code_use_of operation).reads.c (code_use_of operation).writes.c live.c before.c (ap (λ (set : Flags). set.c) written) l (h code.carry)
 
 -- ---- along a run
-all_hold : (which : Code) → holds which all ≡ true
-all_hold code.negative = refl
-all_hold code.zero_code = refl
-all_hold code.overflow = refl
-all_hold code.carry = refl
-
 -- what is wanted behind an instruction is live behind it
-wanted_live : (instruction : CodeUse) (wanted : Flags) (which : Code) → holds which wanted ≡ true → holds which (live_behind instruction wanted) ≡ true
-wanted_live instruction wanted which h = elim instruction.ends as (λ b. holds which (if b then all else wanted) ≡ true) [ true ↦ all_hold which | false ↦ h ]
+pub wanted_live : (instruction : CodeUse) (wanted : Flags) (which : Code) → holds which wanted ≡ true → holds which (live_behind instruction wanted) ≡ true
+wanted_live instruction wanted which h = elim instruction.ends as (λ b. holds which (if b then all else wanted) ≡ true) [ true ↦ holds_all which | false ↦ h ]
 
 ready_along : (run : List Operation) (before : Rules) → AllTranslated run → AreReady (wanted_by (map code_use_of run)) before
     → let lives = live_codes (map code_use_of run) in AreReadyAlong lives (rules_of_run run lives before)
@@ -99,11 +73,9 @@ ready_along (operation ∷ run) before translated ready =
     let here = live_are_ready operation live before translated.0 ready in
     (here, ready_along run (rules_behind (sources_of operation) live before) translated.1 (λ which h. here which (wanted_live said (wanted_by (map code_use_of run)) which h)))
 
+pub ready_all : (set : Flags) → AreReady set all_ready
+ready_all set code.negative h = refl
+ready_all set which h = refl
+
 pub runs_are_ready : RunsAreReady
-runs_are_ready run translated = ready_along run all_ready translated all_are
-  where
-    all_are : AreReady (wanted_by (map code_use_of run)) all_ready
-    all_are code.negative h = refl
-    all_are code.zero_code h = refl
-    all_are code.overflow h = refl
-    all_are code.carry h = refl
+runs_are_ready run translated = ready_along run all_ready translated (ready_all (wanted_by (map code_use_of run)))

@@ -9,7 +9,7 @@ ghost use Rattle.code_runs.specs.Entrances.{AreEntrances};
 use crate::entrances::{Entrance, entrances, place_of};
 use crate::rules::rules_behind;
 use cc_liveness::{CodeUse, all_codes, code_use, live_behind, wanted};
-use exception_records::{CodeRule, Rules};
+use exception_records::Rules;
 use micro_ops::{CodeSource, CodeSources, sources_of};
 use std::alloc::{AllocError, Global};
 use vax_form::{Flags, Instr, WantOfMemory, operation_of};
@@ -32,13 +32,6 @@ const NO_CODES: Flags = Flags {
     c: false,
 };
 
-const ALL_READY: Rules = Rules {
-    n: CodeRule::Ready,
-    z: CodeRule::Ready,
-    v: CodeRule::Ready,
-    c: CodeRule::Ready,
-};
-
 #[tactic(auto, unfolding(cc_liveness::specs::Uses::use_of))]
 fn use_of(instr: &Instr) -> CodeUse
     ensures { result ≡ use_of instr.now }
@@ -53,8 +46,9 @@ fn use_of(instr: &Instr) -> CodeUse
     }
 }
 
+/// Where the codes that an instruction writes come from; one without an operation writes none.
 #[tactic(auto, unfolding(crate::specs::Codes::code_sources))]
-fn code_sources(instr: &Instr) -> CodeSources
+pub fn code_sources(instr: &Instr) -> CodeSources
     ensures { result ≡ code_sources instr.now }
 {
     match operation_of(instr.opcode) {
@@ -145,7 +139,7 @@ fn codes_at(
 {
     let before = match joined_to(instrs, entrances, place) {
         Some(before) => earlier[before].behind,
-        None => ALL_READY,
+        None => Rules::READY,
     };
     let behind = rules_behind(code_sources(&instrs[place]), live, before);
     InstrCodes {
@@ -153,21 +147,6 @@ fn codes_at(
         before,
         behind,
     }
-}
-
-fn codes(alloc: Global, instrs: &[Instr]) -> Result<Vec<InstrCodes>, AllocError>
-    requires { AreInOrder instrs.now }
-    ensures runs { IfOk result (λ codes. AreCodes instrs.now codes.items) }
-    ensures value { IfOk result (λ codes. codes.items ≡ instruction_codes instrs.now) }
-{
-    let entrances = entrances(alloc, instrs)?;
-    let live = live_codes(alloc, instrs, &entrances)?;
-    let mut codes = Vec::new(alloc);
-    for (place, live) in live.iter().enumerate() {
-        let own = codes_at(instrs, &entrances, *live, &codes, place);
-        codes.push(own)?;
-    }
-    Ok(codes)
 }
 
 /// The condition codes of each instruction of a list, along the run that it is in.
@@ -178,5 +157,12 @@ pub fn instruction_codes(alloc: Global, instrs: &[Instr]) -> Result<Vec<InstrCod
     // They are a function of the instructions.
     ensures value { IfOk result (λ codes. codes.items ≡ instruction_codes instrs.now) }
 {
-    codes(alloc, instrs).map_err(|_| WantOfMemory)
+    let entrances = entrances(alloc, instrs)?;
+    let live = live_codes(alloc, instrs, &entrances)?;
+    let mut codes = Vec::new(alloc);
+    for (place, live) in live.iter().enumerate() {
+        let own = codes_at(instrs, &entrances, *live, &codes, place);
+        codes.push(own).map_err(|_| WantOfMemory)?;
+    }
+    Ok(codes)
 }

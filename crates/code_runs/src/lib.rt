@@ -7,6 +7,6 @@ mod entrances;
 mod laws;
 mod rules;
 
-pub use codes::{InstrCodes, instruction_codes};
+pub use codes::{InstrCodes, code_sources, instruction_codes};
 pub use laws::{rule_laws, run_laws};
 pub use rules::{rule_of, rules_behind};

@@ -1,11 +1,13 @@
 -- Which registers the words of each code write.
-use Rattle.std.proofs.Common.{◌≡◌, ℕ, refl, List, [], ◌∷◌, ◌++◌, Bool, true, false}
+use Rattle.std.proofs.Common.{◌≡◌, ℕ, refl, List, [], ◌∷◌, ◌++◌, Bool, true, false, ◌∙◌}
+use Rattle.std.proofs.lemmas.Bool.{and_from}
+use Rattle.std.proofs.lemmas.List.Folds.{list_all-append}
 use Rattle.std.specs.Prelude.{◌==◌, ◌&&◌, ◌||◌}
 use Rattle.std.specs.List.{list_all}
 use Rattle.alpha_encode.specs.declared.instr.AlphaInstr.{AlphaInstr}
 use Rattle.alpha_meaning.specs.State.{Regs}
 use Rattle.alpha_meaning.specs.Loops.{effect, effects, fine}
-use Rattle.alpha_meaning.proofs.Rules.{and_true, effects_only}
+use Rattle.alpha_meaning.proofs.Rules.{effects_only}
 use Rattle.micro_ops.specs.declared.codes.CodeSource.{CodeSource}
 use Rattle.micro_ops.specs.declared.codes.CodeSource.TheVariants.{Kept}
 use Rattle.micro_ops.specs.Sources.{is_written}
@@ -17,8 +19,7 @@ effects_append [] js f = refl
 effects_append (i ∷ is) js f = effects_append is js (effect i f)
 
 pub all_append : (test : AlphaInstr → Bool) (is js : List AlphaInstr) → list_all test is ≡ true → list_all test js ≡ true → list_all test (is ++ js) ≡ true
-all_append test [] js h k = k
-all_append test (i ∷ is) js h k = let parts = and_true (test i) (list_all test is) h in rw parts.0 (all_append test is js parts.1 k)
+all_append test is js h k = list_all-append test is js ∙ and_from _ _ h k
 
 pub all_when : (test : AlphaInstr → Bool) (b : Bool) (is : List AlphaInstr) → list_all test is ≡ true → list_all test (when b is) ≡ true
 all_when test true is h = h

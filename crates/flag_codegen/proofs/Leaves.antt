@@ -19,20 +19,15 @@ use Rattle.flag_codegen.specs.Words.{code_words}
 use Rattle.flag_codegen.proofs.Leaving.{pairs, shown_left}
 use Rattle.flag_codegen.proofs.Whole.{words_fit, words_only}
 
-two_pair : (operation : BinaryOperation) (width : Width) → let sources = sources_of (operations.TwoOperands operation width) in pairs sources.c sources.nzv
+binary_pair : (operation : BinaryOperation) (width : Width) → let sources = sources_of (operations.TwoOperands operation width) in pairs sources.c sources.nzv
 unfolding sources_of
-two_pair binary.Add width = refl
-two_pair _ width = tt
-
-three_pair : (operation : BinaryOperation) (width : Width) → let sources = sources_of (operations.ThreeOperands operation width) in pairs sources.c sources.nzv
-unfolding sources_of
-three_pair binary.Add width = refl
-three_pair _ width = tt
+binary_pair binary.Add width = refl
+binary_pair _ width = tt
 
 sums_pair : (operation : Operation) → let sources = sources_of operation in pairs sources.c sources.nzv
 unfolding sources_of
-sums_pair (operations.TwoOperands operation width) = two_pair operation width
-sums_pair (operations.ThreeOperands operation width) = three_pair operation width
+sums_pair (operations.TwoOperands operation width) = binary_pair operation width
+sums_pair (operations.ThreeOperands operation width) = binary_pair operation width
 sums_pair (operations.Increment width) = refl
 sums_pair operations.AddAlignedWord = refl
 sums_pair _ = tt

@@ -1,5 +1,6 @@
 -- The words leave the codes: from the registers that an instruction's program leaves to those behind its codes.
 use Rattle.std.proofs.Common.{◌≡◌, ℕ, ◌<◌, refl, sym, ap, ◌∙◌, subst, List, Bool, true, false, lit<, lit≤}
+use Rattle.std.proofs.lemmas.Bool.{and_parts, and_right}
 use Rattle.std.specs.Prelude.{◌==◌, ◌&&◌, ◌||◌, not}
 use Rattle.std.specs.List.{list_all}
 use Rattle.vax_form.specs.declared.state.Flags.{Flags}
@@ -7,7 +8,6 @@ use Rattle.vax_form.specs.declared.state.VaxState.{VaxState}
 use Rattle.alpha_encode.specs.declared.instr.AlphaInstr.{AlphaInstr}
 use Rattle.alpha_meaning.specs.State.{Regs}
 use Rattle.alpha_meaning.specs.Loops.{effects, fine}
-use Rattle.alpha_meaning.proofs.Rules.{and_true}
 use Rattle.micro_ops.specs.Meaning.{Temps, Departure, flag_of}
 use Rattle.micro_ops.specs.Leaving.{SignsComeFrom, CarryComesFrom, CodesComeFrom, state_left}
 use Rattle.micro_ops.specs.declared.codes.CodeSource.{CodeSource}
@@ -95,11 +95,7 @@ some_dead : (live : Flags) (b : Bool) → b ≡ false → all_live live ≡ b �
 some_dead live b e e' = rw (e', e) refl
 
 made_written : (source : CodeSource) (live : Bool) → is_made source live ≡ true → is_written source ≡ true
-made_written source live h = (and_true (is_written source) (live || is_ready (rule_of source)) h).0
-
-and_false : (a b : Bool) → b ≡ false → (a && b) ≡ false
-and_false true b e = e
-and_false false b e = refl
+made_written source live h = (and_parts (is_written source) (live || is_ready (rule_of source)) h).0
 
 first_dead : (live : Flags) → live.n ≡ false → all_live live ≡ false
 first_dead live e = rw e refl
@@ -112,7 +108,7 @@ second_dead live e = rw e (never live.n)
     never false = refl
 
 third_dead : (live : Flags) → live.v ≡ false → all_live live ≡ false
-third_dead live e = and_false (live.n && live.z) live.v e
+third_dead live e = and_right (live.n && live.z) live.v e
 
 module _ (sources : CodeSources) (live : Flags) (before : Rules) (regs : Regs) (held : Flags) (found : VaxState) (departure : Departure)
     (show : ShowCodes regs before held found) (come : CodesComeFrom sources found (record { departure = departure; temps = temps_in regs })) (pair : pairs sources.c sources.nzv) where

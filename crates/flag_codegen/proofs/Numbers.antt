@@ -3,11 +3,12 @@ use Rattle.std.proofs.Common.{◌≡◌, ℕ, ◌-◌, ◌/◌, ◌%◌, ◌<◌
 use Rattle.std.specs.Prelude.{nat_lt, nat_le, int_lt, bit_xor, not}
 use Rattle.std.proofs.lemmas.Bool.Decides.{nat_tests}
 use Rattle.std.proofs.lemmas.Int.{ints}
+use Rattle.compute_sequences.proofs.Comparing.{raised}
 use Rattle.vax_form.specs.Size.{bytes_of}
 use Rattle.vax_form.specs.declared.instr.Size.{Size}
 use Rattle.vax_form.specs.declared.instr.Size.TheVariants.{Byte, Word, Long, Quad}
 use Rattle.vt_words.specs.Values.{bit}
-use Rattle.vt_words.specs.Quad.{left, right}
+use Rattle.vt_words.specs.Quad.{right}
 use Rattle.vt_words.specs.Arithmetic.{sum_of, difference_of}
 use Rattle.alpha_meaning.specs.Result.{signed as signed_quad}
 use Rattle.micro_ops.specs.Values.{bits_of, limit_of, signed}
@@ -18,10 +19,6 @@ sign_is Byte x lt = grind (arith, nat_tests)
 sign_is Word x lt = grind (arith, nat_tests)
 sign_is Long x lt = grind (arith, nat_tests)
 sign_is Quad x lt = grind (arith, nat_tests)
-
--- the low bytes as the highest ones
-abbrev pub raised : Size → ℕ → ℕ
-raised size n = left n ((64 - bits_of size) % 64)
 
 pub less_is : (size : Size) (a b : ℕ) → a < limit_of size → b < limit_of size
     → int_lt (signed_quad (raised size a)) (signed_quad (raised size b)) ≡ int_lt (signed size a) (signed size b)

@@ -1,7 +1,6 @@
 -- What the rules tell of the operands that are kept for them.
 use Rattle.std.proofs.Common.{◌≡◌, ℕ, ◌<◌, refl, sym, ap, ◌∙◌, Bool, true, false}
-use Rattle.std.specs.Prelude.{◌==◌, bit_or}
-use Rattle.std.specs.Int.Bits.{or_zero_l}
+use Rattle.std.specs.Prelude.{◌==◌}
 use Rattle.std.proofs.Math.Nat.{mod-eq_of_lt}
 use Rattle.vax_form.specs.Size.{bytes_of}
 use Rattle.vax_form.specs.declared.instr.Size.{Size}
@@ -18,7 +17,7 @@ use Rattle.micro_ops.specs.declared.codes.CodeSource.TheVariants.{Kept, Zero, Re
 use Rattle.exception_records.specs.Codes.{low, flags, codes_of, sum_codes, difference_codes, comparison_codes, codes_by, is_ready}
 use Rattle.code_runs.specs.Rules.{rule_of}
 use Rattle.flag_codegen.specs.Words.{operand_words}
-use Rattle.flag_codegen.proofs.Values.{Hold}
+use Rattle.flag_codegen.proofs.Values.{Hold, moved}
 
 -- two numbers are the operands that the rule of the source needs
 abbrev pub AreOperands : CodeSource → (first second : ℕ) → Temps → Type 0
@@ -27,9 +26,6 @@ AreOperands (Add size) first second temps = (first ≡ temps 0) × (second ≡ t
 AreOperands (Sub size) first second temps = (first ≡ temps 0) × (second ≡ temps 1)
 AreOperands (Compare size) first second temps = (first ≡ temps 0) × (second ≡ temps 1)
 AreOperands source first second temps = Unit {0}
-
-moved : (a b x : ℕ) → a ≡ 0 → b ≡ x → bit_or a b ≡ x
-moved a b x e e' = ap (λ n. bit_or n b) e ∙ (or_zero_l b ∙ e')
 
 pub operands_kept : (source : CodeSource) (k : Regs) (temps : Temps) → Hold k temps → let kept = effects (operand_words source 28 29) k in AreOperands source (kept 28) (kept 29) temps
 operands_kept Kept k temps hold = tt

@@ -3,6 +3,7 @@ use Rattle.std.proofs.Common.{◌≡◌, ℕ, ◌-◌, ◌/◌, ◌%◌, ◌<◌
 use Rattle.std.specs.Prelude.{◌==◌, nat_lt, nat_le, int_lt, bit_or, bit_and, bit_xor}
 use Rattle.std.specs.Int.Bits.{or_zero_l}
 use Rattle.std.proofs.lemmas.Nat.{and_mask}
+use Rattle.compute_sequences.proofs.Comparing.{raised}
 use Rattle.vax_form.specs.Size.{bytes_of}
 use Rattle.vax_form.specs.declared.instr.Size.{Size}
 use Rattle.vax_form.specs.declared.instr.Size.TheVariants.{Byte, Word, Long, Quad}
@@ -19,7 +20,7 @@ use Rattle.micro_ops.specs.declared.codes.CodeSource.{CodeSource}
 use Rattle.micro_ops.specs.declared.codes.CodeSource.TheVariants.{Kept, Zero, Result, Add, Sub, Compare, Computed, Psw}
 use Rattle.micro_ops.specs.Sources.{is_written}
 use Rattle.flag_codegen.specs.Words.{negative_words, zero_words, overflow_words, carry_words}
-use Rattle.flag_codegen.proofs.Numbers.{raised, sign_is, less_is, xor_is, sum_overflow, difference_overflow, sum_carry, difference_borrow}
+use Rattle.flag_codegen.proofs.Numbers.{sign_is, less_is, xor_is, sum_overflow, difference_overflow, sum_carry, difference_borrow}
 
 -- the registers hold the first three temporaries, and R31 reads zero
 pub record Hold (k : Regs) (temps : Temps) : Type 0 where
@@ -45,7 +46,7 @@ unlike_by size a b c x y z e e' e'' lt lt' lt'' =
     ap (λ n. bit_xor n (right c ((bits_of size - 1) % 64))) (less_by size a b x y e e' lt lt')
     ∙ ap (bit_xor (bit (int_lt (signed size x) (signed size y)))) (signed_by size c z e'' lt'')
 
-moved : (a b x : ℕ) → a ≡ 0 → b ≡ x → bit_or a b ≡ x
+pub moved : (a b x : ℕ) → a ≡ 0 → b ≡ x → bit_or a b ≡ x
 moved a b x e e' = ap (λ n. bit_or n b) e ∙ (or_zero_l b ∙ e')
 
 cleared : (a : ℕ) → a ≡ 0 → bit_or a a ≡ 0

@@ -1,7 +1,8 @@
 -- The words as a whole: how many they are, which registers they write, and that they have encodings.
 use Rattle.std.proofs.Common.{◌≡◌, ℕ, ◌<◌, ◌≤◌, refl, ◌∙◌, arith, List, [], ◌∷◌, ◌++◌, Bool, true, false, lit<, lit≤, length, length-append}
+use Rattle.std.proofs.lemmas.List.Folds.{list_any-append}
 use Rattle.std.specs.Prelude.{◌==◌, ◌||◌, not, All}
-use Rattle.std.specs.List.{list_all, list_any}
+use Rattle.std.specs.List.{list_all}
 use Rattle.vax_form.specs.declared.instr.Size.{Size}
 use Rattle.vax_form.specs.declared.instr.Size.TheVariants as size_of
 use Rattle.vax_form.specs.declared.state.Flags.{Flags}
@@ -14,6 +15,7 @@ use Rattle.alpha_meaning.specs.Loops.{fine}
 use Rattle.micro_ops.specs.declared.codes.CodeSource.{CodeSource}
 use Rattle.micro_ops.specs.declared.codes.CodeSource.TheVariants.{Kept, Zero, Result, Add, Sub, Compare, Computed, Psw}
 use Rattle.micro_ops.specs.declared.codes.CodeSources.{CodeSources}
+use Rattle.micro_ops.specs.Sources.{from}
 use Rattle.compute_sequences.specs.Words.{raise}
 use Rattle.compute_sequences.proofs.Straight.{Each, each_append, all_of}
 use Rattle.block_law.specs.CodeWords.{most_code_words, may_be_written}
@@ -50,11 +52,8 @@ words_pass test sources live a b c =
     c
 
 -- ---- they write what they may
-abbrev both : (nzv c : CodeSource) → CodeSources
-both nzv c = record { nzv = nzv; c = c }
-
 abbrev May : (nzv c : CodeSource) → List AlphaInstr → Type 0
-May nzv c words = list_all (fine (may_be_written (both nzv c))) words ≡ true
+May nzv c words = list_all (fine (may_be_written (from nzv c))) words ≡ true
 
 negative_may : (nzv c : CodeSource) → May nzv c (negative_words nzv)
 negative_may Kept c = refl
@@ -74,24 +73,12 @@ operands_may nzv c = refl
 
 carry_may : (nzv c : CodeSource) → May nzv c (carry_words c)
 carry_may Kept Kept = refl
-carry_may Zero Kept = refl
-carry_may (Result size) Kept = refl
-carry_may (Add size) Kept = refl
-carry_may (Sub size) Kept = refl
-carry_may (Compare size) Kept = refl
-carry_may (Computed size) Kept = refl
-carry_may Psw Kept = refl
+carry_may nzv Kept = refl
 carry_may nzv c = refl
 
 carry_operands_may : (nzv c : CodeSource) → May nzv c (operand_words c 15 30)
 carry_operands_may Kept Kept = refl
-carry_operands_may Zero Kept = refl
-carry_operands_may (Result size) Kept = refl
-carry_operands_may (Add size) Kept = refl
-carry_operands_may (Sub size) Kept = refl
-carry_operands_may (Compare size) Kept = refl
-carry_operands_may (Computed size) Kept = refl
-carry_operands_may Psw Kept = refl
+carry_operands_may nzv Kept = refl
 carry_operands_may nzv c = refl
 
 pub words_only : (sources : CodeSources) (live : Flags) → list_all (fine (may_be_written sources)) (code_words sources live) ≡ true
@@ -103,10 +90,6 @@ words_only sources live =
     (signs_pass may nzv live (operands_may nzv c) (overflow_may nzv c) (negative_may nzv c) (zero_may nzv c))
 
 -- ---- they write the codes that are made
-any_append : (test : AlphaInstr → Bool) (is js : List AlphaInstr) → list_any test (is ++ js) ≡ (list_any test is || list_any test js)
-any_append test [] js = refl
-any_append test (i ∷ is) js = elim (test i) as (λ b. (b || list_any test (is ++ js)) ≡ ((b || list_any test is) || list_any test js)) [ true ↦ refl | false ↦ any_append test is js ]
-
 carry_writes : (source : CodeSource) (live : Bool) → (writes_register 16 (carry_code source live) ≡ false) × (writes_register 17 (carry_code source live) ≡ false) × (writes_register 18 (carry_code source live) ≡ false) × (writes_register 19 (carry_code source live) ≡ is_made source live)
 carry_writes Kept true = (refl, refl, refl, refl)
 carry_writes Kept false = (refl, refl, refl, refl)
@@ -146,7 +129,7 @@ words_write sources live =
     same_flags (written 16 ∙ either front.0 back.0) (written 17 ∙ either front.1 back.1) (written 18 ∙ either front.2 back.2) (written 19 ∙ or_false front.3 back.3)
   where
     written : (register : ℕ) → writes_register register (code_words sources live) ≡ (writes_register register (carry_code sources.c live.c) || writes_register register (signs_code sources.nzv live))
-    written register = any_append (λ i. register_written i == register) (carry_code sources.c live.c) (signs_code sources.nzv live)
+    written register = list_any-append (λ i. register_written i == register) (carry_code sources.c live.c) (signs_code sources.nzv live)
 
     either : {a b c : Bool} → a ≡ false → b ≡ c → (a || b) ≡ c
     either e e' = rw e e'

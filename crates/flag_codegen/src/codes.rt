@@ -21,11 +21,11 @@ use alpha_encode::registers::{
     TEMPORARIES,
 };
 use alpha_encode::{AlphaInstr, OperateOp, operate, operate_by};
-use code_runs::rules_behind;
-use exception_records::{CodeRule, Rules};
-use micro_ops::{CodeSource, CodeSources, sources_of};
+use code_runs::{code_sources, rules_behind};
+use exception_records::Rules;
+use micro_ops::{CodeSource, CodeSources};
 use std::alloc::{AllocError, Global};
-use vax_form::{Flags, Instr, WantOfMemory, operation_of};
+use vax_form::{Flags, Instr, WantOfMemory};
 
 /// The temporaries that hold V and C where they have no rule.
 const COMPUTED_OVERFLOW: u8 = TEMPORARIES + 3;
@@ -38,13 +38,6 @@ const NEGATIVE_PLACE: u8 = 3;
 const ZERO_PLACE: u8 = 2;
 
 const OVERFLOW_PLACE: u8 = 1;
-
-const ALL_READY: Rules = Rules {
-    n: CodeRule::Ready,
-    z: CodeRule::Ready,
-    v: CodeRule::Ready,
-    c: CodeRule::Ready,
-};
 
 fn push_negative(words: &mut Vec<AlphaInstr>, source: CodeSource) -> Result<(), AllocError>
     ensures { OnOk result (words.new.items ≡ words.old.items ++ negative_words source) }
@@ -167,18 +160,6 @@ fn push_signs_code(
     Ok(())
 }
 
-/// Where the codes of an instruction come from.
-#[tactic(auto, unfolding(code_runs::specs::Codes::code_sources))]
-fn code_sources(instr: &Instr) -> CodeSources
-    requires { IsSome (operation_at instr.now.opcode) }
-    ensures { result ≡ code_sources instr.now }
-{
-    let Some(operation) = operation_of(instr.opcode) else {
-        unreachable!()
-    };
-    sources_of(operation)
-}
-
 // The words, and the rules behind them where all codes are ready before.
 fn words_and_rules(
     alloc: Global,
@@ -191,7 +172,7 @@ fn words_and_rules(
     let mut words = Vec::new(alloc);
     push_carry_code(&mut words, sources.c, live.c)?;
     push_signs_code(&mut words, sources.nzv, live)?;
-    Ok((words, rules_behind(sources, live, ALL_READY)))
+    Ok((words, rules_behind(sources, live, Rules::READY)))
 }
 
 /// The words that leave the condition codes of an instruction, of which some are live behind it, and the rules behind it for
@@ -213,5 +194,5 @@ pub fn code_words(
     // A code that it doesn't write is ready.
     ensures rules { IfOk result (λ answer. answer.1 ≡ rules_behind (code_sources instr.now) live all_ready) }
 {
-    words_and_rules(alloc, code_sources(instr), live).map_err(|_| WantOfMemory)
+    Ok(words_and_rules(alloc, code_sources(instr), live)?)
 }

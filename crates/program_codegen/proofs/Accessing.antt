@@ -1,8 +1,9 @@
 -- Checks and references of a program in its block.
-use Rattle.std.proofs.Common.{◌≡◌, ◌≢◌, ℕ, ◌+◌, ◌*◌, ◌%◌, ◌^◌, ◌<◌, ◌≤◌, refl, sym, ap, ◌∙◌, subst, arith, List, ◌∷◌, ◌++◌, length, map, Some, None, Bool, true, false, lit<}
+use Rattle.std.proofs.Common.{◌≡◌, ◌≢◌, ℕ, ◌+◌, ◌*◌, ◌%◌, ◌^◌, ◌<◌, ◌≤◌, refl, sym, ap, ◌∙◌, subst, arith, List, ◌∷◌, ◌++◌, length, map, Some, None, Bool, true, false}
 use Rattle.std.specs.Prelude.{pos, ◌==◌, ◌&&◌, not, nat_lt, nat_le, bit_or, if◌then◌else◌}
 use Rattle.std.proofs.Math.Nat.{mod-eq_of_lt}
 use Rattle.std.proofs.lemmas.Bool.Decides.{nat_tests}
+use Rattle.std.proofs.lemmas.Bool.{and_parts}
 use Rattle.vt_words.specs.Quad.{IsCount, one as c1, two as c2, four as c4, eight as c8}
 use Rattle.vax_form.specs.PageTable.{IsPageTable}
 use Rattle.vax_form.specs.Pages.{first_bad}
@@ -17,6 +18,7 @@ use Rattle.alpha_encode.specs.declared.instr.BranchOp.TheVariants.{Beq}
 use Rattle.alpha_meaning.specs.declared.access.AlphaKind.{AlphaKind}
 use Rattle.alpha_meaning.specs.State.{Regs, put, at_place}
 use Rattle.alpha_meaning.specs.Act.{target_of}
+use Rattle.alpha_meaning.proofs.Registers.{put_same, put_other}
 use Rattle.micro_ops.specs.declared.known.Checked.TheVariants.{At}
 use Rattle.micro_ops.specs.declared.known.Holding.{Holding}
 use Rattle.micro_ops.specs.declared.known.Holding.TheVariants.{Nothing, Wide, Longword}
@@ -27,9 +29,9 @@ use Rattle.micro_ops.specs.Course.{Course, Check, Ask, Fault, read_parts, write_
 use Rattle.micro_ops.specs.Fits.{is_count, are_apart, place_fits, reference_fits, check_fits, read_fits, write_fits, locked_fits, holding_of}
 use Rattle.micro_ops.specs.Known.{held, holds, holds_longword, is_longword, is_checked, behind_write, behind_access}
 use Rattle.micro_ops.specs.Meaning.{Temps, Standing, Left, with_temp, with_value, locked_count, locked_kind}
+use Rattle.micro_ops.proofs.Held.{held_behind, lost_behind}
 use Rattle.byte_sequences.specs.Instructions as bytes
 use Rattle.byte_sequences.specs.Instructions.{is_scratch, is_scratch_or}
-use Rattle.byte_sequences.specs.Plans as plans
 use Rattle.byte_sequences.specs.Plans.{read_plan, write_plan, locked_plan}
 use Rattle.byte_sequences.specs.Promises as sequences
 use Rattle.byte_sequences.specs.Words.{read_code, write_code, locked_code}
@@ -44,11 +46,11 @@ use Rattle.block_law.proofs.Rules.{Always, roomy, goes, passes, skips, probes, r
 use Rattle.program_codegen.specs.declared.lines.Line.{Line}
 use Rattle.program_codegen.specs.declared.points.Site.{Site}
 use Rattle.program_codegen.specs.Words.{plain, marked, holder, copy, probing, raising}
-use Rattle.program_codegen.proofs.Numbers.{both, all_three, all_four, all_five, below_of, copied}
-use Rattle.program_codegen.proofs.Knowing.{SameChanges, write_changes, access_changes, written_one, written_others, outlasts, lost}
+use Rattle.program_codegen.proofs.Numbers.{all_three, all_four, all_five, below_of, copied}
+use Rattle.program_codegen.proofs.Knowing.{SameChanges, write_changes, access_changes}
 use Rattle.program_codegen.proofs.Walk.{Within, next, stands, row_words, row_length, is_inside}
 use Rattle.program_codegen.proofs.Holding.{Holds, HoldsAs, tree}
-use Rattle.program_codegen.proofs.Computing.{any_kind, held_value, held_still, unchanged, checks_written}
+use Rattle.program_codegen.proofs.Computing.{any_kind, held_value, held_still, unchanged, checks_written, value_written}
 use Rattle.program_codegen.proofs.Operands.{count_some, IsUsable, usable, may_read, may_write, may_lock, begins_read, begins_write, begins_locked}
 
 -- ---- registers
@@ -63,23 +65,13 @@ pub values_outlast : (known : Known) (temps : Temps) (new : Regs) → ((temp : �
 values_outlast known temps new values temp lt = by (nat_lt temp 4) refl
   where
     by : (b : Bool) → nat_lt temp 4 ≡ b → HoldsAs (held (behind_access known) temp) (temps temp) (new (21 + temp))
-    by true e = let low = below_of temp 4 e in subst (λ h. HoldsAs h (temps temp) (new (21 + temp))) (sym (outlasts known temp low)) (values temp low)
-    by false e = let high : 4 ≤ temp = grind (arith, nat_tests, e) in subst (λ h. HoldsAs h (temps temp) (new (21 + temp))) (sym (lost known temp high lt)) tt
+    by true e = let low = below_of temp 4 e in subst (λ h. HoldsAs h (temps temp) (new (21 + temp))) (sym (held_behind known temp low)) (values temp low)
+    by false e = let high : 4 ≤ temp = grind (arith, nat_tests, e) in subst (λ h. HoldsAs h (temps temp) (new (21 + temp))) (sym (lost_behind known temp high)) tt
 
 written_changes : (known : Known) (to : ℕ) (holding : Holding) → SameChanges known (behind_access (behind_write to holding known))
 written_changes known to holding =
     let x = write_changes to holding known in
     record { changed = x.changed; committed = x.committed; codes = x.codes; psw = x.psw; ended = x.ended }
-
-pub put_at : (f : Regs) (n v : ℕ) → n < 31 → put f n v n ≡ v
-put_at f n v lt = let real : (n == 31) ≡ false = grind (arith, nat_tests) in let same : (n == n) ≡ true = grind (arith, nat_tests) in rw (real, same) refl
-
-pub put_other : (f : Regs) (n v m : ℕ) → (m == n) ≡ false → put f n v m ≡ f m
-put_other f n v m e = by (n == 31)
-  where
-    by : (b : Bool) → (if b then f m else (if m == n then v else f m)) ≡ f m
-    by true = refl
-    by false = rw e refl
 
 kept_not_27 : (n : ℕ) → is_kept n ≡ true → (n == 27) ≡ false
 kept_not_27 n e = grind (arith, nat_tests, e)
@@ -99,10 +91,6 @@ temp_not_scratch temp lt = grind (arith, nat_tests)
 temp_not_scratch_or : (to temp : ℕ) → temp < 4 → (temp == to) ≡ false → is_scratch_or (21 + to) (21 + temp) ≡ false
 temp_not_scratch_or to temp lt e = grind (arith, nat_tests, e)
 
-not_true : (b : Bool) → not b ≡ true → b ≡ false
-not_true true e = absurd (cc e)
-not_true false e = refl
-
 apart_of : (a b : ℕ) → (a == b) ≡ false → a ≢ b
 apart_of a b e is = let same : (a == b) ≡ true = grind (arith, nat_tests) in absurd (cc (sym same ∙ e))
 
@@ -120,14 +108,14 @@ module _ (p : Placement) (site : Site) where
       → ((g : Regs) → first_bad p.pages write (standing.temps place) count ≡ None → Holds p site (behind_access (record known { checked = At place count write })) standing g → Always p None need (at_place g (pc + 2)) (tree p course))
       → Always p None (2 + need) (at_place regs pc) (tree p (Check (standing.temps place) count write course))
   checks need pc place count write rest known standing regs course w some fits lt is h behind =
-      let x = both (is_count count) (place_fits known place) fits in
-      let y = both (not known.changed) (holds_longword known place) x.1 in
+      let x = and_parts (is_count count) (place_fits known place) fits in
+      let y = and_parts (not known.changed) (holds_longword known place) x.1 in
       let v = longword_value (held known place) (standing.temps place) (regs (21 + place)) y.1 (h.temps place lt) in
       let g = put regs 27 (bit_or (regs (21 + place)) 0) in
       let w1 = next p site.behind pc (copy (holder place) 27) None (marked (Pal 0x80) (probing site count write) ∷ rest) w in
       let end = w.high in
       let two : pc + 2 ≡ pc + 1 + 1 = omega arith in
-      let in_27 : put regs 27 (bit_or (regs (21 + place)) 0) 27 ≡ standing.temps place = put_at regs 27 _ (lit< tt) ∙ (copied (regs (21 + place)) ∙ v.0) in
+      let in_27 : put regs 27 (bit_or (regs (21 + place)) 0) 27 ≡ standing.temps place = put_same regs 27 _ refl ∙ (copied (regs (21 + place)) ∙ v.0) in
       let address_is : standing.temps place ≡ put regs 27 (bit_or (regs (21 + place)) 0) 27 % 2 ^ 32 = sym (ap (λ n. n % 2 ^ 32) in_27 ∙ mod-eq_of_lt v.1) in
       roomy p None (need + 1 + 1) (2 + need) (at_place regs pc) _ (omega arith)
       (goes p None (need + 1) (at_place regs pc) (at_place (put regs 27 (bit_or (regs (21 + place)) 0)) (pc + 1)) (copy (holder place) 27) _ (stands p site.behind pc (copy (holder place) 27) None _ w) refl (omega arith)
@@ -158,14 +146,14 @@ module _ (p : Placement) (site : Site) where
       by true e =
           let end = w.high in
           let near = w.near in
-          let v = held_value (held known when) (standing.temps when) (regs (21 + when)) (both (not known.changed) (holds known when) fits).1 (h.temps when lt) in
+          let v = held_value (held known when) (standing.temps when) (regs (21 + when)) (and_parts (not known.changed) (holds known when) fits).1 (h.temps when lt) in
           let jump : target_of pc (pos 1) ≡ pc + 2 = omega arith in
           roomy p None (need + 1) (2 + need) (at_place regs pc) (tree p course) (omega arith)
           (skips p None need (at_place regs pc) Beq (holder when) (pos 1) (pc + 2) (tree p course) (stands p site.behind pc (Branch Beq (holder when) (pos 1)) None _ w) refl (ap (λ n. n == 0) v.0 ∙ e) jump (omega arith)
           (is_inside p site.behind pc (pc + 2) _ w (omega arith) (omega arith)) (behind e))
       by false e =
           let end = w.high in
-          let v = held_value (held known when) (standing.temps when) (regs (21 + when)) (both (not known.changed) (holds known when) fits).1 (h.temps when lt) in
+          let v = held_value (held known when) (standing.temps when) (regs (21 + when)) (and_parts (not known.changed) (holds known when) fits).1 (h.temps when lt) in
           let w1 = next p site.behind pc (Branch Beq (holder when) (pos 1)) None (marked (Pal 0x83) (raising site 0x18) ∷ rest) w in
           roomy p None (1 + 1) (2 + need) (at_place regs pc) (trees.Fault ReservedOperand) (omega arith)
           (passes p None 1 (at_place regs pc) Beq (holder when) (pos 1) (trees.Fault ReservedOperand) (stands p site.behind pc (Branch Beq (holder when) (pos 1)) None _ w) (ap (λ n. n == 0) v.0 ∙ e)
@@ -177,8 +165,8 @@ module _ (p : Placement) (site : Site) where
 place_usable : (p : Placement) (site : Site) (known : Known) (standing : Standing) (regs : Regs) (place count : ℕ) (write : Bool) → place < 6 → reference_fits known place count write ≡ true → Holds p site known standing regs
     → IsUsable p.pages write (standing.temps place) count × (regs (21 + place) ≡ standing.temps place)
 place_usable p site known standing regs place count write lt fits h =
-    let x = both (place_fits known place) (is_checked known.checked place count write) fits in
-    let y = both (not known.changed) (holds_longword known place) x.0 in
+    let x = and_parts (place_fits known place) (is_checked known.checked place count write) fits in
+    let y = and_parts (not known.changed) (holds_longword known place) x.0 in
     let v = longword_value (held known place) (standing.temps place) (regs (21 + place)) y.1 (h.temps place lt) in
     (usable p.pages known.checked standing.temps place count write v.1 x.1 h.checked, v.0)
 
@@ -188,29 +176,10 @@ read_holds count value r c2 e lt = (e, omega arith)
 read_holds count value r c4 e lt = (e, lt)
 read_holds count value r c8 e lt = (e, lt)
 
-locked_holds : (kind : LockedOp) (value r : ℕ) → r ≡ value → value < 2 ^ (8 * plans.locked_count kind) → HoldsAs Wide value r
+locked_holds : (kind : LockedOp) (value r : ℕ) → r ≡ value → value < 2 ^ (8 * locked_count kind) → HoldsAs Wide value r
 locked_holds AddWord value r e lt = (e, omega arith)
 locked_holds SetBit value r e lt = (e, omega arith)
 locked_holds ClearBit value r e lt = (e, omega arith)
-
-same_counts : (kind : LockedOp) → plans.locked_count kind ≡ locked_count kind
-same_counts AddWord = refl
-same_counts SetBit = refl
-same_counts ClearBit = refl
-
--- a temporary among 0 to 3 is written, and of the others these alone are as before
-low_written : (known : Known) (to value : ℕ) (holding : Holding) (temps : Temps) (old new : Regs) → to < 6 → HoldsAs holding value (new (21 + to))
-    → ((temp : ℕ) → temp < 6 → HoldsAs (held known temp) (temps temp) (old (21 + temp))) → ((temp : ℕ) → temp < 4 → (temp == to) ≡ false → new (21 + temp) ≡ old (21 + temp))
-    → (temp : ℕ) → temp < 4 → HoldsAs (held (behind_write to holding known) temp) (with_temp to value temps temp) (new (21 + temp))
-low_written known to value holding temps old new lt here values others temp temp_lt = by (temp == to) refl
-  where
-    by : (b : Bool) → (temp == to) ≡ b → HoldsAs (held (behind_write to holding known) temp) (if b then value else temps temp) (new (21 + temp))
-    by true e =
-        let same : to ≡ temp = grind (arith, nat_tests, e) in
-        subst (λ h. HoldsAs h value (new (21 + temp))) (sym (written_one holding known to temp lt (omega arith) e)) (subst (λ n. HoldsAs holding value (new (21 + n))) same here)
-    by false e =
-        subst (λ h. HoldsAs h (temps temp) (new (21 + temp))) (sym (written_others holding known to temp (omega arith) e))
-        (held_still (held known temp) (temps temp) (old (21 + temp)) (new (21 + temp)) (λ some. others temp temp_lt e) (values temp (omega arith)))
 
 -- ---- a read
 module _ (p : Placement) (site : Site) (table : IsPageTable p.pages) (kinds : (reference : Reference) (kind : AlphaKind) (size : ℕ) → p.kinds reference kind size ≡ true) where
@@ -242,8 +211,8 @@ module _ (p : Placement) (site : Site) (table : IsPageTable p.pages) (kinds : (r
       (written_changes known to (holding_of (nat_le count 4)))
       (λ n kept. l.only n (kept_not_scratch_or (21 + to) n low below kept)) (l.only 31 (zero_not_scratch_or (21 + to) low below))
       (values_outlast (behind_write to (holding_of (nat_le count 4)) known) (with_temp to value standing.temps) g
-      (λ temp lt. low_written known to value (holding_of (nat_le count 4)) standing.temps regs g to_lt (read_holds count value (g (21 + to)) is l.holds l.fits) h.temps
-      (λ temp lt e. l.only (21 + temp) (temp_not_scratch_or to temp lt e)) temp lt))
+      (λ temp lt. value_written known to value (holding_of (nat_le count 4)) standing.temps regs g to_lt (read_holds count value (g (21 + to)) is l.holds l.fits) temp
+      (h.temps temp (omega arith)) (λ e. l.only (21 + temp) (temp_not_scratch_or to temp lt e))))
       (checks_written p.pages to value known.checked standing.temps h.checked) h))
 
   -- ---- a write
@@ -299,20 +268,20 @@ module _ (p : Placement) (site : Site) (table : IsPageTable p.pages) (kinds : (r
       let lock = may_lock p table kind (standing.temps place) (standing.temps source) v.0 page in
       let may : sequences.MayLock (piece_terms p any_kind) kind (regs (21 + place)) (regs (21 + source)) =
       subst (λ a. sequences.MayLock (piece_terms p any_kind) kind a (regs (21 + source))) (sym v.1) (subst (λ n. sequences.MayLock (piece_terms p any_kind) kind (standing.temps place) n) (sym u.0) lock) in
-      runs p None need pc (length (locked_code kind (21 + place) (21 + source) (21 + to))) (sequences.Holds regs (21 + to) (plans.locked_count kind)) any_kind (λ value. tree p (on value)) None regs (locked_plan kind (regs (21 + place)) (regs (21 + source))) _
+      runs p None need pc (length (locked_code kind (21 + place) (21 + source) (21 + to))) (sequences.Holds regs (21 + to) (locked_count kind)) any_kind (λ value. tree p (on value)) None regs (locked_plan kind (regs (21 + place)) (regs (21 + source))) _
       w.low (omega arith) (λ q gt le. is_inside p site.behind pc q (map plain (locked_code kind (21 + place) (21 + source) (21 + to)) ++ rest) w gt (omega arith))
       (subst (λ a. Begins any_kind p.kinds (λ value. tree p (on value)) None (locked_plan kind a (regs (21 + source))) (tree p (asked kind on)) None) (sym v.1)
       (subst (λ n. Begins any_kind p.kinds (λ value. tree p (on value)) None (locked_plan kind (standing.temps place) n) (tree p (asked kind on)) None) (sym u.0)
       (begins_locked p kinds kind (standing.temps place) (standing.temps source) on lock.operand)))
       (λ n. locks kind (21 + place) (21 + source) (21 + to) a_place a_source a_to (apart_of _ _ (shifted place to place_apart)) (apart_of _ _ (shifted source to source_apart)) p.fetch (piece_terms p any_kind) pc regs (omega arith) may
       (row_words p site.behind pc (locked_code kind (21 + place) (21 + source) (21 + to)) rest w) n)
-      (λ value g l. behind value g (subst (λ c. value < 2 ^ (8 * c)) (same_counts kind) l.fits)
+      (λ value g l. behind value g l.fits
       (unchanged p site known (behind_access (behind_write to Wide known)) standing (with_temp to value standing.temps) regs g
       (written_changes known to Wide)
       (λ n kept. l.only n (kept_not_scratch_or (21 + to) n low below kept)) (l.only 31 (zero_not_scratch_or (21 + to) low below))
       (values_outlast (behind_write to Wide known) (with_temp to value standing.temps) g
-      (λ temp lt. low_written known to value Wide standing.temps regs g to_lt (locked_holds kind value (g (21 + to)) l.holds l.fits) h.temps
-      (λ temp lt e. l.only (21 + temp) (temp_not_scratch_or to temp lt e)) temp lt))
+      (λ temp lt. value_written known to value Wide standing.temps regs g to_lt (locked_holds kind value (g (21 + to)) l.holds l.fits) temp
+      (h.temps temp (omega arith)) (λ e. l.only (21 + temp) (temp_not_scratch_or to temp lt e))))
       (checks_written p.pages to value known.checked standing.temps h.checked) h))
     where
       asked : LockedOp → (ℕ → Course Left) → Course Left

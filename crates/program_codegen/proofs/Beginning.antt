@@ -1,5 +1,6 @@
 -- The rules at the first word of a block are those before its instruction.
-use Rattle.std.proofs.Common.{◌≡◌, refl, sym, ap, ◌∙◌, List, [], ◌∷◌, ◌++◌, map, Bool, true, false, Some}
+use Rattle.std.proofs.Common.{◌≡◌, refl, sym, ap, ◌∙◌, List, [], ◌∷◌, ◌++◌, map, Bool, true, false}
+use Rattle.std.proofs.lemmas.Option.{same_Some}
 use Rattle.std.specs.Prelude.{unwrap_or, if◌then◌else◌}
 use Rattle.alpha_encode.specs.declared.instr.AlphaInstr.{AlphaInstr}
 use Rattle.exception_records.specs.declared.points.Point.{Point}
@@ -66,12 +67,9 @@ module _ (site : Site) where
   program_starts codes (operation ∷ program) =
       before (lines_of site codes operation program) (program_lines site codes program) (operation_starts codes operation program) (program_starts codes program)
 
-  some_same : (a b : Point) → Some a ≡ Some b → a ≡ b
-  some_same a b e = cc
-
   lines_begin : (lines : List Line) → Starts lines → BeginsBy site.before (block_of (with_first (point_of site) lines))
   lines_begin [] starts point e = absurd (cc e)
-  lines_begin (line ∷ lines) starts point e = ap (λ (p : Point). p.rules) (sym (some_same (unwrap_or line.point (point_of site)) point e)) ∙ starts
+  lines_begin (line ∷ lines) starts point e = ap (λ (p : Point). p.rules) (sym (same_Some (unwrap_or line.point (point_of site)) point e)) ∙ starts
 
   pub begins : (codes : List AlphaInstr) (program : List Micro) → BeginsBy site.before (block_of (block_lines site codes program))
   begins codes program = lines_begin (program_lines site codes program) (program_starts codes program)

@@ -1,8 +1,9 @@
 -- A block of lines has the shape of a block.
-use Rattle.std.proofs.Common.{◌≡◌, ℕ, zero, suc, ◌+◌, ◌-◌, ◌<◌, ◌≤◌, refl, sym, ap, ◌∙◌, subst, arith, List, [], ◌∷◌, length, get_or, Option, Some, None, Bool, true, false, cond, eqb-true}
+use Rattle.std.proofs.Common.{◌≡◌, ℕ, zero, suc, ◌+◌, ◌<◌, ◌≤◌, refl, sym, ap, ◌∙◌, subst, arith, List, [], ◌∷◌, length, get_or, Option, Some, None, Bool, true, false, cond, eqb-true, zero-add}
 use Rattle.std.specs.Prelude.{◌==◌, ◌&&◌, ◌||◌, not, nat_lt, nat_le, slice_get, find, option_map}
 use Rattle.std.proofs.lemmas.Bool.Decides.{nat_tests}
-use Rattle.std.proofs.lemmas.Option.{slice_get_within}
+use Rattle.std.proofs.lemmas.Option.{slice_get_within, same_Some}
+use Rattle.std.proofs.lemmas.Bool.{le-ltb}
 use Rattle.alpha_encode.specs.declared.instr.AlphaInstr.{AlphaInstr}
 use Rattle.exception_records.specs.Points.{Entry, point_at}
 use Rattle.exception_records.specs.declared.points.Point.{Point}
@@ -12,9 +13,9 @@ use Rattle.block_law.specs.Translations.{done_at}
 use Rattle.program_codegen.specs.declared.lines.Line.{Line}
 use Rattle.program_codegen.specs.declared.points.Site.{Site}
 use Rattle.program_codegen.specs.Words.{point_of, with_first, words_of, with_entry, points_from, exits_from, block_of}
-use Rattle.program_codegen.proofs.Walk.{skip_behind}
+use Rattle.program_codegen.proofs.Walk.{skip_behind, counted}
 use Rattle.program_codegen.proofs.Starting.{IsWholeLine, not_before}
-use Rattle.program_codegen.proofs.Compiled.{some_same, word_of_line, words_length, first_length}
+use Rattle.program_codegen.proofs.Compiled.{word_of_line, words_length, first_length, first_words}
 use Rattle.program_codegen.proofs.Shapes.{PointFits, QuietFits, EachFits, encoded, all_translated, exits_within, exits_rise, points_rise, first_each}
 
 -- ---- the words of exits
@@ -26,10 +27,6 @@ Covers skip w lines q = nat_lt q (w + skip) || is_exit_word (exits_from w lines)
 abbrev IsPast : (skip w : ℕ) → List Line → (q : ℕ) → Bool
 IsPast skip w lines q = nat_lt q (w + skip) || is_past_exit (exits_from w lines) q
 
-counted : (w q skip : ℕ) → w < q → nat_lt q (w + skip) ≡ nat_lt q (w + 1 + (skip - 1))
-counted w q zero lt = let a : nat_lt q (w + 0) ≡ false = grind (arith, nat_tests) in let b : nat_lt q (w + 1 + 0) ≡ false = grind (arith, nat_tests) in a ∙ sym b
-counted w q (suc skip) lt = let same : w + suc skip ≡ w + 1 + (suc skip - 1) = omega arith in ap (nat_lt q) same
-
 covers_behind : (skip w q : ℕ) (line : Line) (lines : List Line) → IsWholeLine line.exit skip → w < q → Covers skip w (line ∷ lines) q ≡ Covers (skip_behind line.exit skip) (w + 1) lines q
 covers_behind skip w q line lines whole lt = by line.exit whole
   where
@@ -37,13 +34,10 @@ covers_behind skip w q line lines whole lt = by line.exit whole
     by None whole = ap (λ b. b || is_exit_word (exits_from (w + 1) lines) q) (counted w q skip lt)
     by (Some address) whole =
         let low : nat_le w q ≡ true = grind (arith, nat_tests) in
-        let none : nat_lt q (w + skip) ≡ false = not_less q (w + skip) (omega arith) in
+        let none : nat_lt q (w + skip) ≡ false = le-ltb q (w + skip) (omega arith) in
         let same : w + 3 ≡ w + 1 + 2 = omega arith in
         ap (λ b. b || ((nat_le w q && nat_lt q (w + 3)) || is_exit_word (exits_from (w + 1) lines) q)) none
         ∙ (ap (λ b. (b && nat_lt q (w + 3)) || is_exit_word (exits_from (w + 1) lines) q) low ∙ ap (λ n. nat_lt q n || is_exit_word (exits_from (w + 1) lines) q) same)
-      where
-        not_less : (a b : ℕ) → b ≤ a → nat_lt a b ≡ false
-        not_less a b le = grind (arith, nat_tests)
 
 past_behind : (skip w q : ℕ) (line : Line) (lines : List Line) → IsWholeLine line.exit skip → w < q → IsPast skip w (line ∷ lines) q ≡ IsPast (skip_behind line.exit skip) (w + 1) lines q
 past_behind skip w q line lines whole lt = by line.exit whole
@@ -53,15 +47,12 @@ past_behind skip w q line lines whole lt = by line.exit whole
     by (Some address) whole =
         let low : nat_le w q ≡ true = grind (arith, nat_tests) in
         let other : (q == w) ≡ false = grind (arith, nat_tests) in
-        let none : nat_lt q (w + skip) ≡ false = not_less q (w + skip) (omega arith) in
+        let none : nat_lt q (w + skip) ≡ false = le-ltb q (w + skip) (omega arith) in
         let same : w + 3 ≡ w + 1 + 2 = omega arith in
         ap (λ b. b || ((nat_le w q && nat_lt q (w + 3) && not (q == w)) || is_past_exit (exits_from (w + 1) lines) q)) none
         ∙ (ap (λ b. (b && nat_lt q (w + 3) && not (q == w)) || is_past_exit (exits_from (w + 1) lines) q) low
         ∙ (ap (λ b. (nat_lt q (w + 3) && not b) || is_past_exit (exits_from (w + 1) lines) q) other ∙ (ap (λ b. b || is_past_exit (exits_from (w + 1) lines) q) (with_true (nat_lt q (w + 3))) ∙ ap (λ n. nat_lt q n || is_past_exit (exits_from (w + 1) lines) q) same)))
       where
-        not_less : (a b : ℕ) → b ≤ a → nat_lt a b ≡ false
-        not_less a b le = grind (arith, nat_tests)
-
         with_true : (b : Bool) → (b && true) ≡ b
         with_true true = refl
         with_true false = refl
@@ -79,7 +70,7 @@ module _ (site : Site) where
   quiet_words skip w [] k i each e is = absurd (cc is)
   quiet_words skip w (line ∷ lines) zero i each e is =
       let here : w + 0 ≡ w = omega arith in
-      subst (λ i. is_quiet i ≡ true) (some_same line.instr i is) (by line.exit skip each.0.quiet (subst (λ q. Covers skip w (line ∷ lines) q ≡ true) here e))
+      subst (λ i. is_quiet i ≡ true) (same_Some line.instr i is) (by line.exit skip each.0.quiet (subst (λ q. Covers skip w (line ∷ lines) q ≡ true) here e))
     where
       by : (o : Option ℕ) (skip : ℕ) → QuietFits o skip line → (nat_lt w (w + skip) || is_exit_word (with_entry o w (exits_from (w + 1) lines)) w) ≡ true → is_quiet line.instr ≡ true
       by None zero quiet e =
@@ -98,7 +89,7 @@ module _ (site : Site) where
   not_past skip w [] k line q each is its = absurd (cc is)
   not_past skip w (l ∷ lines) zero line q each is its =
       let here : w + 0 ≡ w = omega arith in
-      subst (λ n. IsPast skip w (l ∷ lines) n ≡ false) (sym here) (by l.exit skip each.0.whole each.0.quiet (ap (λ (l : Line). l.point) (some_same l line is) ∙ its))
+      subst (λ n. IsPast skip w (l ∷ lines) n ≡ false) (sym here) (by l.exit skip each.0.whole each.0.quiet (ap (λ (l : Line). l.point) (same_Some l line is) ∙ its))
     where
       by : (o : Option ℕ) (skip : ℕ) → IsWholeLine o skip → QuietFits o skip l → l.point ≡ Some q → (nat_lt w (w + skip) || is_past_exit (with_entry o w (exits_from (w + 1) lines)) w) ≡ false
       by None zero whole quiet e = let a : nat_lt w (w + 0) ≡ false = grind (arith, nat_tests) in ap (λ b. b || is_past_exit (exits_from (w + 1) lines) w) a ∙ past_not_before lines (w + 1) w (omega arith)
@@ -119,7 +110,7 @@ module _ (site : Site) where
 
   point_fits_at : (skip : ℕ) (lines : List Line) (k : ℕ) (line : Line) → EachFits site skip lines → slice_get lines k ≡ Some line → PointFits site line.instr line.point
   point_fits_at skip [] k line each is = absurd (cc is)
-  point_fits_at skip (l ∷ lines) zero line each is = subst (λ (l : Line). PointFits site l.instr l.point) (some_same l line is) each.0.its_point
+  point_fits_at skip (l ∷ lines) zero line each is = subst (λ (l : Line). PointFits site l.instr l.point) (same_Some l line is) each.0.its_point
   point_fits_at skip (l ∷ lines) (suc k) line each is = point_fits_at (skip_behind l.exit skip) lines k line each.1 is
 
 -- ---- points are lines'
@@ -154,10 +145,6 @@ module _ (site : Site) (lines : List Line) (each : EachFits site 0 lines) (some 
   abbrev all_each : EachFits site 0 all
   all_each = first_each site lines each
 
-  same_words : (lines : List Line) → words_of (with_first (point_of site) lines) ≡ words_of lines
-  same_words [] = refl
-  same_words (l ∷ lines) = refl
-
   size : length (words_of all) ≡ length lines
   size = words_length all ∙ first_length (point_of site) lines
 
@@ -167,9 +154,6 @@ module _ (site : Site) (lines : List Line) (each : EachFits site 0 lines) (some 
 
   none_below : (q : ℕ) → nat_lt q (0 + 0) ≡ false
   none_below q = grind (arith, nat_tests)
-
-  from_zero : (k : ℕ) → 0 + k ≡ k
-  from_zero k = omega arith
 
   point_is : (word : ℕ) (point : Point) → HasPoint 0 all word point → IsPointOf site.at (block_of all) word point
   point_is word point x =
@@ -181,7 +165,7 @@ module _ (site : Site) (lines : List Line) (each : EachFits site 0 lines) (some 
       let count = words_length all in
       record {
         within = omega arith;
-        no_exit = subst (λ n. is_past_exit (exits_from 0 all) n ≡ false) (from_zero word) (sym (ap (λ b. b || is_past_exit (exits_from 0 all) (0 + word)) (none_below (0 + word))) ∙ past);
+        no_exit = subst (λ n. is_past_exit (exits_from 0 all) n ≡ false) (zero-add word) (sym (ap (λ b. b || is_past_exit (exits_from 0 all) (0 + word)) (none_below (0 + word))) ∙ past);
         its = its.0;
         done = its.1 ∙ ap done_at (sym (word_of_line all word x.line is));
       }
@@ -192,12 +176,12 @@ module _ (site : Site) (lines : List Line) (each : EachFits site 0 lines) (some 
       let count = size in
       let inside = exits_within site 0 0 (length (words_of all)) all all_each (let c = words_length all in omega arith) in
       record {
-        tidy = record { some = omega arith; few = omega arith; keeps = ap (keeps_until may_fault) (same_words lines) ∙ keeps; translated = all_translated site 0 all all_each };
+        tidy = record { some = omega arith; few = omega arith; keeps = ap (keeps_until may_fault) (first_words (point_of site) lines) ∙ keeps; translated = all_translated site 0 all all_each };
         encodable = encoded site 0 all all_each;
         exits = inside;
         exits_apart = λ k d lt. let next : suc k ≡ k + 1 = omega arith in subst (λ n. (get_or (exits_from 0 all) k d).0 + 3 ≤ (get_or (exits_from 0 all) n d).0) next (exits_rise site 0 0 k d all all_each (omega arith));
         exits_quiet = λ word i is e. quiet_words site 0 0 all word i all_each
-            (subst (λ n. Covers 0 0 all n ≡ true) (sym (from_zero word)) (ap (λ b. b || is_exit_word (exits_from 0 all) word) (none_below word) ∙ is)) e;
+            (subst (λ n. Covers 0 0 all n ≡ true) (sym (zero-add word)) (ap (λ b. b || is_exit_word (exits_from 0 all) word) (none_below word) ∙ is)) e;
         points_rise = λ k d lt. let next : suc k ≡ k + 1 = omega arith in subst (λ n. (get_or (points_from 0 all) k d).0 < (get_or (points_from 0 all) n d).0) next (points_rise site 0 k d all (omega arith));
         points = λ word point e. point_is word point (line_of all 0 word point e);
         first = first.0;

@@ -3,6 +3,7 @@ use Rattle.std.proofs.Common.{◌≡◌, ℕ, ◌+◌, ◌*◌, ◌/◌, ◌%◌
 use Rattle.std.specs.Prelude.{◌==◌, ◌&&◌, ◌||◌, not}
 use Rattle.std.specs.List.{list_all}
 use Rattle.std.proofs.lemmas.Bool.Decides.{nat_tests}
+use Rattle.std.proofs.lemmas.Bool.{and_parts}
 use Rattle.vt_words.specs.Quad.{sign_extended}
 use Rattle.vt_words.specs.Values.{bit}
 use Rattle.vax_form.specs.State.{with_core, with_pc}
@@ -30,7 +31,7 @@ use Rattle.block_law.proofs.Rules.{Always, operates}
 use Rattle.program_codegen.specs.declared.lines.Line.{Line}
 use Rattle.program_codegen.specs.declared.points.Site.{Site}
 use Rattle.program_codegen.specs.Words.{plain}
-use Rattle.program_codegen.proofs.Numbers.{both, all_three, all_four}
+use Rattle.program_codegen.proofs.Numbers.{all_three, all_four}
 use Rattle.program_codegen.proofs.Walk.{Within, row_words, row_rest, row_length, is_inside}
 use Rattle.program_codegen.proofs.Holding.{Setting, Holds, HoldsAs}
 use Rattle.program_codegen.proofs.Computing.{held_value, held_still, codes_kept}
@@ -68,7 +69,7 @@ signs_by : (source : CodeSource) (psw psw' : ℕ) (temps other : Temps) (known :
 signs_by Kept psw psw' temps other known same e h = h
 signs_by Zero psw psw' temps other known same e h = h
 signs_by (Result size) psw psw' temps other known same e h =
-    let x = both (holds known 0) (holds known 2) e in
+    let x = and_parts (holds known 0) (holds known 2) e in
     rw (same 0 (lit< tt) x.0, same 2 (lit< tt) x.1) h
 signs_by (Add size) psw psw' temps other known same e h =
     let x = all_three (holds known 0) (holds known 1) (holds known 2) e in
@@ -77,10 +78,10 @@ signs_by (Sub size) psw psw' temps other known same e h =
     let x = all_three (holds known 0) (holds known 1) (holds known 2) e in
     rw (same 0 (lit< tt) x.0, same 1 (lit< tt) x.1, same 2 (lit< tt) x.2) h
 signs_by (Compare size) psw psw' temps other known same e h =
-    let x = both (holds known 0) (holds known 1) e in
+    let x = and_parts (holds known 0) (holds known 1) e in
     rw (same 0 (lit< tt) x.0, same 1 (lit< tt) x.1) h
 signs_by (Computed size) psw psw' temps other known same e h =
-    let x = both (holds known 2) (holds known 3) e in
+    let x = and_parts (holds known 2) (holds known 3) e in
     rw (same 2 (lit< tt) x.0, same 3 (lit< tt) x.1) h
 signs_by Psw psw psw' temps other known same e h = rw (same 2 (lit< tt) e) h
 
@@ -90,13 +91,13 @@ carry_by Kept psw psw' temps other known same e h = h
 carry_by Zero psw psw' temps other known same e h = h
 carry_by (Result size) psw psw' temps other known same e h = h
 carry_by (Add size) psw psw' temps other known same e h =
-    let x = both (holds known 0) (holds known 1) e in
+    let x = and_parts (holds known 0) (holds known 1) e in
     rw (same 0 (lit< tt) x.0, same 1 (lit< tt) x.1) h
 carry_by (Sub size) psw psw' temps other known same e h =
-    let x = both (holds known 0) (holds known 1) e in
+    let x = and_parts (holds known 0) (holds known 1) e in
     rw (same 0 (lit< tt) x.0, same 1 (lit< tt) x.1) h
 carry_by (Compare size) psw psw' temps other known same e h =
-    let x = both (holds known 0) (holds known 1) e in
+    let x = and_parts (holds known 0) (holds known 1) e in
     rw (same 0 (lit< tt) x.0, same 1 (lit< tt) x.1) h
 carry_by (Computed size) psw psw' temps other known same e h = rw (same 4 (lit< tt) e) h
 carry_by Psw psw psw' temps other known same e h = rw (same 2 (lit< tt) e) h

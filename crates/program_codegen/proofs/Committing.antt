@@ -1,9 +1,11 @@
 -- Changes of the state that a program is to leave, in its block.
-use Rattle.std.proofs.Common.{◌≡◌, ℕ, ◌+◌, ◌*◌, ◌/◌, ◌%◌, ◌^◌, ◌<◌, ◌≤◌, refl, sym, ap, ◌∙◌, subst, arith, List, ◌∷◌, length, Option, Some, None, Bool, true, false, lit≤}
+use Rattle.std.proofs.Common.{◌≡◌, ℕ, ◌+◌, ◌*◌, ◌/◌, ◌%◌, ◌^◌, ◌<◌, ◌≤◌, refl, sym, ap, ◌∙◌, subst, arith, List, ◌∷◌, length, Option, Some, None, Bool, true, false, lit≤, length-set}
 use Rattle.std.specs.Prelude.{◌==◌, not, nat_lt, bit_and, slice_set}
 use Rattle.std.proofs.lemmas.Bool.Decides.{nat_tests}
+use Rattle.std.proofs.lemmas.Bool.{eqb-false}
 use Rattle.vt_words.specs.Quad.{sign_extended}
 use Rattle.vt_words.specs.Values.{bit}
+use Rattle.vt_words.proofs.Longwords.{extended_low, extended_again}
 use Rattle.vax_form.specs.State.{register, with_core, with_register, with_psw}
 use Rattle.vax_form.specs.Tree.{Tree}
 use Rattle.alpha_encode.specs.declared.instr.AlphaInstr.TheVariants.{Operate}
@@ -11,23 +13,23 @@ use Rattle.alpha_encode.specs.declared.instr.OperateOp.TheVariants.{Addl, And}
 use Rattle.alpha_encode.specs.declared.instr.Second.TheVariants.{Literal}
 use Rattle.alpha_meaning.specs.Result.{plus, long}
 use Rattle.alpha_meaning.specs.State.{Regs, put, at_place}
+use Rattle.alpha_meaning.proofs.Registers.{put_same, put_other}
 use Rattle.exception_records.specs.Shown.{registers_shown, codes_shown}
 use Rattle.micro_ops.specs.declared.known.Known.{Known}
 use Rattle.micro_ops.specs.Fits.{commit_fits}
 use Rattle.micro_ops.specs.Known.{held, holds, is_committed, behind_commit}
 use Rattle.micro_ops.specs.Meaning.{Standing, with_codes, codes_from, carry_from, is_set}
+use Rattle.micro_ops.proofs.Held.{flag_set, flag_other}
 use Rattle.block_law.specs.Placements.{Placement, InForm}
 use Rattle.block_law.proofs.Kept.{registers_put}
 use Rattle.block_law.proofs.Rules.{Always, roomy, goes}
 use Rattle.program_codegen.specs.declared.lines.Line.{Line}
 use Rattle.program_codegen.specs.declared.points.Site.{Site}
 use Rattle.program_codegen.specs.Words.{plain, holder}
-use Rattle.program_codegen.proofs.Numbers.{all_three, status_bits, extended_low, extended_again, committed_is, bit_small, differs, exceeds}
-use Rattle.program_codegen.proofs.Knowing.{flag_set, flag_kept, flags_kept}
+use Rattle.program_codegen.proofs.Numbers.{all_three, status_bits, committed_is, bit_small, differs, exceeds}
 use Rattle.program_codegen.proofs.Walk.{Within, stands, is_inside}
 use Rattle.program_codegen.proofs.Holding.{Holds}
 use Rattle.program_codegen.proofs.Computing.{held_value, held_still}
-use Rattle.program_codegen.proofs.Accessing.{put_at, put_other}
 
 above : (r n : ℕ) → r < 15 → 15 ≤ n → (n == r) ≡ false
 above r n lt le = exceeds n r (omega arith)
@@ -46,7 +48,7 @@ form_register regs r x low extended form = record {
     by : (n : ℕ) (b : Bool) → (n == r) ≡ b → n < 15 → sign_extended (put regs r x n) 32 ≡ put regs r x n
     by n true e lt =
         let same : r ≡ n = grind (arith, nat_tests, e) in
-        let is : put regs r x n ≡ x = subst (λ m. put regs r x m ≡ x) same (put_at regs r x (omega arith)) in
+        let is : put regs r x n ≡ x = subst (λ m. put regs r x m ≡ x) same (put_same regs r x (differs r 31 (omega arith))) in
         subst (λ v. sign_extended v 32 ≡ v) (sym is) extended
     by n false e lt = let is = put_other regs r x n e in subst (λ v. sign_extended v 32 ≡ v) (sym is) (form.longwords n lt)
 
@@ -79,7 +81,7 @@ module _ (p : Placement) (site : Site) where
         same_psw = h.same_psw;
         overflowed = h.overflowed;
         no_overflow = h.no_overflow;
-        each_register = flags_kept known.committed number ∙ h.each_register;
+        each_register = length-set known.committed number true ∙ h.each_register;
         quiet = λ e. absurd (cc e);
         registers = λ other other_lt free. others other other_lt (other == number) refl free;
         codes = same_codes ∙ h.codes;
@@ -100,7 +102,7 @@ module _ (p : Placement) (site : Site) where
               let free' : is_committed (behind_commit number known) number ≡ false = subst (λ n. is_committed (behind_commit number known) n ≡ false) (sym same) free in
               absurd (cc (sym set ∙ free'))
           others other other_lt false e free =
-              h.registers other other_lt (sym (flag_kept known.committed number other e) ∙ free) ∙ ap (λ n. n % 2 ^ 32) (sym (put_other regs number (sign_extended value 32) other e))
+              h.registers other other_lt (sym (flag_other known.committed number other (eqb-false other number e)) ∙ free) ∙ ap (λ n. n % 2 ^ 32) (sym (put_other regs number (sign_extended value 32) other e))
 
   -- ---- the codes, which have no words here
   pub sets_codes : (n z v : ℕ) (c : Option ℕ) (known : Known) (standing : Standing) (regs : Regs) → Holds p site known standing regs

@@ -1,8 +1,8 @@
 -- Wherever the block of a program stands, it follows the program's tree.
-use Rattle.std.proofs.Common.{◌≡◌, ℕ, zero, suc, ◌+◌, ◌-◌, ◌^◌, ◌<◌, ◌≤◌, refl, sym, ap, ◌∙◌, subst, arith, List, [], ◌∷◌, length, Option, Some, None, true, false, eq-eqb, ne_eqb}
+use Rattle.std.proofs.Common.{◌≡◌, ℕ, zero, suc, ◌+◌, ◌-◌, ◌^◌, ◌<◌, ◌≤◌, refl, sym, ap, ◌∙◌, subst, arith, List, [], ◌∷◌, length, Option, Some, None, true, false, eq-eqb, ne_eqb, zero-add}
 use Rattle.std.specs.Prelude.{◌==◌, ◌||◌, nat_lt, slice_get, unwrap_or}
 use Rattle.std.proofs.lemmas.Bool.Decides.{nat_tests}
-use Rattle.std.proofs.lemmas.Option.{slice_get_within}
+use Rattle.std.proofs.lemmas.Option.{slice_get_within, same_Some}
 use Rattle.vax_form.specs.declared.instr.Instr.{Instr}
 use Rattle.vax_form.specs.declared.state.Flags.{Flags}
 use Rattle.vax_form.specs.declared.state.VaxState.{VaxState}
@@ -31,12 +31,9 @@ use Rattle.program_codegen.proofs.Starting.{fetched, holds_at_start, IsWhole, li
 use Rattle.program_codegen.proofs.Following.{follows}
 
 -- ---- words and points of lines
-pub some_same : {A : Type 0} (x y : A) → Some x ≡ Some y → x ≡ y
-some_same {A = A} x y is = ap (λ (o : Option A). elim o [ None ↦ x | Some z ↦ z ]) is
-
 pub word_of_line : (lines : List Line) (k : ℕ) (line : Line) → slice_get lines k ≡ Some line → slice_get (words_of lines) k ≡ Some line.instr
 word_of_line [] k line e = absurd (cc e)
-word_of_line (l ∷ lines) zero line e = ap (λ (l : Line). Some l.instr) (some_same l line e)
+word_of_line (l ∷ lines) zero line e = ap (λ (l : Line). Some l.instr) (same_Some l line e)
 word_of_line (l ∷ lines) (suc k) line e = word_of_line lines k line e
 
 pub words_length : (lines : List Line) → length (words_of lines) ≡ length lines
@@ -46,6 +43,10 @@ words_length (l ∷ lines) = ap suc (words_length lines)
 pub first_length : (point : Point) (lines : List Line) → length (with_first point lines) ≡ length lines
 first_length point [] = refl
 first_length point (l ∷ lines) = refl
+
+pub first_words : (point : Point) (lines : List Line) → words_of (with_first point lines) ≡ words_of lines
+first_words point [] = refl
+first_words point (l ∷ lines) = refl
 
 no_point_before : (lines : List Line) (word w : ℕ) → word < w → point_at (points_from w lines) word ≡ None
 no_point_before [] word w lt = refl
@@ -59,7 +60,7 @@ pub point_of_line : (lines : List Line) (w k : ℕ) (line : Line) → slice_get 
 point_of_line [] w k line e = absurd (cc e)
 point_of_line (l ∷ lines) w zero line e =
     let here : w + 0 ≡ w = omega arith in
-    ap (point_at (points_from w (l ∷ lines))) here ∙ (by l.point ∙ ap (λ (l : Line). l.point) (some_same l line e))
+    ap (point_at (points_from w (l ∷ lines))) here ∙ (by l.point ∙ ap (λ (l : Line). l.point) (same_Some l line e))
   where
     by : (o : Option Point) → point_at (with_entry o w (points_from (w + 1) lines)) w ≡ o
     by None = no_point_before lines w (w + 1) (omega arith)
@@ -100,9 +101,6 @@ module _ (meaning : Meaning) (code : Code) (thread : ℕ) (state : VaxState) (he
   from_none : (q : ℕ) → nat_lt q (0 + 0) ≡ false
   from_none q = grind (arith, nat_tests)
 
-  from_zero : (k : ℕ) → 0 + k ≡ k
-  from_zero k = omega arith
-
   pub within_block : length code.words ≤ most_words → IsWhole 0 all → Stands code (block_of all) first → ExitsLead p (block_of all).exits first behind → Within p behind first lines
   within_block few whole s leads =
       let count : length s.words ≡ length lines = s.like.count ∙ (words_length all ∙ first_length point lines) in
@@ -113,7 +111,7 @@ module _ (meaning : Meaning) (code : Code) (thread : ℕ) (state : VaxState) (he
         has = has_own p behind first point lines (subst (λ q. HasLines p behind 0 q all) here
             (lines_stand p behind first (exits_from 0 all) all 0 0 whole (λ q le. sym (ap (λ b. b || is_exit_word (exits_from 0 all) q) (from_none q)))
             (λ k line e out.
-            let same = s.like.same (0 + k) out ∙ (ap (slice_get (words_of all)) (from_zero k) ∙ word_of_line all k line e) in
+            let same = s.like.same (0 + k) out ∙ (ap (slice_get (words_of all)) (zero-add k) ∙ word_of_line all k line e) in
             fetched (fetch_of code.words) first s.words (0 + k) line.instr s.stand same)
             (λ k line e.
             let lt = slice_get_within all k line e in

@@ -1,8 +1,10 @@
 -- Computations of a program in its block.
-use Rattle.std.proofs.Common.{◌≡◌, ℕ, ◌+◌, ◌/◌, ◌%◌, ◌^◌, ◌<◌, ◌≤◌, refl, sym, ap, ◌∙◌, subst, arith, List, ◌++◌, length, map, None, Bool, true, false, lit<, lit≤}
+use Rattle.std.proofs.Common.{◌≡◌, ℕ, ◌+◌, ◌/◌, ◌%◌, ◌^◌, ◌<◌, ◌≤◌, refl, sym, ap, ◌∙◌, subst, arith, List, ◌++◌, length, map, None, Bool, true, false, lit<, lit≤, eqb-true}
 use Rattle.std.specs.Prelude.{◌==◌, ◌&&◌, ◌||◌, not, nat_lt, if◌then◌else◌}
 use Rattle.std.proofs.lemmas.Bool.Decides.{nat_tests}
+use Rattle.std.proofs.lemmas.Bool.{and_parts, not-true, eqb-false}
 use Rattle.vt_words.proofs.Spreads.{below_8}
+use Rattle.vt_words.proofs.Longwords.{extended_fits}
 use Rattle.vax_form.specs.State.{with_core}
 use Rattle.vax_form.specs.Tree.{Tree}
 use Rattle.vax_form.specs.declared.instr.Size.{Size}
@@ -30,6 +32,7 @@ use Rattle.micro_ops.specs.Known.{held, holds, is_something, is_committed, has_f
 use Rattle.micro_ops.specs.Meaning.{Temps, Standing, with_temp, with_value, value_of_arg, flag_of}
 use Rattle.micro_ops.specs.Uses.{is_unary, is_select, leaves_longword, takes, is_flag}
 use Rattle.micro_ops.specs.Values.{low, computed, value_from}
+use Rattle.micro_ops.proofs.Held.{held_same, held_other}
 use Rattle.compute_sequences.specs.Promises.{Leaves, IsComputed, MayCompute}
 use Rattle.compute_sequences.specs.Registers.{IsArgument, IsTarget, register_at, value_at, may_change}
 use Rattle.compute_sequences.specs.Words.{compute_code}
@@ -43,8 +46,8 @@ use Rattle.program_codegen.specs.declared.lines.Line.{Line}
 use Rattle.program_codegen.specs.declared.points.Site.{Site}
 use Rattle.program_codegen.specs.Words.{plain, holder}
 use Rattle.program_codegen.specs.Programs.{rule_of}
-use Rattle.program_codegen.proofs.Numbers.{both, all_four, below_of, extended_fits, same_bits}
-use Rattle.program_codegen.proofs.Knowing.{SameChanges, write_changes, written_one, written_others}
+use Rattle.program_codegen.proofs.Numbers.{all_four, below_of, same_bits}
+use Rattle.program_codegen.proofs.Knowing.{SameChanges, write_changes}
 use Rattle.program_codegen.proofs.Walk.{Within, row_words, row_length, is_inside}
 use Rattle.program_codegen.proofs.Holding.{Holds, HoldsAs, IsChecked, found}
 
@@ -126,21 +129,17 @@ module _ (p : Placement) (site : Site) where
         high_7 : (r psw : ℕ) → psw / 16 ≡ r / 16 → r / 128 % 2 ≡ psw / 128 % 2
         high_7 r psw e = omega arith
 
-    not_true : (b : Bool) → not b ≡ true → b ≡ false
-    not_true true e = absurd (cc e)
-    not_true false e = refl
-
     -- an argument is what its register says
     pub argument_is : (a : Arg) → IsArgument a → argument_fits known a ≡ true → ((flag : ℕ) → flag < 4 → is_flag flag a ≡ true → is_ready (rule_of flag site.before) ≡ true)
         → value_at regs a ≡ value_of_arg (found p site) standing.temps a
     argument_is (Temp temp) is fits ready = (held_value (held known temp) (standing.temps temp) (regs (21 + temp)) fits (h.temps temp is)).0
     argument_is (Register number) is fits ready =
-        let x = both (nat_lt number 15) (not (is_committed known number)) fits in
-        sym (h.registers number is (not_true (is_committed known number) x.1))
+        let x = and_parts (nat_lt number 15) (not (is_committed known number)) fits in
+        sym (h.registers number is (not-true (is_committed known number) x.1))
     argument_is (Flag flag) is fits ready =
-        let x = both (nat_lt flag 8 && not known.codes) (not known.psw) fits in
-        let y = both (nat_lt flag 8) (not known.codes) x.0 in
-        flag_is flag is (not_true known.codes y.1) (not_true known.psw x.1) (λ lt. ready flag lt (same_flag flag))
+        let x = and_parts (nat_lt flag 8 && not known.codes) (not known.psw) fits in
+        let y = and_parts (nat_lt flag 8) (not known.codes) x.0 in
+        flag_is flag is (not-true known.codes y.1) (not-true known.psw x.1) (λ lt. ready flag lt (same_flag flag))
       where
         same_flag : (n : ℕ) → (n == n) ≡ true
         same_flag n = grind (arith, nat_tests)
@@ -192,19 +191,19 @@ checks_written pages to value (At place count write) temps is = by (place == to)
     by true e = tt
     by false e = rw e is
 
--- the one that is written, and the others
-pub values_written : (known : Known) (to value : ℕ) (holding : Holding) (temps : Temps) (old new : Regs) → to < 6 → HoldsAs holding value (new (21 + to))
-    → ((temp : ℕ) → temp < 6 → HoldsAs (held known temp) (temps temp) (old (21 + temp))) → ((temp : ℕ) → temp < 6 → (temp == to) ≡ false → new (21 + temp) ≡ old (21 + temp))
-    → (temp : ℕ) → temp < 6 → HoldsAs (held (behind_write to holding known) temp) (with_temp to value temps temp) (new (21 + temp))
-values_written known to value holding temps old new lt here values others temp temp_lt = by (temp == to) refl
+-- the one that is written, or another
+pub value_written : (known : Known) (to value : ℕ) (holding : Holding) (temps : Temps) (old new : Regs) → to < 6 → HoldsAs holding value (new (21 + to))
+    → (temp : ℕ) → HoldsAs (held known temp) (temps temp) (old (21 + temp)) → ((temp == to) ≡ false → new (21 + temp) ≡ old (21 + temp))
+    → HoldsAs (held (behind_write to holding known) temp) (with_temp to value temps temp) (new (21 + temp))
+value_written known to value holding temps old new lt here temp was other = by (temp == to) refl
   where
     by : (b : Bool) → (temp == to) ≡ b → HoldsAs (held (behind_write to holding known) temp) (if b then value else temps temp) (new (21 + temp))
     by true e =
-        let same : to ≡ temp = grind (arith, nat_tests, e) in
-        subst (λ h. HoldsAs h value (new (21 + temp))) (sym (written_one holding known to temp lt temp_lt e)) (subst (λ n. HoldsAs holding value (new (21 + n))) same here)
+        subst (λ n. HoldsAs (held (behind_write to holding known) n) value (new (21 + n))) (sym (eqb-true temp to e))
+        (subst (λ h. HoldsAs h value (new (21 + to))) (sym (held_same holding known to lt)) here)
     by false e =
-        subst (λ h. HoldsAs h (temps temp) (new (21 + temp))) (sym (written_others holding known to temp temp_lt e))
-        (held_still (held known temp) (temps temp) (old (21 + temp)) (new (21 + temp)) (λ some. others temp temp_lt e) (values temp temp_lt))
+        subst (λ h. HoldsAs h (temps temp) (new (21 + temp))) (sym (held_other holding known to temp (eqb-false temp to e)))
+        (held_still (held known temp) (temps temp) (old (21 + temp)) (new (21 + temp)) (λ some. other e) was)
 
 abbrev pub any_kind : Kinds
 any_kind = λ kind bytes. true
@@ -252,12 +251,12 @@ module _ (p : Placement) (site : Site) where
       (unchanged p site known (behind_write to (holding_of (leaves_longword (Compute to op size a b))) known) standing _ regs g
       (write_changes to _ known)
       (λ n kept. l.only n (kept_apart (21 + to) n low high kept)) (l.only 31 (zero_apart (21 + to) low high))
-      (values_written known to _ _ standing.temps regs g to_lt
+      (λ temp lt. value_written known to _ _ standing.temps regs g to_lt
       (computed_holds op to size a b _ _ _ (g (21 + to)) (l.holds ∙ computed_same op size _ _ _ _ _ _
       (argument_is p site known standing regs h a a_is x.1 (λ flag lt e. ready flag lt (takes_first flag e)))
       (λ e. argument_is p site known standing regs h b (b_is e) (b_fits e) (λ flag lt is. ready flag lt (takes_second flag e is)))
       (λ e. (held_to e).0)))
-      h.temps (λ temp lt e. l.only (21 + temp) (temp_apart to temp lt e)))
+      temp (h.temps temp lt) (λ e. l.only (21 + temp) (temp_apart to temp lt e)))
       (checks_written p.pages to _ known.checked standing.temps h.checked) h))
     where
       or_left : (u f : Bool) → u ≡ false → (u || f) ≡ true → f ≡ true

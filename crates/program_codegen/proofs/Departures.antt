@@ -1,5 +1,6 @@
 -- Where a program leaves: the words that leave the codes, the trap on overflow, and the exits.
 use Rattle.std.proofs.Common.{◌≡◌, ℕ, ◌+◌, ◌%◌, ◌^◌, ◌≤◌, refl, subst, arith, List, [], ◌++◌, length, map, None, Bool, true, false, lit≤, length-append}
+use Rattle.std.proofs.lemmas.Bool.{not-true}
 use Rattle.std.specs.Prelude.{◌==◌, not, if◌then◌else◌}
 use Rattle.vax_form.specs.State.{with_pc}
 use Rattle.vax_form.specs.Tree.{Finish, Trap, Fault}
@@ -27,10 +28,6 @@ use Rattle.program_codegen.proofs.Coded.{Coded, coded, codes_run, sources_parts}
 use Rattle.program_codegen.proofs.Exiting.{exits_to, chooses, looks, breaks, serves_then}
 use Rattle.program_codegen.proofs.Trapping.{Overflows, ExitHolds}
 use Rattle.program_codegen.proofs.Testing.{trap_or, traps_first}
-
-not_true : (b : Bool) → not b ≡ true → b ≡ false
-not_true true e = absurd (cc e)
-not_true false e = refl
 
 -- a trap leaves the same status word
 same_psw : (standing : Standing) (pc : ℕ) (onward : Departure) (b : Bool) → (state_left onward).psw ≡ standing.state.psw
@@ -82,7 +79,7 @@ module _ (p : Placement) (site : Site) (codes : List AlphaInstr) (setting : Sett
       → Holds p site known standing regs → Always p None (length (leaving site codes exits.Breakpoint)) (at_place regs pc) (Fault exceptions.Breakpoint)
   breaks_unchanged known standing regs pc w fits come h =
       let parts = sources_parts site.sources known come in
-      let same_as_found = h.quiet (not_true known.changed fits) in
+      let same_as_found = h.quiet (not-true known.changed fits) in
       let values = same_false (is_from_values site.sources.nzv) (subst (λ b. same b (is_from_values site.sources.nzv) ≡ true) same_as_found.0 parts.0) in
       let psw = same_false (is_from_psw site.sources.nzv) (subst (λ b. same b (is_from_psw site.sources.nzv) ≡ true) same_as_found.1 parts.1) in
       let none = untrapped (kept_source site.sources.nzv values psw).1 in
@@ -112,5 +109,5 @@ leaving_follows p site codes setting (exits.Choice when taken other) known stand
 leaving_follows p site codes setting (exits.Service temp) known standing regs pc w is fits come ready h agree =
     let x = all_three (exit_holds known temp) (not known.codes) (not known.psw) fits in
     leaves_by_exit p site codes setting (exits.Service temp) (Serves (standing.temps temp % 2 ^ 16) (with_pc site.after standing.state)) known standing regs pc w is tt come h agree refl
-    (λ g pc' c w'. serves_then p site known standing g c (not_true known.codes x.1) (not_true known.psw x.2) setting.after pc' temp w' is x.0)
+    (λ g pc' c w'. serves_then p site known standing g c (not-true known.codes x.1) (not-true known.psw x.2) setting.after pc' temp w' is x.0)
 leaving_follows p site codes setting exits.Breakpoint known standing regs pc w is fits come ready h agree = breaks_unchanged p site codes setting known standing regs pc w fits come h

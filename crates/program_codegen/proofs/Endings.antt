@@ -4,6 +4,9 @@ use Rattle.std.specs.Prelude.{pos, ◌==◌, ◌&&◌, ◌||◌, not, All, if◌
 use Rattle.std.specs.List.{list_all, list_any}
 use Rattle.std.proofs.lemmas.Bool.Decides.{nat_tests}
 use Rattle.std.proofs.lemmas.List.Elements.{All-cons, All-nil}
+use Rattle.std.proofs.lemmas.Bool.{or_from}
+use Rattle.std.proofs.lemmas.List.Folds.{list_any-append}
+use Rattle.byte_sequences.proofs.Encoded.{all_encodable}
 use Rattle.alpha_encode.specs.Words.{IsEncodable}
 use Rattle.alpha_encode.specs.declared.instr.AlphaInstr.{AlphaInstr}
 use Rattle.alpha_encode.specs.declared.instr.AlphaInstr.TheVariants.{Memory, Branch, Operate, Jump, Pal}
@@ -32,8 +35,8 @@ use Rattle.program_codegen.specs.Programs.{IsExit, KeepsTogether}
 use Rattle.program_codegen.proofs.Numbers.{all_four}
 use Rattle.program_codegen.proofs.Walk.{plain_length}
 use Rattle.program_codegen.proofs.Shapes.{EachFits, each_append, exit_each, plain_fits, call_fits, is_local, row_fits}
-use Rattle.program_codegen.proofs.Rows.{is_free, is_own, is_silent, list_all_of, silent_own, silent_quiet, all_encodable, load_each, load_encodable, branch_encodable, small_fits, made_encodable, made_silent, made_short}
-use Rattle.program_codegen.proofs.Fronts.{targets, targets_append, row_targets, words_append, row_words_are, any_append, any_neither, neither, SparesCodes, KeptBy, quiet_kept, free_keeps, Front, row_front, front_append, spares_append, no_front, line_front, Shape}
+use Rattle.program_codegen.proofs.Rows.{is_free, is_own, is_silent, list_all_of, silent_own, silent_quiet, load_each, load_encodable, branch_encodable, small_fits, made_encodable, made_silent, made_short}
+use Rattle.program_codegen.proofs.Fronts.{targets, targets_append, row_targets, words_append, row_words_are, any_neither, SparesCodes, KeptBy, quiet_kept, free_keeps, Front, row_front, front_append, spares_append, no_front, line_front, Shape}
 
 -- ---- silent lines
 record Silent (site : Site) (most : ℕ) (lines : List Line) : Type 0 where
@@ -212,7 +215,7 @@ codes_quiet may (i ∷ is) e = by (fine may i) (list_all (fine may) is) (one i) 
     one (Pal number) e = absurd (cc e)
 
     by : (a b : Bool) → (a ≡ true → may_fault i ≡ false) → (b ≡ true → list_any may_fault is ≡ false) → (a && b) ≡ true → (may_fault i || list_any may_fault is) ≡ false
-    by true true here rest e = neither (may_fault i) (list_any may_fault is) (here refl) (rest refl)
+    by true true here rest e = or_from (may_fault i) (list_any may_fault is) (here refl) (rest refl)
     by true false here rest e = absurd (cc e)
     by false b here rest e = absurd (cc e)
 
@@ -307,7 +310,7 @@ module _ (site : Site) (codes : List AlphaInstr) (after_fits : site.after < 2 ^ 
             ∙ (targets_append (trap_lines site exit) (departing site exit) ∙ (ap (λ xs. xs ++ targets (departing site exit)) trap.front.stays ∙ departing_goes site after_fits exit)));
         writes = λ r low high.
             ap (writes_register r) (words_append (map plain codes) (rest_of exit))
-            ∙ (any_append (λ i. register_written i == r) (words_of (map plain codes)) (words_of (rest_of exit))
+            ∙ (list_any-append (λ i. register_written i == r) (words_of (map plain codes)) (words_of (rest_of exit))
             ∙ (ap (λ xs. writes_register r xs || writes_register r (words_of (rest_of exit))) (row_words_are codes)
             ∙ (ap (λ b. writes_register r codes || b) (spares_append (trap_lines site exit) (departing site exit) trap.front.spares (departing_spares site after_fits exit) r low high) ∙ or_nothing (writes_register r codes))));
         short = omega arith;

@@ -4,7 +4,9 @@ use Rattle.std.specs.Prelude.{pos, ◌==◌, not, bit_or, slice_set, if◌then�
 use Rattle.std.specs.Int.{cast_unsigned, w64}
 use Rattle.std.proofs.Math.Nat.{mod-eq_of_lt}
 use Rattle.std.proofs.lemmas.Bool.Decides.{nat_tests}
+use Rattle.std.proofs.lemmas.Bool.{not-true}
 use Rattle.vt_words.specs.Quad.{sign_extended}
+use Rattle.vt_words.proofs.Longwords.{extended_low, extended_again}
 use Rattle.vax_form.specs.State.{with_core, with_pc, with_register}
 use Rattle.vax_form.specs.Tree.{Tree, Fault, Ends, Finish, Same}
 use Rattle.vax_form.specs.declared.state.Exception.TheVariants.{Breakpoint}
@@ -16,6 +18,7 @@ use Rattle.alpha_meaning.specs.Act.{target_of}
 use Rattle.alpha_meaning.specs.Pieces.{Only, Plain}
 use Rattle.alpha_meaning.specs.Result.{plus, times}
 use Rattle.alpha_meaning.specs.State.{Regs, put, at_place}
+use Rattle.alpha_meaning.proofs.Registers.{put_other}
 use Rattle.exception_records.specs.Codes.{all_ready}
 use Rattle.exception_records.specs.Shown.{registers_shown, psw_shown, psw_with, still_held}
 use Rattle.micro_ops.specs.declared.known.Known.{Known}
@@ -36,22 +39,17 @@ use Rattle.program_codegen.specs.declared.lines.Line.{Line}
 use Rattle.program_codegen.specs.declared.points.Site.{Site}
 use Rattle.program_codegen.specs.Words.{plain, marked, holder, copy, point_of, raising, exit_lines, load_address, departing}
 use Rattle.program_codegen.specs.Programs.{LeavesReady}
-use Rattle.program_codegen.proofs.Numbers.{all_three, copied, extended_low, extended_again}
+use Rattle.program_codegen.proofs.Numbers.{all_three, copied}
 use Rattle.program_codegen.proofs.Walk.{Within, next, stands, is_inside, exit_leads, behind_exit}
 use Rattle.program_codegen.proofs.Computing.{held_value}
-use Rattle.program_codegen.proofs.Accessing.{put_other}
 use Rattle.program_codegen.proofs.Committing.{form_register}
 use Rattle.program_codegen.proofs.Coded.{Coded, left_is, shown_psw, psw_back}
-
-not_true : (b : Bool) → not b ≡ true → b ≡ false
-not_true true e = absurd (cc e)
-not_true false e = refl
 
 -- the temporary that an exit goes by
 pub exit_value : (p : Placement) (site : Site) (known : Known) (standing : Standing) (regs : Regs) (temp : ℕ) → temp < 6 → exit_holds known temp ≡ true → Coded p site known standing regs → regs (21 + temp) ≡ standing.temps temp
 exit_value p site known standing regs temp lt fits c =
     let x = all_three (holds known temp) (not (temp == 3)) (not (temp == 4)) fits in
-    (held_value (held known temp) (standing.temps temp) (regs (21 + temp)) x.0 (c.temps temp lt (not_true (temp == 3) x.1) (not_true (temp == 4) x.2))).0
+    (held_value (held known temp) (standing.temps temp) (regs (21 + temp)) x.0 (c.temps temp lt (not-true (temp == 3) x.1) (not-true (temp == 4) x.2))).0
 
 -- R21 to R27 are not shown
 pub kept_apart : (k n : ℕ) → 21 ≤ k → k ≤ 27 → is_kept n ≡ true → (n == k) ≡ false

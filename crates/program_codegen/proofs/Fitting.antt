@@ -2,6 +2,7 @@
 use Rattle.std.proofs.Common.{◌≡◌, ℕ, refl, sym, ◌∙◌, subst, arith, List, [], ◌∷◌, Bool, true, false, eqb-true}
 use Rattle.std.specs.Prelude.{◌==◌, ◌&&◌, ◌||◌, not, nat_lt, nat_le}
 use Rattle.std.proofs.lemmas.Bool.Decides.{nat_tests}
+use Rattle.std.proofs.lemmas.Bool.{and_parts, not-true}
 use Rattle.vt_words.specs.Quad.{IsCount, one as c1, two as c2, four as c4, eight as c8}
 use Rattle.micro_ops.specs.declared.codes.CodeSources.{CodeSources}
 use Rattle.micro_ops.specs.declared.known.Checked.TheVariants.{At}
@@ -22,7 +23,7 @@ use Rattle.byte_sequences.specs.Instructions as bytes
 use Rattle.compute_sequences.specs.Registers.{IsArgument}
 use Rattle.program_codegen.specs.Words.{holder}
 use Rattle.program_codegen.specs.Programs.{IsExit, IsRangedArgument, IsRangedExit, AllRanged, AllFitWords, AllHaveWords}
-use Rattle.program_codegen.proofs.Numbers.{both, all_three, all_four, all_five, below_of}
+use Rattle.program_codegen.proofs.Numbers.{all_three, all_four, all_five, below_of}
 use Rattle.program_codegen.proofs.Knowing.{walk_fits, nothing_behind, write_changes}
 use Rattle.program_codegen.proofs.Following.{opened}
 
@@ -42,7 +43,7 @@ or_false_left false b f e = e
 
 argument_word : (known : Known) (a : Arg) → is_low_argument a ≡ true → argument_fits known a ≡ true → IsRangedArgument a → IsArgument a
 argument_word known (Temp temp) low fits ranged = below_of temp 6 low
-argument_word known (Register number) low fits ranged = below_of number 15 (both (nat_lt number 15) (not (is_committed known number)) fits).0
+argument_word known (Register number) low fits ranged = below_of number 15 (and_parts (nat_lt number 15) (not (is_committed known number)) fits).0
 argument_word known (Flag flag) low fits ranged = below_of flag 8 (all_three (nat_lt flag 8) (not known.codes) (not known.psw) fits).0
 argument_word known (Const value) low fits ranged = ranged
 
@@ -59,11 +60,7 @@ among a b e =
     let x = all_three (nat_lt a 4) (nat_lt b 4) (not (a == b)) e in
     let a_lt = below_of a 4 x.0 in
     let b_lt = below_of b 4 x.1 in
-    (record { low = omega arith; high = omega arith }, record { low = omega arith; high = omega arith }, not_true (a == b) x.2)
-  where
-    not_true : (b : Bool) → not b ≡ true → b ≡ false
-    not_true true e = absurd (cc e)
-    not_true false e = refl
+    (record { low = omega arith; high = omega arith }, record { low = omega arith; high = omega arith }, not-true (a == b) x.2)
 
 turned : (a b : ℕ) → (a == b) ≡ false → (b == a) ≡ false
 turned a b e = grind (arith, nat_tests, e)
@@ -75,7 +72,7 @@ module _ (sources : CodeSources) where
   fit_words (Compute to op size a b ∷ program) known off e low =
       let same = write_changes to (holding_of (leaves_longword (Compute to op size a b))) known in
       let x = walk_fits (computation_fits known to op a b) (behind_write to (holding_of (leaves_longword (Compute to op size a b))) known) (λ behind. walk sources behind program) (opened sources known (Compute to op size a b) program off e) in
-      let y = both (keeps_low sources (Compute to op size a b) program) (all_keep_low sources program) low in
+      let y = and_parts (keeps_low sources (Compute to op size a b) program) (all_keep_low sources program) low in
       let fits = all_four (nat_lt to 64) (argument_fits known a) (is_unary op || argument_fits known b) (not (is_select op) || holds known to) x.0 in (
         λ ranged out.
             let z = all_three (is_low to) (is_low_argument a) (is_unary op || is_low_argument b) (or_false_left (is_left_out sources (Compute to op size a b) program) (names_low (Compute to op size a b)) out y.0) in
@@ -89,23 +86,23 @@ module _ (sources : CodeSources) where
   fit_words (Probe place count write ∷ program) known off e low =
       let behind = behind_access (record known { checked = At place count write }) in
       let x = walk_fits (check_fits known place count) behind (λ behind. walk sources behind program) (opened sources known (Probe place count write) program off e) in
-      let y = both (keeps_low sources (Probe place count write) program) (all_keep_low sources program) low in
-      (λ ranged. (below_of place 6 y.0, count_is count (both (is_count count) (place_fits known place) x.0).0), fit_words program behind off x.1 y.1)
+      let y = and_parts (keeps_low sources (Probe place count write) program) (all_keep_low sources program) low in
+      (λ ranged. (below_of place 6 y.0, count_is count (and_parts (is_count count) (place_fits known place) x.0).0), fit_words program behind off x.1 y.1)
   fit_words (Refuse when ∷ program) known off e low =
       let x = walk_fits (not known.changed && holds known when) known (λ behind. walk sources behind program) (opened sources known (Refuse when) program off e) in
-      let y = both (keeps_low sources (Refuse when) program) (all_keep_low sources program) low in
+      let y = and_parts (keeps_low sources (Refuse when) program) (all_keep_low sources program) low in
       (λ ranged. below_of when 6 y.0, fit_words program known off x.1 y.1)
   fit_words (Read to place count ∷ program) known off e low =
       let behind = behind_access (behind_write to (holding_of (nat_le count 4)) known) in
       let same = write_changes to (holding_of (nat_le count 4)) known in
       let x = walk_fits (read_fits known to place count) behind (λ behind. walk sources behind program) (opened sources known (Read to place count) program off e) in
-      let y = both (keeps_low sources (Read to place count) program) (all_keep_low sources program) low in
+      let y = and_parts (keeps_low sources (Read to place count) program) (all_keep_low sources program) low in
       let z = all_three (is_count count) (are_apart to place) (reference_fits known place count false) x.0 in
       let registers = among to place z.1 in
       (λ ranged. (registers.1, registers.0, count_is count z.0), fit_words program behind (same.ended ∙ off) x.1 y.1)
   fit_words (Write place count source ∷ program) known off e low =
       let x = walk_fits (write_fits known place count source) (behind_access known) (λ behind. walk sources behind program) (opened sources known (Write place count source) program off e) in
-      let y = both (keeps_low sources (Write place count source) program) (all_keep_low sources program) low in
+      let y = and_parts (keeps_low sources (Write place count source) program) (all_keep_low sources program) low in
       let z = all_four (is_count count) (are_apart place source) (holds known source) (reference_fits known place count true) x.0 in
       let registers = among place source z.1 in
       (λ ranged. (registers.0, registers.1, count_is count z.0), fit_words program (behind_access known) off x.1 y.1)
@@ -113,26 +110,26 @@ module _ (sources : CodeSources) where
       let behind = behind_access (behind_write to Wide known) in
       let same = write_changes to Wide known in
       let x = walk_fits (locked_fits known to place (locked_count kind) source) behind (λ behind. walk sources behind program) (opened sources known (Locked to place kind source) program off e) in
-      let y = both (keeps_low sources (Locked to place kind source) program) (all_keep_low sources program) low in
+      let y = and_parts (keeps_low sources (Locked to place kind source) program) (all_keep_low sources program) low in
       let z = all_five (are_apart to place) (are_apart place source) (are_apart source to) (holds known source) (reference_fits known place (locked_count kind) true) x.0 in
       let first = among to place z.0 in
       let second = among source to z.2 in
       (λ ranged. (first.1, second.0, first.0, turned to place first.2, second.2), fit_words program behind (same.ended ∙ off) x.1 y.1)
   fit_words (Commit number source ∷ program) known off e low =
       let x = walk_fits (commit_fits known number source) (behind_commit number known) (λ behind. walk sources behind program) (opened sources known (Commit number source) program off e) in
-      let y = both (keeps_low sources (Commit number source) program) (all_keep_low sources program) low in
+      let y = and_parts (keeps_low sources (Commit number source) program) (all_keep_low sources program) low in
       let z = all_three (nat_lt number 15) (holds known source) (not (is_committed known number)) x.0 in
       (λ ranged. (below_of number 15 z.0, below_of source 6 y.0), fit_words program (behind_commit number known) off x.1 y.1)
   fit_words (Codes n z v c ∷ program) known off e low =
       let x = walk_fits (codes_fit known n z v c) (record known { codes = true; changed = true }) (λ behind. walk sources behind program) (opened sources known (Codes n z v c) program off e) in
-      (λ ranged. tt, fit_words program (record known { codes = true; changed = true }) off x.1 (both (keeps_low sources (Codes n z v c) program) (all_keep_low sources program) low).1)
+      (λ ranged. tt, fit_words program (record known { codes = true; changed = true }) off x.1 (and_parts (keeps_low sources (Codes n z v c) program) (all_keep_low sources program) low).1)
   fit_words (SetPsw source ∷ program) known off e low =
       let x = walk_fits (not known.psw && holds known source) (record known { psw = true; changed = true }) (λ behind. walk sources behind program) (opened sources known (SetPsw source) program off e) in
-      let y = both (keeps_low sources (SetPsw source) program) (all_keep_low sources program) low in
+      let y = and_parts (keeps_low sources (SetPsw source) program) (all_keep_low sources program) low in
       (λ ranged. below_of source 6 y.0, fit_words program (record known { psw = true; changed = true }) off x.1 y.1)
   fit_words (Leave exit ∷ program) known off e low =
       let x = walk_fits (exit_fits known exit && sources_fit sources known) (record known { ended = true }) (λ behind. walk sources behind program) (opened sources known (Leave exit) program off e) in
-      let y = both (keeps_low sources (Leave exit) program) (all_keep_low sources program) low in
+      let y = and_parts (keeps_low sources (Leave exit) program) (all_keep_low sources program) low in
       (λ ranged. exit_word exit y.0 ranged, nothing program (nothing_behind sources (record known { ended = true }) program refl x.1))
     where
       nothing : (program : List Micro) → program ≡ [] → AllFitWords sources program

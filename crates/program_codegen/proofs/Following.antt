@@ -1,8 +1,10 @@
 -- The words of a program follow its tree.
-use Rattle.std.proofs.Common.{◌≡◌, ℕ, ◌+◌, ◌<◌, ◌≤◌, refl, sym, ap, ◌∙◌, subst, arith, List, [], ◌∷◌, ◌++◌, length, map, Option, Some, None, Bool, true, false, lit≤, length-append}
-use Rattle.std.specs.Prelude.{pos, ◌==◌, ◌&&◌, ◌||◌, not, nat_le, option_and_then, if◌then◌else◌}
+use Rattle.std.proofs.Common.{◌≡◌, ℕ, ◌+◌, ◌<◌, ◌≤◌, refl, sym, ◌∙◌, subst, arith, List, [], ◌∷◌, ◌++◌, length, map, Option, Some, None, Bool, true, false, lit≤, length-append}
+use Rattle.std.specs.Prelude.{pos, ◌==◌, ◌&&◌, not, nat_le, option_and_then, if◌then◌else◌}
 use Rattle.std.specs.List.{list_any}
 use Rattle.std.proofs.lemmas.Bool.Decides.{nat_tests}
+use Rattle.std.proofs.lemmas.Bool.{and_parts, or_left, or_right, eqb-false}
+use Rattle.std.proofs.lemmas.List.{append-nil}
 use Rattle.vax_form.specs.Parts.{parts}
 use Rattle.vax_form.specs.Ranges.{IsInRange}
 use Rattle.vax_form.specs.State.{Answers}
@@ -35,6 +37,7 @@ use Rattle.micro_ops.specs.Leaving.{CodesComeFrom}
 use Rattle.micro_ops.specs.Meaning.{Standing, Left, with_temp, with_value, with_codes, value_of_arg, locked_count, course_of, leaves_by}
 use Rattle.micro_ops.specs.Uses.{leaves_longword, takes, reads_flag, is_flag}
 use Rattle.micro_ops.specs.Values.{computed}
+use Rattle.micro_ops.proofs.Held.{held_other}
 use Rattle.byte_sequences.specs.Words.{read_code, write_code, locked_code}
 use Rattle.compute_sequences.specs.Words.{compute_code}
 use Rattle.block_law.specs.Placements.{Placement}
@@ -43,8 +46,7 @@ use Rattle.program_codegen.specs.declared.lines.Line.{Line}
 use Rattle.program_codegen.specs.declared.points.Site.{Site}
 use Rattle.program_codegen.specs.Words.{plain, marked, holder, copy, probing, raising, leaving, departing, trap_lines, lines_of, program_lines}
 use Rattle.program_codegen.specs.Programs.{HasWords, IsExit, ReadsReady, LeavesReady, rule_of}
-use Rattle.program_codegen.proofs.Numbers.{both}
-use Rattle.program_codegen.proofs.Knowing.{walk_fits, nothing_behind, write_changes, written_others}
+use Rattle.program_codegen.proofs.Knowing.{walk_fits, nothing_behind, write_changes}
 use Rattle.program_codegen.proofs.Walk.{Within, next, row_rest, row_length}
 use Rattle.program_codegen.proofs.Holding.{Setting, Holds, HoldsAs, LeavingFollows, ProgramFollows, found, tree}
 use Rattle.program_codegen.proofs.Computing.{unchanged, computes, checks_written}
@@ -53,18 +55,6 @@ use Rattle.program_codegen.proofs.Accessing.{checks, refuses, reads_operand, wri
 use Rattle.program_codegen.proofs.Committing.{commits, sets_codes, sets_psw}
 
 -- ---- lists
-nil_behind : (xs : List Line) → xs ++ [] ≡ xs
-nil_behind [] = refl
-nil_behind (x ∷ xs) = ap (λ ys. x ∷ ys) (nil_behind xs)
-
-or_right : (a b : Bool) → b ≡ true → (a || b) ≡ true
-or_right true b e = refl
-or_right false b e = e
-
-or_left : (a b : Bool) → a ≡ true → (a || b) ≡ true
-or_left true b e = refl
-or_left false b e = absurd (cc e)
-
 longer : (xs ys : List Line) → 1 ≤ length ys → 1 ≤ length (xs ++ ys)
 longer xs ys some = let e = length-append xs ys in omega arith
 
@@ -158,8 +148,8 @@ module _ (p : Placement) (site : Site) (codes : List AlphaInstr) (setting : Sett
       unchanged p site known (behind_write to (holding_of (leaves_longword (Compute to op size a b))) known) standing (with_temp to value standing.temps) regs regs
       (write_changes to (holding_of (leaves_longword (Compute to op size a b))) known) (λ n kept. refl) refl
       (λ temp lt.
-      let e = another temp lt (both (not (is_low to)) (not (is_used site.sources program to)) out).0 in
-      subst (λ h. HoldsAs h (with_temp to value standing.temps temp) (regs (21 + temp))) (sym (written_others (holding_of (leaves_longword (Compute to op size a b))) known to temp lt e))
+      let e = another temp lt (and_parts (not (is_low to)) (not (is_used site.sources program to)) out).0 in
+      subst (λ h. HoldsAs h (with_temp to value standing.temps temp) (regs (21 + temp))) (sym (held_other (holding_of (leaves_longword (Compute to op size a b))) known to temp (eqb-false temp to e)))
       (subst (λ v. HoldsAs (held known temp) v (regs (21 + temp))) (sym (kept_value temp e)) (h.temps temp lt)))
       (checks_written p.pages to value known.checked standing.temps h.checked) h
     where
@@ -199,8 +189,8 @@ module _ (p : Placement) (site : Site) (codes : List AlphaInstr) (setting : Sett
       → AtLeaves (CodesComeFrom site.sources p.begun) (leaves_by exit (found p site) standing)
       → Always p None (length (leaving site codes exit ++ program_lines site codes program)) (at_place regs pc) (tree p (leaves_by exit (found p site) standing))
   ending_follows exit [] known standing regs pc e w is fits come ready h agree =
-      subst (λ xs. Always p None (length xs) (at_place regs pc) (tree p (leaves_by exit (found p site) standing))) (sym (nil_behind (leaving site codes exit)))
-      (leaves exit known standing regs pc (subst (Within p site.behind pc) (nil_behind (leaving site codes exit)) w) is fits come ready h agree)
+      subst (λ xs. Always p None (length xs) (at_place regs pc) (tree p (leaves_by exit (found p site) standing))) (sym (append-nil (leaving site codes exit)))
+      (leaves exit known standing regs pc (subst (Within p site.behind pc) (append-nil (leaving site codes exit)) w) is fits come ready h agree)
   ending_follows exit (operation ∷ program) known standing regs pc e w is fits come ready h agree = absurd (cc e)
 
   two_words : (pc : ℕ) → pc + 1 + 1 ≡ pc + 2
@@ -282,9 +272,9 @@ module _ (p : Placement) (site : Site) (codes : List AlphaInstr) (setting : Sett
       let x = walk_fits (not known.psw && holds known source) (record known { psw = true; changed = true }) (λ behind. walk site.sources behind program) (opened site.sources known (SetPsw source) program off e) in
       let lines = program_lines site codes program in
       roomy p None (1 + length lines) (length (lines_of site codes (SetPsw source) program ++ lines)) (at_place regs pc) _ (omega arith)
-      (sets_psw p site (length lines) pc source lines known standing regs (tree p (Course_of (SetPsw source ∷ program) standing)) w (lines_some site codes program (record known { psw = true; changed = true }) off x.1) (both (not known.psw) (holds known source) x.0).1 words.0 h
+      (sets_psw p site (length lines) pc source lines known standing regs (tree p (Course_of (SetPsw source ∷ program) standing)) w (lines_some site codes program (record known { psw = true; changed = true }) off x.1) (and_parts (not known.psw) (holds known source) x.0).1 words.0 h
       (λ g h'. follows program (record known { psw = true; changed = true }) _ g (pc + 1) (next p site.behind pc (Operate row.And (holder source) (Literal 0xF0) 20) None lines w) words.1 (later_flags (SetPsw source) program reads) ready off x.1 h' range agree))
   follows (Leave exit ∷ program) known standing regs pc w words reads ready off e h range agree =
       let x = walk_fits (exit_fits known exit && sources_fit site.sources known) (record known { ended = true }) (λ behind. walk site.sources behind program) (opened site.sources known (Leave exit) program off e) in
-      let fits = both (exit_fits known exit) (sources_fit site.sources known) x.0 in
+      let fits = and_parts (exit_fits known exit) (sources_fit site.sources known) x.0 in
       ending_follows exit program known standing regs pc (nothing_behind site.sources (record known { ended = true }) program refl x.1) w words.0 fits.0 fits.1 ready h agree

@@ -3,6 +3,8 @@ use Rattle.std.proofs.Common.{◌≡◌, ℕ, ◌+◌, ◌<◌, ◌≤◌, refl,
 use Rattle.std.specs.Prelude.{◌==◌, ◌&&◌, ◌||◌, not, All}
 use Rattle.std.specs.List.{list_all, list_any}
 use Rattle.std.proofs.lemmas.Bool.Decides.{nat_tests}
+use Rattle.std.proofs.lemmas.Bool.{and_parts, or_from}
+use Rattle.std.proofs.lemmas.List.Folds.{list_any-append}
 use Rattle.alpha_encode.specs.Words.{IsEncodable}
 use Rattle.alpha_encode.specs.declared.instr.AlphaInstr.{AlphaInstr}
 use Rattle.block_law.specs.Tidy.{is_kept, register_written, may_fault, keeps_until, writes_register}
@@ -51,20 +53,8 @@ pub row_words_are : (is : List AlphaInstr) → words_of (map plain is) ≡ is
 row_words_are [] = refl
 row_words_are (i ∷ is) = ap (λ js. i ∷ js) (row_words_are is)
 
-pub any_append : (f : AlphaInstr → Bool) (is js : List AlphaInstr) → list_any f (is ++ js) ≡ (list_any f is || list_any f js)
-any_append f [] js = refl
-any_append f (i ∷ is) js = by (f i) (any_append f is js)
-  where
-    by : (b : Bool) → list_any f (is ++ js) ≡ (list_any f is || list_any f js) → (b || list_any f (is ++ js)) ≡ (b || list_any f is || list_any f js)
-    by true e = refl
-    by false e = e
-
-pub neither : (a b : Bool) → a ≡ false → b ≡ false → (a || b) ≡ false
-neither true b e f = absurd (cc e)
-neither false b e f = f
-
 pub any_neither : (f : AlphaInstr → Bool) (xs ys : List Line) → list_any f (words_of xs) ≡ false → list_any f (words_of ys) ≡ false → list_any f (words_of (xs ++ ys)) ≡ false
-any_neither f xs ys e g = ap (list_any f) (words_append xs ys) ∙ (any_append f (words_of xs) (words_of ys) ∙ neither (list_any f (words_of xs)) (list_any f (words_of ys)) e g)
+any_neither f xs ys e g = ap (list_any f) (words_append xs ys) ∙ (list_any-append f (words_of xs) (words_of ys) ∙ or_from (list_any f (words_of xs)) (list_any f (words_of ys)) e g)
 
 -- R16 to R19 are the codes'
 abbrev pub SparesCodes : List AlphaInstr → Type 0
@@ -73,15 +63,11 @@ SparesCodes is = (r : ℕ) → 16 ≤ r → r < 20 → writes_register r is ≡ 
 free_other : (n r : ℕ) → not (is_kept n) ≡ true → 16 ≤ r → r < 20 → (n == r) ≡ false
 free_other n r e low high = grind (arith, nat_tests, e)
 
-and_parts : (a b : Bool) → (a && b) ≡ true → (a ≡ true) × (b ≡ true)
-and_parts true b e = (refl, e)
-and_parts false b e = absurd (cc e)
-
 pub free_spares : (is : List AlphaInstr) → list_all is_free is ≡ true → SparesCodes is
 free_spares [] e r low high = refl
 free_spares (i ∷ is) e r low high =
     let x = and_parts (is_free i) (list_all is_free is) e in
-    neither (register_written i == r) (writes_register r is) (free_other (register_written i) r x.0 low high) (free_spares is x.1 r low high)
+    or_from (register_written i == r) (writes_register r is) (free_other (register_written i) r x.0 low high) (free_spares is x.1 r low high)
 
 -- ---- where kept registers stay
 -- behind a change nothing may fault any more
@@ -146,7 +132,7 @@ pub line_front : (site : Site) (line : Line) → line.exit ≡ None → LineFits
 line_front site line none fits other = record {
   each = by line.exit none fits;
   stays = ap (λ o. with_target o []) none;
-  spares = λ r low high. neither (register_written line.instr == r) false (other r low high) refl;
+  spares = λ r low high. or_from (register_written line.instr == r) false (other r low high) refl;
 }
   where
     by : (o : Option ℕ) → o ≡ None → LineFits site None 0 line → LineFits site o 0 line × (skip_behind o 0 ≡ 0)
@@ -172,7 +158,7 @@ module _ (site : Site) (codes : List AlphaInstr) (addresses : List ℕ) where
         goes = targets_append xs ys ∙ (ap (λ zs. zs ++ targets ys) front.stays ∙ shape.goes);
         writes = λ r low high.
             ap (writes_register r) (words_append xs ys)
-            ∙ (any_append (λ i. register_written i == r) (words_of xs) (words_of ys)
+            ∙ (list_any-append (λ i. register_written i == r) (words_of xs) (words_of ys)
             ∙ (ap (λ b. b || writes_register r (words_of ys)) (front.spares r low high) ∙ shape.writes r low high));
         short = omega arith;
       }
@@ -188,7 +174,7 @@ module _ (site : Site) (codes : List AlphaInstr) (addresses : List ℕ) where
       words = words_append (map plain is) ys ∙ ap (λ js. js ++ words_of ys) (row_words_are is)
 
       by : (changed : Bool) → KeptBy changed (words_of ys) → KeptBy changed (words_of (map plain is ++ ys))
-      by true kept = ap (list_any may_fault) words ∙ (any_append may_fault is (words_of ys) ∙ neither (list_any may_fault is) (list_any may_fault (words_of ys)) (silent_quiet is silent) kept)
+      by true kept = ap (list_any may_fault) words ∙ (list_any-append may_fault is (words_of ys) ∙ or_from (list_any may_fault is) (list_any may_fault (words_of ys)) (silent_quiet is silent) kept)
       by false kept = ap (keeps_until may_fault) words ∙ free_keeps is (words_of ys) (list_all_of is_own is_free own_free is (list_all_of is_silent is_own silent_own is silent)) kept
 
   -- words that may fault, where nothing was changed

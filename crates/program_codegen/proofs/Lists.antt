@@ -1,12 +1,12 @@
 -- Lines one by one.
-use Rattle.std.proofs.Common.{◌≡◌, ℕ, zero, suc, ◌+◌, ◌<◌, refl, sym, ap, ◌∙◌, arith, List, [], ◌∷◌, ◌++◌, length, map, Option, Some, None, append_assoc}
+use Rattle.std.proofs.Common.{◌≡◌, ℕ, zero, suc, ◌+◌, ◌<◌, refl, sym, ap, ◌∙◌, arith, List, [], ◌∷◌, ◌++◌, length, Option, Some, None}
 use Rattle.std.specs.Prelude.{take}
 use Rattle.std.proofs.Common.{get_or}
 use Rattle.std.proofs.lemmas.List.{take_more}
 use Rattle.alpha_encode.specs.declared.instr.AlphaInstr.{AlphaInstr}
 use Rattle.exception_records.specs.Points.{Entry}
 use Rattle.program_codegen.specs.declared.lines.Line.{Line}
-use Rattle.program_codegen.specs.Words.{plain, words_of, with_entry, points_from, exits_from}
+use Rattle.program_codegen.specs.Words.{words_of, with_entry, points_from, exits_from}
 
 entry_append : {A : Type 0} (o : Option A) (word : ℕ) (xs ys : List (ℕ × A)) → with_entry o word (xs ++ ys) ≡ with_entry o word xs ++ ys
 entry_append None word xs ys = refl

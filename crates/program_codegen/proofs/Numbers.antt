@@ -1,27 +1,25 @@
 -- Numbers in registers.
-use Rattle.std.proofs.Common.{◌≡◌, ℕ, ◌+◌, ◌-◌, ◌*◌, ◌/◌, ◌%◌, ◌^◌, ◌<◌, ◌≤◌, refl, sym, ap, ◌∙◌, arith, Bool, true, false, lit≤}
-use Rattle.std.specs.Prelude.{◌==◌, ◌&&◌, nat_lt, bit_and, bit_or, if◌then◌else◌}
+use Rattle.std.proofs.Common.{◌≡◌, ℕ, ◌*◌, ◌/◌, ◌%◌, ◌^◌, ◌<◌, ◌≤◌, sym, ap, ◌∙◌, arith, Bool, true, false, lit≤}
+use Rattle.std.specs.Prelude.{◌==◌, ◌&&◌, nat_lt, bit_and, bit_or}
 use Rattle.std.specs.Int.Bits.{or_zero_r}
 use Rattle.std.proofs.lemmas.Bool.Decides.{nat_tests}
 use Rattle.std.proofs.lemmas.Nat.{and_assoc, and_mask}
 use Rattle.std.proofs.lemmas.Nat.Bits.{and_high_mask}
+use Rattle.std.proofs.lemmas.Bool.{and_parts}
 use Rattle.vt_words.specs.Quad.{sign_extended}
 use Rattle.vt_words.specs.Values.{bit}
+use Rattle.vt_words.proofs.Longwords.{same_extended}
 use Rattle.alpha_meaning.specs.Result.{plus, long}
 
 -- ---- tests
-pub both : (a b : Bool) → (a && b) ≡ true → (a ≡ true) × (b ≡ true)
-both true b e = (refl, e)
-both false b e = absurd (cc e)
-
 pub all_three : (a b c : Bool) → (a && b && c) ≡ true → (a ≡ true) × (b ≡ true) × (c ≡ true)
-all_three a b c e = let x = both (a && b) c e in let y = both a b x.0 in (y.0, y.1, x.1)
+all_three a b c e = let x = and_parts (a && b) c e in let y = and_parts a b x.0 in (y.0, y.1, x.1)
 
 pub all_four : (a b c d : Bool) → (a && b && c && d) ≡ true → (a ≡ true) × (b ≡ true) × (c ≡ true) × (d ≡ true)
-all_four a b c d e = let x = both (a && b && c) d e in let y = all_three a b c x.0 in (y.0, y.1, y.2, x.1)
+all_four a b c d e = let x = and_parts (a && b && c) d e in let y = all_three a b c x.0 in (y.0, y.1, y.2, x.1)
 
 pub all_five : (a b c d f : Bool) → (a && b && c && d && f) ≡ true → (a ≡ true) × (b ≡ true) × (c ≡ true) × (d ≡ true) × (f ≡ true)
-all_five a b c d f e = let x = both (a && b && c && d) f e in let y = all_four a b c d x.0 in (y.0, y.1, y.2, y.3, x.1)
+all_five a b c d f e = let x = and_parts (a && b && c && d) f e in let y = all_four a b c d x.0 in (y.0, y.1, y.2, y.3, x.1)
 
 pub below_of : (n k : ℕ) → nat_lt n k ≡ true → n < k
 below_of n k e = grind (arith, nat_tests, e)
@@ -41,27 +39,6 @@ pub status_bits : (n : ℕ) → bit_and n 0xF0 ≡ n % 256 / 16 * 16
 status_bits n =
     let byte : n % 2 ^ 8 < 2 ^ 8 = omega arith in
     sym (and_assoc 240 n 255) ∙ (ap (λ x. bit_and x 240) (and_mask n 8) ∙ and_high_mask 8 4 (lit≤ tt) (n % 2 ^ 8) byte)
-
--- ---- signs
-low_by : (v : ℕ) (b : Bool) → nat_lt (v % 2 ^ 32) (2 ^ 31) ≡ b → (if b then v % 2 ^ 32 else v % 2 ^ 32 + (2 ^ 64 - 2 ^ 32)) % 2 ^ 32 ≡ v % 2 ^ 32
-low_by v true e = omega arith
-low_by v false e = omega arith
-
-pub extended_low : (v : ℕ) → sign_extended v 32 % 2 ^ 32 ≡ v % 2 ^ 32
-extended_low v = low_by v (nat_lt (v % 2 ^ 32) (2 ^ 31)) refl
-
-pub same_extended : (a b : ℕ) → a % 2 ^ 32 ≡ b % 2 ^ 32 → sign_extended a 32 ≡ sign_extended b 32
-same_extended a b e = ap (λ low. if nat_lt low (2 ^ 31) then low else low + (2 ^ 64 - 2 ^ 32)) e
-
-pub extended_again : (v : ℕ) → sign_extended (sign_extended v 32) 32 ≡ sign_extended v 32
-extended_again v = same_extended (sign_extended v 32) v (extended_low v)
-
-fits_by : (v : ℕ) (b : Bool) → nat_lt (v % 2 ^ 32) (2 ^ 31) ≡ b → (if b then v % 2 ^ 32 else v % 2 ^ 32 + (2 ^ 64 - 2 ^ 32)) < 2 ^ 64
-fits_by v true e = omega arith
-fits_by v false e = omega arith
-
-pub extended_fits : (v : ℕ) → sign_extended v 32 < 2 ^ 64
-extended_fits v = fits_by v (nat_lt (v % 2 ^ 32) (2 ^ 31)) refl
 
 -- a longword that is committed
 pub committed_is : (v : ℕ) → long (plus v 0) ≡ sign_extended v 32

@@ -6,6 +6,7 @@ use Rattle.std.proofs.Math.Nat.{mod-eq_of_lt, mod-mod}
 use Rattle.std.proofs.lemmas.Bool.Decides.{nat_tests}
 use Rattle.std.proofs.lemmas.List.Elements.{All-cons, All-nil}
 use Rattle.std.proofs.lemmas.Nat.{and_assoc, and_mask, div_below, div-add-mod', mod_below, pow-add, pow_pos}
+use Rattle.std.proofs.lemmas.Bool.{or_cases}
 use Rattle.vt_words.specs.Quad.{IsCount, one as c1, two as c2, four as c4, eight as c8, field_of, with_field_of}
 use Rattle.vt_words.proofs.Spreads.{below_8}
 use Rattle.vax_form.specs.PageTable.{IsPageTable, AreRising, has_page}
@@ -37,14 +38,10 @@ use Rattle.program_codegen.proofs.Computing.{any_kind}
 use Rattle.program_codegen.proofs.Holding.{IsChecked, tree}
 
 -- ---- pages
-either : (a b : Bool) → (a || b) ≡ true → (a ≡ true) ⊎ (b ≡ true)
-either true b e = inl refl
-either false b e = inr e
-
 -- an image lies below address 80000000
 allowed_low : (ranges : List PageRange) (lowest address : ℕ) (write : Bool) → AreRising lowest ranges → list_any (allows address write) ranges ≡ true → address / 512 < 4194304
 allowed_low [] lowest address write rising e = absurd (cc e)
-allowed_low (r ∷ rs) lowest address write rising e = by (λ is. allowed_low rs (r.first + r.count) address write rising.3 is) (either (allows address write r) (list_any (allows address write) rs) e)
+allowed_low (r ∷ rs) lowest address write rising e = by (λ is. allowed_low rs (r.first + r.count) address write rising.3 is) (or_cases (allows address write r) (list_any (allows address write) rs) e)
   where
     below : (n k : ℕ) (a b : Bool) → k ≤ 4194304 → (a && nat_lt n k && b) ≡ true → n < 4194304
     below n k a b high e = let x = all_three a (nat_lt n k) b e in let lt : n < k = grind (arith, nat_tests, x.1) in omega arith
@@ -74,13 +71,13 @@ may_use pages address true false may e = readable pages address e
 may_use pages address false true may e = absurd (cc may)
 may_use pages address false false may e = e
 
-in_quad : (pages : Pages) (write : Bool) (a : ℕ) → is_allowed pages a write ≡ true → is_allowed pages (a / 8 * 8) write ≡ true
+pub in_quad : (pages : Pages) (write : Bool) (a : ℕ) → is_allowed pages a write ≡ true → is_allowed pages (a / 8 * 8) write ≡ true
 in_quad pages write a e =
     let same : a / 8 * 8 / 512 ≡ a / 512 = omega arith in
     ap (λ page. list_any (λ (r : PageRange). has_page page r && (not write || r.writable)) pages.ranges) same ∙ e
 
 -- each byte that passes a check
-first_passes : (pages : Pages) (write : Bool) (address count : ℕ) → first_bad pages write address (suc count) ≡ None → (is_allowed pages address write ≡ true) × (first_bad pages write ((address + 1) % 2 ^ 32) count ≡ None)
+pub first_passes : (pages : Pages) (write : Bool) (address count : ℕ) → first_bad pages write address (suc count) ≡ None → (is_allowed pages address write ≡ true) × (first_bad pages write ((address + 1) % 2 ^ 32) count ≡ None)
 first_passes pages write address count e = by (is_allowed pages address write) refl e
   where
     by : (b : Bool) → is_allowed pages address write ≡ b → (if b then first_bad pages write ((address + 1) % 2 ^ 32) count else Some address) ≡ None → (b ≡ true) × (first_bad pages write ((address + 1) % 2 ^ 32) count ≡ None)

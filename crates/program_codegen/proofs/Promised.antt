@@ -23,17 +23,13 @@ use Rattle.program_codegen.specs.Promises.{HasRules, CompilesProgram}
 use Rattle.program_codegen.proofs.Numbers.{all_three}
 use Rattle.program_codegen.proofs.Starting.{flags_same}
 use Rattle.program_codegen.proofs.Following.{lines_some}
-use Rattle.program_codegen.proofs.Compiled.{first_length, compiles}
+use Rattle.program_codegen.proofs.Compiled.{first_length, compiles, first_words}
 use Rattle.program_codegen.proofs.Shapes.{EachFits, first_each, each_whole, has_rules}
 use Rattle.program_codegen.proofs.Blocking.{block_shape}
 use Rattle.program_codegen.proofs.Fronts.{targets, exits_go, Shape}
 use Rattle.program_codegen.proofs.Shaping.{program_shape}
 use Rattle.program_codegen.proofs.Fitting.{fit_words, have_words}
 use Rattle.program_codegen.proofs.Departures.{leaving_follows}
-
-pub if_ok_then : {A E : Type 0} (r : Result A E) (P Q : A → Type 0) → ((a : A) → P a → Q a) → IfOk r P → IfOk r Q
-if_ok_then (Ok a) P Q f h = f a h
-if_ok_then (Err e) P Q f h = h
 
 pub if_ok_both : {A E : Type 0} (r : Result A E) (P R Q : A → Type 0) → ((a : A) → P a → R a → Q a) → IfOk r P → IfOk r R → IfOk r Q
 if_ok_both (Ok a) P R Q f h k = f a h k
@@ -44,10 +40,6 @@ pub all_fit : (sources : CodeSources) (program : List Micro) → fits sources pr
 all_fit sources program e =
     let x = all_three (is_ended (walk sources at_start program)) (all_keep_low sources program) (nat_le (program_words sources program) most_words) e in
     fit_words sources program at_start refl x.0 x.1
-
-same_words : (site : Site) (lines : List Line) → words_of (with_first (point_of site) lines) ≡ words_of lines
-same_words site [] = refl
-same_words site (line ∷ lines) = refl
 
 same_targets : (site : Site) (lines : List Line) → targets (with_first (point_of site) lines) ≡ targets lines
 same_targets site [] = refl
@@ -92,7 +84,7 @@ module _ (site : Site) (program : List Micro) (codes : List AlphaInstr) (fit : f
 
   pub writes_codes : codes_written (block_of (block_lines site codes program)).words ≡ codes_written codes
   writes_codes =
-      ap codes_written (same_words site (program_lines site codes program))
+      ap codes_written (first_words (point_of site) (program_lines site codes program))
       ∙ flags_same (codes_written (words_of (program_lines site codes program))) (codes_written codes)
       (shape.writes 16 (lit≤ tt) (lit< tt)) (shape.writes 17 (lit≤ tt) (lit< tt)) (shape.writes 18 (lit≤ tt) (lit< tt)) (shape.writes 19 (lit≤ tt) (lit< tt))
 

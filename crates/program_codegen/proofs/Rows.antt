@@ -5,7 +5,7 @@ use Rattle.std.specs.Int.{cast_signed, w16}
 use Rattle.std.specs.List.{list_all, list_any}
 use Rattle.std.proofs.lemmas.Bool.Decides.{nat_tests}
 use Rattle.std.proofs.lemmas.Int.{ints}
-use Rattle.std.proofs.lemmas.List.Elements.{All-cons, All-nil}
+use Rattle.std.proofs.lemmas.List.Elements.{All-nil}
 use Rattle.vt_words.specs.Quad.{IsCount, one as c1, two as c2, four as c4, eight as c8}
 use Rattle.vax_form.specs.declared.instr.Size.TheVariants.{Byte, Word, Long, Quad}
 use Rattle.alpha_encode.specs.Words.{IsEncodable}
@@ -20,6 +20,7 @@ use Rattle.micro_ops.specs.declared.program.LockedOp.{LockedOp}
 use Rattle.micro_ops.specs.declared.program.LockedOp.TheVariants.{AddWord, SetBit, ClearBit}
 use Rattle.micro_ops.specs.WordCounts.{by_count}
 use Rattle.byte_sequences.specs.Words.{read_code, write_code, locked_code}
+use Rattle.byte_sequences.proofs.Encoded.{EachEncodable, all_encodable}
 use Rattle.compute_sequences.specs.Promises.{changes_only}
 use Rattle.compute_sequences.specs.Registers.{IsTarget, may_change}
 use Rattle.compute_sequences.specs.declared.overflow.Arithmetic.TheVariants.{Sum, Difference}
@@ -101,14 +102,6 @@ changes_silent to is (Jump ra rb) e = absurd (cc e)
 changes_silent to is (Pal number) e = absurd (cc e)
 
 -- ---- operands in memory
-abbrev pub EachEncodable : List AlphaInstr → Type 0
-EachEncodable [] = Unit {0}
-EachEncodable (i ∷ is) = IsEncodable i × EachEncodable is
-
-pub all_encodable : (is : List AlphaInstr) → EachEncodable is → All IsEncodable is
-all_encodable [] h = All-nil IsEncodable
-all_encodable (i ∷ is) h = All-cons IsEncodable i is h.0 (all_encodable is h.1)
-
 module _ (place to : ℕ) (place_fits : place < 32) (to_fits : to < 32) where
   read_each : (count : ℕ) → IsCount count → EachEncodable (read_code place count to)
   read_each count c1 = search rules

@@ -1,8 +1,9 @@
 -- The blocks of lines by themselves.
 use Rattle.std.proofs.Common.{◌≡◌, ℕ, zero, suc, ◌+◌, ◌-◌, ◌^◌, ◌<◌, ◌≤◌, refl, sym, ap, subst, arith, List, [], ◌∷◌, ◌++◌, length, map, get_or, Option, Some, None, Bool, true, false, lit<}
-use Rattle.std.specs.Prelude.{◌==◌, ◌&&◌, unwrap_or, All, if◌then◌else◌}
+use Rattle.std.specs.Prelude.{◌==◌, unwrap_or, All, if◌then◌else◌}
 use Rattle.std.specs.List.{list_all, list_any}
 use Rattle.std.proofs.lemmas.List.Elements.{All-cons, All-nil}
+use Rattle.std.proofs.lemmas.Bool.{and_parts}
 use Rattle.alpha_encode.specs.Words.{IsEncodable}
 use Rattle.alpha_encode.specs.declared.instr.AlphaInstr.{AlphaInstr}
 use Rattle.alpha_encode.specs.declared.instr.AlphaInstr.TheVariants.{Memory, Branch, Operate, Jump, Pal}
@@ -67,10 +68,6 @@ local_done (Pal number) e = absurd (cc e)
 
 pub plain_fits : (site : Site) (i : AlphaInstr) → IsEncodable i → is_local i ≡ true → LineFits site None 0 (plain i)
 plain_fits site i is e = record { encodable = is; translated = (local_done i e).1; its_point = (local_done i e).0; whole = tt; address = tt; quiet = tt }
-
-and_parts : (a b : Bool) → (a && b) ≡ true → (a ≡ true) × (b ≡ true)
-and_parts true b e = (refl, e)
-and_parts false b e = absurd (cc e)
 
 pub all_head : {A : Type 0} (P : A → Type 0) (x : A) (xs : List A) → All P (x ∷ xs) → P x
 all_head P x xs all = all 0 x (omega arith)

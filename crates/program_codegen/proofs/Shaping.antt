@@ -1,5 +1,7 @@
 -- The lines of a program by themselves.
 use Rattle.std.proofs.Common.{◌≡◌, ℕ, ◌+◌, ◌^◌, ◌<◌, ◌≤◌, refl, sym, ap, ◌∙◌, subst, arith, List, [], ◌∷◌, ◌++◌, length, map, Bool, true, false, lit<, lit≤}
+use Rattle.std.proofs.lemmas.Bool.{and_parts, not-true}
+use Rattle.std.proofs.lemmas.List.{append-nil}
 use Rattle.std.specs.Prelude.{pos, ◌&&◌, not, nat_le, All, if◌then◌else◌}
 use Rattle.std.specs.List.{list_all, list_any}
 use Rattle.vax_form.specs.declared.instr.Size.{Size}
@@ -37,7 +39,7 @@ use Rattle.program_codegen.specs.declared.lines.Line.{Line}
 use Rattle.program_codegen.specs.declared.points.Site.{Site}
 use Rattle.program_codegen.specs.Words.{plain, marked, holder, copy, probing, raising, leaving, program_lines, words_of}
 use Rattle.program_codegen.specs.Programs.{HasWords, AllHaveWords, KeepsTogether, IsExit}
-use Rattle.program_codegen.proofs.Numbers.{both, all_three, all_four, all_five}
+use Rattle.program_codegen.proofs.Numbers.{all_three, all_four, all_five}
 use Rattle.program_codegen.proofs.Knowing.{walk_fits, nothing_behind, write_changes}
 use Rattle.program_codegen.proofs.Walk.{plain_length}
 use Rattle.program_codegen.proofs.Shapes.{plain_fits, call_fits}
@@ -45,10 +47,6 @@ use Rattle.program_codegen.proofs.Following.{opened}
 use Rattle.program_codegen.proofs.Rows.{is_free, is_own, is_silent, list_all_of, own_free, changes_silent, read_encodable, locked_encodable, read_own, write_own, locked_own, read_short, write_short, locked_short, branch_encodable}
 use Rattle.program_codegen.proofs.Fronts.{row_words_are, Front, row_front, line_front, front_append, Shape, silent_front, free_front, change_front}
 use Rattle.program_codegen.proofs.Endings.{leave_shape, above_codes, below_codes}
-
-not_true : (b : Bool) → not b ≡ true → b ≡ false
-not_true true e = absurd (cc e)
-not_true false e = refl
 
 module _ (site : Site) where
   -- ---- the lines of operations that may fault
@@ -98,14 +96,6 @@ module _ (site : Site) where
     lit≤ tt,
   )
 
-nil_lines : (xs : List Line) → xs ++ [] ≡ xs
-nil_lines [] = refl
-nil_lines (x ∷ xs) = ap (λ ys. x ∷ ys) (nil_lines xs)
-
-nil_addresses : (xs : List ℕ) → xs ++ [] ≡ xs
-nil_addresses [] = refl
-nil_addresses (x ∷ xs) = ap (λ ys. x ∷ ys) (nil_addresses xs)
-
 module _ (site : Site) (codes : List AlphaInstr) (after_fits : site.after < 2 ^ 32) (encodable : All IsEncodable codes) (few : length codes ≤ 32) (only : list_all (fine (may_be_written site.sources)) codes ≡ true) (together : KeepsTogether site.sources) where
   abbrev IsQuiet : Known → Type 0
   IsQuiet known = known.changed ≡ false → (known.codes ≡ false) × (known.psw ≡ false)
@@ -131,8 +121,8 @@ module _ (site : Site) (codes : List AlphaInstr) (after_fits : site.after < 2 ^ 
 
   ending_shape : (exit : Exit) (program : List Micro) (known : Known) → program ≡ [] → IsExit exit → exit_fits known exit ≡ true → sources_fit site.sources known ≡ true → IsQuiet known → ShapeOf known.changed (Leave exit ∷ program)
   ending_shape exit [] known e is fits come quiet =
-      subst (λ lines. Shape site known.changed codes (exit_addresses site.after exit ++ []) 59 lines) (sym (nil_lines (leaving site codes exit)))
-      (subst (λ addresses. Shape site known.changed codes addresses 59 (leaving site codes exit)) (sym (nil_addresses (exit_addresses site.after exit))) (leave_shape site codes after_fits encodable few only together exit known is fits come quiet))
+      subst (λ lines. Shape site known.changed codes (exit_addresses site.after exit ++ []) 59 lines) (sym (append-nil (leaving site codes exit)))
+      (subst (λ addresses. Shape site known.changed codes addresses 59 (leaving site codes exit)) (sym (append-nil (exit_addresses site.after exit))) (leave_shape site codes after_fits encodable few only together exit known is fits come quiet))
   ending_shape exit (operation ∷ program) known e is fits come quiet = absurd (cc e)
 
   pub program_shape : (program : List Micro) (known : Known) → known.ended ≡ false → is_ended (walk site.sources known program) ≡ true → AllHaveWords site.sources program → IsQuiet known → ShapeOf known.changed program
@@ -147,47 +137,47 @@ module _ (site : Site) (codes : List AlphaInstr) (after_fits : site.after < 2 ^ 
   program_shape (Probe place count write ∷ program) known off e words quiet =
       let behind = behind_access (record known { checked = At place count write }) in
       let x = walk_fits (check_fits known place count) behind (λ behind. walk site.sources behind program) (opened site.sources known (Probe place count write) program off e) in
-      let y = both (not known.changed) (holds_longword known place) (both (is_count count) (place_fits known place) x.0).1 in
+      let y = and_parts (not known.changed) (holds_longword known place) (and_parts (is_count count) (place_fits known place) x.0).1 in
       let front = probe_lines site place count write words.0.0 in
-      free_front site codes (addresses_of site.after program) known.changed 2 (program_words site.sources program + 59) _ _ (program_lines site codes program) (not_true known.changed y.0) front.0 front.1 front.2 (omega arith)
+      free_front site codes (addresses_of site.after program) known.changed 2 (program_words site.sources program + 59) _ _ (program_lines site codes program) (not-true known.changed y.0) front.0 front.1 front.2 (omega arith)
       (program_shape program behind off x.1 words.1 quiet)
   program_shape (Refuse when ∷ program) known off e words quiet =
       let x = walk_fits (not known.changed && holds known when) known (λ behind. walk site.sources behind program) (opened site.sources known (Refuse when) program off e) in
-      let y = both (not known.changed) (holds known when) x.0 in
+      let y = and_parts (not known.changed) (holds known when) x.0 in
       let front = refuse_lines site when words.0 in
-      free_front site codes (addresses_of site.after program) known.changed 2 (program_words site.sources program + 59) _ _ (program_lines site codes program) (not_true known.changed y.0) front.0 front.1 front.2 (omega arith)
+      free_front site codes (addresses_of site.after program) known.changed 2 (program_words site.sources program + 59) _ _ (program_lines site codes program) (not-true known.changed y.0) front.0 front.1 front.2 (omega arith)
       (program_shape program known off x.1 words.1 quiet)
   program_shape (Read to place count ∷ program) known off e words quiet =
       let behind = behind_access (behind_write to (holding_of (nat_le count 4)) known) in
       let same = write_changes to (holding_of (nat_le count 4)) known in
       let x = walk_fits (read_fits known to place count) behind (λ behind. walk site.sources behind program) (opened site.sources known (Read to place count) program off e) in
       let y = all_three (is_count count) (are_apart to place) (reference_fits known place count false) x.0 in
-      let z = both (not known.changed) (holds_longword known place) (both (place_fits known place) (is_checked known.checked place count false) y.2).0 in
+      let z = and_parts (not known.changed) (holds_longword known place) (and_parts (place_fits known place) (is_checked known.checked place count false) y.2).0 in
       let place_high = words.0.0.high in
       let to_high = words.0.1.high in
       let to_below : 21 + to ≤ 24 = omega arith in
       let front = faulting_row site (count_of (Read to place count)) (read_code (21 + place) count (21 + to)) (read_encodable (21 + place) count (21 + to) words.0.2 (omega arith) (omega arith)) (read_own (21 + to) words.0.1.low to_below (21 + place) count words.0.2) (read_short (21 + place) count (21 + to) words.0.2) in
-      free_front site codes (addresses_of site.after program) known.changed (count_of (Read to place count)) (program_words site.sources program + 59) _ _ (program_lines site codes program) (not_true known.changed z.0) front.0 front.1 front.2 (omega arith)
+      free_front site codes (addresses_of site.after program) known.changed (count_of (Read to place count)) (program_words site.sources program + 59) _ _ (program_lines site codes program) (not-true known.changed z.0) front.0 front.1 front.2 (omega arith)
       (subst (λ changed. ShapeOf changed program) same.changed (program_shape program behind (same.ended ∙ off) x.1 words.1 (λ c. let y = quiet (sym same.changed ∙ c) in (same.codes ∙ y.0, same.psw ∙ y.1))))
   program_shape (Write place count source ∷ program) known off e words quiet =
       let x = walk_fits (write_fits known place count source) (behind_access known) (λ behind. walk site.sources behind program) (opened site.sources known (Write place count source) program off e) in
       let y = all_four (is_count count) (are_apart place source) (holds known source) (reference_fits known place count true) x.0 in
-      let z = both (not known.changed) (holds_longword known place) (both (place_fits known place) (is_checked known.checked place count true) y.3).0 in
+      let z = and_parts (not known.changed) (holds_longword known place) (and_parts (place_fits known place) (is_checked known.checked place count true) y.3).0 in
       let front = faulting_row site (count_of (Write place count source)) (write_code (21 + place) count (21 + source)) (encoded (21 + place) count (21 + source) words.0.2 words.0.0 words.0.1) (write_own (21 + place) count (21 + source) words.0.2) (write_short (21 + place) count (21 + source) words.0.2) in
-      free_front site codes (addresses_of site.after program) known.changed (count_of (Write place count source)) (program_words site.sources program + 59) _ _ (program_lines site codes program) (not_true known.changed z.0) front.0 front.1 front.2 (omega arith)
+      free_front site codes (addresses_of site.after program) known.changed (count_of (Write place count source)) (program_words site.sources program + 59) _ _ (program_lines site codes program) (not-true known.changed z.0) front.0 front.1 front.2 (omega arith)
       (program_shape program (behind_access known) off x.1 words.1 quiet)
   program_shape (Locked to place kind source ∷ program) known off e words quiet =
       let behind = behind_access (behind_write to Wide known) in
       let same = write_changes to Wide known in
       let x = walk_fits (locked_fits known to place (locked_count kind) source) behind (λ behind. walk site.sources behind program) (opened site.sources known (Locked to place kind source) program off e) in
       let y = all_five (are_apart to place) (are_apart place source) (are_apart source to) (holds known source) (reference_fits known place (locked_count kind) true) x.0 in
-      let z = both (not known.changed) (holds_longword known place) (both (place_fits known place) (is_checked known.checked place (locked_count kind) true) y.4).0 in
+      let z = and_parts (not known.changed) (holds_longword known place) (and_parts (place_fits known place) (is_checked known.checked place (locked_count kind) true) y.4).0 in
       let place_high = words.0.0.high in
       let source_high = words.0.1.high in
       let to_high = words.0.2.high in
       let to_below : 21 + to ≤ 24 = omega arith in
       let front = faulting_row site 12 (locked_code kind (21 + place) (21 + source) (21 + to)) (locked_encodable kind (21 + place) (21 + source) (21 + to) (omega arith) (omega arith) (omega arith)) (locked_own (21 + to) words.0.2.low to_below (21 + place) (21 + source) kind) (locked_short kind (21 + place) (21 + source) (21 + to)) in
-      free_front site codes (addresses_of site.after program) known.changed 12 (program_words site.sources program + 59) _ _ (program_lines site codes program) (not_true known.changed z.0) front.0 front.1 front.2 (omega arith)
+      free_front site codes (addresses_of site.after program) known.changed 12 (program_words site.sources program + 59) _ _ (program_lines site codes program) (not-true known.changed z.0) front.0 front.1 front.2 (omega arith)
       (subst (λ changed. ShapeOf changed program) same.changed (program_shape program behind (same.ended ∙ off) x.1 words.1 (λ c. let y = quiet (sym same.changed ∙ c) in (same.codes ∙ y.0, same.psw ∙ y.1))))
   program_shape (Commit number source ∷ program) known off e words quiet =
       let x = walk_fits (commit_fits known number source) (behind_commit number known) (λ behind. walk site.sources behind program) (opened site.sources known (Commit number source) program off e) in
@@ -205,5 +195,5 @@ module _ (site : Site) (codes : List AlphaInstr) (after_fits : site.after < 2 ^ 
       (program_shape program (record known { psw = true; changed = true }) off x.1 words.1 (λ c. absurd (cc c)))
   program_shape (Leave exit ∷ program) known off e words quiet =
       let x = walk_fits (exit_fits known exit && sources_fit site.sources known) (record known { ended = true }) (λ behind. walk site.sources behind program) (opened site.sources known (Leave exit) program off e) in
-      let fits = both (exit_fits known exit) (sources_fit site.sources known) x.0 in
+      let fits = and_parts (exit_fits known exit) (sources_fit site.sources known) x.0 in
       ending_shape exit program known (nothing_behind site.sources (record known { ended = true }) program refl x.1) words.0 fits.0 fits.1 quiet

@@ -1,8 +1,9 @@
 -- Where a block stands: its lines in their place, and the registers at its start.
-use Rattle.std.proofs.Common.{◌≡◌, ℕ, zero, suc, ◌+◌, ◌-◌, ◌*◌, ◌/◌, ◌%◌, ◌^◌, ◌<◌, ◌≤◌, refl, sym, ap, ◌∙◌, subst, arith, List, [], ◌∷◌, Option, Some, None, Bool, true, false, cond, eqb-true}
+use Rattle.std.proofs.Common.{◌≡◌, ℕ, zero, suc, ◌+◌, ◌*◌, ◌/◌, ◌%◌, ◌^◌, ◌<◌, ◌≤◌, refl, sym, ap, ◌∙◌, subst, arith, List, [], ◌∷◌, Option, Some, None, Bool, true, false, cond, eqb-true}
 use Rattle.std.specs.Prelude.{◌==◌, ◌&&◌, ◌||◌, nat_lt, nat_le, slice_get, slice_index}
 use Rattle.std.proofs.lemmas.Bool.Decides.{nat_tests}
 use Rattle.std.proofs.lemmas.List.{get_or-set_same}
+use Rattle.std.proofs.lemmas.Bool.{le-ltb}
 use Rattle.vt_words.specs.Values.{bit}
 use Rattle.vax_form.specs.State.{with_core}
 use Rattle.vax_form.specs.declared.state.Flags.{Flags}
@@ -14,6 +15,7 @@ use Rattle.exception_records.specs.Shown.{Shows, registers_shown, psw_shown, psw
 use Rattle.exception_records.specs.declared.rules.Rules.{Rules}
 use Rattle.micro_ops.specs.Known.{at_start, held}
 use Rattle.micro_ops.specs.Meaning.{started}
+use Rattle.micro_ops.proofs.Held.{by_six}
 use Rattle.block_law.specs.Blocks.{Exit, exit_words, is_exit_word}
 use Rattle.block_law.specs.CodeWords.{codes_in}
 use Rattle.block_law.specs.Follows.{LeadsTo}
@@ -23,8 +25,7 @@ use Rattle.program_codegen.specs.declared.lines.Line.{Line}
 use Rattle.program_codegen.specs.declared.points.Site.{Site}
 use Rattle.program_codegen.specs.Words.{with_entry, exits_from}
 use Rattle.program_codegen.proofs.Numbers.{bit_small}
-use Rattle.program_codegen.proofs.Knowing.{by_six}
-use Rattle.program_codegen.proofs.Walk.{skip_behind, IsMarked, HasLine, HasLines}
+use Rattle.program_codegen.proofs.Walk.{skip_behind, IsMarked, HasLine, HasLines, counted}
 use Rattle.program_codegen.proofs.Holding.{Holds, HoldsAs}
 
 -- ---- the registers at the start
@@ -135,19 +136,12 @@ module _ (exits : List Exit) where
     where
       by : (o : Option ℕ) → IsWholeLine o skip → is_exit_word exits q ≡ (nat_lt q (w + skip) || is_exit_word (with_entry o w (exits_from (w + 1) lines)) q)
           → is_exit_word exits q ≡ (nat_lt q (w + 1 + skip_behind o skip) || is_exit_word (exits_from (w + 1) lines) q)
-      by None whole e = e ∙ ap (λ b. b || is_exit_word (exits_from (w + 1) lines) q) (counted skip)
-        where
-          counted : (skip : ℕ) → nat_lt q (w + skip) ≡ nat_lt q (w + 1 + (skip - 1))
-          counted zero = let a : nat_lt q (w + 0) ≡ false = grind (arith, nat_tests) in let b : nat_lt q (w + 1 + 0) ≡ false = grind (arith, nat_tests) in a ∙ sym b
-          counted (suc skip) = let same : w + suc skip ≡ w + 1 + (suc skip - 1) = omega arith in ap (nat_lt q) same
+      by None whole e = e ∙ ap (λ b. b || is_exit_word (exits_from (w + 1) lines) q) (counted w q skip (omega arith))
       by (Some address) whole e =
           let low : nat_le w q ≡ true = grind (arith, nat_tests) in
-          let none : nat_lt q (w + skip) ≡ false = not_less q (w + skip) (omega arith) in
+          let none : nat_lt q (w + skip) ≡ false = le-ltb q (w + skip) (omega arith) in
           e ∙ (ap (λ b. b || ((nat_le w q && nat_lt q (w + 3)) || is_exit_word (exits_from (w + 1) lines) q)) none
           ∙ (ap (λ b. (b && nat_lt q (w + 3)) || is_exit_word (exits_from (w + 1) lines) q) low ∙ ap (λ n. nat_lt q n || is_exit_word (exits_from (w + 1) lines) q) (let same : w + 3 ≡ w + 1 + 2 = omega arith in same)))
-        where
-          not_less : (a b : ℕ) → b ≤ a → nat_lt a b ≡ false
-          not_less a b le = grind (arith, nat_tests)
 
   no_exit_here : (w : ℕ) (line : Line) (lines : List Line) → line.exit ≡ None → ExitWordsAre exits 0 w (line ∷ lines) → is_exit_word exits w ≡ false
   no_exit_here w line lines none are =

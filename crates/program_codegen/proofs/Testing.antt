@@ -14,6 +14,7 @@ use Rattle.alpha_encode.specs.declared.instr.Second.TheVariants.{Literal}
 use Rattle.alpha_meaning.specs.Act.{target_of}
 use Rattle.alpha_meaning.specs.Result.{plus, times}
 use Rattle.alpha_meaning.specs.State.{Regs, put, at_place}
+use Rattle.alpha_meaning.proofs.Registers.{put_other}
 use Rattle.exception_records.specs.Shown.{still_held}
 use Rattle.micro_ops.specs.declared.known.Known.{Known}
 use Rattle.micro_ops.specs.declared.program.Exit.{Exit}
@@ -28,7 +29,6 @@ use Rattle.program_codegen.specs.declared.points.Site.{Site}
 use Rattle.program_codegen.specs.Words.{plain, marked, trapping, overflow_made, overflow_register, tells_overflow, may_overflow, load_pc, overflow_lines, tested_lines, may_trap, trap_lines}
 use Rattle.program_codegen.specs.Programs.{IsExit, is_narrow}
 use Rattle.program_codegen.proofs.Walk.{Within, next, stands, is_inside, row_rest, plain_length}
-use Rattle.program_codegen.proofs.Accessing.{put_other}
 use Rattle.program_codegen.proofs.Coded.{Coded, left_is, coded_still}
 use Rattle.program_codegen.proofs.Exiting.{kept_by_put, kept_apart}
 use Rattle.program_codegen.proofs.Trapping.{Overflows, left_overflow, not_set, is_overflow, untrapped, makes, pc_left, ExitHolds, loads_pc}

@@ -2,17 +2,20 @@
 use Rattle.std.proofs.Common.{◌≡◌, ℕ, ◌+◌, ◌/◌, ◌%◌, ◌^◌, ◌<◌, ◌≤◌, refl, sym, ap, ◌∙◌, subst, arith, List, ◌∷◌, ◌++◌, length, map, None, Bool, true, false, lit<, lit≤}
 use Rattle.std.specs.Prelude.{pos, ◌==◌, ◌&&◌, ◌||◌, not, bit_or, if◌then◌else◌}
 use Rattle.std.proofs.lemmas.Bool.Decides.{nat_tests}
+use Rattle.std.proofs.lemmas.Bool.{not-true}
 use Rattle.vt_words.specs.Values.{bit}
 use Rattle.vax_form.specs.Size.{size_of}
 use Rattle.vax_form.specs.Tree.{Tree}
 use Rattle.vax_form.specs.declared.instr.Size.{Size}
 use Rattle.vax_form.specs.declared.instr.Size.TheVariants.{Byte, Word, Long, Quad}
 use Rattle.vax_form.specs.declared.state.Flags.{Flags}
+use Rattle.vax_form.specs.declared.instr.Width.{Width}
 use Rattle.alpha_encode.specs.declared.instr.AlphaInstr.TheVariants.{Branch}
 use Rattle.alpha_encode.specs.declared.instr.BranchOp.TheVariants.{Br, Beq}
 use Rattle.alpha_meaning.specs.Act.{Goes, target_of}
 use Rattle.alpha_meaning.specs.Pieces.{Only, Over}
 use Rattle.alpha_meaning.specs.State.{Regs, put, at_place}
+use Rattle.alpha_meaning.proofs.Registers.{put_other}
 use Rattle.exception_records.specs.Codes.{codes_by, is_ready}
 use Rattle.exception_records.specs.Shown.{code_shown, still_held}
 use Rattle.exception_records.specs.declared.rules.CodeRule.{CodeRule}
@@ -27,10 +30,11 @@ use Rattle.micro_ops.specs.Leaving.{SignsComeFrom}
 use Rattle.micro_ops.specs.Uses.{is_quad}
 use Rattle.micro_ops.specs.Meaning.{Standing, flag_of}
 use Rattle.micro_ops.specs.Values.{low}
-use Rattle.compute_sequences.specs.Overflow.{IsOverflow, overflows}
+use Rattle.compute_sequences.specs.Overflow.{IsOverflow, overflows, overflow_code}
 use Rattle.compute_sequences.specs.Promises.{Leaves}
 use Rattle.compute_sequences.specs.Registers.{may_change}
 use Rattle.compute_sequences.specs.declared.overflow.Arithmetic.TheVariants.{Sum, Difference}
+use Rattle.compute_sequences.specs.declared.overflow.Arithmetic.{Arithmetic}
 use Rattle.compute_sequences.proofs.OverflowLaws.{leaves_overflow}
 use Rattle.micro_ops.specs.Sources.{is_written, codes_written_by}
 use Rattle.block_law.specs.Placements.{Placement}
@@ -42,7 +46,6 @@ use Rattle.program_codegen.specs.Programs.{IsExit, is_narrow}
 use Rattle.program_codegen.proofs.Numbers.{same_bits, copied}
 use Rattle.program_codegen.proofs.Walk.{Within, next, stands, is_inside, row_words, row_rest, row_length}
 use Rattle.program_codegen.proofs.Computing.{any_kind}
-use Rattle.program_codegen.proofs.Accessing.{put_other}
 use Rattle.program_codegen.proofs.Coded.{Coded, bit_of}
 use Rattle.program_codegen.proofs.Exiting.{exit_value, loads}
 
@@ -74,22 +77,16 @@ from_bit n lt e = grind (arith, nat_tests, e)
 
 -- where the rule says that V is 0
 told_zero : (rule : CodeRule) (x y : ℕ) → tells_overflow rule ≡ false → (is_ready rule ≡ false) × ((codes_by rule x y).v ≡ false)
-told_zero code_rules.Ready x y e = absurd (cc e)
 told_zero code_rules.Zero x y e = (refl, refl)
 told_zero (code_rules.Result size) x y e = (refl, refl)
-told_zero (code_rules.Add size) x y e = absurd (cc e)
-told_zero (code_rules.Sub size) x y e = absurd (cc e)
 told_zero (code_rules.Compare size) x y e = (refl, refl)
+told_zero rule x y e = absurd (cc e)
 
 may_is_values : (source : CodeSource) → may_overflow source ≡ true → (is_from_values source ≡ true) × (is_from_psw source ≡ false) × (is_written source ≡ true)
-may_is_values Kept e = absurd (cc e)
-may_is_values Zero e = absurd (cc e)
-may_is_values (Result size) e = absurd (cc e)
 may_is_values (Add size) e = (refl, refl, refl)
 may_is_values (Sub size) e = (refl, refl, refl)
-may_is_values (Compare size) e = absurd (cc e)
 may_is_values (Computed size) e = (refl, refl, refl)
-may_is_values Psw e = absurd (cc e)
+may_is_values source e = absurd (cc e)
 
 -- what is known where a program leaves
 pub record Overflows (site : Site) (known : Known) (standing : Standing) (found : ℕ) : Type 0 where
@@ -152,10 +149,6 @@ module _ (p : Placement) (site : Site) (known : Known) (standing : Standing) (fo
   size_same Long e = refl
   size_same Quad e = absurd (cc e)
 
-  not_true : (b : Bool) → not b ≡ true → b ≡ false
-  not_true true e = absurd (cc e)
-  not_true false e = refl
-
   module _ (regs : Regs) (c : Coded p site known standing regs) (may : may_overflow site.sources.nzv ≡ true) where
     told_is : (rule : CodeRule) → site.behind.v ≡ rule → is_ready rule ≡ false → bit (codes_by rule (regs 28) (regs 29)).v ≡ left_overflow standing
     told_is rule is ready =
@@ -169,6 +162,21 @@ module _ (p : Placement) (site : Site) (known : Known) (standing : Standing) (fo
         let shown : code_shown site.behind.v (still_held p.held p.written).v (regs 18 % 2 == 1) (codes_by site.behind.v (regs 28) (regs 29)).v ≡ (regs 18 % 2 == 1) = rw is refl in
         same_bits (regs 18) (left_overflow standing) (c.form.codes 18 (lit≤ tt) (lit< tt)) (flag_small standing.state.psw) (sym shown ∙ v)
 
+    by_words : (arithmetic : Arithmetic) (width : Width) (need pc : ℕ) (rest : List Line) (t : Tree)
+        → bit (overflows arithmetic width (low (size_of width) (regs 28)) (low (size_of width) (regs 29))) ≡ left_overflow standing
+        → Within p site.behind pc (map plain (overflow_code arithmetic width 28 29 24) ++ rest) → 1 ≤ length rest
+        → ((g : Regs) → Only changed_for_trap regs g → g 24 ≡ left_overflow standing → Always p None need (at_place g (pc + length (overflow_code arithmetic width 28 29 24))) t)
+        → Always p None (length (overflow_code arithmetic width 28 29 24) + need) (at_place regs pc) t
+    by_words arithmetic width need pc rest t told w some behind =
+        let words = overflow_code arithmetic width 28 29 24 in
+        let count = row_length p site.behind words rest in
+        let end = w.high in
+        let near = w.near in
+        runs p None need pc (length words) (Leaves (IsOverflow arithmetic width 28 29 regs) 24 regs) any_kind (λ done. t) None regs (Over tt) t w.low (omega arith)
+        (λ q gt le. is_inside p site.behind pc q (map plain words ++ rest) w gt (omega arith)) (refl, refl)
+        (λ n. leaves_overflow arithmetic width 28 29 24 (record { low = lit≤ tt; high = lit≤ tt }) (lit< tt) (lit< tt) (λ e. absurd (omega arith)) regs p.fetch _ pc n (omega arith) (row_words p site.behind pc words rest w))
+        (λ done g l. behind g (λ n out. l.only n out) (l.holds ∙ told))
+
     pub makes : (need pc : ℕ) (rest : List Line) (t : Tree) (rule : CodeRule) → site.behind.v ≡ rule → tells_overflow rule ≡ true → is_narrow rule ≡ true
         → Within p site.behind pc (map plain (overflow_made rule) ++ rest) → 1 ≤ length rest
         → ((g : Regs) → Only changed_for_trap regs g → g (overflow_register rule) ≡ left_overflow standing → Always p None need (at_place g (pc + length (overflow_made rule))) t)
@@ -178,14 +186,7 @@ module _ (p : Placement) (site : Site) (known : Known) (standing : Standing) (fo
         subst (λ q. Always p None (0 + need) (at_place regs q) t) (sym here)
         (roomy p None need (0 + need) (at_place regs (pc + 0)) t (omega arith) (behind regs (λ n out. refl) (ready_is is)))
     makes need pc rest t (code_rules.Add size) is tells narrow w some behind =
-        let words = overflow_made (code_rules.Add size) in
-        let count = row_length p site.behind (overflow_made (code_rules.Add size)) rest in
-        let end = w.high in
-        let near = w.near in
-        runs p None need pc (length words) (Leaves (IsOverflow Sum (width_of size) 28 29 regs) 24 regs) any_kind (λ done. t) None regs (Over tt) t w.low (omega arith)
-        (λ q gt le. is_inside p site.behind pc q (map plain (overflow_made (code_rules.Add size)) ++ rest) w gt (omega arith)) (refl, refl)
-        (λ n. leaves_overflow Sum (width_of size) 28 29 24 (record { low = lit≤ tt; high = lit≤ tt }) (lit< tt) (lit< tt) (λ e. absurd (omega arith)) regs p.fetch _ pc n (omega arith) (row_words p site.behind pc (overflow_made (code_rules.Add size)) rest w))
-        (λ done g l. behind g (λ n out. l.only n out) (l.holds ∙ (sum_same size (not_true (is_quad size) narrow) ∙ told_is (code_rules.Add size) is refl)))
+        by_words Sum (width_of size) need pc rest t (sum_same size (not-true (is_quad size) narrow) ∙ told_is (code_rules.Add size) is refl) w some behind
       where
         sum_same : (size : Size) → is_quad size ≡ false → bit (overflows Sum (width_of size) (low (size_of (width_of size)) (regs 28)) (low (size_of (width_of size)) (regs 29))) ≡ bit (codes_by (code_rules.Add size) (regs 28) (regs 29)).v
         sum_same Byte e = refl
@@ -193,23 +194,14 @@ module _ (p : Placement) (site : Site) (known : Known) (standing : Standing) (fo
         sum_same Long e = refl
         sum_same Quad e = absurd (cc e)
     makes need pc rest t (code_rules.Sub size) is tells narrow w some behind =
-        let words = overflow_made (code_rules.Sub size) in
-        let count = row_length p site.behind (overflow_made (code_rules.Sub size)) rest in
-        let end = w.high in
-        let near = w.near in
-        runs p None need pc (length words) (Leaves (IsOverflow Difference (width_of size) 28 29 regs) 24 regs) any_kind (λ done. t) None regs (Over tt) t w.low (omega arith)
-        (λ q gt le. is_inside p site.behind pc q (map plain (overflow_made (code_rules.Sub size)) ++ rest) w gt (omega arith)) (refl, refl)
-        (λ n. leaves_overflow Difference (width_of size) 28 29 24 (record { low = lit≤ tt; high = lit≤ tt }) (lit< tt) (lit< tt) (λ e. absurd (omega arith)) regs p.fetch _ pc n (omega arith) (row_words p site.behind pc (overflow_made (code_rules.Sub size)) rest w))
-        (λ done g l. behind g (λ n out. l.only n out) (l.holds ∙ (difference_same size (not_true (is_quad size) narrow) ∙ told_is (code_rules.Sub size) is refl)))
+        by_words Difference (width_of size) need pc rest t (difference_same size (not-true (is_quad size) narrow) ∙ told_is (code_rules.Sub size) is refl) w some behind
       where
         difference_same : (size : Size) → is_quad size ≡ false → bit (overflows Difference (width_of size) (low (size_of (width_of size)) (regs 28)) (low (size_of (width_of size)) (regs 29))) ≡ bit (codes_by (code_rules.Sub size) (regs 28) (regs 29)).v
         difference_same Byte e = refl
         difference_same Word e = refl
         difference_same Long e = refl
         difference_same Quad e = absurd (cc e)
-    makes need pc rest t code_rules.Zero is tells narrow w some behind = absurd (cc tells)
-    makes need pc rest t (code_rules.Result size) is tells narrow w some behind = absurd (cc tells)
-    makes need pc rest t (code_rules.Compare size) is tells narrow w some behind = absurd (cc tells)
+    makes need pc rest t rule is tells narrow w some behind = absurd (cc tells)
 
 -- ---- the PC behind the instruction
 abbrev pub pc_left : Site → Standing → Exit → ℕ

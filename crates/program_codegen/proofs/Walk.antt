@@ -1,5 +1,7 @@
 -- Lines in their place, and steps over them.
-use Rattle.std.proofs.Common.{◌≡◌, ℕ, zero, suc, ◌+◌, ◌-◌, ◌^◌, ◌<◌, ◌≤◌, refl, ap, ◌∙◌, subst, arith, List, [], ◌∷◌, ◌++◌, length, map, Option, Some, None, length-append}
+use Rattle.std.proofs.Common.{◌≡◌, ℕ, zero, suc, ◌+◌, ◌-◌, ◌^◌, ◌<◌, ◌≤◌, refl, ap, ◌∙◌, subst, arith, List, [], ◌∷◌, ◌++◌, length, map, Option, Some, None, length-append, sym, false}
+use Rattle.std.proofs.lemmas.Bool.Decides.{nat_tests}
+use Rattle.std.specs.Prelude.{nat_lt}
 use Rattle.alpha_encode.specs.declared.instr.AlphaInstr.{AlphaInstr}
 use Rattle.alpha_meaning.specs.Pieces.{HasAt}
 use Rattle.exception_records.specs.declared.points.Point.{Point}
@@ -15,6 +17,11 @@ use Rattle.program_codegen.specs.Words.{plain, exit_lines}
 abbrev pub skip_behind : (exit : Option ℕ) → (skip : ℕ) → ℕ
 skip_behind None skip = skip - 1
 skip_behind (Some address) skip = 2
+
+-- of the words that an exit still has, those behind a word
+pub counted : (w q skip : ℕ) → w < q → nat_lt q (w + skip) ≡ nat_lt q (w + 1 + (skip - 1))
+counted w q zero lt = let a : nat_lt q (w + 0) ≡ false = grind (arith, nat_tests) in let b : nat_lt q (w + 1 + 0) ≡ false = grind (arith, nat_tests) in a ∙ sym b
+counted w q (suc skip) lt = let same : w + suc skip ≡ w + 1 + (suc skip - 1) = omega arith in ap (nat_lt q) same
 
 -- the line's point stands there
 abbrev pub IsMarked : Option Point → (found : Option Point) → Type 0

@@ -34,7 +34,7 @@ fn block_in(
 {
     let mut lines = program_lines(alloc, site, codes, program)?;
     mark_first(&mut lines, point_of(site));
-    block_of(alloc, &lines).map_err(|_| WantOfMemory)
+    Ok(block_of(alloc, &lines)?)
 }
 
 /// The block of an instruction that does what its program means. `codes` are the words that leave its condition codes, as

@@ -3,7 +3,7 @@ ghost use Rattle.std.specs.Prelude.{◌≡◌, ◌++◌, ◌≤◌, length, map,
 ghost use Rattle.program_codegen.specs.Words.{plain, width_of, overflow_made, overflow_register, tells_overflow, may_overflow, load_pc, overflow_lines, tested_lines, may_trap, trap_lines, departing, leaving};
 ghost use Rattle.program_codegen.specs.Programs.{IsExit, is_narrow};
 
-use crate::lines::{Line, copy, holder, load_address, marked, plain, push_exit, push_words};
+use crate::lines::{Line, RAISE, copy, holder, load_address, marked, plain, push_exit, push_words};
 use crate::points::{BREAKPOINT, Site, point_of, raising, trapping};
 use alpha_encode::registers::{
     ADDRESS, OVERFLOW, RULE_FIRST, RULE_SECOND, STATUS, TARGET, TEMPORARIES, ZERO,
@@ -29,8 +29,6 @@ const INTEGER_OVERFLOW: i16 = 1;
 const LOOK_UP: AlphaInstr = AlphaInstr::Pal(pal::LOOK_UP);
 
 const SERVE: AlphaInstr = AlphaInstr::Pal(pal::SERVE);
-
-const RAISE: AlphaInstr = AlphaInstr::Pal(pal::RAISE);
 
 const TRAP: AlphaInstr = AlphaInstr::Pal(pal::TRAP);
 
@@ -180,11 +178,10 @@ fn push_trap(
 {
     if may_trap(site) {
         let made = overflow_made(alloc, site.behind.v)?;
-        let trap = overflow_lines(alloc, site, exit).map_err(|_| WantOfMemory)?;
-        push_tested(lines, site.behind.v, &made, &trap).map_err(|_| WantOfMemory)
-    } else {
-        Ok(())
+        let trap = overflow_lines(alloc, site, exit)?;
+        push_tested(lines, site.behind.v, &made, &trap)?;
     }
+    Ok(())
 }
 
 fn push_service(lines: &mut Vec<Line>, site: Site, temp: u8) -> Result<(), AllocError>
@@ -241,7 +238,8 @@ pub(crate) fn push_leaving(
     requires narrow { is_narrow site.behind.v ≡ true }
     ensures { OnOk result (lines.new.items ≡ lines.old.items ++ leaving site codes.now exit) }
 {
-    push_words(lines, codes).map_err(|_| WantOfMemory)?;
+    push_words(lines, codes)?;
     push_trap(alloc, lines, site, exit)?;
-    push_departing(lines, site, exit).map_err(|_| WantOfMemory)
+    push_departing(lines, site, exit)?;
+    Ok(())
 }

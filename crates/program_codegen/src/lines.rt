@@ -3,9 +3,12 @@ ghost use Rattle.std.specs.Prelude.{◌≡◌, ◌++◌, ◌≤◌, Some, None, 
 ghost use Rattle.program_codegen.specs.Words.{plain, marked, idle, exit_lines, holder, copy, load_address, with_first, words_of, points_from, exits_from, block_of};
 
 use alpha_encode::registers::{TEMPORARIES, ZERO};
-use alpha_encode::{AlphaInstr, OperateOp, load_high, load_low, operate, operate_by};
+use alpha_encode::{AlphaInstr, OperateOp, load_high, load_low, operate, operate_by, pal};
 use exception_records::{Block, Point};
 use std::alloc::{AllocError, Global};
+
+/// The call that raises a fault.
+pub(crate) const RAISE: AlphaInstr = AlphaInstr::Pal(pal::RAISE);
 
 /// A word of a block, with its point, and the address to which the exit goes that begins there.
 #[derive(Clone, Copy)]

@@ -4,7 +4,7 @@ ghost use Rattle.program_codegen.specs.Words.{plain, lines_of, program_lines};
 ghost use Rattle.program_codegen.specs.Programs.{IsRanged, AllRanged, HasWords, AllFitWords, is_narrow};
 
 use crate::leaving::push_leaving;
-use crate::lines::{Line, copy, holder, marked, plain, push_words};
+use crate::lines::{Line, RAISE, copy, holder, marked, plain, push_words};
 use crate::points::{RESERVED_OPERAND, Site, probing, raising};
 use alpha_encode::registers::{ADDRESS, STATUS};
 use alpha_encode::{AlphaInstr, BranchOp, OperateOp, branch, operate_by, pal};
@@ -19,8 +19,6 @@ const STATUS_BITS: u8 = 0xF0;
 
 const PROBE: AlphaInstr = AlphaInstr::Pal(pal::PROBE);
 
-const RAISE: AlphaInstr = AlphaInstr::Pal(pal::RAISE);
-
 fn push_line(lines: &mut Vec<Line>, line: Line) -> Result<(), WantOfMemory>
     ensures { OnOk result (lines.new.items ≡ lines.old.items ++ (line ∷ [])) }
 {
@@ -31,15 +29,8 @@ fn push_line(lines: &mut Vec<Line>, line: Line) -> Result<(), WantOfMemory>
 fn push_two(lines: &mut Vec<Line>, first: Line, second: Line) -> Result<(), WantOfMemory>
     ensures { OnOk result (lines.new.items ≡ lines.old.items ++ (first ∷ second ∷ [])) }
 {
-    lines
-        .extend_from_slice(&[first, second])
-        .map_err(|_| WantOfMemory)
-}
-
-fn push_all(lines: &mut Vec<Line>, words: &[AlphaInstr]) -> Result<(), WantOfMemory>
-    ensures { OnOk result (lines.new.items ≡ lines.old.items ++ map plain words.now) }
-{
-    push_words(lines, words).map_err(|_| WantOfMemory)
+    lines.extend_from_slice(&[first, second])?;
+    Ok(())
 }
 
 /// The words of an operation, before those behind it. A computation that is left out has none: those that leave the codes
@@ -62,7 +53,8 @@ fn push_operation(
                 return Ok(());
             }
             let words = compute_words(alloc, op, size, a, b, holder(to))?;
-            push_all(lines, &words)
+            push_words(lines, &words)?;
+            Ok(())
         }
         Micro::Probe {
             place,
@@ -80,11 +72,13 @@ fn push_operation(
         ),
         Micro::Read { to, place, count } => {
             let words = read_words(alloc, holder(place), count, holder(to))?;
-            push_all(lines, &words)
+            push_words(lines, &words)?;
+            Ok(())
         }
         Micro::Write { place, count, from } => {
             let words = write_words(alloc, holder(place), count, holder(from))?;
-            push_all(lines, &words)
+            push_words(lines, &words)?;
+            Ok(())
         }
         Micro::Locked {
             to,
@@ -93,7 +87,8 @@ fn push_operation(
             from,
         } => {
             let words = locked_words(alloc, holder(place), kind, holder(from), holder(to))?;
-            push_all(lines, &words)
+            push_words(lines, &words)?;
+            Ok(())
         }
         Micro::Commit { register, from } => {
             push_line(

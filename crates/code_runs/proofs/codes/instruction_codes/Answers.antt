@@ -1,11 +1,11 @@
 use Rattle.std.proofs.Common.{◌≡◌, length, arith, ap}
 use Rattle.code_runs.proofs.Along.{are_codes, made_more, made_whole}
-use Rattle.code_runs.proofs.codes.codes.Goals as goal
+use Rattle.code_runs.proofs.codes.instruction_codes.Goals as goal
 
 pub loop-place-preserved : goal.loop-place-preserved
 loop-place-preserved c =
-    made_more c.args.instrs.now c.requires c.loop-place.codes.items c.push.new.self.items c.codes_at-own.result c.loop-place.place c.loop-place.invariant
-    c.in_ok-push.ensures.items c.codes_at-own.ensures
+    let grown = rw (← c.in_ok-map_err.ensures.variant) at c.push.ensures.items in
+    made_more c.args.instrs.now c.requires c.loop-place.codes.items c.push.new.self.items c.codes_at-own.result c.loop-place.place c.loop-place.invariant grown c.codes_at-own.ensures
 
 pub returns-clause-value : goal.returns-clause-value
 returns-clause-value c =

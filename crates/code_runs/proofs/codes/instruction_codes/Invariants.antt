@@ -1,6 +1,6 @@
 use Rattle.std.proofs.Common.{◌≡◌, ◌<◌, ℕ, length, get_or}
 use Rattle.code_runs.specs.Codes.{codes_at, no_codes}
-use Rattle.code_runs.proofs.codes.codes.Given as goal
+use Rattle.code_runs.proofs.codes.instruction_codes.Given as goal
 
 abbrev pub invariant-loop-place : goal.invariant-loop-place
 invariant-loop-place l =
