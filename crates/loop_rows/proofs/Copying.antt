@@ -1,18 +1,16 @@
 -- The block that copies a string follows its tree.
 use Rattle.std.proofs.Common.{◌≡◌, ℕ, zero, suc, ◌+◌, ◌-◌, ◌*◌, ◌/◌, ◌%◌, ◌^◌, ◌<◌, ◌≤◌, refl, sym, ap, ◌∙◌, subst, arith, List, [], ◌∷◌, length, All, Option, Some, None, Bool, true, false, inl, inr, lit<, lit≤}
-use Rattle.std.specs.Prelude.{◌==◌, ◌&&◌, ◌||◌, ◌⊎◌, not, nat_lt, nat_le, pos, negsuc, slice_get, slice_set, slice_index, if◌then◌else◌}
-use Rattle.std.specs.List.{list_any}
+use Rattle.std.specs.Prelude.{◌==◌, ◌&&◌, ◌||◌, ◌⊎◌, not, nat_lt, nat_le, pos, negsuc, slice_get, slice_set, slice_index}
 use Rattle.std.proofs.lemmas.Bool.Decides.{nat_tests}
 use Rattle.std.proofs.lemmas.List.Elements.{All-cons, All-nil}
 use Rattle.vt_words.specs.Quad.{sign_extended, ext_low, field_of, with_field_of, two as c2, four as c4, one as c1}
 use Rattle.vt_words.proofs.Fields.{extracted}
-use Rattle.vax_form.specs.Pages.{is_allowed, first_bad, allows}
-use Rattle.vax_form.specs.PageTable.{has_page}
+use Rattle.vt_words.proofs.Longwords.{same_extended, extended_again, extended_fits}
+use Rattle.vax_form.specs.Pages.{is_allowed, first_bad}
 use Rattle.vax_form.specs.Parts.{parts}
 use Rattle.vax_form.specs.State.{with_core, with_pc, register}
 use Rattle.vax_form.specs.Tree.{Tree, Check, Ask, Ends, Finish}
 use Rattle.vax_form.specs.declared.pages.Pages.{Pages}
-use Rattle.vax_form.specs.declared.pages.PageRange.{PageRange}
 use Rattle.vax_form.specs.declared.state.Flags.{Flags}
 use Rattle.vax_form.specs.declared.state.RefKind.TheVariants.{Read, Write}
 use Rattle.vax_form.specs.declared.state.VaxState.{VaxState}
@@ -24,7 +22,7 @@ use Rattle.alpha_encode.specs.declared.instr.Second.TheVariants.{Register, Liter
 use Rattle.alpha_meaning.specs.State.{Regs, put, at_place}
 use Rattle.alpha_meaning.specs.Act.{Goes, act, target_of}
 use Rattle.alpha_meaning.specs.Loops.{effect}
-use Rattle.alpha_meaning.specs.Pieces.{Fetch, Kinds, HasAt, Only, Plain}
+use Rattle.alpha_meaning.specs.Pieces.{Kinds, HasAt, Only, Plain}
 use Rattle.byte_sequences.specs.Instructions.{is_scratch, is_scratch_or}
 use Rattle.byte_sequences.specs.Plans.{read_plan, write_plan}
 use Rattle.byte_sequences.specs.Promises.{Holds, Keeps}
@@ -47,20 +45,13 @@ use Rattle.block_law.proofs.Blocks.{Begins, piece_terms}
 use Rattle.block_law.proofs.Kept.{same_status}
 use Rattle.block_law.proofs.Rounds.{fits_spare}
 use Rattle.block_law.proofs.Rules.{Always, IsAt, goes, passes, skips, probes, runs, roomy, comes_back}
+use Rattle.program_codegen.proofs.Operands.{readable, in_quad, first_passes}
+use Rattle.branch_layout.proofs.Filling.{has_by}
 use Rattle.loop_rows.specs.Copying.{behind, copied, copy_tree, copy_kinds, copy_meaning, point_of, copy_words, copy_value, Copies}
 
 -- ---- numbers
-same_long : (a b : ℕ) → a % 2 ^ 32 ≡ b % 2 ^ 32 → sign_extended a 32 ≡ sign_extended b 32
-same_long a b e = ap (λ low. if nat_lt low (2 ^ 31) then low else low + (2 ^ 64 - 2 ^ 32)) e
-
 long_low : (v : ℕ) → v < 2 ^ 32 → sign_extended v 32 % 2 ^ 32 ≡ v
 long_low v lt = grind (arith, nat_tests)
-
-long_fits : (v : ℕ) → sign_extended v 32 < 2 ^ 64
-long_fits v = grind (arith, nat_tests)
-
-long_again : (v : ℕ) → v < 2 ^ 32 → sign_extended (sign_extended v 32) 32 ≡ sign_extended v 32
-long_again v lt = same_long (sign_extended v 32) v (long_low v lt ∙ (let e : v ≡ v % 2 ^ 32 = omega arith in e))
 
 long_small : (v : ℕ) → v < 2 ^ 16 → sign_extended v 32 ≡ v
 long_small v lt = grind (arith, nat_tests)
@@ -70,7 +61,7 @@ long_next : (v : ℕ) → v < 2 ^ 32 → sign_extended ((sign_extended v 32 + 1)
 long_next v lt =
     let low = long_low v lt in
     let e : (sign_extended v 32 + 1) % 2 ^ 64 % 2 ^ 32 ≡ (v + 1) % 2 ^ 32 % 2 ^ 32 = next (sign_extended v 32) v low in
-    same_long ((sign_extended v 32 + 1) % 2 ^ 64) ((v + 1) % 2 ^ 32) e
+    same_extended ((sign_extended v 32 + 1) % 2 ^ 64) ((v + 1) % 2 ^ 32) e
   where
     next : (x v : ℕ) → x % 2 ^ 32 ≡ v → (x + 1) % 2 ^ 64 % 2 ^ 32 ≡ (v + 1) % 2 ^ 32 % 2 ^ 32
     next x v e = omega arith
@@ -90,46 +81,12 @@ low_long v lt = let low = long_low v lt in by (sign_extended v 32) low
     by : (x : ℕ) → x % 2 ^ 32 ≡ v → x / 1 % 2 ^ 32 ≡ v
     by x e = omega arith
 
--- ---- pages
-either_readable : (has writable : Bool) (rest rest' : Bool) → (rest ≡ true → rest' ≡ true) → ((has && (not true || writable)) || rest) ≡ true → ((has && (not false || writable)) || rest') ≡ true
-either_readable true writable rest rest' f e = refl
-either_readable false writable rest rest' f e = f e
-
-writable_is_readable : (ranges : List PageRange) (address : ℕ) → list_any (allows address true) ranges ≡ true → list_any (allows address false) ranges ≡ true
-writable_is_readable [] address e = absurd (cc e)
-writable_is_readable (r ∷ rs) address e = either_readable (has_page (address / 512) r) r.writable (list_any (allows address true) rs) (list_any (allows address false) rs) (writable_is_readable rs address) e
-
-readable : (pages : Pages) (address : ℕ) → is_allowed pages address true ≡ true → is_allowed pages address false ≡ true
-readable pages address e = writable_is_readable pages.ranges address e
-
--- bytes of one quadword stand in one page
-by_page : (pages : Pages) (write : Bool) (a b : ℕ) → a / 512 ≡ b / 512 → is_allowed pages a write ≡ is_allowed pages b write
-by_page pages write a b e = ap (λ page. list_any (λ (r : PageRange). has_page page r && (not write || r.writable)) pages.ranges) e
-
-in_quad : (pages : Pages) (write : Bool) (a : ℕ) → is_allowed pages a write ≡ true → is_allowed pages (a / 8 * 8) write ≡ true
-in_quad pages write a e = by_page pages write (a / 8 * 8) a (omega arith) ∙ e
-
--- where bytes pass a probe the first and the rest do
-first_passes : (pages : Pages) (write : Bool) (address count : ℕ) → first_bad pages write address (suc count) ≡ None → (is_allowed pages address write ≡ true) × (first_bad pages write ((address + 1) % 2 ^ 32) count ≡ None)
-first_passes pages write address count e = by (is_allowed pages address write) refl e
-  where
-    by : (b : Bool) → is_allowed pages address write ≡ b → (if b then first_bad pages write ((address + 1) % 2 ^ 32) count else Some address) ≡ None → (b ≡ true) × (first_bad pages write ((address + 1) % 2 ^ 32) count ≡ None)
-    by true is e = (refl, e)
-    by false is e = absurd (cc e)
-
+-- ---- parts
 -- a byte is one part
 one_part : (a : ℕ) → parts a 1 ≡ (a, 1) ∷ []
 one_part a = let e : nat_le 1 (8 - a % 8) ≡ true = grind (arith, nat_tests) in rw e refl
 
--- ---- words in their place
-has_by : (fetch : Fetch) (pc : ℕ) (is : List AlphaInstr) → ((j : ℕ) (i : AlphaInstr) → slice_get is j ≡ Some i → fetch (pc + j) ≡ Some i) → HasAt fetch pc is
-has_by fetch pc [] h = tt
-has_by fetch pc (i ∷ is) h =
-    let here : pc + 0 ≡ pc = omega arith in (
-      subst (λ x. fetch x ≡ Some i) here (h 0 i refl),
-      has_by fetch (pc + 1) is (λ j k e. let there : pc + suc j ≡ pc + 1 + j = omega arith in subst (λ x. fetch x ≡ Some k) there (h (suc j) k e)),
-    )
-
+-- ---- registers
 -- the registers between the loop's
 abbrev is_free : (register : ℕ) → Bool
 is_free register = nat_le 21 register && nat_lt register 28
@@ -225,7 +182,7 @@ module _ (pages : Pages) (after : ℕ) (code : Code) (first thread : ℕ) (state
 
     -- R22 and R24 get the addresses as numbers
     address_into : (f : Regs) (r v : ℕ) → f r ≡ sign_extended v 32 → v < 2 ^ 32 → ext_low 15 (f r) 0 ≡ v
-    address_into f r v e lt = long_extracted (f r) (subst (λ x. x < 2 ^ 64) (sym e) (long_fits v)) ∙ low_in f r v e lt
+    address_into f r v e lt = long_extracted (f r) (subst (λ x. x < 2 ^ 64) (sym e) (extended_fits v)) ∙ low_in f r v e lt
 
     -- ---- the pieces
     abbrev read_kinds : Kinds
@@ -379,8 +336,8 @@ module _ (pages : Pages) (after : ℕ) (code : Code) (first thread : ℕ) (state
         where
           moved : (n : ℕ) → (n ≡ 0) ⊎ ((n ≡ 1) ⊎ (n ≡ 3)) → sign_extended (g n) 32 ≡ g n
           moved n (inl e) = rw (e, turn.left_in) refl
-          moved n (inr (inl e)) = rw (e, turn.source_in) (long_again source small)
-          moved n (inr (inr e)) = rw (e, turn.target_in) (long_again target small')
+          moved n (inr (inl e)) = rw (e, turn.source_in) (extended_again source)
+          moved n (inr (inr e)) = rw (e, turn.target_in) (extended_again target)
 
           by : (n : ℕ) → n < 15 → (b : Bool) → is_still n ≡ b → sign_extended (g n) 32 ≡ g n
           by n lt true e = rw (turn.others n e) (form.longwords n lt)
@@ -403,7 +360,7 @@ module _ (pages : Pages) (after : ℕ) (code : Code) (first thread : ℕ) (state
       target = start 3 % 2 ^ 32
 
       held_long : (n : ℕ) → n < 15 → start n ≡ sign_extended (start n % 2 ^ 32) 32
-      held_long n lt = sym (form.longwords n lt) ∙ same_long (start n) (start n % 2 ^ 32) (let e : start n % 2 ^ 32 ≡ start n % 2 ^ 32 % 2 ^ 32 = omega arith in e)
+      held_long n lt = sym (form.longwords n lt) ∙ same_extended (start n) (start n % 2 ^ 32) (let e : start n % 2 ^ 32 ≡ start n % 2 ^ 32 % 2 ^ 32 = omega arith in e)
 
       whole : Always p In 22 (at_place start (first + 0)) (Check source count false (Check target count true (copied count source target Ended)))
       whole =

@@ -4,7 +4,7 @@ ghost use Rattle.block_law.specs.Blocks.{IsBlockOf};
 ghost use Rattle.loop_rows.specs.Copying.{Copies, MeetsAll, copy_words, point_of, probe_words, turn_words};
 
 use alpha_encode::{AlphaInstr, BranchOp, MemoryOp, OperateOp, Second};
-use exception_records::{Block, CodeRule, Point, Rules};
+use exception_records::{Block, Point, Rules};
 use std::alloc::{AllocError, Global};
 
 const fn operate(op: OperateOp, ra: u8, rb: Second, rc: u8) -> AlphaInstr
@@ -83,12 +83,7 @@ fn point_of(address: u32, write: bool) -> Point
         count: 0,
         write,
         raises: 0,
-        rules: Rules {
-            n: CodeRule::Ready,
-            z: CodeRule::Ready,
-            v: CodeRule::Ready,
-            c: CodeRule::Ready,
-        },
+        rules: Rules::READY,
     }
 }
 

@@ -33,7 +33,7 @@ fn memory(alloc: Global, miss: u32) -> io::Result<Memory> {
         for at in 0..8u64 {
             quad |= u64::from(byte_before(BASE + 8 * place + at)) << (8 * at);
         }
-        quads.push(quad).map_err(|_| ErrorKind::OutOfMemory)?;
+        quads.push(quad)?;
     }
     Ok(Memory {
         quads,
@@ -64,11 +64,10 @@ fn is_copied(memory: &Memory, length: u16) -> bool {
 
 /// Runs the block for a string of that length, and prints what it took.
 fn copy(rt: &HostRuntime, alloc: Global, length: u16, miss: u32) -> io::Result<()> {
-    let block = copy_block(alloc, 0x200, 0x204).map_err(|_| ErrorKind::OutOfMemory)?;
+    let block = copy_block(alloc, 0x200, 0x204)?;
     let mut code = Vec::new(alloc);
     for instr in &block.words {
-        code.push(encode(*instr))
-            .map_err(|_| ErrorKind::OutOfMemory)?;
+        code.push(encode(*instr))?;
     }
     let mut cpu = Cpu { r: [0; 32], pc: 0 };
     cpu.r[0] = u64::from(length);

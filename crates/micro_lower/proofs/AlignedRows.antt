@@ -1,6 +1,5 @@
 -- ADAWI does what its instruction does.
-use Rattle.std.proofs.Common.{◌≡◌, ℕ, ◌+◌, ◌%◌, ◌^◌, ◌<◌, ◌≤◌, ◌==◌, Bool, true, false, List, [], ◌∷◌, ◌++◌, length, Option, Some, refl, sym, ap, ◌∙◌, subst, arith, lit<, lit≤, append_assoc, append-nil}
-use Rattle.std.specs.Prelude.{bit_and}
+use Rattle.std.proofs.Common.{◌≡◌, ℕ, ◌+◌, ◌%◌, ◌^◌, ◌<◌, ◌==◌, true, false, List, [], ◌∷◌, ◌++◌, length, Option, Some, refl, sym, ap, ◌∙◌, subst, arith, lit<, lit≤, append_assoc, append-nil}
 use Rattle.std.proofs.Math.Nat.{mod-eq_of_lt}
 use Rattle.std.proofs.lemmas.Nat.{and_mask, mod_below}
 use Rattle.vax_form.specs.Operation.{operation_at}
@@ -26,9 +25,8 @@ use Rattle.vax_meaning.specs.declared.evaluation.Evaluated.{Evaluated}
 use Rattle.vax_meaning.specs.declared.operands.Location.{Location}
 use Rattle.vax_meaning.specs.declared.operands.Location.TheVariants.{InMemory, InRegister}
 use Rattle.vt_words.specs.Arithmetic.{sum_of}
-use Rattle.vt_words.specs.Values.{bit}
 use Rattle.vt_words.specs.declared.arithmetic.Coded.{Coded}
-use Rattle.micro_ops.specs.Leaving.{CodesComeFrom, sum}
+use Rattle.micro_ops.specs.Leaving.{CodesComeFrom}
 use Rattle.micro_ops.specs.Meaning.{Temps, Found, with_temp, course_of, started}
 use Rattle.micro_ops.specs.Sources.{sources_of, from}
 use Rattle.micro_ops.specs.Values.{value_from}
@@ -42,21 +40,21 @@ use Rattle.micro_ops.specs.declared.program.Micro.TheVariants.{Compute, Probe, L
 use Rattle.micro_ops.specs.declared.program.MicroOp.TheVariants as ops
 use Rattle.operand_programs.specs.InOrder.{AreOperandsOf, IsOutside, KeptByAll, evaluate_all, operands_program, steps_behind_all, no_steps}
 use Rattle.operand_programs.specs.Operands.{IsPlaced, operand_program}
-use Rattle.operand_programs.specs.Pieces.{Agrees, Kept, leaving, with_temps}
-use Rattle.operand_programs.specs.Results.{finish_program}
+use Rattle.operand_programs.specs.Pieces.{Agrees, leaving}
 use Rattle.operand_programs.specs.Specifiers.{stepped, commit_program, register_program}
 use Rattle.operand_programs.specs.declared.operands.Specifier.{Specifier}
-use Rattle.operand_programs.proofs.Ordered.{in_order, of_instruction}
-use Rattle.operand_programs.proofs.Reading.{value_in, register_agrees}
+use Rattle.operand_programs.proofs.Ordered.{in_order, of_instruction, all_steps_length}
+use Rattle.operand_programs.proofs.Reading.{register_agrees}
 use Rattle.operand_programs.proofs.Stepped.{nothing_added}
 use Rattle.micro_lower.specs.Plans.{Plan, steps_of, codes_program, rest_program, program_of}
 use Rattle.micro_lower.specs.Rows.{word_added, add_aligned_plan_for}
 use Rattle.micro_lower.proofs.Endings.{found_at, with, DoesSo, nowhere, closes_coded}
 use Rattle.micro_lower.proofs.Given.{carry_is, coded_end_of, replaces_as}
 use Rattle.micro_lower.proofs.Plain.{Does}
-use Rattle.micro_lower.proofs.Planned.{AllDo, BodyDoes, only_read, read_and_write, specifier, value, place, steps_length}
+use Rattle.micro_lower.proofs.Planned.{AllDo, BodyDoes, only_read, read_and_write, specifier, value, place}
 use Rattle.micro_lower.proofs.PswRows.{refuses}
 use Rattle.micro_lower.proofs.Ready.{effect, IsSum}
+use Rattle.micro_lower.proofs.BitValues.{last_bit}
 
 -- ---- the sum
 plain_sum : (x y : ℕ) → x < 65536 → y < 65536 → (x % 65536 + y % 65536) % 65536 ≡ (x + y + 0) % 65536
@@ -75,9 +73,6 @@ unfolding sum_of
 sum_below x y = mod_below (x + y + 0) (2 ^ 16) (lit< tt)
 
 -- ---- in memory
-low_odd : (x : ℕ) → x % 256 % 2 ≡ x % 2
-low_odd x = omega arith
-
 module _ (instr : Instr) (state : VaxState) (pages : Pages) (thread : ℕ) (temps : Temps) (ok : IsState state) (fits : temps 1 < 2 ^ 16) (base : Base) (index : Option ℕ) where
   abbrev memory_plan : Plan
   memory_plan = add_aligned_plan_for (operands.Place base index) instr
@@ -97,7 +92,7 @@ module _ (instr : Instr) (state : VaxState) (pages : Pages) (thread : ℕ) (temp
       let ended : ℕ → Tree = λ reply. coded_end_of pages (word_sum (reply % 2 ^ 16) y) instr.after (stepped steps state) in
       refuses (from (Add Word) (Add Word)) state pages thread instr.after 4 (temps 3 % 2 == 1) (Probe 3 2 true ∷ Locked 0 3 AddWord 1 ∷ word_added ∷ (commit_program 0 steps ++ close)) after
       (trees.Check (temps 3) 2 true (trees.Ask (record { address = temps 3; count = 2; kind = references.Add y }) ended))
-      (and_mask (temps 3 % 256) 1 ∙ low_odd (temps 3) ∙ carry_is (temps 3))
+      (and_mask (temps 3 % 256) 1 ∙ last_bit (temps 3) ∙ carry_is (temps 3))
       (λ even. (
         refl,
         refl,
@@ -187,7 +182,7 @@ module _ (instr : Instr) (n : ℕ) (is : operation_at instr.opcode ≡ Some oper
       let end = leaving pages thread in
       let Goal : Operand → Type 0 = λ o. Agrees P end (course_of (operands_program (modified_operands o) no_steps ++ rest_program sum_codes plan_here (steps_behind_all (modified_operands o) no_steps)) found (started state))
       (tree_of pages (evaluate_all (written_operands o)) state k) in
-      let same : length steps_here ≡ length state.r = steps_length (first_operand ∷ []) no_steps ∙ sym ok.registers in
+      let same : length steps_here ≡ length state.r = all_steps_length (first_operand ∷ []) no_steps ∙ sym ok.registers in
       let first : Agrees P end (course_of (operands_program (first_operand ∷ []) no_steps ++ (reading ++ register_rest)) found (started state)) (tree_of pages (evaluate_all (first_operand ∷ [])) state behind) =
       subst (λ (s : VaxState). Agrees P end (course_of (operands_program (first_operand ∷ []) no_steps ++ (reading ++ register_rest)) found (started state)) (tree_of pages (evaluate_all (first_operand ∷ [])) s behind)) (nothing_added state ok)
       (in_order (first_operand ∷ []) no_steps (placed, tt, tt) sum_codes state pages thread (reading ++ register_rest) found (started state) behind (sym ok.registers)

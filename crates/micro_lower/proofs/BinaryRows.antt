@@ -1,5 +1,5 @@
 -- Arithmetic and logical instructions.
-use Rattle.std.proofs.Common.{◌≡◌, ℕ, ◌%◌, ◌^◌, ◌<◌, ◌≤◌, Bool, true, false, [], ◌∷◌, refl, sym, ap, ◌∙◌, arith}
+use Rattle.std.proofs.Common.{◌≡◌, ℕ, ◌%◌, ◌^◌, ◌<◌, ◌≤◌, true, false, [], ◌∷◌, refl, sym, ap, ◌∙◌, arith}
 use Rattle.std.proofs.Math.Nat.{mod-eq_of_lt}
 use Rattle.vax_form.specs.Size.{bytes_of}
 use Rattle.vax_form.specs.Script.{◌>>◌, change}
@@ -21,7 +21,6 @@ use Rattle.micro_ops.specs.declared.codes.CodeSource.TheVariants.{Result, Kept}
 use Rattle.micro_ops.specs.declared.program.Exit.TheVariants.{Next}
 use Rattle.micro_lower.proofs.Endings.{found_at, is_computation}
 use Rattle.micro_lower.proofs.Planned.{AllDo, BodyDoes, read_and_write}
-use Rattle.micro_lower.proofs.Overflow.{low_below}
 use Rattle.micro_ops.specs.Meaning.{Temps}
 use Rattle.operand_programs.specs.Results.{IsGivable}
 use Rattle.std.specs.List.{list_all}
@@ -35,9 +34,9 @@ use Rattle.vt_words.specs.Arithmetic.{difference_of}
 use Rattle.micro_ops.specs.declared.codes.CodeSource.TheVariants.{Sub}
 use Rattle.micro_lower.proofs.Given.{value_coded, coded_end_of, gives_as, result_ready}
 use Rattle.micro_lower.proofs.Overflow.{IsNarrow}
-use Rattle.std.specs.Prelude.{bit_or, bit_xor, ◌*ℤ◌}
+use Rattle.std.specs.Prelude.{◌*ℤ◌}
 use Rattle.std.proofs.Common.{add-zero}
-use Rattle.std.proofs.lemmas.Nat.{and_le_l, or_lt, xor_lt}
+use Rattle.std.proofs.lemmas.Nat.{and_le_l}
 use Rattle.vax_form.specs.declared.operation.BinaryOperation.{BinaryOperation}
 use Rattle.vax_form.specs.declared.operation.BinaryOperation.TheVariants as binary
 use Rattle.vax_meaning.specs.Arithmetic.{binary_of}
@@ -59,6 +58,7 @@ use Rattle.vax_meaning.specs.Codes.{with_all}
 use Rattle.micro_ops.specs.Meaning.{Found}
 use Rattle.micro_ops.specs.declared.program.Arg.TheVariants.{Temp}
 use Rattle.micro_ops.specs.declared.program.MicroOp.TheVariants as ops
+use Rattle.micro_ops.proofs.Sizes.{low_below, or_fits, xor_fits}
 use Rattle.micro_lower.specs.Plans.{unary}
 use Rattle.micro_lower.proofs.Overflow.{extended_below}
 use Rattle.std.proofs.Common.{lit<}
@@ -104,23 +104,8 @@ binary_made binary.Subtract Byte start a b held narrow lt lt' none = omega (arit
 binary_made binary.Subtract Word start a b held narrow lt lt' none = omega (arith, lt, lt')
 binary_made binary.Subtract Long start a b held narrow lt lt' none = omega (arith, lt, lt')
 binary_made binary.Subtract Quad start a b held narrow lt lt' none = absurd narrow
-binary_made binary.Multiply size start a b held narrow lt lt' none = refl
 binary_made binary.Divide size start a b held narrow lt lt' none = cc
-binary_made binary.BitSet size start a b held narrow lt lt' none = refl
-binary_made binary.BitClear size start a b held narrow lt lt' none = refl
-binary_made binary.ExclusiveOr size start a b held narrow lt lt' none = refl
-
-or_below : (size : Size) (a b : ℕ) → a < limit_of size → b < limit_of size → bit_or a b < limit_of size
-or_below Byte a b = or_lt 8 a b
-or_below Word a b = or_lt 16 a b
-or_below Long a b = or_lt 32 a b
-or_below Quad a b = or_lt 64 a b
-
-xor_below : (size : Size) (a b : ℕ) → a < limit_of size → b < limit_of size → bit_xor a b < limit_of size
-xor_below Byte a b = xor_lt 8 a b
-xor_below Word a b = xor_lt 16 a b
-xor_below Long a b = xor_lt 32 a b
-xor_below Quad a b = xor_lt 64 a b
+binary_made operation size start a b held narrow lt lt' none = refl
 
 pub binary_below : (operation : BinaryOperation) (size : Size) (start : VaxState) (a b : ℕ) → a < limit_of size → b < limit_of size → divides operation ≡ false → (binary_value operation size start b a).value < limit_of size
 unfolding binary_of sum_of difference_of product_of
@@ -128,9 +113,9 @@ binary_below binary.Add size start a b lt lt' none = low_below size _
 binary_below binary.Subtract size start a b lt lt' none = low_below size _
 binary_below binary.Multiply size start a b lt lt' none = low_below size _
 binary_below binary.Divide size start a b lt lt' none = cc
-binary_below binary.BitSet size start a b lt lt' none = or_below size a b lt lt'
+binary_below binary.BitSet size start a b lt lt' none = or_fits size a b lt lt'
 binary_below binary.BitClear size start a b lt lt' none = let le = and_le_l a (limit_of size - 1 - b) in omega (arith, le, lt)
-binary_below binary.ExclusiveOr size start a b lt lt' none = xor_below size a b lt lt'
+binary_below binary.ExclusiveOr size start a b lt lt' none = xor_fits size a b lt lt'
 
 -- the codes come from what is in 0 and 1, or from the result
 module _ (size : Size) (start : VaxState) (found : Found) (temps : Temps) (narrow : IsNarrow size) (lt : temps 0 < limit_of size) (lt' : temps 1 < limit_of size) where
@@ -163,9 +148,9 @@ module _ (size : Size) (start : VaxState) (found : Found) (temps : Temps) (narro
         refl,
       )
   ready binary.Divide none made = cc
-  ready binary.BitSet none made = logical _ (or_below size _ _ (low_below size _) (low_below size _)) made
+  ready binary.BitSet none made = logical _ (or_fits size _ _ (low_below size _) (low_below size _)) made
   ready binary.BitClear none made = logical _ (let le = and_le_l (temps 0 % limit_of size) (limit_of size - 1 - temps 1 % limit_of size) in omega (arith, le, low_below size (temps 0))) made
-  ready binary.ExclusiveOr none made = logical _ (xor_below size _ _ (low_below size _) (low_below size _)) made
+  ready binary.ExclusiveOr none made = logical _ (xor_fits size _ _ (low_below size _) (low_below size _)) made
 
 -- the instruction does not divide by zero
 abbrev pub binary_end : Pages → BinaryOperation → (first : ℕ) → Coded → (pc : ℕ) → VaxState → Tree
@@ -174,31 +159,16 @@ binary_end pages operation first coded pc state = tree_of pages (change (with_al
 binary_ends : (pages : Pages) (operation : BinaryOperation) (first : ℕ) (coded : Coded) (pc : ℕ) → divides operation ≡ false → (state : VaxState)
     → coded_end_of pages coded pc state ≡ binary_end pages operation first coded pc state
 unfolding finish_binary
-binary_ends pages binary.Add first coded pc none state = refl
-binary_ends pages binary.Subtract first coded pc none state = refl
-binary_ends pages binary.Multiply first coded pc none state = refl
 binary_ends pages binary.Divide first coded pc none state = cc
-binary_ends pages binary.BitSet first coded pc none state = refl
-binary_ends pages binary.BitClear first coded pc none state = refl
-binary_ends pages binary.ExclusiveOr first coded pc none state = refl
+binary_ends pages operation first coded pc none state = refl
 
 kept_result : (operation : BinaryOperation) (size : Size) (found : Found) (temps : Temps) → divides operation ≡ false → effect (behind_binary operation size) found temps 2 ≡ temps 2
-kept_result binary.Add size found temps none = refl
-kept_result binary.Subtract size found temps none = refl
-kept_result binary.Multiply size found temps none = refl
 kept_result binary.Divide size found temps none = cc
-kept_result binary.BitSet size found temps none = refl
-kept_result binary.BitClear size found temps none = refl
-kept_result binary.ExclusiveOr size found temps none = refl
+kept_result operation size found temps none = refl
 
 all_compute : (operation : BinaryOperation) (size : Size) → list_all is_computation (behind_binary operation size) ≡ true
 all_compute binary.Add size = refl
-all_compute binary.Subtract size = refl
-all_compute binary.Multiply size = refl
-all_compute binary.Divide size = refl
-all_compute binary.BitSet size = refl
-all_compute binary.BitClear size = refl
-all_compute binary.ExclusiveOr size = refl
+all_compute operation size = refl
 
 pub two_operands_all : (operation : BinaryOperation) (width : Width) (instr : Instr) → divides operation ≡ false → IsGivable (operand instr 1) (size_of width)
     → AllDo (operations.TwoOperands operation width) instr (two_operands_plan operation width instr)

@@ -57,7 +57,7 @@ use Rattle.operand_programs.specs.declared.operands.Specifier.{Specifier}
 use Rattle.operand_programs.proofs.Accesses.{reads_agree, writes_agree}
 use Rattle.micro_lower.specs.Plans.{steps_of}
 use Rattle.micro_lower.specs.Rows.{branch_exit, bit_tested, storing, with_bit_into, byte_program, bit_plan_for, bit_branch_plan}
-use Rattle.micro_lower.proofs.BitValues.{bit_set, bit_cleared}
+use Rattle.micro_lower.proofs.BitValues.{bit_set, bit_cleared, last_bit}
 use Rattle.micro_lower.proofs.Endings.{found_at, with, DoesSo, computes, is_computation, nowhere, replaces, closes_kept}
 use Rattle.micro_lower.proofs.JumpRows.{go_end, set_test, clear_test}
 use Rattle.micro_lower.proofs.Planned.{AllDo, BodyDoes, after_read, after_branch, after_all, specifier, value}
@@ -80,14 +80,11 @@ read_field_branch values temps P a b c left goes =
     after_all none temps (λ none. P (value (temps 0) ∷ first ∷ nothing ∷ none)) left''' (goes first fits base))))
 
 -- ---- the test
-low_two : (v : ℕ) → v % 256 % 2 ≡ v % 2
-low_two v = omega arith
-
 test_goes : (state : Bool) (size : Size) (found : Found) (temps : Temps) (v taken other : ℕ) → computed ops.ShiftRight size (temps 1) (temps 0) (temps 0) ≡ v
     → (if effect (bit_tested state size) found temps 0 == 0 then other else taken) ≡ (if v % 2 == bit state then taken else other)
 unfolding value_from
-test_goes true size found temps v taken other is = rw (is, and_mask (v % 256) 1, low_two v) (set_test v taken other)
-test_goes false size found temps v taken other is = rw (is, and_mask (v % 256) 1, low_two v) (clear_test v taken other)
+test_goes true size found temps v taken other is = rw (is, and_mask (v % 256) 1, last_bit v) (set_test v taken other)
+test_goes false size found temps v taken other is = rw (is, and_mask (v % 256) 1, last_bit v) (clear_test v taken other)
 
 tests_compute : (state : Bool) (size : Size) → list_all is_computation (bit_tested state size) ≡ true
 tests_compute true size = refl

@@ -1,24 +1,20 @@
 -- A bit of a number: set, cleared and told.
-use Rattle.std.proofs.Common.{◌≡◌, ℕ, suc, ◌+◌, ◌-◌, ◌*◌, ◌/◌, ◌%◌, ◌^◌, ◌<◌, ◌≤◌, Bool, true, false, refl, sym, ap, ◌∙◌, subst, arith, inl, inr, lit<, add-one}
-use Rattle.std.specs.Prelude.{bit_and, bit_or, nat_lt, if◌then◌else◌}
-use Rattle.std.specs.Int.Bits.{and_block, or_block, or_comm, and_comm}
+use Rattle.std.proofs.Common.{◌≡◌, ℕ, ◌+◌, ◌-◌, ◌*◌, ◌/◌, ◌%◌, ◌^◌, ◌<◌, refl, sym, ap, ◌∙◌, subst, arith, inl, inr, lit<, add-one}
+use Rattle.std.specs.Prelude.{bit_and, bit_or}
+use Rattle.std.specs.Int.Bits.{and_block, or_block, or_zero_r, and_zero_r}
 use Rattle.std.proofs.Math.Nat.{add-mul, mul_assoc, mul_comm, mod-eq_of_lt, div-div-eq-div-mul, pow-suc}
 use Rattle.std.proofs.lemmas.Bool.{cases_lt}
 use Rattle.std.proofs.lemmas.Nat.{and_mask, div-add-mod', mod_below, pow_pos, pow-add, shr_below}
-use Rattle.vax_meaning.specs.Fields.{with_bits, bits_of}
-use Rattle.vt_words.specs.Values.{bit}
+use Rattle.vax_meaning.specs.Fields.{with_bits}
+
+pub last_bit : (n : ℕ) → n % 256 % 2 ≡ n % 2
+last_bit n = omega arith
 
 halves : (n : ℕ) → n / 2 * 2 + n % 2 ≡ n
 halves n = omega arith
 
 twice : (h unit : ℕ) → h * (unit * 2) ≡ h * 2 * unit
 twice h unit = ap (λ n. h * n) (mul_comm unit 2) ∙ sym (mul_assoc h 2 unit)
-
-none_or : (n : ℕ) → bit_or n 0 ≡ n
-none_or n = or_comm n 0
-
-none_and : (n : ℕ) → bit_and n 0 ≡ 0
-none_and n = and_comm n 0
 
 -- a number by the bits above, the bit and the bits below
 abbrev built : (h b l k : ℕ) → ℕ
@@ -53,9 +49,9 @@ built_or h b l k small low =
     ap (λ n. bit_or (built h b l k) n) unit
     ∙ or_block k (h * 2 + b) 1 l 0 low (pow_pos k)
     ∙ ap (λ n. n * 2 ^ k + bit_or l 0) (or_block 1 h 0 b 1 small (lit< tt))
-    ∙ ap (λ n. (n * 2 + bit_or b 1) * 2 ^ k + bit_or l 0) (none_or h)
+    ∙ ap (λ n. (n * 2 + bit_or b 1) * 2 ^ k + bit_or l 0) (or_zero_r h)
     ∙ ap (λ n. (h * 2 + n) * 2 ^ k + bit_or l 0) (or_one b small)
-    ∙ ap (λ n. (h * 2 + 1) * 2 ^ k + n) (none_or l)
+    ∙ ap (λ n. (h * 2 + 1) * 2 ^ k + n) (or_zero_r l)
 
 pub bit_set : (r k : ℕ) → bit_or r (2 ^ k) ≡ with_bits r k 1 1
 bit_set r k =
@@ -70,7 +66,7 @@ built_and h b l k j small low high =
     and_block k (h * 2 + b) ((2 ^ j - 1) * 2 + 0) l (2 ^ k - 1) low below
     ∙ ap (λ n. n * 2 ^ k + bit_and l (2 ^ k - 1)) (and_block 1 h (2 ^ j - 1) b 0 small (lit< tt))
     ∙ ap (λ n. (n * 2 + bit_and b 0) * 2 ^ k + bit_and l (2 ^ k - 1)) (and_mask h j ∙ mod-eq_of_lt high)
-    ∙ ap (λ n. (h * 2 + n) * 2 ^ k + bit_and l (2 ^ k - 1)) (none_and b)
+    ∙ ap (λ n. (h * 2 + n) * 2 ^ k + bit_and l (2 ^ k - 1)) (and_zero_r b)
     ∙ ap (λ n. (h * 2 + 0) * 2 ^ k + n) (and_mask l k ∙ mod-eq_of_lt low)
 
 -- all bits but that one

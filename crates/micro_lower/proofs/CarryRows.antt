@@ -18,7 +18,6 @@ use Rattle.micro_ops.specs.declared.codes.CodeSource.TheVariants.{Result, Kept}
 use Rattle.micro_ops.specs.declared.program.Exit.TheVariants.{Next}
 use Rattle.micro_lower.proofs.Endings.{found_at}
 use Rattle.micro_lower.proofs.Planned.{AllDo, BodyDoes}
-use Rattle.micro_lower.proofs.Overflow.{low_below}
 use Rattle.micro_ops.specs.Meaning.{Temps}
 use Rattle.operand_programs.specs.Results.{IsGivable}
 use Rattle.micro_lower.specs.Plans.{steps_of}
@@ -36,6 +35,7 @@ use Rattle.std.specs.Prelude.{if◌then◌else◌}
 use Rattle.vt_words.specs.Arithmetic.{sum_of}
 use Rattle.vt_words.specs.Quad.{sign_extended}
 use Rattle.micro_ops.specs.declared.codes.CodeSource.TheVariants.{Computed}
+use Rattle.micro_ops.proofs.Sizes.{low_below}
 use Rattle.micro_lower.proofs.Given.{replaces_as}
 use Rattle.std.proofs.lemmas.Nat.{mod_below}
 use Rattle.micro_lower.proofs.Given.{carry_is}
@@ -43,7 +43,7 @@ use Rattle.micro_lower.proofs.Ready.{ReadyFor}
 use Rattle.micro_lower.proofs.Overflow.{extended_below, sum_overflows_with, difference_overflows_with}
 use Rattle.std.specs.Prelude.{bit_or}
 use Rattle.std.proofs.lemmas.Bool.Decides.{eqb_tells}
-use Rattle.std.specs.Int.Bits.{or_comm, or_self}
+use Rattle.std.specs.Int.Bits.{or_self, or_zero_r}
 use Rattle.std.proofs.lemmas.Nat.{or_lt, shr_le}
 use Rattle.micro_lower.proofs.Planned.{read_and_modify, read_twice_and_write}
 use Rattle.vax_meaning.specs.Arithmetic.{add_with_carry, subtract_with_carry, replace}
@@ -213,9 +213,6 @@ subtract_with_carry_all instr givable state pages thread temps values ok same le
     Next tt instr.after refl (coded_end_of pages coded instr.after) (λ s e. refl))
 
 -- ---- rotation
-or_nothing : (x : ℕ) → bit_or x 0 ≡ x
-or_nothing x = or_comm x 0
-
 -- what the right shift is by
 abbrev lacking : ℕ → ℕ
 lacking k = (32 + (256 - k % 256)) % 256
@@ -229,7 +226,7 @@ rotated x k lt small = elim (eqb_tells k 0) [
   | inl is ↦ (let low : x * 1 % 4294967296 ≡ x = omega (arith, lt) in
       let twice : x * 1 % 4294967296 % 4294967296 ≡ x = omega (arith, lt) in
       let whole : x / 1 ≡ x = omega arith in
-      rw is.1 (ap (λ n. bit_or n 0) twice ∙ or_nothing x ∙ sym (or_self x) ∙ ap (λ n. bit_or n x) (sym low) ∙ ap (λ n. bit_or (x * 1 % 4294967296) n) (sym whole)))
+      rw is.1 (ap (λ n. bit_or n 0) twice ∙ or_zero_r x ∙ sym (or_self x) ∙ ap (λ n. bit_or n x) (sym low) ∙ ap (λ n. bit_or (x * 1 % 4294967296) n) (sym whole)))
   | inr not ↦ (let some : 0 < k = grind (arith, nat_tests, not.0) in
       let same : k % 4294967296 ≡ k = omega (arith, small) in
       let same' : k % 32 ≡ k = omega (arith, small) in

@@ -1,5 +1,6 @@
 -- The programs are right for instructions that are spelled.
 use Rattle.std.proofs.Common.{◌≡◌, ℕ, List, [], ◌∷◌, Some, sym, ap, ◌∙◌, subst}
+use Rattle.std.proofs.lemmas.Option.{same_Some}
 use Rattle.vax_form.specs.Grammar.{IsSpelled}
 use Rattle.vax_form.specs.Operation.{operation_at}
 use Rattle.vax_form.specs.Row.{operands_of}
@@ -78,16 +79,13 @@ subroutine_lowers instr width program spelled is made =
     rw made (subst (λ i. Lowers (operations.BranchToSubroutine width) i (subroutine_program (target (operand i 0)) i.after)) (sym t.1)
     (lowers _ _ _ (subroutine_does instr.at instr.opcode instr.count instr.after t.0 width g.within is) (subroutine_fits width t.0 instr.after)))
 
-some_same : (x y : List Micro) → Some x ≡ Some y → y ≡ x
-some_same x y is = cc
-
 pub plain_lower : (operation : Operation) (instr : Instr) (program : List Micro) → IsSpelled instr → operation_at instr.opcode ≡ Some operation
     → plain_program_of operation instr ≡ Some program → Lowers operation instr program
 unfolding plain_program_of
-plain_lower operations.NoOperation instr program spelled is made = no_operation_lowers instr program spelled is (some_same _ _ made)
-plain_lower operations.Breakpoint instr program spelled is made = breakpoint_lowers instr program spelled is (some_same _ _ made)
-plain_lower (operations.Branch width) instr program spelled is made = branch_lowers instr width program spelled is (some_same _ _ made)
-plain_lower (operations.BranchIf condition) instr program spelled is made = branch_if_lowers instr condition program spelled is (some_same _ _ made)
-plain_lower (operations.BranchToSubroutine width) instr program spelled is made = subroutine_lowers instr width program spelled is (some_same _ _ made)
-plain_lower operations.ReturnFromSubroutine instr program spelled is made = return_lowers instr program spelled is (some_same _ _ made)
+plain_lower operations.NoOperation instr program spelled is made = no_operation_lowers instr program spelled is (sym (same_Some _ _ made))
+plain_lower operations.Breakpoint instr program spelled is made = breakpoint_lowers instr program spelled is (sym (same_Some _ _ made))
+plain_lower (operations.Branch width) instr program spelled is made = branch_lowers instr width program spelled is (sym (same_Some _ _ made))
+plain_lower (operations.BranchIf condition) instr program spelled is made = branch_if_lowers instr condition program spelled is (sym (same_Some _ _ made))
+plain_lower (operations.BranchToSubroutine width) instr program spelled is made = subroutine_lowers instr width program spelled is (sym (same_Some _ _ made))
+plain_lower operations.ReturnFromSubroutine instr program spelled is made = return_lowers instr program spelled is (sym (same_Some _ _ made))
 plain_lower _ instr program spelled is made = cc

@@ -1,6 +1,6 @@
 -- An instruction ends where its program leaves.
 use Rattle.std.proofs.Common.{◌≡◌, ℕ, ◌+◌, ◌*◌, ◌/◌, ◌%◌, ◌^◌, ◌==◌, Bool, true, false, List, [], ◌∷◌, refl, sym, subst, inl}
-use Rattle.std.specs.Prelude.{◌||◌, All, if◌then◌else◌}
+use Rattle.std.specs.Prelude.{All, if◌then◌else◌}
 use Rattle.std.specs.List.{list_any}
 use Rattle.std.proofs.lemmas.List.Elements.{All-head, All-tail}
 use Rattle.vax_form.specs.Parts.{parts}
@@ -37,10 +37,6 @@ module _ {A : Type 0} (P : A → Type 0) where
   refuses_at : (none : Bool) (course : Course A) → AtLeaves P course → AtLeaves P (if none then course else Fault ReservedOperand)
   refuses_at true course at = at
   refuses_at false course at = tt
-
-either : (a b : Bool) → (a || b) ≡ false → (a ≡ false) × (b ≡ false)
-either true b is = cc
-either false b is = (refl, is)
 
 -- ---- departures
 module _ (instr : Instr) where

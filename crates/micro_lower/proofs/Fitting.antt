@@ -10,7 +10,8 @@ use Rattle.vax_form.specs.declared.instr.Size.TheVariants.{Byte, Word, Long, Qua
 use Rattle.vt_words.specs.Quad.{sign_extended}
 use Rattle.vt_words.specs.Values.{value_of, fits, bit}
 use Rattle.micro_ops.specs.Values.{limit_of, bits_of, signed}
-use Rattle.micro_lower.proofs.Overflow.{IsNarrow, extended_below, extended_low, fits_where, flipped, low_below, low_of, signed_small, signed_wide, turned}
+use Rattle.micro_ops.proofs.Sizes.{low_below}
+use Rattle.micro_lower.proofs.Overflow.{IsNarrow, extended_below, extended_low, fits_where, flipped, low_of, signed_small, signed_wide, turned}
 use Rattle.vt_words.proofs.Extended.{products}
 
 pub value_below : (size : Size) (x : ℤ) → value_of (bytes_of size) x < limit_of size

@@ -9,7 +9,7 @@ use Rattle.vax_form.specs.declared.instr.Access.{Access}
 use Rattle.vax_form.specs.declared.instr.Access.TheVariants as accesses
 use Rattle.vax_form.specs.declared.instr.Base.{Base}
 use Rattle.vax_form.specs.declared.instr.Operand.{Operand}
-use Rattle.vax_form.specs.declared.instr.Operand.TheVariants.{Unused, Value, Register, Place, Target as Displaced}
+use Rattle.vax_form.specs.declared.instr.Operand.TheVariants.{Register, Place}
 use Rattle.vax_form.specs.declared.instr.Size.{Size}
 use Rattle.vax_form.specs.declared.instr.Size.TheVariants.{Byte, Word, Long, Quad}
 use Rattle.vax_form.specs.declared.state.Flags.{Flags}
@@ -24,7 +24,6 @@ use Rattle.operand_programs.specs.Operands.{access_program, operand_program, ste
 use Rattle.operand_programs.specs.Results.{result_program, replacement_program, push_program, finish_program, give_program, steps_left, steps_behind_push}
 use Rattle.operand_programs.specs.Specifiers.{sum_into, address_program, index_program, place_program, pointer_of, steps_behind, register_program, commit_one, commit_program}
 use Rattle.operand_programs.specs.declared.operands.Specifier.{Specifier}
-use Rattle.operand_programs.specs.declared.specifiers.Pointer.{Pointer}
 use Rattle.micro_lower.specs.Lowering.{holds_flag}
 use Rattle.micro_lower.specs.Plans.{signs_program, carry_program, overflow_temp, carry_temp, codes_program, write_program, end_program}
 use Rattle.micro_lower.specs.declared.plans.Target.{Target}
@@ -44,10 +43,6 @@ is_inner set operation = true
 
 abbrev pub IsInner : Flags → List Micro → Type 0
 IsInner set piece = list_all (is_inner set) piece ≡ true
-
-pub both : (a b : Bool) → (a && b) ≡ true → (a ≡ true) × (b ≡ true)
-both true b is = (refl, is)
-both false b is = cc
 
 pub joined : (set : Flags) (first second : List Micro) → IsInner set first → IsInner set second → IsInner set (first ++ second)
 joined set first second x y = list_all-append (is_inner set) first second ∙ rw (x, y) refl
@@ -135,23 +130,11 @@ module _ (set : Flags) where
   -- ---- codes
   signs_inner : (nzv : CodeSource) → IsInner set (signs_program nzv)
   signs_inner sources.Kept = refl
-  signs_inner sources.Zero = refl
-  signs_inner (sources.Result size) = refl
-  signs_inner (sources.Add size) = refl
-  signs_inner (sources.Sub size) = refl
-  signs_inner (sources.Compare size) = refl
-  signs_inner (sources.Computed size) = refl
-  signs_inner sources.Psw = refl
+  signs_inner nzv = refl
 
   carry_inner : (c : CodeSource) → IsInner set (carry_program c)
   carry_inner sources.Kept = refl
-  carry_inner sources.Zero = refl
-  carry_inner (sources.Result size) = refl
-  carry_inner (sources.Add size) = refl
-  carry_inner (sources.Sub size) = refl
-  carry_inner (sources.Compare size) = refl
-  carry_inner (sources.Computed size) = refl
-  carry_inner sources.Psw = refl
+  carry_inner c = refl
 
   made_inner : (nzv c : CodeSource) → IsInner set (signs_program nzv ++ carry_program c ++ Codes 6 7 (overflow_temp nzv) (carry_temp c) ∷ [])
   made_inner nzv c =
@@ -162,12 +145,7 @@ module _ (set : Flags) where
   pub codes_inner : (nzv c : CodeSource) → IsInner set (codes_program (record { nzv = nzv; c = c }))
   codes_inner sources.Kept c = refl
   codes_inner sources.Psw c = refl
-  codes_inner sources.Zero c = made_inner sources.Zero c
-  codes_inner (sources.Result size) c = made_inner (sources.Result size) c
-  codes_inner (sources.Add size) c = made_inner (sources.Add size) c
-  codes_inner (sources.Sub size) c = made_inner (sources.Sub size) c
-  codes_inner (sources.Compare size) c = made_inner (sources.Compare size) c
-  codes_inner (sources.Computed size) c = made_inner (sources.Computed size) c
+  codes_inner nzv c = made_inner nzv c
 
   pub target_inner : (to : Target) (steps : List ℕ) → IsInner set (write_program to steps)
   target_inner targets.Nowhere steps = refl

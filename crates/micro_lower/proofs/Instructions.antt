@@ -1,5 +1,6 @@
 -- An instruction that has a program is translated, and lowered by it.
-use Rattle.std.proofs.Common.{◌≡◌, Bool, true, false, List, Some, None, Option, refl, sym, ◌∙◌, subst}
+use Rattle.std.proofs.Common.{◌≡◌, true, List, Some, None, Option, refl, sym, ◌∙◌, subst}
+use Rattle.std.proofs.lemmas.Option.{same_Some}
 use Rattle.std.specs.Prelude.{◌↔◌}
 use Rattle.std.specs.Option.{option_or}
 use Rattle.vax_form.specs.Grammar.{IsSpelled}
@@ -14,7 +15,7 @@ use Rattle.vax_form.specs.declared.row.Class.TheVariants.{Translated, Tie, Reser
 use Rattle.micro_ops.specs.declared.program.Micro.{Micro}
 use Rattle.micro_lower.specs.Lowering.{Lowers, KeepsTo, IsLowered, AreLongOperands, ProgramsAreTranslated}
 use Rattle.micro_lower.specs.Programs.{plain_program_of}
-use Rattle.micro_lower.specs.Rows.{move_row, arithmetic_row, control_row, own_program_of, row_program_of, program_of_operation, has_program, program_for}
+use Rattle.micro_lower.specs.Rows.{move_row, arithmetic_row, control_row, own_program_of, program_of_operation, has_program, program_for}
 use Rattle.micro_lower.proofs.ByRow.{rows_lower}
 use Rattle.micro_lower.proofs.Covered.{plain_lower}
 use Rattle.micro_lower.proofs.KeptRows.{plain_keep, rows_keep}
@@ -24,13 +25,10 @@ from_either : (plain row : Option (List Micro)) (program : List Micro) (X : Type
 from_either None row program X is by_plain by_row = by_row is
 from_either (Some made) row program X is by_plain by_row = by_plain is
 
-some_same : (x y : Operation) → Some x ≡ Some y → x ≡ y
-some_same x y is = cc
-
 pub is_lowered_by : (instr : Instr) (operation : Operation) (program : List Micro) → IsSpelled instr → AreLongOperands instr → operation_at instr.opcode ≡ Some operation
     → program_of_operation operation instr ≡ Some program → IsLowered instr program
 is_lowered_by instr operation program spelled long is made = record {
-  lowers = λ other at. subst (λ o. Lowers o instr program) (some_same operation other (sym is ∙ at))
+  lowers = λ other at. subst (λ o. Lowers o instr program) (same_Some operation other (sym is ∙ at))
       (from_either _ _ program (Lowers operation instr program) made (plain_lower operation instr program spelled is) (rows_lower operation instr program spelled long is));
   keeps = from_either _ _ program (KeepsTo instr program) made (plain_keep operation instr program spelled long is) (rows_keep operation instr program spelled long is);
 }

@@ -63,7 +63,6 @@ use Rattle.operand_programs.specs.declared.operands.Specifier.{Specifier}
 use Rattle.micro_lower.specs.Plans.{rest_program}
 use Rattle.micro_lower.specs.Rows.{change_mode_plan}
 use Rattle.micro_lower.proofs.Endings.{Closes}
-use Rattle.micro_lower.proofs.Planned.{steps_length}
 use Rattle.vax_form.specs.declared.instr.Access.TheVariants.{Address}
 use Rattle.vax_form.specs.declared.operation.Operation.{Operation}
 use Rattle.vax_meaning.specs.Evaluation.{find, obtain}
@@ -71,7 +70,7 @@ use Rattle.vax_meaning.specs.Instructions.{operation_script}
 use Rattle.vax_meaning.specs.Operands.{locate, place_address, base_address}
 use Rattle.micro_ops.specs.Meaning.{with_temp, no_temps}
 use Rattle.operand_programs.specs.InOrder.{AreOperandsOf}
-use Rattle.operand_programs.proofs.Ordered.{of_instruction}
+use Rattle.operand_programs.proofs.Ordered.{of_instruction, all_steps_length}
 use Rattle.operand_programs.proofs.Stepped.{nothing_added}
 use Rattle.micro_lower.specs.Plans.{specifiers_from}
 use Rattle.micro_lower.specs.Rows.{addressed}
@@ -185,7 +184,7 @@ module _ (operation : Operation) (instr : Instr) (plan : Plan) (target : ℕ) (l
       let codes = sources_of operation in
       let at : Temps → List Specifier → VaxState → Type 0 = λ temps s after. Agrees (CodesComeFrom codes state) (leaving pages thread) (course_of (rest_program codes plan (steps_behind_all s no_steps)) found (with state temps))
       (tree_of pages (body operation instr thread (filled nothing 6 (address target ∷ []))) after ends_with) in
-      let same : length (steps_of plan.slots instr) ≡ length state.r = steps_length specifiers no_steps ∙ sym ok.registers in
+      let same : length (steps_of plan.slots instr) ≡ length state.r = all_steps_length specifiers no_steps ∙ sym ok.registers in
       let there : at (with_temp 0 target no_temps) specifiers (stepped (steps_of plan.slots instr) state) = goes state pages thread ok same in
       let moved : at (with_temp 0 target no_temps) (specifier Address Byte (operands.Place (bases.Fixed target false) None) 0 1 ∷ []) (stepped no_steps state) =
       subst (λ (s : List Specifier). at (with_temp 0 target no_temps) s (stepped (steps_behind_all s no_steps) state)) one there in

@@ -1,11 +1,12 @@
 -- A program of pieces that read no other codes than some and do not leave, with its exit behind them, keeps to its instruction.
 use Rattle.std.proofs.Common.{◌≡◌, ℕ, zero, suc, ◌<◌, Bool, true, false, List, [], ◌∷◌, ◌++◌, Some, None, refl, sym, ap, ◌∙◌, subst, arith, inl, inr, append-nil, append_assoc, leb-true}
 use Rattle.std.specs.Prelude.{◌&&◌, ◌||◌, nat_eq, nat_le, All, slice_index_or, filter_map, option_to_list}
-use Rattle.std.specs.List.{list_all, list_any}
+use Rattle.std.specs.List.{list_any}
 use Rattle.std.specs.Option.{option_map_or}
 use Rattle.std.proofs.lemmas.Bool.Decides.{eqb_tells, nat_tests}
 use Rattle.std.proofs.lemmas.List.Elements.{All-nil, All-cons}
 use Rattle.std.proofs.lemmas.List.Folds.{list_all-append, list_any-append}
+use Rattle.std.proofs.lemmas.Bool.{and_parts, or_right}
 use Rattle.vax_form.specs.Operation.{operation_at}
 use Rattle.vax_form.specs.Targets.{branch_target, fixed_address, jump_target, jump_of, fixed_targets}
 use Rattle.vax_form.specs.declared.instr.Base.TheVariants as bases
@@ -32,7 +33,7 @@ use Rattle.operand_programs.specs.Operands.{IsTarget}
 use Rattle.micro_lower.specs.Lowering.{holds_flag, GoesTo, KeepsTo}
 use Rattle.micro_lower.specs.Plans.{Plan, specifiers_from, steps_of, steps_behind_target, write_program, end_program, codes_program, program_of}
 use Rattle.micro_lower.specs.Rows.{jump_exit}
-use Rattle.micro_lower.proofs.Inner.{is_allowed, is_inner, IsInner, both, joined, operands_inner, target_inner, end_inner, codes_inner}
+use Rattle.micro_lower.proofs.Inner.{is_allowed, is_inner, IsInner, joined, operands_inner, target_inner, end_inner, codes_inner}
 
 -- ---- codes that are read
 or_not : (a b : Bool) (X : Type 0) → (a || b) ≡ true → (a ≡ true → X) → (b ≡ true → X) → X
@@ -56,7 +57,7 @@ reads_of set flag (args.Const value) low allowed reads = cc
 
 reads_inner : (set : Flags) (flag : ℕ) (operation : Micro) → flag < 4 → is_inner set operation ≡ true → reads_flag flag operation ≡ true → holds_flag flag set ≡ true
 reads_inner set flag (Compute to op size a b) low inner reads =
-    let allowed = both _ _ inner in
+    let allowed = and_parts _ _ inner in
     or_not _ _ _ reads (reads_of set flag a low allowed.0) (λ second. reads_of set flag b low allowed.1 (and_second _ _ second))
 reads_inner set flag (Probe place count write) low inner reads = cc
 reads_inner set flag (Refuse when) low inner reads = cc
@@ -94,7 +95,7 @@ reads_all : (set : Flags) (flag : ℕ) (exit : Exit) (piece : List Micro) → fl
     → list_any (reads_flag flag) (piece ++ Leave exit ∷ []) ≡ true → holds_flag flag set ≡ true
 reads_all set flag exit [] low inner reads = cc
 reads_all set flag exit (operation ∷ piece) low inner reads =
-    let i = both _ _ inner in
+    let i = and_parts _ _ inner in
     or_not _ _ _ reads (reads_inner set flag operation low i.0) (reads_all set flag exit piece low i.1)
 
 goes_of : (set : Flags) (after : ℕ) (exit : Exit) (operation : Micro) (rest : List Micro) → is_inner set operation ≡ true → addresses_of after (operation ∷ rest) ≡ addresses_of after rest
@@ -112,7 +113,7 @@ goes_of set after exit (Leave left) rest inner = cc
 goes_all : (set : Flags) (after : ℕ) (exit : Exit) (piece : List Micro) → IsInner set piece → addresses_of after (piece ++ Leave exit ∷ []) ≡ exit_addresses after exit
 goes_all set after exit [] inner = append-nil (exit_addresses after exit)
 goes_all set after exit (operation ∷ piece) inner =
-    let i = both _ _ inner in
+    let i = and_parts _ _ inner in
     goes_of set after exit operation (piece ++ Leave exit ∷ []) i.0 ∙ goes_all set after exit piece i.1
 
 computes_of : (set : Flags) (operation : Micro) → is_inner set operation ≡ true → leaves_computed operation ≡ false
@@ -130,7 +131,7 @@ computes_of set (Leave left) inner = cc
 computes_all : (set : Flags) (exit : Exit) (piece : List Micro) → IsInner set piece → list_any leaves_computed (piece ++ Leave exit ∷ []) ≡ true → leaves_computed (Leave exit) ≡ true
 computes_all set exit [] inner is = or_not (leaves_computed (Leave exit)) false (leaves_computed (Leave exit) ≡ true) is (λ this. this) (λ none. cc)
 computes_all set exit (operation ∷ piece) inner is =
-    let i = both _ _ inner in
+    let i = and_parts _ _ inner in
     or_not (leaves_computed operation) (list_any leaves_computed (piece ++ Leave exit ∷ [])) (leaves_computed (Leave exit) ≡ true) is (λ this. cc (this, computes_of set operation i.0)) (computes_all set exit piece i.1)
 
 -- ---- the exit
@@ -161,10 +162,6 @@ next_keeps instr exit next none = record {
 pub breakpoint_keeps : (instr : Instr) → ExitKeeps instr exits.Breakpoint
 breakpoint_keeps instr = record { goes = All-nil (GoesTo instr); computed = λ none. cc }
 
-or_true : (a b : Bool) → b ≡ true → (a || b) ≡ true
-or_true true b is = refl
-or_true false b is = is
-
 itself : (a : ℕ) → nat_eq a a ≡ true
 itself a = grind (arith, nat_tests)
 
@@ -176,7 +173,7 @@ branch_among (operands.Unused ∷ others) zero is = absurd is
 branch_among (operands.Value value ∷ others) zero is = absurd is
 branch_among (operands.Register n ∷ others) zero is = absurd is
 branch_among (operands.Place base index ∷ others) zero is = absurd is
-branch_among (operands.Target address ∷ others) (suc number) is = or_true _ _ (branch_among others number is)
+branch_among (operands.Target address ∷ others) (suc number) is = or_right _ _ (branch_among others number is)
 branch_among (operands.Unused ∷ others) (suc number) is = branch_among others number is
 branch_among (operands.Value value ∷ others) (suc number) is = branch_among others number is
 branch_among (operands.Register n ∷ others) (suc number) is = branch_among others number is
@@ -196,7 +193,7 @@ pub jump_fixed : (instr : Instr) (address : ℕ) → jump_of instr ≡ Some addr
 unfolding fixed_targets
 jump_fixed instr address is =
     list_any-append (nat_eq address) (filter_map branch_target instr.operands) (option_to_list (jump_of instr))
-    ∙ or_true (list_any (nat_eq address) (filter_map branch_target instr.operands)) (list_any (nat_eq address) (option_to_list (jump_of instr))) (rw (is, itself address) refl)
+    ∙ or_right (list_any (nat_eq address) (filter_map branch_target instr.operands)) (list_any (nat_eq address) (option_to_list (jump_of instr))) (rw (is, itself address) refl)
 
 module _ (operation : Operation) (instr : Instr) (is : operation_at instr.opcode ≡ Some operation) (ends : (code_use_of operation).ends ≡ true) where
   may_jump : (use_of instr).ends ≡ true
@@ -236,7 +233,7 @@ pub plan_keeps : (operation : Operation) (instr : Instr) (plan : Plan) (program 
     → program ≡ program_of (sources_of operation) plan instr → KeepsTo instr program
 plan_keeps operation instr plan program is inner exits made =
     let set = (code_use_of operation).reads in
-    let parts = both _ _ (sym (list_all-append (is_inner set) plan.before plan.behind) ∙ inner) in
+    let parts = and_parts _ _ (sym (list_all-append (is_inner set) plan.before plan.behind) ∙ inner) in
     let codes = sources_of operation in
     let steps = steps_of plan.slots instr in
     let behind = steps_behind_target plan.target steps in

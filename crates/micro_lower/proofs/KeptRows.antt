@@ -1,5 +1,6 @@
 -- The program of each operation keeps to its instruction.
-use Rattle.std.proofs.Common.{◌≡◌, ℕ, Bool, true, false, List, [], ◌∷◌, ◌++◌, Some, None, refl, sym, subst, lit≤}
+use Rattle.std.proofs.Common.{◌≡◌, ℕ, Bool, true, false, List, [], ◌∷◌, ◌++◌, Some, refl, sym, subst, lit≤}
+use Rattle.std.proofs.lemmas.Option.{same_Some}
 use Rattle.vax_form.specs.Grammar.{IsSpelled}
 use Rattle.vax_form.specs.Operation.{operation_at}
 use Rattle.vax_form.specs.Row.{operands_of, displacement}
@@ -40,9 +41,6 @@ use Rattle.micro_lower.proofs.Keeping.{Ends, ExitKeeps, keeps, ends_here, next_k
 use Rattle.micro_lower.proofs.Lowered.{slots_of, second, third, fourth}
 use Rattle.micro_lower.proofs.ProductLower.{product_keeps}
 use Rattle.micro_lower.proofs.Spelled.{Given, given}
-
-some_same : (x y : List Micro) → Some x ≡ Some y → y ≡ x
-some_same x y is = cc
 
 -- for each operation
 abbrev Keeps : Operation → (Instr → List Micro → Type 0) → Type 0
@@ -88,23 +86,23 @@ return_ends set =
 pub plain_keep : (operation : Operation) → Keeps operation (λ instr program. plain_program_of operation instr ≡ Some program)
 unfolding plain_program_of code_use_of operands_of
 plain_keep operations.NoOperation instr program spelled long is made =
-    subst (KeepsTo instr) (sym (some_same _ _ made)) (keeps operations.NoOperation instr exits.Next _ is (ends_here _ exits.Next [] refl) (next_keeps instr exits.Next refl refl))
+    subst (KeepsTo instr) (same_Some _ _ made) (keeps operations.NoOperation instr exits.Next _ is (ends_here _ exits.Next [] refl) (next_keeps instr exits.Next refl refl))
 plain_keep operations.Breakpoint instr program spelled long is made =
-    subst (KeepsTo instr) (sym (some_same _ _ made)) (keeps operations.Breakpoint instr exits.Breakpoint _ is (ends_here _ exits.Breakpoint [] refl) (breakpoint_keeps instr))
+    subst (KeepsTo instr) (same_Some _ _ made) (keeps operations.Breakpoint instr exits.Breakpoint _ is (ends_here _ exits.Breakpoint [] refl) (breakpoint_keeps instr))
 plain_keep (operations.Branch width) instr program spelled long is made =
     let fixed = branch_fixed instr 0 (displaced instr (size_of width) _ spelled is refl) in
     let to = target (operand instr 0) in
-    subst (KeepsTo instr) (sym (some_same _ _ made)) (keeps (operations.Branch width) instr (exits.Fixed to) _ is (ends_here _ (exits.Fixed to) [] refl) (fixed_keeps _ instr is refl to fixed))
+    subst (KeepsTo instr) (same_Some _ _ made) (keeps (operations.Branch width) instr (exits.Fixed to) _ is (ends_here _ (exits.Fixed to) [] refl) (fixed_keeps _ instr is refl to fixed))
 plain_keep (operations.BranchIf condition) instr program spelled long is made =
     let fixed = branch_fixed instr 0 (displaced instr Byte _ spelled is refl) in
     let to = target (operand instr 0) in
-    subst (KeepsTo instr) (sym (some_same _ _ made)) (keeps (operations.BranchIf condition) instr (exits.Choice 0 to instr.after) _ is (branch_if_ends condition to instr.after) (choice_keeps _ instr is refl 0 to fixed))
+    subst (KeepsTo instr) (same_Some _ _ made) (keeps (operations.BranchIf condition) instr (exits.Choice 0 to instr.after) _ is (branch_if_ends condition to instr.after) (choice_keeps _ instr is refl 0 to fixed))
 plain_keep (operations.BranchToSubroutine width) instr program spelled long is made =
     let fixed = branch_fixed instr 0 (displaced instr (size_of width) _ spelled is refl) in
     let to = target (operand instr 0) in
-    subst (KeepsTo instr) (sym (some_same _ _ made)) (keeps (operations.BranchToSubroutine width) instr (exits.Fixed to) _ is (subroutine_ends _ to instr.after) (fixed_keeps _ instr is refl to fixed))
+    subst (KeepsTo instr) (same_Some _ _ made) (keeps (operations.BranchToSubroutine width) instr (exits.Fixed to) _ is (subroutine_ends _ to instr.after) (fixed_keeps _ instr is refl to fixed))
 plain_keep operations.ReturnFromSubroutine instr program spelled long is made =
-    subst (KeepsTo instr) (sym (some_same _ _ made)) (keeps operations.ReturnFromSubroutine instr (exits.Computed 0) _ is (return_ends _) (computed_keeps _ instr is refl 0))
+    subst (KeepsTo instr) (same_Some _ _ made) (keeps operations.ReturnFromSubroutine instr (exits.Computed 0) _ is (return_ends _) (computed_keeps _ instr is refl 0))
 plain_keep _ instr program spelled long is made = cc
 
 -- ---- rows
@@ -161,27 +159,17 @@ next_row : (operation : Operation) (instr : Instr) (plan : Plan) (program : List
     → IsInner (code_use_of operation).reads (plan.before ++ plan.behind) → plan.exit ≡ exits.Next
     → Some (program_of (sources_of operation) plan instr) ≡ Some program → KeepsTo instr program
 next_row operation instr plan program is inner exit row =
-    plan_keeps operation instr plan program is inner (rw exit (next_keeps instr exits.Next refl refl)) (some_same _ _ row)
+    plan_keeps operation instr plan program is inner (rw exit (next_keeps instr exits.Next refl refl)) (sym (same_Some _ _ row))
 
 two_operands_keep : (operation : BinaryOperation) (width : Width) → KeepsByRow (operations.TwoOperands operation width)
 unfolding own_program_of move_row arithmetic_row control_row code_use_of
-two_operands_keep binary.Add width instr program spelled long is row = next_row (operations.TwoOperands binary.Add width) instr (two_operands_plan binary.Add width instr) program is refl refl row
-two_operands_keep binary.Subtract width instr program spelled long is row = next_row (operations.TwoOperands binary.Subtract width) instr (two_operands_plan binary.Subtract width instr) program is refl refl row
-two_operands_keep binary.Multiply width instr program spelled long is row = next_row (operations.TwoOperands binary.Multiply width) instr (two_operands_plan binary.Multiply width instr) program is refl refl row
-two_operands_keep binary.BitSet width instr program spelled long is row = next_row (operations.TwoOperands binary.BitSet width) instr (two_operands_plan binary.BitSet width instr) program is refl refl row
-two_operands_keep binary.BitClear width instr program spelled long is row = next_row (operations.TwoOperands binary.BitClear width) instr (two_operands_plan binary.BitClear width instr) program is refl refl row
-two_operands_keep binary.ExclusiveOr width instr program spelled long is row = next_row (operations.TwoOperands binary.ExclusiveOr width) instr (two_operands_plan binary.ExclusiveOr width instr) program is refl refl row
 two_operands_keep binary.Divide width instr program spelled long is row = cc
+two_operands_keep operation width instr program spelled long is row = next_row (operations.TwoOperands operation width) instr (two_operands_plan operation width instr) program is refl refl row
 
 three_operands_keep : (operation : BinaryOperation) (width : Width) → KeepsByRow (operations.ThreeOperands operation width)
 unfolding own_program_of move_row arithmetic_row control_row code_use_of
-three_operands_keep binary.Add width instr program spelled long is row = next_row (operations.ThreeOperands binary.Add width) instr (three_operands_plan binary.Add width instr) program is refl refl row
-three_operands_keep binary.Subtract width instr program spelled long is row = next_row (operations.ThreeOperands binary.Subtract width) instr (three_operands_plan binary.Subtract width instr) program is refl refl row
-three_operands_keep binary.Multiply width instr program spelled long is row = next_row (operations.ThreeOperands binary.Multiply width) instr (three_operands_plan binary.Multiply width instr) program is refl refl row
-three_operands_keep binary.BitSet width instr program spelled long is row = next_row (operations.ThreeOperands binary.BitSet width) instr (three_operands_plan binary.BitSet width instr) program is refl refl row
-three_operands_keep binary.BitClear width instr program spelled long is row = next_row (operations.ThreeOperands binary.BitClear width) instr (three_operands_plan binary.BitClear width instr) program is refl refl row
-three_operands_keep binary.ExclusiveOr width instr program spelled long is row = next_row (operations.ThreeOperands binary.ExclusiveOr width) instr (three_operands_plan binary.ExclusiveOr width instr) program is refl refl row
 three_operands_keep binary.Divide width instr program spelled long is row = cc
+three_operands_keep operation width instr program spelled long is row = next_row (operations.ThreeOperands operation width) instr (three_operands_plan operation width instr) program is refl refl row
 
 pub rows_keep : (operation : Operation) → KeepsByRow operation
 unfolding own_program_of move_row arithmetic_row control_row code_use_of operands_of jump_target
@@ -206,30 +194,30 @@ rows_keep operations.AddAlignedWord instr program spelled long is row = next_row
 rows_keep operations.ArithmeticShift instr program spelled long is row = next_row operations.ArithmeticShift instr (arithmetic_shift_plan instr) program is refl refl row
 rows_keep operations.BitSetPsw instr program spelled long is row = next_row operations.BitSetPsw instr (change_psw_plan ops.Or) program is refl refl row
 rows_keep operations.BitClearPsw instr program spelled long is row = next_row operations.BitClearPsw instr (change_psw_plan ops.AndNot) program is refl refl row
-rows_keep operations.ExtendedMultiply instr program spelled long is row = product_keeps instr program is (some_same _ _ row)
+rows_keep operations.ExtendedMultiply instr program spelled long is row = product_keeps instr program is (sym (same_Some _ _ row))
 rows_keep operations.MovePsl instr program spelled long is row = next_row operations.MovePsl instr (move_psl_plan instr) program is refl refl row
 rows_keep operations.ChangeMode instr program spelled long is row =
-    plan_keeps operations.ChangeMode instr change_mode_plan program is refl (next_keeps instr (exits.Service 0) refl refl) (some_same _ _ row)
+    plan_keeps operations.ChangeMode instr change_mode_plan program is refl (next_keeps instr (exits.Service 0) refl refl) (sym (same_Some _ _ row))
 rows_keep (operations.BranchOnLowBit state) instr program spelled long is row =
-    let slots = slots_of (operations.BranchOnLowBit state) instr (low_bit_plan state instr) program spelled long is (some_same _ _ row) refl refl (lit≤ tt) in
-    plan_keeps (operations.BranchOnLowBit state) instr (low_bit_plan state instr) program is (low_bit_inner _ state instr) (branch_keeps (operations.BranchOnLowBit state) instr is refl 1 (second _ _ _ instr slots).0.0) (some_same _ _ row)
+    let slots = slots_of (operations.BranchOnLowBit state) instr (low_bit_plan state instr) program spelled long is (sym (same_Some _ _ row)) refl refl (lit≤ tt) in
+    plan_keeps (operations.BranchOnLowBit state) instr (low_bit_plan state instr) program is (low_bit_inner _ state instr) (branch_keeps (operations.BranchOnLowBit state) instr is refl 1 (second _ _ _ instr slots).0.0) (sym (same_Some _ _ row))
 rows_keep (operations.SubtractOneBranch or_equal) instr program spelled long is row =
-    let slots = slots_of (operations.SubtractOneBranch or_equal) instr (subtract_one_plan or_equal instr) program spelled long is (some_same _ _ row) refl refl (lit≤ tt) in
-    plan_keeps (operations.SubtractOneBranch or_equal) instr (subtract_one_plan or_equal instr) program is (subtract_one_inner _ or_equal instr) (branch_keeps (operations.SubtractOneBranch or_equal) instr is refl 1 (second _ _ _ instr slots).0.0) (some_same _ _ row)
+    let slots = slots_of (operations.SubtractOneBranch or_equal) instr (subtract_one_plan or_equal instr) program spelled long is (sym (same_Some _ _ row)) refl refl (lit≤ tt) in
+    plan_keeps (operations.SubtractOneBranch or_equal) instr (subtract_one_plan or_equal instr) program is (subtract_one_inner _ or_equal instr) (branch_keeps (operations.SubtractOneBranch or_equal) instr is refl 1 (second _ _ _ instr slots).0.0) (sym (same_Some _ _ row))
 rows_keep (operations.AddOneBranch or_equal) instr program spelled long is row =
-    let slots = slots_of (operations.AddOneBranch or_equal) instr (add_one_plan or_equal instr) program spelled long is (some_same _ _ row) refl refl (lit≤ tt) in
-    plan_keeps (operations.AddOneBranch or_equal) instr (add_one_plan or_equal instr) program is (add_one_inner _ or_equal instr) (branch_keeps (operations.AddOneBranch or_equal) instr is refl 2 (third _ _ _ _ instr slots).0.0) (some_same _ _ row)
+    let slots = slots_of (operations.AddOneBranch or_equal) instr (add_one_plan or_equal instr) program spelled long is (sym (same_Some _ _ row)) refl refl (lit≤ tt) in
+    plan_keeps (operations.AddOneBranch or_equal) instr (add_one_plan or_equal instr) program is (add_one_inner _ or_equal instr) (branch_keeps (operations.AddOneBranch or_equal) instr is refl 2 (third _ _ _ _ instr slots).0.0) (sym (same_Some _ _ row))
 rows_keep (operations.AddCompareBranch width) instr program spelled long is row =
-    let slots = slots_of (operations.AddCompareBranch width) instr (add_compare_plan width instr) program spelled long is (some_same _ _ row) refl refl (lit≤ tt) in
-    plan_keeps (operations.AddCompareBranch width) instr (add_compare_plan width instr) program is refl (branch_keeps (operations.AddCompareBranch width) instr is refl 3 (fourth _ _ _ _ _ instr slots).0.0) (some_same _ _ row)
+    let slots = slots_of (operations.AddCompareBranch width) instr (add_compare_plan width instr) program spelled long is (sym (same_Some _ _ row)) refl refl (lit≤ tt) in
+    plan_keeps (operations.AddCompareBranch width) instr (add_compare_plan width instr) program is refl (branch_keeps (operations.AddCompareBranch width) instr is refl 3 (fourth _ _ _ _ _ instr slots).0.0) (sym (same_Some _ _ row))
 rows_keep (operations.BranchOnBit branch) instr program spelled long is row =
-    let slots = slots_of (operations.BranchOnBit branch) instr (bit_branch_plan branch instr) program spelled long is (some_same _ _ row) refl refl (lit≤ tt) in
+    let slots = slots_of (operations.BranchOnBit branch) instr (bit_branch_plan branch instr) program spelled long is (sym (same_Some _ _ row)) refl refl (lit≤ tt) in
     plan_keeps (operations.BranchOnBit branch) instr (bit_branch_plan branch instr) program is (bit_inner _ (operand instr 1) branch.state branch.store)
-    (branch_keeps (operations.BranchOnBit branch) instr is refl 2 (third _ _ _ _ instr slots).0.0) (some_same _ _ row)
+    (branch_keeps (operations.BranchOnBit branch) instr is refl 2 (third _ _ _ _ instr slots).0.0) (sym (same_Some _ _ row))
 rows_keep operations.Jump instr program spelled long is row =
-    plan_keeps operations.Jump instr (jump_plan instr) program is refl (jump_keeps _ instr is refl refl) (some_same _ _ row)
+    plan_keeps operations.Jump instr (jump_plan instr) program is refl (jump_keeps _ instr is refl refl) (sym (same_Some _ _ row))
 rows_keep operations.JumpToSubroutine instr program spelled long is row =
-    plan_keeps operations.JumpToSubroutine instr (jump_to_subroutine_plan instr) program is refl (jump_keeps _ instr is refl refl) (some_same _ _ row)
+    plan_keeps operations.JumpToSubroutine instr (jump_to_subroutine_plan instr) program is refl (jump_keeps _ instr is refl refl) (sym (same_Some _ _ row))
 rows_keep (operations.TwoOperands operation width) instr program spelled long is row = two_operands_keep operation width instr program spelled long is row
 rows_keep (operations.ThreeOperands operation width) instr program spelled long is row = three_operands_keep operation width instr program spelled long is row
 rows_keep _ instr program spelled long is row = cc

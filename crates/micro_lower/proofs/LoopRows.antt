@@ -20,7 +20,6 @@ use Rattle.micro_ops.specs.Values.{limit_of, value_from}
 use Rattle.micro_ops.specs.declared.codes.CodeSource.TheVariants.{Kept}
 use Rattle.micro_lower.proofs.Endings.{found_at, is_computation}
 use Rattle.micro_lower.proofs.Planned.{AllDo, BodyDoes}
-use Rattle.micro_lower.proofs.Overflow.{low_below}
 use Rattle.vax_form.specs.declared.instr.Operand.{Operand}
 use Rattle.vax_meaning.specs.declared.operands.Location.{Location}
 use Rattle.micro_ops.specs.Meaning.{Temps}
@@ -64,6 +63,7 @@ use Rattle.micro_lower.proofs.Given.{replaces_as}
 use Rattle.std.proofs.Common.{add-zero}
 use Rattle.std.proofs.lemmas.Nat.{mod_below}
 use Rattle.micro_ops.specs.Meaning.{with_temp}
+use Rattle.micro_ops.proofs.Sizes.{low_below}
 use Rattle.micro_lower.proofs.Given.{carry_is}
 use Rattle.micro_lower.proofs.Ready.{ReadyFor}
 use Rattle.micro_lower.proofs.Overflow.{extended_below, sum_overflows}

@@ -22,7 +22,6 @@ use Rattle.micro_lower.specs.Rows.{move_plan}
 use Rattle.micro_lower.proofs.Coding.{plain_end}
 use Rattle.micro_lower.proofs.Endings.{found_at}
 use Rattle.micro_lower.proofs.Planned.{AllDo, BodyDoes, read_and_write}
-use Rattle.micro_lower.proofs.Overflow.{low_below}
 use Rattle.operand_programs.specs.Results.{IsGivable}
 use Rattle.micro_lower.specs.Plans.{steps_of}
 use Rattle.micro_lower.proofs.Ready.{effect}
@@ -36,6 +35,7 @@ use Rattle.vax_meaning.specs.Moves.{move_zero_extended}
 use Rattle.vax_meaning.specs.Arithmetic.{give_coded}
 use Rattle.vt_words.specs.Arithmetic.{difference_of}
 use Rattle.micro_ops.specs.declared.codes.CodeSource.TheVariants.{Sub}
+use Rattle.micro_ops.proofs.Sizes.{low_below}
 use Rattle.micro_lower.specs.Rows.{ones, move_zero_extended_plan, clear_plan, move_complemented_plan, move_negated_plan, move_address_plan}
 use Rattle.micro_lower.proofs.Given.{value_coded, value_end, value_ends, coded_end_of, gives_as, result_ready}
 use Rattle.micro_lower.proofs.Overflow.{IsNarrow, some}

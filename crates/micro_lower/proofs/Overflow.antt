@@ -10,6 +10,7 @@ use Rattle.vax_form.specs.Size.{bytes_of}
 use Rattle.vax_form.specs.declared.instr.Size.{Size}
 use Rattle.vax_form.specs.declared.instr.Size.TheVariants.{Byte, Word, Long, Quad}
 use Rattle.micro_ops.specs.Values.{limit_of, bits_of, signed}
+use Rattle.micro_ops.proofs.Sizes.{low_below}
 use Rattle.vt_words.specs.Values.{bit, fits, value_of}
 use Rattle.vt_words.specs.Arithmetic.{sum_of, difference_of}
 use Rattle.vt_words.specs.Quad.{sign_extended}
@@ -189,9 +190,6 @@ some Byte = lit< tt
 some Word = lit< tt
 some Long = lit< tt
 some Quad = lit< tt
-
-pub low_below : (size : Size) (x : ℕ) → x % limit_of size < limit_of size
-low_below size x = mod_below x (limit_of size) (some size)
 
 module _ (size : Size) (a b r : ℕ) (narrow : IsNarrow size) (first : a < limit_of size) (second : b < limit_of size) where
   wide : (x : ℕ) → x < limit_of size → sign_extended x (bits_of size) % 2 ^ 64 ≡ sign_extended x (bits_of size)

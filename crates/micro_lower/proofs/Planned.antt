@@ -1,5 +1,5 @@
 -- A program by a plan does what its instruction does, where what comes behind the operands does what the body does.
-use Rattle.std.proofs.Common.{◌≡◌, ℕ, ◌^◌, ◌<◌, ◌≤◌, List, [], ◌∷◌, length, Some, refl, sym, ◌∙◌, subst}
+use Rattle.std.proofs.Common.{◌≡◌, ℕ, ◌^◌, ◌<◌, ◌≤◌, List, [], ◌∷◌, length, Some, sym, ◌∙◌, subst}
 use Rattle.vax_form.specs.Operation.{operation_at}
 use Rattle.vax_form.specs.Row.{filled}
 use Rattle.vax_form.specs.State.{IsState}
@@ -21,18 +21,14 @@ use Rattle.micro_ops.specs.Leaving.{CodesComeFrom}
 use Rattle.micro_ops.specs.Meaning.{Temps, course_of, started}
 use Rattle.micro_ops.specs.Sources.{sources_of}
 use Rattle.operand_programs.specs.InOrder.{AreLeft, ArePlaced, AreOperandsOf, steps_behind_all, no_steps}
-use Rattle.operand_programs.specs.Operands.{IsAt, IsOfSize, steps_behind_specifier}
+use Rattle.operand_programs.specs.Operands.{IsAt, IsOfSize}
 use Rattle.operand_programs.specs.Pieces.{Agrees, with_temps, leaving}
 use Rattle.operand_programs.specs.Specifiers.{stepped}
 use Rattle.operand_programs.specs.declared.operands.Specifier.{Specifier}
-use Rattle.operand_programs.proofs.Ordered.{in_order, of_instruction, access_steps_length}
+use Rattle.operand_programs.proofs.Ordered.{in_order, of_instruction, all_steps_length}
 use Rattle.operand_programs.proofs.Stepped.{nothing_added}
 use Rattle.micro_lower.specs.Plans.{Plan, specifiers_from, steps_of, rest_program, program_of}
 use Rattle.micro_lower.proofs.Plain.{Does}
-
-pub steps_length : (specifiers : List Specifier) (steps : List ℕ) → length (steps_behind_all specifiers steps) ≡ length steps
-steps_length [] steps = refl
-steps_length (s ∷ specifiers) steps = steps_length specifiers (steps_behind_specifier s steps) ∙ access_steps_length s.access s.operand s.size steps
 
 module _ (operation : Operation) (instr : Instr) (plan : Plan) where
   abbrev pub steps : List ℕ
@@ -61,7 +57,7 @@ module _ (operation : Operation) (instr : Instr) (plan : Plan) where
       (tree_of pages (Rattle.operand_programs.specs.InOrder.evaluate_all specifiers) s (λ values after. rest (filled nothing 6 values) after))) (nothing_added state ok)
       (in_order specifiers no_steps placed (sources_of operation) state pages thread (rest_program (sources_of operation) plan steps) (record { state = state; after = instr.after }) (started state)
       (λ values after. rest (filled nothing 6 values) after) (sym ok.registers)
-      (λ values temps left kept. all state pages thread temps values ok (steps_length specifiers no_steps ∙ sym ok.registers) left)))
+      (λ values temps left kept. all state pages thread temps values ok (all_steps_length specifiers no_steps ∙ sym ok.registers) left)))
 
 -- ---- what the operands left, one after the other
 module _ (size : Size) (operand : Operand) (to place : ℕ) (later : List Specifier) (values : List Evaluated) (temps : Temps) (P : List Evaluated → Type 0) where

@@ -1,5 +1,5 @@
 -- EMUL's program lowers it, and keeps to it.
-use Rattle.std.proofs.Common.{◌≡◌, ℕ, true, false, List, [], ◌∷◌, ◌++◌, Some, refl, sym, subst, lit<, lit≤}
+use Rattle.std.proofs.Common.{◌≡◌, ℕ, true, List, [], ◌∷◌, ◌++◌, Some, refl, sym, subst, lit<, lit≤}
 use Rattle.vax_form.specs.Grammar.{IsSpelled, padded}
 use Rattle.vax_form.specs.Operation.{operation_at}
 use Rattle.vax_form.specs.Row.{operands_of}
@@ -16,7 +16,7 @@ use Rattle.micro_ops.specs.declared.program.Exit.TheVariants as exits
 use Rattle.micro_ops.specs.declared.program.Micro.{Micro}
 use Rattle.micro_ops.specs.declared.program.Micro.TheVariants.{Leave}
 use Rattle.operand_programs.specs.Behind.{AreFit}
-use Rattle.operand_programs.specs.InOrder.{AreOperandsOf, ArePlaced, operands_program, steps_behind_all, no_steps}
+use Rattle.operand_programs.specs.InOrder.{ArePlaced, operands_program, steps_behind_all, no_steps}
 use Rattle.operand_programs.specs.Operands.{IsLocated}
 use Rattle.operand_programs.specs.Rows.{Piece, Evaluates, Operates, Stores, Finishes, row_fits}
 use Rattle.operand_programs.proofs.RowWalks.{row_law}
@@ -29,7 +29,7 @@ use Rattle.micro_lower.proofs.Inner.{operands_inner, target_inner, end_inner, co
 use Rattle.micro_lower.proofs.Keeping.{Ends, keeps, ends_behind, ends_all, next_keeps}
 use Rattle.micro_lower.proofs.Lowered.{AreFitting, fitting}
 use Rattle.micro_lower.proofs.Plain.{lowers}
-use Rattle.micro_lower.proofs.ProductRows.{factors_of, others_of, all_of, product_does}
+use Rattle.micro_lower.proofs.ProductRows.{factors_of, others_of, product_does}
 use Rattle.micro_lower.proofs.Slots.{Fits, FitSlots}
 use Rattle.micro_lower.proofs.Spelled.{with_operands}
 

@@ -1,5 +1,5 @@
 -- EMUL does what its instruction does: the product is made behind the second operand.
-use Rattle.std.proofs.Common.{◌≡◌, ℕ, ◌+◌, ◌-◌, ◌*◌, ◌%◌, ◌^◌, ◌<◌, ◌≤◌, ◌==◌, false, List, [], ◌∷◌, ◌++◌, length, Some, refl, sym, ap, ◌∙◌, subst, arith, inl, inr, lit<, lit≤}
+use Rattle.std.proofs.Common.{◌≡◌, ℕ, ◌+◌, ◌-◌, ◌*◌, ◌%◌, ◌^◌, ◌<◌, ◌≤◌, false, List, [], ◌∷◌, ◌++◌, length, Some, refl, sym, ap, ◌∙◌, subst, arith, inl, inr, lit≤}
 use Rattle.std.specs.Prelude.{ℤ, pos, negsuc, ◌+ℤ◌, ◌*ℤ◌}
 use Rattle.std.proofs.Math.Nat.{mod-eq_of_lt}
 use Rattle.std.proofs.lemmas.Bool.{cases_lt}
@@ -31,24 +31,25 @@ use Rattle.micro_ops.specs.declared.codes.CodeSource.TheVariants.{Result, Zero}
 use Rattle.micro_ops.specs.declared.codes.CodeSources.{CodeSources}
 use Rattle.micro_ops.specs.declared.program.Exit.TheVariants.{Next}
 use Rattle.micro_ops.specs.declared.program.Micro.{Micro}
+use Rattle.micro_ops.proofs.Sizes.{low_below}
 use Rattle.operand_programs.specs.InOrder.{AreOperandsOf, ArePlaced, evaluate_all, operands_program, steps_behind_all, no_steps}
 use Rattle.operand_programs.specs.Operands.{IsAt}
 use Rattle.operand_programs.specs.Pieces.{Agrees, leaving}
 use Rattle.operand_programs.specs.Results.{IsGivable}
 use Rattle.operand_programs.specs.Specifiers.{stepped}
 use Rattle.operand_programs.specs.declared.operands.Specifier.{Specifier}
-use Rattle.operand_programs.proofs.Ordered.{in_order, of_instruction}
+use Rattle.operand_programs.proofs.Ordered.{in_order, of_instruction, all_steps_length}
 use Rattle.operand_programs.proofs.Stepped.{nothing_added}
 use Rattle.micro_lower.specs.Plans.{rest_program}
-use Rattle.micro_lower.specs.Rows.{product_program, extended_multiply_plan, extended_multiply_program}
+use Rattle.micro_lower.specs.Rows.{product_program, extended_multiply_plan}
 use Rattle.micro_lower.proofs.Coding.{plain_end}
 use Rattle.micro_lower.proofs.Endings.{found_at, with, DoesSo}
 use Rattle.micro_lower.proofs.Fitting.{product_wide, value_below}
 use Rattle.micro_lower.proofs.Overflow.{signed_wide}
 use Rattle.micro_lower.proofs.Given.{gives_as}
-use Rattle.micro_lower.proofs.Overflow.{extended_below, low_below}
+use Rattle.micro_lower.proofs.Overflow.{extended_below}
 use Rattle.micro_lower.proofs.Plain.{Does}
-use Rattle.micro_lower.proofs.Planned.{read_twice, read_and_write, specifier, value, place, steps_length}
+use Rattle.micro_lower.proofs.Planned.{read_twice, read_and_write, specifier, value, place}
 use Rattle.micro_lower.proofs.Ready.{effect}
 use Rattle.micro_lower.proofs.TestRows.{test_end}
 
@@ -169,8 +170,8 @@ module _ (instr : Instr) where
       let behind : List Evaluated → VaxState → Tree = λ values after. tree_of pages (evaluate_all others_of) after (λ more final. k (values ++ more) final) in
       let P = CodesComeFrom product_codes state in
       let end = leaving pages thread in
-      let same : length steps_first ≡ length state.r = steps_length factors_of no_steps ∙ sym ok.registers in
-      let same' : length steps_all ≡ length state.r = steps_length others_of steps_first ∙ same in
+      let same : length steps_first ≡ length state.r = all_steps_length factors_of no_steps ∙ sym ok.registers in
+      let same' : length steps_all ≡ length state.r = all_steps_length others_of steps_first ∙ same in
       let plain : List Evaluated → VaxState → Tree = λ values after. tree_of pages (body operations.ExtendedMultiply instr thread values) after ends_with in
       rw (is, of_instruction all_of (evaluated_row operations.ExtendedMultiply) instr pages state plain (lit≤ tt) are)
       (subst (λ (s : VaxState). Agrees P end (course_of (operands_program factors_of no_steps ++ middle) found (started state)) (tree_of pages (evaluate_all factors_of) s behind)) (nothing_added state ok)

@@ -1,12 +1,12 @@
 -- BISPSW and BICPSW do what their instructions do.
-use Rattle.std.proofs.Common.{◌≡◌, ℕ, ◌+◌, ◌-◌, ◌*◌, ◌%◌, ◌^◌, ◌<◌, ◌≤◌, Bool, true, false, List, [], ◌∷◌, ◌++◌, refl, sym, ap, ◌∙◌, subst, arith, leb-true}
+use Rattle.std.proofs.Common.{◌≡◌, ℕ, ◌+◌, ◌-◌, ◌*◌, ◌%◌, ◌^◌, ◌<◌, Bool, true, false, List, [], ◌∷◌, ◌++◌, refl, sym, ap, ◌∙◌, subst, arith}
 use Rattle.std.specs.Prelude.{nat_lt, bit_and, bit_or, if◌then◌else◌}
 use Rattle.std.specs.Int.Bits.{and_block}
 use Rattle.std.proofs.Math.Nat.{mod-eq_of_lt}
 use Rattle.std.proofs.lemmas.Bool.Decides.{nat_tests}
 use Rattle.std.proofs.lemmas.Nat.{and_le_l, or_lt}
 use Rattle.vax_form.specs.Script.{◌>>◌, change}
-use Rattle.vax_form.specs.State.{IsState, with_psw}
+use Rattle.vax_form.specs.State.{with_psw}
 use Rattle.vax_form.specs.Tree.{Tree, tree_of, ends_with}
 use Rattle.vax_form.specs.Tree as trees
 use Rattle.vax_form.specs.declared.instr.Instr.{Instr}

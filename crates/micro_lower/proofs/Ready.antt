@@ -1,11 +1,12 @@
 -- What the temporaries hold before the codes are set, for each place where codes come from: then they are the
 -- instruction's.
 use Rattle.std.proofs.Common.{◌≡◌, ℕ, ◌+◌, ◌-◌, ◌/◌, ◌%◌, ◌^◌, ◌<◌, Bool, true, false, List, [], ◌∷◌, ◌++◌, Some, None, refl, sym, ap, ◌∙◌, arith}
-use Rattle.std.specs.Prelude.{◌==◌, ◌&&◌, not, nat_le, nat_lt, int_lt}
+use Rattle.std.specs.Prelude.{◌==◌, not, nat_le, nat_lt, int_lt}
 use Rattle.std.specs.List.{list_all}
 use Rattle.std.proofs.Common.{inl, inr, leb-true, add-zero, subst}
 use Rattle.std.proofs.lemmas.Bool.Decides.{eqb_tells}
 use Rattle.std.proofs.Math.Nat.{mod-eq_of_lt}
+use Rattle.std.proofs.lemmas.Bool.{and_parts}
 use Rattle.vax_form.specs.declared.instr.Size.{Size}
 use Rattle.vax_form.specs.declared.pages.Pages.{Pages}
 use Rattle.vax_form.specs.declared.state.VaxState.{VaxState}
@@ -24,10 +25,11 @@ use Rattle.micro_ops.specs.declared.program.Exit.TheVariants as exits
 use Rattle.micro_ops.specs.declared.program.MicroOp.TheVariants as ops
 use Rattle.micro_ops.specs.declared.program.Micro.{Micro}
 use Rattle.micro_ops.specs.declared.program.Micro.TheVariants.{Compute, Leave}
+use Rattle.micro_ops.proofs.Sizes.{low_below}
 use Rattle.operand_programs.specs.Pieces.{Agrees, with_temps, leaving}
 use Rattle.micro_lower.specs.Plans.{codes_program, signs_by, none_into, overflow_of, signs_of_two, carry_program}
 use Rattle.micro_lower.proofs.Coding.{HasFlags, GoesTo, coded_end, codes_leave}
-use Rattle.micro_lower.proofs.Overflow.{IsNarrow, sum_carries, negative_is, none_is, differ, sum_differs, difference_differs, low_below}
+use Rattle.micro_lower.proofs.Overflow.{IsNarrow, sum_carries, negative_is, none_is, differ, sum_differs, difference_differs}
 
 -- N and Z are by that value
 abbrev pub HasSign : Size → (value : ℕ) → Coded → Type 0
@@ -62,14 +64,10 @@ writes_high operation = true
 another : (temp to : ℕ) → temp < 6 → nat_le 6 to ≡ true → (temp == to) ≡ false
 another temp to low high = elim (eqb_tells temp to) [ inl is ↦ absurd (omega (arith, leb-true 6 to high, is.1, low)) | inr not ↦ not.0 ]
 
-both_true : (a b : Bool) → (a && b) ≡ true → (a ≡ true) × (b ≡ true)
-both_true true b is = (refl, is)
-both_true false b is = cc
-
 pub low_kept : (program : List Micro) (found : Found) (temps : Temps) (temp : ℕ) → temp < 6 → list_all writes_high program ≡ true → effect program found temps temp ≡ temps temp
 low_kept [] found temps temp low high = refl
 low_kept (Compute to op size a b ∷ program) found temps temp low high =
-    let h = both_true _ _ high in
+    let h = and_parts _ _ high in
     low_kept program found _ temp low h.1 ∙ rw (another temp to low h.0) refl
 low_kept (_ ∷ program) found temps temp low high = low_kept program found temps temp low high
 

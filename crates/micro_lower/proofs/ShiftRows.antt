@@ -4,7 +4,7 @@ use Rattle.std.specs.Prelude.{ℤ, pos, ◌*ℤ◌, ◌&&◌, not, nat_lt, nat_l
 use Rattle.std.specs.Int.{int_div_euclid}
 use Rattle.std.proofs.Math.Nat.{mod-eq_of_lt}
 use Rattle.std.proofs.Math.Pow.{pow_mono}
-use Rattle.std.proofs.lemmas.Bool.{cases_lt, lt-ltb, le-leb}
+use Rattle.std.proofs.lemmas.Bool.{cases_lt, lt-ltb}
 use Rattle.std.proofs.lemmas.Bool.Decides.{nat_tests}
 use Rattle.std.proofs.lemmas.Int.{ints, unsigned_abs-mul}
 use Rattle.std.proofs.lemmas.Nat.{mod_below, mul-le}
@@ -23,14 +23,15 @@ use Rattle.micro_ops.specs.Sources.{sources_of}
 use Rattle.micro_ops.specs.Values.{value_from}
 use Rattle.micro_ops.specs.declared.codes.CodeSource.TheVariants.{Computed, Zero}
 use Rattle.micro_ops.specs.declared.program.Exit.TheVariants.{Next}
+use Rattle.micro_ops.proofs.Sizes.{low_below}
 use Rattle.operand_programs.specs.Results.{IsGivable}
 use Rattle.micro_lower.specs.Plans.{steps_of}
 use Rattle.micro_lower.specs.Rows.{arithmetic_shift_plan}
 use Rattle.micro_lower.proofs.Endings.{found_at}
 use Rattle.micro_lower.proofs.Fitting.{value_below, product_wide}
-use Rattle.micro_lower.proofs.Overflow.{fits_where, low_of, signed_small}
+use Rattle.micro_lower.proofs.Overflow.{fits_where, low_of, signed_small, turned}
 use Rattle.micro_lower.proofs.Given.{coded_end_of, gives_as}
-use Rattle.micro_lower.proofs.Overflow.{extended_below, flipped, low_below, negative_is}
+use Rattle.micro_lower.proofs.Overflow.{extended_below, flipped, negative_is}
 use Rattle.micro_lower.proofs.Planned.{AllDo, BodyDoes, read_twice_and_write}
 use Rattle.micro_lower.proofs.Ready.{effect}
 
@@ -117,9 +118,6 @@ wide x p lt small =
     ∙ product_wide Quad s p below bounded
     ∙ ap (λ n. n * sign_extended p 64 % 2 ^ 64) (extended_itself s below)
     ∙ ap (λ n. s * n % 2 ^ 64) (extended_itself p bounded)
-
-turned : (a b : ℕ) → (a == b) ≡ (b == a)
-turned a b = grind (arith, nat_tests)
 
 fits_below : (x c : ℕ) → x < 2 ^ 32 → c < 32 → (let y = sign_extended x 32 * 2 ^ c % 2 ^ 64 in (y == sign_extended (y % 2 ^ 32) 32) ≡ fits 4 (signed_value 4 x *ℤ pos (2 ^ c)))
 fits_below x c lt below =

@@ -2,6 +2,7 @@
 use Rattle.std.proofs.Common.{◌≡◌, ℕ, suc, ◌+◌, ◌≤◌, ◌^◌, Bool, true, false, List, [], ◌∷◌, length, map, Some, None, refl, ap, ◌∙◌, subst, arith, ltb-true, lit<}
 use Rattle.std.specs.Prelude.{◌≢◌, ◌==◌, ◌&&◌, not, nat_lt}
 use Rattle.std.proofs.lemmas.Nat.{mod_below}
+use Rattle.std.proofs.lemmas.Bool.{and_parts, not-true}
 use Rattle.vax_form.specs.Grammar.{SpecifyAll, Specifies, Describes, Locates, HasRegister, number}
 use Rattle.vax_form.specs.Row.{row_with}
 use Rattle.vax_form.specs.declared.instr.Access.{Access}
@@ -187,19 +188,11 @@ abbrev pub are_apart : List Slot → Bool
 are_apart [] = true
 are_apart (slot ∷ slots) = nat_lt slot.to 4 && nat_lt slot.place 4 && not (slot.to == slot.place) && lasts slot.access slot.to slot.place slots && are_apart slots
 
-both : (a b : Bool) → (a && b) ≡ true → (a ≡ true) × (b ≡ true)
-both true b is = (refl, is)
-both false b is = cc
-
-negated : (b : Bool) → not b ≡ true → b ≡ false
-negated true is = cc
-negated false is = refl
-
 three : (a b c : Bool) → (not a && not b && not c) ≡ true → (a ≡ false) × (b ≡ false) × (c ≡ false)
 three a b c is =
-    let second = both _ _ is in
-    let first = both _ _ second.0 in
-    (negated a first.0, negated b first.1, negated c second.1)
+    let second = and_parts _ _ is in
+    let first = and_parts _ _ second.0 in
+    (not-true a first.0, not-true b first.1, not-true c second.1)
 
 outside_one : (access : Access) (to place temp : ℕ) → is_outside_one access to place temp ≡ true → IsOutsideOne access to place temp
 outside_one Read to place temp is = three _ _ _ is
@@ -212,7 +205,7 @@ outside_one Branch to place temp is = tt
 outside : (slots : List Slot) (operands : List Operand) (temp : ℕ) → FitSlots slots operands → is_outside slots temp ≡ true → IsOutside (zip slots operands) temp
 outside [] [] temp fit is = tt
 outside (slot ∷ slots) (operand ∷ operands) temp fit is =
-    let b = both _ _ is in
+    let b = and_parts _ _ is in
     (outside_one slot.access slot.to slot.place temp b.0, outside slots operands temp fit.1 b.1)
 outside [] (operand ∷ operands) temp fit is = absurd fit
 outside (slot ∷ slots) [] temp fit is = absurd fit
@@ -220,19 +213,19 @@ outside (slot ∷ slots) [] temp fit is = absurd fit
 last : (access : Access) (to place : ℕ) (slots : List Slot) (operands : List Operand) → FitSlots slots operands → lasts access to place slots ≡ true → Lasts access to place (zip slots operands)
 last Read to place slots operands fit is = outside slots operands to fit is
 last Write to place slots operands fit is = outside slots operands place fit is
-last Modify to place slots operands fit is = let b = both _ _ is in (outside slots operands to fit b.0, outside slots operands place fit b.1)
+last Modify to place slots operands fit is = let b = and_parts _ _ is in (outside slots operands to fit b.0, outside slots operands place fit b.1)
 last Address to place slots operands fit is = outside slots operands to fit is
-last Field to place slots operands fit is = let b = both _ _ is in (outside slots operands to fit b.0, outside slots operands place fit b.1)
+last Field to place slots operands fit is = let b = and_parts _ _ is in (outside slots operands to fit b.0, outside slots operands place fit b.1)
 last Branch to place slots operands fit is = tt
 
 are_placed : (slots : List Slot) (operands : List Operand) → FitSlots slots operands → are_apart slots ≡ true → ArePlaced (zip slots operands)
 are_placed [] [] fit is = tt
 are_placed (slot ∷ slots) (operand ∷ operands) fit is =
-    let e = both _ _ is in
-    let d = both _ _ e.0 in
-    let c = both _ _ d.0 in
-    let b = both _ _ c.0 in (
-      record { operand = fit.0.0.0; to = ltb-true slot.to 4 b.0; place = ltb-true slot.place 4 b.1; apart = negated _ c.1 },
+    let e = and_parts _ _ is in
+    let d = and_parts _ _ e.0 in
+    let c = and_parts _ _ d.0 in
+    let b = and_parts _ _ c.0 in (
+      record { operand = fit.0.0.0; to = ltb-true slot.to 4 b.0; place = ltb-true slot.place 4 b.1; apart = not-true _ c.1 },
       last slot.access slot.to slot.place slots operands fit.1 d.1,
       are_placed slots operands fit.1 e.1,
     )

@@ -1,7 +1,8 @@
 -- What an instruction is that some bytes spell.
-use Rattle.std.proofs.Common.{◌≡◌, ℕ, ◌+◌, ◌<◌, ◌^◌, List, Some, None, sym, ap, ◌∙◌, subst, lit<}
+use Rattle.std.proofs.Common.{◌≡◌, ℕ, ◌+◌, ◌<◌, ◌^◌, List, Some, sym, ap, ◌∙◌, subst, lit<}
 use Rattle.std.specs.Prelude.{option_map, Option}
 use Rattle.std.proofs.lemmas.Nat.{mod_below}
+use Rattle.std.proofs.lemmas.Option.{same_Some}
 use Rattle.vax_form.specs.Grammar.{IsSpelled, SpecifyAll, padded}
 use Rattle.vax_form.specs.Operation.{operation_at}
 use Rattle.vax_form.specs.Row.{operands_of}
@@ -23,15 +24,12 @@ pub record Given (types : List (Access × Size)) (instr : Instr) : Type 0 where
   pub are_operands : SpecifyAll types (instr.at + 1) bytes operands
   pub within : instr.after < 2 ^ 32
 
-some_same : {A : Type 0} (x y : A) → Some x ≡ Some y → x ≡ y
-some_same {A = A} x y is = ap (λ (o : Option A). elim o [ None ↦ x | Some z ↦ z ]) is
-
 pub given : (instr : Instr) (operation : Operation) → IsSpelled instr → operation_at instr.opcode ≡ Some operation → Given (operands_of operation) instr
 given instr operation spelled is =
     let s = spelled.1 in
     let at_opcode : operation_at s.opcode ≡ Some operation = ap (λ (i : Instr). operation_at i.opcode) (sym s.is_instr) ∙ is in
     let some : Some (operands_of operation) ≡ Some s.types = ap (λ (o : Option Operation). option_map operands_of o) (sym at_opcode) ∙ s.is_opcode in
-    let types : s.types ≡ operands_of operation = sym (some_same _ _ some) in
+    let types : s.types ≡ operands_of operation = sym (same_Some _ _ some) in
     record {
       operands = s.operands;
       bytes = s.rest;

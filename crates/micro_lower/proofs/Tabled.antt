@@ -1,5 +1,6 @@
 -- What the table of opcodes has of each operation.
 use Rattle.std.proofs.Common.{◌≡◌, ℕ, Bool, true, false, List, [], ◌∷◌, Option, Some, None, refl, subst}
+use Rattle.std.proofs.lemmas.Bool.{and_parts}
 use Rattle.std.specs.Option.{option_or}
 use Rattle.std.specs.Prelude.{◌==◌, ◌-◌, ◌&&◌, if◌then◌else◌}
 use Rattle.vax_form.specs.Operation.{operation_at, among, is_between, integer_opcodes, control_opcodes, mixed_opcodes, move_opcodes, bit_opcodes, other_operation_at}
@@ -27,10 +28,6 @@ abbrev pub Tabled : Option Operation → Type 0
 Tabled None = Unit {0}
 Tabled (Some found) = is_tabled found ≡ true
 
-parts : (a b : Bool) → (a && b) ≡ true → (a ≡ true) × (b ≡ true)
-parts true b is = (refl, is)
-parts false b is = cc
-
 either : (b : Bool) (x y : Option Operation) → Tabled x → Tabled y → Tabled (if b then x else y)
 either true x y p q = p
 either false x y p q = q
@@ -38,7 +35,7 @@ either false x y p q = q
 among_tabled : (rows : List (ℕ × Operation)) (opcode : ℕ) → are_tabled rows ≡ true → Tabled (among rows opcode)
 among_tabled [] opcode all = tt
 among_tabled (row ∷ rows) opcode all =
-    let p = parts (is_tabled row.1) (are_tabled rows) all in
+    let p = and_parts (is_tabled row.1) (are_tabled rows) all in
     either (opcode == row.0) (Some row.1) (among rows opcode) p.0 (among_tabled rows opcode p.1)
 
 first_of : (x y : Option Operation) → Tabled x → Tabled y → Tabled (option_or x y)

@@ -22,7 +22,6 @@ use Rattle.micro_ops.specs.declared.program.Exit.TheVariants.{Next}
 use Rattle.micro_lower.proofs.Coding.{plain_end}
 use Rattle.micro_lower.proofs.Endings.{found_at, with, DoesSo, closes_coded}
 use Rattle.micro_lower.proofs.Planned.{AllDo, BodyDoes}
-use Rattle.micro_lower.proofs.Overflow.{low_below}
 use Rattle.micro_ops.specs.Meaning.{Temps}
 use Rattle.micro_ops.specs.declared.program.Micro.TheVariants.{Leave}
 use Rattle.operand_programs.specs.Specifiers.{stepped}
@@ -39,6 +38,7 @@ use Rattle.vax_meaning.specs.Codes.{sign_of}
 use Rattle.vax_meaning.specs.Moves.{push, push_value, compare, test_value, bit_test, with_comparison}
 use Rattle.micro_ops.specs.Leaving.{comparison_of}
 use Rattle.micro_ops.specs.declared.codes.CodeSource.TheVariants.{Compare, Zero}
+use Rattle.micro_ops.proofs.Sizes.{low_below}
 use Rattle.micro_lower.specs.Rows.{compare_plan, test_plan, bit_test_plan, push_long_plan, push_address_plan}
 use Rattle.micro_lower.specs.Plans.{Plan}
 use Rattle.micro_lower.proofs.Endings.{nowhere, pushed}

@@ -1,8 +1,7 @@
 -- What a lowered program has to meet: it does what the instruction does, the temporaries hold what its condition codes
 -- come from where it leaves, it fits a block, and it reads no other code and goes nowhere else than the instruction.
-use Rattle.std.specs.Prelude.{◌≡◌, ◌↔◌, ◌⊎◌, ◌<◌, ◌==◌, ℕ, Bool, true, false, All, List, Some, nat_eq, if◌then◌else◌}
+use Rattle.std.specs.Prelude.{◌≡◌, ◌↔◌, ◌⊎◌, ◌<◌, ◌==◌, ℕ, Bool, true, All, List, Some, nat_eq, if◌then◌else◌}
 use Rattle.std.specs.List.{list_any}
-use Rattle.std.specs.Option.{option_map_or}
 use Rattle.vax_form.specs.Operation.{operation_at}
 use Rattle.vax_form.specs.Row.{class_at}
 use Rattle.vax_form.specs.State.{IsState}

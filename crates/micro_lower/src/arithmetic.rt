@@ -323,6 +323,8 @@ fn aligned_slot(base: Operand) -> Slot
 /// The sum of the words in 0 and 1 goes into 2.
 const WORD_ADDED: Micro = binary!(2, MicroOp::Add, Size::Word, Arg::Temp(0), Arg::Temp(1));
 
+const IN_A_REGISTER: [Micro; 1] = [WORD_ADDED];
+
 const CHECKED: Micro = Micro::Probe {
     place: 3,
     count: 2,
@@ -352,23 +354,20 @@ pub(crate) fn add_aligned_word(
     ensures { IfOk result (λ p. p.items ≡ program_of codes (add_aligned_plan instr.now) instr.now) }
 {
     let base = operand(instr, 1);
+    let before: &[Micro] = match base {
+        Operand::Register(_) => &IN_A_REGISTER,
+        Operand::Unused | Operand::Value(_) | Operand::Place { .. } | Operand::Target(_) => {
+            &ALIGNED_REFERENCE
+        }
+    };
     let plan = Plan {
         slots: &[read(Size::Word, 1, 2), aligned_slot(base)],
-        before: &[WORD_ADDED],
+        before,
         target: register_target(base, Size::Word),
         behind: &[],
         exit: Exit::Next,
     };
-    match base {
-        Operand::Register(_) => assemble(alloc, codes, plan, instr),
-        Operand::Unused | Operand::Value(_) | Operand::Place { .. } | Operand::Target(_) => {
-            let plan = Plan {
-                before: &ALIGNED_REFERENCE,
-                ..plan
-            };
-            assemble(alloc, codes, plan, instr)
-        }
-    }
+    assemble(alloc, codes, plan, instr)
 }
 
 /// V of ASHL into 3: the source as a signed quadword, shifted by at most 32, is not its low longword, and the count is

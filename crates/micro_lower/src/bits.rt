@@ -6,7 +6,7 @@ ghost use Rattle.micro_lower.specs.Rows.{bit_tested, storing, with_bit_into, bit
 
 use crate::micros::{add, binary};
 use crate::plans::{Plan, Slot, Target, assemble};
-use crate::rows::{branch_exit, operand, register_target, slot};
+use crate::rows::{BIT, INVERTED, branch_exit, operand, register_target, slot};
 use micro_ops::{Arg, CodeSources, LockedOp, Micro, MicroOp};
 use std::alloc::Global;
 use vax_form::{Access, BitBranch, BitStore, Instr, Operand, Size, WantOfMemory};
@@ -18,11 +18,6 @@ const LAST_BIT_OF_BYTE: u64 = 7;
 
 /// Bytes to the number of bits: the power of two.
 const BITS_OF_BYTE: u64 = 3;
-
-/// The last bit of 0 alone, and the other one for it.
-const BIT: Micro = binary!(0, MicroOp::And, Size::Byte, Arg::Temp(0), Arg::Const(1));
-
-const INVERTED: Micro = binary!(0, MicroOp::Xor, Size::Byte, Arg::Temp(0), Arg::Const(1));
 
 /// Whether the bit of that number in 0 of the value in 1 is as the branch wants it.
 fn put_bit_tested(program: &mut Vec<Micro>, state: bool, size: Size) -> Result<(), WantOfMemory>

@@ -6,19 +6,11 @@ ghost use Rattle.vax_meaning.specs.Evaluation.{operand};
 ghost use Rattle.micro_lower.specs.Programs.{flags_of, is_negated, flag_test, branch_if_program, subroutine_program, return_program, plain_program_of};
 
 use crate::micros::{binary, unary};
+use crate::rows::INVERTED;
 use micro_ops::{Arg, Exit, Micro, MicroOp};
 use std::alloc::{AllocError, Global};
-use vax_form::{Condition, Instr, Operand, Operation, Size};
-
-/// Where a branch goes.
-fn target(instr: &Instr) -> u32
-    ensures { result ≡ target (operand instr.now 0) }
-{
-    match instr.operands[0] {
-        Operand::Target(address) => address,
-        _ => 0,
-    }
-}
+use vax_form::{Condition, Instr, Operation, Size};
+use vax_meaning::target;
 
 /// The flags that a condition is made from, by their numbers: one, or either of two.
 fn flags_of(condition: Condition) -> (u8, Option<u8>)
@@ -73,8 +65,6 @@ fn leave(alloc: Global, exit: Exit) -> Result<Vec<Micro>, AllocError>
     Ok(vec![in alloc; Micro::Leave(exit)]?)
 }
 
-const INVERTED: Micro = binary!(0, MicroOp::Xor, Size::Byte, Arg::Temp(0), Arg::Const(1));
-
 /// BNEQ to BCS.
 fn conditional_branch(
     alloc: Global,
@@ -86,7 +76,7 @@ fn conditional_branch(
     let test = flag_test(flags_of(condition));
     let leave = Micro::Leave(Exit::Choice {
         when: 0,
-        taken: target(instr),
+        taken: target(instr.operands[0]),
         other: instr.after,
     });
     if is_negated(condition) {
@@ -129,7 +119,7 @@ fn subroutine_branch(alloc: Global, instr: &Instr) -> Result<Vec<Micro>, AllocEr
         CHECKED,
         PUSHED,
         COMMITTED,
-        Micro::Leave(Exit::Fixed(target(instr))),
+        Micro::Leave(Exit::Fixed(target(instr.operands[0]))),
     ]?)
 }
 
@@ -172,7 +162,7 @@ pub(crate) fn lower_plain(
     match operation {
         Operation::NoOperation => Some(leave(alloc, Exit::Next)),
         Operation::Breakpoint => Some(leave(alloc, Exit::Breakpoint)),
-        Operation::Branch(_) => Some(leave(alloc, Exit::Fixed(target(instr)))),
+        Operation::Branch(_) => Some(leave(alloc, Exit::Fixed(target(instr.operands[0])))),
         Operation::BranchIf(condition) => Some(conditional_branch(alloc, condition, instr)),
         Operation::BranchToSubroutine(_) => Some(subroutine_branch(alloc, instr)),
         Operation::ReturnFromSubroutine => Some(subroutine_return(alloc)),

@@ -6,7 +6,7 @@ ghost use Rattle.micro_lower.specs.Rows.{low_bit_plan, down_test, subtract_one_p
 
 use crate::micros::{binary, unary};
 use crate::plans::{Plan, Slot, Target, assemble};
-use crate::rows::{branch_exit, displaced, inverted, modified, operand, read, slot};
+use crate::rows::{BIT, INVERTED, branch_exit, displaced, inverted, modified, operand, read, slot};
 use micro_ops::{Arg, CodeSources, Exit, Micro, MicroOp};
 use std::alloc::Global;
 use vax_form::{Access, Base, Instr, Operand, Size, WantOfMemory, Width};
@@ -16,11 +16,7 @@ const GREATEST: u64 = 0x7FFF_FFFF;
 
 const LEAST: u64 = 0x8000_0000;
 
-/// 1 for 0, and 0 for 1.
-const INVERTED: Micro = binary!(0, MicroOp::Xor, Size::Byte, Arg::Temp(0), Arg::Const(1));
-
-/// The last bit of 0 alone.
-const BIT: Micro = binary!(0, MicroOp::And, Size::Byte, Arg::Temp(0), Arg::Const(1));
+const ITS_BIT: [Micro; 1] = [BIT];
 
 const INVERTED_BIT: [Micro; 2] = [BIT, INVERTED];
 
@@ -40,24 +36,12 @@ pub(crate) fn branch_on_low_bit(
 {
     let plan = Plan {
         slots: &SOURCE_AND_TARGET,
-        before: &[BIT],
+        before: if state { &ITS_BIT } else { &INVERTED_BIT },
         target: Target::Nowhere,
         behind: &[],
         exit: branch_exit(instr, 1),
     };
-    if state {
-        assemble(alloc, codes, plan, instr)
-    } else {
-        assemble(
-            alloc,
-            codes,
-            Plan {
-                before: &INVERTED_BIT,
-                ..plan
-            },
-            instr,
-        )
-    }
+    assemble(alloc, codes, plan, instr)
 }
 
 const ONE_LESS: [Micro; 1] = [binary!(2, MicroOp::Sub, Size::Long, Arg::Temp(0), Arg::Const(1))];

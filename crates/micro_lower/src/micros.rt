@@ -7,10 +7,8 @@ use vax_form::WantOfMemory;
 pub(crate) fn add(program: &mut Vec<Micro>, operations: &[Micro]) -> Result<(), WantOfMemory>
     ensures { OnOk result (program.new.items ≡ program.old.items ++ operations.now) }
 {
-    match program.extend_from_slice(operations) {
-        Ok(()) => Ok(()),
-        Err(_) => Err(WantOfMemory),
-    }
+    program.extend_from_slice(operations)?;
+    Ok(())
 }
 
 /// A computation of one argument.

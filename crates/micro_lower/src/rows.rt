@@ -1,6 +1,5 @@
 // What rows of the table are made of: slots of operands, and computations.
 ghost use Rattle.std.specs.Prelude.{◌≡◌, ◌<◌};
-ghost use Rattle.vax_meaning.specs.Branches.{target};
 ghost use Rattle.vax_meaning.specs.Evaluation.{operand};
 ghost use Rattle.micro_lower.specs.Rows.{read, written, modified, addressed, displaced, inverted, overflow_by, register_target, branch_exit};
 
@@ -8,6 +7,7 @@ use crate::micros::{binary, unary};
 use crate::plans::{Slot, Target};
 use micro_ops::{Arg, Exit, Micro, MicroOp};
 use vax_form::{Access, Instr, Operand, Size};
+use vax_meaning::target;
 
 macro_rules! slot {
     ($access:expr, $size:expr, $to:expr, $place:expr) => {
@@ -69,6 +69,18 @@ pub(crate) fn inverted(temp: u8) -> Micro
     )
 }
 
+/// The last bit of 0 alone.
+pub(crate) const BIT: Micro = binary!(0, MicroOp::And, Size::Byte, Arg::Temp(0), Arg::Const(1));
+
+/// In 0, 1 for 0, and 0 for 1.
+pub(crate) const INVERTED: Micro = binary!(
+    0,
+    MicroOp::Xor,
+    Size::Byte,
+    Arg::Temp(0),
+    Arg::Const(1)
+);
+
 /// V into 3: a number that was extended into 4 is not the result extended.
 pub(crate) fn overflow_by(size: Size) -> [Micro; 3]
     ensures { result ≡ overflow_by size }
@@ -100,16 +112,6 @@ pub(crate) fn register_target(base: Operand, size: Size) -> Target
         Operand::Unused | Operand::Value(_) | Operand::Place { .. } | Operand::Target(_) => {
             Target::Nowhere
         }
-    }
-}
-
-/// Where a branch goes.
-fn target(operand: Operand) -> u32
-    ensures { result ≡ target operand }
-{
-    match operand {
-        Operand::Target(address) => address,
-        _ => 0,
     }
 }
 

@@ -9,10 +9,7 @@ use crate::plans::{Plan, Slot, Target, assemble};
 use crate::rows::{operand, slot};
 use micro_ops::{Arg, CodeSources, Exit, Micro, MicroOp};
 use std::alloc::Global;
-use vax_form::{Access, Instr, Size, WantOfMemory};
-
-/// User mode, now and before, in the processor status longword.
-const USER_MODE: u64 = 0x03C0_0000;
+use vax_form::{Access, Instr, Size, USER_MODE, WantOfMemory};
 
 const DOUBLED: Micro = binary!(2, MicroOp::Add, Size::Byte, Arg::Temp(2), Arg::Temp(2));
 
@@ -52,7 +49,7 @@ const MODE: Micro = binary!(
     MicroOp::Add,
     Size::Long,
     Arg::Temp(2),
-    Arg::Const(USER_MODE)
+    Arg::Const(USER_MODE as u64)
 );
 
 const LONGWORD: [Micro; 16] = with_status!(; MODE);

@@ -1,9 +1,10 @@
 -- An instruction that stands in the code is spelled there, and goes on above its own address.
-use Rattle.std.proofs.Common.{◌≡◌, ℕ, zero, suc, ◌+◌, ◌-◌, ◌*◌, ◌/◌, ◌^◌, ◌<◌, refl, sym, ◌∙◌, ap, subst, arith, Bool, true, false, cond, List, [], ◌∷◌, length, get_or, Option, Some, None, find, not, ◌&&◌, nat_lt, ltb-true, lit<}
+use Rattle.std.proofs.Common.{◌≡◌, ℕ, zero, suc, ◌+◌, ◌-◌, ◌*◌, ◌/◌, ◌^◌, ◌<◌, refl, sym, ◌∙◌, ap, subst, arith, Bool, true, false, cond, List, [], ◌∷◌, length, get_or, Option, Some, None, find, not, nat_lt, ltb-true}
 use Rattle.std.specs.Prelude.{nat_le, slice_get, slice_index, option_map}
 use Rattle.std.proofs.lemmas.Option.{slice_get-get_or}
+use Rattle.std.proofs.lemmas.Bool.{and_parts}
 use Rattle.vax_form.specs.Grammar.{Spells, IsSpelled, instruction, wrapped}
-use Rattle.vax_form.specs.GrammarFound.{IsFetched, Stands, fetched, found, in_front_of}
+use Rattle.vax_form.specs.GrammarFound.{IsFetched, Stands, fetched, found}
 use Rattle.vax_form.specs.GrammarLaws.{AreBytes}
 use Rattle.vax_form.specs.PageTable.{AreRising, IsPageTable, has_page}
 use Rattle.vax_form.specs.Pages.{code_byte_at, has_code}
@@ -11,21 +12,18 @@ use Rattle.vax_form.specs.declared.instr.Instr.{Instr}
 use Rattle.vax_form.specs.declared.pages.PageRange.{PageRange}
 use Rattle.vax_form.specs.declared.pages.Pages.{Pages}
 use Rattle.vax_form.proofs.GrammarStands.{Stands-found}
+use Rattle.image_meaning.proofs.Decoded.{fetched_bytes}
 use Rattle.translate.specs.Compiled.{ArePages}
 
 -- ---- bytes are fetched below 80000000
-both : (a b : Bool) → (a && b) ≡ true → (a ≡ true) × (b ≡ true)
-both true b e = (refl, e)
-both false b e = absurd (cc e)
-
 some_range : (ranges : List PageRange) (lowest address : ℕ) (r : PageRange) → AreRising lowest ranges → find (has_code address) ranges ≡ Some r → address < 2147483648
 some_range [] lowest address r rising e = absurd (cc e)
 some_range (s ∷ ranges) lowest address r rising e = by (has_code address s) refl e (some_range ranges (s.first + s.count) address r rising.3)
   where
     by : (b : Bool) → has_code address s ≡ b → cond b (Some s) (find (has_code address) ranges) ≡ Some r → (find (has_code address) ranges ≡ Some r → address < 2147483648) → address < 2147483648
     by true has e later =
-        let parts = both (has_page (address / 512) s) (not s.writable) has in
-        let places = both (nat_le s.first (address / 512)) (nat_lt (address / 512) (s.first + s.count)) parts.0 in
+        let parts = and_parts (has_page (address / 512) s) (not s.writable) has in
+        let places = and_parts (nat_le s.first (address / 512)) (nat_lt (address / 512) (s.first + s.count)) parts.0 in
         let high : address / 512 < s.first + s.count = ltb-true (address / 512) (s.first + s.count) places.1 in
         let most = rising.2 in
         omega arith
@@ -37,19 +35,6 @@ fetched_below pages address b table e = by (find (has_code address) pages.ranges
     by : (o : Option PageRange) → find (has_code address) pages.ranges ≡ o → option_map (λ (r : PageRange). slice_index pages.code (r.place + (address - 512 * r.first))) o ≡ Some b → address < 2147483648
     by None f e = absurd (cc e)
     by (Some r) f e = some_range pages.ranges 0 address r table.rising f
-
--- ---- what was fetched has bytes alone
-in_front : (f : PageRange → ℕ) → ((r : PageRange) → f r < 256) → (o : Option PageRange) (bytes : List ℕ) → AreBytes bytes → AreBytes (in_front_of (option_map f o) bytes)
-in_front f below None bytes are i = lit< tt
-in_front f below (Some r) bytes are zero = below r
-in_front f below (Some r) bytes are (suc i) = are i
-
-fetched_bytes : (pages : Pages) (at n : ℕ) → AreBytes pages.code → AreBytes (fetched pages at n)
-unfolding fetched
-fetched_bytes pages at zero code = λ i. lit< tt
-fetched_bytes pages at (suc n) code =
-    in_front (λ (r : PageRange). slice_index pages.code (r.place + (wrapped at - 512 * r.first))) (λ r. code (r.place + (wrapped at - 512 * r.first)))
-    (find (has_code (wrapped at)) pages.ranges) (fetched pages (at + 1) n) (fetched_bytes pages (at + 1) n code)
 
 -- ---- the instruction
 pub record IsThere (pages : Pages) (at : ℕ) (instr : Instr) : Type 0 where

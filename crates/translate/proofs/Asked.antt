@@ -44,12 +44,7 @@ binary_together : (operation : BinaryOperation) (width : Width)
     → (is_written (sources_of (operations.TwoOperands operation width)).nzv || not (is_written (sources_of (operations.TwoOperands operation width)).c)) ≡ true
 unfolding sources_of
 binary_together binary.Add width = refl
-binary_together binary.Subtract width = refl
-binary_together binary.Multiply width = refl
-binary_together binary.Divide width = refl
-binary_together binary.BitSet width = refl
-binary_together binary.BitClear width = refl
-binary_together binary.ExclusiveOr width = refl
+binary_together operation width = refl
 
 together : (operation : Operation) → (is_written (sources_of operation).nzv || not (is_written (sources_of operation).c)) ≡ true
 unfolding sources_of
@@ -75,11 +70,7 @@ binary_narrow : (operation : BinaryOperation) (width : Width) → is_narrow (rul
 unfolding sources_of
 binary_narrow binary.Add width = width_narrow width
 binary_narrow binary.Subtract width = width_narrow width
-binary_narrow binary.Multiply width = refl
-binary_narrow binary.Divide width = refl
-binary_narrow binary.BitSet width = refl
-binary_narrow binary.BitClear width = refl
-binary_narrow binary.ExclusiveOr width = refl
+binary_narrow operation width = refl
 
 operation_narrow : (operation : Operation) → is_narrow (rule_of (sources_of operation).nzv) ≡ true
 unfolding sources_of

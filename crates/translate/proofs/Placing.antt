@@ -1,14 +1,11 @@
 -- Instructions beside their blocks.
-use Rattle.std.proofs.Common.{◌≡◌, ℕ, ◌+◌, ◌-◌, ◌<◌, ◌≤◌, ◌++◌, refl, sym, ap, ◌∙◌, subst, arith, Bool, true, false, List, [], ◌∷◌, length, map, get_or, nat_lt, ltb-true, ltb-false, Some}
+use Rattle.std.proofs.Common.{◌≡◌, ℕ, ◌+◌, ◌<◌, ◌≤◌, ◌++◌, refl, sym, ap, ◌∙◌, subst, arith, Bool, true, false, List, [], ◌∷◌, length, map, get_or, nat_lt, ltb-true, ltb-false, Some}
 use Rattle.std.specs.Prelude.{slice_get}
 use Rattle.std.proofs.lemmas.List.{ext_get_or, get_or-map, get_or_append_left, get_or_push, length-map, length_push, same_lists}
 use Rattle.std.proofs.lemmas.List.FromFn.{get_or-map-range_with_len, length-map-range_with_len}
 use Rattle.std.proofs.lemmas.Option.{slice_get-get_or, slice_get_within, get_or_from_slice_get}
 use Rattle.vax_form.specs.declared.instr.Instr.{Instr}
 use Rattle.address_map.specs.Pairs.{Pair}
-use Rattle.exception_records.specs.Points.{Entry, WordsRise, HasFlaw}
-use Rattle.exception_records.specs.declared.points.PointRefusal.{PointRefusal}
-use Rattle.exception_records.specs.declared.points.PointRefusal.TheVariants.{OutOfOrder}
 use Rattle.block_law.specs.Blocks.{IsBlockOf}
 use Rattle.branch_layout.specs.Layouts.{Placed, AddressesRise, IsPlaced, AreBlocks, places}
 use Rattle.branch_layout.proofs.Filling.{All_by}

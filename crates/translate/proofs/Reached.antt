@@ -10,6 +10,7 @@ use Rattle.std.proofs.lemmas.List.Elements.{All-filter, filter_passes}
 use Rattle.std.proofs.lemmas.List.Kept.{IsStrictlyIncreasing-filter}
 use Rattle.std.proofs.lemmas.List.Sums.{length-filter, count_by-le-length}
 use Rattle.std.proofs.lemmas.Map.Views.{any-filter_same}
+use Rattle.std.proofs.lemmas.Bool.{and_parts}
 use Rattle.address_map.specs.Pairs.{Pair, word_at}
 use Rattle.block_law.specs.Translations.{Code}
 use Rattle.flow_discovery.specs.Reach.{IsReach, has, instruction_at, instruction_in, most}
@@ -45,10 +46,6 @@ is_mapped (p ∷ pairs) a = by (nat_eq a p.0) (p.0 == a) (grind (arith, nat_test
     by true false e h = absurd (cc e)
     by false true e h = absurd (cc e)
     by false false e h = h
-
-both_true : (a b : Bool) → (a && b) ≡ true → (a ≡ true) × (b ≡ true)
-both_true true b e = (refl, e)
-both_true false b e = absurd cc
 
 -- ---- instructions
 module _ (pages : Pages) where
@@ -112,7 +109,7 @@ module _ (pages : Pages) where
     pub kept_mapped : (code : Code) → map (λ (p : Pair). p.0) code.map ≡ addresses kept → HasMapped pages starts code
     kept_mapped code e address = (
       λ some.
-          let both = both_true (has_block_at pages address) (has (addresses instrs) address) (sym (map_has code address e) ∙ some) in
+          let both = and_parts (has_block_at pages address) (has (addresses instrs) address) (sym (map_has code address e) ∙ some) in
           record { member = (reach.reached.members address).0 both.1; built = both.0 },
       λ m.
           let there : has (addresses instrs) address ≡ true = (reach.reached.members address).1 m.member in

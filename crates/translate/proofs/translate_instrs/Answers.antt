@@ -1,4 +1,5 @@
-use Rattle.std.proofs.Common.{◌∙◌, List, Result, Ok, Err, ap, map, refl, sym, subst, get_or, arith}
+use Rattle.std.proofs.Common.{◌∙◌, List, ap, map, refl, sym, subst, get_or, arith}
+use Rattle.std.proofs.lemmas.Result.{IfOk-weaker}
 use Rattle.std.specs.Prelude.{IfOk}
 use Rattle.address_map.specs.Pairs.{Pair}
 use Rattle.branch_layout.specs.Layouts.{Placed, layout}
@@ -12,10 +13,6 @@ use Rattle.translate.proofs.Asked.{are_translated}
 use Rattle.translate.proofs.Meeting.{its_rules, meets}
 use Rattle.translate.proofs.Placing.{are_blocks, are_of, blocks_rise, map_addresses}
 use Rattle.translate.proofs.translate_instrs.Goals as goal
-
-ok_by : {A E : Type 0} (r : Result A E) (P Q : A → Type 0) → IfOk r P → ((x : A) → P x → Q x) → IfOk r Q
-ok_by (Ok x) P Q p f = f x p
-ok_by (Err e) P Q p f = tt
 
 pub compiled-requires-clause-order : goal.compiled-requires-clause-order
 compiled-requires-clause-order c = record {
@@ -47,14 +44,16 @@ returns-clause-meets c =
       onward = λ k d lt. goes_on_above c.args.pages.now (get_or instrs k d) c.pages_are.ensures (c.addresses_fit.ensures k d lt) (c.requires.found k d lt);
     } in
     let blocks = c.in_ok-blocks.blocks.items in
-    ok_by c.laid_out.result (IsLaidOut blocks) _ (subst (λ (bs : List Placed). IfOk c.laid_out.result (IsLaidOut bs)) c.deref.ensures.value c.laid_out.ensures)
+    IfOk-weaker c.laid_out.result (IsLaidOut blocks) _
     (λ code laid. meets c.args.pages.now instrs blocks code c.in_ok-blocks.ensures laid.laid c.requires.found c.pages_are.ensures (rules_always_meet instrs order (are_translated instrs c.requires.built)))
+    (subst (λ (bs : List Placed). IfOk c.laid_out.result (IsLaidOut bs)) c.deref.ensures.value c.laid_out.ensures)
 
 pub returns-clause-mapped : goal.returns-clause-mapped
 returns-clause-mapped c =
     let blocks = c.in_ok-blocks.blocks.items in
-    ok_by c.laid_out.result (IsLaidOut blocks) _ (subst (λ (bs : List Placed). IfOk c.laid_out.result (IsLaidOut bs)) c.deref.ensures.value c.laid_out.ensures)
+    IfOk-weaker c.laid_out.result (IsLaidOut blocks) _
     (λ code laid. ap (map (λ (pair : Pair). pair.0)) laid.laid.places ∙ map_addresses c.args.instrs.now blocks c.in_ok-blocks.ensures)
+    (subst (λ (bs : List Placed). IfOk c.laid_out.result (IsLaidOut bs)) c.deref.ensures.value c.laid_out.ensures)
 
 pub returns-clause-blocks : goal.returns-clause-blocks
 returns-clause-blocks c =
@@ -64,7 +63,7 @@ returns-clause-blocks c =
       onward = λ k d lt. goes_on_above c.args.pages.now (get_or instrs k d) c.pages_are.ensures (c.addresses_fit.ensures k d lt) (c.requires.found k d lt);
     } in
     let blocks = c.in_ok-blocks.blocks.items in
-    ok_by c.laid_out.result (IsLaidOut blocks) _ (subst (λ (bs : List Placed). IfOk c.laid_out.result (IsLaidOut bs)) c.deref.ensures.value c.laid_out.ensures)
+    IfOk-weaker c.laid_out.result (IsLaidOut blocks) _
     (λ code laid. record {
       order = order;
       codes = are_codes instrs order (instruction_codes instrs) refl;
@@ -72,3 +71,4 @@ returns-clause-blocks c =
       rules = its_rules c.args.pages.now instrs blocks code c.in_ok-blocks.ensures laid.laid c.requires.found c.pages_are.ensures (rules_always_meet instrs order (are_translated instrs c.requires.built));
       laid = laid.value ∙ ap layout (are_of instrs blocks c.in_ok-blocks.ensures);
     })
+    (subst (λ (bs : List Placed). IfOk c.laid_out.result (IsLaidOut bs)) c.deref.ensures.value c.laid_out.ensures)
