@@ -20,7 +20,7 @@ PARTS = {
     "laying out, the map": "translate branch_layout address_map",
     "making ready, running": "tie_switch tie_interpreter tie_operands prepared_code shared_memory memory_core run_threads alpha_meaning "
                              "alpha_machine system_model vt_words std",
-    "the sum, the report, the rest of the call": "vest_cli vest_files vt_outside command_words clap vest",
+    "the sum, the report, the rest of the call": "vest_cli vest_runs vest_files vt_outside command_words clap vest",
 }
 LINE = re.compile(r"\s*([\d.]+)%\s+\[(.)\]\s+(\S+)")
 

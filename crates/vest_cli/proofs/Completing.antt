@@ -17,13 +17,13 @@ use Rattle.vest_files.specs.declared.status.Status.{Status}
 use Rattle.vest_files.specs.declared.status.Status.TheVariants as status
 use Rattle.vest_files.specs.declared.stop.Stop.{Stop}
 use Rattle.vest_files.specs.declared.stop.Stop.TheVariants.{Absent, Refused, ReadFault, TooLong, WantOfMemory}
+use Rattle.vest_runs.specs.Delivery.{Delivers}
+use Rattle.vest_runs.specs.Generate.{lines_of}
+use Rattle.vest_runs.specs.Kept.{KeptValue}
+use Rattle.vest_runs.specs.Lent.{Lent}
+use Rattle.vest_runs.specs.Keeping.{processors_of, set_up_of}
+use Rattle.vest_runs.specs.Run.{StopsRun}
 use Rattle.vest_cli.specs.Decided.{IsOrFault, IsOrWant, NoneFailed, Stood}
-use Rattle.vest_cli.specs.Delivery.{Delivers}
-use Rattle.vest_cli.specs.Generate.{lines_of}
-use Rattle.vest_cli.specs.Kept.{KeptValue}
-use Rattle.vest_cli.specs.Lent.{Lent}
-use Rattle.vest_cli.specs.Keeping.{processors_of, set_up_of}
-use Rattle.vest_cli.specs.Run.{StopsRun}
 use Rattle.vest_cli.specs.Vest.{Does, Ends, Stops, StopsAt, done, stopped, unspelled}
 
 below : (least n : ℕ) → least ≤ n → n < least → ⊥

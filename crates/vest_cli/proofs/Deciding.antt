@@ -1,93 +1,18 @@
 -- What the meaning of a call says of its status.
-use Rattle.std.proofs.Common.{◌≡◌, ◌≢◌, ◌<◌, ◌≤◌, ℕ, List, ◌++◌, length, true, false, nat_lt, Option, None, Some, refl, sym, ap, ◌∙◌, subst, append-nil, inl, inr, arith, Result, Ok, Err, IfErr, IfOk}
-use Rattle.std.proofs.lemmas.Bool.Decides.{nat_tests}
-use Rattle.std.specs.Io.KnownBytes.{Consumes, IsAtEnd}
-use Rattle.vt_outside.specs.Desk.{DeskMeaning, Files}
-use Rattle.vt_outside.specs.Source.{SourceMeaning}
-use Rattle.image_file.specs.Values.{ImageValue}
-use Rattle.block_law.specs.Translations.{Code}
+use Rattle.std.proofs.Common.{◌≡◌, ◌≢◌, Option, Some, refl, sym, subst}
 use Rattle.command_words.specs.Commands.{CommandValue, run, translate, list, generate}
-use Rattle.vest_files.specs.Decided.{Decision, goes_on, IsDecided, StopsAsDecided}
-use Rattle.vest_files.specs.Loading.{Loads}
-use Rattle.vest_files.proofs.Deciding.{load_goes, load_stops}
+use Rattle.vest_files.specs.Decided.{Decision, goes_on, StopsAsDecided}
 use Rattle.vest_files.specs.Status.{status_of, status_of_done}
 use Rattle.vest_files.specs.declared.status.Done.{Done}
 use Rattle.vest_files.specs.declared.status.Done.TheVariants as dones
 use Rattle.vest_files.specs.declared.status.Status.TheVariants as status
 use Rattle.vest_files.specs.declared.stop.Stop.{Stop}
 use Rattle.vest_files.specs.declared.stop.Stop.TheVariants.{Absent, Refused, ReadFault, TooLong, WantOfMemory}
+use Rattle.vest_runs.specs.Kept.{KeptValue}
+use Rattle.vest_runs.specs.Lent.{Lent}
 use Rattle.vest_cli.specs.Decided.{IsOrFault}
-use Rattle.vest_cli.specs.Input.{DecidesInput, ReadsAll, StopsAtInput}
-use Rattle.vest_cli.specs.Kept.{KeptValue}
-use Rattle.vest_cli.specs.Lent.{Lent}
-use Rattle.vest_cli.specs.Run.{DecidesBehind, DecidesRun, StopsRun}
 use Rattle.vest_cli.specs.Vest.{Does}
-use Rattle.vest_cli.specs.declared.input.TheConstants.{INPUT_LIMIT}
 
-above : (limit n : ℕ) → limit < n → nat_lt limit n ≡ true
-above limit n h = grind (arith, nat_tests)
-
-within : (limit n : ℕ) → n ≤ limit → nat_lt limit n ≡ false
-within limit n h = grind (arith, nat_tests)
-
--- ---- a run
-pub stops_at_load : (stop : Stop) (at d : Decision) (input : Option (List ℕ)) → StopsAsDecided stop at → DecidesBehind at input d → StopsAsDecided stop d
-stops_at_load Absent at d input h e = subst (λ (x : Decision). DecidesBehind x input d) h e
-stops_at_load (Refused refusal) at d input h e = subst (λ (x : Decision). DecidesBehind x input d) h e
-stops_at_load ReadFault at d input h e = tt
-stops_at_load TooLong at d input h e = subst (λ (x : Decision). DecidesBehind x input d) h e
-stops_at_load WantOfMemory at d input h e = tt
-
-decides_input : (at d : Decision) (input : Option (List ℕ)) → at ≡ goes_on → DecidesBehind at input d → DecidesInput input d
-decides_input at d input h e = subst (λ (x : Decision). DecidesBehind x input d) h e
-
-stops_for : (stop : Stop) (left : Option (List ℕ)) (n : ℕ) (new : SourceMeaning) (d : Decision)
-    → StopsAtInput stop (record { left = left; faults = n }) new → DecidesInput left d → StopsAsDecided stop d
-stops_for stop None n new d h e = absurd e
-stops_for Absent (Some input) n new d h e = absurd h
-stops_for (Refused refusal) (Some input) n new d h e = absurd h
-stops_for ReadFault (Some input) n new d h e = tt
-stops_for TooLong (Some input) n new d h e = rw (above INPUT_LIMIT (length input) h) at e
-stops_for WantOfMemory (Some input) n new d h e = tt
-
-pub stops_at_input : (stop : Stop) (old new : SourceMeaning) (at d : Decision) → at ≡ goes_on → StopsAtInput stop old new → DecidesBehind at old.left d
-    → StopsAsDecided stop d
-stops_at_input stop old new at d goes h e = stops_for stop old.left old.faults new d h (decides_input at d old.left goes e)
-
-all_read : (input bytes : List ℕ) (left : Option (List ℕ)) → Consumes (Some input) left bytes → IsAtEnd left → input ≡ bytes
-all_read input bytes None h e = absurd h
-all_read input bytes (Some rest) h e = h ∙ ap (λ t. bytes ++ t) e ∙ append-nil bytes
-
-goes_by : (left : Option (List ℕ)) (n : ℕ) (new : SourceMeaning) (bytes : List ℕ) (d : Decision)
-    → ReadsAll (record { left = left; faults = n }) new bytes → DecidesInput left d → d ≡ goes_on
-goes_by None n new bytes d read e = absurd e
-goes_by (Some input) n new bytes d read e =
-    let same : input ≡ bytes = all_read input bytes new.left read.read read.end in
-    let short : nat_lt INPUT_LIMIT (length input) ≡ false =
-    ap (λ b. nat_lt INPUT_LIMIT (length b)) same ∙ within INPUT_LIMIT (length bytes) read.short in
-    rw short at e
-
-pub run_goes : (old new : SourceMeaning) (bytes : List ℕ) (at d : Decision) → at ≡ goes_on → ReadsAll old new bytes → DecidesBehind at old.left d → d ≡ goes_on
-run_goes old new bytes at d goes read e = goes_by old.left old.faults new bytes d read (decides_input at d old.left goes e)
-
-pub run_stops : (stop : Stop) (name : List ℕ) (desk desk' : DeskMeaning) (input input' : SourceMeaning) (d : Decision) → StopsRun stop name desk desk' input input'
-    → DecidesRun desk.files name input.left d → StopsAsDecided stop d
-run_stops stop name desk desk' input input' d (inl h) e =
-    stops_at_load stop e.at_load d input.left (load_stops stop name desk desk' e.at_load h e.load) e.behind
-run_stops stop name desk desk' input input' d (inr (image, code, loaded, h)) e =
-    stops_at_input stop input input' e.at_load d (load_goes desk.files name image code e.at_load loaded e.load) h e.behind
-
-pub run_decided : {X : Type 0} (r : Result X Stop) (d : Decision) (name : List ℕ) (desk desk' : DeskMeaning) (input input' : SourceMeaning)
-    → IfErr r (λ stop. StopsRun stop name desk desk' input input') → IfOk r (λ _. d ≡ goes_on) → DecidesRun desk.files name input.left d → IsDecided r d
-run_decided (Ok x) d name desk desk' input input' err ok e = ok
-run_decided (Err stop) d name desk desk' input input' err ok e = run_stops stop name desk desk' input input' d err e
-
-pub runs_on : (files : Option Files) (name : List ℕ) (image : ImageValue) (code : Code) (input input' : SourceMeaning) (bytes : List ℕ) (d : Decision)
-    → Loads files name image code → ReadsAll input input' bytes → DecidesRun files name input.left d → d ≡ goes_on
-runs_on files name image code input input' bytes d loaded read e =
-    run_goes input input' bytes e.at_load d (load_goes files name image code e.at_load loaded e.load) read e.behind
-
--- ---- the status of a call
 pub stopped_as : (command : Option CommandValue) (stop : Stop) (d : Decision) → StopsAsDecided stop d → IsOrFault command (status_of stop) d
 stopped_as command Absent d h = subst (λ (x : Decision). IsOrFault command status.Absent x) (sym h) refl
 stopped_as command (Refused refusal) d h = subst (λ (x : Decision). IsOrFault command status.Refused x) (sym h) refl

@@ -15,10 +15,11 @@ use Rattle.vest_files.specs.declared.status.Status.{Status}
 use Rattle.vest_files.specs.declared.status.Status.TheVariants as status
 use Rattle.vest_files.specs.declared.stop.Stop.{Stop}
 use Rattle.vest_files.specs.declared.stop.Stop.TheVariants.{WantOfMemory}
+use Rattle.vest_runs.specs.Kept.{KeptValue, nothing_kept}
+use Rattle.vest_runs.specs.Lent.{Lent, lent}
+use Rattle.vest_runs.specs.Leaving.{LeavesAll}
 use Rattle.vest_cli.specs.Decided.{DecidesCall, DecidesOn, IsOrFault}
-use Rattle.vest_cli.specs.Kept.{KeptValue, nothing_kept}
-use Rattle.vest_cli.specs.Lent.{Lent, lent}
-use Rattle.vest_cli.specs.Stopping.{Concludes, LeavesAll, RefusesWords, Says}
+use Rattle.vest_cli.specs.Stopping.{Concludes, RefusesWords, Says}
 use Rattle.vest_cli.specs.Vest.{Does, Ends, Stops, StopsAt, done, stopped, unspelled}
 use Rattle.vest_cli.proofs.Deciding.{done_as, done_no_usage, stop_no_usage, stopped_as}
 

@@ -1,10 +1,5 @@
 mod Bounds
 mod Completing
 mod Deciding
-mod Delivering
 mod Ending
 mod Obeying
-mod Outputs
-mod Progress
-mod Spent
-mod Summing

@@ -13,11 +13,11 @@ use Rattle.vest_files.specs.Translate.{Translates}
 use Rattle.vest_files.specs.declared.status.Done.{Done}
 use Rattle.vest_files.specs.declared.stop.Stop.{Stop}
 use Rattle.vest_files.specs.declared.stop.Stop.TheVariants.{WantOfMemory}
+use Rattle.vest_runs.specs.Generate.{Generates}
+use Rattle.vest_runs.specs.Kept.{KeptValue, nothing_kept}
+use Rattle.vest_runs.specs.Lent.{Lent, lent}
+use Rattle.vest_runs.specs.Leaving.{LeavesAll}
 use Rattle.vest_cli.specs.Decided.{DecidesOn}
-use Rattle.vest_cli.specs.Generate.{Generates}
-use Rattle.vest_cli.specs.Kept.{KeptValue, nothing_kept}
-use Rattle.vest_cli.specs.Lent.{Lent, lent}
-use Rattle.vest_cli.specs.Stopping.{LeavesAll}
 use Rattle.vest_cli.specs.Vest.{Does, OnlyGenerates, OnlyLists, OnlyTranslates, StopsAt, StopsGenerate}
 
 module _ (r : Result Done Stop) where

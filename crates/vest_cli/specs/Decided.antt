@@ -8,8 +8,8 @@ use Rattle.vest_files.specs.Loading.{DecidesLoad}
 use Rattle.vest_files.specs.Translate.{DecidesTranslate}
 use Rattle.vest_files.specs.declared.status.Status.{Status}
 use Rattle.vest_files.specs.declared.status.Status.TheVariants as status
-use Rattle.vest_cli.specs.Lent.{Lent}
-use Rattle.vest_cli.specs.Run.{DecidesRun}
+use Rattle.vest_runs.specs.Lent.{Lent}
+use Rattle.vest_runs.specs.Run.{DecidesRun}
 
 -- what a command comes to; what is not told decides nothing, and on `generate` nothing has to be told
 abbrev pub DecidesOn : CommandValue → Option Files → (input : Option (List ℕ)) → Decision → Type 0

@@ -1,14 +1,4 @@
 pub mod Words
-pub mod Lent
-pub mod Kept
 pub mod Stopping
-pub mod Threads
-pub mod Input
-pub mod Report
-pub mod Delivery
-pub mod Keeping
-pub mod Made
-pub mod Run
-pub mod Generate
 pub mod Vest
 pub mod Decided

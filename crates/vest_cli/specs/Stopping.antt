@@ -1,4 +1,4 @@
--- What a call leaves that stops before it has written anything, whatever its command.
+-- What a call says, and leaves, that stops before it has written anything, whatever its command.
 use Rattle.std.specs.Prelude.{◌≡◌, ◌⊎◌, ℕ, List, Result, Ok, Err, codes}
 use Rattle.vt_outside.specs.Sink.{SinkMeaning}
 use Rattle.vt_outside.specs.Taking.{TookAll, TookSome}
@@ -13,15 +13,8 @@ use Rattle.vest_files.specs.declared.status.Status.{Status}
 use Rattle.vest_files.specs.declared.status.Status.TheVariants as status
 use Rattle.vest_files.specs.declared.stop.Stop.{Stop}
 use Rattle.vest_files.specs.declared.stop.Stop.TheVariants.{WantOfMemory}
-use Rattle.vest_cli.specs.Kept.{KeptValue, nothing_kept}
-use Rattle.vest_cli.specs.Lent.{Lent}
-
--- before the line: nothing was written, and nothing is kept
-pub record LeavesAll (old new : Lent) (kept : KeptValue) : Type 0 where
-  pub desk : SameFiles old.desk new.desk
-  pub out : new.out ≡ old.out
-  pub report : new.report ≡ old.report
-  pub kept_nothing : kept ≡ nothing_kept
+use Rattle.vest_runs.specs.Kept.{KeptValue, nothing_kept}
+use Rattle.vest_runs.specs.Lent.{Lent}
 
 -- the report took the line, or failed in it
 abbrev pub Says : (line : List ℕ) → (old new : SinkMeaning) → Type 0

@@ -14,10 +14,10 @@ use Rattle.vest_files.specs.declared.status.Status.{Status}
 use Rattle.vest_files.specs.declared.status.Status.TheVariants as status
 use Rattle.vest_files.specs.declared.stop.Stop.{Stop}
 use Rattle.vest_files.specs.declared.stop.Stop.TheVariants.{WantOfMemory}
-use Rattle.vest_cli.specs.Generate.{Generates}
-use Rattle.vest_cli.specs.Kept.{KeptValue, nothing_kept}
-use Rattle.vest_cli.specs.Lent.{Lent}
-use Rattle.vest_cli.specs.Run.{Runs, StopsRun}
+use Rattle.vest_runs.specs.Generate.{Generates}
+use Rattle.vest_runs.specs.Kept.{KeptValue, nothing_kept}
+use Rattle.vest_runs.specs.Lent.{Lent}
+use Rattle.vest_runs.specs.Run.{Runs, StopsRun}
 use Rattle.vest_cli.specs.Stopping.{Stopped, usage_line}
 
 -- `generate` stops only for want of memory, and touches neither desk nor input

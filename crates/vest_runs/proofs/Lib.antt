@@ -1,0 +1,6 @@
+mod Deciding
+mod Delivering
+mod Outputs
+mod Progress
+mod Spent
+mod Summing

@@ -1,0 +1,28 @@
+-- The input of a run.
+use Rattle.std.specs.Prelude.{◌≡◌, ℕ, ◌<◌, ◌≤◌, List, length, Option, None, Some, IfSome, nat_lt, if◌then◌else◌}
+use Rattle.std.specs.Io.KnownBytes.{Consumes, IsAtEnd}
+use Rattle.vt_outside.specs.Causes.{Rose}
+use Rattle.vt_outside.specs.Source.{SourceMeaning}
+use Rattle.vest_files.specs.Decided.{Decision, stops, goes_on}
+use Rattle.vest_files.specs.declared.status.Status.TheVariants as status
+use Rattle.vest_files.specs.declared.stop.Stop.{Stop}
+use Rattle.vest_files.specs.declared.stop.Stop.TheVariants.{ReadFault, TooLong, WantOfMemory}
+use Rattle.vest_runs.specs.declared.input.TheConstants.{INPUT_LIMIT}
+
+-- these bytes are all that the source had left, where it tells them, and nothing is left
+pub record ReadsAll (old new : SourceMeaning) (bytes : List ℕ) : Type 0 where
+  pub short : length bytes ≤ INPUT_LIMIT
+  pub read : Consumes old.left new.left bytes
+  pub end : IsAtEnd new.left
+
+-- why the input was not read
+abbrev pub StopsAtInput : Stop → SourceMeaning → SourceMeaning → Type 0
+StopsAtInput TooLong old new = IfSome old.left (λ bytes. INPUT_LIMIT < length bytes)
+StopsAtInput ReadFault old new = Rose old.faults new.faults
+StopsAtInput WantOfMemory old new = Unit {0}
+StopsAtInput stop old new = ⊥
+
+-- what is not told decides nothing
+abbrev pub DecidesInput : Option (List ℕ) → Decision → Type 0
+DecidesInput None decision = ⊥
+DecidesInput (Some input) decision = decision ≡ (if nat_lt INPUT_LIMIT (length input) then stops status.TooLong else goes_on)

@@ -1,0 +1,42 @@
+-- A run that was made, as it is kept.
+use Rattle.std.specs.Prelude.{◌≡◌, ℕ, List, Some, map}
+use Rattle.command_words.specs.declared.commands.Limits.{Limits}
+use Rattle.image_file.specs.Values.{ImageValue}
+use Rattle.memory_core.specs.declared.entry.SetUp.{SetUp}
+use Rattle.block_law.specs.Translations.{Code}
+use Rattle.system_model.specs.Processors.{Processor}
+use Rattle.system_model.specs.Settings.{Setting}
+use Rattle.system_model.specs.declared.translation.Range.{Range}
+use Rattle.tie_switch.specs.Settings.{image_setting}
+use Rattle.tie_switch.specs.Processors.{processor_of}
+use Rattle.run_threads.specs.Runs.{RunningValue}
+use Rattle.vest_runs.specs.Kept.{KeptValue}
+use Rattle.vest_runs.specs.Threads.{HasRun}
+
+-- what a run starts with: its history has at most as many entries as the limits allow
+abbrev pub running_of : ImageValue → (input : List ℕ) → Limits → RunningValue
+running_of image input limits = record { set_up = record { image = image; input = input; limit = limits.events; miss = limits.miss }; budget = limits.budget }
+
+-- the memory that the history is of
+abbrev pub set_up_of : ImageValue → KeptValue → SetUp
+set_up_of image kept = record { image = image; input = kept.input; limit = kept.limit; miss = kept.miss }
+
+-- the processors of the model
+abbrev pub processors_of : KeptValue → List Processor
+processors_of kept = map processor_of kept.processors
+
+-- what they ran
+abbrev pub setting_of : ImageValue → Code → KeptValue → Setting
+setting_of image code kept = image_setting image.pages code kept.ranges
+
+-- a run of the image on that input, by these limits, over that code, in which a thread interprets these addresses too
+pub record HasKept (image : ImageValue) (code : Code) (taken : List ℕ) (limits : Limits) (interpreted : List Range) (kept : KeptValue) : Type 0 where
+  pub kept_image : kept.image ≡ Some image
+  pub kept_code : kept.translation ≡ Some code
+  pub ranges : kept.ranges ≡ interpreted
+  pub input : kept.input ≡ taken
+  pub budget : kept.budget ≡ limits.budget
+  pub limit : kept.limit ≡ limits.events
+  pub miss : kept.miss ≡ limits.miss
+  -- the history and the processors are a legal run, in which all threads have ended, and so what the VAX threads do
+  pub has_run : HasRun (setting_of image code kept) (set_up_of image kept) kept.budget kept.history (processors_of kept)

@@ -1,0 +1,43 @@
+// The input of a run.
+ghost use Rattle.std.specs.Prelude.{◌≡◌, IfOk, IfErr, OnOk, []};
+ghost use Rattle.vest_runs.specs.Input.{ReadsAll, StopsAtInput};
+
+use std::alloc::Global;
+use vest_files::Stop;
+use vt_outside::{Got, Source};
+
+/// The most bytes of input.
+pub const INPUT_LIMIT: usize = 65_536;
+
+// Each call takes a byte at least, so one more call than there may be bytes tells.
+const CALLS: usize = 65_537;
+
+/// Reads the input to its end, by at most 65,537 calls.
+pub fn read_input<I: Source>(alloc: Global, input: &mut I) -> Result<Vec<u8>, Stop>
+    ensures ok { IfOk result (λ bytes. ReadsAll (I.meaning input.old) (I.meaning input.new) bytes.items) }
+    ensures err { IfErr result (λ stop. StopsAtInput stop (I.meaning input.old) (I.meaning input.new)) }
+{
+    let mut bytes = Vec::new(alloc);
+    read_all(input, &mut bytes)?;
+    Ok(bytes)
+}
+
+// The list has no byte yet.
+fn read_all<I: Source>(input: &mut I, bytes: &mut Vec<u8>) -> Result<(), Stop>
+    requires { bytes.old.items ≡ [] }
+    ensures ok { OnOk result (ReadsAll (I.meaning input.old) (I.meaning input.new) bytes.new.items) }
+    ensures err { IfErr result (λ stop. StopsAtInput stop (I.meaning input.old) (I.meaning input.new)) }
+{
+    let mut buffer = [0; 1024];
+    for turn in 0..CALLS {
+        match input.read(&mut buffer) {
+            Got::Bytes(count) => bytes.extend_from_slice(&buffer[..count])?,
+            Got::End => return Ok(()),
+            Got::Failed => return Err(Stop::ReadFault),
+        }
+        if bytes.len() > INPUT_LIMIT {
+            return Err(Stop::TooLong);
+        }
+    }
+    Err(Stop::TooLong)
+}
