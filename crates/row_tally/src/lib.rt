@@ -4,6 +4,7 @@
 mod columns;
 mod families;
 mod fault;
+mod lists;
 mod reading;
 mod tables;
 
@@ -13,6 +14,7 @@ use anyhow::{Result, ensure};
 pub use columns::{five_fields, four_fields, three_fields, two_fields};
 pub use families::Families;
 pub use fault::RowFault;
+pub use lists::{bytes_or_none, longwords, pair, pairs};
 pub use reading::{bytes, fields, is_row, longword, number, pieces, rows, words};
 use std::fmt::Debug;
 pub use tables::{Given, ask_rows, check_cases, check_rows};

@@ -52,7 +52,7 @@ pub fn fields(alloc: Global, row: &str, count: usize) -> Result<Vec<&str>, RowFa
 }
 
 /// Whether a field is `-` alone, which spells a list of nothing.
-fn is_none(field: &str) -> bool
+pub(crate) fn is_none(field: &str) -> bool
     ensures { result ≡ is_none field.now }
 {
     let bytes = field.as_bytes();
