@@ -1,5 +1,6 @@
 // Whole-number arithmetic, by a simulator's answers.
-use anyhow::{Context, Result, bail, ensure};
+use crate::names::cut;
+use anyhow::{Result, bail, ensure};
 use row_tally::{Tally, five_fields, longword, number};
 use vt_words::{Coded, add, divide, limit, mul, negate, sub};
 
@@ -14,14 +15,14 @@ enum Operation {
 
 impl Operation {
     fn named(name: &str) -> Result<Operation> {
-        Ok(match name {
-            "ADD" => Operation::Add,
-            "SUB" => Operation::Subtract,
-            "MUL" => Operation::Multiply,
-            "DIV" => Operation::Divide,
-            "MNEG" => Operation::Negate,
+        match name {
+            "ADD" => Ok(Operation::Add),
+            "SUB" => Ok(Operation::Subtract),
+            "MUL" => Ok(Operation::Multiply),
+            "DIV" => Ok(Operation::Divide),
+            "MNEG" => Ok(Operation::Negate),
             _ => bail!("no operation: {name}"),
-        })
+        }
     }
 }
 
@@ -37,16 +38,16 @@ pub fn coded(value: u64, codes: u8) -> Coded {
 }
 
 fn bit(text: &str) -> Result<bool> {
-    Ok(match text {
-        "0" => false,
-        "1" => true,
+    match text {
+        "0" => Ok(false),
+        "1" => Ok(true),
         _ => bail!("no bit: {text}"),
-    })
+    }
 }
 
 /// What an operation gives.
 fn answer(operation: Operation, bytes: u32, a: u64, b: u64, carry: bool) -> Result<Coded> {
-    ensure!(1 <= bytes && bytes <= 4, "no size: {bytes}");
+    ensure!(1 <= bytes && bytes <= 4, "no size");
     ensure!(a < limit(bytes) && b < limit(bytes), "too large an operand");
     Ok(match operation {
         Operation::Add => add(bytes, a, b, carry),
@@ -57,18 +58,39 @@ fn answer(operation: Operation, bytes: u32, a: u64, b: u64, carry: bool) -> Resu
     })
 }
 
+/// Reads FIRST, SECOND and CARRY, for what the operation gives.
+fn found_by(operation: Operation, bytes: u32, operands: (&str, &str, &str)) -> Result<Coded> {
+    let (first, second, carry) = operands;
+    answer(
+        operation,
+        bytes,
+        number(first)?,
+        number(second)?,
+        bit(carry)?,
+    )
+}
+
+/// Reads VALUE and CODES.
+fn wanted_of(value: &str, codes: &str) -> Result<Coded> {
+    Ok(coded(number(value)?, u8::from_str_radix(codes, 2)?))
+}
+
 /// Reads FIRST SECOND CARRY VALUE CODES, for what the operation gives and what it is to give.
 fn case(operation: Operation, bytes: u32, text: &str) -> Result<(Coded, Coded)> {
     let (first, second, carry, value, codes) = five_fields(text)?;
-    let (first, second, carry) = (number(first)?, number(second)?, bit(carry)?);
-    let found = answer(operation, bytes, first, second, carry)?;
-    Ok((found, coded(number(value)?, u8::from_str_radix(codes, 2)?)))
+    let found = found_by(operation, bytes, (first, second, carry))?;
+    Ok((found, wanted_of(value, codes)?))
 }
 
-/// Checks a row: OPERATION BYTES and the case.
+/// Reads OPERATION BYTES and the case.
+fn case_of(row: &str) -> Result<(Coded, Coded)> {
+    let (name, rest) = cut(row)?;
+    let (bytes, rest) = cut(rest)?;
+    case(Operation::named(name)?, longword(bytes)?, rest)
+}
+
+/// Checks a row.
 pub fn check_row(rt: &impl Print, tally: &mut Tally, row: &str) -> Result<()> {
-    let (name, rest) = row.split_once(' ').context("a size")?;
-    let (bytes, rest) = rest.split_once(' ').context("a case")?;
-    let (found, wanted) = case(Operation::named(name)?, longword(bytes)?, rest)?;
+    let (found, wanted) = case_of(row)?;
     tally.check(rt, row, &found, &wanted)
 }

@@ -1,5 +1,11 @@
-// The names of the instructions, from what their operations say.
+// The first word of a row; and the names of the instructions, from what their operations say.
+use anyhow::{Context, Result};
 use vax_form::{BinaryOperation, BitStore, Condition, LongOperation, Operation, Size, Width};
+
+/// The first word of a row, and what is behind it.
+pub fn cut(row: &str) -> Result<(&str, &str)> {
+    row.split_once(' ').context("another word")
+}
 
 fn letter(width: Width) -> &'static str {
     match width {

@@ -1,6 +1,6 @@
 // The opcodes, by the table of instructions.
-use crate::names::is_name_of;
-use anyhow::{Context, Result, bail, ensure};
+use crate::names::{cut, is_name_of};
+use anyhow::{Result, bail, ensure};
 use cc_liveness::{CodeUse, code_use};
 use row_tally::{Tally, longword};
 use vax_form::{Access, Class, Flags, Row, Size, class_of, is_long, operation_of, row_of};
@@ -41,12 +41,12 @@ fn is_named(opcode: u8, name: &str) -> bool {
 
 /// The class of a word, and whether the instruction is a long one.
 fn class_named(word: &str) -> Result<(Class, bool)> {
-    Ok(match word {
-        "translated" => (Class::Translated, false),
-        "tie" => (Class::Tie, false),
-        "long" => (Class::Tie, true),
+    match word {
+        "translated" => Ok((Class::Translated, false)),
+        "tie" => Ok((Class::Tie, false)),
+        "long" => Ok((Class::Tie, true)),
         _ => bail!("no class: {word}"),
-    })
+    }
 }
 
 /// The codes with these letters; `-` is none.
@@ -122,33 +122,42 @@ fn uses_of(reads: &str, writes: &str, end: &str) -> Result<CodeUse> {
     })
 }
 
+/// Reads READS WRITES END OPERANDS.
+fn uses_and_row(text: &str) -> Result<(CodeUse, Row)> {
+    let (reads, rest) = cut(text)?;
+    let (writes, rest) = cut(rest)?;
+    let (end, operands) = rest.split_once(' ').unwrap_or((rest, ""));
+    Ok((uses_of(reads, writes, end)?, row_with(operands)?))
+}
+
 /// Reads CLASS READS WRITES END OPERANDS.
 fn form_with(text: &str) -> Result<Form> {
-    let (class, rest) = text.split_once(' ').context("codes that are read")?;
-    let (reads, rest) = rest.split_once(' ').context("codes that are written")?;
-    let (writes, rest) = rest.split_once(' ').context("an end")?;
-    let (end, operands) = rest.split_once(' ').unwrap_or((rest, ""));
+    let (class, rest) = cut(text)?;
     let (class, is_long) = class_named(class)?;
+    let (uses, row) = uses_and_row(rest)?;
     Ok(Form {
         class,
         is_long,
-        row: Some(row_with(operands)?),
-        uses: Some(uses_of(reads, writes, end)?),
+        row: Some(row),
+        uses: Some(uses),
     })
+}
+
+/// Reads NAME and its form, or reserved, for an opcode that has that name.
+fn form_named(opcode: u8, text: &str) -> Result<Form> {
+    let (name, form) = match text.split_once(' ') {
+        Some((name, form)) => (name, form_with(form)?),
+        None => (text, RESERVED),
+    };
+    ensure!(is_named(opcode, name), "another name: {name}");
+    Ok(form)
 }
 
 /// Checks the row of the next opcode: OPCODE reserved, or OPCODE NAME and its form.
 pub fn check_row(rt: &impl Print, tally: &mut Tally, row: &str) -> Result<()> {
-    let (digits, rest) = row.split_once(' ').context("a name")?;
+    let (digits, rest) = cut(row)?;
     let opcode = u8::try_from(longword(digits)?)?;
-    ensure!(
-        u32::from(opcode) == tally.rows,
-        "{digits} is not the next opcode"
-    );
-    let (name, wanted) = match rest.split_once(' ') {
-        Some((name, text)) => (name, form_with(text)?),
-        None => (rest, RESERVED),
-    };
-    ensure!(is_named(opcode, name), "another name: {row}");
+    ensure!(u32::from(opcode) == tally.rows, "not the next opcode");
+    let wanted = form_named(opcode, rest)?;
     tally.check(rt, row, &form_of(opcode), &wanted)
 }

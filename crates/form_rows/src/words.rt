@@ -1,6 +1,7 @@
 // Words and instructions, by the assembler.
+use crate::names::cut;
 use alpha_encode::{AlphaInstr, Second, decode, encode};
-use anyhow::{Context, Result};
+use anyhow::Result;
 use row_tally::{Tally, longword};
 use std::alloc::{AllocError, Global};
 
@@ -31,7 +32,7 @@ fn agrees(alloc: Global, word: u32, text: &str) -> Result<bool> {
 
 /// Checks a row: WORD INSTRUCTION.
 pub fn check_row(rt: &(impl Print + AllocGlobal), tally: &mut Tally, row: &str) -> Result<()> {
-    let (digits, text) = row.split_once(' ').context("an instruction")?;
+    let (digits, text) = cut(row)?;
     let agrees = agrees(rt.alloc(), longword(digits)?, text)?;
     tally.check(rt, row, &agrees, &true)
 }
