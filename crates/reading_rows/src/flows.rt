@@ -1,10 +1,10 @@
 // Questions about the flow of small images.
-use crate::lists::{bytes_of, numbers};
-use crate::texts::yes_or_no;
-use anyhow::{Context, Result, anyhow, bail};
+use crate::lists::{bytes_of, cut};
+use crate::texts::{no_question, refusal_text, yes_or_no};
+use anyhow::{Result, anyhow};
 use flow_discovery::{FlowRefusal, is_start, reach};
 use image_file::{Image, read_image};
-use row_tally::{Given, five_fields, longword};
+use row_tally::{Given, five_fields, longword, longwords};
 use std::alloc::{AllocError, Global};
 use vax_form::Instr;
 
@@ -31,19 +31,23 @@ fn push_longwords(file: &mut Vec<u8>, longwords: &[u32]) -> Result<(), AllocErro
 }
 
 /// Version 1, one thread, one section, and so many entries.
-fn head_of(alloc: Global, entries: u16) -> Result<Vec<u8>, AllocError> {
+fn head_of(alloc: Global, entries: usize) -> Result<Vec<u8>> {
     let mut head = b"VXIM\x01\0\x01\0\x01\0".to_vec(alloc)?;
-    head.extend_from_slice(&entries.to_le_bytes())?;
+    head.extend_from_slice(&u16::try_from(entries)?.to_le_bytes())?;
     Ok(head)
 }
 
-fn file_of(alloc: Global, pc: u32, size: u32, entries: &str, code: &str) -> Result<Vec<u8>> {
-    let (entries, code) = (numbers(alloc, entries)?, bytes_of(alloc, "", code)?);
-    let mut file = head_of(alloc, u16::try_from(entries.len())?)?;
-    let stored = u32::try_from(code.len())?;
-    push_longwords(&mut file, &[pc, STACK, SECTION, size, stored, 0])?;
-    push_longwords(&mut file, &entries)?;
-    file.extend_from_slice(&code)?;
+/// The thread and the section, whose stored bytes are so many.
+fn layout_of(pc: &str, size: &str, stored: usize) -> Result<[u32; 6]> {
+    let (pc, size) = (longword(pc)?, longword(size)?);
+    Ok([pc, STACK, SECTION, size, u32::try_from(stored)?, 0])
+}
+
+fn file_of(alloc: Global, layout: &[u32; 6], entries: &[u32], code: &[u8]) -> Result<Vec<u8>> {
+    let mut file = head_of(alloc, entries.len())?;
+    push_longwords(&mut file, layout)?;
+    push_longwords(&mut file, entries)?;
+    file.extend_from_slice(code)?;
     Ok(file)
 }
 
@@ -54,26 +58,25 @@ fn image_of(alloc: Global, file: &[u8]) -> Result<Image> {
     }
 }
 
+/// The image's file of these texts.
+fn file_with(alloc: Global, pc: &str, size: &str, entries: &str, code: &str) -> Result<Vec<u8>> {
+    let code = bytes_of(alloc, "", code)?;
+    let layout = layout_of(pc, size, code.len())?;
+    file_of(alloc, &layout, &longwords(alloc, entries)?, &code)
+}
+
 impl Flow {
     /// Reads PC SIZE ENTRIES HINTS CODE.
     fn read(alloc: Global, text: &str) -> Result<Flow> {
         let (pc, size, entries, hints, code) = five_fields(text)?;
-        let file = file_of(alloc, longword(pc)?, longword(size)?, entries, code)?;
         Ok(Flow {
-            image: image_of(alloc, &file)?,
-            hints: numbers(alloc, hints)?,
+            image: image_of(alloc, &file_with(alloc, pc, size, entries, code)?)?,
+            hints: longwords(alloc, hints)?,
         })
     }
 }
 
-fn refusal_text(alloc: Global, refusal: FlowRefusal) -> Result<String, AllocError> {
-    match refusal.number() {
-        Some(number) => format!(in alloc; "refusal {number}, {refusal:?}"),
-        None => format!(in alloc; "no number, {refusal:?}"),
-    }
-}
-
-fn list_of(alloc: Global, instrs: &[Instr]) -> Result<String, AllocError> {
+fn list_of(alloc: Global, instrs: &[Instr]) -> Result<String> {
     let mut list = format!(in alloc; "{:X}", instrs.len())?;
     if instrs.len() <= LONGEST_LIST {
         for instr in instrs {
@@ -85,26 +88,31 @@ fn list_of(alloc: Global, instrs: &[Instr]) -> Result<String, AllocError> {
 
 fn reach_text(alloc: Global, flow: &str) -> Result<String> {
     let flow = Flow::read(alloc, flow)?;
-    Ok(match reach(alloc, &flow.image, &flow.hints) {
-        Ok(instrs) => list_of(alloc, &instrs)?,
-        Err(refusal) => refusal_text(alloc, refusal)?,
-    })
+    match reach(alloc, &flow.image, &flow.hints) {
+        Ok(instrs) => list_of(alloc, &instrs),
+        Err(refusal) => refusal_text(alloc, refusal.number(), &refusal),
+    }
 }
 
 fn start_text(alloc: Global, rest: &str) -> Result<String> {
-    let (address, flow) = rest.split_once(' ').context("an address")?;
+    let (address, flow) = cut(rest)?;
     let address = longword(address)?;
     let flow = Flow::read(alloc, flow)?;
-    Ok(yes_or_no(alloc, is_start(&flow.image, &flow.hints, address))?)
+    yes_or_no(alloc, is_start(&flow.image, &flow.hints, address))
+}
+
+fn want_text(alloc: Global) -> Result<String> {
+    let refusal = FlowRefusal::WantOfMemory;
+    refusal_text(alloc, refusal.number(), &refusal)
 }
 
 /// Answers `reach FLOW`, `start ADDRESS FLOW` and `want of memory`.
 pub fn answer(alloc: Global, _given: &Given<'_>, question: &str) -> Result<String> {
-    let (kind, rest) = question.split_once(' ').context("a question")?;
+    let (kind, rest) = cut(question)?;
     match kind {
-        "want" => Ok(refusal_text(alloc, FlowRefusal::WantOfMemory)?),
+        "want" => want_text(alloc),
         "reach" => reach_text(alloc, rest),
         "start" => start_text(alloc, rest),
-        _ => bail!("no question: {kind}"),
+        _ => no_question(kind),
     }
 }

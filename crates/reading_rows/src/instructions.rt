@@ -53,6 +53,11 @@ fn pages_of(alloc: Global, code: &[u8; CODE_BYTES]) -> Result<Pages, AllocError>
     })
 }
 
+fn pages_with(alloc: Global, place: &str, text: &[u8]) -> Result<Pages> {
+    let code = code_of(longword(place)?, text)?;
+    Ok(pages_of(alloc, &code)?)
+}
+
 /// The operands with commas between, as far as they are used, or - for none.
 fn operands_of(alloc: Global, instr: &Instr) -> Result<String, AllocError> {
     let [a, b, c, d, e, f] = instr.operands;
@@ -68,26 +73,27 @@ fn operands_of(alloc: Global, instr: &Instr) -> Result<String, AllocError> {
     String::from_str(alloc, all.as_str().trim_end_matches(",-"))
 }
 
-fn text_of(alloc: Global, decoded: &Decoded) -> Result<String, AllocError> {
-    match decoded {
-        Decoded::Instr(instr) => {
-            let operands = operands_of(alloc, instr)?;
-            format!(in alloc;
-                "{:X} {:02X} {} {operands} {:X}",
-                instr.at, instr.opcode, instr.count, instr.after
-            )
-        }
+fn instr_text(alloc: Global, instr: &Instr) -> Result<String, AllocError> {
+    let operands = operands_of(alloc, instr)?;
+    format!(in alloc;
+        "{:X} {:02X} {} {operands} {:X}",
+        instr.at, instr.opcode, instr.count, instr.after
+    )
+}
+
+fn text_of(alloc: Global, decoded: &Decoded) -> Result<String> {
+    let text = match decoded {
+        Decoded::Instr(instr) => instr_text(alloc, instr),
         Decoded::Reserved => format!(in alloc; "reserved opcode"),
         Decoded::BadMode => format!(in alloc; "reserved mode"),
         Decoded::Past(address) => format!(in alloc; "past {address:X}"),
-    }
+    };
+    Ok(text?)
 }
 
 /// Answers PLACE BYTES ADDRESS: what stands at an address where bytes stand from a place on.
 pub fn answer(alloc: Global, given: &Given<'_>, question: &str) -> Result<String> {
     let (place, bytes, address) = three_fields(question)?;
-    let (place, address) = (longword(place)?, longword(address)?);
-    let code = code_of(place, &bytes_of(alloc, given.sample, bytes)?)?;
-    let pages = pages_of(alloc, &code)?;
-    Ok(text_of(alloc, &decode_at(&pages, address))?)
+    let pages = pages_with(alloc, place, &bytes_of(alloc, given.sample, bytes)?)?;
+    text_of(alloc, &decode_at(&pages, longword(address)?))
 }

@@ -1,29 +1,17 @@
-// Lists in a question: bytes, numbers and pairs of numbers.
+// Bytes in a question, and its words.
 use anyhow::{Context, Result};
 use row_tally::{bytes, longword, pieces};
 use std::alloc::Global;
 
-/// Hexadecimal numbers with commas between, or - for none.
-pub fn numbers(alloc: Global, text: &str) -> Result<Vec<u32>> {
-    let mut numbers = Vec::new(alloc);
-    for piece in &pieces(alloc, text)? {
-        numbers.push(longword(piece)?)?;
-    }
-    Ok(numbers)
+/// The first word of a question, and what is behind it.
+pub fn cut(question: &str) -> Result<(&str, &str)> {
+    question.split_once(' ').context("another word")
 }
 
-fn pair_of(text: &str) -> Result<(u32, u32)> {
-    let (first, second) = text.split_once('=').context("a pair")?;
-    Ok((longword(first)?, longword(second)?))
-}
-
-/// Numbers written as FIRST=SECOND with commas between, or - for none.
-pub fn pairs(alloc: Global, text: &str) -> Result<Vec<(u32, u32)>> {
-    let mut pairs = Vec::new(alloc);
-    for piece in &pieces(alloc, text)? {
-        pairs.push(pair_of(piece)?)?;
-    }
-    Ok(pairs)
+/// The numbers beside the sign.
+fn bounds_of(part: &str) -> Result<(u32, u32)> {
+    let (from, to) = part.split_once('-').context("a pair")?;
+    Ok((longword(from)?, longword(to)?))
 }
 
 /// The digits of a sample's part FROM-TO, with the byte at FROM and without the one at TO, or of all of it.
@@ -31,8 +19,8 @@ fn part_of<'a>(sample: &'a str, part: &str) -> Result<&'a str> {
     if part.is_empty() {
         return Ok(sample);
     }
-    let (from, to) = part.split_once('-').context("a part of the sample")?;
-    let (from, to) = (longword(from)? as usize, longword(to)? as usize);
+    let (from, to) = bounds_of(part)?;
+    let (from, to) = (from as usize, to as usize);
     sample.get(2 * from..2 * to).context("a part of the sample")
 }
 

@@ -1,20 +1,17 @@
 // Questions about maps of addresses.
-use crate::lists::pairs;
-use crate::texts::number_text;
+use crate::lists::cut;
+use crate::texts::{no_question, number_text, refusal_text};
 use address_map::{AddressMap, MapRefusal, build};
-use anyhow::{Context, Result, bail};
-use row_tally::{Given, four_fields, longword};
+use anyhow::{Result, bail};
+use row_tally::{Given, four_fields, longword, pairs};
 use std::alloc::{AllocError, Global};
 
-fn refusal_text(alloc: Global, refusal: MapRefusal) -> Result<String> {
-    Ok(match refusal.number() {
-        Some(number) => format!(in alloc; "refusal {number}, {refusal:?}")?,
-        None => format!(in alloc; "no number, {refusal:?}")?,
-    })
+fn refused_text(alloc: Global, refusal: MapRefusal) -> Result<String> {
+    refusal_text(alloc, refusal.number(), &refusal)
 }
 
 /// The pairs of a map as they are written.
-fn pairs_text(alloc: Global, map: &AddressMap) -> Result<String, AllocError> {
+fn pairs_text(alloc: Global, map: &AddressMap) -> Result<String> {
     let mut text = String::new(alloc);
     for (place, (address, word)) in map.pairs().iter().enumerate() {
         let comma = if place == 0 { "" } else { "," };
@@ -24,10 +21,10 @@ fn pairs_text(alloc: Global, map: &AddressMap) -> Result<String, AllocError> {
 }
 
 /// What stands at a place of a table.
-fn entry_text(alloc: Global, entry: Option<Option<u32>>) -> Result<String, AllocError> {
+fn entry_text(alloc: Global, entry: Option<Option<u32>>) -> Result<String> {
     match entry {
         Some(entry) => number_text(alloc, entry),
-        None => String::from_str(alloc, "outside"),
+        None => Ok(String::from_str(alloc, "outside")?),
     }
 }
 
@@ -35,31 +32,41 @@ fn entry_text(alloc: Global, entry: Option<Option<u32>>) -> Result<String, Alloc
 /// `large START ADDRESSES WORDS COUNT` and `want of memory`.
 pub fn answer(alloc: Global, _given: &Given<'_>, question: &str) -> Result<String> {
     if question == "want of memory" {
-        return refusal_text(alloc, MapRefusal::WantOfMemory);
+        return refused_text(alloc, MapRefusal::WantOfMemory);
     }
-    let (kind, rest) = question.split_once(' ').context("pairs")?;
+    let (kind, rest) = cut(question)?;
     if kind == "large" {
         return large_text(alloc, rest);
     }
+    answer_about(alloc, kind, rest)
+}
+
+/// Answers PAIRS and a number, which is 0 where none stands.
+fn answer_about(alloc: Global, kind: &str, rest: &str) -> Result<String> {
     let (list, number) = rest.split_once(' ').unwrap_or((rest, "0"));
     let number = longword(number)?;
     match build(alloc, pairs(alloc, list)?.as_slice()) {
         Ok(map) => answer_by(alloc, &map, kind, number),
-        Err(refusal) => refusal_text(alloc, refusal),
+        Err(refusal) => refused_text(alloc, refusal),
     }
+}
+
+fn upper_entry(map: &AddressMap, place: usize) -> Option<Option<u32>> {
+    let word = map.upper().get(place)?;
+    Some(Some(*word))
 }
 
 fn answer_by(alloc: Global, map: &AddressMap, kind: &str, number: u32) -> Result<String> {
     let place = number as usize;
-    Ok(match kind {
-        "word" => number_text(alloc, map.look_up(number))?,
-        "address" => number_text(alloc, map.vax_of(number))?,
-        "upper" => entry_text(alloc, map.upper().get(place).map(|word| Some(*word)))?,
-        "lower" => entry_text(alloc, map.lower().get(place).copied())?,
-        "pages" => pages_text(alloc, map)?,
-        "all" => pairs_text(alloc, map)?,
-        _ => bail!("no question: {kind}"),
-    })
+    match kind {
+        "word" => number_text(alloc, map.look_up(number)),
+        "address" => number_text(alloc, map.vax_of(number)),
+        "upper" => entry_text(alloc, upper_entry(map, place)),
+        "lower" => entry_text(alloc, map.lower().get(place).copied()),
+        "pages" => Ok(pages_text(alloc, map)?),
+        "all" => pairs_text(alloc, map),
+        _ => no_question(kind),
+    }
 }
 
 /// The first page, and how many upper words and lower places there are.

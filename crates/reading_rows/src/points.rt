@@ -1,18 +1,11 @@
 // Questions about points, rules and what registers show.
-use crate::lists::pairs;
-use crate::texts::{number_text, yes_or_no};
-use anyhow::{Context, Result, bail};
+use crate::lists::cut;
+use crate::texts::{no_question, number_text, refusal_text, yes_or_no};
+use anyhow::{Result, bail, ensure};
 use exception_records::{CodeRule, Point, Rules, build, codes_shown, shown};
-use row_tally::{Given, four_fields, longword, number, two_fields};
+use row_tally::{Given, four_fields, longword, number, pairs, two_fields};
 use std::alloc::{AllocError, Global};
-use vax_form::{Flags, Size};
-
-const READY: Rules = Rules {
-    n: CodeRule::Ready,
-    z: CodeRule::Ready,
-    v: CodeRule::Ready,
-    c: CodeRule::Ready,
-};
+use vax_form::{Flags, Size, VaxState};
 
 const WORKED: Rules = Rules {
     n: CodeRule::Result { size: Size::Long },
@@ -28,7 +21,7 @@ fn point(vax_pc: u32, raises: u8) -> Point {
         count: 4,
         write: true,
         raises,
-        rules: READY,
+        rules: Rules::READY,
     }
 }
 
@@ -42,23 +35,19 @@ fn flags(text: &str) -> Flags {
     }
 }
 
+fn name_if(is_set: bool, name: &'static str) -> &'static str {
+    if is_set { name } else { "" }
+}
+
 /// The names of the codes that are set, or - for none.
 fn flags_text(alloc: Global, flags: Flags) -> Result<String, AllocError> {
-    let mut text = String::new(alloc);
-    for (is_set, name) in [
-        (flags.n, "N"),
-        (flags.z, "Z"),
-        (flags.v, "V"),
-        (flags.c, "C"),
-    ] {
-        if is_set {
-            text.push_str(name)?;
-        }
+    let Flags { n, z, v, c } = flags;
+    if !(n || z || v || c) {
+        return String::from_str(alloc, "-");
     }
-    if text.as_str().is_empty() {
-        text.push_str("-")?;
-    }
-    Ok(text)
+    let (n, z) = (name_if(n, "N"), name_if(z, "Z"));
+    let (v, c) = (name_if(v, "V"), name_if(c, "C"));
+    format!(in alloc; "{n}{z}{v}{c}")
 }
 
 fn size_of(word: &str) -> Result<Size> {
@@ -94,70 +83,112 @@ fn points_of(alloc: Global, text: &str) -> Result<Vec<(u32, Point)>> {
 fn found_text(alloc: Global, rest: &str) -> Result<String> {
     let (points, word) = two_fields(rest)?;
     let word = longword(word)?;
-    Ok(match build(points_of(alloc, points)?) {
-        Ok(points) => number_text(alloc, points.find(word).map(|point| point.vax_pc))?,
-        Err(refusal) => format!(in alloc; "refusal {}, {refusal:?}", refusal.number())?,
-    })
+    match build(points_of(alloc, points)?) {
+        Ok(points) => number_text(alloc, points.find(word).map(|point| point.vax_pc)),
+        Err(refusal) => refusal_text(alloc, Some(refusal.number()), &refusal),
+    }
+}
+
+fn codes_of(rule: CodeRule, first: &str, second: &str) -> Result<Flags> {
+    Ok(rule.codes(number(first)?, number(second)?))
 }
 
 fn codes_text(alloc: Global, rest: &str) -> Result<String> {
     let (rule, size, first, second) = four_fields(rest)?;
     let rule = rule_of(rule, size_of(size)?)?;
-    Ok(flags_text(alloc, rule.codes(number(first)?, number(second)?))?)
+    Ok(flags_text(alloc, codes_of(rule, first, second)?)?)
 }
 
 fn raised_text(alloc: Global, offset: &str) -> Result<String> {
     let offset = u8::try_from(longword(offset)?)?;
-    Ok(match point(0, offset).exception() {
-        Some(exception) => format!(in alloc; "{exception:?}")?,
-        None => String::from_str(alloc, "none")?,
-    })
+    let text = match point(0, offset).exception() {
+        Some(exception) => format!(in alloc; "{exception:?}"),
+        None => String::from_str(alloc, "none"),
+    };
+    Ok(text?)
 }
 
-/// The worked registers: N and C are in R16 and R19, and R15 and R30 are operands of the rules.
-fn worked_registers() -> [u64; 32] {
-    let mut registers = [0; 32];
-    registers[0] = 0xFFFF_FFFF_8000_0001;
-    registers[14] = 0x1200;
-    registers[15] = 0xFFFF_FFFF;
-    registers[16] = 1;
-    registers[19] = 1;
-    registers[20] = 0x20;
-    registers[30] = 1;
-    registers
+fn ready_text(alloc: Global, rule: &str) -> Result<String> {
+    yes_or_no(alloc, rule_of(rule, Size::Long)?.is_ready())
 }
+
+/// Where the worked state stands.
+const WORKED_PC: u32 = 0x207;
+
+/// The worked registers: N and C are in R16 and R19, and R15 and R30 are operands of the rules.
+const WORKED_REGISTERS: [u64; 32] = [
+    0xFFFF_FFFF_8000_0001,
+    0,
+    0,
+    0,
+    0,
+    0,
+    0,
+    0,
+    0,
+    0,
+    0,
+    0,
+    0,
+    0,
+    0x1200,
+    0xFFFF_FFFF,
+    1,
+    0,
+    0,
+    1,
+    0x20,
+    0,
+    0,
+    0,
+    0,
+    0,
+    0,
+    0,
+    0,
+    0,
+    1,
+    0,
+];
 
 fn rules_of(name: &str) -> Result<Rules> {
     Ok(match name {
-        "ready" => READY,
+        "ready" => Rules::READY,
         "worked" => WORKED,
         _ => bail!("no rules: {name}"),
     })
 }
 
-/// What the worked registers show.
+fn is_shown(state: &VaxState) -> bool {
+    let registers = &state.r;
+    state.pc == WORKED_PC
+        && registers[0] == 0x8000_0001
+        && registers[1] == 0
+        && registers[14] == 0x1200
+}
+
+/// The codes and the processor status that the worked registers show.
+fn shown_by(alloc: Global, rules: &Rules, held: &Flags) -> Result<String> {
+    let state = shown(&WORKED_REGISTERS, WORKED_PC, rules, held, 0);
+    ensure!(is_shown(&state), "another state: {state:?}");
+    let codes = flags_text(alloc, codes_shown(&WORKED_REGISTERS, rules, held))?;
+    Ok(format!(in alloc; "{codes} {:X}", state.psw)?)
+}
+
 fn shown_text(alloc: Global, rest: &str) -> Result<String> {
     let (rules, held) = two_fields(rest)?;
-    let (rules, held) = (rules_of(rules)?, flags(held));
-    let registers = worked_registers();
-    let state = shown(&registers, 0x207, &rules, &held, 0);
-    let is_shown = state.pc == 0x207 && state.r[0] == 0x8000_0001 && state.r[14] == 0x1200;
-    if !is_shown || state.r[1] != 0 {
-        bail!("another state: {state:?}");
-    }
-    let codes = flags_text(alloc, codes_shown(&registers, &rules, &held))?;
-    Ok(format!(in alloc; "{codes} {:X}", state.psw)?)
+    shown_by(alloc, &rules_of(rules)?, &flags(held))
 }
 
 /// Answers `find POINTS WORD`, `raises OFFSET`, `codes RULE SIZE FIRST SECOND`, `ready RULE` and `shown RULES HELD`.
 pub fn answer(alloc: Global, _given: &Given<'_>, question: &str) -> Result<String> {
-    let (kind, rest) = question.split_once(' ').context("a question")?;
+    let (kind, rest) = cut(question)?;
     match kind {
         "find" => found_text(alloc, rest),
         "raises" => raised_text(alloc, rest),
         "codes" => codes_text(alloc, rest),
-        "ready" => Ok(yes_or_no(alloc, rule_of(rest, Size::Long)?.is_ready())?),
+        "ready" => ready_text(alloc, rest),
         "shown" => shown_text(alloc, rest),
-        _ => bail!("no question: {kind}"),
+        _ => no_question(kind),
     }
 }

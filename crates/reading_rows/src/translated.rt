@@ -2,29 +2,32 @@
 ghost use Rattle.std.specs.Prelude.{◌≤◌, length};
 ghost use Rattle.translated_file.specs.Whole.{AreWhole};
 
-use crate::lists::{numbers, pairs};
-use crate::texts::yes_or_no;
+use crate::lists::cut;
+use crate::texts::{no_question, yes_or_no};
 use address_map::{AddressMap, build};
 use anyhow::{Context, Result, anyhow, bail, ensure};
 use image_file::write_image;
-use row_tally::{Given, bytes, longword, two_fields};
+use row_tally::{Given, bytes, longword, longwords, pairs, two_fields};
 use std::alloc::{AllocError, Global};
 use translated_file::{
     MOST_PAIRS, MOST_WORDS, Parts, TranslatedRefusal, compare, read_parts, write_translated,
 };
 
-/// The numbers that a refusal tells, in decimal, or `none`.
-fn refusal_text(alloc: Global, refusal: TranslatedRefusal) -> Result<String, AllocError> {
-    let numbers = refusal.numbers();
+fn numbers_text(alloc: Global, numbers: &[u64]) -> Result<String, AllocError> {
     let mut text = String::new(alloc);
-    for number in numbers.as_slice() {
+    for number in numbers {
         let blank = if text.is_empty() { "" } else { " " };
         write!(text, "{blank}{number}")?;
     }
-    if text.is_empty() {
-        text.push_str("none")?;
-    }
     Ok(text)
+}
+
+/// The numbers that a refusal tells, in decimal, or `none`.
+fn refusal_text(alloc: Global, refusal: TranslatedRefusal) -> Result<String> {
+    match refusal.numbers().as_slice() {
+        [] => Ok(String::from_str(alloc, "none")?),
+        numbers => Ok(numbers_text(alloc, numbers)?),
+    }
 }
 
 /// The image's file in hexadecimal.
@@ -45,14 +48,19 @@ fn hints_text(alloc: Global, hints: &[u32]) -> Result<String, AllocError> {
     Ok(text)
 }
 
+fn rest_text(alloc: Global, hints: &[u32], tail: &[u8]) -> Result<String, AllocError> {
+    let hints = hints_text(alloc, hints)?;
+    let tail = hex::encode_upper(alloc, tail)?;
+    format!(in alloc; "hints{hints}, tail {{{tail}}}")
+}
+
 fn parts_text(alloc: Global, parts: &Parts) -> Result<String>
     requires { AreWhole parts.now }
 {
     let version = parts.version;
     let image = image_text(alloc, parts)?;
-    let hints = hints_text(alloc, &parts.hints)?;
-    let tail = hex::encode_upper(alloc, parts.tail.as_slice())?;
-    Ok(format!(in alloc; "version {version}, image {{{image}}}, hints{hints}, tail {{{tail}}}")?)
+    let rest = rest_text(alloc, &parts.hints, &parts.tail)?;
+    Ok(format!(in alloc; "version {version}, image {{{image}}}, {rest}")?)
 }
 
 fn map_of(alloc: Global, text: &str) -> Result<AddressMap> {
@@ -75,23 +83,18 @@ fn written_text(
     requires pairs { length map.now ≤ MOST_PAIRS }
 {
     match write_translated(alloc, &parts.image, &parts.hints, words, map) {
-        Ok(written) => Ok(yes_or_no(alloc, written.as_slice() == file)?),
+        Ok(written) => yes_or_no(alloc, written.as_slice() == file),
         Err(want) => Err(anyhow!("{want:?}")),
     }
 }
 
-fn verdict_text(
-    alloc: Global,
-    parts: &Parts,
-    words: &[u32],
-    map: &AddressMap,
-) -> Result<String, AllocError>
+fn verdict_text(alloc: Global, parts: &Parts, words: &[u32], map: &AddressMap) -> Result<String>
     requires parts { AreWhole parts.now }
     requires words { length words.now ≤ MOST_WORDS }
     requires pairs { length map.now ≤ MOST_PAIRS }
 {
     match compare(parts, words, map) {
-        Ok(()) => String::from_str(alloc, "accepted"),
+        Ok(()) => Ok(String::from_str(alloc, "accepted")?),
         Err(refusal) => refusal_text(alloc, refusal),
     }
 }
@@ -111,23 +114,22 @@ fn answer_for(
     map: &AddressMap,
     wanted: Wanted,
 ) -> Result<String> {
-    let parts = match read_parts(alloc, file) {
-        Ok(parts) => parts,
-        Err(refusal) => return Ok(refusal_text(alloc, refusal)?),
-    };
     ensure!(words.len() <= MOST_WORDS, "too many words");
     ensure!(map.pairs().len() <= MOST_PAIRS, "too many pairs");
-    match wanted {
-        Wanted::Parts => parts_text(alloc, &parts),
-        Wanted::Written => written_text(alloc, &parts, words, map, file),
-        Wanted::Verdict => Ok(verdict_text(alloc, &parts, words, map)?),
+    match read_parts(alloc, file) {
+        Ok(parts) => match wanted {
+            Wanted::Parts => parts_text(alloc, &parts),
+            Wanted::Written => written_text(alloc, &parts, words, map, file),
+            Wanted::Verdict => verdict_text(alloc, &parts, words, map),
+        },
+        Err(refusal) => refusal_text(alloc, refusal),
     }
 }
 
 /// The same, with the translation that WORDS PAIRS spell.
 fn answer_beside(alloc: Global, file: &[u8], beside: &str, wanted: Wanted) -> Result<String> {
     let (words, pairs) = two_fields(beside)?;
-    let words = numbers(alloc, words)?;
+    let words = longwords(alloc, words)?;
     answer_for(alloc, file, &words, &map_of(alloc, pairs)?, wanted)
 }
 
@@ -149,41 +151,60 @@ fn front_of(alloc: Global, file: &[u8], length: u32) -> Result<Vec<u8>> {
 }
 
 /// The file with other bytes behind its own.
-fn with_behind(alloc: Global, file: &[u8], other: &[u8]) -> Result<Vec<u8>, AllocError> {
+fn with_behind(alloc: Global, file: &[u8], other: &[u8]) -> Result<Vec<u8>> {
     let mut longer = file.to_vec(alloc)?;
     longer.extend_from_slice(other)?;
     Ok(longer)
+}
+
+/// The file that PLACE BYTES changes.
+fn changed_at(alloc: Global, file: &[u8], argument: &str) -> Result<Vec<u8>> {
+    let (place, other) = cut(argument)?;
+    let place = longword(place)? as usize;
+    with_bytes(alloc, file, place, &bytes(alloc, other)?)
 }
 
 /// The changed file that a question is about.
 fn changed_file(alloc: Global, file: &[u8], change: &str, argument: &str) -> Result<Vec<u8>> {
     match change {
         "first" => front_of(alloc, file, longword(argument)?),
-        "behind" => Ok(with_behind(alloc, file, &bytes(alloc, argument)?)?),
-        "at" => {
-            let (place, other) = argument.split_once(' ').context("bytes")?;
-            let place = longword(place)? as usize;
-            with_bytes(alloc, file, place, &bytes(alloc, other)?)
-        }
+        "behind" => with_behind(alloc, file, &bytes(alloc, argument)?),
+        "at" => changed_at(alloc, file, argument),
         _ => bail!("no question: {change}"),
     }
+}
+
+/// Answers what is asked about a changed file.
+fn answer_changed(
+    alloc: Global,
+    given: &Given<'_>,
+    file: &[u8],
+    change: &str,
+    argument: &str,
+) -> Result<String> {
+    let changed = changed_file(alloc, file, change, argument)?;
+    answer_beside(alloc, &changed, given.beside, Wanted::Verdict)
+}
+
+/// Answers what is asked about the file itself.
+fn answer_whole(alloc: Global, given: &Given<'_>, file: &[u8], question: &str) -> Result<String> {
+    let wanted = match question {
+        "whole" => Wanted::Verdict,
+        "parts" => Wanted::Parts,
+        "written" => Wanted::Written,
+        _ => return no_question(question),
+    };
+    answer_beside(alloc, file, given.beside, wanted)
 }
 
 /// Answers `whole`, `parts`, `written`, `first LENGTH`, `behind BYTES`, `at PLACE BYTES` and `want of memory`.
 pub fn answer(alloc: Global, given: &Given<'_>, question: &str) -> Result<String> {
     if question == "want of memory" {
-        return Ok(refusal_text(alloc, TranslatedRefusal::WantOfMemory)?);
+        return refusal_text(alloc, TranslatedRefusal::WantOfMemory);
     }
     let file = bytes(alloc, given.sample)?;
-    if let Some((change, argument)) = question.split_once(' ') {
-        let changed = changed_file(alloc, &file, change, argument)?;
-        return answer_beside(alloc, &changed, given.beside, Wanted::Verdict);
+    match question.split_once(' ') {
+        Some((change, argument)) => answer_changed(alloc, given, &file, change, argument),
+        None => answer_whole(alloc, given, &file, question),
     }
-    let wanted = match question {
-        "whole" => Wanted::Verdict,
-        "parts" => Wanted::Parts,
-        "written" => Wanted::Written,
-        _ => bail!("no question: {question}"),
-    };
-    answer_beside(alloc, &file, given.beside, wanted)
 }
