@@ -2,7 +2,8 @@
 ghost use Rattle.std.specs.Prelude.{IfOk};
 ghost use Rattle.memory_core.specs.Changes.{Allows};
 
-use anyhow::{Context, Result, bail};
+use crate::texts::parted;
+use anyhow::{Result, bail};
 use memory_core::{Change, Kind, Reply, Request};
 use row_tally::{longword, number};
 use std::alloc::AllocError;
@@ -16,7 +17,7 @@ fn byte(text: &str) -> Result<u8> {
 
 /// The numbers of FIRST/SECOND, the first below 256.
 fn byte_and_number(text: &str) -> Result<(u8, u64)> {
-    let (first, second) = text.split_once('/').context("two numbers")?;
+    let (first, second) = parted(text, '/')?;
     Ok((byte(first)?, number(second)?))
 }
 
@@ -29,17 +30,34 @@ fn kind_and_change_by(name: &str, argument: u64) -> Result<(Kind, Change)>
         mask: 0xff,
         value: argument,
     };
-    Ok(match name {
-        "load" => (Kind::Load, Change::Nothing),
-        "locked" => (Kind::LoadLocked, Change::Nothing),
-        "conditional" => (Kind::StoreConditional, all),
-        "tie-read" => (Kind::TieRead, Change::Nothing),
-        "set" => (Kind::TieLocked, Change::SetBit(small % 64)),
-        "clear" => (Kind::TieLocked, Change::ClearBit(small % 64)),
-        "put" => (Kind::Put, Change::Byte(small)),
-        "get" => (Kind::Get, Change::Nothing),
+    match name {
+        "load" => Ok((Kind::Load, Change::Nothing)),
+        "locked" => Ok((Kind::LoadLocked, Change::Nothing)),
+        "conditional" => Ok((Kind::StoreConditional, all)),
+        "tie-read" => Ok((Kind::TieRead, Change::Nothing)),
+        "set" => Ok((Kind::TieLocked, Change::SetBit(small % 64))),
+        "clear" => Ok((Kind::TieLocked, Change::ClearBit(small % 64))),
+        "put" => Ok((Kind::Put, Change::Byte(small))),
+        "get" => Ok((Kind::Get, Change::Nothing)),
         _ => bail!("no operation: {name}"),
-    })
+    }
+}
+
+/// The kind and the change of an operation with two numbers, the first of which is a mask or the place of a word.
+fn kind_and_change_with(name: &str, first: u8, value: u64) -> Result<(Kind, Change)>
+    ensures { IfOk result (λ pair. Allows pair.0 pair.1) }
+{
+    let bytes = Change::Bytes { mask: first, value };
+    let word = Change::AddWord {
+        at: 2 * (first % 4),
+        value: (value % 0x1_0000) as u16,
+    };
+    match name {
+        "store" => Ok((Kind::Store, bytes)),
+        "tie-write" => Ok((Kind::TieWrite, bytes)),
+        "add" => Ok((Kind::TieLocked, word)),
+        _ => bail!("no operation: {name}"),
+    }
 }
 
 /// The kind and the change of an operation.
@@ -51,25 +69,15 @@ fn kind_and_change(text: &str) -> Result<(Kind, Change)>
         return kind_and_change_by(name, number(argument)?);
     }
     let (first, value) = byte_and_number(argument)?;
-    let change = Change::Bytes { mask: first, value };
-    Ok(match name {
-        "store" => (Kind::Store, change),
-        "tie-write" => (Kind::TieWrite, change),
-        "add" => {
-            let value = (value % 0x1_0000) as u16;
-            let at = 2 * (first % 4);
-            (Kind::TieLocked, Change::AddWord { at, value })
-        }
-        _ => bail!("no operation: {name}"),
-    })
+    kind_and_change_with(name, first, value)
 }
 
 /// Reads PROCESSOR:OPERATION:QUADWORD.
 pub fn request_of(text: &str) -> Result<Request>
     ensures { IfOk result (λ request. Allows request.kind request.change) }
 {
-    let (processor, rest) = text.split_once(':').context("an operation")?;
-    let (operation, quad) = rest.split_once(':').context("a quadword")?;
+    let (processor, rest) = parted(text, ':')?;
+    let (operation, quad) = parted(rest, ':')?;
     let (kind, change) = kind_and_change(operation)?;
     Ok(Request {
         processor: byte(processor)?,

@@ -16,11 +16,60 @@ enum Seen {
     WantOfMemory,
 }
 
-/// What a read has to answer that is to find the bytes `wanted`: the name, the limit, and that.
-type Reads<'a> = &'a [(&'a str, usize, Seen)];
+/// What is asked of a desk.
+#[derive(Clone, Copy)]
+struct Calls<'a> {
+    desk: &'a str,
+    /// The name, the bytes, and the answer.
+    writes: &'a [(&'a str, &'a [u8], DeskWrite)],
+    /// What is read is compared with.
+    wanted: &'a [u8],
+    /// The name, the limit, and the answer.
+    reads: &'a [(&'a str, usize, Seen)],
+}
 
-/// Writes: the name, the bytes, and the answer.
-type Writes<'a> = &'a [(&'a str, &'a [u8], DeskWrite)];
+/// Reads and writes are numbered together: the calls 1, 4 and 6 fail.
+const IN_MEMORY: Calls<'static> = Calls {
+    desk: "a desk in memory",
+    writes: &[
+        ("a", b"xyz", DeskWrite::Done),
+        ("a", b"w", DeskWrite::Failed),
+    ],
+    wanted: b"xyz",
+    reads: &[
+        ("a", 3, Seen::Same),
+        ("a", 2, Seen::TooLong),
+        ("b", 9, Seen::Failed),
+        ("c", 9, Seen::Absent),
+        ("a", 3, Seen::Failed),
+        ("b", 9, Seen::Other),
+    ],
+};
+
+const FAILING: [u64; 3] = [1, 4, 6];
+
+/// A file that is written is cut first. A folder is no file, and none is made in a folder that isn't there.
+const OF_THE_SYSTEM: Calls<'static> = Calls {
+    desk: "files of the system",
+    writes: &[
+        ("empty", b"to be cut", DeskWrite::Done),
+        ("empty", b"", DeskWrite::Done),
+        ("file", b"longer than the next", DeskWrite::Done),
+        ("file", b"hello", DeskWrite::Done),
+        (".", b"hello", DeskWrite::Failed),
+        ("none/none", b"hello", DeskWrite::Failed),
+    ],
+    wanted: b"hello",
+    reads: &[
+        ("file", 6, Seen::Same),
+        ("file", 5, Seen::Same),
+        ("file", 4, Seen::TooLong),
+        ("empty", 0, Seen::Other),
+        ("none", 4, Seen::Absent),
+        (".", 4, Seen::Failed),
+        ("/dev/zero", 4, Seen::TooLong),
+    ],
+};
 
 fn see<D: Desk>(alloc: Global, desk: &mut D, name: &str, limit: usize, wanted: &[u8]) -> Seen {
     match desk.read(alloc, name, limit) {
@@ -37,9 +86,9 @@ fn check_writes<D: Desk>(
     rt: &impl Print,
     tally: &mut Tally,
     desk: &mut D,
-    rows: Writes<'_>,
+    calls: &Calls<'_>,
 ) -> Result<()> {
-    for (name, bytes, wanted) in rows {
+    for (name, bytes, wanted) in calls.writes {
         let found = desk.write(name, bytes);
         tally.check(rt, name, &found, wanted)?;
     }
@@ -50,70 +99,48 @@ fn check_reads<D: Desk>(
     rt: &(impl Print + AllocGlobal),
     tally: &mut Tally,
     desk: &mut D,
-    bytes: &[u8],
-    rows: Reads<'_>,
+    calls: &Calls<'_>,
 ) -> Result<()> {
-    for (name, limit, wanted) in rows {
-        let found = see(rt.alloc(), desk, name, *limit, bytes);
+    for (name, limit, wanted) in calls.reads {
+        let found = see(rt.alloc(), desk, name, *limit, calls.wanted);
         tally.check(rt, name, &found, wanted)?;
     }
     Ok(())
 }
 
+fn file_of(alloc: Global) -> Result<(String, Vec<u8>), AllocError> {
+    Ok((String::from_str(alloc, "b")?, b"y".to_vec(alloc)?))
+}
+
 fn one_file(alloc: Global) -> Result<Vec<(String, Vec<u8>)>, AllocError> {
     let mut files = Vec::new(alloc);
-    files.push((String::from_str(alloc, "b")?, b"y".to_vec(alloc)?))?;
+    files.push(file_of(alloc)?)?;
     Ok(files)
 }
 
-/// Reads and writes are numbered together: the calls 1, 4 and 6 fail.
-pub fn memory_desk(rt: &(impl Print + AllocGlobal)) -> Result<Tally> {
-    let alloc = rt.alloc();
+fn check_desk<D: Desk>(
+    rt: &(impl Print + AllocGlobal),
+    desk: &mut D,
+    calls: &Calls<'_>,
+) -> Result<Tally> {
     let mut tally = Tally::NONE;
-    let mut desk = MemoryDesk::new(one_file(alloc)?, [1, 4, 6].to_vec(alloc)?);
-    let writes: Writes<'_> = &[
-        ("a", b"xyz", DeskWrite::Done),
-        ("a", b"w", DeskWrite::Failed),
-    ];
-    check_writes(rt, &mut tally, &mut desk, writes)?;
-    let reads: Reads<'_> = &[
-        ("a", 3, Seen::Same),
-        ("a", 2, Seen::TooLong),
-        ("b", 9, Seen::Failed),
-        ("c", 9, Seen::Absent),
-        ("a", 3, Seen::Failed),
-        ("b", 9, Seen::Other),
-    ];
-    check_reads(rt, &mut tally, &mut desk, b"xyz", reads)?;
-    tally.print(rt, "a desk in memory")?;
+    check_writes(rt, &mut tally, desk, calls)?;
+    check_reads(rt, &mut tally, desk, calls)?;
+    tally.print(rt, calls.desk)?;
     Ok(tally)
 }
 
-/// A file that is written is cut first. A folder is no file, and none is made in a folder that isn't there.
+fn desk_of(alloc: Global) -> Result<MemoryDesk, AllocError> {
+    Ok(MemoryDesk::new(one_file(alloc)?, FAILING.to_vec(alloc)?))
+}
+
+pub fn memory_desk(rt: &(impl Print + AllocGlobal)) -> Result<Tally> {
+    check_desk(rt, &mut desk_of(rt.alloc())?, &IN_MEMORY)
+}
+
 pub fn file_desk<R: Files + Print + AllocGlobal>(rt: &R) -> Result<Tally> {
-    let mut tally = Tally::NONE;
-    let mut desk = FileDesk::new(rt);
-    let writes: Writes<'_> = &[
-        ("empty", b"to be cut", DeskWrite::Done),
-        ("empty", b"", DeskWrite::Done),
-        ("file", b"longer than the next", DeskWrite::Done),
-        ("file", b"hello", DeskWrite::Done),
-        (".", b"hello", DeskWrite::Failed),
-        ("none/none", b"hello", DeskWrite::Failed),
-    ];
-    check_writes(rt, &mut tally, &mut desk, writes)?;
-    let reads: Reads<'_> = &[
-        ("file", 6, Seen::Same),
-        ("file", 5, Seen::Same),
-        ("file", 4, Seen::TooLong),
-        ("empty", 0, Seen::Other),
-        ("none", 4, Seen::Absent),
-        (".", 4, Seen::Failed),
-        ("/dev/zero", 4, Seen::TooLong),
-    ];
-    check_reads(rt, &mut tally, &mut desk, b"hello", reads)?;
+    let tally = check_desk(rt, &mut FileDesk::new(rt), &OF_THE_SYSTEM)?;
     fs::remove_file(rt, "file")?;
     fs::remove_file(rt, "empty")?;
-    tally.print(rt, "files of the system")?;
     Ok(tally)
 }

@@ -2,7 +2,8 @@
 ghost use Rattle.std.specs.Prelude.{◌≤◌, IfOk};
 ghost use Rattle.image_file.specs.Whole.{IsWhole};
 
-use anyhow::{Context, Result, bail, ensure};
+use crate::texts::parted;
+use anyhow::{Result, bail, ensure};
 use image_file::{Image, read_image, write_image};
 use report_text::{MOST_GROUPS, generated, generated_bytes};
 use row_tally::{Given, longword};
@@ -51,13 +52,13 @@ fn again_text(alloc: Global, file: &[u8]) -> Result<String> {
 
 /// What a kind of question asks of the file of a generated image.
 fn file_text(alloc: Global, kind: &str, file: &[u8]) -> Result<String> {
-    Ok(match kind {
-        "length" => format!(in alloc; "{}", file.len())?,
-        "file" => hex::encode_upper(alloc, file)?,
-        "sum" => format!(in alloc; "{:X}", sum_of(file))?,
-        "again" => again_text(alloc, file)?,
+    let text = match kind {
+        "length" => format!(in alloc; "{}", file.len()),
+        "file" => hex::encode_upper(alloc, file),
+        "sum" => format!(in alloc; "{:X}", sum_of(file)),
         _ => bail!("no question: {kind}"),
-    })
+    };
+    Ok(text?)
 }
 
 fn number_of(text: &str) -> Result<u32>
@@ -68,14 +69,26 @@ fn number_of(text: &str) -> Result<u32>
     Ok(number)
 }
 
+fn generated_file(alloc: Global, number: u32) -> Result<Vec<u8>>
+    requires { number ≤ MOST_GROUPS }
+{
+    let image = image_of(alloc, number)?;
+    file_of(alloc, &image)
+}
+
+fn counted_text(alloc: Global, number: u32) -> Result<String>
+    requires { number ≤ MOST_GROUPS }
+{
+    Ok(format!(in alloc; "{}", generated_bytes(number))?)
+}
+
 /// Answers `length NUMBER`, `counted NUMBER`, `file NUMBER`, `sum NUMBER` and `again NUMBER`.
 pub fn answer(alloc: Global, _given: &Given<'_>, question: &str) -> Result<String> {
-    let (kind, number) = question.split_once(' ').context("a number")?;
+    let (kind, number) = parted(question, ' ')?;
     let number = number_of(number)?;
-    if kind == "counted" {
-        return Ok(format!(in alloc; "{}", generated_bytes(number))?);
+    match kind {
+        "counted" => counted_text(alloc, number),
+        "again" => again_text(alloc, &generated_file(alloc, number)?),
+        _ => file_text(alloc, kind, &generated_file(alloc, number)?),
     }
-    let image = image_of(alloc, number)?;
-    let file = file_of(alloc, &image)?;
-    file_text(alloc, kind, &file)
 }

@@ -5,6 +5,7 @@ ghost use Rattle.memory_core.specs.Changes.{Allows};
 ghost use Rattle.memory_core.specs.Kinds.{writes};
 
 use crate::accesses::{request_of, write_reply};
+use crate::texts::parted;
 use anyhow::{Context, Result, anyhow, bail, ensure};
 use image_file::{Image, read_image};
 use memory_core::{Entry, Kind, MemState, Reply, Request};
@@ -79,30 +80,33 @@ fn image_of(alloc: Global, sample: &str) -> Result<Image>
     }
 }
 
-fn page_text(alloc: Global, memory: &MemState, address: u32) -> Result<String, AllocError> {
-    match (memory.page_place(address / PAGE), memory.byte(address)) {
+fn page_text(alloc: Global, memory: &MemState, address: u32) -> Result<String> {
+    let text = match (memory.page_place(address / PAGE), memory.byte(address)) {
         (Some(place), Some(byte)) => format!(in alloc; "{place:X} {byte:X}"),
         _ => format!(in alloc; "- -"),
-    }
+    };
+    Ok(text?)
 }
 
-fn entry_text(alloc: Global, entry: &Entry) -> Result<String, AllocError> {
+fn text_of(alloc: Global, entry: &Entry) -> Result<String, AllocError> {
     let (processor, kind, quad) = (entry.processor, entry.kind, entry.quad);
     let (before, after) = (entry.before, entry.after);
     let (retired, success) = (entry.retired, entry.success);
     format!(in alloc; "{processor:X} {kind:?} {quad:X} {before:X} {after:X} {retired:X} {success}")
 }
 
+fn entry_text(alloc: Global, history: &[Entry], place: u32) -> Result<String> {
+    let entry = history.get(place as usize).context("an entry")?;
+    Ok(text_of(alloc, entry)?)
+}
+
 /// Answers a question with a number.
 fn answer_at(alloc: Global, memory: &MemState, question: &str, number: u32) -> Result<String> {
-    Ok(match question {
-        "page" => page_text(alloc, memory, number)?,
-        "entry" => {
-            let entry = memory.history().get(number as usize).context("an entry")?;
-            entry_text(alloc, entry)?
-        }
+    match question {
+        "page" => page_text(alloc, memory, number),
+        "entry" => entry_text(alloc, memory.history(), number),
         _ => bail!("no question: {question}"),
-    })
+    }
 }
 
 /// What a memory holds.
@@ -110,16 +114,17 @@ fn answer_of(alloc: Global, memory: &MemState, question: &str) -> Result<String>
     if let Some((question, number)) = question.split_once(' ') {
         return answer_at(alloc, memory, question, longword(number)?);
     }
-    Ok(match question {
-        "output" => hex::encode_upper(alloc, memory.output())?,
-        "entries" => format!(in alloc; "{:X}", memory.history().len())?,
+    let text = match question {
+        "output" => hex::encode_upper(alloc, memory.output()),
+        "entries" => format!(in alloc; "{:X}", memory.history().len()),
         _ => bail!("no question: {question}"),
-    })
+    };
+    Ok(text?)
 }
 
 /// The numbers and the accesses of a history: the miss number, the limit, and the accesses.
 fn history_of(beside: &str) -> Result<(u16, u32, &str)> {
-    let (miss, rest) = beside.split_once(' ').context("a limit")?;
+    let (miss, rest) = parted(beside, ' ')?;
     let (limit, accesses) = rest.split_once(' ').unwrap_or((rest, ""));
     Ok((u16::try_from(longword(miss)?)?, longword(limit)?, accesses))
 }
@@ -131,10 +136,10 @@ fn answer_behind(alloc: Global, image: &Image, beside: &str, question: &str) -> 
     let (miss, limit, accesses) = history_of(beside)?;
     let mut memory = memory_of(alloc, image, limit, miss)?;
     let replies = replies_of(alloc, image, &mut memory, accesses)?;
-    if question == "replies" {
-        return Ok(String::from_str(alloc, replies.as_str().trim_start())?);
+    match question {
+        "replies" => Ok(String::from_str(alloc, replies.as_str().trim_start())?),
+        _ => answer_of(alloc, &memory, question),
     }
-    answer_of(alloc, &memory, question)
 }
 
 /// Answers `replies`, `output`, `entries`, `entry PLACE` and `page ADDRESS`.

@@ -1,12 +1,12 @@
 // Questions about lines: those of threads, of refused files, and of generated images.
-use crate::texts::{pairs, text_of};
+use crate::texts::{parted, text_of};
 use anyhow::{Context, Result, bail, ensure};
 use report_text::{
     MOST_GROUPS, MOST_NUMBERS, Offered, Subject, generated_bytes, generated_lines, offer,
     refused_line, report,
 };
-use row_tally::{Given, five_fields, longword, number, pieces, three_fields, two_fields};
-use std::alloc::{AllocError, Global};
+use row_tally::{Given, five_fields, longword, number, pairs, pieces, three_fields, two_fields};
+use std::alloc::Global;
 use system_model::End;
 use vax_form::{Exception, Pending, VaxState};
 use vt_outside::MemorySink;
@@ -17,26 +17,36 @@ const SINK_ROOM: usize = 512;
 /// How a thread ended, its shown state, and its count of retired instructions.
 type Processor = (End, VaxState, u64);
 
+fn access_violation(address: u32, write: bool) -> Exception {
+    Exception::AccessViolation { address, write }
+}
+
+fn trap_of(number: u32) -> Result<Exception> {
+    Ok(Exception::Arithmetic(u8::try_from(number)?))
+}
+
+fn exception_of(word: &str, number: u32) -> Result<Exception> {
+    match word {
+        "reserved-instruction" => Ok(Exception::ReservedInstruction),
+        "reserved-operand" => Ok(Exception::ReservedOperand),
+        "reserved-mode" => Ok(Exception::ReservedMode),
+        "breakpoint" => Ok(Exception::Breakpoint),
+        "read" => Ok(access_violation(number, false)),
+        "write" => Ok(access_violation(number, true)),
+        "trap" => trap_of(number),
+        _ => bail!("no end: {word}"),
+    }
+}
+
 /// An end is a word, with a number behind `=` where it has one.
 fn end_of(text: &str) -> Result<End> {
     let (word, argument) = text.split_once('=').unwrap_or((text, "0"));
     let number = longword(argument)?;
-    Ok(match word {
-        "exit" => End::Exit(number),
-        "spent" => End::Spent,
-        "reserved-instruction" => End::Raised(Exception::ReservedInstruction),
-        "reserved-operand" => End::Raised(Exception::ReservedOperand),
-        "reserved-mode" => End::Raised(Exception::ReservedMode),
-        "breakpoint" => End::Raised(Exception::Breakpoint),
-        "read" => End::Raised(access_violation(number, false)),
-        "write" => End::Raised(access_violation(number, true)),
-        "trap" => End::Raised(Exception::Arithmetic(u8::try_from(number)?)),
-        _ => bail!("no end: {word}"),
-    })
-}
-
-fn access_violation(address: u32, write: bool) -> Exception {
-    Exception::AccessViolation { address, write }
+    match word {
+        "exit" => Ok(End::Exit(number)),
+        "spent" => Ok(End::Spent),
+        _ => Ok(End::Raised(exception_of(word, number)?)),
+    }
 }
 
 /// The registers that are not 0 are NUMBER=VALUE with commas between.
@@ -48,17 +58,21 @@ fn registers_of(alloc: Global, text: &str) -> Result<[u32; 15]> {
     Ok(registers)
 }
 
-/// Reads END PC PSW REGISTERS RETIRED.
-fn processor_of(alloc: Global, text: &str) -> Result<Processor> {
-    let (end, pc, psw, registers, retired) = five_fields(text)?;
-    let state = VaxState {
+fn state_of(alloc: Global, pc: &str, psw: &str, registers: &str) -> Result<VaxState> {
+    Ok(VaxState {
         r: registers_of(alloc, registers)?,
         pc: longword(pc)?,
         psw: u16::try_from(longword(psw)?)?,
         handler: 0,
         pending: Pending::Nothing,
-    };
-    Ok((end_of(end)?, state, number(retired)?))
+    })
+}
+
+/// Reads END PC PSW REGISTERS RETIRED.
+fn processor_of(alloc: Global, text: &str) -> Result<Processor> {
+    let (end, pc, psw, registers, retired) = five_fields(text)?;
+    let (end, retired) = (end_of(end)?, number(retired)?);
+    Ok((end, state_of(alloc, pc, psw, registers)?, retired))
 }
 
 fn processors_of(alloc: Global, threads: &str) -> Result<Vec<Processor>> {
@@ -73,7 +87,7 @@ fn processors_of(alloc: Global, threads: &str) -> Result<Vec<Processor>> {
 fn report_answer(alloc: Global, threads: &str) -> Result<String> {
     let processors = processors_of(alloc, threads)?;
     match report(alloc, &processors) {
-        Ok(lines) => Ok(text_of(alloc, &lines)?),
+        Ok(lines) => text_of(alloc, &lines),
         Err(_) => bail!("no memory"),
     }
 }
@@ -98,37 +112,40 @@ fn offered_text(
     alloc: Global,
     mut sink: MemorySink,
     thread: u8,
-    processor: Processor,
-) -> Result<String, AllocError> {
+    processor: &Processor,
+) -> Result<String> {
     let (end, state, retired) = processor;
-    let word = match offer(thread, end, &state, retired, &mut sink) {
+    let word = match offer(thread, *end, state, *retired, &mut sink) {
         Offered::Written => "written",
         Offered::Failed => "failed",
     };
     let taken = text_of(alloc, sink.bytes())?;
-    format!(in alloc; "{word} {taken}")
+    Ok(format!(in alloc; "{word} {taken}")?)
+}
+
+/// Offers the line that NUMBER THREAD spells.
+fn offer_thread(alloc: Global, sink: MemorySink, rest: &str) -> Result<String> {
+    let (thread, rest) = parted(rest, ' ')?;
+    let thread = u8::try_from(longword(thread)?)?;
+    offered_text(alloc, sink, thread, &processor_of(alloc, rest)?)
 }
 
 /// Answers `offer MOST FAILS NUMBER THREAD`.
 fn offer_answer(alloc: Global, rest: &str) -> Result<String> {
-    let (most, rest) = rest.split_once(' ').context("failing calls")?;
-    let (fails, rest) = rest.split_once(' ').context("a thread's number")?;
-    let (thread, rest) = rest.split_once(' ').context("a thread")?;
-    let thread = u8::try_from(longword(thread)?)?;
-    let processor = processor_of(alloc, rest)?;
-    let sink = sink_of(alloc, longword(most)?, fails)?;
-    Ok(offered_text(alloc, sink, thread, processor)?)
+    let (most, rest) = parted(rest, ' ')?;
+    let (fails, rest) = parted(rest, ' ')?;
+    offer_thread(alloc, sink_of(alloc, longword(most)?, fails)?, rest)
 }
 
 fn subject_of(word: &str) -> Result<Subject> {
-    Ok(match word {
-        "image" => Subject::Image,
-        "translated" => Subject::Translated,
-        "flow" => Subject::Flow,
-        "order" => Subject::Order,
-        "hints" => Subject::Hints,
+    match word {
+        "image" => Ok(Subject::Image),
+        "translated" => Ok(Subject::Translated),
+        "flow" => Ok(Subject::Flow),
+        "order" => Ok(Subject::Order),
+        "hints" => Ok(Subject::Hints),
         _ => bail!("no subject: {word}"),
-    })
+    }
 }
 
 /// Answers `refused SUBJECT NUMBERS`.
@@ -137,7 +154,7 @@ fn refused_answer(alloc: Global, rest: &str) -> Result<String> {
     let (subject, told) = (subject_of(subject)?, numbers(alloc, told)?);
     ensure!(told.len() <= MOST_NUMBERS, "too many numbers");
     let line = refused_line(subject, &told);
-    Ok(text_of(alloc, line.as_slice())?)
+    text_of(alloc, line.as_slice())
 }
 
 /// Answers `generated NUMBER MAPPED MEMORY`, with the bytes of the file that the number says.
@@ -146,12 +163,12 @@ fn generated_answer(alloc: Global, rest: &str) -> Result<String> {
     let (image, mapped, memory) = (longword(image)?, number(mapped)?, longword(memory)?);
     ensure!(image <= MOST_GROUPS, "no generated image");
     let line = generated_lines(image, generated_bytes(image), mapped, memory);
-    Ok(text_of(alloc, line.as_slice())?)
+    text_of(alloc, line.as_slice())
 }
 
 /// Answers a question by its first word.
 pub fn answer(alloc: Global, _given: &Given<'_>, question: &str) -> Result<String> {
-    let (kind, rest) = question.split_once(' ').context("a question")?;
+    let (kind, rest) = parted(question, ' ')?;
     match kind {
         "report" => report_answer(alloc, rest),
         "offer" => offer_answer(alloc, rest),

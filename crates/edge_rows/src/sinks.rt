@@ -25,34 +25,51 @@ fn with_room(alloc: Global, fails: &[u64]) -> Result<MemorySink, AllocError> {
     Ok(MemorySink::new(Vec::with_capacity(alloc, 3)?, fails.to_vec(alloc)?))
 }
 
-/// Calls fail where they are to, and where no room is left; the slow sink takes at most two bytes a call.
+/// The second call fails, and then no room is left.
+const FULL: &[(&[u8], Put)] = &[
+    (b"a--", Put::Took(3)),
+    (b"b", Put::Failed),
+    (b"c", Put::Failed),
+];
+
+/// The first and the third call fail.
+const BETWEEN: &[(&[u8], Put)] = &[
+    (b"a", Put::Failed),
+    (b"bc", Put::Took(2)),
+    (b"d", Put::Failed),
+    (b"ef", Put::Took(1)),
+];
+
+/// At most two bytes are taken a call, the third call fails, and no room is left.
+const SLOW: &[(&[u8], Put)] = &[
+    (b"abc", Put::Took(2)),
+    (b"c", Put::Took(1)),
+    (b"d", Put::Failed),
+    (b"d", Put::Failed),
+];
+
+fn check_between(rt: &(impl Print + AllocGlobal), tally: &mut Tally) -> Result<()> {
+    let mut sink = with_room(rt.alloc(), &[0, 2])?;
+    check(rt, tally, &mut sink, BETWEEN)?;
+    tally.check(rt, "taken", &sink.bytes(), &b"bce".as_slice())
+}
+
+fn slow_sink(alloc: Global) -> Result<MemorySink, AllocError> {
+    let room = Vec::with_capacity(alloc, 3)?;
+    Ok(MemorySink::slow(room, [2].to_vec(alloc)?, 2))
+}
+
+fn check_slow(rt: &(impl Print + AllocGlobal), tally: &mut Tally) -> Result<()> {
+    let mut sink = slow_sink(rt.alloc())?;
+    check(rt, tally, &mut sink, SLOW)?;
+    tally.check(rt, "taken slowly", &sink.bytes(), &b"abc".as_slice())
+}
+
 pub fn memory_sinks(rt: &(impl Print + AllocGlobal)) -> Result<Tally> {
-    let alloc = rt.alloc();
     let mut tally = Tally::NONE;
-    let rows: &[(&[u8], Put)] = &[
-        (b"a--", Put::Took(3)),
-        (b"b", Put::Failed),
-        (b"c", Put::Failed),
-    ];
-    check(rt, &mut tally, &mut with_room(alloc, &[1])?, rows)?;
-    let rows: &[(&[u8], Put)] = &[
-        (b"a", Put::Failed),
-        (b"bc", Put::Took(2)),
-        (b"d", Put::Failed),
-        (b"ef", Put::Took(1)),
-    ];
-    let mut sink = with_room(alloc, &[0, 2])?;
-    check(rt, &mut tally, &mut sink, rows)?;
-    tally.check(rt, "taken", &sink.bytes(), &b"bce".as_slice())?;
-    let rows: &[(&[u8], Put)] = &[
-        (b"abc", Put::Took(2)),
-        (b"c", Put::Took(1)),
-        (b"d", Put::Failed),
-        (b"d", Put::Failed),
-    ];
-    let mut sink = MemorySink::slow(Vec::with_capacity(alloc, 3)?, [2].to_vec(alloc)?, 2);
-    check(rt, &mut tally, &mut sink, rows)?;
-    tally.check(rt, "taken slowly", &sink.bytes(), &b"abc".as_slice())?;
+    check(rt, &mut tally, &mut with_room(rt.alloc(), &[1])?, FULL)?;
+    check_between(rt, &mut tally)?;
+    check_slow(rt, &mut tally)?;
     tally.print(rt, "sinks in memory")?;
     Ok(tally)
 }

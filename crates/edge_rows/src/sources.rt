@@ -1,6 +1,7 @@
 // Bytes that come in.
 use anyhow::Result;
 use row_tally::Tally;
+use std::alloc::{AllocError, Global};
 use vt_outside::{Got, MemorySource, Source};
 
 /// Whether a read of at most two bytes gives just these, and what it answers.
@@ -29,19 +30,22 @@ pub fn check<S: Source>(
 }
 
 /// The calls 2 and 4 fail, and the byte of the third comes behind the first failure.
+const FAILING: &[(&[u8], Got)] = &[
+    (b"a", Got::Bytes(1)),
+    (b"b", Got::Bytes(1)),
+    (b"", Got::Failed),
+    (b"c", Got::Bytes(1)),
+    (b"", Got::Failed),
+    (b"", Got::End),
+];
+
+fn failing_source(alloc: Global) -> Result<MemorySource, AllocError> {
+    Ok(MemorySource::new(b"abc".to_vec(alloc)?, [2, 4].to_vec(alloc)?, 1))
+}
+
 pub fn memory_source(rt: &(impl Print + AllocGlobal)) -> Result<Tally> {
-    let alloc = rt.alloc();
     let mut tally = Tally::NONE;
-    let mut source = MemorySource::new(b"abc".to_vec(alloc)?, [2, 4].to_vec(alloc)?, 1);
-    let rows: &[(&[u8], Got)] = &[
-        (b"a", Got::Bytes(1)),
-        (b"b", Got::Bytes(1)),
-        (b"", Got::Failed),
-        (b"c", Got::Bytes(1)),
-        (b"", Got::Failed),
-        (b"", Got::End),
-    ];
-    check(rt, &mut tally, &mut source, rows)?;
+    check(rt, &mut tally, &mut failing_source(rt.alloc())?, FAILING)?;
     tally.print(rt, "a source in memory")?;
     Ok(tally)
 }

@@ -14,35 +14,47 @@ fn pass<G: Gate + Sync>(gate: &G) {
     gate.before(1, 0);
 }
 
+/// The reads of the file.
+const WHOLE: &[(&[u8], Got)] = &[
+    (b"ab", Got::Bytes(2)),
+    (b"c", Got::Bytes(1)),
+    (b"", Got::End),
+];
+
+const NOT_WRITTEN: &[(&[u8], Put)] = &[(b"f", Put::Failed)];
+
+const NOT_READ: &[(&[u8], Got)] = &[(b"", Got::Failed)];
+
+/// A file is written.
+fn check_written(rt: &(impl Files + Print), tally: &mut Tally) -> Result<()> {
+    let mut sink = OutSink::new(fs::create(rt, NAME)?);
+    let whole = write_all(&mut sink, b"abc").is_ok();
+    tally.check(rt, "written", &whole, &true)
+}
+
+/// What a name gives that is opened for reading.
+fn check_read(
+    rt: &(impl Files + Print),
+    tally: &mut Tally,
+    name: &str,
+    rows: &[(&[u8], Got)],
+) -> Result<()> {
+    let mut source = InSource::new(fs::open(rt, name)?);
+    sources::check(rt, tally, &mut source, rows)
+}
+
+fn check_not_written(rt: &(impl Files + Print), tally: &mut Tally) -> Result<()> {
+    let mut sink = OutSink::new(fs::open(rt, NAME)?);
+    sinks::check(rt, tally, &mut sink, NOT_WRITTEN)
+}
+
 /// A file that was written is read; one that was opened for reading can't be written, and a folder can't be read.
 pub fn files(rt: &(impl Files + Print)) -> Result<Tally> {
     let mut tally = Tally::NONE;
-    let mut sink = OutSink::new(fs::create(rt, NAME)?);
-    let whole = write_all(&mut sink, b"abc").is_ok();
-    tally.check(rt, "written", &whole, &true)?;
-    let rows: &[(&[u8], Got)] = &[
-        (b"ab", Got::Bytes(2)),
-        (b"c", Got::Bytes(1)),
-        (b"", Got::End),
-    ];
-    sources::check(
-        rt,
-        &mut tally,
-        &mut InSource::new(fs::open(rt, NAME)?),
-        rows,
-    )?;
-    sinks::check(
-        rt,
-        &mut tally,
-        &mut OutSink::new(fs::open(rt, NAME)?),
-        &[(b"f", Put::Failed)],
-    )?;
-    sources::check(
-        rt,
-        &mut tally,
-        &mut InSource::new(fs::open(rt, ".")?),
-        &[(b"", Got::Failed)],
-    )?;
+    check_written(rt, &mut tally)?;
+    check_read(rt, &mut tally, NAME, WHOLE)?;
+    check_not_written(rt, &mut tally)?;
+    check_read(rt, &mut tally, ".", NOT_READ)?;
     pass(&OpenGate);
     fs::remove_file(rt, NAME)?;
     tally.print(rt, "streams of the system")?;
@@ -80,18 +92,16 @@ fn standard_error(stderr: Stderr) -> OutSink<Stderr>
     OutSink::new(stderr)
 }
 
+const NOTHING: &[(&[u8], Got)] = &[(b"", Got::End)];
+
+const LINE: &[(&[u8], Put)] = &[(b"\n", Put::Took(1))];
+
 /// The standard streams are lent: nothing comes in, and a byte goes out by each.
 pub fn standard_streams(rt: &HostRuntime) -> Result<Tally> {
     let mut tally = Tally::NONE;
-    sources::check(
-        rt,
-        &mut tally,
-        &mut standard_input(rt.stdin()),
-        &[(b"", Got::End)],
-    )?;
-    let line: &[(&[u8], Put)] = &[(b"\n", Put::Took(1))];
-    sinks::check(rt, &mut tally, &mut standard_output(rt.stdout()), line)?;
-    sinks::check(rt, &mut tally, &mut standard_error(rt.stderr()), line)?;
+    sources::check(rt, &mut tally, &mut standard_input(rt.stdin()), NOTHING)?;
+    sinks::check(rt, &mut tally, &mut standard_output(rt.stdout()), LINE)?;
+    sinks::check(rt, &mut tally, &mut standard_error(rt.stderr()), LINE)?;
     tally.print(rt, "standard streams")?;
     Ok(tally)
 }
