@@ -1,9 +1,9 @@
-// Temporaries, sizes, arguments and expressions as the tables have them.
-use micro_ops::{Arg, MicroOp};
+// Temporaries, sizes, arguments and computations as the tables have them.
+use micro_ops::{Arg, Micro, MicroOp};
 use vax_form::Size;
 
 /// The signs of operations with two arguments. One that begins as another stands before it.
-const SIGNS: [(&str, MicroOp); 13] = [
+static SIGNS: [(&str, MicroOp); 13] = [
     ("&~", MicroOp::AndNot),
     ("<<", MicroOp::ShiftLeft),
     (">>s", MicroOp::ShiftSigned),
@@ -18,6 +18,9 @@ const SIGNS: [(&str, MicroOp); 13] = [
     ("|", MicroOp::Or),
     ("^", MicroOp::Xor),
 ];
+
+/// The second argument of an operation that has none.
+const NOTHING: &str = "#0";
 
 pub fn size(letter: &str) -> Option<Size> {
     match letter {
@@ -79,63 +82,49 @@ fn argument(text: &str) -> Option<Arg> {
     Some(Arg::Flag(flag(text)?))
 }
 
-/// What is computed, at which size, and from what.
-#[derive(Clone, Copy)]
-pub struct Computation {
-    pub op: MicroOp,
-    pub size: Size,
-    pub a: Arg,
-    pub b: Arg,
-}
-
-/// An operation of one argument has no second one.
-fn single(op: MicroOp, letter: &str, text: &str) -> Option<Computation> {
-    Some(Computation {
+/// What is computed from two arguments at the size of a letter.
+fn computes(to: u8, op: MicroOp, letter: &str, arguments: (&str, &str)) -> Option<Micro> {
+    let (a, b) = arguments;
+    Some(Micro::Compute {
+        to,
         op,
         size: size(letter)?,
-        a: argument(text)?,
-        b: Arg::Const(0),
+        a: argument(a)?,
+        b: argument(b)?,
     })
 }
 
-/// `A+B.l`: both arguments with the sign between, and the size.
-fn double(text: &str, letter: &str) -> Option<Computation> {
-    for (sign, op) in SIGNS {
-        if let Some((a, b)) = text.split_once(sign) {
-            return Some(Computation {
-                op,
-                size: size(letter)?,
-                a: argument(a)?,
-                b: argument(b)?,
-            });
+/// The operation of two arguments with a sign between, and both; a lone one is moved.
+fn signed(text: &str) -> (MicroOp, (&str, &str)) {
+    for (sign, op) in &SIGNS {
+        if let Some(arguments) = text.split_once(*sign) {
+            return (*op, arguments);
         }
     }
-    None
+    (MicroOp::Move, (text, NOTHING))
 }
 
-/// `sx.l A`, `A+B.l` or `A.l`.
-pub fn expression(text: &str) -> Option<Computation> {
+/// What a temporary is given: `sx.l A`, `A+B.l` or `A.l`.
+fn expression(to: u8, text: &str) -> Option<Micro> {
     if let Some(rest) = text.strip_prefix("sx.") {
         let (letter, argument) = rest.split_once(' ')?;
-        return single(MicroOp::SignExtend, letter, argument);
+        return computes(to, MicroOp::SignExtend, letter, (argument, NOTHING));
     }
-    let (arguments, letter) = text.split_once('.')?;
-    if let Some(both) = double(arguments, letter) {
-        return Some(both);
-    }
-    single(MicroOp::Move, letter, arguments)
+    let (text, letter) = text.split_once('.')?;
+    let (op, arguments) = signed(text);
+    computes(to, op, letter, arguments)
 }
 
-/// `if A t2=B.l`, behind the `if`: B where A isn't 0.
-pub fn choice(text: &str) -> Option<(u8, Computation)> {
+/// `t0=A`.
+pub fn assignment(text: &str) -> Option<Micro> {
+    let (to, value) = text.split_once('=')?;
+    expression(temp(to)?, value)
+}
+
+/// `A t2=B.l`, behind an `if`: B where A isn't 0.
+pub fn choice(text: &str) -> Option<Micro> {
     let (when, rest) = text.split_once(' ')?;
-    let (to, value) = rest.split_once('=')?;
-    let (value, letter) = value.split_once('.')?;
-    let computation = Computation {
-        op: MicroOp::SelectNonzero,
-        size: size(letter)?,
-        a: argument(when)?,
-        b: argument(value)?,
-    };
-    Some((temp(to)?, computation))
+    let (to, rest) = rest.split_once('=')?;
+    let (value, letter) = rest.split_once('.')?;
+    computes(temp(to)?, MicroOp::SelectNonzero, letter, (when, value))
 }

@@ -7,6 +7,7 @@ ghost use Rattle.micro_ops.specs.Sources.{is_written};
 ghost use Rattle.block_law.specs.Blocks.{IsBlockOf};
 ghost use Rattle.program_codegen.specs.Programs.{is_narrow};
 
+use crate::machine::encoded;
 use anyhow::{Result, bail, ensure};
 use exception_records::{Block, CodeRule, Rules};
 use flag_codegen::code_words;
@@ -28,14 +29,6 @@ impl Site {
         after: 0x204,
     };
 }
-
-/// All codes are ready.
-pub const READY: Rules = Rules {
-    n: CodeRule::Ready,
-    z: CodeRule::Ready,
-    v: CodeRule::Ready,
-    c: CodeRule::Ready,
-};
 
 fn is_written(source: CodeSource) -> bool
     ensures { result ≡ is_written source }
@@ -114,8 +107,41 @@ pub fn made(
         are_ready(behind) || !has_computed_exit(program),
         "codes that are not ready"
     );
-    match block(alloc, &instr, sources, program, &words, READY, behind) {
+    match block(
+        alloc,
+        &instr,
+        sources,
+        program,
+        &words,
+        Rules::READY,
+        behind,
+    ) {
         Ok(block) => Ok((block, behind)),
         Err(_) => bail!("want of memory"),
     }
+}
+
+/// A block with its encoded words, and the rules of the codes behind it.
+#[derive(Drop)]
+pub struct BlockCode {
+    pub block: Block,
+    pub words: Vec<u32>,
+    pub behind: Rules,
+}
+
+/// The block of a program that fits, as `made` makes it, with its words.
+pub fn encoded_block(
+    alloc: Global,
+    site: Site,
+    opcode: u8,
+    program: &[Micro],
+    live: Flags,
+) -> Result<BlockCode> {
+    let (block, behind) = made(alloc, site, opcode, program, live)?;
+    let words = encoded(alloc, &block.words)?;
+    Ok(BlockCode {
+        block,
+        words,
+        behind,
+    })
 }

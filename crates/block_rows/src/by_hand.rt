@@ -1,30 +1,32 @@
 // Blocks beside those that were worked out by hand.
-use crate::blocks::{READY, Site, made};
-use crate::forms::{opcode, program};
-use crate::machine::encoded;
+use crate::blocks::{BlockCode, Site, encoded_block};
+use crate::forms::{opcode, program, split};
 use crate::sets::lettered;
 use anyhow::{Context, Result};
-use exception_records::{Block, Point, Rules};
-use row_tally::{Tally, rows};
+use exception_records::{Point, Rules};
+use row_tally::Tally;
 use std::alloc::{AllocError, Global};
+
+fn push_comma(text: &mut String) -> Result<(), AllocError> {
+    if text.is_empty() {
+        return Ok(());
+    }
+    text.push_str(",")
+}
 
 fn words_text(alloc: Global, words: &[u32]) -> Result<String, AllocError> {
     let mut text = String::new(alloc);
     for word in words {
-        if !text.is_empty() {
-            text.push_str(",")?;
-        }
+        push_comma(&mut text)?;
         write!(text, "{word:08X}")?;
     }
     Ok(text)
 }
 
-fn exits_text(alloc: Global, block: &Block) -> Result<String, AllocError> {
+fn exits_text(alloc: Global, exits: &[(u32, u32)]) -> Result<String, AllocError> {
     let mut text = String::new(alloc);
-    for (word, address) in &block.exits {
-        if !text.is_empty() {
-            text.push_str(",")?;
-        }
+    for (word, address) in exits {
+        push_comma(&mut text)?;
         write!(text, "{word:X}={address:X}")?;
     }
     Ok(text)
@@ -32,7 +34,7 @@ fn exits_text(alloc: Global, block: &Block) -> Result<String, AllocError> {
 
 /// Which rules a point has; all codes are ready before the instruction.
 fn rules_name(rules: Rules, behind: Rules) -> &'static str {
-    if rules == READY {
+    if rules == Rules::READY {
         "before"
     } else if rules == behind {
         "behind"
@@ -41,62 +43,52 @@ fn rules_name(rules: Rules, behind: Rules) -> &'static str {
     }
 }
 
-fn point_text(text: &mut String, word: u32, point: Point, behind: Rules) -> Result<(), AllocError> {
-    let Point {
-        done,
-        count,
-        write,
-        raises,
-        rules,
-        ..
-    } = point;
-    let (intent, rules) = (if write { "w" } else { "r" }, rules_name(rules, behind));
+fn write_point(text: &mut String, word: u32, point: &Point, rules: &str) -> Result<(), AllocError> {
+    let (done, count, raises) = (point.done, point.count, point.raises);
+    let intent = if point.write { "w" } else { "r" };
     write!(text, "{word:X}={done}/{count}{intent}/{raises:X}/{rules}")
 }
 
-fn points_text(alloc: Global, block: &Block, behind: Rules) -> Result<String, AllocError> {
+fn points_text(
+    alloc: Global,
+    points: &[(u32, Point)],
+    behind: Rules,
+) -> Result<String, AllocError> {
     let mut text = String::new(alloc);
-    for (word, point) in &block.points {
-        if !text.is_empty() {
-            text.push_str(",")?;
-        }
-        point_text(&mut text, *word, *point, behind)?;
+    for (word, point) in points {
+        push_comma(&mut text)?;
+        write_point(&mut text, *word, point, rules_name(point.rules, behind))?;
     }
     Ok(text)
 }
 
-/// The words, exits and points of a row, and those of its program's block.
-fn answers(alloc: Global, row: &str) -> Result<([String; 3], [String; 3])> {
-    let (name, rest) = row.split_once(' ').context("an opcode")?;
-    let (live, rest) = rest.split_once(' ').context("live codes")?;
-    let (words, rest) = rest.split_once(' ').context("words")?;
-    let (exits, rest) = rest.split_once(' ').context("exits")?;
-    let (points, text) = rest.split_once(' ').context("points")?;
+/// The block of the program of a row.
+fn block_of(alloc: Global, name: &str, live: &str, text: &str) -> Result<BlockCode> {
     let opcode = opcode(name)?.context("an opcode")?;
     let program = program(alloc, text)?;
-    let (block, behind) = made(alloc, Site::HERE, opcode, &program, lettered(live))?;
-    let found = [
-        words_text(alloc, &encoded(alloc, &block.words)?)?,
-        exits_text(alloc, &block)?,
-        points_text(alloc, &block, behind)?,
-    ];
-    let wanted = [
-        String::from_str(alloc, words)?,
-        String::from_str(alloc, exits)?,
-        String::from_str(alloc, points)?,
-    ];
-    Ok((found, wanted))
+    encoded_block(alloc, Site::HERE, opcode, &program, lettered(live))
 }
 
-/// Checks the words, the exits and the points of each row.
-pub fn check(rt: &(impl Print + AllocGlobal), table: &str) -> Result<Tally> {
-    let mut tally = Tally::NONE;
-    for row in &rows(rt.alloc(), table)? {
-        let (found, wanted) = answers(rt.alloc(), row).with_context(|| row)?;
-        for (found, wanted) in found.iter().zip(wanted.iter()) {
-            tally.check(rt, row, found, wanted)?;
-        }
-    }
-    tally.print(rt, "blocks by hand")?;
-    Ok(tally)
+/// Checks the words, the exits and the points of a row.
+pub fn check_row(rt: &(impl Print + AllocGlobal), tally: &mut Tally, row: &str) -> Result<()> {
+    let ([name, live, words, exits, points], text) = split(row).context("a program")?;
+    let made = block_of(rt.alloc(), name, live, text).context(row)?;
+    check_block(rt, tally, row, &made, [words, exits, points])
+}
+
+fn check_block(
+    rt: &(impl Print + AllocGlobal),
+    tally: &mut Tally,
+    row: &str,
+    made: &BlockCode,
+    wanted: [&str; 3],
+) -> Result<()> {
+    let [words, exits, points] = wanted;
+    let block = &made.block;
+    let found = words_text(rt.alloc(), &made.words)?;
+    tally.check(rt, row, &found.as_str(), &words)?;
+    let found = exits_text(rt.alloc(), &block.exits)?;
+    tally.check(rt, row, &found.as_str(), &exits)?;
+    let found = points_text(rt.alloc(), &block.points, made.behind)?;
+    tally.check(rt, row, &found.as_str(), &points)
 }

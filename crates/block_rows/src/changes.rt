@@ -1,11 +1,11 @@
 // Interlocked changes.
 use crate::machine::encoded;
-use crate::quadwords::{BEFORE, FROM, PLACE, TO, both, low, replaced, started};
+use crate::quadwords::{BEFORE, FROM, Left, PLACE, TO, left, low, replaced, started};
 use anyhow::Result;
 use byte_sequences::locked_words;
 use micro_ops::LockedOp;
 use row_tally::Tally;
-use std::alloc::AllocError;
+use std::alloc::{AllocError, Global};
 
 /// A change: what it does, the offset, the operand, its size in bytes, and what stands there behind it.
 type Change = (LockedOp, u32, u64, u32, u128);
@@ -23,25 +23,41 @@ static CHANGES: [Change; 8] = [
     (LockedOp::ClearBit, 5, 1, 1, 0xa5),
 ];
 
-/// Each change with 0 to 2 stores conditional that fail: what was there before, the memory, and one access that counts.
+/// Fewer stores conditional than this fail.
+const FAILURES: u32 = 3;
+
+fn code_of(alloc: Global, operation: LockedOp) -> Result<Vec<u32>> {
+    let words = locked_words(alloc, PLACE, operation, FROM, TO).map_err(|_| AllocError)?;
+    Ok(encoded(alloc, &words)?)
+}
+
+/// What was there before, the memory, and one access that counts.
+fn wanted(change: &Change) -> Left {
+    let (_, offset, _, bytes, behind) = *change;
+    (
+        low(bytes, BEFORE >> (8 * offset.min(7))),
+        replaced(offset, bytes, behind),
+        1,
+    )
+}
+
+/// Checks a change with 0 to 2 stores conditional that fail.
+fn check_change(rt: &(impl Print + AllocGlobal), tally: &mut Tally, change: &Change) -> Result<()> {
+    let (operation, offset, operand, _, _) = *change;
+    let code = code_of(rt.alloc(), operation)?;
+    let wanted = wanted(change);
+    for failures in 0..FAILURES {
+        let found = left(code.as_slice(), started(offset, operand, failures))?;
+        tally.check(rt, "change", &found, &wanted)?;
+    }
+    Ok(())
+}
+
+/// Checks each change.
 pub fn interlocked_changes(rt: &(impl Print + AllocGlobal)) -> Result<Tally> {
-    let alloc = rt.alloc();
     let mut tally = Tally::NONE;
-    for &(operation, offset, operand, bytes, behind) in &CHANGES {
-        let words = locked_words(alloc, PLACE, operation, FROM, TO).map_err(|_| AllocError)?;
-        let code = encoded(alloc, &words)?;
-        let wanted = (
-            low(bytes, BEFORE >> (8 * offset.min(7))),
-            replaced(offset, bytes, behind),
-            1,
-        );
-        for failures in 0..3 {
-            let mut machine = started(offset, operand, failures);
-            machine.run(code.as_slice())?;
-            let read = u128::from(machine.cpu.r[TO as usize]);
-            let found = (read, both(machine), machine.memory.counted);
-            tally.check(rt, "change", &found, &wanted)?;
-        }
+    for change in &CHANGES {
+        check_change(rt, &mut tally, change)?;
     }
     tally.print(rt, "interlocked changes")?;
     Ok(tally)

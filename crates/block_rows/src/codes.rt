@@ -2,13 +2,14 @@
 ghost use Rattle.std.specs.Prelude.{◌≡◌};
 
 use crate::bench::behind;
+use crate::forms::split;
 use crate::machine::encoded;
 use crate::sets::{SETS, set};
 use anyhow::{Context, Result, bail, ensure};
 use cc_liveness::code_use;
 use exception_records::{CodeRule, Rules, codes_shown};
 use flag_codegen::code_words;
-use row_tally::{Tally, fields, longword, number, rows};
+use row_tally::{Tally, longword, number, rows};
 use std::alloc::{AllocError, Global};
 use vax_form::{Flags, Instr, Operand, Size, operation_of};
 
@@ -26,98 +27,108 @@ const BEFORE: Rules = Rules {
 /// The most words that an instruction's codes may take.
 const MOST_WORDS: usize = 13;
 
-/// What is wanted of a code: that it is kept, or that it is set or not.
-#[derive(Clone, Copy)]
-enum Wanted {
-    Kept,
-    Is(bool),
-}
-
-impl Wanted {
-    fn of(letter: u8) -> Result<Wanted> {
-        match letter {
-            b'-' => Ok(Wanted::Kept),
-            b'0' => Ok(Wanted::Is(false)),
-            b'1' => Ok(Wanted::Is(true)),
-            _ => bail!("neither 0, 1 nor -"),
-        }
-    }
-
-    fn agrees(self, found: bool, left: bool) -> bool {
-        match self {
-            Wanted::Kept => left == found,
-            Wanted::Is(code) => left == code,
-        }
-    }
-}
-
-/// A row: an opcode, what the temporaries hold, and the codes that are wanted.
+/// A row: an opcode, what the temporaries hold, and what is wanted of N, Z, V and C: 0, 1, or `-` where it is kept.
 #[derive(Clone, Copy)]
 struct Case {
     opcode: u8,
     registers: [u64; 32],
-    n: Wanted,
-    z: Wanted,
-    v: Wanted,
-    c: Wanted,
+    wanted: [u8; 4],
+}
+
+/// The words of an instruction, the codes that it writes, and the rules behind it.
+#[derive(Drop)]
+struct Code {
+    words: Vec<u32>,
+    written: Flags,
+    rules: Rules,
+}
+
+/// Before the instruction the rules tell N and C, and the registers of the codes have Z and V.
+fn registers_of(temporaries: [&str; 5]) -> Result<[u64; 32]> {
+    let mut registers = [0; 32];
+    registers[17] = 1;
+    registers[18] = 1;
+    registers[28] = 5;
+    registers[29] = 9;
+    registers[15] = 0xffff;
+    registers[30] = 1;
+    for place in 0..5 {
+        registers[TEMPORARIES + place] = number(temporaries[place])?;
+    }
+    Ok(registers)
+}
+
+fn wanted_of(codes: &str) -> Result<[u8; 4]> {
+    let [n, z, v, c] = codes.as_bytes() else {
+        bail!("not four codes");
+    };
+    Ok([*n, *z, *v, *c])
+}
+
+/// Whether a code that is left is the one that is wanted.
+fn is_wanted(wanted: u8, found: bool, left: bool) -> bool {
+    match wanted {
+        b'-' => left == found,
+        b'0' => !left,
+        b'1' => left,
+        _ => false,
+    }
+}
+
+impl Code {
+    /// The code of an instruction where these codes are live.
+    fn of(alloc: Global, opcode: u8, live: Flags) -> Result<Code> {
+        let Some(operation) = operation_of(opcode) else {
+            bail!("a reserved opcode");
+        };
+        let instr = instr_of(opcode);
+        let (words, answered) = code_words(alloc, &instr, live).map_err(|_| AllocError)?;
+        let written = code_use(operation).writes;
+        Ok(Code {
+            words: encoded(alloc, words.as_slice())?,
+            written,
+            rules: rules_behind(written, answered),
+        })
+    }
 }
 
 impl Case {
-    /// Before the instruction the rules tell N and C, and the registers of the codes have Z and V.
-    fn read(alloc: Global, row: &str) -> Result<Case> {
-        let words = fields(alloc, row, 8)?;
-        let mut registers = [0; 32];
-        registers[17] = 1;
-        registers[18] = 1;
-        registers[28] = 5;
-        registers[29] = 9;
-        registers[15] = 0xffff;
-        registers[30] = 1;
-        for temporary in 0..5 {
-            registers[TEMPORARIES + temporary] = number(words[2 + temporary])?;
-        }
-        let [n, z, v, c] = words[7].as_bytes() else {
-            bail!("not four codes: {row}");
-        };
+    fn read(row: &str) -> Result<Case> {
+        let (opcode, rest) = row.split_once(' ').context("an opcode")?;
+        let (_, rest) = rest.split_once(' ').context("a name")?;
+        let (temporaries, codes) = split(rest).context("codes")?;
         Ok(Case {
-            opcode: u8::try_from(longword(words[0])?)?,
-            registers,
-            n: Wanted::of(*n)?,
-            z: Wanted::of(*z)?,
-            v: Wanted::of(*v)?,
-            c: Wanted::of(*c)?,
+            opcode: u8::try_from(longword(opcode)?)?,
+            registers: registers_of(temporaries)?,
+            wanted: wanted_of(codes)?,
         })
     }
 
     fn agrees(&self, found: Flags, left: Flags) -> bool {
-        self.n.agrees(found.n, left.n)
-            && self.z.agrees(found.z, left.z)
-            && self.v.agrees(found.v, left.v)
-            && self.c.agrees(found.c, left.c)
+        let [n, z, v, c] = self.wanted;
+        is_wanted(n, found.n, left.n)
+            && is_wanted(z, found.z, left.z)
+            && is_wanted(v, found.v, left.v)
+            && is_wanted(c, found.c, left.c)
     }
 
-    /// How many words there are where these codes are live, and with how many sets of held codes others are shown than
-    /// are wanted.
-    fn tried(&self, alloc: Global, live: Flags) -> Result<(usize, u8)> {
-        let Some(operation) = operation_of(self.opcode) else {
-            bail!("a reserved opcode");
-        };
-        let instr = instr_of(self.opcode);
-        let (words, answered) = code_words(alloc, &instr, live).map_err(|_| AllocError)?;
-        let code = encoded(alloc, words.as_slice())?;
-        let registers = behind(code.as_slice(), self.registers).context("words that end")?;
-        let written = code_use(operation).writes;
-        let rules = rules_behind(written, answered);
+    /// Whether the codes that are shown behind the code are those that are wanted, where these were held.
+    fn agrees_with(&self, code: &Code, registers: &[u64; 32], held: Flags) -> bool {
+        let found = codes_shown(&self.registers, &BEFORE, &held);
+        let left = codes_shown(registers, &code.rules, &still_held(held, code.written));
+        self.agrees(found, left)
+    }
+
+    /// With how many sets of held codes others are shown than are wanted.
+    fn differences(&self, code: &Code) -> Result<u8> {
+        let registers = behind(code.words.as_slice(), self.registers).context("words that end")?;
         let mut differ = 0_u8;
         for number in 0..SETS {
-            let held = set(number);
-            let found = codes_shown(&self.registers, &BEFORE, &held);
-            let left = codes_shown(&registers, &rules, &still_held(held, written));
-            if !self.agrees(found, left) {
+            if !self.agrees_with(code, &registers, set(number)) {
                 differ = differ.saturating_add(1);
             }
         }
-        Ok((words.len(), differ))
+        Ok(differ)
     }
 }
 
@@ -154,21 +165,53 @@ fn still_held(held: Flags, written: Flags) -> Flags {
     }
 }
 
-/// Checks the rows, for each set of live codes.
-pub fn check(rt: &(impl Print + AllocGlobal), table: &str) -> Result<Tally> {
-    let alloc = rt.alloc();
-    let mut tally = Tally::NONE;
-    let mut most = 0;
-    for row in &rows(alloc, table)? {
-        let case = Case::read(alloc, row)?;
-        for number in 0..SETS {
-            let (words, differ) = case.tried(alloc, set(number))?;
-            tally.check(rt, row, &differ, &0)?;
-            most = most.max(words);
-        }
+/// The rows, and the most words of an instruction's codes so far.
+#[derive(Drop)]
+struct Codes {
+    tally: Tally,
+    most: usize,
+}
+
+impl Codes {
+    /// Checks a row where these codes are live.
+    fn check_live(
+        &mut self,
+        rt: &(impl Print + AllocGlobal),
+        row: &str,
+        case: &Case,
+        live: Flags,
+    ) -> Result<()> {
+        let code = Code::of(rt.alloc(), case.opcode, live)?;
+        self.most = code.words.len().max(self.most);
+        self.tally.check(rt, row, &case.differences(&code)?, &0)
     }
-    tally.print(rt, "codes")?;
-    println!(rt; "words: at most {most}")?;
-    ensure!(most <= MOST_WORDS, "too many words");
-    Ok(tally)
+
+    /// Checks a row, for each set of live codes.
+    fn check_row(&mut self, rt: &(impl Print + AllocGlobal), row: &str) -> Result<()> {
+        let case = Case::read(row).context(row)?;
+        for number in 0..SETS {
+            self.check_live(rt, row, &case, set(number))?;
+        }
+        Ok(())
+    }
+
+    /// Prints how many agree.
+    fn end(&self, rt: &impl Print) -> Result<Tally> {
+        self.tally.print(rt, "codes")?;
+        println!(rt; "words: at most {}", self.most)?;
+        ensure!(self.most <= MOST_WORDS, "too many words");
+        Ok(self.tally)
+    }
+}
+
+/// Checks the rows.
+pub fn check(rt: &(impl Print + AllocGlobal), table: &str) -> Result<Tally> {
+    let mut codes = Codes {
+        tally: Tally::NONE,
+        most: 0,
+    };
+    for row in &rows(rt.alloc(), table)? {
+        codes.check_row(rt, row)?;
+    }
+    codes.end(rt)
 }

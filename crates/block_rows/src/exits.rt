@@ -2,7 +2,7 @@
 use alpha_encode::{AlphaInstr, BranchOp, MemoryOp, OperateOp, Second};
 use anyhow::Result;
 use branch_layout::code_to;
-use row_tally::Tally;
+use row_tally::{Tally, check_cases};
 
 /// BIS R31,R31,R31
 const IDLE: AlphaInstr = AlphaInstr::Operate {
@@ -24,13 +24,17 @@ fn near(disp: i32) -> [AlphaInstr; 3] {
     [branch, IDLE, IDLE]
 }
 
-fn far(high: i16, low: i16) -> [AlphaInstr; 3] {
-    let load = |op, rb, disp| AlphaInstr::Memory {
+/// A load of an address into the register of a jump.
+fn load(op: MemoryOp, rb: u8, disp: i16) -> AlphaInstr {
+    AlphaInstr::Memory {
         op,
         ra: JUMP,
         rb,
         disp,
-    };
+    }
+}
+
+fn far(high: i16, low: i16) -> [AlphaInstr; 3] {
     [
         load(MemoryOp::Ldah, 31, high),
         load(MemoryOp::Lda, JUMP, low),
@@ -40,16 +44,15 @@ fn far(high: i16, low: i16) -> [AlphaInstr; 3] {
 
 /// The exits at the edge of a branch's reach, forth and back, and a jump whose low half is negative.
 pub fn reach(rt: &impl Print) -> Result<Tally> {
-    let mut tally = Tally::NONE;
-    for (name, found, wanted) in [
-        ("forth", code_to(0, 0x10_0000), near(0xF_FFFF)),
-        ("back", code_to(0xF_FFFF, 0), near(-0x10_0000)),
-        ("further forth", code_to(0, 0x10_0001), far(0x40, 4)),
-        ("further back", code_to(0x10_0000, 0), far(0, 0)),
-        ("a borrow", code_to(0, 0x7F_E000), far(0x200, -0x8000)),
-    ] {
-        tally.check(rt, name, &found, &wanted)?;
-    }
-    tally.print(rt, "exits")?;
-    Ok(tally)
+    check_cases(
+        rt,
+        "exits",
+        &[
+            ("forth", code_to(0, 0x10_0000), near(0xF_FFFF)),
+            ("back", code_to(0xF_FFFF, 0), near(-0x10_0000)),
+            ("further forth", code_to(0, 0x10_0001), far(0x40, 4)),
+            ("further back", code_to(0x10_0000, 0), far(0, 0)),
+            ("a borrow", code_to(0, 0x7F_E000), far(0x200, -0x8000)),
+        ],
+    )
 }

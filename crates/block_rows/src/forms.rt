@@ -5,9 +5,21 @@ use crate::operations::operation;
 use crate::sets::{SETS, set};
 use anyhow::{Context, Result};
 use micro_ops::{CodeSource, CodeSources, Micro, fits, program_words, sources_of};
-use row_tally::{Tally, longword, rows};
+use row_tally::{Tally, longword};
 use std::alloc::Global;
-use vax_form::operation_of;
+use vax_form::{Flags, operation_of};
+
+/// The five fields before the program of a row, and the program.
+pub fn split(row: &str) -> Option<([&str; 5], &str)> {
+    let mut fields = [""; 5];
+    let mut rest = row;
+    for place in 0..5 {
+        let (field, behind) = rest.split_once(' ')?;
+        fields[place] = field;
+        rest = behind;
+    }
+    Some((fields, rest))
+}
 
 /// A program, where its codes come from, and the opcode of the instruction whose it is.
 #[derive(Drop)]
@@ -33,12 +45,19 @@ fn source(text: &str) -> Option<CodeSource> {
     }
 }
 
+fn sources(nzv: &str, c: &str) -> Option<CodeSources> {
+    Some(CodeSources {
+        nzv: source(nzv)?,
+        c: source(c)?,
+    })
+}
+
 /// The operations of a program; `-` has none.
 pub fn program(alloc: Global, text: &str) -> Result<Vec<Micro>> {
-    let mut program = Vec::new(alloc);
     if text == "-" {
-        return Ok(program);
+        return Ok(Vec::new(alloc));
     }
+    let mut program = Vec::new(alloc);
     for part in text.split("; ") {
         program.push(operation(part).context("an operation")?)?;
     }
@@ -56,34 +75,42 @@ pub fn opcode(text: &str) -> Result<Option<u8>> {
 /// How many words a program is counted as, and how many its longest block has, if it fits.
 type Counts = (u32, Option<u32>);
 
+fn length_of(text: &str) -> Result<Option<u32>> {
+    if text == "misfits" {
+        return Ok(None);
+    }
+    Ok(Some(longword(text)?))
+}
+
 impl Form {
-    /// Reads a row: OPCODE NZV C WORDS LENGTH PROGRAM.
-    pub fn read(alloc: Global, row: &str) -> Result<(Form, Counts)> {
-        let (name, rest) = row.split_once(' ').context("an opcode")?;
-        let (nzv, rest) = rest.split_once(' ').context("where N, Z and V come from")?;
-        let (c, rest) = rest.split_once(' ').context("where C comes from")?;
-        let (words, rest) = rest.split_once(' ').context("words")?;
-        let (length, text) = rest.split_once(' ').context("operations")?;
-        let sources = CodeSources {
-            nzv: source(nzv).context("where N, Z and V come from")?,
-            c: source(c).context("where C comes from")?,
-        };
-        let form = Form {
+    /// Reads the form of a row: OPCODE NZV C WORDS LENGTH PROGRAM.
+    pub fn read(alloc: Global, row: &str) -> Result<Form> {
+        let ([name, nzv, c, _, _], text) = split(row).context("a program")?;
+        Ok(Form {
             opcode: opcode(name)?,
-            sources,
+            sources: sources(nzv, c).context("where codes come from")?,
             program: program(alloc, text)?,
-        };
-        let words = if words == "-" {
-            program_words(sources, &form.program)
-        } else {
-            longword(words)?
-        };
-        let length = if length == "misfits" {
-            None
-        } else {
-            Some(longword(length)?)
-        };
-        Ok((form, (words, length)))
+        })
+    }
+
+    /// The counts of a row; `-` stands for any number of words.
+    fn wanted(&self, row: &str) -> Result<Counts> {
+        let ([_, _, _, words, length], _) = split(row).context("a program")?;
+        let length = length_of(length)?;
+        if words == "-" {
+            return Ok((self.words(), length));
+        }
+        Ok((longword(words)?, length))
+    }
+
+    fn words(&self) -> u32 {
+        program_words(self.sources, &self.program)
+    }
+
+    /// The length of the block where these codes are live.
+    fn length(&self, alloc: Global, opcode: u8, live: Flags) -> Result<u32> {
+        let (block, _) = made(alloc, Site::HERE, opcode, &self.program, live)?;
+        Ok(u32::try_from(block.words.len())?)
     }
 
     /// The length of the longest block, whichever codes are live; 0 where no instruction has the program.
@@ -93,19 +120,17 @@ impl Form {
         };
         let mut longest = 0;
         for number in 0..SETS {
-            let (block, _) = made(alloc, Site::HERE, opcode, &self.program, set(number))?;
-            longest = longest.max(u32::try_from(block.words.len())?);
+            let length = self.length(alloc, opcode, set(number))?;
+            longest = length.max(longest);
         }
         Ok(longest)
     }
 
     fn counts(&self, alloc: Global) -> Result<Counts> {
-        let length = if fits(self.sources, &self.program) {
-            Some(self.longest(alloc)?)
-        } else {
-            None
-        };
-        Ok((program_words(self.sources, &self.program), length))
+        if !fits(self.sources, &self.program) {
+            return Ok((self.words(), None));
+        }
+        Ok((self.words(), Some(self.longest(alloc)?)))
     }
 
     /// Whether the codes of the instruction come from there.
@@ -120,14 +145,9 @@ impl Form {
     }
 }
 
-/// Checks the rows of a table.
-pub fn check(rt: &(impl Print + AllocGlobal), name: &str, table: &str) -> Result<Tally> {
-    let mut tally = Tally::NONE;
-    for row in &rows(rt.alloc(), table)? {
-        let (form, counts) = Form::read(rt.alloc(), row).with_context(|| row)?;
-        let found = (form.has_sources(), form.counts(rt.alloc())?);
-        tally.check(rt, row, &found, &(true, counts))?;
-    }
-    tally.print(rt, name)?;
-    Ok(tally)
+/// Checks a row.
+pub fn check_row(rt: &(impl Print + AllocGlobal), tally: &mut Tally, row: &str) -> Result<()> {
+    let form = Form::read(rt.alloc(), row).context(row)?;
+    let found = (form.has_sources(), form.counts(rt.alloc())?);
+    tally.check(rt, row, &found, &(true, form.wanted(row)?))
 }

@@ -15,7 +15,7 @@ use vax_form::Size;
 /// Words, the map's pairs, and the points.
 type Code = (Vec<u32>, Vec<(u32, u32)>, Vec<(u32, Point)>);
 
-const WORDS: [u32; 11] = [
+static WORDS: [u32; 11] = [
     // ZAPNOT R1,#15,R21; BR two words on
     0x4821_F635,
     0xC3E0_0002,
@@ -32,7 +32,7 @@ const WORDS: [u32; 11] = [
     0x0000_0086,
 ];
 
-const PAIRS: [(u32, u32); 3] = [(0x200, 0), (0x207, 4), (0x20D, 7)];
+static PAIRS: [(u32, u32); 3] = [(0x200, 0), (0x207, 4), (0x20D, 7)];
 
 /// The opcode of an instruction that keeps the codes.
 const NOP: u8 = 0x01;
@@ -70,15 +70,21 @@ fn laid_out(alloc: Global) -> Result<Code> {
 }
 
 /// Words and pairs as they are worked out, and a point of each block's address at its first word.
-pub fn three_blocks(rt: &(impl Print + AllocGlobal)) -> Result<Tally> {
-    let mut tally = Tally::NONE;
-    let (words, map, points) = laid_out(rt.alloc())?;
+fn check_code(rt: &impl Print, tally: &mut Tally, code: &Code) -> Result<()> {
+    let (words, map, points) = code;
     tally.check(rt, "words", &words.as_slice(), &WORDS.as_slice())?;
     tally.check(rt, "pairs", &map.as_slice(), &PAIRS.as_slice())?;
     tally.check(rt, "points", &points.len(), &PAIRS.len())?;
-    for ((word, point), pair) in points.iter().zip(map.iter()) {
+    for ((word, point), pair) in points.iter().zip(PAIRS.iter()) {
         tally.check(rt, "point", &(point.vax_pc, *word), pair)?;
     }
+    Ok(())
+}
+
+/// Checks the code of three blocks.
+pub fn three_blocks(rt: &(impl Print + AllocGlobal)) -> Result<Tally> {
+    let mut tally = Tally::NONE;
+    check_code(rt, &mut tally, &laid_out(rt.alloc())?)?;
     tally.print(rt, "layouts")?;
     Ok(tally)
 }

@@ -2,7 +2,7 @@
 use crate::sets::lettered;
 use anyhow::{Context, Result};
 use cc_liveness::{CodeUse, code_use, live};
-use row_tally::{Tally, bytes, fields, pieces, rows};
+use row_tally::{Tally, bytes, pieces, two_fields};
 use std::alloc::{AllocError, Global};
 use vax_form::{Flags, operation_of};
 
@@ -15,27 +15,24 @@ fn uses(alloc: Global, opcodes: &[u8]) -> Result<Vec<CodeUse>> {
     Ok(run)
 }
 
-fn sets(alloc: Global, letters: &[&str]) -> Result<Vec<Flags>, AllocError> {
+/// The codes that are live behind each of the opcodes that digits spell.
+fn found(alloc: Global, digits: &str) -> Result<Vec<Flags>> {
+    let opcodes = bytes(alloc, digits)?;
+    let run = uses(alloc, opcodes.as_slice())?;
+    Ok(live(alloc, run.as_slice()).map_err(|_| AllocError)?)
+}
+
+fn sets(alloc: Global, text: &str) -> Result<Vec<Flags>, AllocError> {
     let mut sets = Vec::new(alloc);
-    for set in letters {
-        sets.push(lettered(set))?;
+    for letters in &pieces(alloc, text)? {
+        sets.push(lettered(letters))?;
     }
     Ok(sets)
 }
 
-/// Checks the rows: the opcodes of a run, and the codes that are live behind each.
-pub fn check(rt: &(impl Print + AllocGlobal), table: &str) -> Result<Tally> {
-    let alloc = rt.alloc();
-    let mut tally = Tally::NONE;
-    for row in &rows(alloc, table)? {
-        let words = fields(alloc, row, 2)?;
-        let opcodes = bytes(alloc, words[0])?;
-        let run = uses(alloc, opcodes.as_slice())?;
-        let found = live(alloc, run.as_slice()).map_err(|_| AllocError)?;
-        let letters = pieces(alloc, words[1])?;
-        let wanted = sets(alloc, letters.as_slice())?;
-        tally.check(rt, row, &found, &wanted)?;
-    }
-    tally.print(rt, "runs")?;
-    Ok(tally)
+/// Checks a row: the opcodes of a run, and the codes that are live behind each.
+pub fn check_row(rt: &(impl Print + AllocGlobal), tally: &mut Tally, row: &str) -> Result<()> {
+    let (digits, letters) = two_fields(row)?;
+    let found = found(rt.alloc(), digits)?;
+    tally.check(rt, row, &found, &sets(rt.alloc(), letters)?)
 }

@@ -2,6 +2,7 @@
 ghost use Rattle.std.specs.Prelude.{All};
 ghost use Rattle.alpha_encode.specs.Words.{IsEncodable};
 
+use crate::bench::is_aligned;
 use crate::ending::{Ending, Seen};
 use crate::world::World;
 use alpha_encode::{AlphaInstr, decode, encode, pal, registers};
@@ -79,64 +80,74 @@ fn registers_of(state: &VaxState) -> [u64; 32] {
     r
 }
 
+/// What stands beside a number in a list of pairs.
+fn beside<T: Copy>(pairs: &[(u32, T)], number: u32) -> Option<T> {
+    for (first, second) in pairs {
+        if *first == number {
+            return Some(*second);
+        }
+    }
+    None
+}
+
 impl Bench {
+    /// Whether a store conditional fails; so many do.
+    fn fails(&mut self) -> bool {
+        let fails = self.failures > 0;
+        self.failures = self.failures.saturating_sub(1);
+        fails
+    }
+
+    fn load(&mut self, address: u32, count: u8) -> Result<(u64, bool)> {
+        Ok((self.world.read(address, count)?, true))
+    }
+
+    fn store(&mut self, address: u32, access: AlphaAccess) -> Result<(u64, bool)> {
+        self.world.write(address, access.bytes, access.value)?;
+        Ok((0, true))
+    }
+
     /// An access: what is loaded, and whether a store was made. A store conditional stands behind a load-locked access
     /// of its quadword, with no other between.
     fn access(&mut self, access: AlphaAccess) -> Result<(u64, bool)> {
-        let (address, count) = ((access.address % LONGWORD) as u32, access.bytes);
-        ensure!(count == 4 || count == 8, "an access of {count} bytes");
-        ensure!(address % u32::from(count) == 0, "an unaligned access");
+        ensure!(is_aligned(&access), "an unaligned access");
+        let address = (access.address % LONGWORD) as u32;
         let locked = self.locked.take();
         match access.kind {
-            AlphaKind::Load => return Ok((self.world.read(address, count)?, true)),
+            AlphaKind::Load => self.load(address, access.bytes),
             AlphaKind::LoadLocked => {
                 self.locked = Some(address);
-                return Ok((self.world.held(address, count), true));
+                Ok((self.world.held(address, access.bytes), true))
             }
-            AlphaKind::Store => {}
+            AlphaKind::Store => self.store(address, access),
             AlphaKind::StoreConditional => {
                 ensure!(locked == Some(address), "a store without its lock");
-                if self.failures > 0 {
-                    self.failures -= 1;
+                if self.fails() {
                     return Ok((0, false));
                 }
+                self.store(address, access)
             }
         }
-        self.world.write(address, count, access.value)?;
-        Ok((0, true))
     }
 }
+
+/// How a block ends, and the state.
+type End = (Ending, VaxState);
 
 impl Machine<'_> {
     fn low(&self, register: u8) -> u32 {
         (self.cpu.r[usize::from(register) % 32] % LONGWORD) as u32
     }
 
-    /// The address to which an exit goes that begins here.
-    fn exit(&self) -> Option<u32> {
-        let pc = self.cpu.pc;
-        let block = self.code.block;
-        let exits = &block.exits;
-        exits
-            .iter()
-            .find(|(word, _)| *word == pc)
-            .map(|(_, address)| *address)
-    }
-
     /// The point here, which is of the instruction.
     fn point(&self) -> Result<Point> {
-        let pc = self.cpu.pc;
         let block = self.code.block;
-        let points = &block.points;
-        let (_, point) = points
-            .iter()
-            .find(|(word, _)| *word == pc)
-            .context("no point")?;
+        let point = beside(&block.points, self.cpu.pc).context("no point")?;
         ensure!(
             point.vax_pc == self.code.at,
             "a point of another instruction"
         );
-        Ok(*point)
+        Ok(point)
     }
 
     /// The state that is shown at an address.
@@ -149,77 +160,108 @@ impl Machine<'_> {
         Ok(shown(&self.cpu.r, pc, &rules, &NONE_HELD, 0))
     }
 
-    /// A call of the PALcode: how the block ends with it, and the state, if it does.
-    fn call(&mut self, number: u8) -> Result<Option<(Ending, VaxState)>> {
-        if number == pal::LOOK_UP {
-            let state = self.shown(self.low(registers::TARGET), self.code.behind)?;
-            return Ok(Some((Ending::LooksUp, state)));
-        }
+    /// The block ends at an address, with the codes as they are behind the instruction.
+    fn end_at(&self, ending: Ending, pc: u32) -> Result<Option<End>> {
+        Ok(Some((ending, self.shown(pc, self.code.behind)?)))
+    }
+
+    /// A check: it ends the block where it fails.
+    fn probe(&mut self) -> Result<Option<End>> {
         let point = self.point()?;
+        let address = self.low(registers::ADDRESS);
+        if self.bench.world.checks(address, point.count, point.write)? {
+            self.cpu.pc = self.cpu.pc.wrapping_add(1);
+            return Ok(None);
+        }
+        ensure!(point.done != 1, "done at a check");
+        Ok(Some((Ending::Violates, self.shown(self.code.at, point.rules)?)))
+    }
+
+    /// How a call of the PALcode at a point ends the block, and where.
+    fn ending(&self, number: u8, raises: u8) -> Result<(Ending, u32)> {
         let first = self.low(registers::TEMPORARIES);
-        let (ending, pc) = match number {
-            pal::PROBE => {
-                let address = self.low(registers::ADDRESS);
-                if self.bench.world.checks(address, point.count, point.write)? {
-                    self.cpu.pc = self.cpu.pc.wrapping_add(1);
-                    return Ok(None);
-                }
-                (Ending::Violates, self.code.at)
+        match number {
+            pal::SERVE => {
+                let service = (first % (1 << 16)) as u16;
+                Ok((Ending::Serves(service), self.low(registers::TARGET)))
             }
-            pal::SERVE => (
-                Ending::Serves((first % (1 << 16)) as u16),
-                self.low(registers::TARGET),
-            ),
-            pal::RAISE => (Ending::Faults(point.raises), self.code.at),
-            pal::TRAP => (Ending::Traps(first), self.low(registers::TARGET)),
+            pal::RAISE => Ok((Ending::Faults(raises), self.code.at)),
+            pal::TRAP => Ok((Ending::Traps(first), self.low(registers::TARGET))),
             _ => bail!("the call {number:X}"),
-        };
+        }
+    }
+
+    fn end_by(&self, number: u8) -> Result<Option<End>> {
+        let point = self.point()?;
+        let (ending, pc) = self.ending(number, point.raises)?;
         ensure!((point.done == 1) == (number == pal::TRAP), "done elsewhere");
         Ok(Some((ending, self.shown(pc, point.rules)?)))
     }
 
-    /// A step: how the block ends with it, and the state, if it does.
-    fn step(&mut self) -> Result<Option<(Ending, VaxState)>> {
-        if let Some(address) = self.exit() {
-            let state = self.shown(address, self.code.behind)?;
-            return Ok(Some((Ending::Goes, state)));
+    /// A call of the PALcode: the end of the block, if it is one.
+    fn call(&mut self, number: u8) -> Result<Option<End>> {
+        match number {
+            pal::LOOK_UP => self.end_at(Ending::LooksUp, self.low(registers::TARGET)),
+            pal::PROBE => self.probe(),
+            _ => self.end_by(number),
         }
+    }
+
+    /// Makes the instruction here: the end of the block, if it is one.
+    fn make(&mut self) -> Result<Option<End>> {
         let words = self.code.words;
         let word = words.get(self.cpu.pc as usize).context("behind the words")?;
         decode(*word).context("no instruction")?;
         match step(&mut self.cpu, words) {
-            AlphaStep::Local => {}
+            AlphaStep::Local => Ok(None),
             AlphaStep::Want(access) => {
                 let (value, success) = self.bench.access(access)?;
                 finish(&mut self.cpu, words, value, success);
+                Ok(None)
             }
-            AlphaStep::Pal(number) => return self.call(number),
+            AlphaStep::Pal(number) => self.call(number),
         }
-        ensure!(self.cpu.pc != 0, "back at the first word");
-        Ok(None)
+    }
+
+    /// A step: the end of the block, if it comes to one.
+    fn step(&mut self) -> Result<Option<End>> {
+        let block = self.code.block;
+        match beside(&block.exits, self.cpu.pc) {
+            Some(address) => self.end_at(Ending::Goes, address),
+            None => self.make(),
+        }
+    }
+
+    /// Runs to the end of the block.
+    fn run(&mut self) -> Result<End> {
+        for _ in 0..MOST_STEPS {
+            if let Some(end) = self.step()? {
+                return Ok(end);
+            }
+            ensure!(self.cpu.pc != 0, "back at the first word");
+        }
+        bail!("no end")
     }
 }
 
 /// Runs a block from a state and a memory, where so many stores conditional fail.
 pub fn run(code: Code<'_>, found: &VaxState, world: World, failures: u32) -> Result<Seen> {
-    let cpu = Cpu {
-        r: registers_of(found),
-        pc: 0,
+    let mut machine = Machine {
+        code,
+        cpu: Cpu {
+            r: registers_of(found),
+            pc: 0,
+        },
+        bench: Bench {
+            world,
+            failures,
+            locked: None,
+        },
     };
-    let bench = Bench {
-        world,
-        failures,
-        locked: None,
-    };
-    let mut machine = Machine { code, cpu, bench };
-    for _ in 0..MOST_STEPS {
-        if let Some((ending, state)) = machine.step()? {
-            return Ok(Seen {
-                ending,
-                state,
-                world: machine.bench.world,
-            });
-        }
-    }
-    bail!("no end")
+    let (ending, state) = machine.run()?;
+    Ok(Seen {
+        ending,
+        state,
+        world: machine.bench.world,
+    })
 }

@@ -45,20 +45,27 @@ mod sums;
 mod world;
 
 use anyhow::{Context, Result};
-use row_tally::{Tally, ask_rows};
+use row_tally::{Tally, ask_rows, check_rows};
 use std::fs::{self, Files};
 
-/// Checks the words of which blocks are made.
-fn check_words(rt: &(impl Files + Print + AllocGlobal)) -> Result<Tally> {
+/// Checks rows of computations.
+fn check_computations(rt: &(impl Files + Print + AllocGlobal)) -> Result<Tally> {
     let mut all = Tally::NONE;
-    let table = fs::read_to_string(rt, "computations.txt").context("computations.txt")?;
-    all.add(computations::check(rt, &table)?);
-    let table = fs::read_to_string(rt, "places.txt").context("places.txt")?;
-    all.add(places::check(rt, &table)?);
-    let table = fs::read_to_string(rt, "constants.txt").context("constants.txt")?;
-    all.add(constants::check(rt, &table)?);
-    let table = fs::read_to_string(rt, "overflows.txt").context("overflows.txt")?;
-    all.add(overflows::check(rt, &table)?);
+    all.add(check_rows(
+        rt,
+        "computations",
+        "computations.txt",
+        computations::check_row,
+    )?);
+    all.add(check_rows(rt, "places", "places.txt", places::check_row)?);
+    all.add(check_rows(rt, "constants", "constants.txt", constants::check_row)?);
+    all.add(check_rows(rt, "overflows", "overflows.txt", overflows::check_row)?);
+    Ok(all)
+}
+
+/// Checks the words of references to memory, and a program.
+fn check_references(rt: &(impl Print + AllocGlobal)) -> Result<Tally> {
+    let mut all = Tally::NONE;
     all.add(operands::reads(rt)?);
     all.add(operands::writes(rt)?);
     all.add(changes::interlocked_changes(rt)?);
@@ -68,24 +75,25 @@ fn check_words(rt: &(impl Files + Print + AllocGlobal)) -> Result<Tally> {
 
 /// Checks live codes along runs, and the words that leave codes.
 fn check_codes(rt: &(impl Files + Print + AllocGlobal)) -> Result<Tally> {
-    let mut all = Tally::NONE;
-    let table = fs::read_to_string(rt, "liveness.txt").context("liveness.txt")?;
-    all.add(liveness::check(rt, &table)?);
+    let mut all = check_rows(rt, "runs", "liveness.txt", liveness::check_row)?;
     let table = fs::read_to_string(rt, "codes.txt").context("codes.txt")?;
-    all.add(codes::check(rt, &table)?);
+    all.add(codes::check(rt, table.as_str())?);
     Ok(all)
 }
 
 /// Checks micro programs and their blocks.
+fn check_forms(rt: &(impl Files + Print + AllocGlobal)) -> Result<Tally> {
+    let mut all = check_rows(rt, "forms", "forms.txt", forms::check_row)?;
+    let table = fs::read_to_string(rt, "forms.txt").context("forms.txt")?;
+    all.add(runs::check(rt, table.as_str())?);
+    Ok(all)
+}
+
+/// Checks programs that do not fit, and blocks and code word by word.
 fn check_blocks(rt: &(impl Files + Print + AllocGlobal)) -> Result<Tally> {
     let mut all = Tally::NONE;
-    let table = fs::read_to_string(rt, "forms.txt").context("forms.txt")?;
-    all.add(forms::check(rt, "forms", table.as_str())?);
-    all.add(runs::check(rt, table.as_str())?);
-    let table = fs::read_to_string(rt, "misfits.txt").context("misfits.txt")?;
-    all.add(forms::check(rt, "misfits", table.as_str())?);
-    let table = fs::read_to_string(rt, "blocks.txt").context("blocks.txt")?;
-    all.add(by_hand::check(rt, table.as_str())?);
+    all.add(check_rows(rt, "misfits", "misfits.txt", forms::check_row)?);
+    all.add(check_rows(rt, "blocks by hand", "blocks.txt", by_hand::check_row)?);
     all.add(ask_rows(rt, "prepared.txt", prepared::answer)?);
     all.add(layouts::three_blocks(rt)?);
     all.add(exits::reach(rt)?);
@@ -93,8 +101,10 @@ fn check_blocks(rt: &(impl Files + Print + AllocGlobal)) -> Result<Tally> {
 }
 
 fn main(rt: HostRuntime) -> Result<()> {
-    let mut all = check_words(&rt)?;
+    let mut all = check_computations(&rt)?;
+    all.add(check_references(&rt)?);
     all.add(check_codes(&rt)?);
+    all.add(check_forms(&rt)?);
     all.add(check_blocks(&rt)?);
     all.verdict()
 }

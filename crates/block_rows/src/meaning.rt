@@ -89,79 +89,108 @@ impl Course {
         self.left.psw = self.left.psw & !CODES | n << 3 | z << 2 | v << 1 | c;
     }
 
-    fn leave(&mut self, exit: Exit, after: u32) -> Ending {
-        let ending = match exit {
-            Exit::Computed(_) => Ending::LooksUp,
-            Exit::Service(number) => Ending::Serves((self.temporary(number) % (1 << 16)) as u16),
-            Exit::Breakpoint => return Ending::Faults(BREAKPOINT),
-            Exit::Next | Exit::Fixed(_) | Exit::Choice { .. } => Ending::Goes,
-        };
-        self.left.pc = match exit {
+    /// Where an exit goes on.
+    fn target(&self, exit: Exit, after: u32) -> u32 {
+        match exit {
             Exit::Fixed(address) => address,
             Exit::Computed(number) => longword(self.temporary(number)),
             Exit::Choice { when, taken, .. } if self.temporary(when) != 0 => taken,
             Exit::Choice { other, .. } => other,
             Exit::Next | Exit::Service(_) | Exit::Breakpoint => after,
-        };
+        }
+    }
+
+    fn leave(&mut self, exit: Exit, after: u32) -> Ending {
+        if matches!(exit, Exit::Breakpoint) {
+            return Ending::Faults(BREAKPOINT);
+        }
+        self.left.pc = self.target(exit, after);
         if self.overflowed && self.left.psw & TRAPS != 0 {
             return Ending::Traps(INTEGER_OVERFLOW);
         }
-        ending
+        match exit {
+            Exit::Computed(_) => Ending::LooksUp,
+            Exit::Service(number) => Ending::Serves((self.temporary(number) % (1 << 16)) as u16),
+            _ => Ending::Goes,
+        }
     }
 
-    /// Makes a reference or a change of the state.
-    fn make(&mut self, operation: Micro) -> Result<()> {
+    /// Makes a reference, if the operation is one.
+    fn refer(&mut self, operation: Micro) -> Result<()> {
         match operation {
-            Micro::Compute { to, op, size, a, b } => {
-                let (a, b) = (self.value(a), self.value(b));
-                let value = compute(op, size, a, b, self.temporary(to));
-                self.set(to, value);
-            }
             Micro::Read { to, place, count } => {
                 let address = longword(self.temporary(place));
                 let value = self.world.read(address, count)?;
                 self.set(to, value);
+                Ok(())
             }
             Micro::Write { place, count, from } => {
-                let address = longword(self.temporary(place));
-                let value = self.temporary(from);
-                self.world.write(address, count, value)?;
+                let (address, value) = (longword(self.temporary(place)), self.temporary(from));
+                self.world.write(address, count, value)
             }
             Micro::Locked {
                 to,
                 place,
                 kind,
                 from,
-            } => self.lock(to, place, kind, from)?,
+            } => self.lock(to, place, kind, from),
+            _ => Ok(()),
+        }
+    }
+
+    /// Makes a change of the state, if the operation is one.
+    fn change(&mut self, operation: Micro) {
+        match operation {
+            Micro::Compute { to, op, size, a, b } => {
+                let (a, b) = (self.value(a), self.value(b));
+                let value = compute(op, size, a, b, self.temporary(to));
+                self.set(to, value);
+            }
             Micro::Commit { register, from } => {
                 let value = longword(self.temporary(from));
                 self.left.set_register(register, value);
             }
             Micro::Codes { n, z, v, c } => self.set_codes(n, z, v, c),
             Micro::SetPsw { from } => self.left.psw = (self.temporary(from) % 256) as u16,
-            Micro::Probe { .. } | Micro::Refuse { .. } | Micro::Leave(_) => {}
+            _ => {}
         }
-        Ok(())
+    }
+
+    /// A check: how it ends the program, if it does.
+    fn check(&mut self, place: u8, count: u8, write: bool) -> Result<Option<Ending>> {
+        let address = longword(self.temporary(place));
+        if self.world.checks(address, count, write)? {
+            return Ok(None);
+        }
+        Ok(Some(Ending::Violates))
     }
 
     /// How an operation ends the program, if it does.
     fn end(&mut self, operation: Micro, after: u32) -> Result<Option<Ending>> {
-        Ok(match operation {
+        match operation {
             Micro::Probe {
                 place,
                 count,
                 write,
-            } => {
-                let address = longword(self.temporary(place));
-                let holds = self.world.checks(address, count, write)?;
-                if holds { None } else { Some(Ending::Violates) }
-            }
+            } => self.check(place, count, write),
             Micro::Refuse { when } if self.temporary(when) != 0 => {
-                Some(Ending::Faults(RESERVED_OPERAND))
+                Ok(Some(Ending::Faults(RESERVED_OPERAND)))
             }
-            Micro::Leave(exit) => Some(self.leave(exit, after)),
-            _ => None,
-        })
+            Micro::Leave(exit) => Ok(Some(self.leave(exit, after))),
+            _ => Ok(None),
+        }
+    }
+
+    /// Makes the operations of a program up to its end.
+    fn run(&mut self, program: &[Micro], after: u32) -> Result<Ending> {
+        for operation in program {
+            self.refer(*operation)?;
+            self.change(*operation);
+            if let Some(ending) = self.end(*operation, after)? {
+                return Ok(ending);
+            }
+        }
+        bail!("a program that doesn't leave")
     }
 }
 
@@ -174,20 +203,14 @@ pub fn run(program: &[Micro], found: VaxState, world: World, after: u32) -> Resu
         temporaries: [0; TEMPORARIES],
         overflowed: false,
     };
-    for operation in program {
-        course.make(*operation)?;
-        let Some(ending) = course.end(*operation, after)? else {
-            continue;
-        };
-        let state = match ending {
-            Ending::Violates | Ending::Faults(_) => course.found,
-            _ => course.left,
-        };
-        return Ok(Seen {
-            ending,
-            state,
-            world: course.world,
-        });
-    }
-    bail!("a program that doesn't leave")
+    let ending = course.run(program, after)?;
+    let state = match ending {
+        Ending::Violates | Ending::Faults(_) => course.found,
+        _ => course.left,
+    };
+    Ok(Seen {
+        ending,
+        state,
+        world: course.world,
+    })
 }

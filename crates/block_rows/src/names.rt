@@ -1,42 +1,40 @@
 // Operations and sizes by the names that the tables have for them.
 use anyhow::{Context, Result};
 use micro_ops::MicroOp;
-use std::alloc::{AllocError, Global};
 use vax_form::{Size, Width};
 
-const OPERATIONS: [MicroOp; 18] = [
-    MicroOp::Move,
-    MicroOp::Add,
-    MicroOp::Sub,
-    MicroOp::Mul,
-    MicroOp::And,
-    MicroOp::Or,
-    MicroOp::Xor,
-    MicroOp::AndNot,
-    MicroOp::ShiftLeft,
-    MicroOp::ShiftRight,
-    MicroOp::ShiftSigned,
-    MicroOp::SignExtend,
-    MicroOp::ZeroExtend,
-    MicroOp::Equal,
-    MicroOp::Less,
-    MicroOp::LessUnsigned,
-    MicroOp::SelectNonzero,
-    MicroOp::MulHigh,
+static OPERATIONS: [(&str, MicroOp); 18] = [
+    ("Move", MicroOp::Move),
+    ("Add", MicroOp::Add),
+    ("Sub", MicroOp::Sub),
+    ("Mul", MicroOp::Mul),
+    ("And", MicroOp::And),
+    ("Or", MicroOp::Or),
+    ("Xor", MicroOp::Xor),
+    ("AndNot", MicroOp::AndNot),
+    ("ShiftLeft", MicroOp::ShiftLeft),
+    ("ShiftRight", MicroOp::ShiftRight),
+    ("ShiftSigned", MicroOp::ShiftSigned),
+    ("SignExtend", MicroOp::SignExtend),
+    ("ZeroExtend", MicroOp::ZeroExtend),
+    ("Equal", MicroOp::Equal),
+    ("Less", MicroOp::Less),
+    ("LessUnsigned", MicroOp::LessUnsigned),
+    ("SelectNonzero", MicroOp::SelectNonzero),
+    ("MulHigh", MicroOp::MulHigh),
 ];
 
-fn operation_named(alloc: Global, name: &str) -> Result<Option<MicroOp>, AllocError> {
-    for op in OPERATIONS {
-        let text = format!(in alloc; "{op:?}")?;
-        if text.as_str() == name {
-            return Ok(Some(op));
+fn operation_named(name: &str) -> Option<MicroOp> {
+    for (text, op) in &OPERATIONS {
+        if *text == name {
+            return Some(*op);
         }
     }
-    Ok(None)
+    None
 }
 
-pub fn operation(alloc: Global, name: &str) -> Result<MicroOp> {
-    Ok(operation_named(alloc, name)?.context("an operation")?)
+fn operation(name: &str) -> Result<MicroOp> {
+    Ok(operation_named(name).context("an operation")?)
 }
 
 fn size_named(name: &str) -> Option<Size> {
@@ -61,4 +59,9 @@ pub fn size(name: &str) -> Result<Size> {
 
 pub fn width(name: &str) -> Result<Width> {
     Ok(width_named(name).context("a size below a quadword")?)
+}
+
+/// An operation and the size at which it is done.
+pub fn sized(name: &str, letters: &str) -> Result<(MicroOp, Size)> {
+    Ok((operation(name)?, size(letters)?))
 }

@@ -1,11 +1,13 @@
 // Operands of each size that are read and written, at every offset.
-use crate::bench::Machine;
 use crate::machine::encoded;
-use crate::quadwords::{BEFORE, FROM, PLACE, TO, both, low, parts, replaced, started};
+use crate::quadwords::{BEFORE, FROM, PLACE, TO, left, low, parts, replaced, started};
 use anyhow::Result;
 use byte_sequences::{read_words, write_words};
 use row_tally::Tally;
 use std::alloc::{AllocError, Global};
+
+/// The sizes of operands in bytes.
+const SIZES: [u8; 4] = [1, 2, 4, 8];
 
 /// What is written; it has more bytes than some operands.
 const VALUE: u64 = 0xc7c6_c5c4_c3c2_ddee;
@@ -37,49 +39,63 @@ fn write_code(alloc: Global, bytes: u8) -> Result<Vec<u32>> {
     Ok(encoded(alloc, &words.map_err(|_| AllocError)?)?)
 }
 
-// What a run leaves: the operand that was read, the memory, and how many accesses counted.
-fn left(code: &[u32], mut machine: Machine) -> Result<(u128, u128, u32)> {
-    machine.run(code)?;
-    let read = u128::from(machine.cpu.r[TO as usize]);
-    Ok((read, both(machine), machine.memory.counted))
+/// Reads an operand of that size at each offset.
+fn check_reads(rt: &(impl Print + AllocGlobal), tally: &mut Tally, bytes: u8) -> Result<()> {
+    let code = read_code(rt.alloc(), bytes)?;
+    let count = u32::from(bytes);
+    for offset in 0..OFFSETS {
+        let found = left(code.as_slice(), started(offset, VALUE, 0))?;
+        let read = low(count, BEFORE >> (8 * offset));
+        tally.check(rt, "read", &found, &(read, BEFORE, parts(offset, count)))?;
+    }
+    Ok(())
 }
 
 /// Each size is read at every offset.
 pub fn reads(rt: &(impl Print + AllocGlobal)) -> Result<Tally> {
     let mut tally = Tally::NONE;
-    for bytes in [1, 2, 4, 8] {
-        let code = read_code(rt.alloc(), bytes)?;
-        let count = u32::from(bytes);
-        for offset in 0..OFFSETS {
-            let found = left(code.as_slice(), started(offset, VALUE, 0))?;
-            let wanted = (
-                low(count, BEFORE >> (8 * offset)),
-                BEFORE,
-                parts(offset, count),
-            );
-            tally.check(rt, "read", &found, &wanted)?;
-        }
+    for bytes in SIZES {
+        check_reads(rt, &mut tally, bytes)?;
     }
     tally.print(rt, "reads")?;
     Ok(tally)
 }
 
-/// Each size is written at every offset, with stores that fail.
+/// Writes an operand at each offset, with that many stores that fail.
+fn check_stores(
+    rt: &impl Print,
+    tally: &mut Tally,
+    code: &[u32],
+    count: u32,
+    failures: u32,
+) -> Result<()> {
+    for offset in 0..OFFSETS {
+        let (_, memory, counted) = left(code, started(offset, VALUE, failures))?;
+        let written = replaced(offset, count, u128::from(VALUE));
+        tally.check(
+            rt,
+            "write",
+            &(memory, counted),
+            &(written, parts(offset, count)),
+        )?;
+    }
+    Ok(())
+}
+
+/// Writes an operand of that size, with stores that fail.
+fn check_writes(rt: &(impl Print + AllocGlobal), tally: &mut Tally, bytes: u8) -> Result<()> {
+    let code = write_code(rt.alloc(), bytes)?;
+    for failures in 0..FAILURES {
+        check_stores(rt, tally, code.as_slice(), u32::from(bytes), failures)?;
+    }
+    Ok(())
+}
+
+/// Each size is written at every offset.
 pub fn writes(rt: &(impl Print + AllocGlobal)) -> Result<Tally> {
     let mut tally = Tally::NONE;
-    for bytes in [1, 2, 4, 8] {
-        let code = write_code(rt.alloc(), bytes)?;
-        let count = u32::from(bytes);
-        for offset in 0..OFFSETS {
-            for failures in 0..FAILURES {
-                let (_, memory, counted) = left(code.as_slice(), started(offset, VALUE, failures))?;
-                let wanted = (
-                    replaced(offset, count, u128::from(VALUE)),
-                    parts(offset, count),
-                );
-                tally.check(rt, "write", &(memory, counted), &wanted)?;
-            }
-        }
+    for bytes in SIZES {
+        check_writes(rt, &mut tally, bytes)?;
     }
     tally.print(rt, "writes")?;
     Ok(tally)

@@ -6,7 +6,7 @@ use crate::names::width;
 use crate::registers::left;
 use anyhow::{Result, bail};
 use compute_sequences::{Arithmetic, overflow_words};
-use row_tally::{Tally, fields, number, rows};
+use row_tally::{Tally, five_fields, number};
 use std::alloc::{AllocError, Global};
 use vax_form::Width;
 
@@ -17,6 +17,14 @@ const SECOND: u8 = 29;
 
 const OVERFLOW: u8 = 24;
 
+/// What is done with operands of which size.
+#[derive(Clone, Copy)]
+struct Case {
+    arithmetic: Arithmetic,
+    width: Width,
+    operands: (u64, u64),
+}
+
 fn arithmetic(name: &str) -> Result<Arithmetic> {
     match name {
         "Sum" => Ok(Arithmetic::Sum),
@@ -25,39 +33,40 @@ fn arithmetic(name: &str) -> Result<Arithmetic> {
     }
 }
 
-/// What the words leave with the second operand in that register.
-fn found(
-    alloc: Global,
-    arithmetic: Arithmetic,
-    width: Width,
-    operands: (u64, u64),
-    second: u8,
-) -> Result<Option<u64>>
-    requires few { second < 32 }
-    requires stays { second ≢ 27 }
-{
-    let words = overflow_words(alloc, arithmetic, width, FIRST, second, OVERFLOW);
-    let code = encoded(alloc, &words.map_err(|_| AllocError)?)?;
-    let mut registers = [0; 32];
-    registers[FIRST as usize] = operands.0;
-    registers[second as usize] = operands.1;
-    Ok(left(&code, registers, OVERFLOW))
+impl Case {
+    fn read(name: &str, size: &str, operands: (u64, u64)) -> Result<Case> {
+        Ok(Case {
+            arithmetic: arithmetic(name)?,
+            width: width(size)?,
+            operands,
+        })
+    }
+
+    /// What the words leave with the second operand in that register.
+    fn found(self, alloc: Global, second: u8) -> Result<Option<u64>>
+        requires few { second < 32 }
+        requires stays { second ≢ 27 }
+    {
+        let (arithmetic, width) = (self.arithmetic, self.width);
+        let words = overflow_words(alloc, arithmetic, width, FIRST, second, OVERFLOW);
+        let code = encoded(alloc, &words.map_err(|_| AllocError)?)?;
+        let mut registers = [0; 32];
+        registers[FIRST as usize] = self.operands.0;
+        registers[second as usize] = self.operands.1;
+        Ok(left(&code, registers, OVERFLOW))
+    }
+
+    /// What they leave with the second operand in a register of its own, and in that of V.
+    fn found_in_both(self, alloc: Global) -> Result<(Option<u64>, Option<u64>)> {
+        Ok((self.found(alloc, SECOND)?, self.found(alloc, OVERFLOW)?))
+    }
 }
 
-/// Checks the rows: a sum or a difference, the size, both operands, and V.
-pub fn check(rt: &(impl Print + AllocGlobal), table: &str) -> Result<Tally> {
-    let mut tally = Tally::NONE;
-    for row in &rows(rt.alloc(), table)? {
-        let words = fields(rt.alloc(), row, 5)?;
-        let (arithmetic, width) = (arithmetic(words[0])?, width(words[1])?);
-        let (a, b) = (number(words[2])?, number(words[3])?);
-        let wanted = Some(number(words[4])?);
-        let found = (
-            found(rt.alloc(), arithmetic, width, (a, b), SECOND)?,
-            found(rt.alloc(), arithmetic, width, (a, b), OVERFLOW)?,
-        );
-        tally.check(rt, row, &found, &(wanted, wanted))?;
-    }
-    tally.print(rt, "overflows")?;
-    Ok(tally)
+/// Checks a row: a sum or a difference, the size, both operands, and V.
+pub fn check_row(rt: &(impl Print + AllocGlobal), tally: &mut Tally, row: &str) -> Result<()> {
+    let (name, size, a, b, wanted) = five_fields(row)?;
+    let case = Case::read(name, size, (number(a)?, number(b)?))?;
+    let wanted = Some(number(wanted)?);
+    let found = case.found_in_both(rt.alloc())?;
+    tally.check(rt, row, &found, &(wanted, wanted))
 }

@@ -2,14 +2,13 @@
 ghost use Rattle.std.specs.Prelude.{IfOk};
 ghost use Rattle.compute_sequences.specs.Registers.{IsArgument, IsTarget};
 
-use crate::machine::encoded;
-use crate::names::{operation, size};
-use crate::registers::left;
-use anyhow::{Result, bail, ensure};
-use compute_sequences::compute_words;
-use micro_ops::Arg;
-use row_tally::{Tally, fields, number, rows};
-use std::alloc::{AllocError, Global};
+use crate::names::sized;
+use crate::registers::{computation, left};
+use anyhow::{Context, Result, bail, ensure};
+use micro_ops::{Arg, MicroOp};
+use row_tally::{Tally, five_fields, number};
+use std::alloc::Global;
+use vax_form::Size;
 
 const TEMPORARIES: u8 = 6;
 
@@ -61,24 +60,25 @@ fn target(text: &str) -> Result<u8>
     Ok(21 + temp as u8)
 }
 
-/// Checks the rows.
-pub fn check(rt: &(impl Print + AllocGlobal), table: &str) -> Result<Tally> {
-    let mut tally = Tally::NONE;
-    for row in &rows(rt.alloc(), table)? {
-        let found = found(rt.alloc(), row)?;
-        tally.check(rt, row, &found.0, &Some(found.1))?;
-    }
-    tally.print(rt, "places")?;
-    Ok(tally)
+/// What a computation leaves in a register.
+fn found(
+    alloc: Global,
+    operation: (MicroOp, Size),
+    arguments: (&str, &str),
+    to: u8,
+) -> Result<Option<u64>>
+    requires { IsTarget to }
+{
+    let (a, b) = (argument(arguments.0)?, argument(arguments.1)?);
+    let code = computation(alloc, operation, a, b, to)?;
+    Ok(left(code.as_slice(), registers(), to))
 }
 
-/// What a row's words leave, and what they should.
-fn found(alloc: Global, row: &str) -> Result<(Option<u64>, u64)> {
-    let words = fields(alloc, row, 6)?;
-    let (op, size) = (operation(alloc, words[0])?, size(words[1])?);
-    let (a, b) = (argument(words[2])?, argument(words[3])?);
-    let to = target(words[4])?;
-    let instrs = compute_words(alloc, op, size, a, b, to).map_err(|_| AllocError)?;
-    let code = encoded(alloc, instrs.as_slice())?;
-    Ok((left(code.as_slice(), registers(), to), number(words[5])?))
+/// Checks a row.
+pub fn check_row(rt: &(impl Print + AllocGlobal), tally: &mut Tally, row: &str) -> Result<()> {
+    let (name, rest) = row.split_once(' ').context("an operation")?;
+    let (letters, a, b, to, wanted) = five_fields(rest)?;
+    let operation = sized(name, letters)?;
+    let found = found(rt.alloc(), operation, (a, b), target(to)?)?;
+    tally.check(rt, row, &found, &Some(number(wanted)?))
 }

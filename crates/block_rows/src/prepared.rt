@@ -1,13 +1,12 @@
 // Runs of prepared code: how many steps it makes, where it comes to, and what is known of the block at which it arrives.
-ghost use Rattle.std.specs.Prelude.{◌≤◌, length};
-ghost use Rattle.block_law.specs.Translations.{most_words};
+ghost use Rattle.std.specs.Prelude.{◌≡◌, slice_index};
 
 use address_map::AddressMap;
 use alpha_machine::Cpu;
 use anyhow::{Context, Result, bail};
 use exception_records::{CodeRule, Point, Points, Rules};
 use prepared_code::{Block, Prepared, prepare};
-use row_tally::{Given, fields, longword, pieces};
+use row_tally::{Given, five_fields, longword, longwords, pairs};
 use std::alloc::Global;
 use vax_form::{PageRange, Pages};
 
@@ -47,26 +46,9 @@ fn pages(alloc: Global) -> Result<Pages> {
     Ok(Pages { ranges, code })
 }
 
-fn words_of(alloc: Global, text: &str) -> Result<Vec<u32>> {
-    let mut words = Vec::new(alloc);
-    for piece in &pieces(alloc, text)? {
-        words.push(longword(piece)?)?;
-    }
-    Ok(words)
-}
-
-/// Numbers written as ADDRESS=WORD with commas between.
-fn pairs_of(alloc: Global, text: &str) -> Result<Vec<(u32, u32)>> {
-    let mut pairs = Vec::new(alloc);
-    for piece in &pieces(alloc, text)? {
-        let (address, word) = piece.split_once('=').context("a pair")?;
-        pairs.push((longword(address)?, longword(word)?))?;
-    }
-    Ok(pairs)
-}
-
+/// The map of pairs with commas between.
 fn map_of(alloc: Global, text: &str) -> Result<AddressMap> {
-    let pairs = pairs_of(alloc, text)?;
+    let pairs = pairs(alloc, text)?;
     match address_map::build(alloc, &pairs) {
         Ok(map) => Ok(map),
         Err(_) => bail!("no map: {text}"),
@@ -74,12 +56,15 @@ fn map_of(alloc: Global, text: &str) -> Result<AddressMap> {
 }
 
 /// A point at that word, or none.
-fn points_of(alloc: Global, text: &str) -> Result<Points> {
-    let mut points = Vec::new(alloc);
-    if text != "-" {
-        points.push((longword(text)?, POINT))?;
+fn pairs_with_points(alloc: Global, text: &str) -> Result<Vec<(u32, Point)>> {
+    if text == "-" {
+        return Ok(Vec::new(alloc));
     }
-    match exception_records::build(points) {
+    Ok(vec![in alloc; (longword(text)?, POINT)]?)
+}
+
+fn points_of(alloc: Global, text: &str) -> Result<Points> {
+    match exception_records::build(pairs_with_points(alloc, text)?) {
         Ok(points) => Ok(points),
         Err(_) => bail!("no point: {text}"),
     }
@@ -99,59 +84,79 @@ fn block_text(alloc: Global, block: Block) -> Result<String> {
     Ok(text)
 }
 
-/// Runs inside a block, and tells where to and of the block at which it arrives then.
-fn run(alloc: Global, prepared: &Prepared<'_>, from: u32, most: u64) -> Result<String> {
-    let mut cpu = Cpu {
-        r: [HELD; 32],
-        pc: from,
-    };
-    let made = prepared.run_inside(&mut cpu, most);
-    let (pc, sum) = (cpu.pc, cpu.r[1]);
-    let mut text = format!(in alloc; "{made} {pc} {sum:X}")?;
-    if let Some(landing) = prepared.landing(&cpu) {
-        landing.make(&mut cpu);
+/// The word at which code begins to run, and the most steps.
+#[derive(Clone, Copy)]
+struct Start {
+    from: u32,
+    most: u64,
+}
+
+/// The code of a row.
+#[derive(Drop)]
+struct Code {
+    words: Vec<u32>,
+    map: AddressMap,
+    points: Points,
+}
+
+/// Makes the step that arrives at a block, if there is one, and tells where it comes to and of the block. Register 31 has to
+/// stand as it reads.
+fn land(alloc: Global, prepared: &Prepared<'_>, cpu: &mut Cpu, text: &mut String) -> Result<()>
+    requires { slice_index cpu.old.r 31 ≡ 0 }
+{
+    if let Some(landing) = prepared.landing(cpu) {
+        landing.make(cpu);
         let (pc, sum) = (cpu.pc, cpu.r[1]);
         let block = block_text(alloc, landing.block)?;
         write!(text, ", {pc} {sum:X} {block}")?;
     }
+    Ok(())
+}
+
+/// Runs inside a block, and tells where to and of the block at which it arrives then.
+fn run(alloc: Global, prepared: &Prepared<'_>, start: Start) -> Result<String> {
+    let mut cpu = Cpu {
+        r: [HELD; 32],
+        pc: start.from,
+    };
+    let made = prepared.run_inside(&mut cpu, start.most);
+    let (pc, sum) = (cpu.pc, cpu.r[1]);
+    let mut text = format!(in alloc; "{made} {pc} {sum:X}")?;
+    land(alloc, prepared, &mut cpu, &mut text)?;
     Ok(text)
 }
 
-fn with_code(
-    alloc: Global,
-    words: &[u32],
-    map: &AddressMap,
-    points: &Points,
-    from: u32,
-    most: u64,
-) -> Result<String>
-    requires { length words.now ≤ most_words }
-{
-    let pages = pages(alloc)?;
-    match prepare(alloc, words, map, points, &pages) {
-        Ok(prepared) => run(alloc, &prepared, from, most),
-        Err(_) => bail!("want of memory"),
+impl Start {
+    fn read(from: &str, most: &str) -> Result<Start> {
+        Ok(Start {
+            from: longword(from)?,
+            most: u64::from(longword(most)?),
+        })
     }
 }
 
-fn with_words(alloc: Global, words: &[u32], parts: &[&str]) -> Result<String>
-    requires { length words.now ≤ most_words }
-{
-    let [_, pairs, point, from, most] = parts else {
-        bail!("other fields");
-    };
-    let (from, most) = (longword(from)?, longword(most)?);
-    let map = map_of(alloc, pairs)?;
-    let points = points_of(alloc, point)?;
-    with_code(alloc, words, &map, &points, from, u64::from(most))
+impl Code {
+    fn read(alloc: Global, words: &str, pairs: &str, point: &str) -> Result<Code> {
+        let (words, map) = (longwords(alloc, words)?, map_of(alloc, pairs)?);
+        let points = points_of(alloc, point)?;
+        Ok(Code { words, map, points })
+    }
+
+    fn run(&self, alloc: Global, start: Start) -> Result<String> {
+        if self.words.len() > MANY_WORDS {
+            bail!("too many words");
+        }
+        let pages = pages(alloc)?;
+        match prepare(alloc, &self.words, &self.map, &self.points, &pages) {
+            Ok(prepared) => run(alloc, &prepared, start),
+            Err(_) => bail!("want of memory"),
+        }
+    }
 }
 
 /// Answers WORDS PAIRS POINT FROM MOST.
 pub fn answer(alloc: Global, _given: &Given<'_>, question: &str) -> Result<String> {
-    let parts = fields(alloc, question, 5)?;
-    let words = words_of(alloc, parts[0])?;
-    if words.len() > MANY_WORDS {
-        bail!("too many words");
-    }
-    with_words(alloc, &words, &parts)
+    let (words, pairs, point, from, most) = five_fields(question)?;
+    let code = Code::read(alloc, words, pairs, point)?;
+    code.run(alloc, Start::read(from, most)?)
 }

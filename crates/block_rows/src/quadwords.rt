@@ -1,5 +1,6 @@
 // Operands that lie in one quadword of memory, or in two.
 use crate::bench::{BASE, Machine};
+use anyhow::Result;
 
 /// The register of the operand's address.
 pub const PLACE: u8 = 21;
@@ -49,7 +50,18 @@ pub fn started(offset: u32, from: u64, failures: u32) -> Machine {
 }
 
 /// What both quadwords hold.
-pub fn both(machine: Machine) -> u128 {
+fn both(machine: Machine) -> u128 {
     let [first, second, _, _] = machine.memory.quads;
     u128::from(second) << 64 | u128::from(first)
+}
+
+/// The operand that was read, the memory, and how many accesses counted.
+pub type Left = (u128, u128, u32);
+
+/// What a run leaves.
+pub fn left(code: &[u32], machine: Machine) -> Result<Left> {
+    let mut machine = machine;
+    machine.run(code)?;
+    let read = u128::from(machine.cpu.r[TO as usize]);
+    Ok((read, both(machine), machine.memory.counted))
 }

@@ -1,5 +1,13 @@
 // What computations leave in one register.
+ghost use Rattle.compute_sequences.specs.Registers.{IsArgument, IsTarget};
+
 use crate::bench::behind;
+use crate::machine::encoded;
+use anyhow::Result;
+use compute_sequences::compute_words;
+use micro_ops::{Arg, MicroOp};
+use std::alloc::{AllocError, Global};
+use vax_form::Size;
 
 /// The register that computations may change beside that of the result.
 const SCRATCH: usize = 27;
@@ -13,4 +21,21 @@ pub fn left(code: &[u32], registers: [u64; 32], to: u8) -> Option<u64> {
         }
     }
     ended.get(to as usize).copied()
+}
+
+/// The encoded words of a computation.
+pub fn computation(
+    alloc: Global,
+    operation: (MicroOp, Size),
+    a: Arg,
+    b: Arg,
+    to: u8,
+) -> Result<Vec<u32>>
+    requires a { IsArgument a }
+    requires b { IsArgument b }
+    requires to { IsTarget to }
+{
+    let (op, size) = operation;
+    let words = compute_words(alloc, op, size, a, b, to).map_err(|_| AllocError)?;
+    Ok(encoded(alloc, words.as_slice())?)
 }

@@ -1,13 +1,17 @@
 // Blocks that run from random states, beside their programs.
-use crate::blocks::{Site, made};
+use crate::blocks::{Site, encoded_block};
+use crate::ending::Seen;
 use crate::forms::Form;
-use crate::machine::{self, Code, encoded};
+use crate::machine::{self, Code};
 use crate::meaning;
 use crate::sets::{SETS, set};
 use crate::starts::Random;
 use crate::world::World;
 use anyhow::{Context, Result};
+use micro_ops::Micro;
 use row_tally::{Tally, rows};
+use std::alloc::Global;
+use vax_form::Flags;
 
 /// How often each block runs.
 const STARTS: u32 = 4;
@@ -15,53 +19,99 @@ const STARTS: u32 = 4;
 /// Fewer stores conditional than this fail.
 const FAILURES: u32 = 3;
 
-/// Runs each block of a program, whichever codes are live, and prints the first difference.
-fn check_form(
-    rt: &(impl Print + AllocGlobal),
-    tally: &mut Tally,
-    random: &mut Random,
-    row: &str,
-) -> Result<()> {
-    let alloc = rt.alloc();
-    let (form, _) = Form::read(alloc, row)?;
-    let Some(opcode) = form.opcode else {
-        return Ok(());
-    };
-    let site = Site::HERE;
-    let mut told = false;
-    for number in 0..SETS {
-        let (block, behind) = made(alloc, site, opcode, &form.program, set(number))?;
-        let words = encoded(alloc, &block.words)?;
+/// The random numbers, how many runs agree, and whether a difference of the row was printed.
+#[derive(Drop)]
+struct Runs {
+    random: Random,
+    tally: Tally,
+    told: bool,
+}
+
+impl Runs {
+    /// What is seen of a block that runs from the next state, and of its program.
+    fn seen(&mut self, alloc: Global, program: &[Micro], code: Code<'_>) -> Result<(Seen, Seen)> {
+        let state = self.random.state(code.at);
+        let (bytes, holding) = self.random.memory();
+        let failures = self.random.below(FAILURES);
+        let world = World::new(alloc, bytes, holding);
+        let found = machine::run(code, &state, world, failures)?;
+        let world = World::new(alloc, bytes, holding);
+        let wanted = meaning::run(program, state, world, Site::HERE.after)?;
+        Ok((found, wanted))
+    }
+
+    /// Prints the first difference of a row.
+    fn tell(&mut self, rt: &impl Print, row: &str, found: &Seen, wanted: &Seen) -> Result<()> {
+        if !self.told {
+            self.told = true;
+            println!(rt; "{row}: {found:?}, not {wanted:?}")?;
+        }
+        Ok(())
+    }
+
+    /// Runs a block and its program from the next state.
+    fn check_start(
+        &mut self,
+        rt: &(impl Print + AllocGlobal),
+        row: &str,
+        program: &[Micro],
+        code: Code<'_>,
+    ) -> Result<()> {
+        let (found, wanted) = self.seen(rt.alloc(), program, code)?;
+        let agrees = found == wanted;
+        self.tally.count(agrees);
+        if agrees {
+            return Ok(());
+        }
+        self.tell(rt, row, &found, &wanted)
+    }
+
+    /// Runs the block of a program where these codes are live.
+    fn check_block(
+        &mut self,
+        rt: &(impl Print + AllocGlobal),
+        row: &str,
+        program: &[Micro],
+        opcode: u8,
+        live: Flags,
+    ) -> Result<()> {
+        let made = encoded_block(rt.alloc(), Site::HERE, opcode, program, live)?;
         let code = Code {
-            block: &block,
-            words: &words,
-            at: site.at,
-            behind,
+            block: &made.block,
+            words: &made.words,
+            at: Site::HERE.at,
+            behind: made.behind,
         };
         for _ in 0..STARTS {
-            let (state, (bytes, holding)) = (random.state(site.at), random.memory());
-            let world = World::new(alloc, bytes, holding);
-            let wanted = meaning::run(&form.program, state, world, site.after)?;
-            let world = World::new(alloc, bytes, holding);
-            let found = machine::run(code, &state, world, random.below(FAILURES))?;
-            let agrees = found == wanted;
-            tally.count(agrees);
-            if !agrees && !told {
-                println!(rt; "{row}: {found:?}, not {wanted:?}")?;
-                told = true;
-            }
+            self.check_start(rt, row, program, code)?;
         }
+        Ok(())
     }
-    Ok(())
+
+    /// Runs each block of a program, whichever codes are live.
+    fn check_form(&mut self, rt: &(impl Print + AllocGlobal), row: &str) -> Result<()> {
+        let form = Form::read(rt.alloc(), row)?;
+        let Some(opcode) = form.opcode else {
+            return Ok(());
+        };
+        self.told = false;
+        for number in 0..SETS {
+            self.check_block(rt, row, &form.program, opcode, set(number))?;
+        }
+        Ok(())
+    }
 }
 
 /// Checks the rows of a table.
 pub fn check(rt: &(impl Print + AllocGlobal), table: &str) -> Result<Tally> {
-    let mut tally = Tally::NONE;
-    let mut random = Random::SEED;
+    let mut runs = Runs {
+        random: Random::SEED,
+        tally: Tally::NONE,
+        told: false,
+    };
     for row in &rows(rt.alloc(), table)? {
-        check_form(rt, &mut tally, &mut random, row).with_context(|| row)?;
+        runs.check_form(rt, row).context(*row)?;
     }
-    tally.print(rt, "runs")?;
-    Ok(tally)
+    runs.tally.print(rt, "runs")?;
+    Ok(runs.tally)
 }
