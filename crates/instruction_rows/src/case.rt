@@ -1,7 +1,7 @@
 // A case: an instruction with what stands before it and behind it.
 use crate::memory::Memory;
-use anyhow::{Context, Result, bail, ensure};
-use row_tally::{fields, longword, pieces};
+use anyhow::{Context, Result, ensure};
+use row_tally::{five_fields, longword, pieces};
 use std::alloc::Global;
 use vax_form::{Exception, Pending, VaxState};
 
@@ -26,40 +26,56 @@ fn state_of(pc: &str, psw: &str, r: [u32; 15]) -> Result<VaxState> {
     })
 }
 
-fn registers_of(alloc: Global, text: &str) -> Result<[u32; 15]> {
+/// Fifteen registers with commas between.
+fn registers_of(text: &str) -> Result<[u32; 15]> {
     let mut registers = [0; 15];
-    let numbers = pieces(alloc, text)?;
-    ensure!(numbers.len() == registers.len(), "not fifteen registers");
-    for (register, number) in registers.iter_mut().zip(numbers.iter()) {
-        *register = longword(number)?;
+    let mut place = 0;
+    for number in text.split(',') {
+        ensure!(place < 15, "more than fifteen registers");
+        registers[place] = longword(number)?;
+        place += 1;
     }
+    ensure!(place == 15, "fewer than fifteen registers");
     Ok(registers)
+}
+
+/// A register that is written as NUMBER=VALUE.
+fn change_of(text: &str) -> Result<(usize, u32)> {
+    let (place, value) = text.split_once('=').context("a register")?;
+    Ok((longword(place)? as usize, longword(value)?))
+}
+
+fn change(registers: &mut [u32; 15], text: &str) -> Result<()> {
+    let (place, value) = change_of(text)?;
+    ensure!(place < 15, "a register below 15");
+    registers[place] = value;
+    Ok(())
 }
 
 /// The registers with those changed that are written as NUMBER=VALUE.
 fn with_changes(alloc: Global, registers: [u32; 15], changes: &str) -> Result<[u32; 15]> {
     let mut registers = registers;
-    for change in &pieces(alloc, changes)? {
-        let (place, value) = change.split_once('=').context("a register")?;
-        let register = registers
-            .get_mut(longword(place)? as usize)
-            .context("a register below 15")?;
-        *register = longword(value)?;
+    for text in &pieces(alloc, changes)? {
+        change(&mut registers, text)?;
     }
     Ok(registers)
+}
+
+/// Whether a byte was to be written.
+fn is_write(intent: &str) -> Option<bool> {
+    match intent {
+        "read" => Some(false),
+        "write" => Some(true),
+        _ => None,
+    }
 }
 
 /// The access violation of an ending: how the byte at the address was to be used.
 fn violation(ending: &str) -> Result<Exception> {
     let (intent, address) = ending.split_once('=').context("an ending")?;
-    let write = match intent {
-        "read" => false,
-        "write" => true,
-        _ => bail!("no ending: {ending}"),
-    };
     Ok(Exception::AccessViolation {
         address: longword(address)?,
-        write,
+        write: is_write(intent).context("read or write")?,
     })
 }
 
@@ -76,22 +92,55 @@ fn raised_by(ending: &str) -> Result<Option<Exception>> {
     })
 }
 
+/// The states before an instruction and behind it: of PC, PSW and REGISTERS, and of PC, PSW and CHANGES.
+fn states_of(
+    alloc: Global,
+    before: (&str, &str, &str),
+    behind: (&str, &str, &str),
+) -> Result<(VaxState, VaxState)> {
+    let registers = registers_of(before.2)?;
+    let changed = with_changes(alloc, registers, behind.2)?;
+    Ok((
+        state_of(before.0, before.1, registers)?,
+        state_of(behind.0, behind.1, changed)?,
+    ))
+}
+
+/// The memory before, of these areas, and the one behind, with others stored.
+fn memories_of(alloc: Global, areas: &str, stored: &str) -> Result<(Memory, Memory)> {
+    let memory = Memory::of(alloc, areas)?;
+    let mut behind = memory.copy()?;
+    behind.store_areas(alloc, stored)?;
+    Ok((memory, behind))
+}
+
+/// The first five fields of a row, and what is behind them.
+fn split(row: &str) -> Option<([&str; 5], &str)> {
+    let mut fields = [""; 5];
+    let mut rest = row;
+    for place in 0..5 {
+        let (field, behind) = rest.split_once(' ')?;
+        fields[place] = field;
+        rest = behind;
+    }
+    Some((fields, rest))
+}
+
 impl<'a> Case<'a> {
     /// Reads a row.
     pub fn read(alloc: Global, row: &'a str) -> Result<Case<'a>> {
-        let words = fields(alloc, row, 10)?;
-        let registers = registers_of(alloc, words[3])?;
-        let changed = with_changes(alloc, registers, words[7])?;
-        let mut memory = Memory::new(alloc);
-        memory.store_areas(alloc, words[9])?;
-        let mut memory_behind = memory.copy()?;
-        memory_behind.store_areas(alloc, words[8])?;
+        let ([name, pc, psw, registers, ending], rest) = split(row).context("a case")?;
+        let (pc_behind, psw_behind, changes, stored, areas) = five_fields(rest)?;
+        let behind = (pc_behind, psw_behind, changes);
+        let (before, behind) = states_of(alloc, (pc, psw, registers), behind)?;
+        let raised = raised_by(ending)?;
+        let (memory, memory_behind) = memories_of(alloc, areas, stored)?;
         Ok(Case {
-            name: words[0],
-            before: state_of(words[1], words[2], registers)?,
+            name,
+            before,
             memory,
-            raised: raised_by(words[4])?,
-            behind: state_of(words[5], words[6], changed)?,
+            raised,
+            behind,
             memory_behind,
         })
     }

@@ -9,8 +9,8 @@ use anyhow::{Result, bail};
 use std::alloc::{AllocError, Global};
 use vax_decode::{Decoded, decode_at};
 use vax_form::{
-    Exception, Instr, LongOperation, Operation, Outcome, PageRange, Pages, VaxState, is_long,
-    operation_of,
+    Exception, Instr, LongOperation, Operation, Outcome, PageRange, Pages, Reference, VaxState,
+    is_long, operation_of,
 };
 use vax_long::next_long;
 use vax_meaning::next;
@@ -110,37 +110,77 @@ pub fn instr_of(alloc: Global, memory: &Memory, pc: u32) -> Result<Instr>
     instr_at(&code_pages(alloc, memory)?, pc)
 }
 
+/// An instruction of a case, as it is carried out.
+#[derive(Drop)]
+struct Course<'a> {
+    before: &'a VaxState,
+    instr: Instr,
+    pages: Pages,
+    replies: Vec<u64>,
+    interpreted: Interpreted,
+}
+
+impl Course<'_> {
+    /// What the instruction comes to with the replies so far, also one reference at a time.
+    fn outcome(&mut self) -> Result<Outcome> {
+        let outcome = outcome(self.before, &self.instr, &self.pages, &self.replies);
+        let reply = self.replies.last().copied();
+        if !self.interpreted.agrees(&self.pages, reply, outcome) {
+            bail!("one reference at a time it does not come to {outcome:?}");
+        }
+        Ok(outcome)
+    }
+
+    fn refer(&mut self, memory: &mut Memory, reference: Reference) -> Result<()> {
+        let reply = memory.make(reference)?;
+        self.replies.push(reply)?;
+        Ok(())
+    }
+
+    /// What it raises, and the state, at its end.
+    fn end(&mut self, memory: &mut Memory) -> Result<(Option<Exception>, VaxState)> {
+        for _ in 0..REFERENCES {
+            match self.outcome()? {
+                Outcome::Wants(reference) => self.refer(memory, reference)?,
+                Outcome::Done(state) => return Ok((None, state)),
+                Outcome::Exits(_) => bail!("the thread exits"),
+                Outcome::Raises(exception, state) => return Ok((Some(exception), state)),
+            }
+        }
+        bail!("more than {REFERENCES} references");
+    }
+}
+
+/// The pages over which an instruction runs that stands in these.
+fn pages_of(alloc: Global, opcode: u8, code: Pages) -> Result<Pages, AllocError> {
+    if reads_code(opcode) {
+        return Ok(code);
+    }
+    writable_pages(alloc)
+}
+
+/// Begins the instruction at the PC of a case.
+fn begin<'a>(alloc: Global, case: &'a Case) -> Result<Course<'a>> {
+    let code = code_pages(alloc, &case.memory)?;
+    let instr = instr_at(&code, case.before.pc)?;
+    let pages = pages_of(alloc, instr.opcode, code)?;
+    Ok(Course {
+        before: &case.before,
+        instr,
+        pages,
+        replies: Vec::new(alloc),
+        interpreted: Interpreted::begin(&case.before, instr),
+    })
+}
+
 /// Decodes the instruction at the PC of a case, and runs it to its end.
 pub fn ending_of(alloc: Global, case: &Case) -> Result<Ending> {
     let mut memory = case.memory.copy()?;
-    let code = code_pages(alloc, &memory)?;
-    let instr = instr_at(&code, case.before.pc)?;
-    let pages = if reads_code(instr.opcode) {
-        code
-    } else {
-        writable_pages(alloc)?
-    };
-    let mut replies = Vec::new(alloc);
-    let mut interpreted = Interpreted::begin(&case.before, instr);
-    for _ in 0..REFERENCES {
-        let outcome = outcome(&case.before, &instr, &pages, &replies);
-        if !interpreted.agrees(&pages, replies.last().copied(), outcome) {
-            bail!("one reference at a time it does not come to {outcome:?}");
-        }
-        let (raised, state) = match outcome {
-            Outcome::Wants(reference) => {
-                replies.push(memory.make(reference)?)?;
-                continue;
-            }
-            Outcome::Done(state) => (None, state),
-            Outcome::Exits(_) => bail!("the thread exits"),
-            Outcome::Raises(exception, state) => (Some(exception), state),
-        };
-        return Ok(Ending {
-            raised,
-            state,
-            memory,
-        });
-    }
-    bail!("more than {REFERENCES} references");
+    let mut course = begin(alloc, case)?;
+    let (raised, state) = course.end(&mut memory)?;
+    Ok(Ending {
+        raised,
+        state,
+        memory,
+    })
 }

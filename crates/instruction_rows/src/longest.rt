@@ -2,7 +2,7 @@
 use crate::case::Case;
 use crate::ending::{instr_of, outcome, writable_pages};
 use anyhow::{Context, Result};
-use row_tally::{Tally, longword, rows};
+use row_tally::{Tally, longword};
 use std::alloc::Global;
 use vax_form::Outcome;
 
@@ -17,15 +17,11 @@ fn ends(alloc: Global, case: &Case, references: u32) -> Result<(Outcome, bool)> 
     Ok((last, matches!(before, Outcome::Wants(_))))
 }
 
-/// Checks the rows: the number of references, and a case.
-pub fn check_longest(rt: &(impl Print + AllocGlobal), table: &str) -> Result<Tally> {
-    let mut tally = Tally::NONE;
-    for row in &rows(rt.alloc(), table)? {
-        let (references, text) = row.split_once(' ').context("a case")?;
-        let case = Case::read(rt.alloc(), text)?;
-        let found = ends(rt.alloc(), &case, longword(references)?)?;
-        tally.check(rt, row, &found, &(Outcome::Done(case.behind), true))?;
-    }
-    tally.print(rt, "longest strings")?;
-    Ok(tally)
+/// Checks a row: the number of references, and a case.
+pub fn check_row(rt: &(impl Print + AllocGlobal), tally: &mut Tally, row: &str) -> Result<()> {
+    let (references, text) = row.split_once(' ').context("a case")?;
+    let references = longword(references)?;
+    let case = Case::read(rt.alloc(), text)?;
+    let found = ends(rt.alloc(), &case, references)?;
+    tally.check(rt, row, &found, &(Outcome::Done(case.behind), true))
 }

@@ -1,12 +1,12 @@
 // The micro programs of instructions, run by what each of their operations means.
 use crate::case::Case;
-use crate::difference::difference;
+use crate::difference::agrees;
 use crate::ending::{Ending, instr_of, writable_pages};
 use crate::memory::Memory;
-use anyhow::{Context, Result, bail, ensure};
+use anyhow::{Result, bail, ensure};
 use micro_lower::{has_program, lower};
 use micro_ops::{Arg, Exit, LockedOp, Micro, MicroOp, compute};
-use row_tally::{Tally, rows};
+use row_tally::Tally;
 use std::alloc::Global;
 use vax_form::{Exception, Pages, RefKind, Reference, Size, VaxState};
 
@@ -217,53 +217,42 @@ impl Course<'_> {
         let traps = self.overflowed && self.left.psw & TRAPS != 0;
         Ok((traps.then_some(Exception::Arithmetic(1)), self.left))
     }
+
+    /// Makes the operations of a program up to its end: what it raises, and the state.
+    fn run(
+        &mut self,
+        program: &[Micro],
+        after: u32,
+        pages: &Pages,
+        memory: &mut Memory,
+    ) -> Result<(Option<Exception>, VaxState)> {
+        for operation in program {
+            match self.make(pages, memory, *operation)? {
+                Step::On => {}
+                Step::Faults(exception) => return Ok((Some(exception), *self.found)),
+                Step::Leaves(exit) => return self.leave(exit, after),
+            }
+        }
+        bail!("a program that doesn't leave")
+    }
 }
 
-/// Runs a program from a state, over pages and a memory.
-fn run(
-    program: &[Micro],
-    found: &VaxState,
-    after: u32,
-    pages: &Pages,
-    memory: Memory,
-) -> Result<Ending> {
-    let mut memory = memory;
+/// Runs a program before which all is as in a case.
+fn run(alloc: Global, program: &[Micro], case: &Case, after: u32) -> Result<Ending> {
+    let mut memory = case.memory.copy()?;
+    let pages = writable_pages(alloc)?;
     let mut course = Course {
-        found,
-        left: *found,
+        found: &case.before,
+        left: case.before,
         temporaries: [0; TEMPORARIES],
         overflowed: false,
     };
-    for operation in program {
-        let (raised, state) = match course.make(pages, &mut memory, *operation)? {
-            Step::On => continue,
-            Step::Faults(exception) => (Some(exception), *found),
-            Step::Leaves(exit) => course.leave(exit, after)?,
-        };
-        return Ok(Ending {
-            raised,
-            state,
-            memory,
-        });
-    }
-    bail!("a program that doesn't leave")
-}
-
-/// Whether the program of a case ends as the case does; None where it has none.
-fn agrees(rt: &(impl Print + AllocGlobal), row: &str) -> Result<Option<bool>> {
-    let alloc = rt.alloc();
-    let case = Case::read(alloc, row)?;
-    let Some(ending) = ending_of(alloc, &case)? else {
-        return Ok(None);
-    };
-    let difference = difference(alloc, &case, &ending)?;
-    if let Some(difference) = &difference {
-        println!(rt;
-            "the program of {} at {:X}: {difference}",
-            case.name, case.before.pc
-        )?;
-    }
-    Ok(Some(difference.is_none()))
+    let (raised, state) = course.run(program, after, &pages, &mut memory)?;
+    Ok(Ending {
+        raised,
+        state,
+        memory,
+    })
 }
 
 /// How the program of a case ends; None where it has none.
@@ -275,22 +264,17 @@ fn ending_of(alloc: Global, case: &Case) -> Result<Option<Ending>> {
     let Ok(program) = lower(alloc, &instr) else {
         bail!("want of memory");
     };
-    let memory = case.memory.copy()?;
-    let pages = writable_pages(alloc)?;
-    Ok(Some(run(&program, &case.before, instr.after, &pages, memory)?))
+    Ok(Some(run(alloc, &program, case, instr.after)?))
 }
 
-/// Runs the programs of the cases of all families, one a row.
-pub fn check_programs_of_cases(rt: &(impl Print + AllocGlobal), table: &str) -> Result<Tally> {
-    let mut tally = Tally::NONE;
-    for row in &rows(rt.alloc(), table)? {
-        if row.starts_with("family ") {
-            continue;
-        }
-        if let Some(agrees) = agrees(rt, row)? {
-            tally.count(agrees);
-        }
+/// Runs the program of a case, if it has one; a row that begins a family is no case.
+pub fn check_row(rt: &(impl Print + AllocGlobal), tally: &mut Tally, row: &str) -> Result<()> {
+    if row.starts_with("family ") {
+        return Ok(());
     }
-    tally.print(rt, "micro programs")?;
-    Ok(tally)
+    let case = Case::read(rt.alloc(), row)?;
+    if let Some(ending) = ending_of(rt.alloc(), &case)? {
+        tally.count(agrees(rt, "the program of ", &case, &ending)?);
+    }
+    Ok(())
 }

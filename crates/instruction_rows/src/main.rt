@@ -16,32 +16,24 @@ mod interpreted;
 mod longest;
 mod lowered;
 mod memory;
+mod pages;
 mod programs;
 mod stacks;
 mod words;
 
 use crate::case::Case;
-use crate::difference::difference;
 use crate::ending::ending_of;
-use crate::longest::check_longest;
-use crate::lowered::check_programs_of_cases;
 use crate::programs::check_programs;
 use crate::stacks::check_stacks;
-use crate::words::check_words;
 use anyhow::{Context, Result};
-use row_tally::{Families, Tally, rows};
-use std::fs;
+use row_tally::{Families, Tally, check_rows, rows};
+use std::fs::{self, Files};
 
 /// Runs the case of a row, and prints how it differs.
 fn agrees(rt: &(impl Print + AllocGlobal), row: &str) -> Result<bool> {
-    let alloc = rt.alloc();
-    let case = Case::read(alloc, row)?;
-    let ending = ending_of(alloc, &case)?;
-    let difference = difference(alloc, &case, &ending)?;
-    if let Some(difference) = &difference {
-        println!(rt; "{} at {:X}: {difference}", case.name, case.before.pc)?;
-    }
-    Ok(difference.is_none())
+    let case = Case::read(rt.alloc(), row)?;
+    let ending = ending_of(rt.alloc(), &case)?;
+    difference::agrees(rt, "", &case, &ending)
 }
 
 /// Runs the cases of all families, one a row.
@@ -56,14 +48,26 @@ fn run(rt: &(impl Print + AllocGlobal), table: &str) -> Result<Tally> {
     families.end(rt)
 }
 
+fn check_instructions(rt: &(impl Files + Print + AllocGlobal)) -> Result<Tally> {
+    let table = fs::read_to_string(rt, "instructions.txt").context("instructions.txt")?;
+    run(rt, table.as_str())
+}
+
 fn main(rt: HostRuntime) -> Result<()> {
-    let text = fs::read_to_string(&rt, "instructions.txt").context("instructions.txt")?;
-    let mut all = run(&rt, text.as_str())?;
-    all.add(check_programs_of_cases(&rt, text.as_str())?);
-    let table = fs::read_to_string(&rt, "words.txt").context("words.txt")?;
-    all.add(check_words(&rt, table.as_str())?);
-    let table = fs::read_to_string(&rt, "longest.txt").context("longest.txt")?;
-    all.add(check_longest(&rt, table.as_str())?);
+    let mut all = check_instructions(&rt)?;
+    all.add(check_rows(
+        &rt,
+        "micro programs",
+        "instructions.txt",
+        lowered::check_row,
+    )?);
+    all.add(check_rows(
+        &rt,
+        "words of micro programs",
+        "words.txt",
+        words::check_row,
+    )?);
+    all.add(check_rows(&rt, "longest strings", "longest.txt", longest::check_row)?);
     all.add(check_stacks(&rt)?);
     all.add(check_programs(&rt)?);
     all.verdict()

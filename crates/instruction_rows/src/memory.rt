@@ -12,7 +12,7 @@ pub struct Memory {
 }
 
 impl Memory {
-    pub fn new(alloc: Global) -> Self {
+    pub fn new(alloc: Global) -> Memory {
         Memory {
             bytes: BTreeMap::new(alloc),
         }
@@ -38,13 +38,27 @@ impl Memory {
         Ok(())
     }
 
-    /// Stores areas that are written as ADDRESS=BYTES.
+    /// Stores an area that is written as ADDRESS=BYTES.
+    fn store_area(&mut self, alloc: Global, area: &str) -> Result<()> {
+        let (address, spelled) = area.split_once('=').context("an area")?;
+        let address = longword(address)?;
+        self.store(address, &bytes(alloc, spelled)?)?;
+        Ok(())
+    }
+
+    /// Stores areas with commas between.
     pub fn store_areas(&mut self, alloc: Global, areas: &str) -> Result<()> {
         for area in &pieces(alloc, areas)? {
-            let (address, spelled) = area.split_once('=').context("an area")?;
-            self.store(longword(address)?, &bytes(alloc, spelled)?)?;
+            self.store_area(alloc, area)?;
         }
         Ok(())
+    }
+
+    /// A memory of these areas.
+    pub fn of(alloc: Global, areas: &str) -> Result<Memory> {
+        let mut memory = Memory::new(alloc);
+        memory.store_areas(alloc, areas)?;
+        Ok(memory)
     }
 
     /// The first address whose byte here is another than there.

@@ -1,10 +1,11 @@
 // Instructions that push or pop, with the stack at each longword round the begin and the end of a writable page.
 use crate::ending::outcome;
+use crate::pages::pages_with;
 use anyhow::{Result, bail};
 use row_tally::Tally;
 use std::alloc::{AllocError, Global};
 use vax_decode::{Decoded, decode_at};
-use vax_form::{Exception, Outcome, PageRange, Pages, Pending, VaxState};
+use vax_form::{Exception, Outcome, Pages, Pending, VaxState};
 
 /// How an instruction uses the stack. A return begins with the status of the frame, and does not use SP.
 #[derive(Clone, Copy)]
@@ -25,9 +26,11 @@ struct Row {
     mask: u16,
 }
 
+type Entry = (&'static str, &'static [u8], Use, u32, u16);
+
 /// A call pushes the registers, PC, FP, AP, the status and 0, and CALLS the count of arguments before them. A return pops
 /// the status, AP, FP, PC and the registers. The calls are CALLG @#1000,@#210 and CALLS #0,@#210.
-static ROWS: [(&'static str, &'static [u8], Use, u32, u16); 24] = [
+static ROWS: [Entry; 24] = [
     (
         "CALLG of no register",
         &[0xFA, 0x9F, 0x00, 0x10, 0, 0, 0x9F, 0x10, 0x02, 0, 0],
@@ -155,6 +158,17 @@ struct Seen {
 }
 
 impl Row {
+    fn of(entry: &Entry) -> Row {
+        let (name, code, uses, longwords, mask) = *entry;
+        Row {
+            name,
+            code,
+            uses,
+            longwords,
+            mask,
+        }
+    }
+
     /// The address of a longword of the stack, from where the stack stands.
     fn address(&self, stack: u32, place: u32) -> u32 {
         match self.uses {
@@ -219,24 +233,7 @@ impl Row {
             }
         }
         code[0x10..0x12].copy_from_slice(&self.mask.to_le_bytes());
-        let ranges = vec![in alloc;
-            PageRange {
-                first: 1,
-                count: 1,
-                writable: false,
-                place: 0
-            },
-            PageRange {
-                first: 8,
-                count: 1,
-                writable: true,
-                place: 0
-            },
-        ]?;
-        Ok(Pages {
-            ranges,
-            code: code.to_vec(alloc)?,
-        })
+        pages_with(alloc, &code)
     }
 
     /// Runs it with the stack standing there.
@@ -268,31 +265,34 @@ impl Row {
     }
 }
 
+/// The stack stands at each longword from one on.
+fn check_from(
+    rt: &(impl Print + AllocGlobal),
+    tally: &mut Tally,
+    row: &Row,
+    pages: &Pages,
+    first: u32,
+) -> Result<()> {
+    for step in 0..34 {
+        let stack = first.wrapping_add(4 * step);
+        let seen = row.seen(rt.alloc(), pages, stack)?;
+        tally.check(rt, row.name, &seen, &row.wanted(stack))?;
+    }
+    Ok(())
+}
+
 /// The stack stands at each longword round the begin of the page, and round its end.
 fn check_row(rt: &(impl Print + AllocGlobal), tally: &mut Tally, row: &Row) -> Result<()> {
     let pages = row.pages(rt.alloc())?;
-    for first in [0xFE0_u32, 0x11A0] {
-        for step in 0..34 {
-            let stack = first.wrapping_add(4 * step);
-            let seen = row.seen(rt.alloc(), &pages, stack)?;
-            tally.check(rt, row.name, &seen, &row.wanted(stack))?;
-        }
-    }
-    Ok(())
+    check_from(rt, tally, row, &pages, 0xFE0)?;
+    check_from(rt, tally, row, &pages, 0x11A0)
 }
 
 /// Stacks that end within an instruction, or just don't.
 pub fn check_stacks(rt: &(impl Print + AllocGlobal)) -> Result<Tally> {
     let mut tally = Tally::NONE;
-    for (name, code, uses, longwords, mask) in ROWS {
-        let row = Row {
-            name,
-            code,
-            uses,
-            longwords,
-            mask,
-        };
-        check_row(rt, &mut tally, &row)?;
+    for entry in &ROWS {
+        check_row(rt, &mut tally, &Row::of(entry))?;
     }
     tally.print(rt, "stacks round a page")?;
     Ok(tally)
