@@ -1,9 +1,11 @@
 // Two threads that can only go on beside each other.
 ghost use Rattle.block_law.specs.Empty.{IsEmpty};
+ghost use Rattle.image_file.specs.Whole.{IsWhole};
 
-use crate::row::{image_of, row_of};
+use crate::row::{Row, image_of, row_of};
 use crate::run::run_agrees;
 use anyhow::Result;
+use image_file::Image;
 use std::alloc::Global;
 use std::sync::Wait;
 use std::sync::atomic::{AtomicU64, Ordering};
@@ -70,6 +72,21 @@ fn none_missed(rt: &impl Print, holds: &Holds) -> Result<bool> {
     Ok(missed == 0)
 }
 
+fn run_beside<R: Print + Threads + Wait + Sync>(
+    rt: &R,
+    alloc: Global,
+    image: &Image,
+    translation: &Translation,
+    row: &Row<'_>,
+) -> Result<bool>
+    requires whole { IsWhole image.now }
+    requires empty { IsEmpty translation.now }
+{
+    let holds = Holds::new();
+    let agree = run_agrees(rt, alloc, image, translation, row, &holds)?;
+    Ok(none_missed(rt, &holds)? && agree)
+}
+
 /// Whether both threads end without reaching the end of a hold.
 pub fn are_beside<R: Print + Threads + Wait + Sync>(
     rt: &R,
@@ -80,7 +97,5 @@ pub fn are_beside<R: Print + Threads + Wait + Sync>(
 {
     let row = row_of(alloc, ROW)?;
     let image = image_of(alloc, &row)?;
-    let holds = Holds::new();
-    let agree = run_agrees(rt, alloc, &image, translation, &row, &holds)?;
-    Ok(none_missed(rt, &holds)? && agree)
+    run_beside(rt, alloc, &image, translation, &row)
 }

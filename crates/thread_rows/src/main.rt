@@ -77,15 +77,22 @@ fn check_all<R: Print + Threads + Wait + Sync>(
 }
 
 /// Goes through a table, and runs two threads beside each other.
-fn go_through<R: Print + Threads + Wait + Sync>(rt: &R, alloc: Global, table: &str) -> Result<()> {
-    let translation = nothing(alloc)?;
-    let mut tally = check_all(rt, alloc, &translation, table)?;
+fn go_through<R: Print + Threads + Wait + Sync>(
+    rt: &R,
+    alloc: Global,
+    translation: &Translation,
+    table: &str,
+) -> Result<()>
+    requires { IsEmpty translation.now }
+{
+    let mut tally = check_all(rt, alloc, translation, table)?;
     tally.print(rt, "threads")?;
-    tally.count(are_beside(rt, alloc, &translation)?);
+    tally.count(are_beside(rt, alloc, translation)?);
     tally.verdict()
 }
 
 fn main(rt: HostRuntime) -> Result<()> {
     let table = fs::read_to_string(&rt, "threads.txt").context("threads.txt")?;
-    go_through(&rt, rt.alloc(), table.as_str())
+    let translation = nothing(rt.alloc())?;
+    go_through(&rt, rt.alloc(), &translation, table.as_str())
 }

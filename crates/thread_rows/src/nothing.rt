@@ -6,9 +6,10 @@ use address_map::AddressMap;
 use anyhow::{Result, bail};
 use exception_records::Points;
 use image_file::Image;
-use prepared_code::{Prepared, prepare};
+use prepared_code::Prepared;
 use std::alloc::Global;
 use system_model::Translation;
+use vax_form::WantOfMemory;
 
 fn no_addresses(alloc: Global) -> Result<AddressMap>
     ensures { IfOk result (λ map. map ≡ []) }
@@ -48,9 +49,8 @@ pub fn made_ready<'a>(
     ensures code { IfOk result (λ p. p.code ≡ translation.now) }
     ensures pages { IfOk result (λ p. p.pages ≡ image.now.pages) }
 {
-    let Translation { words, map, points } = translation;
-    match prepare(alloc, words, map, points, &image.pages) {
+    match tie_switch::made_ready(alloc, image, translation) {
         Ok(prepared) => Ok(prepared),
-        Err(_) => bail!("no memory"),
+        Err(WantOfMemory) => bail!("no memory"),
     }
 }

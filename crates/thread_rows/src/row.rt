@@ -1,11 +1,11 @@
 // A row: what its threads run, and what they leave.
-ghost use Rattle.std.specs.Prelude.{IfOk};
+ghost use Rattle.std.specs.Prelude.{◌≡◌, IfOk, length};
 ghost use Rattle.image_file.specs.Whole.{IsWhole};
 
 use anyhow::{Result, anyhow, bail};
 use image_file::{Image, read_image};
-use row_tally::{bytes, fields, longword, number, pieces};
-use std::alloc::Global;
+use row_tally::{bytes, bytes_or_none, fields, longword, number, pieces};
+use std::alloc::{AllocError, Global};
 
 /// The most steps of a thread, the most entries of the history, which store conditional fails, and how often a row is run.
 #[derive(Clone, Copy)]
@@ -55,16 +55,16 @@ fn starts_of(alloc: Global, text: &str) -> Result<Vec<(u32, u32)>> {
     Ok(starts)
 }
 
+fn word(text: &str) -> Result<u16> {
+    Ok(u16::try_from(longword(text)?)?)
+}
+
 fn settings_of(budget: &str, limit: &str, miss: &str, runs: &str) -> Result<Settings> {
-    let budget = number(budget)?;
-    let limit = longword(limit)?;
-    let miss = u16::try_from(longword(miss)?)?;
-    let runs = longword(runs)?;
     Ok(Settings {
-        budget,
-        limit,
-        miss,
-        runs,
+        budget: number(budget)?,
+        limit: longword(limit)?,
+        miss: word(miss)?,
+        runs: longword(runs)?,
     })
 }
 
@@ -76,14 +76,6 @@ fn entries_of(text: &str) -> Result<Option<usize>> {
     Ok(Some(usize::try_from(number(text)?)?))
 }
 
-/// The bytes of a field, none for `-`.
-fn bytes_or_none(alloc: Global, text: &str) -> Result<Vec<u8>> {
-    if text == "-" {
-        return Ok(Vec::new(alloc));
-    }
-    Ok(bytes(alloc, text)?)
-}
-
 fn wanted_of<'a>(
     alloc: Global,
     ends: &'a str,
@@ -91,29 +83,28 @@ fn wanted_of<'a>(
     entries: &str,
     output: &str,
 ) -> Result<Wanted<'a>> {
-    let entries = entries_of(entries)?;
-    let left = bytes(alloc, left)?;
-    let output = bytes_or_none(alloc, output)?;
     Ok(Wanted {
         ends,
-        bytes: left,
-        entries,
-        output,
+        entries: entries_of(entries)?,
+        bytes: bytes(alloc, left)?,
+        output: bytes_or_none(alloc, output)?,
+    })
+}
+
+/// The row of these fields.
+fn row_with<'a>(alloc: Global, fields: &[&'a str]) -> Result<Row<'a>>
+    requires { length fields.now ≡ FIELDS }
+{
+    Ok(Row {
+        settings: settings_of(fields[1], fields[2], fields[3], fields[9])?,
+        wanted: wanted_of(alloc, fields[5], fields[6], fields[7], fields[8])?,
+        starts: starts_of(alloc, fields[0])?,
+        code: bytes(alloc, fields[4])?,
     })
 }
 
 pub fn row_of<'a>(alloc: Global, line: &'a str) -> Result<Row<'a>> {
-    let fields = fields(alloc, line, FIELDS)?;
-    let settings = settings_of(fields[1], fields[2], fields[3], fields[9])?;
-    let wanted = wanted_of(alloc, fields[5], fields[6], fields[7], fields[8])?;
-    let starts = starts_of(alloc, fields[0])?;
-    let code = bytes(alloc, fields[4])?;
-    Ok(Row {
-        starts,
-        settings,
-        code,
-        wanted,
-    })
+    row_with(alloc, &fields(alloc, line, FIELDS)?)
 }
 
 /// Begins an image of version 2.
@@ -122,34 +113,43 @@ const HEAD: [u8; 6] = [0x56, 0x58, 0x49, 0x4d, 2, 0];
 /// R0 to R13 of a thread, each 4 bytes.
 const FIRST_BYTES: usize = 56;
 
-fn push_longword(file: &mut Vec<u8>, value: u32) -> Result<()> {
-    file.extend_from_slice(&value.to_le_bytes())?;
+fn push_longwords(file: &mut Vec<u8>, longwords: &[u32]) -> Result<(), AllocError> {
+    for longword in longwords {
+        file.extend_from_slice(&longword.to_le_bytes())?;
+    }
     Ok(())
 }
 
 /// The bytes of a section.
 const SIZE: u32 = 0x400;
 
-fn push_section(file: &mut Vec<u8>, start: u32, stored: u32, writable: u32) -> Result<()> {
-    push_longword(file, start)?;
-    push_longword(file, SIZE)?;
-    push_longword(file, stored)?;
-    push_longword(file, writable)
+/// So much code at 200, and a writable section at 1000.
+fn sections_of(stored: usize) -> Result<[u32; 8]> {
+    Ok([0x200, SIZE, u32::try_from(stored)?, 0, 0x1000, SIZE, 0, 1])
+}
+
+/// The header of a file with so many threads and two sections.
+fn head_of(alloc: Global, threads: usize) -> Result<Vec<u8>> {
+    let mut head = Vec::from_slice(alloc, &HEAD)?;
+    head.extend_from_slice(&u16::try_from(threads)?.to_le_bytes())?;
+    push_longwords(&mut head, &[2])?;
+    Ok(head)
+}
+
+fn push_starts(file: &mut Vec<u8>, starts: &[(u32, u32)]) -> Result<(), AllocError> {
+    for (pc, sp) in starts {
+        push_longwords(file, &[*pc, *sp])?;
+        file.extend_from_slice(&[0; FIRST_BYTES])?;
+    }
+    Ok(())
 }
 
 /// A file with the row's threads, its code at 200 and a writable section at 1000.
 fn file_of(alloc: Global, row: &Row<'_>) -> Result<Vec<u8>> {
-    let mut file = Vec::from_slice(alloc, &HEAD)?;
-    file.extend_from_slice(&u16::try_from(row.starts.len())?.to_le_bytes())?;
-    push_longword(&mut file, 2)?;
-    for (pc, sp) in &row.starts {
-        push_longword(&mut file, *pc)?;
-        push_longword(&mut file, *sp)?;
-        file.extend_from_slice(&[0; FIRST_BYTES])?;
-    }
-    push_section(&mut file, 0x200, u32::try_from(row.code.len())?, 0)?;
-    push_section(&mut file, 0x1000, 0, 1)?;
-    file.extend_from_slice(row.code.as_slice())?;
+    let mut file = head_of(alloc, row.starts.len())?;
+    push_starts(&mut file, &row.starts)?;
+    push_longwords(&mut file, &sections_of(row.code.len())?)?;
+    file.extend_from_slice(&row.code)?;
     Ok(file)
 }
 

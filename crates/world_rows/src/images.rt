@@ -4,7 +4,7 @@ ghost use Rattle.image_file.specs.Whole.{IsWhole};
 
 use anyhow::{Result, bail};
 use image_file::{Image, read_image};
-use row_tally::{RowFault, bytes, longword, pieces};
+use row_tally::{RowFault, bytes, bytes_or_none, longword, pairs};
 use std::alloc::Global;
 
 /// Where the code stands.
@@ -26,43 +26,6 @@ struct Section<'a> {
     size: u32,
     writable: bool,
     stored: &'a [u8],
-}
-
-/// Two numbers written as FIRST=SECOND.
-pub fn pair_of(piece: &str) -> Result<(u32, u32), RowFault> {
-    let (first, second) = two_sides(piece)?;
-    Ok((longword(first)?, longword(second)?))
-}
-
-fn two_sides(piece: &str) -> Result<(&str, &str), RowFault> {
-    match piece.split_once('=') {
-        Some(sides) => Ok(sides),
-        None => Err(RowFault::OtherCount),
-    }
-}
-
-fn push_pairs(pairs: &mut Vec<(u32, u32)>, pieces: &[&str]) -> Result<(), RowFault> {
-    for piece in pieces {
-        let pair = pair_of(piece)?;
-        pairs.push(pair)?;
-    }
-    Ok(())
-}
-
-/// Pairs with commas between, none for `-`.
-pub fn pairs_of(alloc: Global, text: &str) -> Result<Vec<(u32, u32)>, RowFault> {
-    let pieces = pieces(alloc, text)?;
-    let mut pairs = Vec::new(alloc);
-    push_pairs(&mut pairs, &pieces)?;
-    Ok(pairs)
-}
-
-/// The bytes of a field, none for `-`.
-pub fn bytes_or_none(alloc: Global, field: &str) -> Result<Vec<u8>, RowFault> {
-    if field == "-" {
-        return Ok(Vec::new(alloc));
-    }
-    bytes(alloc, field)
 }
 
 /// An image file that is put together, and whether all of its bytes were put.
@@ -205,7 +168,7 @@ fn image_from(alloc: Global, starts: &[(u32, u32)], code: &str, writable: &str) 
 pub fn image_of(alloc: Global, starts: &str, code: &str, writable: &str) -> Result<Image>
     ensures { IfOk result IsWhole }
 {
-    let starts = pairs_of(alloc, starts)?;
+    let starts = pairs(alloc, starts)?;
     image_from(alloc, &starts, code, writable)
 }
 

@@ -5,7 +5,7 @@ ghost use Rattle.image_meaning.specs.Meant.{image_meaning};
 ghost use Rattle.world_rows.specs.Ready.{CanRun, IsReady};
 
 use crate::driven::check_driven;
-use crate::images::{image_of, pair_of};
+use crate::images::image_of;
 use crate::nothing::nothing_translated;
 use crate::programs::{Limits, Program, made_ready};
 use crate::report::Report;
@@ -13,7 +13,7 @@ use crate::texts::put_bytes;
 use crate::worlds::{pick, world_of};
 use anyhow::Result;
 use image_file::Image;
-use row_tally::{Given, RowFault, four_fields, longword};
+use row_tally::{Given, RowFault, four_fields, longword, pair};
 use std::alloc::{AllocError, Global};
 use system_model::{End, Translation};
 use vest_core::{Processor, World};
@@ -201,7 +201,7 @@ fn answer_of(alloc: Global, image: &Image, asked: Asked) -> Result<String>
 
 /// The bytes that a field asks for.
 fn shown_of(field: &str) -> Result<Shown, RowFault> {
-    let (first, count) = pair_of(field)?;
+    let (first, count) = pair(field)?;
     Ok(Shown { first, count })
 }
 

@@ -5,10 +5,11 @@ ghost use Rattle.image_meaning.specs.Meant.{image_meaning};
 
 use anyhow::{Result, bail};
 use image_file::Image;
-use prepared_code::{Prepared, prepare};
+use prepared_code::Prepared;
 use std::alloc::Global;
 use system_model::{Range, Translation};
 use translate::{Target, translate};
+use vax_form::WantOfMemory;
 
 /// The most steps of a processor, and the most entries of the history.
 #[derive(Clone, Copy)]
@@ -48,9 +49,8 @@ pub fn made_ready<'a>(
     ensures code { IfOk result (λ prepared. prepared.code ≡ translation.now) }
     ensures pages { IfOk result (λ prepared. prepared.pages ≡ image.now.pages) }
 {
-    let Translation { words, map, points } = translation;
-    match prepare(alloc, words, map, points, &image.pages) {
+    match tie_switch::made_ready(alloc, image, translation) {
         Ok(prepared) => Ok(prepared),
-        Err(_) => bail!("want of memory"),
+        Err(WantOfMemory) => bail!("want of memory"),
     }
 }

@@ -6,13 +6,13 @@ ghost use Rattle.image_meaning.specs.Meant.{image_meaning};
 ghost use Rattle.world_rows.specs.Ready.{CanRun, IsReady};
 
 use crate::driven::check_driven;
-use crate::images::{bytes_or_none, image_of, pairs_of, plain_image};
+use crate::images::{image_of, plain_image};
 use crate::left::{Told, count_text, ends_text, left_text, states_text};
 use crate::programs::{Limits, Program, made_ready, translated};
 use crate::worlds::{pick_to_its_end, world_of};
 use anyhow::{Result, bail};
 use image_file::Image;
-use row_tally::{Given, RowFault, five_fields, two_fields};
+use row_tally::{Given, RowFault, bytes_or_none, five_fields, pairs, two_fields};
 use std::alloc::{AllocError, Global};
 use system_model::{Range, Translation};
 use vest_core::{Processor, World};
@@ -271,7 +271,7 @@ struct Row<'a> {
 fn case_of(alloc: Global, image: &Image, row: Row<'_>) -> Result<Case, RowFault> {
     let threads = u8::try_from(image.threads.len()).unwrap_or(u8::MAX);
     let input = bytes_or_none(alloc, row.input)?;
-    let shown = pairs_of(alloc, row.shown)?;
+    let shown = pairs(alloc, row.shown)?;
     Ok(Case {
         threads,
         input,

@@ -6,14 +6,14 @@ ghost use Rattle.image_meaning.specs.Meant.{image_meaning};
 ghost use Rattle.world_rows.specs.Ready.{CanRun, IsReady};
 
 use crate::driven::check_driven;
-use crate::images::{bytes_or_none, image_of, pairs_of};
+use crate::images::image_of;
 use crate::left::{Told, left_text};
 use crate::nothing::nothing_translated;
 use crate::programs::{Limits, Program, made_ready, translated};
 use crate::worlds::{advance_often, pick_often, world_of};
 use anyhow::{Context, Result, anyhow, bail};
 use image_file::Image;
-use row_tally::{Given, RowFault, five_fields, longword, number, pieces};
+use row_tally::{Given, RowFault, bytes_or_none, five_fields, longword, number, pairs, pieces};
 use std::alloc::Global;
 use system_model::{Range, Translation};
 use vest_core::World;
@@ -77,8 +77,8 @@ fn case_of(alloc: Global, fields: &str) -> Result<Case, RowFault> {
     let (input, budget, entries, picks, shown) = five_fields(fields)?;
     let limits = limits_of(budget, entries)?;
     let input = bytes_or_none(alloc, input)?;
-    let picks = pairs_of(alloc, picks)?;
-    let shown = pairs_of(alloc, shown)?;
+    let picks = pairs(alloc, picks)?;
+    let shown = pairs(alloc, shown)?;
     Ok(Case {
         input,
         limits,
