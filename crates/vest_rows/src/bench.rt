@@ -72,6 +72,20 @@ impl Bench {
         }
     }
 
+    // One call, and whether it leaves what is wanted.
+    fn calls_once<R: Threads + Wait + Sync + Print>(
+        &mut self,
+        rt: &R,
+        alloc: Global,
+        line: &str,
+        wanted: &str,
+    ) -> Result<bool> {
+        let left = call(rt, alloc, &self.lent, &mut self.files, line)?;
+        let agrees = left.is_or_prints(rt, alloc, wanted)?;
+        self.left = Some(left);
+        Ok(agrees)
+    }
+
     // LINE: STATUS OUT REPORT, so many times.
     fn calls<R: Threads + Wait + Sync + Print>(
         &mut self,
@@ -82,12 +96,9 @@ impl Bench {
     ) -> Result<bool> {
         let (line, wanted) = parted(rest, ": ")?;
         for _ in 0..times {
-            let left = call(rt, alloc, &self.lent, &mut self.files, line)?;
-            if !left.is(alloc, wanted)? {
-                left.print(rt, alloc)?;
+            if !self.calls_once(rt, alloc, line, wanted)? {
                 return Ok(false);
             }
-            self.left = Some(left);
         }
         self.lent = Lent::sound(alloc);
         Ok(true)

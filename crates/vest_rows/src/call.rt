@@ -24,15 +24,11 @@ struct Objects {
 }
 
 fn objects_of(alloc: Global, lent: &Lent) -> Result<Objects, AllocError> {
-    let input = lent.source(alloc)?;
-    let out = lent.sink(alloc, Object::Out)?;
-    let report = lent.sink(alloc, Object::Report)?;
-    let gate = lent.gate(alloc)?;
     Ok(Objects {
-        input,
-        out,
-        report,
-        gate,
+        input: lent.source(alloc)?,
+        out: lent.sink(alloc, Object::Out)?,
+        report: lent.sink(alloc, Object::Report)?,
+        gate: lent.gate(alloc)?,
     })
 }
 
@@ -124,6 +120,19 @@ fn call_over<R: Threads + Wait + Sync>(
     left_of(alloc, &mut objects, run)
 }
 
+fn call_with<R: Threads + Wait + Sync>(
+    rt: &R,
+    alloc: Global,
+    lent: &Lent,
+    files: &mut Files,
+    words: &[String],
+) -> Result<Left> {
+    let mut desk = files.desk(alloc, lent.fails_of(alloc, Object::Desk)?)?;
+    let left = call_over(rt, alloc, lent, words, &mut desk)?;
+    files.take_all(alloc, &mut desk, words)?;
+    Ok(left)
+}
+
 /// Calls `vest` with the words of a line. The files are then those of the desk.
 pub fn call<R: Threads + Wait + Sync>(
     rt: &R,
@@ -132,10 +141,5 @@ pub fn call<R: Threads + Wait + Sync>(
     files: &mut Files,
     line: &str,
 ) -> Result<Left> {
-    let words = words_of(alloc, line)?;
-    let mut desk = files.desk(alloc, lent.fails_of(alloc, Object::Desk)?)?;
-    let left = call_over(rt, alloc, lent, &words, &mut desk)?;
-    files.take_known(alloc, &mut desk)?;
-    files.take(alloc, &mut desk, &words)?;
-    Ok(left)
+    call_with(rt, alloc, lent, files, &words_of(alloc, line)?)
 }

@@ -1,10 +1,9 @@
 // Translated files that `translate` wrote, cut and changed.
 use crate::call::call;
 use crate::files::Files;
-use crate::left::Left;
 use crate::lent::Lent;
 use anyhow::{Context, Result};
-use std::alloc::Global;
+use std::alloc::{AllocError, Global};
 use std::sync::Wait;
 use std::thread::Threads;
 
@@ -23,11 +22,17 @@ const WORD: usize = 4;
 /// The name of the file that is run.
 const NAME: &str = "cut";
 
-/// What `run` leaves of the bytes.
-fn run<R: Threads + Wait + Sync>(rt: &R, alloc: Global, bytes: Vec<u8>) -> Result<Left> {
+/// Whether `run` refuses the bytes with that line.
+fn refuses<R: Threads + Wait + Sync>(
+    rt: &R,
+    alloc: Global,
+    bytes: Vec<u8>,
+    line: &str,
+) -> Result<bool> {
     let mut files = Files::none(alloc);
     files.put(alloc, NAME, bytes)?;
-    call(rt, alloc, &Lent::sound(alloc), &mut files, "run cut")
+    let left = call(rt, alloc, &Lent::sound(alloc), &mut files, "run cut")?;
+    Ok(left.is_refused(line))
 }
 
 /// Whether the first `length` bytes are refused as too short.
@@ -38,9 +43,8 @@ fn refuses_prefix<R: Threads + Wait + Sync>(
     length: usize,
 ) -> Result<bool> {
     let prefix = whole.get(..length).context("a beginning")?;
-    let left = run(rt, alloc, prefix.to_vec(alloc)?)?;
     let line = format!(in alloc; "refused translated 1 {length}\n")?;
-    Ok(left.is_refused(line.as_str()))
+    refuses(rt, alloc, prefix.to_vec(alloc)?, line.as_str())
 }
 
 /// Whether each beginning, from four bytes on, is refused as too short, with its length.
@@ -65,9 +69,8 @@ pub fn refuses_longer<R: Threads + Wait + Sync>(
 ) -> Result<bool> {
     let mut longer = whole.to_vec(alloc)?;
     longer.push(0)?;
-    let left = run(rt, alloc, longer)?;
     let line = format!(in alloc; "refused translated 6 {}\n", whole.len())?;
-    Ok(left.is_refused(line.as_str()))
+    refuses(rt, alloc, longer, line.as_str())
 }
 
 /// The word at a place.
@@ -85,6 +88,11 @@ fn changed_at(alloc: Global, whole: &[u8], at: usize) -> Result<Vec<u8>> {
     Ok(changed)
 }
 
+/// The line for another word than the one that is wanted.
+fn line_of(alloc: Global, place: usize, found: u32, wanted: u32) -> Result<String, AllocError> {
+    format!(in alloc; "refused translated 5 {place} {found} {wanted}\n")
+}
+
 /// Whether the file with another word there, which is that word of its tail, is refused.
 fn refuses_change<R: Threads + Wait + Sync>(
     rt: &R,
@@ -93,12 +101,9 @@ fn refuses_change<R: Threads + Wait + Sync>(
     at: usize,
     place: usize,
 ) -> Result<bool> {
-    let wanted = word_at(whole, at)?;
     let changed = changed_at(alloc, whole, at)?;
-    let found = word_at(&changed, at)?;
-    let left = run(rt, alloc, changed)?;
-    let line = format!(in alloc; "refused translated 5 {place} {found} {wanted}\n")?;
-    Ok(left.is_refused(line.as_str()))
+    let line = line_of(alloc, place, word_at(&changed, at)?, word_at(whole, at)?)?;
+    refuses(rt, alloc, changed, line.as_str())
 }
 
 /// Where the tail of a file without hints begins.

@@ -78,16 +78,25 @@ impl Files {
         Ok(MemoryDesk::new(self.copy(alloc)?.files, fails))
     }
 
-    /// Takes what a desk has under the names of these files.
-    pub fn take_known(&mut self, alloc: Global, desk: &mut MemoryDesk) -> Result<()> {
+    /// Takes what a desk has under the names of these files, and then under those names.
+    pub fn take_all(
+        &mut self,
+        alloc: Global,
+        desk: &mut MemoryDesk,
+        names: &[String],
+    ) -> Result<()> {
+        self.take_known(alloc, desk)?;
+        self.take(alloc, desk, names)
+    }
+
+    fn take_known(&mut self, alloc: Global, desk: &mut MemoryDesk) -> Result<()> {
         for file in &mut self.files {
             file.1 = read_back(alloc, desk, file.0.as_str())?.context("a file is gone")?;
         }
         Ok(())
     }
 
-    /// Takes what a desk has under those names.
-    pub fn take(&mut self, alloc: Global, desk: &mut MemoryDesk, names: &[String]) -> Result<()> {
+    fn take(&mut self, alloc: Global, desk: &mut MemoryDesk, names: &[String]) -> Result<()> {
         for name in names {
             if let Some(bytes) = read_back(alloc, desk, name.as_str())? {
                 self.put(alloc, name.as_str(), bytes)?;

@@ -79,7 +79,7 @@ impl Left {
     }
 
     /// STATUS OUT REPORT: whether the call left that, and each hold ended because its access came.
-    pub fn is(&self, alloc: Global, wanted: &str) -> Result<bool> {
+    fn is(&self, alloc: Global, wanted: &str) -> Result<bool> {
         let (status, rest) = first_word(wanted);
         let (out, report) = first_word(rest);
         if !self.released || self.run.status != number(status)? {
@@ -88,7 +88,16 @@ impl Left {
         Ok(self.has_out(alloc, out)? && self.has_report(alloc, report)?)
     }
 
-    pub fn print(&self, rt: &impl Print, alloc: Global) -> Result<()> {
+    /// The same, where what the call left otherwise is printed.
+    pub fn is_or_prints(&self, rt: &impl Print, alloc: Global, wanted: &str) -> Result<bool> {
+        let agrees = self.is(alloc, wanted)?;
+        if !agrees {
+            self.print(rt, alloc)?;
+        }
+        Ok(agrees)
+    }
+
+    fn print(&self, rt: &impl Print, alloc: Global) -> Result<()> {
         let out = digits_of(alloc, &self.out)?;
         let report = String::from_utf8_lossy(alloc, &self.report)?;
         println!(rt; "left {} {out} {report}", self.run.status)?;

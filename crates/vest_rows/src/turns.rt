@@ -59,6 +59,15 @@ impl Turns<'_> {
         call(rt, alloc, &self.lent(alloc)?, &mut files, self.line)
     }
 
+    fn failing_lent(&self, alloc: Global, number: u64) -> Result<Lent> {
+        let mut lent = self.lent(alloc)?;
+        lent.fail(Fault {
+            object: self.object,
+            call: number,
+        })?;
+        Ok(lent)
+    }
+
     // What it leaves where that call fails, and the files.
     fn failing<R: Threads + Wait + Sync>(
         &self,
@@ -66,11 +75,7 @@ impl Turns<'_> {
         alloc: Global,
         number: u64,
     ) -> Result<(Left, Files)> {
-        let mut lent = self.lent(alloc)?;
-        lent.fail(Fault {
-            object: self.object,
-            call: number,
-        })?;
+        let lent = self.failing_lent(alloc, number)?;
         let mut files = self.files.copy(alloc)?;
         let left = call(rt, alloc, &lent, &mut files, self.line)?;
         Ok((left, files))
