@@ -1,10 +1,10 @@
 // Blocks beside those that were worked out by hand.
 use crate::blocks::{BlockCode, Site, encoded_block};
-use crate::forms::{opcode, program, split};
+use crate::forms::{opcode, program};
 use crate::sets::lettered;
 use anyhow::{Context, Result};
 use exception_records::{Point, Rules};
-use row_tally::Tally;
+use row_tally::{Tally, five_fields_and_rest};
 use std::alloc::{AllocError, Global};
 
 fn push_comma(text: &mut String) -> Result<(), AllocError> {
@@ -71,7 +71,7 @@ fn block_of(alloc: Global, name: &str, live: &str, text: &str) -> Result<BlockCo
 
 /// Checks the words, the exits and the points of a row.
 pub fn check_row(rt: &(impl Print + AllocGlobal), tally: &mut Tally, row: &str) -> Result<()> {
-    let ([name, live, words, exits, points], text) = split(row).context("a program")?;
+    let ([name, live, words, exits, points], text) = five_fields_and_rest(row)?;
     let made = block_of(rt.alloc(), name, live, text).context(row)?;
     check_block(rt, tally, row, &made, [words, exits, points])
 }

@@ -2,14 +2,13 @@
 ghost use Rattle.std.specs.Prelude.{◌≡◌};
 
 use crate::bench::behind;
-use crate::forms::split;
 use crate::machine::encoded;
 use crate::sets::{SETS, set};
 use anyhow::{Context, Result, bail, ensure};
 use cc_liveness::code_use;
 use exception_records::{CodeRule, Rules, codes_shown};
 use flag_codegen::code_words;
-use row_tally::{Tally, longword, number, rows};
+use row_tally::{Tally, five_fields_and_rest, longword, number, rows};
 use std::alloc::{AllocError, Global};
 use vax_form::{Flags, Instr, Operand, Size, operation_of};
 
@@ -96,7 +95,7 @@ impl Case {
     fn read(row: &str) -> Result<Case> {
         let (opcode, rest) = row.split_once(' ').context("an opcode")?;
         let (_, rest) = rest.split_once(' ').context("a name")?;
-        let (temporaries, codes) = split(rest).context("codes")?;
+        let (temporaries, codes) = five_fields_and_rest(rest)?;
         Ok(Case {
             opcode: u8::try_from(longword(opcode)?)?,
             registers: registers_of(temporaries)?,

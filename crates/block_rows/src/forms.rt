@@ -5,21 +5,9 @@ use crate::operations::operation;
 use crate::sets::{SETS, set};
 use anyhow::{Context, Result};
 use micro_ops::{CodeSource, CodeSources, Micro, fits, program_words, sources_of};
-use row_tally::{Tally, longword};
+use row_tally::{Tally, five_fields_and_rest, longword};
 use std::alloc::Global;
 use vax_form::{Flags, operation_of};
-
-/// The five fields before the program of a row, and the program.
-pub fn split(row: &str) -> Option<([&str; 5], &str)> {
-    let mut fields = [""; 5];
-    let mut rest = row;
-    for place in 0..5 {
-        let (field, behind) = rest.split_once(' ')?;
-        fields[place] = field;
-        rest = behind;
-    }
-    Some((fields, rest))
-}
 
 /// A program, where its codes come from, and the opcode of the instruction whose it is.
 #[derive(Drop)]
@@ -85,7 +73,7 @@ fn length_of(text: &str) -> Result<Option<u32>> {
 impl Form {
     /// Reads the form of a row: OPCODE NZV C WORDS LENGTH PROGRAM.
     pub fn read(alloc: Global, row: &str) -> Result<Form> {
-        let ([name, nzv, c, _, _], text) = split(row).context("a program")?;
+        let ([name, nzv, c, _, _], text) = five_fields_and_rest(row)?;
         Ok(Form {
             opcode: opcode(name)?,
             sources: sources(nzv, c).context("where codes come from")?,
@@ -95,7 +83,7 @@ impl Form {
 
     /// The counts of a row; `-` stands for any number of words.
     fn wanted(&self, row: &str) -> Result<Counts> {
-        let ([_, _, _, words, length], _) = split(row).context("a program")?;
+        let ([_, _, _, words, length], _) = five_fields_and_rest(row)?;
         let length = length_of(length)?;
         if words == "-" {
             return Ok((self.words(), length));

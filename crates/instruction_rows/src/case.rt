@@ -1,7 +1,7 @@
 // A case: an instruction with what stands before it and behind it.
 use crate::memory::Memory;
 use anyhow::{Context, Result, ensure};
-use row_tally::{five_fields, longword, pieces};
+use row_tally::{five_fields, five_fields_and_rest, longword, pieces};
 use std::alloc::Global;
 use vax_form::{Exception, Pending, VaxState};
 
@@ -114,22 +114,10 @@ fn memories_of(alloc: Global, areas: &str, stored: &str) -> Result<(Memory, Memo
     Ok((memory, behind))
 }
 
-/// The first five fields of a row, and what is behind them.
-fn split(row: &str) -> Option<([&str; 5], &str)> {
-    let mut fields = [""; 5];
-    let mut rest = row;
-    for place in 0..5 {
-        let (field, behind) = rest.split_once(' ')?;
-        fields[place] = field;
-        rest = behind;
-    }
-    Some((fields, rest))
-}
-
 impl<'a> Case<'a> {
     /// Reads a row.
     pub fn read(alloc: Global, row: &'a str) -> Result<Case<'a>> {
-        let ([name, pc, psw, registers, ending], rest) = split(row).context("a case")?;
+        let ([name, pc, psw, registers, ending], rest) = five_fields_and_rest(row)?;
         let (pc_behind, psw_behind, changes, stored, areas) = five_fields(rest)?;
         let behind = (pc_behind, psw_behind, changes);
         let (before, behind) = states_of(alloc, (pc, psw, registers), behind)?;

@@ -11,7 +11,7 @@ mod tables;
 ghost use Rattle.std.specs.Prelude.{◌≡◌, ◌+◌, ◌↔◌, min, if◌then◌else◌, IsOk};
 
 use anyhow::{Result, ensure};
-pub use columns::{five_fields, four_fields, three_fields, two_fields};
+pub use columns::{five_fields, five_fields_and_rest, four_fields, three_fields, two_fields};
 pub use families::Families;
 pub use fault::RowFault;
 pub use lists::{bytes_or_none, longwords, pair, pairs};

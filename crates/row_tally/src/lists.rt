@@ -1,5 +1,6 @@
 // Fields that are lists: of numbers, of pairs of numbers, and of bytes.
-ghost use Rattle.std.specs.Prelude.{◌≡◌, [], Ok, map, length, IfOk, true, false};
+ghost use Rattle.std.specs.Prelude.{◌≡◌, [], Ok, map, IfOk, true, false};
+ghost use Rattle.std.specs.List.{AllZip};
 ghost use Rattle.hex.specs.Hex.{decode_of};
 ghost use Rattle.row_tally.specs.Rows.{IsPair, is_none, number_of, pieces_of};
 
@@ -31,7 +32,7 @@ pub fn pair(piece: &str) -> Result<(u32, u32), RowFault>
 
 /// The pairs FIRST=SECOND of a field, which have one comma between; `-` alone is none.
 pub fn pairs(alloc: Global, field: &str) -> Result<Vec<(u32, u32)>, RowFault>
-    ensures { IfOk result (λ v. length v.items ≡ length (pieces_of field.now)) }
+    ensures { IfOk result (λ v. AllZip IsPair (pieces_of field.now) v.items) }
 {
     let pieces = pieces(alloc, field)?;
     let mut pairs = Vec::new(alloc);
