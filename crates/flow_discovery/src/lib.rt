@@ -16,7 +16,7 @@ use std::alloc::{AllocError, Global};
 use vax_form::{Class, Instr};
 
 /// More instructions are not translated.
-pub const MOST_INSTRUCTIONS: u64 = 32_768;
+const MOST_INSTRUCTIONS: u64 = 32_768;
 
 /// Why the flow of an image is refused.
 #[derive(Clone, Copy, Debug, PartialEq, Eq)]

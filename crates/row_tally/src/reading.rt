@@ -12,7 +12,7 @@ use std::alloc::{AllocError, Global};
 const RADIX: u32 = 16;
 
 /// Whether a line of a table is a row: it is not empty, and no comment, which begins with `#`.
-pub fn is_row(line: &str) -> bool
+pub(crate) fn is_row(line: &str) -> bool
     ensures { result ≡ is_row line.now }
 {
     match line.as_bytes() {

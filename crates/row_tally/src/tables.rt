@@ -1,5 +1,6 @@
 // Ways through the rows of a file: each row is checked by itself, or asks a question whose answer is text.
-use crate::{Families, Tally, is_row};
+use crate::reading::is_row;
+use crate::{Families, Tally};
 use anyhow::{Context, Result};
 use std::alloc::Global;
 use std::fmt::Debug;
