@@ -2,16 +2,12 @@
 use Rattle.std.proofs.Common.{◌≡◌, ℕ, zero, suc, ◌+◌, ◌-◌, ◌*◌, ◌/◌, ◌<◌, Bool, true, false, List, [], ◌∷◌, Option, Some, None, length, get_or, map, refl, ap, ◌∙◌, arith, eqb}
 use Rattle.std.specs.Prelude.{slice_get, slice_index}
 use Rattle.std.proofs.lemmas.List.{get_or-map, length-map}
+use Rattle.std.proofs.lemmas.Option.{slice_get-get_or}
 use Rattle.address_map.specs.Pairs.{Pair, AllRise, KeysRise, swap, word_at, address_at}
 use Rattle.address_map.specs.Tables.{has_page, count_below, table_number, upper_word, lower_place, first_page, end_page, page_span, TablesValue, IsInside, AreTablesOf}
 use Rattle.address_map.proofs.Holding.{within}
 use Rattle.address_map.proofs.Lookups.{addresses_rise}
 use Rattle.address_map.proofs.Entering.{span_is}
-
-got : {A : Type 0} (xs : List A) (k : ℕ) (d : A) → k < length xs → slice_get xs k ≡ Some (get_or xs k d)
-got [] k d h = absurd (omega arith)
-got (y ∷ ys) zero d h = refl
-got (y ∷ ys) (suc k) d h = got ys k d (omega arith)
 
 module _ (t : TablesValue) (pairs : List Pair) (are : AreTablesOf t pairs) where
   pub upper_shown : (page : ℕ) → page < page_span pairs → slice_index t.upper page ≡ upper_word pairs (first_page pairs + page)
@@ -32,7 +28,7 @@ module _ (t : TablesValue) (pairs : List Pair) (are : AreTablesOf t pairs) where
 
   pub places_shown : (address : ℕ) → has_page pairs (address / 512) ≡ true → slice_get t.lower (lower_place pairs address) ≡ Some (word_at pairs address)
   places_shown address had =
-      got t.lower (lower_place pairs address) None (within t (has_page pairs) (word_at pairs) are.tables address had) ∙ ap (λ (o : Option ℕ). Some o) (are.tables.lower address had)
+      slice_get-get_or t.lower (lower_place pairs address) None (within t (has_page pairs) (word_at pairs) are.tables address had) ∙ ap (λ (o : Option ℕ). Some o) (are.tables.lower address had)
 
 -- ---- the pairs with the word in front
 

@@ -1,3 +1,4 @@
 pub mod Rows
 pub mod Reread
 pub mod Spelled
+pub mod SignedHalves

@@ -2,3 +2,4 @@ pub mod Table
 pub mod Rows
 pub mod Words
 pub mod Halves
+pub mod NoOperation

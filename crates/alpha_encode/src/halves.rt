@@ -1,6 +1,6 @@
 // A longword in a register, by its halves.
 ghost use Rattle.std.specs.Prelude.{◌≡◌};
-ghost use Rattle.alpha_encode.specs.Halves.{high_half, low_half, load_high, load_low};
+ghost use Rattle.alpha_encode.specs.Halves.{high_half, low_half, load_high, load_longword, load_low};
 
 use crate::instr::{AlphaInstr, MemoryOp};
 use crate::registers::ZERO;
@@ -39,4 +39,11 @@ pub fn load_low(register: u8, value: u32) -> AlphaInstr
         rb: register,
         disp: low_half(value),
     }
+}
+
+/// Both: the register has the longword, with its sign or, from 7FFF8000 to 7FFFFFFF, with another above it.
+pub fn load_longword(register: u8, value: u32) -> [AlphaInstr; 2]
+    ensures { result ≡ load_longword register value }
+{
+    [load_high(register, value), load_low(register, value)]
 }

@@ -14,7 +14,7 @@ mod tables;
 
 pub use crate::decoder::decode;
 pub use crate::encoder::encode;
-pub use crate::halves::{load_high, load_low};
+pub use crate::halves::{load_high, load_longword, load_low};
 pub use crate::instr::{AlphaInstr, BranchOp, MemoryOp, OperateOp, Second};
-pub use crate::makers::{branch, memory, operate, operate_by};
+pub use crate::makers::{NOP, branch, memory, operate, operate_by};
 pub use crate::tables::{BRANCH_ROWS, MEMORY_ROWS, OPERATE_ROWS, tables_are_the_manuals};

@@ -2,6 +2,15 @@
 ghost use Rattle.std.specs.Prelude.{◌≡◌};
 
 use crate::instr::{AlphaInstr, BranchOp, MemoryOp, OperateOp, Second};
+use crate::registers::ZERO;
+
+/// NOP: BIS R31,R31,R31.
+pub const NOP: AlphaInstr = AlphaInstr::Operate {
+    op: OperateOp::Bis,
+    ra: ZERO,
+    rb: Second::Register(ZERO),
+    rc: ZERO,
+};
 
 /// A load, a store or a load of an address.
 pub fn memory(op: MemoryOp, ra: u8, rb: u8, disp: i16) -> AlphaInstr

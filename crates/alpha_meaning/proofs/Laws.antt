@@ -2,6 +2,8 @@
 use Rattle.std.proofs.Common.{◌≡◌, ℕ, zero, suc, ◌+◌, ◌-◌, ◌^◌, ◌<◌, ◌≤◌, refl, sym, ◌∙◌, subst, arith, Option, Some, None, Bool, true, false}
 use Rattle.std.specs.Prelude.{◌==◌}
 use Rattle.std.proofs.lemmas.Bool.Decides.{nat_tests}
+use Rattle.std.proofs.lemmas.Bool.{eq-eqb, eqb-true}
+use Rattle.vt_words.proofs.Tests.{less_differs}
 use Rattle.alpha_encode.specs.declared.instr.AlphaInstr.{AlphaInstr}
 use Rattle.alpha_encode.specs.declared.instr.AlphaInstr.TheVariants.{Memory, Branch, Operate, Jump, Pal}
 use Rattle.alpha_meaning.specs.declared.access.AlphaKind.{AlphaKind}
@@ -100,15 +102,6 @@ module _ {T : Type 0} (allowed : Allowed) (bonus : ℕ) (phase : Phase) (spare :
   steps_refine w (Some i) h = acts_refine w (act i c) i refl h
 
 -- ---- the form of one step
-eq_no : (a b : ℕ) → a < b → (a == b) ≡ false
-eq_no a b h = grind (arith, nat_tests)
-
-eq_yes : (a b : ℕ) → a ≡ b → (a == b) ≡ true
-eq_yes a b h = grind (arith, nat_tests)
-
-pub eq_is : (a b : ℕ) → (a == b) ≡ true → a ≡ b
-eq_is a b h = grind (arith, nat_tests, h)
-
 -- the clause of one step, with what follows left open
 abbrev pub Inside : {A : Type 0} → Piece → (Phase → ℕ → Alpha → Plan A → Type 0) → Phase → ℕ → Alpha → Plan A → Type 0
 Inside p Next phase spare c t =
@@ -121,12 +114,12 @@ no_steps p Ends phase spare c t = tt
 
 pub begin : {A : Type 0} (p : Piece) (Ends : A → Regs → Type 0) (n : ℕ) (phase : Phase) (spare : ℕ) (c : Alpha) (t : Plan A) → Inside p (Runs p Ends n) phase spare c t → Runs p Ends (suc n) phase spare c t
 unfolding Runs
-begin p Ends n phase spare c t h = subst (λ b. Choose b (Ended Ends phase t c.regs) (Inside p (Runs p Ends n) phase spare c t)) (sym (eq_no c.pc p.to h.1)) h
+begin p Ends n phase spare c t h = subst (λ b. Choose b (Ended Ends phase t c.regs) (Inside p (Runs p Ends n) phase spare c t)) (sym (less_differs c.pc p.to h.1)) h
 
 pub ends : {A : Type 0} (p : Piece) (Ends : A → Regs → Type 0) (n spare : ℕ) (c : Alpha) (a : A) → c.pc ≡ p.to → Ends a c.regs → Runs p Ends n Plain spare c (Over a)
 unfolding Runs
 ends p Ends zero spare c a at h = tt
-ends p Ends (suc n) spare c a at h = subst (λ b. Choose b (Ends a c.regs) (Inside p (Runs p Ends n) Plain spare c (Over a))) (sym (eq_yes c.pc p.to at)) h
+ends p Ends (suc n) spare c a at h = subst (λ b. Choose b (Ends a c.regs) (Inside p (Runs p Ends n) Plain spare c (Over a))) (sym (eq-eqb c.pc p.to at)) h
 
 -- what holds for one step more: the piece is at its end, or makes a step
 pub data Runs_by {A : Type 0} (p : Piece) (Ends : A → Regs → Type 0) (n : ℕ) (phase : Phase) (spare : ℕ) (c : Alpha) (t : Plan A) : Type 0 where
@@ -138,7 +131,7 @@ unfolding Runs
 runs_by p Ends n phase spare c t h = split (c.pc == p.to) refl h
   where
     split : (b : Bool) → (c.pc == p.to) ≡ b → Choose b (Ended Ends phase t c.regs) (Inside p (Runs p Ends n) phase spare c t) → Runs_by p Ends n phase spare c t
-    split true e h = at_end (eq_is c.pc p.to e) h
+    split true e h = at_end (eqb-true c.pc p.to e) h
     split false e h = inside h
 
 -- ---- from a piece to anything that is made of the same steps

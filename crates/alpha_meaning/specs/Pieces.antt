@@ -11,6 +11,10 @@ use Rattle.alpha_meaning.specs.State.{Alpha, Regs}
 use Rattle.alpha_meaning.specs.Memory.{stores}
 use Rattle.alpha_meaning.specs.Act.{Does, Goes, Asks, Calls, act, finished}
 
+-- the most words of code: those of 32,768 blocks of 256 words
+abbrev pub most_words : ℕ
+most_words = 2 ^ 23
+
 -- ---- one access
 -- the address of the quadword that it stands in
 abbrev pub quad_of : AlphaAccess → ℕ

@@ -1,7 +1,7 @@
 -- What the registers show where others of them change, and where one is written.
 use Rattle.std.proofs.Common.{◌≡◌, ℕ, zero, suc, ◌%◌, ◌^◌, ◌<◌, refl, ◌∙◌, arith, List, [], ◌∷◌, Option, Some, None, Bool, true, false}
 use Rattle.std.specs.Prelude.{ℤ, ◌==◌, ◌||◌, if◌then◌else◌, slice_set}
-use Rattle.std.proofs.lemmas.Bool.{and_parts}
+use Rattle.std.proofs.lemmas.Bool.{and_parts, or_parts}
 use Rattle.std.proofs.lemmas.Bool.Decides.{nat_tests}
 use Rattle.vax_form.specs.declared.state.Flags.{Flags}
 use Rattle.std.specs.List.{list_all}
@@ -20,7 +20,8 @@ use Rattle.block_law.specs.Placements.{Placement, InForm, state_shown}
 use Rattle.block_law.specs.Tidy.{is_kept, memory_writes, register_written, writes_register}
 use Rattle.block_law.specs.Laws.{StaysBy, UnwrittenStay, SameStatus}
 
-kept_below : (n : ℕ) → n < 21 → is_kept n ≡ true
+-- what a boundary shows stands in the registers below R21
+pub kept_below : (n : ℕ) → n < 21 → is_kept n ≡ true
 kept_below n lt = grind (arith, nat_tests)
 
 -- ---- other registers change
@@ -114,13 +115,9 @@ pub effects_stay : (is : List AlphaInstr) (f : Regs) (n : ℕ) → list_all is_o
 effects_stay [] f n ok e = refl
 effects_stay (i ∷ is) f n ok e =
     let parts = and_parts (is_operate i) (list_all is_operate is) ok in
-    let rest = neither (register_written i == n) (writes_register n is) e in
+    let rest = or_parts (register_written i == n) (writes_register n is) e in
     effects_stay is (effect i f) n parts.1 rest.1 ∙ effect_stays i parts.0 rest.0
   where
-    neither : (a b : Bool) → (a || b) ≡ false → (a ≡ false) × (b ≡ false)
-    neither false b e = (refl, e)
-    neither true b e = absurd (cc e)
-
     effect_stays : (i : AlphaInstr) → is_operate i ≡ true → (register_written i == n) ≡ false → effect i f n ≡ f n
     effect_stays (Operate op ra rb rc) h e = put_stays f rc _ n e
     effect_stays (Memory op ra rb disp) h e = absurd (cc h)

@@ -7,10 +7,9 @@ use Rattle.std.specs.List.{list_any}
 use Rattle.vax_form.specs.State.{IsState}
 use Rattle.vax_form.specs.declared.state.Flags.{Flags}
 use Rattle.vax_form.specs.declared.state.VaxState.{VaxState}
+use Rattle.alpha_encode.specs.NoOperation.{nop}
 use Rattle.alpha_encode.specs.declared.instr.AlphaInstr.{AlphaInstr}
 use Rattle.alpha_encode.specs.declared.instr.AlphaInstr.TheVariants.{Memory, Branch, Operate, Jump, Pal}
-use Rattle.alpha_encode.specs.declared.instr.OperateOp.TheVariants.{Bis}
-use Rattle.alpha_encode.specs.declared.instr.Second.TheVariants.{Register}
 use Rattle.alpha_meaning.specs.State.{Regs, at_place}
 use Rattle.alpha_meaning.specs.Pieces.{Fetch, HasAt, Plain}
 use Rattle.exception_records.specs.Blocks.{BlockValue}
@@ -111,9 +110,6 @@ module _ (loops : Bool) (address : ℕ) (block : BlockValue) (words : List Alpha
       }
 
 -- ---- a block in its place
-idle : AlphaInstr
-idle = Operate Bis 31 (Register 31) 31
-
 module _ (meaning : Meaning) (code : Code) (address : ℕ) (block : BlockValue) (shape : IsBlockOf (has_loop meaning address) address block) (laid : IsLaid code address block) where
   pub first_point : point_at code.points laid.first ≡ Some shape.first
   first_point =
@@ -127,11 +123,11 @@ module _ (meaning : Meaning) (code : Code) (address : ℕ) (block : BlockValue) 
   its_point word point lt has =
       let stands = laid.stands in
       let own = shape.points word point (sym (stands.points word lt) ∙ has) in
-      let it = get_or stands.words word idle in
-      let here : slice_get stands.words word ≡ Some it = slice_get-get_or stands.words word idle lt in
+      let it = get_or stands.words word nop in
+      let here : slice_get stands.words word ≡ Some it = slice_get-get_or stands.words word nop lt in
       let there = has_each (fetch_of code.words) laid.first stands.words stands.stand word it here in
-      let before = get_or block.words word idle in
-      let was : slice_get block.words word ≡ Some before = slice_get-get_or block.words word idle own.within in
+      let before = get_or block.words word nop in
+      let was : slice_get block.words word ≡ Some before = slice_get-get_or block.words word nop own.within in
       let alike = like_alike (has_loop meaning address) address block stands.words shape stands.like word it before here was in
       (own.its, own.done ∙ ap done_at was ∙ sym alike.done ∙ ap done_at (sym there))
 

@@ -11,7 +11,7 @@ use Rattle.alpha_encode.specs.declared.instr.AlphaInstr.{AlphaInstr}
 use Rattle.alpha_encode.specs.declared.instr.AlphaInstr.TheVariants.{Memory, Branch, Operate, Jump, Pal}
 use Rattle.alpha_encode.specs.declared.pal.TheConstants.{TRAP}
 use Rattle.alpha_meaning.specs.State.{Regs, at_place}
-use Rattle.alpha_meaning.specs.Pieces.{Fetch, Kinds, Plain, HasAt}
+use Rattle.alpha_meaning.specs.Pieces.{Fetch, Kinds, Plain, HasAt, most_words}
 use Rattle.address_map.specs.Pairs.{Pair, AllRise, word_at, address_at}
 use Rattle.exception_records.specs.Points.{Entry, WordsRise, point_at}
 use Rattle.exception_records.specs.Shown.{Shows}
@@ -101,10 +101,6 @@ pub record IsBlock (meaning : Meaning) (code : Code) (address first : ℕ) : Typ
   pub follows : (thread n : ℕ) (state : VaxState) (held : Flags) (regs : Regs) → thread < 256 → IsState state → state.pc ≡ address
       → InForm regs → Shows regs address point.rules held state
       → Follows (placed meaning code thread state held first) n Plain block_steps new_round (at_place regs first) (meaning.tree thread state)
-
--- the most words of Alpha code: those of 32,768 blocks
-abbrev pub most_words : ℕ
-most_words = 8388608
 
 -- each mapped instruction has its block
 pub record Meets (meaning : Meaning) (code : Code) : Type 0 where

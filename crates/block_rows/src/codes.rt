@@ -4,6 +4,9 @@ ghost use Rattle.std.specs.Prelude.{◌≡◌};
 use crate::bench::behind;
 use crate::machine::encoded;
 use crate::sets::{SETS, set};
+use alpha_encode::registers::{
+    CARRY_FIRST, CARRY_SECOND, IS_ZERO, OVERFLOW, RULE_FIRST, RULE_SECOND, TEMPORARIES,
+};
 use anyhow::{Context, Result, bail, ensure};
 use cc_liveness::code_use;
 use exception_records::{CodeRule, Rules, codes_shown};
@@ -12,10 +15,7 @@ use row_tally::{Tally, five_fields_and_rest, longword, number, rows};
 use std::alloc::{AllocError, Global};
 use vax_form::{Flags, Instr, Operand, Size, operation_of};
 
-/// The register of the first temporary.
-const TEMPORARIES: usize = 21;
-
-/// The rules before the instruction, whose operands stand in R28 and R29, and in R15 and R30.
+/// The rules before the instruction, whose operands stand in the registers of the rules.
 const BEFORE: Rules = Rules {
     n: CodeRule::Compare { size: Size::Long },
     z: CodeRule::Compare { size: Size::Long },
@@ -45,14 +45,14 @@ struct Code {
 /// Before the instruction the rules tell N and C, and the registers of the codes have Z and V.
 fn registers_of(temporaries: [&str; 5]) -> Result<[u64; 32]> {
     let mut registers = [0; 32];
-    registers[17] = 1;
-    registers[18] = 1;
-    registers[28] = 5;
-    registers[29] = 9;
-    registers[15] = 0xffff;
-    registers[30] = 1;
+    registers[IS_ZERO as usize] = 1;
+    registers[OVERFLOW as usize] = 1;
+    registers[RULE_FIRST as usize] = 5;
+    registers[RULE_SECOND as usize] = 9;
+    registers[CARRY_FIRST as usize] = 0xffff;
+    registers[CARRY_SECOND as usize] = 1;
     for place in 0..5 {
-        registers[TEMPORARIES + place] = number(temporaries[place])?;
+        registers[TEMPORARIES as usize + place] = number(temporaries[place])?;
     }
     Ok(registers)
 }

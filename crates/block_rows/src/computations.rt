@@ -3,6 +3,7 @@ ghost use Rattle.compute_sequences.specs.Registers.{IsArgument, IsTarget};
 
 use crate::names::sized;
 use crate::registers::{computation, left};
+use alpha_encode::registers::{TEMPORARIES, ZERO};
 use anyhow::{Context, Result};
 use micro_ops::{Arg, Micro, MicroOp, compute, words_of};
 use row_tally::{Tally, five_fields, number};
@@ -10,11 +11,11 @@ use std::alloc::Global;
 use vax_form::Size;
 
 /// The registers of the temporaries 0 to 2.
-const FIRST: u8 = 21;
+const FIRST: u8 = TEMPORARIES;
 
-const SECOND: u8 = 22;
+const SECOND: u8 = TEMPORARIES + 1;
 
-const THIRD: u8 = 23;
+const THIRD: u8 = TEMPORARIES + 2;
 
 /// Each argument in a temporary or as a constant, and three registers of the result.
 const PLACES: u8 = 12;
@@ -72,7 +73,7 @@ impl Row {
         registers[FIRST as usize] = self.a;
         registers[SECOND as usize] = self.b;
         registers[THIRD as usize] = self.held;
-        registers[31] = 0;
+        registers[ZERO as usize] = 0;
         registers
     }
 

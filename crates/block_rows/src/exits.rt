@@ -1,34 +1,24 @@
 // A branch reaches 2 ^ 20 words back and one word less forth, from the next word; behind that a jump is taken.
-use alpha_encode::{AlphaInstr, BranchOp, MemoryOp, OperateOp, Second};
+use alpha_encode::registers::{ADDRESS, ZERO};
+use alpha_encode::{AlphaInstr, BranchOp, MemoryOp, NOP};
 use anyhow::Result;
 use branch_layout::code_to;
 use row_tally::{Tally, check_cases};
 
-/// BIS R31,R31,R31
-const IDLE: AlphaInstr = AlphaInstr::Operate {
-    op: OperateOp::Bis,
-    ra: 31,
-    rb: Second::Register(31),
-    rc: 31,
-};
-
-/// The register of a jump.
-const JUMP: u8 = 27;
-
 fn near(disp: i32) -> [AlphaInstr; 3] {
     let branch = AlphaInstr::Branch {
         op: BranchOp::Br,
-        ra: 31,
+        ra: ZERO,
         disp,
     };
-    [branch, IDLE, IDLE]
+    [branch, NOP, NOP]
 }
 
 /// A load of an address into the register of a jump.
 fn load(op: MemoryOp, rb: u8, disp: i16) -> AlphaInstr {
     AlphaInstr::Memory {
         op,
-        ra: JUMP,
+        ra: ADDRESS,
         rb,
         disp,
     }
@@ -36,9 +26,12 @@ fn load(op: MemoryOp, rb: u8, disp: i16) -> AlphaInstr {
 
 fn far(high: i16, low: i16) -> [AlphaInstr; 3] {
     [
-        load(MemoryOp::Ldah, 31, high),
-        load(MemoryOp::Lda, JUMP, low),
-        AlphaInstr::Jump { ra: 31, rb: JUMP },
+        load(MemoryOp::Ldah, ZERO, high),
+        load(MemoryOp::Lda, ADDRESS, low),
+        AlphaInstr::Jump {
+            ra: ZERO,
+            rb: ADDRESS,
+        },
     ]
 }
 

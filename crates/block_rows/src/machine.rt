@@ -17,13 +17,6 @@ use vax_form::{Flags, VaxState};
 const MOST_STEPS: u32 = 400;
 
 /// No code is held.
-const NONE_HELD: Flags = Flags {
-    n: false,
-    z: false,
-    v: false,
-    c: false,
-};
-
 const LONGWORD: u64 = 1 << 32;
 
 /// What registers hold that show nothing.
@@ -157,7 +150,7 @@ impl Machine<'_> {
             let signed = i64::from(((value % LONGWORD) as u32).cast_signed());
             ensure!(signed.cast_unsigned() == value, "R{number} is {value:X}");
         }
-        Ok(shown(&self.cpu.r, pc, &rules, &NONE_HELD, 0))
+        Ok(shown(&self.cpu.r, pc, &rules, &Flags::NONE, 0))
     }
 
     /// The block ends at an address, with the codes as they are behind the instruction.

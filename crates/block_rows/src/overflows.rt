@@ -1,21 +1,19 @@
 // V of sums and differences.
 ghost use Rattle.std.specs.Prelude.{◌<◌, ◌≢◌};
+ghost use Rattle.alpha_encode.specs.declared.registers.TheConstants.{ADDRESS};
 
 use crate::machine::encoded;
 use crate::names::width;
 use crate::registers::left;
+use alpha_encode::registers::{RULE_FIRST, RULE_SECOND, TEMPORARIES};
 use anyhow::{Result, bail};
 use compute_sequences::{Arithmetic, overflow_words};
 use row_tally::{Tally, five_fields, number};
 use std::alloc::{AllocError, Global};
 use vax_form::Width;
 
-/// The registers of a rule's operands, and of V.
-const FIRST: u8 = 28;
-
-const SECOND: u8 = 29;
-
-const OVERFLOW: u8 = 24;
+/// The register of V.
+const RESULT: u8 = TEMPORARIES + 3;
 
 /// What is done with operands of which size.
 #[derive(Clone, Copy)]
@@ -45,20 +43,20 @@ impl Case {
     /// What the words leave with the second operand in that register.
     fn found(self, alloc: Global, second: u8) -> Result<Option<u64>>
         requires few { second < 32 }
-        requires stays { second ≢ 27 }
+        requires stays { second ≢ ADDRESS }
     {
         let (arithmetic, width) = (self.arithmetic, self.width);
-        let words = overflow_words(alloc, arithmetic, width, FIRST, second, OVERFLOW);
+        let words = overflow_words(alloc, arithmetic, width, RULE_FIRST, second, RESULT);
         let code = encoded(alloc, &words.map_err(|_| AllocError)?)?;
         let mut registers = [0; 32];
-        registers[FIRST as usize] = self.operands.0;
+        registers[RULE_FIRST as usize] = self.operands.0;
         registers[second as usize] = self.operands.1;
-        Ok(left(&code, registers, OVERFLOW))
+        Ok(left(&code, registers, RESULT))
     }
 
     /// What they leave with the second operand in a register of its own, and in that of V.
     fn found_in_both(self, alloc: Global) -> Result<(Option<u64>, Option<u64>)> {
-        Ok((self.found(alloc, SECOND)?, self.found(alloc, OVERFLOW)?))
+        Ok((self.found(alloc, RULE_SECOND)?, self.found(alloc, RESULT)?))
     }
 }
 

@@ -4,13 +4,15 @@ ghost use Rattle.compute_sequences.specs.Registers.{IsArgument, IsTarget};
 
 use crate::names::sized;
 use crate::registers::{computation, left};
+use alpha_encode::registers::{NEGATIVE, OVERFLOW, STATUS, TEMPORARIES};
 use anyhow::{Context, Result, bail, ensure};
 use micro_ops::{Arg, MicroOp};
 use row_tally::{Tally, five_fields, number};
 use std::alloc::Global;
 use vax_form::Size;
 
-const TEMPORARIES: u8 = 6;
+/// How many temporaries there are.
+const COUNT: u8 = 6;
 
 const REGISTERS: u8 = 15;
 
@@ -24,11 +26,11 @@ fn registers() -> [u64; 32] {
         let longword = (u32::from(number) * 0x1111_1111).cast_signed();
         registers[number as usize] = i64::from(longword).cast_unsigned();
     }
-    registers[16] = 1;
-    registers[18] = 1;
-    registers[20] = 0xa0;
-    for temp in 0..TEMPORARIES {
-        registers[21 + temp as usize] = u64::from(temp) + 1;
+    registers[NEGATIVE as usize] = 1;
+    registers[OVERFLOW as usize] = 1;
+    registers[STATUS as usize] = 0xa0;
+    for temp in 0..COUNT {
+        registers[(TEMPORARIES + temp) as usize] = u64::from(temp) + 1;
     }
     registers
 }
@@ -43,7 +45,7 @@ fn argument(text: &str) -> Result<Arg>
     let value = number(digits)?;
     let small = (value % 256) as u8;
     match kind {
-        "t" if small < TEMPORARIES => Ok(Arg::Temp(small)),
+        "t" if small < COUNT => Ok(Arg::Temp(small)),
         "r" if small < REGISTERS => Ok(Arg::Register(small)),
         "f" if small < FLAGS => Ok(Arg::Flag(small)),
         "c" => Ok(Arg::Const(value)),
@@ -56,8 +58,8 @@ fn target(text: &str) -> Result<u8>
     ensures { IfOk result IsTarget }
 {
     let temp = number(text)?;
-    ensure!(temp < u64::from(TEMPORARIES), "a temporary");
-    Ok(21 + temp as u8)
+    ensure!(temp < u64::from(COUNT), "a temporary");
+    Ok(TEMPORARIES + temp as u8)
 }
 
 /// What a computation leaves in a register.

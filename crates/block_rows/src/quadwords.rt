@@ -1,15 +1,16 @@
 // Operands that lie in one quadword of memory, or in two.
 use crate::bench::{BASE, Machine};
+use alpha_encode::registers::TEMPORARIES;
 use anyhow::Result;
 
 /// The register of the operand's address.
-pub const PLACE: u8 = 21;
+pub const PLACE: u8 = TEMPORARIES;
 
 /// The register of what is written.
-pub const FROM: u8 = 22;
+pub const FROM: u8 = TEMPORARIES + 1;
 
 /// The register of what is read.
-pub const TO: u8 = 23;
+pub const TO: u8 = TEMPORARIES + 2;
 
 /// What both quadwords hold before.
 pub const BEFORE: u128 = 0xb7b6_b5b4_b3b2_b1b0_a7a6_a5a4_a3a2_a1a0;

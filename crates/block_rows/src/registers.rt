@@ -3,20 +3,18 @@ ghost use Rattle.compute_sequences.specs.Registers.{IsArgument, IsTarget};
 
 use crate::bench::behind;
 use crate::machine::encoded;
+use alpha_encode::registers::ADDRESS;
 use anyhow::Result;
 use compute_sequences::compute_words;
 use micro_ops::{Arg, MicroOp};
 use std::alloc::{AllocError, Global};
 use vax_form::Size;
 
-/// The register that computations may change beside that of the result.
-const SCRATCH: usize = 27;
-
-/// What a register holds behind code, where no other but R27 has changed.
+/// What a register holds behind code, where no other but `ADDRESS` has changed.
 pub fn left(code: &[u32], registers: [u64; 32], to: u8) -> Option<u64> {
     let ended = behind(code, registers)?;
     for at in 0..32 {
-        if at != to as usize && at != SCRATCH && ended[at] != registers[at] {
+        if at != to as usize && at != ADDRESS as usize && ended[at] != registers[at] {
             return None;
         }
     }

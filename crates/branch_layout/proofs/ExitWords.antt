@@ -4,13 +4,11 @@ use Rattle.std.specs.Prelude.{slice_get, pos, negsuc, ◌<ℤ◌, ◌≤ℤ◌, 
 use Rattle.std.specs.Int.{cast_signed, w16}
 use Rattle.std.proofs.lemmas.Int.{ints}
 use Rattle.std.proofs.lemmas.Bool.Decides.{nat_tests}
+use Rattle.alpha_encode.proofs.SignedHalves.{half_fits}
 use Rattle.alpha_encode.specs.Words.{IsEncodable}
 use Rattle.alpha_encode.specs.declared.instr.AlphaInstr.{AlphaInstr}
 use Rattle.block_law.specs.Blocks.{is_quiet, exit_words}
 use Rattle.branch_layout.specs.Exits.{displacement, is_near, code_to, exit_code}
-
-half_fits : (n : ℕ) → n < 2 ^ 16 → FitsSigned w16 (cast_signed w16 n)
-half_fits n lt = record { sfits = grind (arith, ints) }
 
 near_low : (word target : ℕ) → is_near word target ≡ true → negsuc (2 ^ 20 - 1) ≤ℤ displacement word target
 near_low word target near = grind (arith, ints, nat_tests)

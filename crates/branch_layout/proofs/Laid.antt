@@ -4,14 +4,14 @@ use Rattle.std.specs.Prelude.{slice_get, IfSome}
 use Rattle.std.proofs.lemmas.Option.{slice_get_within}
 use Rattle.vax_form.specs.declared.state.Flags.{Flags}
 use Rattle.vax_form.specs.declared.state.VaxState.{VaxState}
-use Rattle.alpha_meaning.specs.Pieces.{HasAt}
+use Rattle.alpha_meaning.specs.Pieces.{HasAt, most_words}
 use Rattle.address_map.specs.Pairs.{Pair, AllRise, word_at, address_at}
 use Rattle.exception_records.specs.Points.{Entry, point_at}
 use Rattle.exception_records.specs.declared.points.Point.{Point}
 use Rattle.exception_records.specs.declared.rules.Rules.{Rules}
 use Rattle.block_law.specs.Blocks.{Exit, IsExitOf, Stands, RulesAt}
 use Rattle.block_law.specs.Follows.{LeadsTo}
-use Rattle.block_law.specs.Translations.{Meaning, Code, fetch_of, end_of, placed, most_words}
+use Rattle.block_law.specs.Translations.{Meaning, Code, fetch_of, end_of, placed}
 use Rattle.block_law.proofs.Laid.{has_each}
 use Rattle.branch_layout.specs.Exits.{is_near, code_to, exit_code}
 use Rattle.branch_layout.specs.Layouts.{Placed, IsPlaced, AddressesRise, AreBlocks, IsLayout, places, words_of}

@@ -5,11 +5,10 @@ use Rattle.std.specs.Prelude.{ℕ, ◌+◌, ◌*◌, ◌^◌, ◌&&◌, nat_lt, 
 use Rattle.alpha_encode.specs.declared.pal.TheConstants.{SWITCH}
 use Rattle.alpha_encode.specs.declared.registers.TheConstants.{TARGET, ADDRESS, ZERO}
 use Rattle.alpha_encode.specs.Halves.{load_high, load_low}
+use Rattle.alpha_encode.specs.NoOperation.{nop}
 use Rattle.alpha_encode.specs.declared.instr.AlphaInstr.{AlphaInstr}
-use Rattle.alpha_encode.specs.declared.instr.AlphaInstr.TheVariants.{Branch, Operate, Jump, Pal}
+use Rattle.alpha_encode.specs.declared.instr.AlphaInstr.TheVariants.{Branch, Jump, Pal}
 use Rattle.alpha_encode.specs.declared.instr.BranchOp.TheVariants.{Br}
-use Rattle.alpha_encode.specs.declared.instr.OperateOp.TheVariants.{Bis}
-use Rattle.alpha_encode.specs.declared.instr.Second.TheVariants.{Register}
 
 -- the displacement of a branch counts from the next word
 abbrev pub displacement : (word target : ℕ) → ℤ
@@ -19,13 +18,9 @@ displacement word target = pos target -ℤ pos (word + 1)
 abbrev pub is_near : (word target : ℕ) → Bool
 is_near word target = nat_le (word + 1) (target + 2 ^ 20) && nat_lt target (word + 1 + 2 ^ 20)
 
--- a word that is never reached
-abbrev pub idle : AlphaInstr
-idle = Operate Bis ZERO (Register ZERO) ZERO
-
--- a branch, or where the target is too far for one, a jump to four times its word number
+-- a branch, behind which no word is reached, or where the target is too far for one, a jump to four times its word number
 abbrev pub code_to : (near : Bool) → (word target : ℕ) → List AlphaInstr
-code_to true word target = Branch Br ZERO (displacement word target) ∷ idle ∷ idle ∷ []
+code_to true word target = Branch Br ZERO (displacement word target) ∷ nop ∷ nop ∷ []
 code_to false word target = load_high ADDRESS (4 * target) ∷ load_low ADDRESS (4 * target) ∷ Jump ZERO ADDRESS ∷ []
 
 -- the exit that begins at that word and leads to that address: to the first word of its block, or where it has none to

@@ -3,12 +3,12 @@ use Rattle.std.specs.Prelude.{◌≡◌, ℕ, ◌<◌, ◌≤◌, ◌+◌, ◌++
 use Rattle.std.specs.List.{AllAdjacentBelow, fold}
 use Rattle.alpha_encode.specs.Words.{IsEncodable, word_of}
 use Rattle.alpha_encode.specs.declared.instr.AlphaInstr.{AlphaInstr}
-use Rattle.alpha_meaning.specs.Pieces.{HasAt}
+use Rattle.alpha_meaning.specs.Pieces.{HasAt, most_words}
 use Rattle.address_map.specs.Pairs.{Pair, AllRise, word_at}
 use Rattle.exception_records.specs.Blocks.{BlockValue}
 use Rattle.exception_records.specs.Points.{Entry, WordsRise}
 use Rattle.block_law.specs.Blocks.{Exit, exit_words, IsBlockOf, IsLike, IsLaid}
-use Rattle.block_law.specs.Translations.{Code, fetch_of, most_words}
+use Rattle.block_law.specs.Translations.{Code, fetch_of}
 use Rattle.branch_layout.specs.Exits.{exit_code}
 
 -- the address of a VAX instruction, and its block

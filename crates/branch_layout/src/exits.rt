@@ -1,12 +1,12 @@
 // The words of an exit.
 ghost use Rattle.std.specs.Prelude.{◌≡◌, ◌<◌, ◌≤◌, ◌^◌, ℕ, Some, IfSome};
 ghost use Rattle.address_map.specs.Pairs.{word_at};
-ghost use Rattle.block_law.specs.Translations.{most_words};
-ghost use Rattle.branch_layout.specs.Exits.{code_to, exit_code, is_near, displacement, idle};
+ghost use Rattle.alpha_meaning.specs.Pieces.{most_words};
+ghost use Rattle.branch_layout.specs.Exits.{code_to, exit_code, is_near, displacement};
 
 use address_map::AddressMap;
 use alpha_encode::registers::{ADDRESS, TARGET, ZERO};
-use alpha_encode::{AlphaInstr, BranchOp, OperateOp, Second, load_high, load_low, pal};
+use alpha_encode::{AlphaInstr, BranchOp, NOP, load_high, load_low, pal};
 
 /// How many words an exit has.
 pub const EXIT_WORDS: usize = 3;
@@ -16,13 +16,6 @@ const JUMP: u8 = ADDRESS;
 
 /// How far a branch reaches, in words.
 const REACH: u32 = 1 << 20;
-
-const IDLE: AlphaInstr = AlphaInstr::Operate {
-    op: OperateOp::Bis,
-    ra: ZERO,
-    rb: Second::Register(ZERO),
-    rc: ZERO,
-};
 
 fn is_near(word: u32, target: u32) -> bool
     requires word { word ≤ most_words }
@@ -46,7 +39,7 @@ pub fn code_to(word: u32, target: u32) -> [AlphaInstr; EXIT_WORDS]
             ra: ZERO,
             disp,
         };
-        [branch, IDLE, IDLE]
+        [branch, NOP, NOP]
     } else {
         let jump = AlphaInstr::Jump { ra: ZERO, rb: JUMP };
         [

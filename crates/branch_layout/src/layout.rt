@@ -3,7 +3,8 @@ ghost use Rattle.std.specs.Prelude.{◌≡◌, ◌<◌, ◌≤◌, ◌+◌, ◌+
 ghost use Rattle.alpha_encode.specs.Words.{IsEncodable, word_of};
 ghost use Rattle.address_map.specs.Pairs.{word_at};
 ghost use Rattle.block_law.specs.Tidy.{block_words};
-ghost use Rattle.block_law.specs.Translations.{Code, most_words};
+ghost use Rattle.alpha_meaning.specs.Pieces.{most_words};
+ghost use Rattle.block_law.specs.Translations.{Code};
 ghost use Rattle.branch_layout.specs.Layouts.{AddressesRise, AreBlocks, IsFilled, IsLayout, IsPlaced, filled_words, layout, places, shifted};
 
 use crate::exits::{EXIT_WORDS, exit_code};

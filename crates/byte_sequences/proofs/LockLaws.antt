@@ -4,6 +4,7 @@ use Rattle.std.specs.Prelude.{bit_and, bit_or, ◌≢◌}
 use Rattle.std.specs.List.{list_all}
 use Rattle.std.specs.Int.Bits.{or_comm}
 use Rattle.std.proofs.lemmas.Nat.Bits.{and_high_mask}
+use Rattle.std.proofs.Math.Bool.{or-true}
 use Rattle.vt_words.proofs.Spreads.{below_8}
 use Rattle.vt_words.specs.Quad.{one as c1, two as c2, field_of, with_field_of, left, ins_low, msk_low}
 use Rattle.vt_words.proofs.Fields.{replaced, extracted}
@@ -24,7 +25,7 @@ use Rattle.micro_ops.specs.declared.program.LockedOp.TheVariants.{AddWord, SetBi
 use Rattle.byte_sequences.specs.Instructions.{IsArgument, is_scratch, is_scratch_or}
 use Rattle.byte_sequences.specs.Words.{word_added, bit_changed, locked_loop, locked_code}
 use Rattle.byte_sequences.specs.Promises.{MayRetry, Holds, LockedPlan}
-use Rattle.byte_sequences.proofs.Operands.{other, or_true}
+use Rattle.byte_sequences.proofs.Operands.{other}
 use Rattle.byte_sequences.proofs.WriteLaws.{with_field_fits, IsReady}
 
 -- one shifted to a bit of a byte
@@ -42,7 +43,7 @@ module _ (place from to : ℕ) (f : Regs) (a_place : IsArgument place) (a_from :
   out n is not_to = rw (not_to, other n 25 is (lit< tt), other n 26 is (lit< tt), other n 27 is (lit< tt)) refl
 
   may : (n : ℕ) → is_scratch n ≡ true → is_scratch_or to n ≡ true
-  may n h = rw h (or_true (eqb n to))
+  may n h = rw h (or-true (eqb n to))
 
   may_to : is_scratch_or to to ≡ true
   may_to = rw (eqb_self to) refl

@@ -12,10 +12,6 @@ use Rattle.byte_sequences.specs.Instructions.{IsArgument}
 pub other : (n k : ℕ) → IsArgument n → 24 < k → eqb n k ≡ false
 other n k a h = let low = a.low in let high = a.high in ne_eqb n k (λ (e : n ≡ k). absurd (omega arith))
 
-pub or_true : (b : Bool) → (b || true) ≡ true
-or_true true = refl
-or_true false = refl
-
 -- ---- parts
 -- does the operand lie in one quadword?
 abbrev pub lies_within : (a c : ℕ) → Bool

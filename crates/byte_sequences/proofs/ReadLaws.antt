@@ -4,6 +4,7 @@ use Rattle.std.specs.Prelude.{pos, nat_lt, bit_or, All}
 use Rattle.std.specs.Int.{cast_unsigned, w64}
 use Rattle.std.specs.Int.Bits.{or_zero_r}
 use Rattle.std.proofs.lemmas.Nat.{and_mask, mod_below, pow_pos}
+use Rattle.std.proofs.Math.Bool.{or-true}
 use Rattle.vt_words.specs.Quad.{IsCount, one as c1, two as c2, four as c4, eight as c8, field_of, ext_low, ext_high}
 use Rattle.vt_words.proofs.Fields.{extracted, count_le}
 use Rattle.vt_words.proofs.Joined.{joined}
@@ -25,7 +26,7 @@ use Rattle.byte_sequences.specs.Instructions.{IsArgument, is_scratch, is_scratch
 use Rattle.byte_sequences.specs.Words.{extract_low, extract_high, byte_read, read_test, tested_read, unaligned_read, read_code}
 use Rattle.byte_sequences.specs.Plans.{quad_of_part, read_plan}
 use Rattle.byte_sequences.specs.Promises.{Holds, ReadsPlan}
-use Rattle.byte_sequences.proofs.Operands.{other, or_true, lies_within, next_of, parts_by, is_across, test_same, byte_within, disp_is, next_quad, of_parts, crossing_is}
+use Rattle.byte_sequences.proofs.Operands.{other, lies_within, next_of, parts_by, is_across, test_same, byte_within, disp_is, next_quad, of_parts, crossing_is}
 
 low_is : {c : ℕ} → IsCount c → (a b held : ℕ) → result_of (extract_low c) a b held ≡ ext_low (2 ^ c - 1) a b
 low_is c1 a b held = refl
@@ -51,7 +52,7 @@ module _ (fetch : Fetch) (terms : Terms) (pc : ℕ) (f : Regs) (place to : ℕ) 
       ap (λ v. ext_low 1 v (f place)) e ∙ extracted before 0 (f place) lt c1
 
   byte_only : (x : ℕ) → Only (is_scratch_or to) f (byte_to x)
-  byte_only x = effects_only (Operate Extbl 25 (Register place) to ∷ []) (is_scratch_or to) f (put f 25 x) (rw (eqb_self to) refl) (put_only (is_scratch_or to) f f 25 x (or_true (eqb 25 to)) (λ n _. refl))
+  byte_only x = effects_only (Operate Extbl 25 (Register place) to ∷ []) (is_scratch_or to) f (put f 25 x) (rw (eqb_self to) refl) (put_only (is_scratch_or to) f f 25 x (or-true (eqb 25 to)) (λ n _. refl))
 
   byte_reads : (most : ℕ) → Always (piece fetch terms pc (pc + 2)) (Holds f to 1) most 2 Plain (at_place f pc) (read_plan (parts_by true (f place) 1))
   byte_reads most =
@@ -76,7 +77,7 @@ module _ (fetch : Fetch) (terms : Terms) (pc : ℕ) (f : Regs) (place c to : ℕ
   may_first false e = pages_of false e 0 (0, 0) (lit< tt)
 
   may : (n : ℕ) → is_scratch n ≡ true → is_scratch_or to n ≡ true
-  may n h = rw h (or_true (eqb n to))
+  may n h = rw h (or-true (eqb n to))
 
   may_to : is_scratch_or to to ≡ true
   may_to = rw (eqb_self to) refl

@@ -3,7 +3,7 @@ use Rattle.std.specs.Prelude.{ℕ, ◌≡◌, ◌+◌, ◌*◌, ◌/◌, ◌%◌
 use Rattle.alpha_encode.specs.declared.instr.AlphaInstr.{AlphaInstr}
 use Rattle.alpha_meaning.specs.declared.access.AlphaKind.TheVariants.{Load, LoadLocked, Store, StoreConditional}
 use Rattle.alpha_meaning.specs.State.{Regs, at_place}
-use Rattle.alpha_meaning.specs.Pieces.{Fetch, Terms, Plan, Plain, Runs, HasAt, piece, Only}
+use Rattle.alpha_meaning.specs.Pieces.{Fetch, Terms, Plan, Plain, Runs, HasAt, piece, Only, most_words}
 use Rattle.micro_ops.specs.declared.program.LockedOp.{LockedOp}
 use Rattle.micro_ops.specs.declared.program.LockedOp.TheVariants.{AddWord, SetBit, ClearBit}
 use Rattle.micro_ops.specs.Meaning.{locked_count}
@@ -68,10 +68,6 @@ pub record Keeps (before : Regs) (done : Unit {0}) (regs : Regs) : Type 0 where
   pub only : Only is_scratch before regs
 
 -- ---- the promises
--- the words of the largest code, which has 33,554,432 bytes
-abbrev pub code_words : ℕ
-code_words = 2 ^ 23
-
 -- The words run the plan at each place, for every number of steps, whatever memory answers and however often a store
 -- conditional fails: in as many steps as there are words, and 16 more for each store that failed.
 abbrev pub RunsAt : {A : Type 0} → (fetch : Fetch) (terms : Terms) (first : ℕ) (words : List AlphaInstr) → (Ends : A → Regs → Type 0) → Regs → Plan A → Type 0
@@ -82,21 +78,21 @@ RunsAt fetch terms first words Ends regs plan =
 abbrev pub ReadsPlan : (place count to : ℕ) → List AlphaInstr → Type 0
 ReadsPlan place count to words =
     (fetch : Fetch) (terms : Terms) (first : ℕ) (regs : Regs)
-    → first + length words ≤ code_words → MayRead terms (regs place) count → HasAt fetch first words
+    → first + length words ≤ most_words → MayRead terms (regs place) count → HasAt fetch first words
     → RunsAt fetch terms first words (Holds regs to count) regs (read_plan (parts (regs place) count))
 
 -- writes the low bytes of `from` to the operand at the address in `place`
 abbrev pub WritesPlan : (stored : (address count : ℕ) → Option ℕ) → (place count from : ℕ) → List AlphaInstr → Type 0
 WritesPlan stored place count from words =
     (fetch : Fetch) (terms : Terms) (first : ℕ) (regs : Regs)
-    → first + length words ≤ code_words → MayWrite stored terms (regs place) count → HasAt fetch first words
+    → first + length words ≤ most_words → MayWrite stored terms (regs place) count → HasAt fetch first words
     → RunsAt fetch terms first words (Keeps regs) regs (write_plan (parts (regs place) count) (regs from))
 
 -- changes the word or byte at the address in `place` by `from`, and puts what was there before into `to`
 abbrev pub LockedPlan : LockedOp → (place from to : ℕ) → List AlphaInstr → Type 0
 LockedPlan kind place from to words =
     (fetch : Fetch) (terms : Terms) (first : ℕ) (regs : Regs)
-    → first + length words ≤ code_words → MayLock terms kind (regs place) (regs from) → HasAt fetch first words
+    → first + length words ≤ most_words → MayLock terms kind (regs place) (regs from) → HasAt fetch first words
     → RunsAt fetch terms first words (Holds regs to (locked_count kind)) regs (locked_plan kind (regs place) (regs from))
 
 -- ---- lengths

@@ -3,10 +3,11 @@ use Rattle.std.proofs.Common.{◌≡◌, ℕ, zero, suc, ◌<◌, ◌≤◌, ref
 use Rattle.std.proofs.Math.Nat.{suc_inj}
 use Rattle.std.proofs.lemmas.Grind.{reverse_onto}
 use Rattle.std.specs.Prelude.{◌⊎◌, if◌then◌else◌}
+use Rattle.std.proofs.lemmas.Bool.{or_cases, or_left, or_right}
 use mathlib.Core.Logic.◌⊎◌.{inl, inr}
 use Rattle.vax_form.specs.declared.state.Flags.{Flags}
 use Rattle.cc_liveness.specs.declared.uses.CodeUse.{CodeUse}
-use Rattle.cc_liveness.specs.Codes.{Code, negative, zero_code, overflow, carry, holds, all}
+use Rattle.vax_form.specs.Codes.{Code, negative, zero_code, overflow, carry, holds, all}
 use Rattle.cc_liveness.specs.Liveness.{at, reads, writes, ends, IsLive, passes, wanted_before, live_behind, wanted_by, live_codes, RecursionIsLiveness}
 
 -- Codes one by one
@@ -40,22 +41,10 @@ one_on code instruction next rest =
 
 -- Tests
 
-either_is : (a b : Bool) → (a || b) ≡ true → (a ≡ true) ⊎ (b ≡ true)
-either_is true b is = inl refl
-either_is false b is = inr is
-
 passes_is : (read written live : Bool) → passes read written live ≡ true → (read ≡ true) ⊎ ((written ≡ false) × (live ≡ true))
 passes_is true written live is = inl refl
 passes_is false true live is = absurd (cc is)
 passes_is false false live is = inr (refl, is)
-
-or_true : (a b : Bool) → b ≡ true → (a || b) ≡ true
-or_true true b is = refl
-or_true false b is = is
-
-true_or : (a b : Bool) → a ≡ true → (a || b) ≡ true
-true_or true b is = refl
-true_or false b is = absurd (cc is)
 
 pub read_passes : (read written live : Bool) → read ≡ true → passes read written live ≡ true
 read_passes true written live is = refl
@@ -133,7 +122,7 @@ live_on code first run i live = record {
 first_live : (code : Code) (first : CodeUse) (rest : List CodeUse) → holds code (live_behind first (wanted_by rest)) ≡ true → IsLive code (first ∷ rest) 0
 first_live code first [] is = live_at_once code (first ∷ []) 0 (inr (inl refl))
 first_live code first (next ∷ rest) is =
-    elim (either_is first.ends _ (sym (one_on code first next rest) ∙ is)) [
+    elim (or_cases first.ends _ (sym (one_on code first next rest) ∙ is)) [
       | inl ended ↦ live_at_once code (first ∷ next ∷ rest) 0 (inl ended)
       | inr passed ↦ elim (passes_is (reads code next) (writes code next) _ passed) [
         | inl read ↦ live_at_once code (first ∷ next ∷ rest) 0 (inr (inr read))
@@ -150,14 +139,14 @@ each_live code (first ∷ rest) (suc i) is = live_on code first rest i (each_liv
 
 first_found : (code : Code) (first : CodeUse) (rest : List CodeUse) (j : ℕ) → IsUnwritten code (first ∷ rest) 0 j → IsWanted code (first ∷ rest) j
     → holds code (live_behind first (wanted_by rest)) ≡ true
-first_found code first [] j unwritten wanted = at_last code first ∙ or_true first.ends _ (holds_all code)
-first_found code first (next ∷ rest) zero unwritten (inl ended) = one_on code first next rest ∙ true_or first.ends _ ended
+first_found code first [] j unwritten wanted = at_last code first ∙ or_right first.ends _ (holds_all code)
+first_found code first (next ∷ rest) zero unwritten (inl ended) = one_on code first next rest ∙ or_left first.ends _ ended
 first_found code first (next ∷ rest) zero unwritten (inr (inl last)) = absurd (omega (arith, last))
 first_found code first (next ∷ rest) zero unwritten (inr (inr read)) =
-    one_on code first next rest ∙ or_true first.ends _ (read_passes (reads code next) (writes code next) _ read)
+    one_on code first next rest ∙ or_right first.ends _ (read_passes (reads code next) (writes code next) _ read)
 first_found code first (next ∷ rest) (suc j) unwritten wanted =
     one_on code first next rest
-    ∙ or_true first.ends _ (unwritten_passes (reads code next) (writes code next) _ (unwritten 1 (omega arith) (omega arith))
+    ∙ or_right first.ends _ (unwritten_passes (reads code next) (writes code next) _ (unwritten 1 (omega arith) (omega arith))
     (first_found code next rest j (unwritten_rest code first next rest j unwritten) (wanted_back code first (next ∷ rest) j wanted)))
 
 each_found : (code : Code) (run : List CodeUse) (i j : ℕ) → i ≤ j → IsUnwritten code run i j → IsWanted code run j

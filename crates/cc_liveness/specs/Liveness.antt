@@ -3,7 +3,7 @@
 use Rattle.std.specs.Prelude.{◌≡◌, ◌⊎◌, ◌↔◌, ℕ, zero, suc, ◌<◌, ◌≤◌, ◌||◌, ◌&&◌, not, if◌then◌else◌, Bool, true, false, List, [], ◌∷◌, length}
 use Rattle.vax_form.specs.declared.state.Flags.{Flags}
 use Rattle.cc_liveness.specs.declared.uses.CodeUse.{CodeUse}
-use Rattle.cc_liveness.specs.Codes.{Code, holds, codes, all}
+use Rattle.vax_form.specs.Codes.{Code, holds, codes, all}
 
 -- there is an i-th of the list, and it has the property
 abbrev pub at : {A : Type 0} → (A → Bool) → List A → ℕ → Bool

@@ -5,4 +5,4 @@ mod liveness;
 mod uses;
 
 pub use liveness::{live, live_behind, liveness_laws, wanted};
-pub use uses::{CodeUse, all_codes, code_use};
+pub use uses::{CodeUse, code_use};

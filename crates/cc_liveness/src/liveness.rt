@@ -2,7 +2,7 @@
 ghost use Rattle.std.specs.Prelude.{◌≡◌, ◌||◌, ◌&&◌, not, reverse, IfOk};
 ghost use Rattle.cc_liveness.specs.Liveness.{AreLive, RecursionIsLiveness, live_codes, wanted_before, live_behind};
 
-use crate::uses::{CodeUse, all_codes};
+use crate::uses::CodeUse;
 use std::alloc::{AllocError, Global};
 use vax_form::{Flags, WantOfMemory};
 
@@ -30,11 +30,7 @@ pub fn wanted(instruction: &CodeUse, live: Flags) -> Flags
 pub fn live_behind(instruction: &CodeUse, wanted: Flags) -> Flags
     ensures { result ≡ live_behind instruction.now wanted }
 {
-    if instruction.ends {
-        all_codes()
-    } else {
-        wanted
-    }
+    if instruction.ends { Flags::ALL } else { wanted }
 }
 
 /// The live codes from the last instruction to the first.
@@ -42,7 +38,7 @@ fn backward(alloc: Global, run: &[CodeUse]) -> Result<Vec<Flags>, AllocError>
     ensures { IfOk result (λ found. found.items ≡ reverse (live_codes run.now)) }
 {
     let mut found = Vec::new(alloc);
-    let mut behind = all_codes();
+    let mut behind = Flags::ALL;
     for i in (0..run.len()).rev() {
         let instruction = &run[i];
         let live = live_behind(instruction, behind);

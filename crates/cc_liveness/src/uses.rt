@@ -1,6 +1,6 @@
 // What each operation does to the condition codes.
 ghost use Rattle.std.specs.Prelude.{◌≡◌};
-ghost use Rattle.cc_liveness.specs.Codes.{all, none, all_but_carry};
+ghost use Rattle.vax_form.specs.Codes.{all_but_carry};
 ghost use Rattle.cc_liveness.specs.Uses.{tested_by, written_by_binary, written_by_long, code_use_of};
 
 use vax_form::{BinaryOperation, Condition, Flags, LongOperation, Operation};
@@ -19,19 +19,6 @@ fn codes(n: bool, z: bool, v: bool, c: bool) -> Flags
     ensures { result ≡ record { n = n; z = z; v = v; c = c } }
 {
     Flags { n, z, v, c }
-}
-
-fn no_codes() -> Flags
-    ensures { result ≡ none }
-{
-    codes(false, false, false, false)
-}
-
-/// All four condition codes.
-pub fn all_codes() -> Flags
-    ensures { result ≡ all }
-{
-    codes(true, true, true, true)
 }
 
 fn all_codes_but_carry() -> Flags
@@ -63,9 +50,9 @@ fn codes_read(operation: Operation) -> Flags
 {
     match operation {
         Operation::AddWithCarry | Operation::SubtractWithCarry => codes(false, false, false, true),
-        Operation::MovePsl | Operation::BitSetPsw | Operation::BitClearPsw => all_codes(),
+        Operation::MovePsl | Operation::BitSetPsw | Operation::BitClearPsw => Flags::ALL,
         Operation::BranchIf(condition) => tested(condition),
-        _ => no_codes(),
+        _ => Flags::NONE,
     }
 }
 
@@ -77,7 +64,7 @@ fn written_by_binary(operation: BinaryOperation) -> Flags
         BinaryOperation::Add
         | BinaryOperation::Subtract
         | BinaryOperation::Multiply
-        | BinaryOperation::Divide => all_codes(),
+        | BinaryOperation::Divide => Flags::ALL,
         BinaryOperation::BitSet | BinaryOperation::BitClear | BinaryOperation::ExclusiveOr => {
             all_codes_but_carry()
         }
@@ -89,8 +76,8 @@ fn written_by_long(operation: LongOperation) -> Flags
     ensures { result ≡ written_by_long operation }
 {
     match operation {
-        LongOperation::PushRegisters | LongOperation::PopRegisters => no_codes(),
-        _ => all_codes(),
+        LongOperation::PushRegisters | LongOperation::PopRegisters => Flags::NONE,
+        _ => Flags::ALL,
     }
 }
 
@@ -111,7 +98,7 @@ fn codes_written(operation: Operation) -> Flags
         | Operation::BranchToSubroutine(_)
         | Operation::Jump
         | Operation::JumpToSubroutine
-        | Operation::ReturnFromSubroutine => no_codes(),
+        | Operation::ReturnFromSubroutine => Flags::NONE,
         Operation::Move(_)
         | Operation::Clear(_)
         | Operation::MoveAddress(_)
@@ -125,7 +112,7 @@ fn codes_written(operation: Operation) -> Flags
         Operation::AddOneBranch { .. }
         | Operation::SubtractOneBranch { .. }
         | Operation::AddCompareBranch(_) => all_codes_but_carry(),
-        Operation::BitClearPsw | Operation::BitSetPsw => all_codes(),
+        Operation::BitClearPsw | Operation::BitSetPsw => Flags::ALL,
         Operation::TwoOperands(binary, _) | Operation::ThreeOperands(binary, _) => {
             written_by_binary(binary)
         }
@@ -141,7 +128,7 @@ fn codes_written(operation: Operation) -> Flags
         | Operation::AddAlignedWord
         | Operation::ExtendedMultiply
         | Operation::ArithmeticShift
-        | Operation::Case(_) => all_codes(),
+        | Operation::Case(_) => Flags::ALL,
     }
 }
 

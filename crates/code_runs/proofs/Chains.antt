@@ -3,7 +3,7 @@ use Rattle.std.proofs.Common.{◌≡◌, ◌<◌, ◌≤◌, ◌+◌, ℕ, zero,
 use Rattle.std.specs.Option.{option_map_or}
 use Rattle.vax_form.specs.declared.instr.Instr.{Instr}
 use Rattle.vax_form.specs.declared.state.Flags.{Flags}
-use Rattle.cc_liveness.specs.Codes.{all}
+use Rattle.vax_form.specs.Codes.{all}
 use Rattle.cc_liveness.specs.Liveness.{live_behind, wanted_before, wanted_by}
 use Rattle.cc_liveness.specs.Uses.{use_of}
 use Rattle.cc_liveness.specs.declared.uses.CodeUse.{CodeUse}

@@ -12,9 +12,9 @@ use Rattle.vax_form.specs.declared.instr.Operand.{Operand}
 use Rattle.code_runs.specs.declared.entrances.Entrance.{Entrance}
 use Rattle.code_runs.specs.declared.entrances.Entrance.TheVariants.{Nowhere, Elsewhere}
 use Rattle.code_runs.specs.Entrances.{AreChanged, AreEntrances, NoneStandsAt, StandsAt, also_behind, also_target, entrance, entrance_at, entrance_of, joined_by}
-use Rattle.code_runs.specs.Runs.{AreInOrder, ending_at, has, instr_at, is_target, joined_at, only}
+use Rattle.code_runs.specs.Runs.{AreInOrder, ending_at, instr_at, is_target, joined_at, only}
 use Rattle.code_runs.proofs.Places.{same_place}
-use Rattle.vax_form.specs.Targets.{branch_target, fixed_targets, jump_of}
+use Rattle.vax_form.specs.Targets.{branch_target, fixed_targets, jump_of, has}
 
 same_address : (a b : ℕ) → a ≡ b → nat_eq a b ≡ true
 same_address a b e = grind (arith, nat_tests)

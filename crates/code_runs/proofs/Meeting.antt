@@ -7,8 +7,8 @@ use Rattle.vax_form.specs.declared.instr.Instr.{Instr}
 use Rattle.vax_form.specs.declared.operation.Operation.{Operation}
 use Rattle.vax_form.specs.declared.row.Class.TheVariants.{Translated}
 use Rattle.vax_form.specs.declared.state.Flags.{Flags}
-use Rattle.cc_liveness.specs.Codes.{Code, all, holds, none}
-use Rattle.cc_liveness.specs.Codes as code
+use Rattle.vax_form.specs.Codes.{Code, all, holds, none}
+use Rattle.vax_form.specs.Codes as code
 use Rattle.cc_liveness.specs.Liveness.{wanted_before}
 use Rattle.cc_liveness.specs.Uses.{code_use_of, goes_on, use_of}
 use Rattle.cc_liveness.specs.declared.uses.CodeUse.{CodeUse}

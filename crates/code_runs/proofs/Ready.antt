@@ -9,8 +9,8 @@ use Rattle.vax_form.specs.declared.operation.Operation.{Operation}
 use Rattle.vax_form.specs.declared.operation.Operation.TheVariants as operations
 use Rattle.vax_form.specs.declared.row.Class.TheVariants.{Translated}
 use Rattle.vax_form.specs.declared.state.Flags.{Flags}
-use Rattle.cc_liveness.specs.Codes.{Code, holds, all}
-use Rattle.cc_liveness.specs.Codes as code
+use Rattle.vax_form.specs.Codes.{Code, holds, all}
+use Rattle.vax_form.specs.Codes as code
 use Rattle.cc_liveness.specs.declared.uses.CodeUse.{CodeUse}
 use Rattle.cc_liveness.specs.Liveness.{passes, live_behind, wanted_by, live_codes}
 use Rattle.cc_liveness.specs.Uses.{code_use_of, written_by_binary}

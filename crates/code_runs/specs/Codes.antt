@@ -6,7 +6,7 @@ use Rattle.std.specs.Option.{option_map_or}
 use Rattle.vax_form.specs.Operation.{operation_at}
 use Rattle.vax_form.specs.declared.instr.Instr.{Instr}
 use Rattle.vax_form.specs.declared.state.Flags.{Flags}
-use Rattle.cc_liveness.specs.Codes.{none}
+use Rattle.vax_form.specs.Codes.{none}
 use Rattle.cc_liveness.specs.Liveness.{live_behind, live_codes, wanted_by}
 use Rattle.cc_liveness.specs.Uses.{use_of}
 use Rattle.micro_ops.specs.Sources.{from, sources_of}

@@ -5,8 +5,8 @@ use Rattle.vax_form.specs.Row.{class_of_operation}
 use Rattle.vax_form.specs.declared.operation.Operation.{Operation}
 use Rattle.vax_form.specs.declared.row.Class.TheVariants.{Translated}
 use Rattle.vax_form.specs.declared.state.Flags.{Flags}
-use Rattle.cc_liveness.specs.Codes.{Code, holds}
-use Rattle.cc_liveness.specs.Codes as code
+use Rattle.vax_form.specs.Codes.{Code, holds}
+use Rattle.vax_form.specs.Codes as code
 use Rattle.cc_liveness.specs.Liveness.{wanted_before, live_codes}
 use Rattle.cc_liveness.specs.Uses.{code_use_of}
 use Rattle.micro_ops.specs.Sources.{codes_written_by, sources_of}

@@ -1,9 +1,9 @@
 -- Runs of instructions: each instruction of a run but the first begins where the one before ends, and control comes to it
 -- from nowhere else, as far as the code shows.
 -- Source: own; the basic blocks of compilers, over instructions that may overlap.
-use Rattle.std.specs.Prelude.{◌≡◌, ◌≢◌, ◌<◌, ◌==◌, ℕ, suc, Bool, All, List, [], ◌∷◌, Option, Some, None, length, nat_eq, slice_index_or, if◌then◌else◌}
+use Rattle.std.specs.Prelude.{◌≡◌, ◌≢◌, ◌<◌, ◌==◌, ℕ, suc, Bool, All, List, [], ◌∷◌, Option, Some, None, length, slice_index_or, if◌then◌else◌}
 use Rattle.std.specs.List.{AllAdjacentBelow, list_any}
-use Rattle.vax_form.specs.Targets.{fixed_targets}
+use Rattle.vax_form.specs.Targets.{fixed_targets, has}
 use Rattle.vax_form.specs.declared.instr.Instr.{Instr}
 
 -- ---- instructions by their places in a list
@@ -25,10 +25,6 @@ abbrev pub ending_at : (address first : ℕ) → List Instr → List ℕ
 ending_at address first [] = []
 ending_at address first (instr ∷ rest) =
     if instr.after == address then first ∷ ending_at address (suc first) rest else ending_at address (suc first) rest
-
--- the address is in the list
-abbrev pub has : List ℕ → ℕ → Bool
-has addresses address = list_any (nat_eq address) addresses
 
 -- the address is a fixed target of some instruction
 abbrev pub is_target : List Instr → (address : ℕ) → Bool

@@ -1,6 +1,6 @@
 // The condition codes of each instruction of a list.
 ghost use Rattle.std.specs.Prelude.{◌≡◌, ◌<◌, IfOk, IfSome, ℕ, length, slice_index_or};
-ghost use Rattle.cc_liveness.specs.Codes.{none};
+ghost use Rattle.vax_form.specs.Codes.{none};
 ghost use Rattle.cc_liveness.specs.Uses.{use_of};
 ghost use Rattle.exception_records.specs.Codes.{all_ready};
 ghost use Rattle.code_runs.specs.Runs.{AreInOrder, joined_to};
@@ -8,7 +8,7 @@ ghost use Rattle.code_runs.specs.Entrances.{AreEntrances};
 
 use crate::entrances::{Entrance, entrances, place_of};
 use crate::rules::rules_behind;
-use cc_liveness::{CodeUse, all_codes, code_use, live_behind, wanted};
+use cc_liveness::{CodeUse, code_use, live_behind, wanted};
 use exception_records::Rules;
 use micro_ops::{CodeSource, CodeSources, sources_of};
 use std::alloc::{AllocError, Global};
@@ -25,13 +25,6 @@ pub struct InstrCodes {
 
 ghost use Rattle.code_runs.specs.Codes.{AreCodes, code_sources, codes_at, instruction_codes, joined_behind, live_at, no_codes};
 
-const NO_CODES: Flags = Flags {
-    n: false,
-    z: false,
-    v: false,
-    c: false,
-};
-
 #[tactic(auto, unfolding(cc_liveness::specs::Uses::use_of))]
 fn use_of(instr: &Instr) -> CodeUse
     ensures { result ≡ use_of instr.now }
@@ -39,8 +32,8 @@ fn use_of(instr: &Instr) -> CodeUse
     match operation_of(instr.opcode) {
         Some(operation) => code_use(operation),
         None => CodeUse {
-            reads: NO_CODES,
-            writes: NO_CODES,
+            reads: Flags::NONE,
+            writes: Flags::NONE,
             ends: false,
         },
     }
@@ -98,7 +91,7 @@ fn live_at(instrs: &[Instr], entrances: &[Entrance], live: &[Flags], place: usiz
 {
     let wanted = match joined_behind(instrs, entrances, place) {
         Some(next) => wanted(&use_of(&instrs[next]), live[next]),
-        None => all_codes(),
+        None => Flags::ALL,
     };
     live_behind(&use_of(&instrs[place]), wanted)
 }
@@ -114,7 +107,7 @@ fn live_codes(
     ensures count { IfOk result (λ live. length live.items ≡ length instrs.now) }
     ensures each { IfOk result (λ live. (place : ℕ) → place < length instrs.now → slice_index_or live.items place none ≡ live_at instrs.now place) }
 {
-    let mut live = vec![in alloc; NO_CODES; instrs.len()]?;
+    let mut live = vec![in alloc; Flags::NONE; instrs.len()]?;
     for place in (0..instrs.len()).rev() {
         live[place] = live_at(instrs, entrances, &live, place);
     }

@@ -2,9 +2,9 @@
 ghost use Rattle.std.specs.Prelude.{◌≡◌, [], IfNone, IfOk, IfSome, length, nat_eq};
 ghost use Rattle.std.specs.List.{filter_map};
 ghost use Rattle.std.specs.Option.{option_to_list};
-ghost use Rattle.code_runs.specs.Runs.{AreInOrder, has};
+ghost use Rattle.code_runs.specs.Runs.{AreInOrder};
 ghost use Rattle.code_runs.specs.Entrances.{AreChanged, AreEntrances, NoneStandsAt, StandsAt, also_behind, also_target, joined_by};
-ghost use Rattle.vax_form.specs.Targets.{branch_target, fixed_targets, jump_of, jump_target};
+ghost use Rattle.vax_form.specs.Targets.{branch_target, fixed_targets, jump_of, jump_target, has};
 
 use std::alloc::{AllocError, Global};
 use vax_form::{Instr, Operand, Operation, branch_target, fixed_address, operation_of};

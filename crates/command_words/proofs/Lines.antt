@@ -4,6 +4,7 @@ use Rattle.std.specs.Prelude.{fold, option_and_then}
 use Rattle.std.specs.List.{list_all, list_any}
 use Rattle.std.specs.Str.{bytes_eq, chars}
 use Rattle.std.proofs.lemmas.Slice.Eq.{bytes_eq-Decides}
+use Rattle.std.proofs.Math.Bool.{or-true, and-false}
 use Rattle.clap.specs.Walk.{bundle_met, Held, Row, Rule, Walk, answers_to, finished, has_row, nothing_held, rows_after, settled, walk, walk_from, walked, with_default}
 use Rattle.clap.specs.Simple.{App, Shape, entered, label_of, names_of, new_shape, rows_at}
 use Rattle.clap.specs.Kinds.{Kinds, or_else}
@@ -14,7 +15,7 @@ use Rattle.clap.proofs.FaultLemmas.{stopped_fault}
 use Rattle.command_words.specs.Parts.{Choice, Text, choice_of, parts_of}
 use Rattle.command_words.specs.Forms.{Form, form_of}
 use Rattle.command_words.specs.App.{names_id}
-use Rattle.command_words.proofs.Walks.{Look, choice_rule, clean, dashes, long, look, plain, rules_for, shape_for, short, taken_of, walks, when, and_false}
+use Rattle.command_words.proofs.Walks.{Look, choice_rule, clean, dashes, long, look, plain, rules_for, shape_for, short, taken_of, walks, when}
 
 -- ---- one level
 
@@ -22,14 +23,10 @@ same_cond : {X : Type 0} (b : Bool) (x : X) → cond b x x ≡ x
 same_cond true x = refl
 same_cond false x = refl
 
-or_true : (b : Bool) → (b || true) ≡ true
-or_true true = refl
-or_true false = refl
-
 no_defaults : (os : List Choice) (rows : List Row) → defaults_fault rows (map choice_rule os) ≡ []
 unfolding defaults_fault
 no_defaults [] rows = refl
-no_defaults (o ∷ os) rows = rw (or_true (has_row o.label rows), same_cond (has_row o.label rows) rows) (no_defaults os rows)
+no_defaults (o ∷ os) rows = rw (or-true (has_row o.label rows), same_cond (has_row o.label rows) rows) (no_defaults os rows)
 
 no_default_rows : (os : List Choice) (rows : List Row) → fold with_default rows (map choice_rule os) ≡ rows
 no_default_rows [] rows = refl
@@ -42,7 +39,7 @@ none_required (o ∷ os) rows = none_required os rows
 module _ (os : List Choice) (title : Text) where
   defaults_pass : (rows : List Row) → defaults_fault rows (rules_for os) ≡ []
   unfolding defaults_fault
-  defaults_pass rows = rw (or_true (has_row names_id rows), same_cond (has_row names_id rows) rows) (no_defaults os rows)
+  defaults_pass rows = rw (or-true (has_row names_id rows), same_cond (has_row names_id rows) rows) (no_defaults os rows)
 
   finished_is : (h : Held) → finished (rules_for os) h ≡ (settled (rules_for os) h).rows
   finished_is h =
@@ -156,7 +153,7 @@ module _ (program : Text) (forms : List Form) where
       let found : find (answers_to word) (names_of line_app) ≡ Some (f.title, []) = named_form word forms ∙ ap (option_map (λ (g : Form). (g.title, []))) e in
       let stays = walk_stopped [] (names_of line_app) (walk_from nothing_held) f.title [] words in
       let steps = first_word word f found in
-      let turn : turn_fault top_shape (names_of line_app) (walk_from nothing_held) word ≡ [] = rw (found, and_false (bytes_eq f.title (codes "help"))) refl in (
+      let turn : turn_fault top_shape (names_of line_app) (walk_from nothing_held) word ≡ [] = rw (found, and-false (bytes_eq f.title (codes "help"))) refl in (
         ap₂ (λ (t : Kinds) (w : Walk). or_else t (walk_fault top_shape (names_of line_app) w words)) turn steps ∙ stopped_fault top_shape (names_of line_app) (walk_from nothing_held) (f.title, []) words,
         ap (λ (w : Walk). fold (walked [] (names_of line_app)) w words) steps ∙ sym stays,
       )

@@ -5,6 +5,7 @@ use Rattle.std.specs.List.{list_any}
 use Rattle.std.specs.Option.{option_map_or}
 use Rattle.std.specs.Str.{bytes_eq, chars}
 use Rattle.std.proofs.lemmas.Slice.Eq.{bytes_eq-Decides}
+use Rattle.std.proofs.Math.Bool.{and-false}
 use Rattle.clap.specs.Lexer.{long_of, short_of}
 use Rattle.clap.specs.Walk.{Row, Rule, Walk, idle, option, positional, arg_by_id, arg_by_long, arg_by_short, bundle_met, has_row, is_pending, settled, settled_rows, used, walked}
 use Rattle.clap.specs.Simple.{Shape, new_rule, new_shape}
@@ -60,10 +61,6 @@ when_or (k ∷ ks) b o = refl
 pub when_none : {X : Type 0} (b : Bool) → when {X = X} b None ≡ None
 when_none true = refl
 when_none false = refl
-
-pub and_false : (b : Bool) → (b && false) ≡ false
-and_false true = refl
-and_false false = refl
 
 abbrev pub fresh : Choice → List Row → Bool
 fresh o rows = o.repeats || not (has_row o.label rows)
@@ -165,7 +162,7 @@ module _ (os : List Choice) (title : Text) where
       → (turn_fault (shape_for title os) [] (at b true rows p) word ≡ settle_fault (rules_for os) false (record { rows = rows; pending = p; skip = 0 }))
       × (walked (rules_for os) [] (at b true rows p) word ≡ at true true (rows_at rows p) (Some (names_id, word ∷ [])))
   unfolding walked
-  trail_turn b rows p word = (rw (and_false (is_pending names_rule p)) refl, rw (and_false (is_pending names_rule p)) refl)
+  trail_turn b rows p word = (rw (and-false (is_pending names_rule p)) refl, rw (and-false (is_pending names_rule p)) refl)
 
   pub trail : (b : Bool) (rows : List Row) (p : Option (Text × List Text)) (words : List Text)
       → rest_of (at b true rows p) words ≡ when (owed rows p) (taken os (map named words) (rows_at rows p))
@@ -232,7 +229,7 @@ module _ (os : List Choice) (title : Text) where
       → (words : List Text) → rest_of (asks label true rows) words ≡ None
   unfolding walk_fault
   asks_trail label rows o e [] = rw e refl
-  asks_trail label rows o e (word ∷ words) = stop (asks label true rows) word words (rw (and_false (bytes_eq label names_id), e) refl)
+  asks_trail label rows o e (word ∷ words) = stop (asks label true rows) word words (rw (and-false (bytes_eq label names_id), e) refl)
 
   -- the next word is the value
   asks_plain : (label : Text) (rows : List Row) (word : Text) (o : Choice) → bytes_eq word (45 ∷ 45 ∷ []) ≡ false → long_of word ≡ None → short_of word ≡ None
@@ -270,16 +267,16 @@ module _ (os : List Choice) (title : Text) where
       → (turn_fault (shape_for title os) [] (at b false rows p) word ≡ settle_fault (rules_for os) false (record { rows = rows; pending = p; skip = 0 }))
       × (walked (rules_for os) [] (at b false rows p) word ≡ at true false (rows_at rows p) (Some (names_id, word ∷ [])))
   unfolding walked
-  name_turn true rows p word d l sh = (rw (d, l, sh, and_false (is_pending names_rule p)) refl, rw (d, l, sh, and_false (is_pending names_rule p)) refl)
-  name_turn false rows p word d l sh = (rw (d, l, sh, and_false (is_pending names_rule p)) refl, rw (d, l, sh, and_false (is_pending names_rule p)) refl)
+  name_turn true rows p word d l sh = (rw (d, l, sh, and-false (is_pending names_rule p)) refl, rw (d, l, sh, and-false (is_pending names_rule p)) refl)
+  name_turn false rows p word d l sh = (rw (d, l, sh, and-false (is_pending names_rule p)) refl, rw (d, l, sh, and-false (is_pending names_rule p)) refl)
 
   empty_turn : (b : Bool) (rows : List Row) (p : Option (Text × List Text)) (word flags : Text) (k : ℕ) → bytes_eq word (45 ∷ 45 ∷ []) ≡ false → long_of word ≡ None
       → short_of word ≡ Some flags → length flags ≡ suc k → chars flags ≡ []
       → (turn_fault (shape_for title os) [] (at b false rows p) word ≡ settle_fault (rules_for os) false (record { rows = rows; pending = p; skip = 0 }))
       × (walked (rules_for os) [] (at b false rows p) word ≡ at true false (rows_at rows p) (Some (names_id, word ∷ [])))
   unfolding walked flags_fault bundle_met
-  empty_turn true rows p word flags k d l sh n cs = (rw (d, l, sh, n, cs, and_false (is_pending names_rule p)) refl, rw (d, l, sh, n, cs, and_false (is_pending names_rule p)) refl)
-  empty_turn false rows p word flags k d l sh n cs = (rw (d, l, sh, n, cs, and_false (is_pending names_rule p)) refl, rw (d, l, sh, n, cs, and_false (is_pending names_rule p)) refl)
+  empty_turn true rows p word flags k d l sh n cs = (rw (d, l, sh, n, cs, and-false (is_pending names_rule p)) refl, rw (d, l, sh, n, cs, and-false (is_pending names_rule p)) refl)
+  empty_turn false rows p word flags k d l sh n cs = (rw (d, l, sh, n, cs, and-false (is_pending names_rule p)) refl, rw (d, l, sh, n, cs, and-false (is_pending names_rule p)) refl)
 
   dashes_turn : (b : Bool) (rows : List Row) (p : Option (Text × List Text)) (word : Text) → bytes_eq word (45 ∷ 45 ∷ []) ≡ true
       → (turn_fault (shape_for title os) [] (at b false rows p) word ≡ []) × (walked (rules_for os) [] (at b false rows p) word ≡ at b true rows p)

@@ -2,6 +2,7 @@
 use Rattle.std.proofs.Common.{◌≡◌, ℕ, ◌+◌, ◌/◌, ◌%◌, ◌^◌, ◌<◌, ◌≤◌, refl, ap, ◌∙◌, arith, length, Bool, true, false, eqb, ne_eqb, rules, lit<, lit≤}
 use Rattle.std.specs.Prelude.{All, FitsSigned, nat_lt, if◌then◌else◌}
 use Rattle.std.specs.Int.{cast_signed, cast_unsigned, w16, w64}
+use Rattle.std.proofs.lemmas.Bool.{ltb-true}
 use Rattle.vax_form.specs.declared.instr.Size.{Size}
 use Rattle.vax_form.specs.declared.instr.Size.TheVariants.{Byte, Word, Long, Quad}
 use Rattle.vt_words.specs.Quad.{left}
@@ -16,7 +17,6 @@ use Rattle.compute_sequences.specs.Registers.{IsTarget, may_change}
 use Rattle.compute_sequences.specs.Constants.{high_long, low_long, code_of_size, least_size, constant_code}
 use Rattle.compute_sequences.specs.Promises.{LeavesConstant, HasLow}
 use Rattle.compute_sequences.proofs.Straight.{Fine, Each, each_map, all_of, afters, straight}
-use Rattle.compute_sequences.proofs.Shifting.{below}
 use Rattle.compute_sequences.proofs.Halves.{with_halves, short_low, short_exact, long_low, quad_is}
 
 -- where `to` is a register of its own
@@ -56,7 +56,7 @@ module _ (to : ℕ) (real : eqb to 31 ≡ false) (f : Regs) (zero : f 31 ≡ 0) 
   constant_low value lt size = by (nat_lt value (2 ^ 15)) refl
     where
       by : (b : Bool) → nat_lt value (2 ^ 15) ≡ b → HasLow size value (behind value (if b then Word else size))
-      by true e = ap (low size) (small_is value (below value (2 ^ 15) e))
+      by true e = ap (low size) (small_is value (ltb-true value (2 ^ 15) e))
       by false e = of_size_low value lt size
 
 half_fits : (n : ℕ) → FitsSigned w16 (cast_signed w16 (n % 2 ^ 16))

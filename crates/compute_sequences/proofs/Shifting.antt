@@ -7,6 +7,7 @@ use Rattle.std.proofs.lemmas.Int.{ints, to_z_pos}
 use Rattle.std.proofs.Math.Facts.{to_z-neg}
 use Rattle.std.proofs.lemmas.Nat.{shr_le, mul-mod_first}
 use Rattle.std.proofs.Math.Nat.{mod-eq_of_lt, div-eq_of_lt, pow-le-pow_right}
+use Rattle.std.proofs.lemmas.Bool.{ltb-true}
 use Rattle.vax_form.specs.Size.{bytes_of}
 use Rattle.vax_form.specs.declared.instr.Size.{Size}
 use Rattle.vax_form.specs.declared.instr.Size.TheVariants.{Byte, Word, Long, Quad}
@@ -32,14 +33,11 @@ bits_most Word = lit≤ tt
 bits_most Long = lit≤ tt
 bits_most Quad = lit≤ tt
 
-pub below : (a b : ℕ) → nat_lt a b ≡ true → a < b
-below a b e = grind (arith, nat_tests, e)
-
 pub not_below : (a b : ℕ) → nat_lt a b ≡ false → b ≤ a
 not_below a b e = grind (arith, nat_tests, e)
 
 within : (size : Size) (b : ℕ) → nat_lt (low size b) (bits_of size) ≡ true → b % 64 ≡ low size b
-within size b e = let lt = below (low size b) (bits_of size) e in let most = bits_most size in count_low size b (omega arith)
+within size b e = let lt = ltb-true (low size b) (bits_of size) e in let most = bits_most size in count_low size b (omega arith)
 
 -- nothing is left where the count is too great
 pub or_nothing : (size : Size) (few : Bool) (s r : ℕ) → (few ≡ true → low size s ≡ r) → low size (result_of row.Cmoveq (one_if few) 0 s) ≡ (if few then r else 0)
@@ -110,7 +108,7 @@ arithmetic_is n k lt = by (nat_lt n (2 ^ 63)) refl
   where
     by : (b : Bool) → nat_lt n (2 ^ 63) ≡ b → arithmetic_right n k ≡ (if b then n / 2 ^ k else 2 ^ 64 - 1 - (2 ^ 64 - 1 - n) / 2 ^ k)
     by true e =
-        let few = below n (2 ^ 63) e in
+        let few = ltb-true n (2 ^ 63) e in
         let le = shr_le n k in
         ap (λ z. cast_unsigned w64 (int_div_euclid z (pos (2 ^ k)))) (to_z_pos w64 n few) ∙ quad_pos (n / 2 ^ k) (omega (arith, le, few))
     by false e =
@@ -124,14 +122,14 @@ pub raised_byte : (n : ℕ) → arithmetic_right (left n 56) 56 ≡ sign_extende
 raised_byte n = arithmetic_is (left n 56) 56 (omega arith) ∙ by (nat_lt (n % 2 ^ 8) (2 ^ 7)) refl
   where
     by : (b : Bool) → nat_lt (n % 2 ^ 8) (2 ^ 7) ≡ b → floor_over (2 ^ 64) (left n 56) (2 ^ 56) ≡ (if b then n % 2 ^ 8 else n % 2 ^ 8 + (2 ^ 64 - 2 ^ 8))
-    by true e = let lt = below (n % 2 ^ 8) (2 ^ 7) e in let few : nat_lt (left n 56) (2 ^ 63) ≡ true = grind (arith, nat_tests, lt) in rw few (omega arith)
+    by true e = let lt = ltb-true (n % 2 ^ 8) (2 ^ 7) e in let few : nat_lt (left n 56) (2 ^ 63) ≡ true = grind (arith, nat_tests, lt) in rw few (omega arith)
     by false e = let ge = not_below (n % 2 ^ 8) (2 ^ 7) e in let many : nat_lt (left n 56) (2 ^ 63) ≡ false = grind (arith, nat_tests, ge) in rw many (omega arith)
 
 pub raised_word : (n : ℕ) → arithmetic_right (left n 48) 48 ≡ sign_extended n 16
 raised_word n = arithmetic_is (left n 48) 48 (omega arith) ∙ by (nat_lt (n % 2 ^ 16) (2 ^ 15)) refl
   where
     by : (b : Bool) → nat_lt (n % 2 ^ 16) (2 ^ 15) ≡ b → floor_over (2 ^ 64) (left n 48) (2 ^ 48) ≡ (if b then n % 2 ^ 16 else n % 2 ^ 16 + (2 ^ 64 - 2 ^ 16))
-    by true e = let lt = below (n % 2 ^ 16) (2 ^ 15) e in let few : nat_lt (left n 48) (2 ^ 63) ≡ true = grind (arith, nat_tests, lt) in rw few (omega arith)
+    by true e = let lt = ltb-true (n % 2 ^ 16) (2 ^ 15) e in let few : nat_lt (left n 48) (2 ^ 63) ≡ true = grind (arith, nat_tests, lt) in rw few (omega arith)
     by false e = let ge = not_below (n % 2 ^ 16) (2 ^ 15) e in let many : nat_lt (left n 48) (2 ^ 63) ≡ false = grind (arith, nat_tests, ge) in rw many (omega arith)
 
 long_sign : (low : ℕ) → ℕ
@@ -197,7 +195,7 @@ module _ (size : Size) (n : ℕ) (lt : n < limit_of size) where
 
   -- the quadword is below 2^63 where the number is positive
   positive : nat_lt n half ≡ true → nat_lt (with_sign true size n) (2 ^ 63) ≡ true
-  positive e = let few = below n half e in let most = limit_most size in grind (arith, nat_tests, few, most)
+  positive e = let few = ltb-true n half e in let most = limit_most size in grind (arith, nat_tests, few, most)
 
   negative : nat_lt n half ≡ false → nat_lt (with_sign false size n) (2 ^ 63) ≡ false
   negative e = let many = not_below n half e in let most = limit_most size in let some = limit_some size in grind (arith, nat_tests, many, most, some)
@@ -235,7 +233,7 @@ module _ (size : Size) (n : ℕ) (lt : n < limit_of size) where
   sign_again : (b : Bool) (k : ℕ) → nat_lt n half ≡ b → low size (arithmetic_right (arithmetic_right (with_sign b size n) k) 63) ≡ sign_by b
   sign_again true k e =
       let le = shr_le n k in
-      let few = below n half e in
+      let few = ltb-true n half e in
       let most = limit_most size in
       let small : n / 2 ^ k < 2 ^ 63 = omega (arith, le, few, most) in
       let test : nat_lt (n / 2 ^ k) (2 ^ 63) ≡ true = grind (arith, nat_tests, small) in
@@ -272,7 +270,7 @@ module _ (size : Size) (n : ℕ) (lt : n < limit_of size) where
   shifted_by b count e true f =
       let k = low size count in
       ap (low size) (none_again b (count % 64) e)
-      ∙ (ap (λ c. low size (arithmetic_right (with_sign b size n) c)) (count_low size count (below k 64 f))
+      ∙ (ap (λ c. low size (arithmetic_right (with_sign b size n) c)) (count_low size count (ltb-true k 64 f))
       ∙ (floor_low b k e ∙ in_bits (nat_lt k (bits_of size)) refl))
     where
       in_bits : (c : Bool) → nat_lt (low size count) (bits_of size) ≡ c → floor_by b (low size count) ≡ (if c then signed_right size n (low size count) else sign_of size n)

@@ -9,7 +9,8 @@ use Rattle.alpha_encode.specs.declared.instr.OperateOp.TheVariants.{Sll}
 use Rattle.alpha_encode.specs.declared.instr.Second.TheVariants.{Literal}
 use Rattle.alpha_encode.specs.declared.instr.AlphaInstr.{AlphaInstr}
 use Rattle.alpha_encode.specs.declared.instr.AlphaInstr.TheVariants.{Memory, Operate}
-use Rattle.alpha_encode.specs.Halves.{low_half, high_half, load_high, load_low}
+use Rattle.alpha_encode.specs.declared.registers.TheConstants.{ZERO}
+use Rattle.alpha_encode.specs.Halves.{low_half, high_half, load_high, load_low, load_longword}
 
 -- the high longword with the borrow of the low one added: its two halves together are negative from 7FFF8000 on
 abbrev pub high_long : (value : ℕ) → ℕ
@@ -20,14 +21,11 @@ low_long value = value % 2 ^ 32
 
 -- the low 16 bits, with their sign
 abbrev pub load_short : (register value : ℕ) → AlphaInstr
-load_short register value = Memory Lda register 31 (low_half value)
+load_short register value = Memory Lda register ZERO (low_half value)
 
 -- the high half of a longword is added
 abbrev pub add_high : (register value : ℕ) → AlphaInstr
 add_high register value = Memory Ldah register register (high_half value)
-
-abbrev pub load_long : (register value : ℕ) → List AlphaInstr
-load_long register value = load_high register value ∷ load_low register value ∷ []
 
 abbrev pub load_quad : (register value : ℕ) → List AlphaInstr
 load_quad register value =
@@ -41,7 +39,7 @@ load_quad register value =
 abbrev pub code_of_size : (value : ℕ) → Size → (to : ℕ) → List AlphaInstr
 code_of_size value Byte to = load_short to (low_long value) ∷ []
 code_of_size value Word to = load_short to (low_long value) ∷ []
-code_of_size value Long to = load_long to (low_long value)
+code_of_size value Long to = load_longword to (low_long value)
 code_of_size value Quad to = load_quad to value
 
 -- a number below 2^15 is one displacement, whatever the size

@@ -4,18 +4,15 @@ use Rattle.vax_form.specs.declared.instr.Size.{Size}
 use Rattle.alpha_encode.specs.declared.instr.MemoryOp.TheVariants.{Lda, Ldah}
 use Rattle.alpha_encode.specs.declared.instr.AlphaInstr.{AlphaInstr}
 use Rattle.alpha_encode.specs.declared.instr.AlphaInstr.TheVariants.{Memory, Branch, Operate, Jump, Pal}
+use Rattle.alpha_encode.specs.declared.registers.TheConstants.{ZERO}
 use Rattle.alpha_meaning.specs.Act.{links}
 use Rattle.alpha_meaning.specs.State.{Regs, at_place}
-use Rattle.alpha_meaning.specs.Pieces.{Fetch, Terms, Over, Plain, Runs, HasAt, piece, Only}
+use Rattle.alpha_meaning.specs.Pieces.{Fetch, Terms, Over, Plain, Runs, HasAt, piece, Only, most_words}
 use Rattle.micro_ops.specs.declared.program.Arg.{Arg}
 use Rattle.micro_ops.specs.declared.program.MicroOp.{MicroOp}
 use Rattle.micro_ops.specs.Uses.{is_unary, is_select}
 use Rattle.micro_ops.specs.Values.{low, computed}
 use Rattle.compute_sequences.specs.Registers.{register_at, value_at, may_change}
-
--- the words of the largest code, which has 33,554,432 bytes
-abbrev pub code_words : ℕ
-code_words = 2 ^ 23
 
 -- Behind the words `to` holds what `Is` says, and only `to` and R27 have changed.
 pub record Leaves (Is : ℕ → Type 0) (to : ℕ) (before : Regs) (done : Unit {0}) (regs : Regs) : Type 0 where
@@ -25,7 +22,7 @@ pub record Leaves (Is : ℕ → Type 0) (to : ℕ) (before : Regs) (done : Unit 
 -- The words make no access, for every number of steps, in as many steps as there are words, wherever they stand.
 abbrev pub LeavesAt : (Is : ℕ → Type 0) (to : ℕ) → List AlphaInstr → Regs → Type 0
 LeavesAt Is to words regs =
-    (fetch : Fetch) (terms : Terms) (first n : ℕ) → first + length words ≤ code_words → HasAt fetch first words
+    (fetch : Fetch) (terms : Terms) (first n : ℕ) → first + length words ≤ most_words → HasAt fetch first words
     → Runs (piece fetch terms first (first + length words)) (Leaves Is to regs) n Plain (length words) (at_place regs first) (Over tt)
 
 -- an instruction that makes no access, and writes no register but those that the test allows
@@ -44,11 +41,11 @@ HasLow size value number = low size number ≡ low size value
 
 -- R31 reads zero
 abbrev pub LeavesConstant : (value : ℕ) → Size → (to : ℕ) → List AlphaInstr → Type 0
-LeavesConstant value size to words = (regs : Regs) → regs 31 ≡ 0 → LeavesAt (HasLow size value) to words regs
+LeavesConstant value size to words = (regs : Regs) → regs ZERO ≡ 0 → LeavesAt (HasLow size value) to words regs
 
 -- R31 reads zero, and what the computation reads are quadwords
 pub record MayCompute (op : MicroOp) (a b : Arg) (to : ℕ) (regs : Regs) : Type 0 where
-  pub zero : regs 31 ≡ 0
+  pub zero : regs ZERO ≡ 0
   pub first : regs (register_at a) < 2 ^ 64
   pub second : is_unary op ≡ false → regs (register_at b) < 2 ^ 64
   pub held : is_select op ≡ true → regs to < 2 ^ 64

@@ -8,7 +8,9 @@ ghost use Rattle.compute_sequences.specs.Constants.{low_long, high_long, load_sh
 ghost use Rattle.compute_sequences.specs.Promises.{LeavesConstant, changes_only};
 
 use alpha_encode::registers::ZERO;
-use alpha_encode::{AlphaInstr, MemoryOp, OperateOp, load_high, load_low, operate_by};
+use alpha_encode::{
+    AlphaInstr, MemoryOp, OperateOp, load_high, load_longword, load_low, operate_by,
+};
 use micro_ops::Arg;
 use std::alloc::{AllocError, Global};
 use vax_form::{Size, WantOfMemory};
@@ -72,7 +74,7 @@ pub(crate) fn push_constant(
     let (high, low) = (high_long(value), low_long(value));
     match least_size(value, size) {
         Size::Byte | Size::Word => words.push(load_short(to, low))?,
-        Size::Long => words.extend_from_slice(&[load_high(to, low), load_low(to, low)])?,
+        Size::Long => words.extend_from_slice(&load_longword(to, low))?,
         Size::Quad => words.extend_from_slice(&[
             load_high(to, high),
             load_low(to, high),

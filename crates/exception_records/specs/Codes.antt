@@ -5,6 +5,7 @@ use Rattle.std.specs.Prelude.{ℕ, ◌*◌, ◌%◌, ◌^◌, ◌==◌, Bool, tr
 use Rattle.vt_words.specs.Values.{signed_value}
 use Rattle.vt_words.specs.Arithmetic.{coded_value, sum_of, difference_of}
 use Rattle.vt_words.specs.declared.arithmetic.Coded.{Coded}
+use Rattle.vax_form.specs.Codes.{codes, none}
 use Rattle.vax_form.specs.Size.{bytes_of}
 use Rattle.vax_form.specs.declared.instr.Size.{Size}
 use Rattle.vax_form.specs.declared.state.Flags.{Flags}
@@ -12,17 +13,13 @@ use Rattle.exception_records.specs.declared.rules.CodeRule.{CodeRule}
 use Rattle.exception_records.specs.declared.rules.CodeRule.TheVariants.{Ready, Zero, Result, Add, Sub, Compare}
 use Rattle.exception_records.specs.declared.rules.Rules.{Rules}
 
--- the four condition codes
-abbrev pub flags : (n z v c : Bool) → Flags
-flags n z v c = record { n = n; z = z; v = v; c = c }
-
 -- an operand is the low bytes of its register
 abbrev pub low : Size → (value : ℕ) → ℕ
 low size value = value % 2 ^ (8 * bytes_of size)
 
 -- the condition codes of a result
 abbrev pub codes_of : Coded → Flags
-codes_of coded = flags coded.n coded.z coded.v coded.c
+codes_of coded = codes coded.n coded.z coded.v coded.c
 
 -- MOV, TST: N and Z are by the value, and V is 0
 abbrev pub result_codes : Size → (value : ℕ) → Flags
@@ -39,12 +36,12 @@ difference_codes size first second = codes_of (difference_of (bytes_of size) fir
 -- CMP: N compares as signed numbers, C as unsigned ones, and V is 0
 abbrev pub comparison_codes : Size → (first second : ℕ) → Flags
 comparison_codes size first second =
-    flags (int_lt (signed_value (bytes_of size) first) (signed_value (bytes_of size) second)) (first == second) false (nat_lt first second)
+    codes (int_lt (signed_value (bytes_of size) first) (signed_value (bytes_of size) second)) (first == second) false (nat_lt first second)
 
 -- what a rule gives for what the registers of its operands hold; a code that is ready has no operands
 abbrev pub codes_by : CodeRule → (first second : ℕ) → Flags
-codes_by Ready first second = flags false false false false
-codes_by Zero first second = flags false false false false
+codes_by Ready first second = none
+codes_by Zero first second = none
 codes_by (Result size) first second = result_codes size (low size first)
 codes_by (Add size) first second = sum_codes size (low size first) (low size second)
 codes_by (Sub size) first second = difference_codes size (low size first) (low size second)

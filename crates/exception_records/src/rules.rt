@@ -170,14 +170,8 @@ impl CodeRule {
     pub fn codes(self, first: u64, second: u64) -> Flags
         ensures { result ≡ codes_by self first second }
     {
-        let none = Flags {
-            n: false,
-            z: false,
-            v: false,
-            c: false,
-        };
         match self {
-            CodeRule::Ready | CodeRule::Zero => none,
+            CodeRule::Ready | CodeRule::Zero => Flags::NONE,
             CodeRule::Result { size } => with_signs(size, low(size, first), false, false),
             CodeRule::Add { size } => sum_codes(size, low(size, first), low(size, second)),
             CodeRule::Sub { size } => difference_codes(size, low(size, first), low(size, second)),

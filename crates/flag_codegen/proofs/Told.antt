@@ -2,6 +2,7 @@
 use Rattle.std.proofs.Common.{◌≡◌, ℕ, ◌<◌, refl, sym, ap, ◌∙◌, Bool, true, false}
 use Rattle.std.specs.Prelude.{◌==◌}
 use Rattle.std.proofs.Math.Nat.{mod-eq_of_lt}
+use Rattle.vax_form.specs.Codes.{none}
 use Rattle.vax_form.specs.Size.{bytes_of}
 use Rattle.vax_form.specs.declared.instr.Size.{Size}
 use Rattle.vax_form.specs.declared.state.Flags.{Flags}
@@ -14,7 +15,7 @@ use Rattle.micro_ops.specs.Values.{limit_of}
 use Rattle.micro_ops.specs.Leaving.{sum, difference, comparison_of, SignsComeFrom, CarryComesFrom}
 use Rattle.micro_ops.specs.declared.codes.CodeSource.{CodeSource}
 use Rattle.micro_ops.specs.declared.codes.CodeSource.TheVariants.{Kept, Zero, Result, Add, Sub, Compare, Computed, Psw}
-use Rattle.exception_records.specs.Codes.{low, flags, codes_of, sum_codes, difference_codes, comparison_codes, codes_by, is_ready}
+use Rattle.exception_records.specs.Codes.{low, codes_of, sum_codes, difference_codes, comparison_codes, codes_by, is_ready}
 use Rattle.code_runs.specs.Rules.{rule_of}
 use Rattle.flag_codegen.specs.Words.{operand_words}
 use Rattle.flag_codegen.proofs.Values.{Hold, moved}
@@ -56,12 +57,12 @@ two_held codes size r s t u e e' lt lt' = ap (λ n. codes n (low size s)) (held_
 
 -- by the operands themselves
 abbrev pub codes_told : CodeSource → Temps → Flags
-codes_told Zero temps = flags false false false false
+codes_told Zero temps = none
 codes_told (Result size) temps = codes_of (coded_value (bytes_of size) (temps 0) false false)
 codes_told (Add size) temps = codes_of (sum size temps)
 codes_told (Sub size) temps = codes_of (difference size temps)
 codes_told (Compare size) temps = codes_of (comparison_of size (temps 0) (temps 1))
-codes_told source temps = flags false false false false
+codes_told source temps = none
 
 module _ (temps : Temps) (found left first second : ℕ) where
   told : (source : CodeSource) → AreOperands source first second temps → SignsComeFrom source found left temps → codes_by (rule_of source) first second ≡ codes_told source temps

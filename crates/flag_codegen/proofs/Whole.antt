@@ -3,6 +3,7 @@ use Rattle.std.proofs.Common.{◌≡◌, ℕ, ◌<◌, ◌≤◌, refl, ◌∙�
 use Rattle.std.proofs.lemmas.List.Folds.{list_any-append}
 use Rattle.std.specs.Prelude.{◌==◌, ◌||◌, not, All}
 use Rattle.std.specs.List.{list_all}
+use Rattle.vax_form.specs.Codes.{codes}
 use Rattle.vax_form.specs.declared.instr.Size.{Size}
 use Rattle.vax_form.specs.declared.instr.Size.TheVariants as size_of
 use Rattle.vax_form.specs.declared.state.Flags.{Flags}
@@ -20,7 +21,6 @@ use Rattle.compute_sequences.specs.Words.{raise}
 use Rattle.compute_sequences.proofs.Straight.{Each, each_append, all_of}
 use Rattle.block_law.specs.CodeWords.{most_code_words, may_be_written}
 use Rattle.block_law.specs.Tidy.{register_written, writes_register, codes_written}
-use Rattle.exception_records.specs.Codes.{flags}
 use Rattle.flag_codegen.specs.Made.{is_made, codes_made}
 use Rattle.flag_codegen.specs.Words.{sign, less_words, unlike_words, all_live, when, negative_words, zero_words, overflow_words, carry_words, operand_words, carry_code, signs_code, code_words}
 use Rattle.flag_codegen.specs.Promises.{most_words}
@@ -119,7 +119,7 @@ signs_writes source false true false c = (refl, refl, refl, refl)
 signs_writes source false false true c = (refl, refl, refl, refl)
 signs_writes source false false false c = (refl, refl, refl, refl)
 
-pub same_flags : {n z v c n' z' v' c' : Bool} → n ≡ n' → z ≡ z' → v ≡ v' → c ≡ c' → flags n z v c ≡ flags n' z' v' c'
+pub same_flags : {n z v c n' z' v' c' : Bool} → n ≡ n' → z ≡ z' → v ≡ v' → c ≡ c' → codes n z v c ≡ codes n' z' v' c'
 same_flags a b d e = rw (a, b, d, e) refl
 
 pub words_write : (sources : CodeSources) (live : Flags) → codes_written (code_words sources live) ≡ codes_made sources live
@@ -144,7 +144,7 @@ carry_few Kept false = lit≤ tt
 carry_few source true = lit≤ tt
 carry_few source false = lit≤ tt
 
-signs_few : (source : CodeSource) (n z v c : Bool) → length (signs_code source (flags n z v c)) ≤ 8
+signs_few : (source : CodeSource) (n z v c : Bool) → length (signs_code source (codes n z v c)) ≤ 8
 signs_few Kept true true true c = lit≤ tt
 signs_few Kept true true false c = lit≤ tt
 signs_few Kept true false true c = lit≤ tt

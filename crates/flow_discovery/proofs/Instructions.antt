@@ -9,7 +9,8 @@ use Rattle.vax_form.specs.Row.{class_at}
 use Rattle.vax_form.specs.declared.row.Class.TheVariants.{Reserved}
 use Rattle.vax_form.specs.declared.instr.Instr.{Instr}
 use Rattle.vax_form.specs.declared.pages.Pages.{Pages}
-use Rattle.flow_discovery.specs.Reach.{AreReached, IsReach, decodes, has, instruction_at}
+use Rattle.vax_form.specs.Targets.{has}
+use Rattle.flow_discovery.specs.Reach.{AreReached, IsReach, decodes, instruction_at}
 use Rattle.flow_discovery.proofs.Decoded.{address_of, class_of}
 use Rattle.flow_discovery.proofs.Work.{decoded}
 

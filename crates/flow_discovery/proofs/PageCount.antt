@@ -6,10 +6,11 @@ use Rattle.std.proofs.lemmas.Bool.{and_parts}
 use Rattle.std.proofs.lemmas.List.Folds.{list_any-append}
 use Rattle.std.proofs.lemmas.Map.Made.{length-le_from_is_member}
 use Rattle.std.specs.List.{list_any}
+use Rattle.std.proofs.Math.Bool.{or-true}
 use Rattle.vax_form.specs.PageTable.{code_bytes, code_length, has_page}
 use Rattle.vax_form.specs.Pages.{has_code}
 use Rattle.vax_form.specs.declared.pages.PageRange.{PageRange}
-use Rattle.flow_discovery.specs.Reach.{has}
+use Rattle.vax_form.specs.Targets.{has}
 
 -- so many numbers from a number on
 abbrev counted_from : ℕ → ℕ → List ℕ
@@ -57,14 +58,10 @@ has_address [] x e = e
 has_address (r ∷ rest) x e =
     list_any-append (nat_eq x) (counted_from (512 * r.first) (code_bytes r)) (addresses_of rest) ∙ go (has_code x r) refl e (has_address rest x)
   where
-    or_true : (b : Bool) → (b || true) ≡ true
-    or_true true = refl
-    or_true false = refl
-
     go : (b : Bool) → has_code x r ≡ b → (b || list_any (has_code x) rest) ≡ true → (list_any (has_code x) rest ≡ true → has (addresses_of rest) x ≡ true)
         → (has (counted_from (512 * r.first) (code_bytes r)) x || has (addresses_of rest) x) ≡ true
     go true here e later = rw (range_has r x here) refl
-    go false here e later = rw (later e) (or_true (has (counted_from (512 * r.first) (code_bytes r)) x))
+    go false here e later = rw (later e) (or-true (has (counted_from (512 * r.first) (code_bytes r)) x))
 
 pub few_in_pages : (ranges : List PageRange) (keys : List ℕ) → IsDistinct nat_eq keys → ((x : ℕ) → has keys x ≡ true → list_any (has_code x) ranges ≡ true) → length keys ≤ code_length ranges
 few_in_pages ranges keys unique within =

@@ -15,7 +15,8 @@ use Rattle.indexmap.specs.IndexSet.{insert_all, insert_key}
 use Rattle.vax_form.specs.PageTable.{code_length}
 use Rattle.vax_form.specs.declared.instr.Instr.{Instr}
 use Rattle.vax_form.specs.declared.pages.Pages.{Pages}
-use Rattle.flow_discovery.specs.Reach.{AreReached, HasMembers, Member, decodes, has, instruction_at, start, step, successors}
+use Rattle.vax_form.specs.Targets.{has}
+use Rattle.flow_discovery.specs.Reach.{AreReached, HasMembers, Member, decodes, instruction_at, start, step, successors}
 use Rattle.flow_discovery.proofs.Decoded.{code_at}
 use Rattle.flow_discovery.proofs.PageCount.{few_in_pages}
 

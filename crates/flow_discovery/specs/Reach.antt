@@ -1,18 +1,14 @@
 -- The addresses of instructions that can be reached: the least set that has the starts, and with each of its members
 -- the addresses to which that goes on, as far as instructions stand there.
-use Rattle.std.specs.Prelude.{◌≡◌, ◌↔◌, ◌<◌, ℕ, Bool, IsTrue, List, [], All, Option, Some, None, is_some, length, map, nat_eq}
+use Rattle.std.specs.Prelude.{◌≡◌, ◌↔◌, ◌<◌, ℕ, Bool, IsTrue, List, [], All, Option, Some, None, is_some, length, map}
 use Rattle.std.specs.Option.{option_map_or}
-use Rattle.std.specs.List.{list_any}
 use Rattle.std.specs.List.Sorted.{IsStrictlyIncreasing}
 use Rattle.vax_form.specs.Grammar.{Found, instruction, past, reserved_instruction, reserved_mode}
 use Rattle.vax_form.specs.declared.instr.Instr.{Instr}
 use Rattle.vax_form.specs.declared.pages.Pages.{Pages}
 use Rattle.vax_form.specs.GrammarFound.{found}
+use Rattle.vax_form.specs.Targets.{has}
 use Rattle.flow_discovery.specs.Flow.{goes_on}
-
--- the address is in the list
-abbrev pub has : List ℕ → ℕ → Bool
-has addresses address = list_any (nat_eq address) addresses
 
 abbrev pub instruction_in : Found → Option Instr
 instruction_in (instruction instr) = Some instr

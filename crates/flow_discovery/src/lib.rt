@@ -7,7 +7,8 @@ mod members;
 
 ghost use Rattle.std.specs.Prelude.{◌≡◌, ◌≢◌, ◌≤◌, All, IfErr, IfOk, length, map};
 ghost use Rattle.vax_form.specs.Row.{class_at};
-ghost use Rattle.flow_discovery.specs.Reach.{IsReach, has, most};
+ghost use Rattle.vax_form.specs.Targets.{has};
+ghost use Rattle.flow_discovery.specs.Reach.{IsReach, most};
 ghost use Rattle.flow_discovery.specs.Starts.{starts};
 
 use exact_lists::list_of;

@@ -5,6 +5,7 @@ use Rattle.std.proofs.Math.ListN.{get_or-append}
 use Rattle.std.proofs.lemmas.Bool.{cases_lt, le-leb, le-ltb, lt-ltb}
 use Rattle.std.proofs.lemmas.List.{get_or-append-add, get_or-replicate, take-append-drop}
 use Rattle.std.proofs.lemmas.Option.{slice_get-get_or}
+use Rattle.std.proofs.Math.Bool.{and-false}
 use Rattle.vax_form.specs.Grammar.{Decides, Found, past, reserved_instruction, wrapped}
 use Rattle.vax_form.specs.GrammarFound.{IsFetched, fetched, found, found_in}
 use Rattle.vax_form.specs.GrammarReading.{read_instruction}
@@ -21,10 +22,6 @@ use Rattle.report_text.specs.Generated.{code_section}
 use Rattle.report_text.proofs.GeneratedLaws.{code_range, data_range, table_with}
 
 -- ---- bytes of the read-only pages
-and_false : (b : Bool) → (b && false) ≡ false
-and_false true = refl
-and_false false = refl
-
 second : (address : ℕ) (d c : PageRange) (b : Bool) → has_code address d ≡ false → has_code address c ≡ b
     → find (has_code address) (d ∷ c ∷ []) ≡ cond b (Some c) None
 second address d c b not_first is = λ i. cond (not_first i) (Some d) (cond (is i) (Some c) None)
@@ -45,7 +42,7 @@ byte_here code j inside =
     let page : ℕ = (65536 + j) / 512 in
     let low : 128 ≤ page = omega arith in
     let high : page < 128 + page_count (length code) = omega (arith, inside) in
-    let range = second (65536 + j) data_range (code_range code) true (and_false _) (within page (page_count (length code)) low high) in
+    let range = second (65536 + j) data_range (code_range code) true (and-false _) (within page (page_count (length code)) low high) in
     let place : 0 + (65536 + j - 65536) ≡ j = omega arith in
     ap (option_map (λ (r : PageRange). get_or (bytes_of code) (r.place + (65536 + j - 512 * r.first)) 0)) range
     ∙ ap (λ k. Some (get_or (bytes_of code) k 0)) place
@@ -54,7 +51,7 @@ no_byte : (code : List ℕ) (j : ℕ) → page_bytes (length code) ≤ j → cod
 no_byte code j behind =
     let page : ℕ = (65536 + j) / 512 in
     let high : 128 + page_count (length code) ≤ page = omega (arith, behind) in
-    let range = second (65536 + j) data_range (code_range code) false (and_false _) (beyond page (page_count (length code)) high) in
+    let range = second (65536 + j) data_range (code_range code) false (and-false _) (beyond page (page_count (length code)) high) in
     ap (option_map (λ (r : PageRange). get_or (bytes_of code) (r.place + (65536 + j - 512 * r.first)) 0)) range
 
 -- ---- a part of the code

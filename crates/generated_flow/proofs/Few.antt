@@ -1,10 +1,11 @@
 -- At most so many instructions of a generated image can be reached.
 use Rattle.std.proofs.Common.{◌≡◌, ℕ, zero, suc, ◌+◌, ◌^◌, ◌<◌, ◌≤◌, Bool, true, false, ◌||◌, List, [], ◌∷◌, ◌++◌, length, get_or, refl, sym, ap, subst, ◌∙◌, arith, nat_eq, append-nil, length-append, lit≤}
 use Rattle.std.specs.List.{AllByRecursion}
-use Rattle.std.proofs.lemmas.Bool.Decides.{nat_tests}
 use Rattle.std.proofs.lemmas.List.Folds.{list_any_at}
+use Rattle.std.proofs.lemmas.Bool.{eqb-true, eq-eqb}
 use Rattle.vax_form.specs.declared.pages.Pages.{Pages}
-use Rattle.flow_discovery.specs.Reach.{AreReached, has}
+use Rattle.vax_form.specs.Targets.{has}
+use Rattle.flow_discovery.specs.Reach.{AreReached}
 use Rattle.flow_discovery.specs.Starts.{starts}
 use Rattle.report_text.specs.Generated.{back_bytes, front_bytes, generated_code, generated_image, group_bytes, group_of, groups, image_with, number_of_group}
 use Rattle.report_text.proofs.GeneratedLaws.{code_few, group_few, pages_with, table_with}
@@ -75,15 +76,9 @@ four : (b : Bool) → (b || (b || (b || (b || false)))) ≡ true → b ≡ true
 four true is = refl
 four false is = is
 
-same_test : (a b : ℕ) → nat_eq a b ≡ true → a ≡ b
-same_test a b h = grind (arith, nat_tests)
-
-own_test : (a : ℕ) → nat_eq a a ≡ true
-own_test a = grind (arith, nat_tests)
-
 starts_are : (number a : ℕ) → has (starts (generated_image number) []) a ≡ true → a ≡ 65536
 unfolding image_with
-starts_are number a h = same_test a 65536 (four (nat_eq a 65536) h)
+starts_are number a h = eqb-true a 65536 (four (nat_eq a 65536) h)
 
 pages_are : (number : ℕ) → (generated_image number).pages ≡ table_with (joined (pieces number))
 unfolding image_with
@@ -102,7 +97,7 @@ reaches_few number addresses few reached =
     not_more (λ j. 65536 + offset j ps) grows (number + 5) addresses of_pieces.rising
     (λ i inside.
     let a : ℕ = get_or addresses i 0 in
-    let member = (of_pieces.members a).0 (list_any_at (nat_eq a) addresses i 0 inside (own_test a)) in
+    let member = (of_pieces.members a).0 (list_any_at (nat_eq a) addresses i 0 inside (eq-eqb a a refl)) in
     let there = place ps (pieces_flow number) some size begins (starts_are number) a member in
     let high = there.1 in
     (there.0, omega (arith, high, count), there.2))

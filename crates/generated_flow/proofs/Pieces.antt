@@ -6,7 +6,8 @@ use Rattle.std.proofs.lemmas.Bool.{cases_lt}
 use Rattle.std.proofs.lemmas.Bool.Decides.{nat_tests}
 use Rattle.vax_form.specs.Grammar.{Found, instruction, wrapped}
 use Rattle.flow_discovery.specs.Flow.{goes_on}
-use Rattle.flow_discovery.specs.Reach.{Member, decodes, has, instruction_at, instruction_in, start, step, successors}
+use Rattle.vax_form.specs.Targets.{has}
+use Rattle.flow_discovery.specs.Reach.{Member, decodes, instruction_at, instruction_in, start, step, successors}
 use Rattle.report_text.proofs.GeneratedLaws.{table_with}
 use Rattle.generated_flow.proofs.Fetching.{no_end, part_here, stands}
 use Rattle.generated_flow.proofs.Forms.{Goes}

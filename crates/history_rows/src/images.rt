@@ -2,16 +2,9 @@
 ghost use Rattle.std.specs.Prelude.{◌≤◌, IfOk, length};
 ghost use Rattle.image_file.specs.Whole.{IsWhole};
 
-use image_file::{Image, ImageRefusal, read_image};
+use image_file::{Image, ImageRefusal, put_words, read_image};
 use std::alloc::{AllocError, Global};
 use std::io::{self, ErrorKind};
-
-fn push_longwords(file: &mut Vec<u8>, longwords: &[u32]) -> Result<(), AllocError> {
-    for longword in longwords {
-        file.extend_from_slice(&longword.to_le_bytes())?;
-    }
-    Ok(())
-}
 
 /// The header of version 1, for two sections, and the threads.
 fn head_of(alloc: Global, starts: &[u32]) -> Result<Vec<u8>, AllocError>
@@ -21,7 +14,7 @@ fn head_of(alloc: Global, starts: &[u32]) -> Result<Vec<u8>, AllocError>
     let mut head = b"VXIM\x01\0".to_vec(alloc)?;
     head.extend_from_slice(&[threads, 0, 2, 0, 0, 0])?;
     for start in starts {
-        push_longwords(&mut head, &[*start, 0x1200])?;
+        put_words(&mut head, &[*start, 0x1200])?;
     }
     Ok(head)
 }
@@ -33,8 +26,8 @@ fn file_of(alloc: Global, starts: &[u32], code: &[u8], stored: &[u8]) -> Result<
 {
     let (code_bytes, stored_bytes) = (code.len() as u32, stored.len() as u32);
     let mut file = head_of(alloc, starts)?;
-    push_longwords(&mut file, &[0x200, 0x200, code_bytes, 0])?;
-    push_longwords(&mut file, &[0x1000, 0x200, stored_bytes, 1])?;
+    put_words(&mut file, &[0x200, 0x200, code_bytes, 0])?;
+    put_words(&mut file, &[0x1000, 0x200, stored_bytes, 1])?;
     file.extend_from_slice(code)?;
     file.extend_from_slice(stored)?;
     Ok(file)

@@ -29,8 +29,8 @@ use Rattle.vax_meaning.specs.Branches.{pc_after, branch_if, branch, branch_on_lo
 use Rattle.vax_meaning.specs.Branches as branches
 use Rattle.vax_meaning.specs.Fields.{with_bits, field_address, field_bytes, field_value, extended, extract_field, put_bytes, put_field, insert_field, leave_bit, byte_found, bit_found, branch_on_bit}
 use Rattle.vax_meaning.specs.Control.{put_byte, get_byte, exchange_handler, serve, change_mode}
-use Rattle.cc_liveness.specs.Codes.{holds, none, all, all_but_carry}
-use Rattle.cc_liveness.specs.Codes as code
+use Rattle.vax_form.specs.Codes.{holds, none, all, all_but_carry}
+use Rattle.vax_form.specs.Codes as code
 use Rattle.cc_liveness.specs.Uses.{tested_by}
 use Rattle.image_meaning.proofs.Alike.{Case, Stand, Uses, use_pure, use_bind, use_then, use_either, use_ask, use_check, use_fail, use_get}
 use Rattle.image_meaning.proofs.AlikeStates.{use_get_register, use_set_register, use_pc, use_go_to, use_finish, use_handler, use_pending, same_carry, same_overflow, same_zero, same_negative, use_all, use_three, anywhere}

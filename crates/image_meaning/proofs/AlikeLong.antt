@@ -21,7 +21,7 @@ use Rattle.vax_long.specs.Index.{index_of, index}
 use Rattle.vax_long.specs.Registers.{is_in_mask, below, check_push, check_registers, push_checked, push_registers, pop_checked, pop, pop_register, pop_registers, push_by_mask, pop_by_mask}
 use Rattle.vax_long.specs.Calls.{aligned, entry_mask, check_frame, frame_status, push_frame, entry_psw, enter, call_general, call_stack, with_released, release_arguments, leave, return_from_procedure}
 use Rattle.vax_long.specs.Strings.{beyond, beside, move_bytes, move_string, fill_bytes, with_moved, move_characters, move_characters_filled, fetch_byte, compare_bytes, compare_characters, scan_bytes, scan_characters}
-use Rattle.cc_liveness.specs.Codes.{holds, none, all}
+use Rattle.vax_form.specs.Codes.{holds, none, all}
 use Rattle.block_law.specs.CodeWords.{codes_in}
 use Rattle.image_meaning.proofs.Alike.{Case, Stand, Follow, Equal, Uses, follow_bind, follow_get, follow_change, use_pure, use_bind, use_then, use_either, use_ask, use_check, use_fail}
 use Rattle.image_meaning.proofs.AlikeStates.{use_registers, use_get_register, use_set_register, use_pc, use_go_to, use_all, none_out, anywhere}

@@ -27,8 +27,8 @@ use Rattle.vax_meaning.specs.Operands.{put, store}
 use Rattle.vax_meaning.specs.Codes.{with_codes, with_all, sign_of, carry_of}
 use Rattle.vax_meaning.specs.Moves.{give, move_zero_extended, push, push_value, compare, test_value, bit_test, move_psl, change_psw}
 use Rattle.vax_meaning.specs.Arithmetic.{replace, give_coded, binary_of, finish_binary, two_operands, three_operands, add_with_carry, subtract_with_carry, add_aligned, leave_aligned, add_aligned_word, extended_multiply}
-use Rattle.cc_liveness.specs.Codes.{Code, holds, none, all, all_but_carry}
-use Rattle.cc_liveness.specs.Codes as code
+use Rattle.vax_form.specs.Codes.{Code, holds, none, all, all_but_carry}
+use Rattle.vax_form.specs.Codes as code
 use Rattle.cc_liveness.specs.Uses.{written_by_binary}
 use Rattle.block_law.specs.CodeWords.{codes_in}
 use Rattle.image_meaning.proofs.Alike.{Case, Stand, Follow, Equal, Uses, follow_bind, follow_get, follow_change, use_pure, use_bind, use_then, use_either, use_check, use_fail, use_get}

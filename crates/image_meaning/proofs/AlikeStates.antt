@@ -1,6 +1,7 @@
 -- What changes of a state leave alike: registers, the PC, and condition codes.
 use Rattle.std.proofs.Common.{◌≡◌, ℕ, ◌+◌, ◌*◌, ◌/◌, ◌%◌, ◌≤◌, ◌<◌, Bool, true, false, List, refl, sym, ap, ◌∙◌, arith}
 use Rattle.std.specs.Prelude.{◌==◌, ◌&&◌, slice_index, slice_set, if◌then◌else◌}
+use Rattle.vt_words.proofs.Tests.{bit_tells, bit_most}
 use Rattle.vt_words.specs.Values.{bit}
 use Rattle.vax_form.specs.State.{with_core, with_pc, with_handler, with_pending, register}
 use Rattle.vax_form.specs.Script.{change}
@@ -11,11 +12,10 @@ use Rattle.vax_form.specs.declared.state.Pending.{Pending}
 use Rattle.vax_form.specs.declared.state.VaxState.{VaxState}
 use Rattle.vax_meaning.specs.Codes.{with_codes, carry_of, overflow_of, zero_of, negative_of, trap_enabled, go_to, finish}
 use Rattle.vax_meaning.specs.Operands.{get_register, set_register}
-use Rattle.cc_liveness.specs.Codes.{Code, holds, codes, all, all_but_carry}
-use Rattle.cc_liveness.specs.Codes as code
+use Rattle.vax_form.specs.Codes.{Code, holds, codes, all, all_but_carry}
+use Rattle.vax_form.specs.Codes as code
 use Rattle.cc_liveness.proofs.Lives.{holds_all}
 use Rattle.block_law.specs.CodeWords.{codes_in}
-use Rattle.image_meaning.proofs.States.{bit_below}
 use Rattle.image_meaning.proofs.Alike.{Case, Stand, Uses, use_pure, use_then, use_get, follow_change}
 
 -- ---- registers, the PC and the rest
@@ -114,27 +114,23 @@ anywhere c e f = absurd (cc (e, f))
 abbrev pub packed : (n z v c : Bool) → ℕ
 packed n z v c = bit n * 8 + bit z * 4 + bit v * 2 + bit c
 
-is_one : (b : Bool) → (bit b == 1) ≡ b
-is_one true = refl
-is_one false = refl
-
 packed_less : (n z v c : Bool) → packed n z v c < 16
-packed_less n z v c = let a = bit_below n in let b = bit_below z in let d = bit_below v in let e = bit_below c in omega arith
+packed_less n z v c = let a = bit_most n in let b = bit_most z in let d = bit_most v in let e = bit_most c in omega arith
 
 codes_packed : (u : ℕ) (n z v c : Bool) (which : Code) → holds which (codes_in (u * 16 + packed n z v c)) ≡ holds which (codes n z v c)
-codes_packed u n z v c code.negative = ap (λ x. x == 1) (by (bit n) (bit z) (bit v) (bit c) (bit_below n) (bit_below z) (bit_below v) (bit_below c)) ∙ is_one n
+codes_packed u n z v c code.negative = ap (λ x. x == 1) (by (bit n) (bit z) (bit v) (bit c) (bit_most n) (bit_most z) (bit_most v) (bit_most c)) ∙ bit_tells n
   where
     by : (a b d e : ℕ) → a ≤ 1 → b ≤ 1 → d ≤ 1 → e ≤ 1 → (u * 16 + (a * 8 + b * 4 + d * 2 + e)) / 8 % 2 ≡ a
     by a b d e p q r s = omega arith
-codes_packed u n z v c code.zero_code = ap (λ x. x == 1) (by (bit n) (bit z) (bit v) (bit c) (bit_below n) (bit_below z) (bit_below v) (bit_below c)) ∙ is_one z
+codes_packed u n z v c code.zero_code = ap (λ x. x == 1) (by (bit n) (bit z) (bit v) (bit c) (bit_most n) (bit_most z) (bit_most v) (bit_most c)) ∙ bit_tells z
   where
     by : (a b d e : ℕ) → a ≤ 1 → b ≤ 1 → d ≤ 1 → e ≤ 1 → (u * 16 + (a * 8 + b * 4 + d * 2 + e)) / 4 % 2 ≡ b
     by a b d e p q r s = omega arith
-codes_packed u n z v c code.overflow = ap (λ x. x == 1) (by (bit n) (bit z) (bit v) (bit c) (bit_below n) (bit_below z) (bit_below v) (bit_below c)) ∙ is_one v
+codes_packed u n z v c code.overflow = ap (λ x. x == 1) (by (bit n) (bit z) (bit v) (bit c) (bit_most n) (bit_most z) (bit_most v) (bit_most c)) ∙ bit_tells v
   where
     by : (a b d e : ℕ) → a ≤ 1 → b ≤ 1 → d ≤ 1 → e ≤ 1 → (u * 16 + (a * 8 + b * 4 + d * 2 + e)) / 2 % 2 ≡ d
     by a b d e p q r s = omega arith
-codes_packed u n z v c code.carry = ap (λ x. x == 1) (by (bit n) (bit z) (bit v) (bit c) (bit_below n) (bit_below z) (bit_below v) (bit_below c)) ∙ is_one c
+codes_packed u n z v c code.carry = ap (λ x. x == 1) (by (bit n) (bit z) (bit v) (bit c) (bit_most n) (bit_most z) (bit_most v) (bit_most c)) ∙ bit_tells c
   where
     by : (a b d e : ℕ) → a ≤ 1 → b ≤ 1 → d ≤ 1 → e ≤ 1 → (u * 16 + (a * 8 + b * 4 + d * 2 + e)) / 1 % 2 ≡ e
     by a b d e p q r s = omega arith

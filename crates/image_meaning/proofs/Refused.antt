@@ -18,7 +18,7 @@ use Rattle.vax_form.specs.declared.operation.Operation.{Operation}
 use Rattle.vax_form.specs.declared.operation.Operation.TheVariants as operations
 use Rattle.vax_form.specs.declared.state.Pending.TheVariants.{Nothing}
 use Rattle.cc_liveness.specs.declared.uses.CodeUse.{CodeUse}
-use Rattle.cc_liveness.specs.Codes.{negative, zero_code, overflow, carry, none, all}
+use Rattle.vax_form.specs.Codes.{negative, zero_code, overflow, carry, none, all}
 use Rattle.cc_liveness.specs.Uses.{goes_on, may_jump, code_use_of}
 use Rattle.image_meaning.specs.CodeUses.{SameButCodes, AgreeOn, AreUsedAs}
 use Rattle.vax_form.specs.Row.{operands_of}

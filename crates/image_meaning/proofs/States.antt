@@ -3,6 +3,7 @@ use Rattle.std.proofs.Common.{ℕ, ◌+◌, ◌*◌, ◌/◌, ◌%◌, ◌<◌, 
 use Rattle.std.proofs.lemmas.Bool.{cases_lt}
 use Rattle.std.proofs.lemmas.List.{length-set, get_or_past}
 use Rattle.std.proofs.lemmas.List.Elements.{All-set}
+use Rattle.vt_words.proofs.Tests.{bit_most}
 use Rattle.vax_form.specs.State.{IsState, register, with_register, with_pc, with_psw, with_handler, with_pending}
 use Rattle.vax_form.specs.declared.state.Pending.{Pending}
 use Rattle.vax_form.specs.declared.state.VaxState.{VaxState}
@@ -43,12 +44,8 @@ with_handler_is handler state small is = record { registers = is.registers; long
 pub with_pending_is : (pending : Pending) (state : VaxState) → IsState state → IsState (with_pending pending state)
 with_pending_is pending state is = record { registers = is.registers; longwords = is.longwords; pc = is.pc; psw = is.psw; handler = is.handler }
 
-pub bit_below : (b : Bool) → bit b ≤ 1
-bit_below true = omega arith
-bit_below false = omega arith
-
 codes_below : (psw n z v c : ℕ) → psw < 256 → n ≤ 1 → z ≤ 1 → v ≤ 1 → c ≤ 1 → psw / 16 * 16 + (n * 8 + z * 4 + v * 2 + c) < 256
 codes_below psw n z v c small a b d e = omega arith
 
 pub with_codes_is : (n z v c : Bool) (state : VaxState) → IsState state → IsState (with_codes n z v c state)
-with_codes_is n z v c state is = with_psw_is _ state (codes_below state.psw (bit n) (bit z) (bit v) (bit c) is.psw (bit_below n) (bit_below z) (bit_below v) (bit_below c)) is
+with_codes_is n z v c state is = with_psw_is _ state (codes_below state.psw (bit n) (bit z) (bit v) (bit c) is.psw (bit_most n) (bit_most z) (bit_most v) (bit_most c)) is

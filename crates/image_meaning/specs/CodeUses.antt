@@ -11,7 +11,7 @@ use Rattle.vax_form.specs.declared.state.VaxState.{VaxState}
 use Rattle.vax_long.specs.Instructions.{any_script_of}
 use Rattle.vax_form.specs.Tree.{instruction_tree}
 use Rattle.cc_liveness.specs.declared.uses.CodeUse.{CodeUse}
-use Rattle.cc_liveness.specs.Codes.{Code, holds}
+use Rattle.vax_form.specs.Codes.{Code, holds}
 use Rattle.cc_liveness.specs.Uses.{code_use_of}
 use Rattle.block_law.specs.CodeWords.{codes_in}
 

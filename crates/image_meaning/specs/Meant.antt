@@ -10,7 +10,7 @@ use Rattle.vax_form.specs.declared.state.Reference.{Reference}
 use Rattle.vax_meaning.specs.Control.{serve}
 use Rattle.vax_long.specs.Instructions.{tree_at}
 use Rattle.vax_long.specs.Pending.{moment_at}
-use Rattle.cc_liveness.specs.Codes.{none}
+use Rattle.vax_form.specs.Codes.{none}
 use Rattle.cc_liveness.specs.Uses.{code_use_of}
 use Rattle.alpha_meaning.specs.Pieces.{Kinds}
 use Rattle.block_law.specs.Translations.{Meaning}

@@ -1,7 +1,7 @@
 -- What a block's judgement owes at each step of a processor.
 use Rattle.std.proofs.Common.{◌≡◌, ℕ, ◌<◌, ◌≤◌, ◌+◌, ◌-◌, ◌*◌, ◌/◌, ◌%◌, ◌^◌, ◌==◌, ◌⊎◌, inl, inr, Bool, true, false, if◌then◌else◌, [], Option, Some, None, refl, sym, ap, ◌∙◌, subst, arith, lit<}
 use Rattle.std.specs.Prelude.{nat_lt}
-use Rattle.std.proofs.lemmas.Bool.{and_from}
+use Rattle.std.proofs.lemmas.Bool.{and_from, eqb-true}
 use Rattle.std.proofs.lemmas.Bool.Decides.{nat_tests}
 use Rattle.std.proofs.Math.Path.{fun_ext}
 use Rattle.vt_words.specs.Quad.{sign_extended}
@@ -296,9 +296,6 @@ module _ (setting : Setting) (thread : ℕ) (sound : IsSound setting.meaning) (r
         let same : x % 2 ^ 32 % 2 ^ 32 ≡ x % 2 ^ 32 = omega arith in
         ap (λ low. if nat_lt low (2 ^ 31) then low else low + (2 ^ 64 - 2 ^ 32)) same
 
-    same_number : (n k : ℕ) → (n == k) ≡ true → n ≡ k
-    same_number n k h = grind (arith, nat_tests)
-
     -- R0 written with what it holds
     r0_stays : (regs : Regs) → InForm regs → put regs 0 (sign_extended (regs 0 % 2 ^ 32) 32) ≡ regs
     r0_stays regs form = fun_ext (λ n. by n (n == 0) refl)
@@ -307,7 +304,7 @@ module _ (setting : Setting) (thread : ℕ) (sound : IsSound setting.meaning) (r
         value = longword_again (regs 0) ∙ form.longwords 0 (lit< tt)
 
         by : (n : ℕ) (zero_test : Bool) → (n == 0) ≡ zero_test → (if zero_test then sign_extended (regs 0 % 2 ^ 32) 32 else regs n) ≡ regs n
-        by n true e = value ∙ ap regs (sym (same_number n 0 e))
+        by n true e = value ∙ ap regs (sym (eqb-true n 0 e))
         by n false e = refl
 
     module _ (few_threads : thread < 256) (point : Point) (c : Alpha) (spare : ℕ) (next : Round) (form : InForm c.regs) where

@@ -4,6 +4,7 @@ use Rattle.std.proofs.lemmas.Nat.{or_lt, and_le_l, and_le_r, pow-add, pow_below,
 use Rattle.std.proofs.lemmas.Nat.Bits.{bit_at-lt}
 use Rattle.std.specs.Int.{bit_at, byte_at}
 use Rattle.std.specs.Int.Bits.{or_zero_l, or_zero_r}
+use Rattle.std.proofs.lemmas.Bool.{eqb-true}
 use Rattle.vt_words.specs.Quad.{byte_of, spread, kept, cleared, field_of, with_field_of}
 use Rattle.vt_words.proofs.Laws.{byte_of_or, byte_of_and, byte_of_kept, byte_of_cleared, same_from_bytes}
 use Rattle.vt_words.proofs.Fields.{IsRun, run_of, replaced_run}
@@ -12,7 +13,6 @@ use Rattle.memory_core.specs.Bytes.{with_bytes, word_at}
 use Rattle.memory_core.specs.Changes.{changed}
 use Rattle.memory_core.specs.declared.entry.Change.{Change}
 use Rattle.memory_core.specs.declared.entry.Change.TheVariants as changes
-use Rattle.memory_core.proofs.Choices.{same_number}
 use Rattle.memory_core.proofs.Neighbours.{below_8, byte_at-with_bytes, others_stay}
 use Rattle.vax_form.specs.declared.state.RefKind.{RefKind}
 use Rattle.vax_form.specs.declared.state.RefKind.TheVariants.{Read, Write, Add, SetBit, ClearBit, Put, Get}
@@ -146,7 +146,7 @@ by_byte change q at v small l lv lc here apart =
 
     at_place : (k : ℕ) → k < 8 → (b : Bool) → (k == at) ≡ b → (if (if b then 1 else 0) == 1 then byte_at k (v * 2 ^ (8 * at)) else byte_at k q) ≡ byte_of k (changed change q)
     at_place k l' true e =
-        let same = same_number k at e in
+        let same = eqb-true k at e in
         byte_is k (v * 2 ^ (8 * at)) l' ∙ ap (λ n. byte_of n (v * 2 ^ (8 * at))) same ∙ mod_of v at lv ∙ sym here ∙ ap (λ n. byte_of n (changed change q)) (sym same)
     at_place k l' false e = sym (apart k l' e) ∙ byte_is k (changed change q) l'
 

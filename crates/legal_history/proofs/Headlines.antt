@@ -6,6 +6,7 @@ use Rattle.std.specs.List.{AllByRecursion}
 use Rattle.std.proofs.lemmas.List.{length-append}
 use Rattle.std.proofs.lemmas.List.Elements.{All-nil, All-cons}
 use Rattle.std.proofs.lemmas.Option.{slice_get_within}
+use Rattle.system_model.proofs.Lists.{there_is}
 use Rattle.alpha_meaning.specs.State.{Alpha, Regs, at_place}
 use Rattle.image_file.specs.Start.{start_state}
 use Rattle.image_file.specs.Whole.{StartFits}
@@ -53,11 +54,6 @@ beyond : {A : Type 0} (xs : List A) (n : ℕ) → slice_get xs n ≡ None → le
 beyond [] n h = omega arith
 beyond (x ∷ xs) zero h = absurd (cc h)
 beyond (x ∷ xs) (suc n) h = omega (arith, beyond xs n h)
-
-pub there_is : {A : Type 0} (xs : List A) (n : ℕ) → n < length xs → (x : A) × (slice_get xs n ≡ Some x)
-there_is [] n h = absurd (omega arith)
-there_is (x ∷ xs) zero h = (x, refl)
-there_is (x ∷ xs) (suc n) h = there_is xs n (omega arith)
 
 -- ---- starts
 with_last : (first : List ℕ) (sp : ℕ) → AllByRecursion (λ (value : ℕ). value < 2 ^ 32) first → sp < 2 ^ 32 → All (λ value. value < 2 ^ 32) (first ++ sp ∷ [])

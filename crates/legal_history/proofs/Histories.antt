@@ -3,6 +3,7 @@ use Rattle.std.proofs.Common.{◌≡◌, ◌≢◌, ℕ, suc, ◌+◌, ◌-◌, 
 use Rattle.std.specs.Int.{byte_at}
 use Rattle.std.proofs.lemmas.Bool.Decides.{nat_tests}
 use Rattle.std.proofs.lemmas.Nat.{mod_below}
+use Rattle.std.proofs.lemmas.Bool.{eqb-true}
 use Rattle.vax_form.specs.declared.state.Reference.{Reference}
 use Rattle.vax_form.specs.declared.state.RefKind.{RefKind}
 use Rattle.vax_form.specs.declared.state.RefKind.TheVariants.{Read, Write, Add, SetBit, ClearBit, Put, Get}
@@ -15,7 +16,7 @@ use Rattle.memory_core.specs.Contents.{output_of}
 use Rattle.memory_core.specs.Kinds.{is_memory, is_put, is_get, writes}
 use Rattle.memory_core.specs.Opening.{opening}
 use Rattle.memory_core.specs.Order.{own, stands_on, left_by, gets, found, Fits, Meets}
-use Rattle.memory_core.proofs.Choices.{if_true, if_false, second_true, same_number}
+use Rattle.memory_core.proofs.Choices.{if_true, if_false, second_true}
 use Rattle.memory_core.proofs.LookingBack.{found_left, reader_leaves}
 use Rattle.vax_form.specs.References.{reply_by, changed_by, changed, AreBytes}
 use Rattle.vax_form.specs.Made.{Made, bytes_after, output_by, output_after, gets_by, gets_after, input_at, replies_to, make}
@@ -136,7 +137,7 @@ module _ (threads : Threads) (set_up : SetUp) where
       quads = λ quad al.
           sym (if_same (stands_on e quad) e.after (left_by set_up past quad) (quad_at (changed reference here) quad)
           (λ s.
-          let at : quad_address reference ≡ quad = sym is.quad ∙ same_number e.quad quad (second_true (is_memory e.kind) (e.quad == quad) s) in
+          let at : quad_address reference ≡ quad = sym is.quad ∙ eqb-true e.quad quad (second_true (is_memory e.kind) (e.quad == quad) s) in
           sym (subst (λ q. quad_at (changed reference here) q ≡ e.after) at (becomes is n)))
           (λ s.
           let other : quad ≢ quad_address reference = subst (λ a. quad ≢ a) is.quad (other_place (is_memory e.kind) e.quad quad s is.memory) in
@@ -245,7 +246,7 @@ module _ (threads : Threads) (set_up : SetUp) where
       → (t : ℕ) (b : Bool) → (e.processor == t) ≡ b
       → (if b then replies_to t made ++ reply ∷ [] else replies_to t made) ≡ replies_by threads t (if b then e ∷ own t past else own t past)
   replies_more past e made reference reply c is before want t true h =
-      let at : e.processor ≡ t = same_number e.processor t h in
+      let at : e.processor ≡ t = eqb-true e.processor t h in
       let there : wanted threads t e.retired (replies_by threads t (own t past)) ≡ Some reference = subst (λ n. wanted threads n e.retired (replies_by threads n (own n past)) ≡ Some reference) at want in
       ap (λ r. r ++ reply ∷ []) (before t) ∙ ap (λ v. replies_by threads t (own t past) ++ v ∷ []) is ∙ sym (own_reply t (own t past) e reference c there)
   replies_more past e made reference reply c is before want t false h = before t

@@ -1,12 +1,13 @@
 -- What the order of accesses tells each processor of its own entries.
 use Rattle.std.proofs.Common.{◌≡◌, ℕ, zero, suc, ◌<◌, ◌^◌, ◌==◌, ◌⊎◌, inl, inr, Bool, true, false, if◌then◌else◌, List, [], ◌∷◌, Option, Some, None, refl, sym, ap, ◌∙◌, subst, arith, All}
+use Rattle.std.proofs.lemmas.Bool.{eqb-true}
 use Rattle.memory_core.specs.declared.entry.Kind.{Kind}
 use Rattle.memory_core.specs.declared.entry.Kind.TheVariants.{LoadLocked, StoreConditional, Put, Get}
 use Rattle.memory_core.specs.declared.entry.Entry.{Entry}
 use Rattle.memory_core.specs.declared.entry.SetUp.{SetUp}
 use Rattle.memory_core.specs.Kinds.{is_conditional}
 use Rattle.memory_core.specs.Order.{own, gets, input_at, found, Meets}
-use Rattle.memory_core.proofs.Choices.{same_number, if_false}
+use Rattle.memory_core.proofs.Choices.{if_false}
 use Rattle.memory_core.proofs.LookingBack.{pairs_agree}
 use Rattle.legal_history.specs.Entries.{Lock, lock_by, lock_of}
 use Rattle.legal_history.specs.Law.{HasBytes}
@@ -64,4 +65,4 @@ module _ (set_up : SetUp) (bytes : HasBytes set_up) where
   all_fair [] m t = tt
   all_fair (e ∷ past) m t =
       fair_if (e.processor == t) e (own t past) (all_fair past m.0 t)
-      (λ b. subst (λ n. IsFair e.kind (lock_of (own n past)) e.quad e.before e.success) (same_number e.processor t b) (fair_entry past e m))
+      (λ b. subst (λ n. IsFair e.kind (lock_of (own n past)) e.quad e.before e.success) (eqb-true e.processor t b) (fair_entry past e m))

@@ -1,6 +1,7 @@
 -- Quadwords are below 2^64.
 use Rattle.std.proofs.Common.{◌≡◌, ℕ, ◌<◌, ◌+◌, ◌-◌, ◌*◌, ◌%◌, ◌^◌, ◌==◌, Bool, true, false, if◌then◌else◌, List, [], ◌∷◌, refl, sym, subst, arith}
 use Rattle.std.proofs.lemmas.Nat.{and_le_l, pow_below, or_lt}
+use Rattle.vt_words.proofs.Tests.{chosen_below}
 use Rattle.image_file.specs.Memory.{byte_in}
 use Rattle.image_file.specs.Values.{ImageValue}
 use Rattle.memory_core.specs.declared.entry.Kind.{Kind}
@@ -18,10 +19,6 @@ use Rattle.memory_core.proofs.LookingBack.{found_left}
 use Rattle.memory_core.proofs.Choices.{first_true}
 use Rattle.system_model.proofs.Quads.{quad_at-lt, with_bytes-lt}
 
-choice_lt : (b : Bool) (x y n : ℕ) → x < n → y < n → (if b then x else y) < n
-choice_lt true x y n h g = h
-choice_lt false x y n h g = g
-
 pub changed-lt : (change : Change) (before : ℕ) → IsInRange change → before < 2 ^ 64 → changed change before < 2 ^ 64
 changed-lt Nothing before r h = h
 changed-lt (Bytes mask value) before r h = with_bytes-lt mask value before
@@ -34,7 +31,7 @@ leaves-lt : (kind : Kind) (success : Bool) (change : Change) (before : ℕ) → 
 leaves-lt Load success change before r h = h
 leaves-lt LoadLocked success change before r h = h
 leaves-lt Store success change before r h = changed-lt change before r h
-leaves-lt StoreConditional success change before r h = choice_lt success (changed change before) before (2 ^ 64) (changed-lt change before r h) h
+leaves-lt StoreConditional success change before r h = chosen_below success (changed change before) before (2 ^ 64) (changed-lt change before r h) h
 leaves-lt TieRead success change before r h = h
 leaves-lt TieWrite success change before r h = changed-lt change before r h
 leaves-lt TieLocked success change before r h = changed-lt change before r h

@@ -8,27 +8,28 @@ use Rattle.std.proofs.lemmas.Option.{slice_get_within}
 use Rattle.byte_sequences.proofs.Encoded.{EachEncodable, all_encodable}
 use Rattle.exception_records.specs.Points.{WordsRise, point_at}
 use Rattle.exception_records.specs.declared.points.Point.{Point}
+use Rattle.alpha_encode.specs.NoOperation.{nop}
 use Rattle.alpha_encode.specs.declared.instr.AlphaInstr.{AlphaInstr}
 use Rattle.block_law.specs.Blocks.{is_exit_word, is_quiet, IsExitOf, IsPointOf, IsBlockOf}
-use Rattle.loop_rows.specs.Copying.{point_of, idle, copy_words, copy_value}
+use Rattle.loop_rows.specs.Copying.{point_of, copy_words, copy_value}
 
 each_encodable : EachEncodable copy_words
 each_encodable = search rules
 
--- the words from 22 on are idle
+-- the words from 22 on do nothing
 quiet_behind : (word : ℕ) (i : AlphaInstr) → 22 ≤ word → slice_get copy_words word ≡ Some i → is_quiet i ≡ true
 quiet_behind word i le e = by (word - 22) (let there : word ≡ 22 + (word - 22) = omega arith in subst (λ k. slice_get copy_words k ≡ Some i) there e)
   where
-    idle_is : Some idle ≡ Some i → is_quiet i ≡ true
-    idle_is e = let same : idle ≡ i = cc e in subst (λ (x : AlphaInstr). is_quiet x ≡ true) same refl
+    nop_is : Some nop ≡ Some i → is_quiet i ≡ true
+    nop_is e = let same : nop ≡ i = cc e in subst (λ (x : AlphaInstr). is_quiet x ≡ true) same refl
 
     past : (k : ℕ) → slice_get copy_words (suc (suc (suc (22 + k)))) ≡ Some i → ⊥
     past k e = let within = slice_get_within copy_words (suc (suc (suc (22 + k)))) i e in absurd (omega (arith, within))
 
     by : (k : ℕ) → slice_get copy_words (22 + k) ≡ Some i → is_quiet i ≡ true
-    by zero e = idle_is e
-    by (suc zero) e = idle_is e
-    by (suc (suc zero)) e = idle_is e
+    by zero e = nop_is e
+    by (suc zero) e = nop_is e
+    by (suc (suc zero)) e = nop_is e
     by (suc (suc (suc k))) e = absurd (let there : 22 + suc (suc (suc k)) ≡ suc (suc (suc (22 + k))) = omega arith in past k (subst (λ n. slice_get copy_words n ≡ Some i) there e))
 
 exit_low : (after word : ℕ) → is_exit_word ((22, after) ∷ []) word ≡ true → 22 ≤ word

@@ -1,6 +1,7 @@
 -- A block with a loop: it copies a string upward, byte by byte, and leaves the codes.
 -- VAX Architecture Reference Manual, "Character String Instructions": the registers are those of MOVC3.
 use Rattle.std.specs.Prelude.{ℕ, Bool, zero, suc, pos, negsuc, ◌+◌, ◌%◌, ◌^◌, ◌≤◌, true, false, List, [], ◌∷◌, ◌++◌, length}
+use Rattle.vax_form.specs.Codes.{none}
 use Rattle.vax_form.specs.Moments.{handled}
 use Rattle.vax_form.specs.State.{IsState, register, with_register, with_pc}
 use Rattle.vax_form.specs.Tree.{Tree, Check, Ask, Ends, Finish}
@@ -9,6 +10,9 @@ use Rattle.vax_form.specs.declared.state.Flags.{Flags}
 use Rattle.vax_form.specs.declared.state.RefKind.{RefKind}
 use Rattle.vax_form.specs.declared.state.RefKind.TheVariants.{Read, Write}
 use Rattle.vax_form.specs.declared.state.VaxState.{VaxState}
+use Rattle.alpha_encode.specs.NoOperation.{nop}
+use Rattle.alpha_encode.specs.declared.pal.TheConstants.{PROBE}
+use Rattle.alpha_encode.specs.declared.registers.TheConstants.{ADDRESS, BYTES, QUAD, QUAD_ADDRESS, TEMPORARIES, ZERO}
 use Rattle.alpha_encode.specs.declared.instr.AlphaInstr.{AlphaInstr}
 use Rattle.alpha_encode.specs.declared.instr.AlphaInstr.TheVariants.{Memory, Branch, Operate, Pal}
 use Rattle.alpha_encode.specs.declared.instr.BranchOp.TheVariants.{Br, Beq}
@@ -16,7 +20,7 @@ use Rattle.alpha_encode.specs.declared.instr.MemoryOp.TheVariants.{LdqU, LdqL, S
 use Rattle.alpha_encode.specs.declared.instr.OperateOp.TheVariants.{Addq, Addl, Subl, Extwl, Extll, Extbl, Bic, Mskbl, Insbl, Bis}
 use Rattle.alpha_encode.specs.declared.instr.Second.TheVariants.{Register, Literal}
 use Rattle.alpha_meaning.specs.declared.access.AlphaKind.TheVariants.{Load, LoadLocked, StoreConditional}
-use Rattle.alpha_meaning.specs.Pieces.{Kinds, Plain}
+use Rattle.alpha_meaning.specs.Pieces.{Kinds, Plain, most_words}
 use Rattle.alpha_meaning.specs.State.{Regs, at_place}
 use Rattle.exception_records.specs.Blocks.{BlockValue}
 use Rattle.exception_records.specs.Codes.{all_ready}
@@ -27,7 +31,7 @@ use Rattle.block_law.specs.Follows.{Follows}
 use Rattle.block_law.specs.Placements.{InForm}
 use Rattle.block_law.specs.Rounds.{block_steps, new_round}
 use Rattle.block_law.specs.Services.{service}
-use Rattle.block_law.specs.Translations.{Meaning, Code, IsBlock, placed, most_words}
+use Rattle.block_law.specs.Translations.{Meaning, Code, IsBlock, placed}
 
 -- ---- what it means
 -- R0 has the bytes that are left, R1 and R3 the addresses behind those that were copied
@@ -63,7 +67,7 @@ copy_meaning pages after = record {
   tree = λ thread state. copy_tree after state;
   moment = λ thread state. handled pages state (copy_tree after state);
   serve = service;
-  written = λ address. record { n = false; z = false; v = false; c = false };
+  written = λ address. none;
   kinds = λ address reference. copy_kinds reference.kind;
   bonus = λ address. block_steps;
 }
@@ -73,43 +77,49 @@ copy_meaning pages after = record {
 abbrev pub point_of : (address : ℕ) → (write : Bool) → Point
 point_of address write = record { vax_pc = address; done = 0; count = 0; write = write; raises = 0; rules = all_ready }
 
-abbrev pub idle : AlphaInstr
-idle = Operate Bis 31 (Register 31) 31
-
--- R21 gets the count and R27 an address to be probed; then R0 has the bytes that are left
+-- the first temporary gets the count, and an address is probed; then R0 has the bytes that are left
 abbrev pub probe_words : List AlphaInstr
 probe_words =
-    Operate Addq 31 (Register 0) 21
-    ∷ Operate Addq 31 (Register 1) 27
-    ∷ Pal 0x80
-    ∷ Operate Addq 31 (Register 3) 27
-    ∷ Pal 0x80
-    ∷ Operate Extwl 21 (Literal 0) 0
+    Operate Addq ZERO (Register 0) TEMPORARIES
+    ∷ Operate Addq ZERO (Register 1) ADDRESS
+    ∷ Pal PROBE
+    ∷ Operate Addq ZERO (Register 3) ADDRESS
+    ∷ Pal PROBE
+    ∷ Operate Extwl TEMPORARIES (Literal 0) 0
     ∷ []
 
--- R22 and R24 get the addresses as numbers below 2^32, R23 the byte
+-- temporaries: both addresses as numbers below 2^32, and the byte
+abbrev pub source_register : ℕ
+source_register = TEMPORARIES + 1
+
+abbrev pub byte_register : ℕ
+byte_register = TEMPORARIES + 2
+
+abbrev pub target_register : ℕ
+target_register = TEMPORARIES + 3
+
 abbrev pub turn_words : List AlphaInstr
 turn_words =
     Branch Beq 0 (pos 15)
-    ∷ Operate Extll 1 (Literal 0) 22
-    ∷ Memory LdqU 25 22 (pos 0)
-    ∷ Operate Extbl 25 (Register 22) 23
-    ∷ Operate Extll 3 (Literal 0) 24
-    ∷ Operate Bic 24 (Literal 7) 27
-    ∷ Memory LdqL 25 27 (pos 0)
-    ∷ Operate Mskbl 25 (Register 24) 25
-    ∷ Operate Insbl 23 (Register 24) 26
-    ∷ Operate Bis 25 (Register 26) 25
-    ∷ Memory StqC 25 27 (pos 0)
-    ∷ Branch Beq 25 (negsuc 5)
+    ∷ Operate Extll 1 (Literal 0) source_register
+    ∷ Memory LdqU QUAD source_register (pos 0)
+    ∷ Operate Extbl QUAD (Register source_register) byte_register
+    ∷ Operate Extll 3 (Literal 0) target_register
+    ∷ Operate Bic target_register (Literal 7) QUAD_ADDRESS
+    ∷ Memory LdqL QUAD QUAD_ADDRESS (pos 0)
+    ∷ Operate Mskbl QUAD (Register target_register) QUAD
+    ∷ Operate Insbl byte_register (Register target_register) BYTES
+    ∷ Operate Bis QUAD (Register BYTES) QUAD
+    ∷ Memory StqC QUAD QUAD_ADDRESS (pos 0)
+    ∷ Branch Beq QUAD (negsuc 5)
     ∷ Operate Addl 1 (Literal 1) 1
     ∷ Operate Addl 3 (Literal 1) 3
     ∷ Operate Subl 0 (Literal 1) 0
-    ∷ Branch Br 31 (negsuc 15)
+    ∷ Branch Br ZERO (negsuc 15)
     ∷ []
 
 abbrev pub copy_words : List AlphaInstr
-copy_words = probe_words ++ turn_words ++ idle ∷ idle ∷ idle ∷ []
+copy_words = probe_words ++ turn_words ++ nop ∷ nop ∷ nop ∷ []
 
 -- with an exit behind them
 abbrev pub copy_value : (address after : ℕ) → BlockValue

@@ -1,50 +1,34 @@
 // The block that copies a string, written by hand.
-ghost use Rattle.std.specs.Prelude.{◌≡◌, IfOk, pos, true};
+ghost use Rattle.std.specs.Prelude.{◌≡◌, IfOk, true};
 ghost use Rattle.block_law.specs.Blocks.{IsBlockOf};
 ghost use Rattle.loop_rows.specs.Copying.{Copies, MeetsAll, copy_words, point_of, probe_words, turn_words};
 
-use alpha_encode::{AlphaInstr, BranchOp, MemoryOp, OperateOp, Second};
+use alpha_encode::registers::{ADDRESS, BYTES, QUAD, QUAD_ADDRESS, TEMPORARIES, ZERO};
+use alpha_encode::{
+    AlphaInstr, BranchOp, MemoryOp, NOP, OperateOp, branch, memory, operate, operate_by, pal,
+};
 use exception_records::{Block, Point, Rules};
 use std::alloc::{AllocError, Global};
 
-const fn operate(op: OperateOp, ra: u8, rb: Second, rc: u8) -> AlphaInstr
-    ensures { result ≡ AlphaInstr.Operate op ra rb rc }
-{
-    AlphaInstr::Operate { op, ra, rb, rc }
-}
-
-/// R25 from the quadword to which a register points, or to it.
-const fn quadword(op: MemoryOp, rb: u8) -> AlphaInstr
-    ensures { result ≡ AlphaInstr.Memory op 25 rb (pos 0) }
-{
-    AlphaInstr::Memory {
-        op,
-        ra: 25,
-        rb,
-        disp: 0,
-    }
-}
-
-const PROBE: AlphaInstr = AlphaInstr::Pal(0x80);
-
-const IDLE: AlphaInstr = AlphaInstr::Operate {
-    op: OperateOp::Bis,
-    ra: 31,
-    rb: Second::Register(31),
-    rc: 31,
-};
+const PROBE: AlphaInstr = AlphaInstr::Pal(pal::PROBE);
+/// The address of the byte that is read.
+const SOURCE_REGISTER: u8 = TEMPORARIES + 1;
+/// The byte.
+const BYTE_REGISTER: u8 = TEMPORARIES + 2;
+/// The address to which it is written.
+const TARGET_REGISTER: u8 = TEMPORARIES + 3;
 
 /// Both strings are probed, and R0 gets the low word of R0.
 fn probes() -> [AlphaInstr; 6]
     ensures { result ≡ probe_words }
 {
     [
-        operate(OperateOp::Addq, 31, Second::Register(0), 21),
-        operate(OperateOp::Addq, 31, Second::Register(1), 27),
+        operate(OperateOp::Addq, ZERO, 0, TEMPORARIES),
+        operate(OperateOp::Addq, ZERO, 1, ADDRESS),
         PROBE,
-        operate(OperateOp::Addq, 31, Second::Register(3), 27),
+        operate(OperateOp::Addq, ZERO, 3, ADDRESS),
         PROBE,
-        operate(OperateOp::Extwl, 21, Second::Literal(0), 0),
+        operate_by(OperateOp::Extwl, TEMPORARIES, 0, 0),
     ]
 }
 
@@ -52,24 +36,23 @@ fn probes() -> [AlphaInstr; 6]
 fn turn() -> [AlphaInstr; 16]
     ensures { result ≡ turn_words }
 {
-    let branch = |op, ra, disp| AlphaInstr::Branch { op, ra, disp };
     [
         branch(BranchOp::Beq, 0, 15),
-        operate(OperateOp::Extll, 1, Second::Literal(0), 22),
-        quadword(MemoryOp::LdqU, 22),
-        operate(OperateOp::Extbl, 25, Second::Register(22), 23),
-        operate(OperateOp::Extll, 3, Second::Literal(0), 24),
-        operate(OperateOp::Bic, 24, Second::Literal(7), 27),
-        quadword(MemoryOp::LdqL, 27),
-        operate(OperateOp::Mskbl, 25, Second::Register(24), 25),
-        operate(OperateOp::Insbl, 23, Second::Register(24), 26),
-        operate(OperateOp::Bis, 25, Second::Register(26), 25),
-        quadword(MemoryOp::StqC, 27),
-        branch(BranchOp::Beq, 25, -6),
-        operate(OperateOp::Addl, 1, Second::Literal(1), 1),
-        operate(OperateOp::Addl, 3, Second::Literal(1), 3),
-        operate(OperateOp::Subl, 0, Second::Literal(1), 0),
-        branch(BranchOp::Br, 31, -16),
+        operate_by(OperateOp::Extll, 1, 0, SOURCE_REGISTER),
+        memory(MemoryOp::LdqU, QUAD, SOURCE_REGISTER, 0),
+        operate(OperateOp::Extbl, QUAD, SOURCE_REGISTER, BYTE_REGISTER),
+        operate_by(OperateOp::Extll, 3, 0, TARGET_REGISTER),
+        operate_by(OperateOp::Bic, TARGET_REGISTER, 7, QUAD_ADDRESS),
+        memory(MemoryOp::LdqL, QUAD, QUAD_ADDRESS, 0),
+        operate(OperateOp::Mskbl, QUAD, TARGET_REGISTER, QUAD),
+        operate(OperateOp::Insbl, BYTE_REGISTER, TARGET_REGISTER, BYTES),
+        operate(OperateOp::Bis, QUAD, BYTES, QUAD),
+        memory(MemoryOp::StqC, QUAD, QUAD_ADDRESS, 0),
+        branch(BranchOp::Beq, QUAD, -6),
+        operate_by(OperateOp::Addl, 1, 1, 1),
+        operate_by(OperateOp::Addl, 3, 1, 3),
+        operate_by(OperateOp::Subl, 0, 1, 0),
+        branch(BranchOp::Br, ZERO, -16),
     ]
 }
 
@@ -94,7 +77,7 @@ fn copy_words(alloc: Global) -> Result<Vec<AlphaInstr>, AllocError>
     let mut words = Vec::new(alloc);
     words.extend_from_slice(&probes())?;
     words.extend_from_slice(&turn())?;
-    words.extend_from_slice(&[IDLE, IDLE, IDLE])?;
+    words.extend_from_slice(&[NOP, NOP, NOP])?;
     Ok(words)
 }
 

@@ -1,5 +1,7 @@
 // An Alpha processor that runs the block over a memory of its own.
 use alpha_encode::decode;
+use alpha_encode::pal::PROBE;
+use alpha_encode::registers::{ADDRESS, TEMPORARIES};
 use alpha_machine::{AlphaStep, Cpu, finish, step};
 use alpha_meaning::{AlphaAccess, AlphaKind};
 
@@ -63,8 +65,10 @@ impl Memory {
         Some((found, true))
     }
 
-    /// Whether the bytes of a probe are here.
-    fn has(&self, address: u64, count: u64) -> bool {
+    /// Whether the bytes that a probe checks are here.
+    fn has_probed(&self, cpu: &Cpu) -> bool {
+        let address = cpu.r[ADDRESS as usize] % (1 << 32);
+        let count = cpu.r[TEMPORARIES as usize] % (1 << 16);
         let end = (self.quads.len() as u64).saturating_mul(8);
         let at = address.wrapping_sub(BASE);
         at <= end && count <= end - at
@@ -84,13 +88,12 @@ impl Memory {
                     let (value, success) = self.access(access)?;
                     finish(&mut cpu, code, value, success);
                 }
-                AlphaStep::Pal(0x80) => {
-                    if !self.has(cpu.r[27] % (1 << 32), cpu.r[21] % (1 << 16)) {
+                AlphaStep::Pal(number) => {
+                    if number != PROBE || !self.has_probed(&cpu) {
                         return None;
                     }
                     cpu.pc = cpu.pc.wrapping_add(1);
                 }
-                AlphaStep::Pal(_) => return None,
             }
         }
         None

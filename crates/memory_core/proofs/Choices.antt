@@ -1,6 +1,5 @@
 -- Choices by a test, and tests of two numbers.
 use Rattle.std.proofs.Common.{◌≡◌, ◌≢◌, ℕ, zero, suc, ◌<◌, ◌==◌, ◌&&◌, Bool, true, false, if◌then◌else◌, List, [], ◌∷◌, length, slice_index_or, refl, arith}
-use Rattle.std.proofs.lemmas.Bool.Decides.{nat_tests}
 
 pub if_true : {A : Type 0} (b : Bool) (x y : A) → b ≡ true → (if b then x else y) ≡ x
 if_true true x y h = refl
@@ -17,15 +16,6 @@ first_true false b h = absurd (cc h)
 pub second_true : (a b : Bool) → (a && b) ≡ true → b ≡ true
 second_true true b h = h
 second_true false b h = absurd (cc h)
-
-pub same_number : (a b : ℕ) → (a == b) ≡ true → a ≡ b
-same_number a b h = grind (arith, nat_tests)
-
-pub other_number : (a b : ℕ) → (a == b) ≡ false → a ≢ b
-other_number a b h = grind (arith, nat_tests)
-
-pub equal_number : (a b : ℕ) → a ≡ b → (a == b) ≡ true
-equal_number a b h = grind (arith, nat_tests)
 
 -- a read within the list gives the same for any default
 pub any_default : {A : Type 0} (xs : List A) (i : ℕ) (c d : A) → i < length xs → slice_index_or xs i c ≡ slice_index_or xs i d

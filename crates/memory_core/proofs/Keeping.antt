@@ -5,6 +5,7 @@ use Rattle.std.proofs.lemmas.Bool.Decides.{nat_tests}
 use Rattle.std.proofs.lemmas.Grind.{elements}
 use Rattle.std.proofs.lemmas.List.{length-set, reverse-append, map-append, length-map}
 use Rattle.std.proofs.lemmas.List.Elements.{filter-append}
+use Rattle.std.proofs.lemmas.Bool.{eqb-true, eqb-false}
 use Rattle.vax_form.specs.declared.pages.PageRange.{PageRange}
 use Rattle.memory_core.specs.declared.entry.Kind.{Kind}
 use Rattle.memory_core.specs.declared.entry.Kind.TheVariants.{LoadLocked, StoreConditional}
@@ -17,7 +18,6 @@ use Rattle.memory_core.specs.Order.{left_by, block_of, reserved_by, reserved, tr
 use Rattle.memory_core.specs.Places.{quad_place}
 use Rattle.memory_core.specs.Reservations.{holds, own_next, other_next, next_reservation}
 use Rattle.memory_core.specs.Fields.{IsKept, IsAt, AreCurrent, stored_at}
-use Rattle.memory_core.proofs.Choices.{same_number, other_number}
 use Rattle.memory_core.proofs.Placing.{quad_of_place, place_of_quad}
 
 -- ---- reservations
@@ -109,8 +109,8 @@ module _ (set_up : SetUp) (past : List Entry) (quads : List ℕ) (e : Entry) (al
       → (same : Bool) → (e.quad == address - address % 8) ≡ same
       → slice_index_or (if memory then stored_at (quad_place set_up.image.pages.ranges e.quad) e.after quads else quads) place 0 ≡ (if memory && same then e.after else left_by set_up past (address - address % 8))
   current_step false al address place p at same h = at.is
-  current_step true al address place p at true h = current_here address place p (same_number e.quad (address - address % 8) h) at
-  current_step true al address place p at false h = current_there address place p (al refl) (other_number e.quad (address - address % 8) h) ∙ at.is
+  current_step true al address place p at true h = current_here address place p (eqb-true e.quad (address - address % 8) h) at
+  current_step true al address place p at false h = current_there address place p (al refl) (eqb-false e.quad (address - address % 8) h) ∙ at.is
 
   length-after_entry : (memory : Bool) → length (if memory then stored_at (quad_place set_up.image.pages.ranges e.quad) e.after quads else quads) ≡ length quads
   length-after_entry true = length-stored_at (quad_place set_up.image.pages.ranges e.quad) e.after quads

@@ -2,6 +2,7 @@
 use Rattle.std.proofs.Common.{◌≡◌, ℕ, ◌==◌, ◌&&◌, Bool, true, false, if◌then◌else◌, suc, List, [], ◌∷◌, ◌++◌, reverse, refl, sym, ap, ◌∙◌, subst}
 use Rattle.std.specs.Prelude.{not}
 use Rattle.std.proofs.lemmas.List.{reverse-append}
+use Rattle.std.proofs.lemmas.Bool.{eqb-true, eq-eqb}
 use Rattle.memory_core.specs.declared.entry.Change.{Change}
 use Rattle.memory_core.specs.declared.entry.Kind.{Kind}
 use Rattle.memory_core.specs.declared.entry.Kind.TheVariants.{Load, LoadLocked, Store, StoreConditional, TieRead, TieWrite, TieLocked, Put, Get}
@@ -12,7 +13,7 @@ use Rattle.memory_core.specs.Kinds.{is_memory, writes, is_conditional, is_get}
 use Rattle.memory_core.specs.Laws.{PairsAgree, BeginningsMeet, OpeningIsFound, first_found}
 use Rattle.memory_core.specs.Opening.{opening}
 use Rattle.memory_core.specs.Order.{own, stands_on, left_by, block_of, reserved_by, reserved, tries, strikes, gets, input_at, Fits, Meets}
-use Rattle.memory_core.proofs.Choices.{if_true, first_true, second_true, same_number, equal_number}
+use Rattle.memory_core.proofs.Choices.{if_true, first_true, second_true}
 
 -- what doesn't write leaves what it found
 unwritten : (kind : Kind) (success : Bool) (change : Change) (before : ℕ) → writes kind success ≡ false → is_memory kind ≡ true → leaves kind success change before ≡ before
@@ -34,7 +35,7 @@ module _ (set_up : SetUp) where
   reader_stands : (past : List Entry) (e : Entry) (quad : ℕ) → Fits set_up past e → writes e.kind e.success ≡ false → (b : Bool) → stands_on e quad ≡ b → (if b then e.after else left_by set_up past quad) ≡ left_by set_up past quad
   reader_stands past e quad f w true s =
       let memory = first_true (is_memory e.kind) (e.quad == quad) s in
-      let at = same_number e.quad quad (second_true (is_memory e.kind) (e.quad == quad) s) in
+      let at = eqb-true e.quad quad (second_true (is_memory e.kind) (e.quad == quad) s) in
       f.after ∙ unwritten e.kind e.success f.change e.before w memory ∙ found_left past e f memory ∙ ap (left_by set_up past) at
   reader_stands past e quad f w false s = refl
 
@@ -46,7 +47,7 @@ module _ (set_up : SetUp) where
   after_locked : (past : List Entry) (e : Entry) (quad : ℕ) → Fits set_up past e → e.kind ≡ LoadLocked → e.quad ≡ quad → left_by set_up (e ∷ past) quad ≡ e.before
   after_locked past e quad f k at =
       let memory : is_memory e.kind ≡ true = ap is_memory k in
-      let here : stands_on e quad ≡ true = rw (memory) (equal_number e.quad quad at) in
+      let here : stands_on e quad ≡ true = rw (memory) (eq-eqb e.quad quad at) in
       if_true (stands_on e quad) e.after (left_by set_up past quad) here ∙ f.after ∙ unwritten e.kind e.success f.change e.before (ap (λ (k : Kind). writes k e.success) k) memory
 
   other_step : (w : Bool) (was : Bool) → (if w then false else was) ≡ true → (w ≡ false) × (was ≡ true)
@@ -60,8 +61,8 @@ module _ (set_up : SetUp) where
   other_stands : (past : List Entry) (e : Entry) (quad : ℕ) → Fits set_up past e → (writes e.kind e.success && (block_of e.quad == block_of quad)) ≡ false
       → (b : Bool) → stands_on e quad ≡ b → (if b then e.after else left_by set_up past quad) ≡ left_by set_up past quad
   other_stands past e quad f w true s =
-      let at = same_number e.quad quad (second_true (is_memory e.kind) (e.quad == quad) s) in
-      let block : (block_of e.quad == block_of quad) ≡ true = equal_number (block_of e.quad) (block_of quad) (ap block_of at) in
+      let at = eqb-true e.quad quad (second_true (is_memory e.kind) (e.quad == quad) s) in
+      let block : (block_of e.quad == block_of quad) ≡ true = eq-eqb (block_of e.quad) (block_of quad) (ap block_of at) in
       reader_stands past e quad f (not_here (writes e.kind e.success) (block_of e.quad == block_of quad) w block) true s
   other_stands past e quad f w false s = refl
 
@@ -88,7 +89,7 @@ module _ (set_up : SetUp) where
       → (if b then e.before else if b then e.after else left_by set_up past quad) ≡ left_by set_up past quad
   first_step past e quad f true s =
       let memory = first_true (is_memory e.kind) (e.quad == quad) s in
-      let at = same_number e.quad quad (second_true (is_memory e.kind) (e.quad == quad) s) in
+      let at = eqb-true e.quad quad (second_true (is_memory e.kind) (e.quad == quad) s) in
       found_left past e f memory ∙ ap (left_by set_up past) at
   first_step past e quad f false s = refl
 

@@ -7,6 +7,7 @@ use Rattle.std.proofs.lemmas.Nat.Bits.{bit_at_cat_low, bit_at-zero, bit_at_above
 use Rattle.std.proofs.Math.Nat.{div-eq_of_lt, mul-mod_left}
 use Rattle.std.specs.Int.Bits.{or_zero_r}
 use Rattle.std.specs.Int.{bit_at, byte_at}
+use Rattle.vt_words.proofs.Tests.{chosen_below}
 pub use Rattle.vt_words.proofs.Spreads.{below_8}
 use Rattle.memory_core.proofs.Choices.{if_false}
 use Rattle.memory_core.specs.declared.entry.Change.TheVariants.{Nothing, Bytes, AddWord, SetBit, ClearBit, Byte}
@@ -30,16 +31,12 @@ byte_at-quad_of f h at l =
     let a7 : f 7 < 256 = h 7 (lit< tt) in
     below_8 (λ at. byte_at at (quad_of f) ≡ f at) (omega arith) (omega arith) (omega arith) (omega arith) (omega arith) (omega arith) (omega arith) (omega arith) at l
 
-pub choice_lt : (b : Bool) (x y : ℕ) → x < 256 → y < 256 → (if b then x else y) < 256
-choice_lt true x y h g = h
-choice_lt false x y h g = g
-
 -- the bytes of a masked store
 pub byte_at-with_bytes : (mask value before at : ℕ) → at < 8 → byte_at at (with_bytes mask value before) ≡ (if bit_at mask at == 1 then byte_at at value else byte_at at before)
 unfolding with_bytes
 byte_at-with_bytes mask value before at l =
     byte_at-quad_of (λ k. if bit_at mask k == 1 then byte_at k value else byte_at k before)
-    (λ k _. choice_lt (bit_at mask k == 1) (byte_at k value) (byte_at k before) (byte_at-lt k value) (byte_at-lt k before)) at l
+    (λ k _. chosen_below (bit_at mask k == 1) (byte_at k value) (byte_at k before) 256 (byte_at-lt k value) (byte_at-lt k before)) at l
 
 pub not_one : (b : ℕ) (x y : ℕ) → b ≡ 0 → (if b == 1 then x else y) ≡ y
 not_one b x y h = rw h refl

@@ -1,6 +1,7 @@
 -- The codes that a program sets are the instruction's, and where it leaves to is where the instruction goes on.
 use Rattle.std.proofs.Common.{◌≡◌, ℕ, ◌+◌, ◌*◌, ◌/◌, ◌%◌, ◌^◌, ◌<◌, Bool, true, false, [], ◌∷◌, Option, Some, None, refl, ap, arith}
 use Rattle.std.specs.Prelude.{◌==◌, ◌&&◌, not, if◌then◌else◌}
+use Rattle.vt_words.proofs.Tests.{bit_tells}
 use Rattle.vax_form.specs.Script.{◌>>◌, change}
 use Rattle.vax_form.specs.State.{with_pc}
 use Rattle.vax_form.specs.Tree.{Tree, Finish, Trap, tree_of, ends_with}
@@ -56,10 +57,6 @@ flags_of_coded psw n z v c = record {
 set_of : (x : ℕ) (b : Bool) → x ≡ bit b → not (x == 0) ≡ b
 set_of x true is = rw is refl
 set_of x false is = rw is refl
-
-told : (b : Bool) → (bit b == 1) ≡ b
-told true = refl
-told false = refl
 
 -- C is made, or is as it was found
 abbrev pub IsCarry : Option ℕ → (temps : Temps) → (psw : ℕ) → Bool → Type 0
@@ -131,5 +128,5 @@ module _ (codes : CodeSources) (start : VaxState) (pages : Pages) (thread : ℕ)
     codes_leave nt zt vt ct found standing exit pc ni zi vi ci goes come =
         let psw = coded_psw standing.state.psw n z v c in
         let flags = flags_of_coded standing.state.psw n z v c in
-        rw (set_codes nt zt vt ct standing ni zi vi ci, departs exit found (record standing { state = vax.with_codes n z v c standing.state; overflowed = v }) pc goes, flags.overflow, told v)
+        rw (set_codes nt zt vt ct standing ni zi vi ci, departs exit found (record standing { state = vax.with_codes n z v c standing.state; overflowed = v }) pc goes, flags.overflow, bit_tells v)
         (ends_so (v && (flag_of 5 psw == 1)) (with_pc pc (vax.with_codes n z v c standing.state)) standing.temps (come psw flags))

@@ -6,7 +6,7 @@ use Rattle.std.specs.Option.{option_map_or}
 use Rattle.std.proofs.lemmas.Bool.Decides.{eqb_tells, nat_tests}
 use Rattle.std.proofs.lemmas.List.Elements.{All-nil, All-cons}
 use Rattle.std.proofs.lemmas.List.Folds.{list_all-append, list_any-append}
-use Rattle.std.proofs.lemmas.Bool.{and_parts, or_right}
+use Rattle.std.proofs.lemmas.Bool.{and_parts, or_right, eq-eqb}
 use Rattle.vax_form.specs.Operation.{operation_at}
 use Rattle.vax_form.specs.Targets.{branch_target, fixed_address, jump_target, jump_of, fixed_targets}
 use Rattle.vax_form.specs.declared.instr.Base.TheVariants as bases
@@ -17,7 +17,7 @@ use Rattle.vax_form.specs.declared.operation.Operation.{Operation}
 use Rattle.vax_form.specs.declared.state.Flags.{Flags}
 use Rattle.vax_meaning.specs.Branches.{target}
 use Rattle.vax_meaning.specs.Evaluation.{operand}
-use Rattle.cc_liveness.specs.Codes.{none}
+use Rattle.vax_form.specs.Codes.{none}
 use Rattle.cc_liveness.specs.Uses.{use_of, code_use_of, goes_on}
 use Rattle.micro_ops.specs.Exits.{exit_addresses, addresses_of, leaves_computed}
 use Rattle.micro_ops.specs.Sources.{sources_of}
@@ -162,13 +162,10 @@ next_keeps instr exit next none = record {
 pub breakpoint_keeps : (instr : Instr) → ExitKeeps instr exits.Breakpoint
 breakpoint_keeps instr = record { goes = All-nil (GoesTo instr); computed = λ none. cc }
 
-itself : (a : ℕ) → nat_eq a a ≡ true
-itself a = grind (arith, nat_tests)
-
 branch_among : (list : List Operand) (number : ℕ) → IsTarget (slice_index_or list number operands.Unused)
     → list_any (nat_eq (target (slice_index_or list number operands.Unused))) (filter_map branch_target list) ≡ true
 branch_among [] number is = absurd is
-branch_among (operands.Target address ∷ others) zero is = rw (itself address) refl
+branch_among (operands.Target address ∷ others) zero is = rw (eq-eqb address address refl) refl
 branch_among (operands.Unused ∷ others) zero is = absurd is
 branch_among (operands.Value value ∷ others) zero is = absurd is
 branch_among (operands.Register n ∷ others) zero is = absurd is
@@ -193,7 +190,7 @@ pub jump_fixed : (instr : Instr) (address : ℕ) → jump_of instr ≡ Some addr
 unfolding fixed_targets
 jump_fixed instr address is =
     list_any-append (nat_eq address) (filter_map branch_target instr.operands) (option_to_list (jump_of instr))
-    ∙ or_right (list_any (nat_eq address) (filter_map branch_target instr.operands)) (list_any (nat_eq address) (option_to_list (jump_of instr))) (rw (is, itself address) refl)
+    ∙ or_right (list_any (nat_eq address) (filter_map branch_target instr.operands)) (list_any (nat_eq address) (option_to_list (jump_of instr))) (rw (is, eq-eqb address address refl) refl)
 
 module _ (operation : Operation) (instr : Instr) (is : operation_at instr.opcode ≡ Some operation) (ends : (code_use_of operation).ends ≡ true) where
   may_jump : (use_of instr).ends ≡ true

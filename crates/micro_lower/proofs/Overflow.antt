@@ -6,6 +6,7 @@ use Rattle.std.proofs.Math.Nat.{mod-eq_of_lt}
 use Rattle.std.proofs.lemmas.Nat.{mod_below}
 use Rattle.std.proofs.lemmas.Bool.Decides.{nat_tests}
 use Rattle.std.proofs.lemmas.Int.{ints}
+use Rattle.vt_words.proofs.Tests.{bit_most}
 use Rattle.vax_form.specs.Size.{bytes_of}
 use Rattle.vax_form.specs.declared.instr.Size.{Size}
 use Rattle.vax_form.specs.declared.instr.Size.TheVariants.{Byte, Word, Long, Quad}
@@ -85,10 +86,6 @@ abs_difference (negsuc a) (negsuc b) = grind (arith, nat_tests, ints)
 within : (x y z c r : ℕ) → x ≤ 2 ^ 31 → y ≤ 2 ^ 31 → z ≤ x + y → c ≤ 1 → r ≤ z + c → r < 2 ^ 63
 within x y z c r p q s few t = omega (arith, p, q, s, few, t)
 
-one_bit : (c : Bool) → bit c ≤ 1
-one_bit true = omega arith
-one_bit false = omega arith
-
 bit_wide : (c : Bool) → value_of 8 (pos (bit c)) ≡ bit c
 bit_wide true = refl
 bit_wide false = refl
@@ -123,7 +120,7 @@ module _ (size : Size) (a b : ℕ) (c : Bool) (narrow : IsNarrow size) (lt : a <
   unfolding sum_of
   sum_overflows_with =
       overflows size (m +ℤ n +ℤ pos (bit c)) _ _ narrow
-      (within _ _ _ _ _ (signed_small size a narrow lt) (signed_small size b narrow lt') (abs_sum m n) (one_bit c) (abs_sum (m +ℤ n) (pos (bit c))))
+      (within _ _ _ _ _ (signed_small size a narrow lt) (signed_small size b narrow lt') (abs_sum m n) (bit_most c) (abs_sum (m +ℤ n) (pos (bit c))))
       (sums (m +ℤ n) (pos (bit c))
       ∙ ap (λ k. (value_of 8 (m +ℤ n) + k) % 2 ^ 64) (bit_wide c)
       ∙ ap (λ k. (k + bit c) % 2 ^ 64) (sums m n ∙ ap (λ k. (k + value_of 8 n) % 2 ^ 64) (signed_wide size a lt) ∙ ap (λ k. (e + k) % 2 ^ 64) (signed_wide size b lt')))
@@ -135,11 +132,11 @@ module _ (size : Size) (a b : ℕ) (c : Bool) (narrow : IsNarrow size) (lt : a <
   unfolding difference_of
   difference_overflows_with =
       overflows size (m -ℤ n -ℤ pos (bit c)) _ _ narrow
-      (within _ _ _ _ _ (signed_small size a narrow lt) (signed_small size b narrow lt') (abs_difference m n) (one_bit c) (abs_difference (m -ℤ n) (pos (bit c))))
+      (within _ _ _ _ _ (signed_small size a narrow lt) (signed_small size b narrow lt') (abs_difference m n) (bit_most c) (abs_difference (m -ℤ n) (pos (bit c))))
       (differences (m -ℤ n) (pos (bit c))
       ∙ ap (λ k. (value_of 8 (m -ℤ n) + (2 ^ 64 - k)) % 2 ^ 64) (bit_wide c)
       ∙ ap (λ k. (k + (2 ^ 64 - bit c)) % 2 ^ 64) (differences m n ∙ ap (λ k. (k + (2 ^ 64 - value_of 8 n)) % 2 ^ 64) (signed_wide size a lt) ∙ ap (λ k. (e + (2 ^ 64 - k)) % 2 ^ 64) (signed_wide size b lt')))
-      (low_difference size e f (bit c) (extended_below size b lt') (one_bit c)
+      (low_difference size e f (bit c) (extended_below size b lt') (bit_most c)
       ∙ ap (λ k. (k + limit_of size - (f % limit_of size + bit c)) % limit_of size) (extended_low size a lt)
       ∙ ap (λ k. (a + limit_of size - (k + bit c)) % limit_of size) (extended_low size b lt'))
 

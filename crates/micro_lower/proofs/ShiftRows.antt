@@ -8,6 +8,7 @@ use Rattle.std.proofs.lemmas.Bool.{cases_lt, lt-ltb}
 use Rattle.std.proofs.lemmas.Bool.Decides.{nat_tests}
 use Rattle.std.proofs.lemmas.Int.{ints, unsigned_abs-mul}
 use Rattle.std.proofs.lemmas.Nat.{mod_below, mul-le}
+use Rattle.std.proofs.Math.Bool.{and-false, and-true}
 use Rattle.vax_form.specs.declared.instr.Instr.{Instr}
 use Rattle.vax_form.specs.declared.instr.Size.TheVariants.{Byte, Long, Quad}
 use Rattle.vax_form.specs.declared.operation.Operation.TheVariants as operations
@@ -171,19 +172,11 @@ unfolding left_shift_of
 overflows x c lt small = elim (cases_lt c 128) [
   | inl below ↦ (let n : nat_le 128 c ≡ false = grind (arith, nat_tests) in
       let t : nat_lt c 128 ≡ true = grind (arith, nat_tests) in
-      rw (n, t) (and_true _))
+      rw (n, t) (and-true _))
   | inr above ↦ (let n : nat_le 128 c ≡ true = grind (arith, nat_tests) in
       let t : nat_lt c 128 ≡ false = grind (arith, nat_tests) in
-      rw (n, t) (and_false _))
+      rw (n, t) (and-false _))
 ]
-  where
-    and_true : (b : Bool) → (b && true) ≡ b
-    and_true true = refl
-    and_true false = refl
-
-    and_false : (b : Bool) → (b && false) ≡ false
-    and_false true = refl
-    and_false false = refl
 
 overflow_made : (x c : ℕ) → x < 2 ^ 32 → c < 256
     → (let m = (if bit (nat_lt (32 % 256) (c % 256)) % 256 == 0 then c % 256 % 256 else 32 % 256) % 2 ^ 64 in

@@ -5,6 +5,7 @@ use Rattle.std.specs.Option.{option_or}
 use Rattle.vax_form.specs.Operation.{operation_at}
 use Rattle.vax_form.specs.Row.{class_at, is_translated}
 use Rattle.vax_form.specs.Size.{size_of}
+use Rattle.vax_form.specs.State.{user_mode}
 use Rattle.vax_form.specs.declared.instr.Access.{Access}
 use Rattle.vax_form.specs.declared.instr.Access.TheVariants as accesses
 use Rattle.vax_form.specs.declared.instr.Instr.{Instr}
@@ -605,7 +606,7 @@ status_program =
 abbrev pub move_psl_plan : Instr → Plan
 move_psl_plan instr = record {
   slots = written Long ∷ [];
-  before = status_program ++ Compute 2 ops.Add Long (Temp 2) (Const 0x03C0_0000) ∷ [];
+  before = status_program ++ Compute 2 ops.Add Long (Temp 2) (Const user_mode) ∷ [];
   target = targets.Result (operand instr 0) Long;
   behind = [];
   exit = Next;

@@ -4,7 +4,8 @@ use Rattle.address_map.specs.Pairs.{address_at}
 use Rattle.alpha_encode.specs.declared.instr.AlphaInstr.TheVariants.{Memory}
 use Rattle.alpha_meaning.specs.Memory.{kind_of, bytes_of, address_of, access_of}
 use Rattle.alpha_meaning.specs.State.{Alpha}
-use Rattle.block_law.specs.Translations.{fetch_of, most_words}
+use Rattle.alpha_meaning.specs.Pieces.{most_words}
+use Rattle.block_law.specs.Translations.{fetch_of}
 use Rattle.prepared_code.specs.Sources.{Source}
 use Rattle.prepared_code.specs.declared.asked.Asked.{Asked}
 

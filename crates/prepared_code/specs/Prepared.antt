@@ -2,7 +2,8 @@
 use Rattle.std.specs.Prelude.{◌≡◌, ℕ, zero, suc, ◌<◌, ◌≤◌, ◌-◌, ◌==◌, if◌then◌else◌, List, map, length, get_or, slice_get, Option, Some, None, IfSome}
 use Rattle.address_map.specs.Pairs.{Pair, AllRise, address_at}
 use Rattle.alpha_encode.specs.Words.{IsEncodable}
-use Rattle.block_law.specs.Translations.{fetch_of, most_words}
+use Rattle.alpha_meaning.specs.Pieces.{most_words}
+use Rattle.block_law.specs.Translations.{fetch_of}
 use Rattle.prepared_code.specs.Sources.{Source, block_of}
 use Rattle.prepared_code.specs.declared.blocks.Block.{Block}
 use Rattle.prepared_code.specs.declared.prepared.Word.{Word}

@@ -2,9 +2,9 @@
 ghost use Rattle.std.specs.Prelude.{◌≡◌, ◌<◌, ◌+◌, ◌%◌, ◌^◌, IfSome};
 ghost use Rattle.alpha_machine.specs.Step.{state_of};
 ghost use Rattle.alpha_meaning.specs.Act.{memory_finish};
-ghost use Rattle.alpha_meaning.specs.Pieces.{loaded};
+ghost use Rattle.alpha_meaning.specs.Pieces.{loaded, most_words};
 ghost use Rattle.alpha_meaning.specs.State.{Alpha, regs_of};
-ghost use Rattle.block_law.specs.Translations.{fetch_of, most_words};
+ghost use Rattle.block_law.specs.Translations.{fetch_of};
 ghost use Rattle.alpha_encode.specs.declared.instr.AlphaInstr.TheVariants.{Memory};
 ghost use Rattle.prepared_code.specs.Asks.{AsksInside, IsOfItsRow};
 ghost use Rattle.prepared_code.specs.Effects.{behind};

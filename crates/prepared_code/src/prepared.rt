@@ -2,7 +2,8 @@
 ghost use Rattle.std.specs.Prelude.{◌≡◌, ◌<◌, ◌≤◌, ◌+◌, ◌==◌, length, if◌then◌else◌, IfOk, IfSome, MatchOption, is_some};
 ghost use Rattle.address_map.specs.Pairs.{AllRise, address_at};
 ghost use Rattle.alpha_encode.specs.Words.{IsEncodable};
-ghost use Rattle.block_law.specs.Translations.{fetch_of, most_words};
+ghost use Rattle.alpha_meaning.specs.Pieces.{most_words};
+ghost use Rattle.block_law.specs.Translations.{fetch_of};
 ghost use Rattle.prepared_code.specs.Prepared.{AreReady, IsNext, IsNumber, IsReady, begun};
 ghost use Rattle.prepared_code.specs.Sources.{block_at, source_of};
 ghost use Rattle.prepared_code.specs.declared.blocks.Block.{Block};

@@ -4,7 +4,8 @@ ghost use Rattle.alpha_encode.specs.declared.instr.AlphaInstr.TheVariants.{Pal};
 ghost use Rattle.alpha_encode.specs.declared.pal.TheConstants.{PROBE};
 ghost use Rattle.alpha_machine.specs.Step.{state_of};
 ghost use Rattle.block_law.specs.Follows.{probe_count, probe_address};
-ghost use Rattle.block_law.specs.Translations.{fetch_of, most_words};
+ghost use Rattle.alpha_meaning.specs.Pieces.{most_words};
+ghost use Rattle.block_law.specs.Translations.{fetch_of};
 ghost use Rattle.prepared_code.specs.Probes.{Passes};
 ghost use Rattle.vax_form.specs.Pages.{first_bad};
 

@@ -3,7 +3,7 @@ use Rattle.std.proofs.Common.{◌≡◌, ◌≢◌, ℕ, ◌+◌, ◌*◌, ◌%�
 use Rattle.std.specs.Prelude.{pos, ◌==◌, ◌&&◌, not, nat_lt, nat_le, bit_or, if◌then◌else◌}
 use Rattle.std.proofs.Math.Nat.{mod-eq_of_lt}
 use Rattle.std.proofs.lemmas.Bool.Decides.{nat_tests}
-use Rattle.std.proofs.lemmas.Bool.{and_parts}
+use Rattle.std.proofs.lemmas.Bool.{and_parts, ltb-true}
 use Rattle.vt_words.specs.Quad.{IsCount, one as c1, two as c2, four as c4, eight as c8}
 use Rattle.vax_form.specs.PageTable.{IsPageTable}
 use Rattle.vax_form.specs.Pages.{first_bad}
@@ -46,7 +46,7 @@ use Rattle.block_law.proofs.Rules.{Always, roomy, goes, passes, skips, probes, r
 use Rattle.program_codegen.specs.declared.lines.Line.{Line}
 use Rattle.program_codegen.specs.declared.points.Site.{Site}
 use Rattle.program_codegen.specs.Words.{plain, marked, holder, copy, probing, raising}
-use Rattle.program_codegen.proofs.Numbers.{all_three, all_four, all_five, below_of, copied}
+use Rattle.program_codegen.proofs.Numbers.{all_three, all_four, all_five, copied}
 use Rattle.program_codegen.proofs.Knowing.{SameChanges, write_changes, access_changes}
 use Rattle.program_codegen.proofs.Walk.{Within, next, stands, row_words, row_length, is_inside}
 use Rattle.program_codegen.proofs.Holding.{Holds, HoldsAs, tree}
@@ -65,7 +65,7 @@ pub values_outlast : (known : Known) (temps : Temps) (new : Regs) → ((temp : �
 values_outlast known temps new values temp lt = by (nat_lt temp 4) refl
   where
     by : (b : Bool) → nat_lt temp 4 ≡ b → HoldsAs (held (behind_access known) temp) (temps temp) (new (21 + temp))
-    by true e = let low = below_of temp 4 e in subst (λ h. HoldsAs h (temps temp) (new (21 + temp))) (sym (held_behind known temp low)) (values temp low)
+    by true e = let low = ltb-true temp 4 e in subst (λ h. HoldsAs h (temps temp) (new (21 + temp))) (sym (held_behind known temp low)) (values temp low)
     by false e = let high : 4 ≤ temp = grind (arith, nat_tests, e) in subst (λ h. HoldsAs h (temps temp) (new (21 + temp))) (sym (lost_behind known temp high)) tt
 
 written_changes : (known : Known) (to : ℕ) (holding : Holding) → SameChanges known (behind_access (behind_write to holding known))

@@ -3,6 +3,7 @@ use Rattle.std.proofs.Common.{◌≡◌, ℕ, ◌+◌, ◌*◌, ◌/◌, ◌%◌
 use Rattle.std.specs.Prelude.{◌==◌, not, nat_lt, bit_and, slice_set}
 use Rattle.std.proofs.lemmas.Bool.Decides.{nat_tests}
 use Rattle.std.proofs.lemmas.Bool.{eqb-false}
+use Rattle.vt_words.proofs.Tests.{less_differs, greater_differs}
 use Rattle.vt_words.specs.Quad.{sign_extended}
 use Rattle.vt_words.specs.Values.{bit}
 use Rattle.vt_words.proofs.Longwords.{extended_low, extended_again}
@@ -26,13 +27,13 @@ use Rattle.block_law.proofs.Rules.{Always, roomy, goes}
 use Rattle.program_codegen.specs.declared.lines.Line.{Line}
 use Rattle.program_codegen.specs.declared.points.Site.{Site}
 use Rattle.program_codegen.specs.Words.{plain, holder}
-use Rattle.program_codegen.proofs.Numbers.{all_three, status_bits, committed_is, bit_small, differs, exceeds}
+use Rattle.program_codegen.proofs.Numbers.{all_three, status_bits, committed_is, bit_small}
 use Rattle.program_codegen.proofs.Walk.{Within, stands, is_inside}
 use Rattle.program_codegen.proofs.Holding.{Holds}
 use Rattle.program_codegen.proofs.Computing.{held_value, held_still}
 
 above : (r n : ℕ) → r < 15 → 15 ≤ n → (n == r) ≡ false
-above r n lt le = exceeds n r (omega arith)
+above r n lt le = greater_differs n r (omega arith)
 
 -- ---- a register
 -- R0 to R14 hold sign-extended longwords
@@ -48,7 +49,7 @@ form_register regs r x low extended form = record {
     by : (n : ℕ) (b : Bool) → (n == r) ≡ b → n < 15 → sign_extended (put regs r x n) 32 ≡ put regs r x n
     by n true e lt =
         let same : r ≡ n = grind (arith, nat_tests, e) in
-        let is : put regs r x n ≡ x = subst (λ m. put regs r x m ≡ x) same (put_same regs r x (differs r 31 (omega arith))) in
+        let is : put regs r x n ≡ x = subst (λ m. put regs r x m ≡ x) same (put_same regs r x (less_differs r 31 (omega arith))) in
         subst (λ v. sign_extended v 32 ≡ v) (sym is) extended
     by n false e lt = let is = put_other regs r x n e in subst (λ v. sign_extended v 32 ≡ v) (sym is) (form.longwords n lt)
 
@@ -156,13 +157,13 @@ module _ (p : Placement) (site : Site) where
       set : (value : ℕ) → Holds p site (record known { psw = true; changed = true }) (record standing { state = with_psw (value % 256) standing.state }) (put regs 20 (value % 256 / 16 * 16))
       set value = record {
         form = record {
-          longwords = λ n lt. let e = out n (differs n 20 (omega arith)) in subst (λ x. sign_extended x 32 ≡ x) (sym e) (h.form.longwords n lt);
-          codes = λ n from to. let e = out n (differs n 20 to) in subst (λ x. x < 2) (sym e) (h.form.codes n from to);
+          longwords = λ n lt. let e = out n (less_differs n 20 (omega arith)) in subst (λ x. sign_extended x 32 ≡ x) (sym e) (h.form.longwords n lt);
+          codes = λ n from to. let e = out n (less_differs n 20 to) in subst (λ x. x < 2) (sym e) (h.form.codes n from to);
           status = subst (λ x. x < 256) (sym here) (omega arith);
           status_only = subst (λ x. x % 16 ≡ 0) (sym here) (omega arith);
           zero = out 31 refl ∙ h.form.zero;
         };
-        temps = λ temp temp_lt. held_still (held known temp) (standing.temps temp) (regs (21 + temp)) (put regs 20 (value % 256 / 16 * 16) (21 + temp)) (λ some. out (21 + temp) (exceeds (21 + temp) 20 (omega arith))) (h.temps temp temp_lt);
+        temps = λ temp temp_lt. held_still (held known temp) (standing.temps temp) (regs (21 + temp)) (put regs 20 (value % 256 / 16 * 16) (21 + temp)) (λ some. out (21 + temp) (greater_differs (21 + temp) 20 (omega arith))) (h.temps temp temp_lt);
         checked = h.checked;
         state = ap (with_psw (value % 256)) h.state ∙ ap (λ (rs : List ℕ). with_core p.begun rs p.begun.pc (value % 256)) same_registers;
         upper = sym (ap (λ x. x / 16) here ∙ (let e : value % 256 / 16 * 16 / 16 ≡ value % 256 / 16 = omega arith in e));
@@ -171,7 +172,7 @@ module _ (p : Placement) (site : Site) where
         no_overflow = h.no_overflow;
         each_register = h.each_register;
         quiet = λ e. absurd (cc e);
-        registers = λ other lt free. h.registers other lt free ∙ ap (λ n. n % 2 ^ 32) (sym (out other (differs other 20 (omega arith))));
+        registers = λ other lt free. h.registers other lt free ∙ ap (λ n. n % 2 ^ 32) (sym (out other (less_differs other 20 (omega arith))));
         codes = same_codes ∙ h.codes;
       }
         where

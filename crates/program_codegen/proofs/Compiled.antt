@@ -19,7 +19,8 @@ use Rattle.block_law.specs.Blocks.{is_exit_word, Stands, ExitsLead}
 use Rattle.block_law.specs.CodeWords.{LeavesCodes}
 use Rattle.block_law.specs.Placements.{Placement}
 use Rattle.block_law.specs.Rounds.{block_steps, new_round}
-use Rattle.block_law.specs.Translations.{Meaning, Code, placed, fetch_of, most_words}
+use Rattle.alpha_meaning.specs.Pieces.{most_words}
+use Rattle.block_law.specs.Translations.{Meaning, Code, placed, fetch_of}
 use Rattle.program_codegen.specs.declared.lines.Line.{Line}
 use Rattle.program_codegen.specs.declared.points.Site.{Site}
 use Rattle.program_codegen.specs.Words.{point_of, with_first, words_of, with_entry, points_from, exits_from, block_of, block_lines, program_lines}

@@ -2,7 +2,7 @@
 use Rattle.std.proofs.Common.{◌≡◌, ℕ, ◌+◌, ◌/◌, ◌%◌, ◌^◌, ◌<◌, ◌≤◌, refl, sym, ap, ◌∙◌, subst, arith, List, ◌++◌, length, map, None, Bool, true, false, lit<, lit≤, eqb-true}
 use Rattle.std.specs.Prelude.{◌==◌, ◌&&◌, ◌||◌, not, nat_lt, if◌then◌else◌}
 use Rattle.std.proofs.lemmas.Bool.Decides.{nat_tests}
-use Rattle.std.proofs.lemmas.Bool.{and_parts, not-true, eqb-false}
+use Rattle.std.proofs.lemmas.Bool.{and_parts, not-true, eqb-false, ltb-true}
 use Rattle.vt_words.proofs.Spreads.{below_8}
 use Rattle.vt_words.proofs.Longwords.{extended_fits}
 use Rattle.vax_form.specs.State.{with_core}
@@ -40,21 +40,18 @@ use Rattle.compute_sequences.proofs.Bounded.{computed_fits}
 use Rattle.compute_sequences.proofs.WholeLaws.{leaves_computed}
 use Rattle.block_law.specs.Placements.{Placement}
 use Rattle.block_law.specs.Tidy.{is_kept}
-use Rattle.block_law.proofs.Kept.{registers_kept, form_kept}
+use Rattle.block_law.proofs.Kept.{registers_kept, form_kept, kept_below}
 use Rattle.block_law.proofs.Rules.{Always, runs}
 use Rattle.program_codegen.specs.declared.lines.Line.{Line}
 use Rattle.program_codegen.specs.declared.points.Site.{Site}
 use Rattle.program_codegen.specs.Words.{plain, holder}
 use Rattle.program_codegen.specs.Programs.{rule_of}
-use Rattle.program_codegen.proofs.Numbers.{all_four, below_of, same_bits}
+use Rattle.program_codegen.proofs.Numbers.{all_four, same_bits}
 use Rattle.program_codegen.proofs.Knowing.{SameChanges, write_changes}
 use Rattle.program_codegen.proofs.Walk.{Within, row_words, row_length, is_inside}
 use Rattle.program_codegen.proofs.Holding.{Holds, HoldsAs, IsChecked, found}
 
 -- ---- registers that a boundary shows
-pub low_kept : (n : ℕ) → n < 21 → is_kept n ≡ true
-low_kept n lt = grind (arith, nat_tests)
-
 pub codes_kept : (old new : Regs) (rules : Rules) (codes_held : Flags) → ((n : ℕ) → is_kept n ≡ true → new n ≡ old n) → codes_shown new rules codes_held ≡ codes_shown old rules codes_held
 codes_kept old new rules codes_held same = rw (same 15 refl, same 16 refl, same 17 refl, same 18 refl, same 19 refl, same 28 refl, same 29 refl, same 30 refl) refl
 
@@ -86,7 +83,7 @@ module _ (p : Placement) (site : Site) where
     no_overflow = λ c. h.no_overflow (sym changes.codes ∙ c);
     each_register = ap (λ (flags : List Bool). length flags) changes.committed ∙ h.each_register;
     quiet = λ e. let x = h.quiet (sym changes.changed ∙ e) in (changes.codes ∙ x.0, changes.psw ∙ x.1);
-    registers = λ number lt no. h.registers number lt (ap (λ (flags : List Bool). has_flag flags number) (sym changes.committed) ∙ no) ∙ ap (λ x. x % 2 ^ 32) (sym (same number (low_kept number (omega arith))));
+    registers = λ number lt no. h.registers number lt (ap (λ (flags : List Bool). has_flag flags number) (sym changes.committed) ∙ no) ∙ ap (λ x. x % 2 ^ 32) (sym (same number (kept_below number (omega arith))));
     codes = codes_kept old new site.before p.held same ∙ h.codes;
   }
 
@@ -151,7 +148,7 @@ module _ (p : Placement) (site : Site) where
     argument_quad (Flag flag) is fits = by (nat_lt flag 4) refl
       where
         by : (b : Bool) → nat_lt flag 4 ≡ b → regs (if b then 16 + flag else 20) < 2 ^ 64
-        by true e = let lt = below_of flag 4 e in let small = h.form.codes (16 + flag) (omega arith) (omega arith) in omega arith
+        by true e = let lt = ltb-true flag 4 e in let small = h.form.codes (16 + flag) (omega arith) (omega arith) in omega arith
         by false e = let small = h.form.status in omega arith
     argument_quad (Const value) is fits = rw h.form.zero (lit< tt)
 

@@ -30,7 +30,8 @@ use Rattle.block_law.specs.Tidy.{is_kept, register_written, may_fault, keeps_unt
 use Rattle.micro_ops.specs.Exits.{exit_addresses}
 use Rattle.program_codegen.specs.declared.lines.Line.{Line}
 use Rattle.program_codegen.specs.declared.points.Site.{Site}
-use Rattle.program_codegen.specs.Words.{plain, marked, holder, copy, point_of, raising, trapping, exit_lines, load_address, overflow_made, overflow_register, load_pc, overflow_lines, tested_lines, may_overflow, may_trap, trap_lines, departing, leaving, words_of}
+use Rattle.alpha_encode.specs.Halves.{load_longword}
+use Rattle.program_codegen.specs.Words.{plain, marked, holder, copy, point_of, raising, trapping, exit_lines, overflow_made, overflow_register, load_pc, overflow_lines, tested_lines, may_overflow, may_trap, trap_lines, departing, leaving, words_of}
 use Rattle.program_codegen.specs.Programs.{IsExit, KeepsTogether}
 use Rattle.program_codegen.proofs.Numbers.{all_four}
 use Rattle.program_codegen.proofs.Walk.{plain_length}
@@ -159,7 +160,7 @@ module _ (site : Site) (after_fits : site.after < 2 ^ 32) where
   )
   departing_each (exits.Service temp) is = (
     plain_fits site (copy (holder temp) 21) (omega arith, lit< tt, lit< tt) refl,
-    each_append site 0 (map plain (load_address 26 site.after)) (marked (Pal 0x82) (point_of site) ∷ exit_lines site.after) (row_fits site (load_address 26 site.after) (load_encodable 26 site.after (lit< tt)) refl)
+    each_append site 0 (map plain (load_longword 26 site.after)) (marked (Pal 0x82) (point_of site) ∷ exit_lines site.after) (row_fits site (load_longword 26 site.after) (load_encodable 26 site.after (lit< tt)) refl)
         (call_fits site 0x82 (point_of site) (lit≤ tt) (lit≤ tt) refl refl refl refl, exit_each site site.after after_fits),
   )
   departing_each exits.Breakpoint is = (call_fits site 0x83 (raising site 0x2C) (lit≤ tt) (lit≤ tt) refl refl refl refl, refl)

@@ -11,7 +11,7 @@ use Rattle.vax_form.specs.State.{with_core, with_pc, with_register}
 use Rattle.vax_form.specs.Tree.{Tree, Fault, Ends, Finish, Same}
 use Rattle.vax_form.specs.declared.state.Exception.TheVariants.{Breakpoint}
 use Rattle.vax_form.specs.declared.state.VaxState.{VaxState}
-use Rattle.alpha_encode.specs.Halves.{high_half, low_half, load_high, load_low}
+use Rattle.alpha_encode.specs.Halves.{high_half, low_half, load_high, load_low, load_longword}
 use Rattle.alpha_encode.specs.declared.instr.AlphaInstr.TheVariants.{Branch, Pal}
 use Rattle.alpha_encode.specs.declared.instr.BranchOp.TheVariants.{Beq}
 use Rattle.alpha_meaning.specs.Act.{target_of}
@@ -37,7 +37,7 @@ use Rattle.block_law.proofs.Rounds.{fits_spare}
 use Rattle.block_law.proofs.Rules.{Always, roomy, goes, passes, skips, looks_up, serves, raises}
 use Rattle.program_codegen.specs.declared.lines.Line.{Line}
 use Rattle.program_codegen.specs.declared.points.Site.{Site}
-use Rattle.program_codegen.specs.Words.{plain, marked, holder, copy, point_of, raising, exit_lines, load_address, departing}
+use Rattle.program_codegen.specs.Words.{plain, marked, holder, copy, point_of, raising, exit_lines, departing}
 use Rattle.program_codegen.specs.Programs.{LeavesReady}
 use Rattle.program_codegen.proofs.Numbers.{all_three, copied}
 use Rattle.program_codegen.proofs.Walk.{Within, next, stands, is_inside, exit_leads, behind_exit}
@@ -60,7 +60,7 @@ kept_by_put regs k value low high n kept = put_other regs k value n (kept_apart 
 
 -- ---- an address in R26
 module _ (p : Placement) (site : Site) where
-  pub loads : (need pc v : ℕ) (rest : List Line) (regs : Regs) (t : Tree) → Within p site.behind pc (map plain (load_address 26 v) ++ rest) → 1 ≤ length rest → regs 31 ≡ 0 → v < 2 ^ 32
+  pub loads : (need pc v : ℕ) (rest : List Line) (regs : Regs) (t : Tree) → Within p site.behind pc (map plain (load_longword 26 v) ++ rest) → 1 ≤ length rest → regs 31 ≡ 0 → v < 2 ^ 32
       → ((g : Regs) → Only (λ n. n == 26) regs g → g 26 % 2 ^ 32 ≡ v → Within p site.behind (pc + 1 + 1) rest → Always p None need (at_place g (pc + 1 + 1)) t)
       → Always p None (need + 1 + 1) (at_place regs pc) t
   loads need pc v rest regs t w some zero_reads lt behind =
@@ -154,8 +154,8 @@ module _ (p : Placement) (site : Site) (known : Known) (standing : Standing) (re
       let tail = marked (Pal 0x82) (point_of site) ∷ exit_lines site.after in
       let g1 = put regs 21 (bit_or (regs (21 + temp)) 0) in
       let is : bit_or (regs (21 + temp)) 0 ≡ standing.temps temp = copied (regs (21 + temp)) ∙ value in
-      let w1 = next p site.behind pc (copy (holder temp) 21) None (map plain (load_address 26 site.after) ++ tail) w in
-      goes p None (4 + 1 + 1) (at_place regs pc) (at_place g1 (pc + 1)) (copy (holder temp) 21) t (stands p site.behind pc (copy (holder temp) 21) None (map plain (load_address 26 site.after) ++ tail) w) refl (omega arith) (is_inside p site.behind pc (pc + 1) _ w (omega arith) (omega arith))
+      let w1 = next p site.behind pc (copy (holder temp) 21) None (map plain (load_longword 26 site.after) ++ tail) w in
+      goes p None (4 + 1 + 1) (at_place regs pc) (at_place g1 (pc + 1)) (copy (holder temp) 21) t (stands p site.behind pc (copy (holder temp) 21) None (map plain (load_longword 26 site.after) ++ tail) w) refl (omega arith) (is_inside p site.behind pc (pc + 1) _ w (omega arith) (omega arith))
       (loads p site 4 (pc + 1) site.after tail g1 t w1 (lit≤ tt) (put_other regs 21 (bit_or (regs (21 + temp)) 0) 31 refl ∙ c.form.zero) after_fits
       (λ g only low w2.
       let same : (n : ℕ) → is_kept n ≡ true → g n ≡ regs n = λ n kept. only n (kept_apart 26 n (lit≤ tt) (lit≤ tt) kept) ∙ kept_by_put regs 21 (bit_or (regs (21 + temp)) 0) (lit≤ tt) (lit≤ tt) n kept in

@@ -2,7 +2,7 @@
 use Rattle.std.proofs.Common.{◌≡◌, ℕ, refl, sym, ◌∙◌, subst, arith, List, [], ◌∷◌, Bool, true, false, eqb-true}
 use Rattle.std.specs.Prelude.{◌==◌, ◌&&◌, ◌||◌, not, nat_lt, nat_le}
 use Rattle.std.proofs.lemmas.Bool.Decides.{nat_tests}
-use Rattle.std.proofs.lemmas.Bool.{and_parts, not-true}
+use Rattle.std.proofs.lemmas.Bool.{and_parts, not-true, ltb-true}
 use Rattle.vt_words.specs.Quad.{IsCount, one as c1, two as c2, four as c4, eight as c8}
 use Rattle.micro_ops.specs.declared.codes.CodeSources.{CodeSources}
 use Rattle.micro_ops.specs.declared.known.Checked.TheVariants.{At}
@@ -23,7 +23,7 @@ use Rattle.byte_sequences.specs.Instructions as bytes
 use Rattle.compute_sequences.specs.Registers.{IsArgument}
 use Rattle.program_codegen.specs.Words.{holder}
 use Rattle.program_codegen.specs.Programs.{IsExit, IsRangedArgument, IsRangedExit, AllRanged, AllFitWords, AllHaveWords}
-use Rattle.program_codegen.proofs.Numbers.{all_three, all_four, all_five, below_of}
+use Rattle.program_codegen.proofs.Numbers.{all_three, all_four, all_five}
 use Rattle.program_codegen.proofs.Knowing.{walk_fits, nothing_behind, write_changes}
 use Rattle.program_codegen.proofs.Following.{opened}
 
@@ -42,24 +42,24 @@ or_false_left true b f e = absurd (cc f)
 or_false_left false b f e = e
 
 argument_word : (known : Known) (a : Arg) → is_low_argument a ≡ true → argument_fits known a ≡ true → IsRangedArgument a → IsArgument a
-argument_word known (Temp temp) low fits ranged = below_of temp 6 low
-argument_word known (Register number) low fits ranged = below_of number 15 (and_parts (nat_lt number 15) (not (is_committed known number)) fits).0
-argument_word known (Flag flag) low fits ranged = below_of flag 8 (all_three (nat_lt flag 8) (not known.codes) (not known.psw) fits).0
+argument_word known (Temp temp) low fits ranged = ltb-true temp 6 low
+argument_word known (Register number) low fits ranged = ltb-true number 15 (and_parts (nat_lt number 15) (not (is_committed known number)) fits).0
+argument_word known (Flag flag) low fits ranged = ltb-true flag 8 (all_three (nat_lt flag 8) (not known.codes) (not known.psw) fits).0
 argument_word known (Const value) low fits ranged = ranged
 
 exit_word : (exit : Exit) → is_low_exit exit ≡ true → IsRangedExit exit → IsExit exit
 exit_word Next low ranged = tt
 exit_word (Fixed address) low ranged = ranged
-exit_word (Computed temp) low ranged = below_of temp 6 low
-exit_word (Choice when taken other) low ranged = (below_of when 6 low, ranged.0, ranged.1)
-exit_word (Service temp) low ranged = below_of temp 6 low
+exit_word (Computed temp) low ranged = ltb-true temp 6 low
+exit_word (Choice when taken other) low ranged = (ltb-true when 6 low, ranged.0, ranged.1)
+exit_word (Service temp) low ranged = ltb-true temp 6 low
 exit_word Breakpoint low ranged = tt
 
 among : (a b : ℕ) → are_apart a b ≡ true → bytes.IsArgument (holder a) × bytes.IsArgument (holder b) × ((a == b) ≡ false)
 among a b e =
     let x = all_three (nat_lt a 4) (nat_lt b 4) (not (a == b)) e in
-    let a_lt = below_of a 4 x.0 in
-    let b_lt = below_of b 4 x.1 in
+    let a_lt = ltb-true a 4 x.0 in
+    let b_lt = ltb-true b 4 x.1 in
     (record { low = omega arith; high = omega arith }, record { low = omega arith; high = omega arith }, not-true (a == b) x.2)
 
 turned : (a b : ℕ) → (a == b) ≡ false → (b == a) ≡ false
@@ -76,7 +76,7 @@ module _ (sources : CodeSources) where
       let fits = all_four (nat_lt to 64) (argument_fits known a) (is_unary op || argument_fits known b) (not (is_select op) || holds known to) x.0 in (
         λ ranged out.
             let z = all_three (is_low to) (is_low_argument a) (is_unary op || is_low_argument b) (or_false_left (is_left_out sources (Compute to op size a b) program) (names_low (Compute to op size a b)) out y.0) in
-            let lt = below_of to 6 z.0 in (
+            let lt = ltb-true to 6 z.0 in (
               record { low = omega arith; high = omega arith },
               argument_word known a z.1 fits.1 ranged.0,
               λ binary. argument_word known b (or_false_left (is_unary op) (is_low_argument b) binary z.2) (or_false_left (is_unary op) (argument_fits known b) binary fits.2) ranged.1,
@@ -87,11 +87,11 @@ module _ (sources : CodeSources) where
       let behind = behind_access (record known { checked = At place count write }) in
       let x = walk_fits (check_fits known place count) behind (λ behind. walk sources behind program) (opened sources known (Probe place count write) program off e) in
       let y = and_parts (keeps_low sources (Probe place count write) program) (all_keep_low sources program) low in
-      (λ ranged. (below_of place 6 y.0, count_is count (and_parts (is_count count) (place_fits known place) x.0).0), fit_words program behind off x.1 y.1)
+      (λ ranged. (ltb-true place 6 y.0, count_is count (and_parts (is_count count) (place_fits known place) x.0).0), fit_words program behind off x.1 y.1)
   fit_words (Refuse when ∷ program) known off e low =
       let x = walk_fits (not known.changed && holds known when) known (λ behind. walk sources behind program) (opened sources known (Refuse when) program off e) in
       let y = and_parts (keeps_low sources (Refuse when) program) (all_keep_low sources program) low in
-      (λ ranged. below_of when 6 y.0, fit_words program known off x.1 y.1)
+      (λ ranged. ltb-true when 6 y.0, fit_words program known off x.1 y.1)
   fit_words (Read to place count ∷ program) known off e low =
       let behind = behind_access (behind_write to (holding_of (nat_le count 4)) known) in
       let same = write_changes to (holding_of (nat_le count 4)) known in
@@ -119,14 +119,14 @@ module _ (sources : CodeSources) where
       let x = walk_fits (commit_fits known number source) (behind_commit number known) (λ behind. walk sources behind program) (opened sources known (Commit number source) program off e) in
       let y = and_parts (keeps_low sources (Commit number source) program) (all_keep_low sources program) low in
       let z = all_three (nat_lt number 15) (holds known source) (not (is_committed known number)) x.0 in
-      (λ ranged. (below_of number 15 z.0, below_of source 6 y.0), fit_words program (behind_commit number known) off x.1 y.1)
+      (λ ranged. (ltb-true number 15 z.0, ltb-true source 6 y.0), fit_words program (behind_commit number known) off x.1 y.1)
   fit_words (Codes n z v c ∷ program) known off e low =
       let x = walk_fits (codes_fit known n z v c) (record known { codes = true; changed = true }) (λ behind. walk sources behind program) (opened sources known (Codes n z v c) program off e) in
       (λ ranged. tt, fit_words program (record known { codes = true; changed = true }) off x.1 (and_parts (keeps_low sources (Codes n z v c) program) (all_keep_low sources program) low).1)
   fit_words (SetPsw source ∷ program) known off e low =
       let x = walk_fits (not known.psw && holds known source) (record known { psw = true; changed = true }) (λ behind. walk sources behind program) (opened sources known (SetPsw source) program off e) in
       let y = and_parts (keeps_low sources (SetPsw source) program) (all_keep_low sources program) low in
-      (λ ranged. below_of source 6 y.0, fit_words program (record known { psw = true; changed = true }) off x.1 y.1)
+      (λ ranged. ltb-true source 6 y.0, fit_words program (record known { psw = true; changed = true }) off x.1 y.1)
   fit_words (Leave exit ∷ program) known off e low =
       let x = walk_fits (exit_fits known exit && sources_fit sources known) (record known { ended = true }) (λ behind. walk sources behind program) (opened sources known (Leave exit) program off e) in
       let y = and_parts (keeps_low sources (Leave exit) program) (all_keep_low sources program) low in

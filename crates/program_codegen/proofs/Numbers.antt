@@ -21,15 +21,6 @@ all_four a b c d e = let x = and_parts (a && b && c) d e in let y = all_three a 
 pub all_five : (a b c d f : Bool) → (a && b && c && d && f) ≡ true → (a ≡ true) × (b ≡ true) × (c ≡ true) × (d ≡ true) × (f ≡ true)
 all_five a b c d f e = let x = and_parts (a && b && c && d) f e in let y = all_four a b c d x.0 in (y.0, y.1, y.2, y.3, x.1)
 
-pub below_of : (n k : ℕ) → nat_lt n k ≡ true → n < k
-below_of n k e = grind (arith, nat_tests, e)
-
-pub differs : (n k : ℕ) → n < k → (n == k) ≡ false
-differs n k lt = grind (arith, nat_tests)
-
-pub exceeds : (n k : ℕ) → k < n → (n == k) ≡ false
-exceeds n k lt = grind (arith, nat_tests)
-
 -- ---- copies
 pub copied : (n : ℕ) → bit_or n 0 ≡ n
 copied n = or_zero_r n

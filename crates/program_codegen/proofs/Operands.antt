@@ -6,7 +6,7 @@ use Rattle.std.proofs.Math.Nat.{mod-eq_of_lt, mod-mod}
 use Rattle.std.proofs.lemmas.Bool.Decides.{nat_tests}
 use Rattle.std.proofs.lemmas.List.Elements.{All-cons, All-nil}
 use Rattle.std.proofs.lemmas.Nat.{and_assoc, and_mask, div_below, div-add-mod', mod_below, pow-add, pow_pos}
-use Rattle.std.proofs.lemmas.Bool.{or_cases}
+use Rattle.std.proofs.lemmas.Bool.{or_cases, eqb-true}
 use Rattle.vt_words.specs.Quad.{IsCount, one as c1, two as c2, four as c4, eight as c8, field_of, with_field_of}
 use Rattle.vt_words.proofs.Spreads.{below_8}
 use Rattle.vax_form.specs.PageTable.{IsPageTable, AreRising, has_page}
@@ -105,14 +105,11 @@ pub record IsUsable (pages : Pages) (write : Bool) (address count : ℕ) : Type 
   pub small : address < 2 ^ 32
   pub bytes : (i : ℕ) → i < count → is_allowed pages ((address + i) % 2 ^ 32) write ≡ true
 
-same_number : (a b : ℕ) → (a == b) ≡ true → a ≡ b
-same_number a b e = grind (arith, nat_tests, e)
-
 pub usable : (pages : Pages) (checked : Checked) (temps : Temps) (place count : ℕ) (write : Bool) → temps place < 2 ^ 32 → is_checked checked place count write ≡ true → IsChecked pages checked temps → IsUsable pages write (temps place) count
 usable pages Nowhere temps place count write small e is = absurd (cc e)
 usable pages (At at bytes intent) temps place count write small e is =
     let x = all_three (at == place) (bytes == count) (not write || intent) e in
-    let passes : first_bad pages intent (temps place) count ≡ None = subst (λ n. first_bad pages intent (temps place) n ≡ None) (same_number bytes count x.1) (subst (λ n. first_bad pages intent (temps n) bytes ≡ None) (same_number at place x.0) is) in
+    let passes : first_bad pages intent (temps place) count ≡ None = subst (λ n. first_bad pages intent (temps place) n ≡ None) (eqb-true bytes count x.1) (subst (λ n. first_bad pages intent (temps n) bytes ≡ None) (eqb-true at place x.0) is) in
     record { small = small; bytes = λ i lt. may_use pages ((temps place + i) % 2 ^ 32) intent write x.2 (each_byte pages intent count (temps place) i small lt passes) }
 
 module _ (pages : Pages) (table : IsPageTable pages) where
@@ -181,7 +178,7 @@ module _ (p : Placement) (kinds : (reference : Reference) (kind : AlphaKind) (by
       by true in_one e = absurd (zero_not count some e)
         where
           zero_not : (n : ℕ) → 0 < n → (n == 0) ≡ true → ⊥
-          zero_not n lt e = let is = same_number n 0 e in omega arith
+          zero_not n lt e = let is = eqb-true n 0 e in omega arith
       by false true e = (refl, λ kind bytes may. kinds _ kind bytes, λ before lt. (refl, (ap (λ v. tree p (on v)) (mod-mod (before / 2 ^ (8 * (address % 8))) (2 ^ (8 * count))), refl)))
       by false false e =
           let c = 8 - address % 8 in
@@ -251,7 +248,7 @@ module _ (Holding : Course Left → Type 0) (opens : (reference : Reference) (on
       by true in_one e f h = absurd (zero_not count some e)
         where
           zero_not : (n : ℕ) → 0 < n → (n == 0) ≡ true → ⊥
-          zero_not n lt e = let is = same_number n 0 e in omega arith
+          zero_not n lt e = let is = eqb-true n 0 e in omega arith
       by false true e f h = subst (λ v. Holding (on v)) (mod-eq_of_lt fits) (opens (record { address = address; count = count; kind = references.Read }) (λ reply. on (reply % 2 ^ (8 * count))) value h fits)
       by false false e f h =
           let c = 8 - address % 8 in

@@ -6,6 +6,7 @@ use Rattle.std.specs.List.{list_all, list_any}
 use Rattle.std.proofs.lemmas.Bool.Decides.{nat_tests}
 use Rattle.std.proofs.lemmas.Int.{ints}
 use Rattle.std.proofs.lemmas.List.Elements.{All-nil}
+use Rattle.alpha_encode.proofs.SignedHalves.{half_fits}
 use Rattle.vt_words.specs.Quad.{IsCount, one as c1, two as c2, four as c4, eight as c8}
 use Rattle.vax_form.specs.declared.instr.Size.TheVariants.{Byte, Word, Long, Quad}
 use Rattle.alpha_encode.specs.Words.{IsEncodable}
@@ -27,7 +28,8 @@ use Rattle.compute_sequences.specs.declared.overflow.Arithmetic.TheVariants.{Sum
 use Rattle.compute_sequences.proofs.OverflowLaws.{overflow_fine}
 use Rattle.compute_sequences.proofs.Straight.{all_of, each_encodable}
 use Rattle.block_law.specs.Tidy.{is_kept, register_written, may_fault}
-use Rattle.program_codegen.specs.Words.{width_of, overflow_made, load_address}
+use Rattle.alpha_encode.specs.Halves.{load_longword}
+use Rattle.program_codegen.specs.Words.{width_of, overflow_made}
 use Rattle.program_codegen.proofs.Shapes.{is_local}
 
 -- ---- what is asked of words
@@ -161,18 +163,14 @@ locked_short AddWord place source to = lit≤ tt
 locked_short SetBit place source to = lit≤ tt
 locked_short ClearBit place source to = lit≤ tt
 
--- ---- constants and branches
-half_fits : (n : ℕ) → n < 2 ^ 16 → FitsSigned w16 (cast_signed w16 n)
-half_fits n lt = record { sfits = grind (arith, ints) }
-
 pub small_fits : (n : ℕ) → n < 2 ^ 15 → FitsSigned w16 (pos n)
 small_fits n lt = record { sfits = grind (arith, ints) }
 
-pub load_each : (to address : ℕ) → to < 32 → EachEncodable (load_address to address)
+pub load_each : (to address : ℕ) → to < 32 → EachEncodable (load_longword to address)
 load_each to address lt = ((lt, lit< tt, half_fits ((address + 2 ^ 15) / 2 ^ 16 % 2 ^ 16) (omega arith)), ((lt, lt, half_fits (address % 2 ^ 16) (omega arith)), tt))
 
-pub load_encodable : (to address : ℕ) → to < 32 → All IsEncodable (load_address to address)
-load_encodable to address lt = all_encodable (load_address to address) (load_each to address lt)
+pub load_encodable : (to address : ℕ) → to < 32 → All IsEncodable (load_longword to address)
+load_encodable to address lt = all_encodable (load_longword to address) (load_each to address lt)
 
 pub branch_encodable : (op : BranchOp) (ra n : ℕ) → ra < 32 → n < 2 ^ 20 → IsEncodable (Branch op ra (pos n))
 branch_encodable op ra n lt small = (lt, grind (arith, ints), grind (arith, ints))

@@ -4,6 +4,7 @@ use Rattle.std.specs.Prelude.{◌==◌, unwrap_or, All, if◌then◌else◌}
 use Rattle.std.specs.List.{list_all, list_any}
 use Rattle.std.proofs.lemmas.List.Elements.{All-cons, All-nil}
 use Rattle.std.proofs.lemmas.Bool.{and_parts}
+use Rattle.alpha_encode.specs.NoOperation.{nop}
 use Rattle.alpha_encode.specs.Words.{IsEncodable}
 use Rattle.alpha_encode.specs.declared.instr.AlphaInstr.{AlphaInstr}
 use Rattle.alpha_encode.specs.declared.instr.AlphaInstr.TheVariants.{Memory, Branch, Operate, Jump, Pal}
@@ -14,7 +15,7 @@ use Rattle.block_law.specs.Tidy.{interprets}
 use Rattle.block_law.specs.Translations.{done_at}
 use Rattle.program_codegen.specs.declared.lines.Line.{Line}
 use Rattle.program_codegen.specs.declared.points.Site.{Site}
-use Rattle.program_codegen.specs.Words.{plain, marked, idle, exit_lines, point_of, with_first, words_of, with_entry, points_from, exits_from}
+use Rattle.program_codegen.specs.Words.{plain, marked, exit_lines, point_of, with_first, words_of, with_entry, points_from, exits_from}
 use Rattle.program_codegen.specs.Promises.{HasRules}
 use Rattle.program_codegen.proofs.Walk.{skip_behind}
 use Rattle.program_codegen.proofs.Starting.{IsWholeLine, IsWhole}
@@ -83,13 +84,13 @@ pub call_fits : (site : Site) (number : ℕ) (point : Point) → 0x80 ≤ number
     → LineFits site None 0 (marked (Pal number) point)
 call_fits site number point low high other its done rules = record { encodable = (low, high); translated = other; its_point = (its, done, rules); whole = tt; address = tt; quiet = tt }
 
-idle_encodable : IsEncodable idle
-idle_encodable = (lit< tt, lit< tt, lit< tt)
+nop_encodable : IsEncodable nop
+nop_encodable = (lit< tt, lit< tt, lit< tt)
 
 pub exit_each : (site : Site) (address : ℕ) → address < 2 ^ 32 → EachFits site 0 (exit_lines address)
 exit_each site address lt =
-    let quiet_one : (skip : ℕ) → LineFits site None (suc skip) (plain idle) = λ skip. record { encodable = idle_encodable; translated = refl; its_point = refl; whole = tt; address = tt; quiet = (refl, refl) } in (
-      record { encodable = idle_encodable; translated = refl; its_point = refl; whole = refl; address = lt; quiet = refl },
+    let quiet_one : (skip : ℕ) → LineFits site None (suc skip) (plain nop) = λ skip. record { encodable = nop_encodable; translated = refl; its_point = refl; whole = tt; address = tt; quiet = (refl, refl) } in (
+      record { encodable = nop_encodable; translated = refl; its_point = refl; whole = refl; address = lt; quiet = refl },
       (quiet_one 1, (quiet_one 0, refl)),
     )
 

@@ -4,6 +4,7 @@ use Rattle.std.specs.Prelude.{◌==◌, ◌&&◌, ◌||◌, nat_lt, nat_le, slic
 use Rattle.std.proofs.lemmas.Bool.Decides.{nat_tests}
 use Rattle.std.proofs.lemmas.List.{get_or-set_same}
 use Rattle.std.proofs.lemmas.Bool.{le-ltb}
+use Rattle.vt_words.proofs.Tests.{bit_tells}
 use Rattle.vt_words.specs.Values.{bit}
 use Rattle.vax_form.specs.State.{with_core}
 use Rattle.vax_form.specs.declared.state.Flags.{Flags}
@@ -45,10 +46,6 @@ fourth_bit u n z v c ln lz lv lc = omega arith
 upper_bits : (u n z v c : ℕ) → n ≤ 1 → z ≤ 1 → v ≤ 1 → c ≤ 1 → (u * 16 + (n * 8 + z * 4 + v * 2 + c)) / 16 ≡ u
 upper_bits u n z v c ln lz lv lc = omega arith
 
-is_bit : (b : Bool) → (bit b == 1) ≡ b
-is_bit true = refl
-is_bit false = refl
-
 pub flags_same : (a b : Flags) → a.n ≡ b.n → a.z ≡ b.z → a.v ≡ b.v → a.c ≡ b.c → a ≡ b
 flags_same a b n z v c =
     ap (λ x. record { n = x; z = a.z; v = a.v; c = a.c }) n ∙ (ap (λ x. record { n = b.n; z = x; v = a.v; c = a.c }) z ∙ (ap (λ x. record { n = b.n; z = b.z; v = x; c = a.c }) v ∙ ap (λ x. record { n = b.n; z = b.z; v = b.v; c = x }) c))
@@ -59,10 +56,10 @@ codes_of_shown upper codes =
     let u = upper / 16 % 16 in
     let ln = bit_small codes.n in let lz = bit_small codes.z in let lv = bit_small codes.v in let lc = bit_small codes.c in
     flags_same (codes_in (psw_with upper codes)) codes
-    (ap (λ x. x == 1) (by_bits u (bit codes.n) (bit codes.z) (bit codes.v) (bit codes.c) ln lz lv lc) ∙ is_bit codes.n)
-    (ap (λ x. x == 1) (second_bit u (bit codes.n) (bit codes.z) (bit codes.v) (bit codes.c) ln lz lv lc) ∙ is_bit codes.z)
-    (ap (λ x. x == 1) (third_bit u (bit codes.n) (bit codes.z) (bit codes.v) (bit codes.c) ln lz lv lc) ∙ is_bit codes.v)
-    (ap (λ x. x == 1) (fourth_bit u (bit codes.n) (bit codes.z) (bit codes.v) (bit codes.c) ln lz lv lc) ∙ is_bit codes.c)
+    (ap (λ x. x == 1) (by_bits u (bit codes.n) (bit codes.z) (bit codes.v) (bit codes.c) ln lz lv lc) ∙ bit_tells codes.n)
+    (ap (λ x. x == 1) (second_bit u (bit codes.n) (bit codes.z) (bit codes.v) (bit codes.c) ln lz lv lc) ∙ bit_tells codes.z)
+    (ap (λ x. x == 1) (third_bit u (bit codes.n) (bit codes.z) (bit codes.v) (bit codes.c) ln lz lv lc) ∙ bit_tells codes.v)
+    (ap (λ x. x == 1) (fourth_bit u (bit codes.n) (bit codes.z) (bit codes.v) (bit codes.c) ln lz lv lc) ∙ bit_tells codes.c)
 
 pub upper_of_shown : (upper : ℕ) (codes : Flags) → upper < 256 → psw_with upper codes / 16 ≡ upper / 16
 upper_of_shown upper codes lt =

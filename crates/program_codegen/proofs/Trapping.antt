@@ -41,7 +41,8 @@ use Rattle.block_law.specs.Placements.{Placement}
 use Rattle.block_law.proofs.Rules.{Always, roomy, goes, passes, skips, runs}
 use Rattle.program_codegen.specs.declared.lines.Line.{Line}
 use Rattle.program_codegen.specs.declared.points.Site.{Site}
-use Rattle.program_codegen.specs.Words.{plain, holder, copy, load_address, width_of, overflow_made, overflow_register, tells_overflow, may_overflow, load_pc, may_trap}
+use Rattle.alpha_encode.specs.Halves.{load_longword}
+use Rattle.program_codegen.specs.Words.{plain, holder, copy, width_of, overflow_made, overflow_register, tells_overflow, may_overflow, load_pc, may_trap}
 use Rattle.program_codegen.specs.Programs.{IsExit, is_narrow}
 use Rattle.program_codegen.proofs.Numbers.{same_bits, copied}
 use Rattle.program_codegen.proofs.Walk.{Within, next, stands, is_inside, row_words, row_rest, row_length}
@@ -220,7 +221,7 @@ ExitHolds known exit = Unit {0}
 
 module _ (p : Placement) (site : Site) (known : Known) (standing : Standing) (after_fits : site.after < 2 ^ 32) where
   -- two words that load an address
-  loads_address : (need pc address : ℕ) (rest : List Line) (regs : Regs) (t : Tree) → Within p site.behind pc (map plain (load_address 26 address) ++ rest) → 1 ≤ length rest → regs 31 ≡ 0 → address < 2 ^ 32
+  loads_address : (need pc address : ℕ) (rest : List Line) (regs : Regs) (t : Tree) → Within p site.behind pc (map plain (load_longword 26 address) ++ rest) → 1 ≤ length rest → regs 31 ≡ 0 → address < 2 ^ 32
       → ((g : Regs) → Only (λ n. n == 26) regs g → g 26 % 2 ^ 32 ≡ address → Always p None need (at_place g (pc + 2)) t) → Always p None (2 + need) (at_place regs pc) t
   loads_address need pc address rest regs t w some zero_reads lt behind =
       let two : pc + 1 + 1 ≡ pc + 2 = omega arith in
@@ -247,9 +248,9 @@ module _ (p : Placement) (site : Site) (known : Known) (standing : Standing) (af
           let end = w.high in
           let near = w.near in
           let value = exit_value p site known standing regs when is.0 holds c in
-          let last = map plain (load_address 26 other) ++ rest in
-          let w1 = next p site.behind pc (Branch Beq (holder when) (pos 3)) None (map plain (load_address 26 taken) ++ (plain (Branch Br 31 (pos 2)) ∷ last)) w in
-          let w2 = row_rest p site.behind (pc + 1) (load_address 26 taken) (plain (Branch Br 31 (pos 2)) ∷ last) w1 in
+          let last = map plain (load_longword 26 other) ++ rest in
+          let w1 = next p site.behind pc (Branch Beq (holder when) (pos 3)) None (map plain (load_longword 26 taken) ++ (plain (Branch Br 31 (pos 2)) ∷ last)) w in
+          let w2 = row_rest p site.behind (pc + 1) (load_longword 26 taken) (plain (Branch Br 31 (pos 2)) ∷ last) w1 in
           let w3 = next p site.behind (pc + 1 + 2) (Branch Br 31 (pos 2)) None last w2 in
           let jump : target_of pc (pos 3) ≡ pc + 1 + 2 + 1 = omega arith in
           let six : pc + 1 + 2 + 1 + 2 ≡ pc + 6 = omega arith in
@@ -261,9 +262,9 @@ module _ (p : Placement) (site : Site) (known : Known) (standing : Standing) (af
           let end = w.high in
           let near = w.near in
           let value = exit_value p site known standing regs when is.0 holds c in
-          let last = map plain (load_address 26 other) ++ rest in
-          let w1 = next p site.behind pc (Branch Beq (holder when) (pos 3)) None (map plain (load_address 26 taken) ++ (plain (Branch Br 31 (pos 2)) ∷ last)) w in
-          let w2 = row_rest p site.behind (pc + 1) (load_address 26 taken) (plain (Branch Br 31 (pos 2)) ∷ last) w1 in
+          let last = map plain (load_longword 26 other) ++ rest in
+          let w1 = next p site.behind pc (Branch Beq (holder when) (pos 3)) None (map plain (load_longword 26 taken) ++ (plain (Branch Br 31 (pos 2)) ∷ last)) w in
+          let w2 = row_rest p site.behind (pc + 1) (load_longword 26 taken) (plain (Branch Br 31 (pos 2)) ∷ last) w1 in
           let jump : target_of (pc + 1 + 2) (pos 2) ≡ pc + 6 = omega arith in
           let low_end = w2.high in
           roomy p None (2 + (need + 1) + 1) (6 + need) (at_place regs pc) t (omega arith)

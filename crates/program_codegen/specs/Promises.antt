@@ -8,7 +8,7 @@ use Rattle.vax_form.specs.declared.state.Flags.{Flags}
 use Rattle.vax_form.specs.declared.state.Reference.{Reference}
 use Rattle.vax_form.specs.declared.state.VaxState.{VaxState}
 use Rattle.alpha_meaning.specs.State.{Regs, at_place}
-use Rattle.alpha_meaning.specs.Pieces.{Plain}
+use Rattle.alpha_meaning.specs.Pieces.{Plain, most_words}
 use Rattle.alpha_meaning.specs.declared.access.AlphaKind.{AlphaKind}
 use Rattle.exception_records.specs.Blocks.{BlockValue}
 use Rattle.exception_records.specs.Points.{Entry, point_at}
@@ -24,7 +24,7 @@ use Rattle.micro_ops.specs.Sources.{codes_written_by}
 use Rattle.block_law.specs.Follows.{Follows}
 use Rattle.block_law.specs.Placements.{InForm}
 use Rattle.block_law.specs.Rounds.{block_steps, new_round}
-use Rattle.block_law.specs.Translations.{Meaning, Code, placed, most_words}
+use Rattle.block_law.specs.Translations.{Meaning, Code, placed}
 
 -- a point has the rules before the instruction, and where it is done, at a trap, those behind it
 abbrev pub HasRules : (before behind : Rules) → Entry → Type 0

@@ -7,7 +7,8 @@ use Rattle.vax_form.specs.declared.instr.Size.{Size}
 use Rattle.vax_form.specs.declared.instr.Size.TheVariants as sizes
 use Rattle.vax_form.specs.declared.instr.Width.{Width}
 use Rattle.vax_form.specs.declared.instr.Width.TheVariants.{Byte, Word, Long}
-use Rattle.alpha_encode.specs.Halves.{load_high, load_low}
+use Rattle.alpha_encode.specs.Halves.{load_longword}
+use Rattle.alpha_encode.specs.NoOperation.{nop}
 use Rattle.alpha_encode.specs.declared.instr.AlphaInstr.{AlphaInstr}
 use Rattle.alpha_encode.specs.declared.instr.AlphaInstr.TheVariants.{Memory, Branch, Operate, Pal}
 use Rattle.alpha_encode.specs.declared.pal.TheConstants.{PROBE, LOOK_UP, SERVE, RAISE, TRAP}
@@ -15,7 +16,7 @@ use Rattle.alpha_encode.specs.declared.registers.TheConstants.{OVERFLOW, STATUS,
 use Rattle.alpha_encode.specs.declared.instr.BranchOp.TheVariants.{Br, Beq}
 use Rattle.alpha_encode.specs.declared.instr.MemoryOp.TheVariants.{Lda}
 use Rattle.alpha_encode.specs.declared.instr.OperateOp.TheVariants.{Addl, And, Bis}
-use Rattle.alpha_encode.specs.declared.instr.Second.TheVariants.{Register, Literal}
+use Rattle.alpha_encode.specs.declared.instr.Second.TheVariants.{Literal}
 use Rattle.exception_records.specs.Blocks.{BlockValue}
 use Rattle.exception_records.specs.Points.{Entry}
 use Rattle.exception_records.specs.declared.points.Point.{Point}
@@ -60,13 +61,9 @@ plain instr = record { instr = instr; point = None; exit = None }
 abbrev pub marked : AlphaInstr → Point → Line
 marked instr point = record { instr = instr; point = Some point; exit = None }
 
--- a word that does nothing
-abbrev pub idle : AlphaInstr
-idle = Operate Bis ZERO (Register ZERO) ZERO
-
 -- an exit's words are filled where the block is laid out
 abbrev pub exit_lines : (address : ℕ) → List Line
-exit_lines address = record { instr = idle; point = None; exit = Some address } ∷ plain idle ∷ plain idle ∷ []
+exit_lines address = record { instr = nop; point = None; exit = Some address } ∷ plain nop ∷ plain nop ∷ []
 
 -- ---- registers
 -- the register of a temporary
@@ -75,10 +72,6 @@ holder temp = TEMPORARIES + temp
 
 abbrev pub copy : (from to : ℕ) → AlphaInstr
 copy from to = Operate Bis from (Literal 0) to
-
--- a constant, of which the low longword counts
-abbrev pub load_address : (to address : ℕ) → List AlphaInstr
-load_address to address = load_high to address ∷ load_low to address ∷ []
 
 -- ---- the trap on overflow
 abbrev pub width_of : Size → Width
@@ -117,11 +110,11 @@ may_overflow source = false
 
 -- the PC behind the instruction, in R26
 abbrev pub load_pc : (after : ℕ) → Exit → List AlphaInstr
-load_pc after (Fixed address) = load_address TARGET address
+load_pc after (Fixed address) = load_longword TARGET address
 load_pc after (Computed temp) = copy (holder temp) TARGET ∷ []
 load_pc after (Choice when taken other) =
-    Branch Beq (holder when) (pos 3) ∷ (load_address TARGET taken ++ (Branch Br ZERO (pos 2) ∷ load_address TARGET other))
-load_pc after exit = load_address TARGET after
+    Branch Beq (holder when) (pos 3) ∷ (load_longword TARGET taken ++ (Branch Br ZERO (pos 2) ∷ load_longword TARGET other))
+load_pc after exit = load_longword TARGET after
 
 -- integer overflow has the type 1
 abbrev pub overflow_lines : Site → Exit → List Line
@@ -148,7 +141,7 @@ departing site (Fixed address) = exit_lines address
 departing site (Computed temp) = plain (copy (holder temp) TARGET) ∷ plain (Pal LOOK_UP) ∷ []
 departing site (Choice when taken other) = plain (Branch Beq (holder when) (pos 3)) ∷ (exit_lines taken ++ exit_lines other)
 departing site (Service temp) =
-    plain (copy (holder temp) TEMPORARIES) ∷ (map plain (load_address TARGET site.after) ++ (marked (Pal SERVE) (point_of site) ∷ exit_lines site.after))
+    plain (copy (holder temp) TEMPORARIES) ∷ (map plain (load_longword TARGET site.after) ++ (marked (Pal SERVE) (point_of site) ∷ exit_lines site.after))
 departing site Breakpoint = marked (Pal RAISE) (raising site 0x2C) ∷ []
 
 abbrev pub leaving : Site → (codes : List AlphaInstr) → Exit → List Line

@@ -3,12 +3,14 @@ ghost use Rattle.std.specs.Prelude.{◌≡◌, ◌++◌, ◌≤◌, length, map,
 ghost use Rattle.program_codegen.specs.Words.{plain, width_of, overflow_made, overflow_register, tells_overflow, may_overflow, load_pc, overflow_lines, tested_lines, may_trap, trap_lines, departing, leaving};
 ghost use Rattle.program_codegen.specs.Programs.{IsExit, is_narrow};
 
-use crate::lines::{Line, RAISE, copy, holder, load_address, marked, plain, push_exit, push_words};
+use crate::lines::{Line, RAISE, copy, holder, marked, plain, push_exit, push_words};
 use crate::points::{BREAKPOINT, Site, point_of, raising, trapping};
 use alpha_encode::registers::{
     ADDRESS, OVERFLOW, RULE_FIRST, RULE_SECOND, STATUS, TARGET, TEMPORARIES, ZERO,
 };
-use alpha_encode::{AlphaInstr, BranchOp, MemoryOp, OperateOp, branch, operate_by, pal};
+use alpha_encode::{
+    AlphaInstr, BranchOp, MemoryOp, OperateOp, branch, load_longword, operate_by, pal,
+};
 use compute_sequences::{Arithmetic, overflow_words};
 use exception_records::CodeRule;
 use micro_ops::{CodeSource, Exit};
@@ -96,11 +98,11 @@ fn push_pc(lines: &mut Vec<Line>, after: u32, exit: Exit) -> Result<(), AllocErr
     ensures { OnOk result (lines.new.items ≡ lines.old.items ++ map plain (load_pc after exit)) }
 {
     match exit {
-        Exit::Fixed(address) => push_words(lines, &load_address(TARGET, address)),
+        Exit::Fixed(address) => push_words(lines, &load_longword(TARGET, address)),
         Exit::Computed(temp) => push_words(lines, &[copy(holder(temp), TARGET)]),
         Exit::Choice { when, taken, other } => {
-            let [taken_high, taken_low] = load_address(TARGET, taken);
-            let [other_high, other_low] = load_address(TARGET, other);
+            let [taken_high, taken_low] = load_longword(TARGET, taken);
+            let [other_high, other_low] = load_longword(TARGET, other);
             push_words(
                 lines,
                 &[
@@ -114,7 +116,7 @@ fn push_pc(lines: &mut Vec<Line>, after: u32, exit: Exit) -> Result<(), AllocErr
             )
         }
         Exit::Next | Exit::Service(_) | Exit::Breakpoint => {
-            push_words(lines, &load_address(TARGET, after))
+            push_words(lines, &load_longword(TARGET, after))
         }
     }
 }
@@ -188,7 +190,7 @@ fn push_service(lines: &mut Vec<Line>, site: Site, temp: u8) -> Result<(), Alloc
     requires { IsExit (Exit.Service temp) }
     ensures { OnOk result (lines.new.items ≡ lines.old.items ++ departing site (Exit.Service temp)) }
 {
-    let [high, low] = load_address(TARGET, site.after);
+    let [high, low] = load_longword(TARGET, site.after);
     lines.extend_from_slice(&[
         plain(copy(holder(temp), CODE)),
         plain(high),

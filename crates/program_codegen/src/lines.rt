@@ -1,9 +1,9 @@
 // The words of a block with their points and exits, and the block that they make.
 ghost use Rattle.std.specs.Prelude.{◌≡◌, ◌++◌, ◌≤◌, Some, None, length, map, IfOk, OnOk, []};
-ghost use Rattle.program_codegen.specs.Words.{plain, marked, idle, exit_lines, holder, copy, load_address, with_first, words_of, points_from, exits_from, block_of};
+ghost use Rattle.program_codegen.specs.Words.{plain, marked, exit_lines, holder, copy, with_first, words_of, points_from, exits_from, block_of};
 
-use alpha_encode::registers::{TEMPORARIES, ZERO};
-use alpha_encode::{AlphaInstr, OperateOp, load_high, load_low, operate, operate_by, pal};
+use alpha_encode::registers::TEMPORARIES;
+use alpha_encode::{AlphaInstr, NOP, OperateOp, operate_by, pal};
 use exception_records::{Block, Point};
 use std::alloc::{AllocError, Global};
 
@@ -52,20 +52,6 @@ pub(crate) fn copy(from: u8, to: u8) -> AlphaInstr
     operate_by(OperateOp::Bis, from, 0, to)
 }
 
-/// A word that does nothing.
-fn idle() -> AlphaInstr
-    ensures { result ≡ idle }
-{
-    operate(OperateOp::Bis, ZERO, ZERO, ZERO)
-}
-
-/// A constant, of which the low longword counts.
-pub(crate) fn load_address(to: u8, address: u32) -> [AlphaInstr; 2]
-    ensures { result ≡ load_address to address }
-{
-    [load_high(to, address), load_low(to, address)]
-}
-
 pub(crate) fn push_words(lines: &mut Vec<Line>, words: &[AlphaInstr]) -> Result<(), AllocError>
     ensures { OnOk result (lines.new.items ≡ lines.old.items ++ map plain words.now) }
 {
@@ -80,11 +66,11 @@ pub(crate) fn push_exit(lines: &mut Vec<Line>, address: u32) -> Result<(), Alloc
     ensures { OnOk result (lines.new.items ≡ lines.old.items ++ exit_lines address) }
 {
     let first = Line {
-        instr: idle(),
+        instr: NOP,
         point: None,
         exit: Some(address),
     };
-    lines.extend_from_slice(&[first, plain(idle()), plain(idle())])
+    lines.extend_from_slice(&[first, plain(NOP), plain(NOP)])
 }
 
 /// The first word gets the point, where it has none of its own.

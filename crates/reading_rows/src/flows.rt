@@ -3,9 +3,9 @@ use crate::lists::{bytes_of, cut};
 use crate::texts::{no_question, refusal_text, yes_or_no};
 use anyhow::{Result, anyhow};
 use flow_discovery::{FlowRefusal, is_start, reach};
-use image_file::{Image, read_image};
+use image_file::{Image, put_words, read_image};
 use row_tally::{Given, five_fields, longword, longwords};
-use std::alloc::{AllocError, Global};
+use std::alloc::Global;
 use vax_form::Instr;
 
 /// Longer lists of instructions are only counted.
@@ -23,13 +23,6 @@ struct Flow {
     hints: Vec<u32>,
 }
 
-fn push_longwords(file: &mut Vec<u8>, longwords: &[u32]) -> Result<(), AllocError> {
-    for longword in longwords {
-        file.extend_from_slice(&longword.to_le_bytes())?;
-    }
-    Ok(())
-}
-
 /// Version 1, one thread, one section, and so many entries.
 fn head_of(alloc: Global, entries: usize) -> Result<Vec<u8>> {
     let mut head = b"VXIM\x01\0\x01\0\x01\0".to_vec(alloc)?;
@@ -45,8 +38,8 @@ fn layout_of(pc: &str, size: &str, stored: usize) -> Result<[u32; 6]> {
 
 fn file_of(alloc: Global, layout: &[u32; 6], entries: &[u32], code: &[u8]) -> Result<Vec<u8>> {
     let mut file = head_of(alloc, entries.len())?;
-    push_longwords(&mut file, layout)?;
-    push_longwords(&mut file, entries)?;
+    put_words(&mut file, layout)?;
+    put_words(&mut file, entries)?;
     file.extend_from_slice(code)?;
     Ok(file)
 }

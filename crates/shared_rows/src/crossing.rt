@@ -4,72 +4,23 @@ use crate::worker::{Op, Plan, Way, worker_for};
 use std::alloc::Global;
 use std::process::Abort;
 use std::sync::Wait;
-use std::sync::atomic::{AtomicU64, Ordering};
-use std::thread::yield_now;
-use vt_outside::Gate;
-
-// Holds processor 0's first access until processor 1 comes to its second, and that one until processor 0 comes to its
-// second, each for so many turns at most.
-#[derive(Drop)]
-struct Crossing {
-    turns: u64,
-    second_of_0: AtomicU64,
-    second_of_1: AtomicU64,
-    missed: AtomicU64,
-}
-
-impl Crossing {
-    fn new(turns: u64) -> Crossing {
-        Crossing {
-            turns,
-            second_of_0: AtomicU64::new(0),
-            second_of_1: AtomicU64::new(0),
-            missed: AtomicU64::new(0),
-        }
-    }
-
-    fn wait(&self, asked: &AtomicU64) {
-        for _ in 0..self.turns {
-            if asked.load(Ordering::SeqCst) > 0 {
-                return;
-            }
-            yield_now();
-        }
-        self.missed.fetch_add(1, Ordering::SeqCst);
-    }
-}
-
-impl Gate for Crossing {
-    fn before(&self, processor: u8, number: u64) {
-        match (processor, number) {
-            (0, 0) => self.wait(&self.second_of_1),
-            (0, 1) => {
-                self.second_of_0.fetch_add(1, Ordering::SeqCst);
-            }
-            (1, 1) => {
-                self.second_of_1.fetch_add(1, Ordering::SeqCst);
-                self.wait(&self.second_of_0);
-            }
-            _ => {}
-        }
-    }
-}
+use vt_outside::CrossingGate;
 
 #[test]
 fn two_threads_get_through(rt: HostRuntime) {
-    let gate = Crossing::new(100_000_000);
+    let gate = CrossingGate::new(100_000_000);
     let plan = Plan {
         way: Way::Interlocked,
         count: 2,
     };
     let end = count_up(&rt, rt.alloc(), &gate, plan, 2, 100);
     assert_eq!(rt; (end.made, end.stopped), (4, 0));
-    assert_eq!(rt; gate.missed.load(Ordering::SeqCst), 0);
+    assert_eq!(rt; gate.missed(), 0);
 }
 
 // How many holds come to their end where one thread makes the accesses of both processors, in this order.
 fn missed_alone<R: Wait + Abort>(rt: &R, alloc: Global, order: [u8; 4]) -> u64 {
-    let gate = Crossing::new(1000);
+    let gate = CrossingGate::new(1000);
     let (memory, mut keeper) = share(rt, alloc, 2, 4);
     let first = memory.split(&mut keeper, 0);
     let second = memory.split(&mut keeper, 1);
@@ -82,7 +33,7 @@ fn missed_alone<R: Wait + Abort>(rt: &R, alloc: Global, order: [u8; 4]) -> u64 {
             two.ask(Op::Add)
         };
     }
-    gate.missed.load(Ordering::SeqCst)
+    gate.missed()
 }
 
 // One processor behind the other, or in turns: all six orders.

@@ -1,3 +1,4 @@
+pub mod Lists
 pub mod Requests
 pub mod Turns
 pub mod Quads

@@ -2,7 +2,7 @@
 use Rattle.std.proofs.Common.{◌≡◌, ℕ, ◌+◌, ◌-◌, ◌*◌, ◌/◌, ◌%◌, ◌^◌, ◌<◌, ◌≤◌, ◌==◌, ◌&&◌, ◌||◌, not, Bool, true, false, if◌then◌else◌, Option, Some, None, refl, ap, ◌∙◌, subst, arith, lit<}
 use Rattle.std.specs.List.{list_any}
 use Rattle.std.specs.Prelude.{ℤ}
-use Rattle.std.proofs.lemmas.Bool.{and_parts}
+use Rattle.std.proofs.lemmas.Bool.{and_parts, eqb-true}
 use Rattle.std.proofs.lemmas.Nat.{pow_pos, pow-add}
 use Rattle.std.proofs.Math.Nat.{mod-lt, mul-lt-mul_of_pos_right}
 use Rattle.std.proofs.Math.Pow.{pow_mono, pow-sub-lt}
@@ -27,7 +27,6 @@ use Rattle.exception_records.specs.declared.points.Point.{Point}
 use Rattle.exception_records.specs.declared.rules.Rules.{Rules}
 use Rattle.memory_core.specs.Changes.{IsInRange}
 use Rattle.memory_core.specs.Requests.{CanMake}
-use Rattle.memory_core.proofs.Choices.{same_number}
 use Rattle.memory_core.specs.declared.entry.Change.TheVariants.{Nothing, Byte}
 use Rattle.memory_core.specs.declared.entry.Kind.TheVariants as kinds
 use Rattle.memory_core.specs.declared.entry.Request.{Request}
@@ -190,7 +189,7 @@ module _ (setting : Setting) (set_up : SetUp) (pages : setting.meaning.pages ≡
   can_access : (b : Bool) (i : AlphaInstr) (a : AlphaAccess) (c : Alpha) → is_defined setting a ≡ b → FitsBytes a → CanNext set_up (accesses b setting m i a c)
   can_access true i a c defined fits =
       let tests = and_parts (a.address % a.bytes == 0) (is_allowed setting.meaning.pages (quad_of a) (stores a.kind)) defined in
-      access_by a.kind setting set_up m a.address a.bytes a.value pages fits (same_number (a.address % a.bytes) 0 tests.0) tests.1
+      access_by a.kind setting set_up m a.address a.bytes a.value pages fits (eqb-true (a.address % a.bytes) 0 tests.0) tests.1
   can_access false i a c defined fits = tt
 
   can_raise : (o : Option Exception) → CanNext set_up (raised o)

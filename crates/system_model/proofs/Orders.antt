@@ -1,13 +1,11 @@
 -- Orders either way round.
 use Rattle.std.proofs.Common.{◌≡◌, Bool, true, false, if◌then◌else◌, List, [], ◌∷◌, ◌++◌, reverse, refl, sym, ap, ◌∙◌}
 use Rattle.std.specs.Prelude.{map, filter}
-use Rattle.std.proofs.lemmas.List.{reverse-append, append-nil}
+use Rattle.std.proofs.lemmas.List.{append-nil}
+use Rattle.std.proofs.lemmas.Grind.{reverse_onto}
 use Rattle.memory_core.specs.declared.entry.Entry.{Entry}
 use Rattle.system_model.specs.Counted.{is_counted, pick_of, order}
 use Rattle.system_model.specs.Laws.{OrderTurns}
-
-reverse_cons : {A : Type 0} (x : A) (xs : List A) → reverse (x ∷ xs) ≡ reverse xs ++ x ∷ []
-reverse_cons x xs = reverse-append (x ∷ []) xs
 
 -- the picks of two histories one after the other
 order-append : (first second : List Entry) → order (first ++ second) ≡ order first ++ order second
@@ -20,11 +18,11 @@ order-append (e ∷ first) second = counted (is_counted e) e (filter is_counted 
     counted false e both first second h = h
 
 single : (b : Bool) (e : Entry) (rest : List Entry) → reverse (map pick_of rest) ++ map pick_of (if b then e ∷ [] else []) ≡ reverse (map pick_of (if b then e ∷ rest else rest))
-single true e rest = sym (reverse_cons (pick_of e) (map pick_of rest))
+single true e rest = sym (reverse_onto (map pick_of rest) (pick_of e) [])
 single false e rest = append-nil (reverse (map pick_of rest))
 
 pub order_turns : OrderTurns
 order_turns [] = refl
 order_turns (e ∷ history) =
-    ap order (reverse_cons e history) ∙ order-append (reverse history) (e ∷ [])
+    ap order (reverse_onto history e []) ∙ order-append (reverse history) (e ∷ [])
     ∙ ap (λ picks. picks ++ order (e ∷ [])) (order_turns history) ∙ single (is_counted e) e (filter is_counted history)

@@ -1,16 +1,16 @@
 -- Quadwords of a memory of bytes, and what references make of them.
 use Rattle.std.proofs.Common.{◌≡◌, ◌≢◌, ℕ, zero, suc, ◌<◌, ◌≤◌, ◌+◌, ◌-◌, ◌*◌, ◌/◌, ◌%◌, ◌^◌, ◌==◌, Bool, true, false, if◌then◌else◌, refl, sym, ap, ◌∙◌, arith, lit<, min, ◌⊎◌, inl, inr, ⊎_elim, bit_and, bit_or}
-use Rattle.std.proofs.lemmas.Bool.{cases_lt}
+use Rattle.std.proofs.lemmas.Bool.{cases_lt, eqb-true}
 use Rattle.std.proofs.lemmas.Bool.Decides.{nat_tests}
 use Rattle.std.proofs.lemmas.Nat.{or_lt, or_shr, or_mod, and_shr, and_mod, and_le_l, pow-add, pow_below, shl-shr, shr-shr, mod-pow-add, mod_below, from_le_bytes-to_le_bytes_8}
 use Rattle.std.proofs.lemmas.Nat.Bits.{bit_at_mask_inside, bit_at_mask_below, bit_at_mask_above}
 use Rattle.std.specs.Int.{bit_at, byte_at}
+use Rattle.vt_words.proofs.Tests.{chosen_below}
 use Rattle.memory_core.specs.Bytes.{quad_of, with_bytes, word_at}
 use Rattle.memory_core.specs.Changes as quadwords
 use Rattle.memory_core.specs.declared.entry.Change.TheVariants as changes
-use Rattle.memory_core.proofs.Choices.{same_number}
 use Rattle.memory_core.proofs.Filling.{same_quad}
-use Rattle.memory_core.proofs.Neighbours.{byte_at-lt, byte_at-quad_of, byte_at-with_bytes, choice_lt, not_one, others_stay}
+use Rattle.memory_core.proofs.Neighbours.{byte_at-lt, byte_at-quad_of, byte_at-with_bytes, not_one, others_stay}
 pub use Rattle.memory_core.proofs.Neighbours.{byte_is}
 use Rattle.vt_words.proofs.Spreads.{below_8}
 use Rattle.vt_words.specs.Quad.{field_of}
@@ -126,7 +126,7 @@ word_mask place = let p = pow-add 2 place 2 in omega arith
 -- a masked quadword is a quadword of bytes
 pub with_bytes-lt : (mask value before : ℕ) → with_bytes mask value before < 2 ^ 64
 unfolding with_bytes
-with_bytes-lt mask value before = quad_of-lt (λ at. if bit_at mask at == 1 then byte_at at value else byte_at at before) (λ at l. choice_lt (bit_at mask at == 1) (byte_at at value) (byte_at at before) (byte_at-lt at value) (byte_at-lt at before))
+with_bytes-lt mask value before = quad_of-lt (λ at. if bit_at mask at == 1 then byte_at at value else byte_at at before) (λ at l. chosen_below (bit_at mask at == 1) (byte_at at value) (byte_at at before) 256 (byte_at-lt at value) (byte_at-lt at before))
 
 -- a quadword of memory is the number that has its bytes
 pub quad_at-is : (byte : ℕ → ℕ) (quad n : ℕ) → n < 2 ^ 64 → ((k : ℕ) → k < 8 → byte (quad + k) ≡ byte_at k n) → quad_at byte quad ≡ n
@@ -169,7 +169,7 @@ module _ (byte : ℕ → ℕ) (quad place : ℕ) (are : AreBytes byte) (small : 
 
       each : (k : ℕ) → k < 8 → (b : Bool) → (k == place) ≡ b → with_byte byte ((quad + place) % 2 ^ 32) value (quad + k) ≡ byte_at k n
       each k b true h =
-          let e : k ≡ place = same_number k place h in
+          let e : k ≡ place = eqb-true k place h in
           let there : (quad + place) % 2 ^ 32 ≡ quad + k = omega arith in
           put_there byte ((quad + place) % 2 ^ 32) (quad + k) value there ∙ sym is ∙ ap (λ m. byte_at m n) (sym e)
       each k b false h =

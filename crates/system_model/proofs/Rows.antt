@@ -1,8 +1,6 @@
 -- The definitions at worked rows.
 use Rattle.std.proofs.Common.{◌≡◌, ℕ, true, false, Bool, [], ◌∷◌, refl}
-use Rattle.vax_form.specs.declared.state.Pick.{Pick}
-use Rattle.vax_form.specs.declared.state.Reference.{Reference}
-use Rattle.vax_form.specs.declared.state.RefKind.{RefKind}
+use Rattle.vax_driven.proofs.Rows.{at, pick}
 use Rattle.vax_form.specs.declared.state.RefKind.TheVariants.{Read, Write, Add, SetBit, ClearBit, Get}
 use Rattle.memory_core.specs.declared.entry.Entry.{Entry}
 use Rattle.memory_core.specs.declared.entry.Kind.{Kind}
@@ -16,9 +14,6 @@ abbrev entry : (processor retired : ℕ) → Kind → (success : Bool) → Entry
 entry processor retired kind success =
     record { retired = retired; before = 0; after = 0; quad = 0x1000; processor = processor; kind = kind; success = success }
 
-abbrev pick : (thread retired : ℕ) → Pick
-pick thread retired = record { thread = thread; retired = retired }
-
 -- a byte is stored by two processors, the first of which fails once
 stores : order (entry 0 2 kinds.LoadLocked true ∷ entry 1 7 kinds.LoadLocked true ∷ entry 1 7 kinds.StoreConditional true
     ∷ entry 0 2 kinds.StoreConditional false ∷ entry 0 2 kinds.LoadLocked true ∷ entry 0 2 kinds.StoreConditional true ∷ [])
@@ -28,9 +23,6 @@ stores = refl
 -- a PUT, an interpreted write and a GET
 others : order (entry 0 1 kinds.Put true ∷ entry 1 0 kinds.TieWrite true ∷ entry 0 3 kinds.Get true ∷ []) ≡ pick 0 1 ∷ pick 1 0 ∷ pick 0 3 ∷ []
 others = refl
-
-abbrev at : RefKind → (address count : ℕ) → Reference
-at kind address count = record { address = address; count = count; kind = kind }
 
 quad : quad_address (at Read 0x1003 1) ≡ 0x1000
 quad = refl

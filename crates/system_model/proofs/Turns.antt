@@ -3,11 +3,11 @@ use Rattle.std.proofs.Common.{◌≡◌, ℕ, zero, suc, ◌+◌, ◌≤◌, ◌
 use Rattle.std.specs.Prelude.{option_map, slice_get}
 use Rattle.std.proofs.lemmas.List.{length-append}
 use Rattle.std.proofs.lemmas.List.Elements.{filter-append}
+use Rattle.std.proofs.lemmas.Bool.{eq-eqb}
 use Rattle.image_file.specs.Start.{start_state}
 use Rattle.image_file.specs.declared.image.Start.{Start}
 use Rattle.memory_core.specs.declared.entry.Entry.{Entry}
 use Rattle.memory_core.specs.Order.{own}
-use Rattle.memory_core.proofs.Choices.{equal_number}
 use Rattle.vax_form.specs.declared.state.VaxState.{VaxState}
 use Rattle.system_model.specs.Settings.{Setting}
 use Rattle.system_model.specs.Processors.{Processor, begun, entry_by, Reaches, Begins, Steps, Takes}
@@ -93,7 +93,7 @@ accesses_keep_reached setting budget limit entries thread start p request on bef
     let q = on before success in
     let from = reached_from setting budget limit entries thread start p r going in
     let its_own : own thread (made ∷ entries) ≡ made ∷ own thread entries =
-    own_if (request.processor == thread) made (own thread entries) true (equal_number request.processor thread (requests_are_own setting budget limit entries thread start p request on r going e)) in
+    own_if (request.processor == thread) made (own thread entries) true (eq-eqb request.processor thread (requests_are_own setting budget limit entries thread start p request on r going e)) in
     let makes_one : IsStep p q = (subst (Makes p) e (makes setting p)).1 before success in
     record {
       was = q;

@@ -7,6 +7,7 @@ use Rattle.memory_core.specs.declared.entry.Kind.{Kind}
 use Rattle.memory_core.specs.declared.entry.Kind.TheVariants as kinds
 use Rattle.memory_core.specs.declared.entry.Request.{Request}
 pub use Rattle.memory_core.specs.Order.{entry_by}
+use Rattle.vax_form.specs.Codes.{all}
 use Rattle.vax_form.specs.State.{register}
 use Rattle.vax_form.specs.Tree.{Tree, Ending, Finish, Exit, Trap, Answer, answer}
 use Rattle.vax_form.specs.Tree as trees
@@ -47,7 +48,7 @@ pub record Processor : Type 0 where
 
 -- each code is held in its register
 abbrev pub all_held : Flags
-all_held = record { n = true; z = true; v = true; c = true }
+all_held = all
 
 -- Alpha registers with the values of a state: R0 to R14 as sign-extended longwords, N, Z, V and C in R16 to R19, bits
 -- 7:4 of the processor status word in R20, and all others 0

@@ -1,12 +1,13 @@
 // Translations, ranges of interpreted addresses, and how a processor ends.
-ghost use Rattle.std.specs.Prelude.{◌≡◌};
+ghost use Rattle.std.specs.Prelude.{◌≡◌, IfOk};
 ghost use Rattle.std.specs.List.{list_any};
 ghost use Rattle.system_model.specs.Ranges.{covers, word_for};
 
 use address_map::AddressMap;
 use exception_records::Points;
+use std::alloc::Global;
 use std::marker::Model;
-use vax_form::Exception;
+use vax_form::{Exception, WantOfMemory};
 
 /// The Alpha words of an image, the first word of each mapped VAX address, and what is known of words.
 #[derive(Debug, Drop)]
@@ -22,6 +23,23 @@ impl Model for Translation {
     ghost Value = { Code };
 
     ghost view = { λ t. record { words = t.words.items; map = t.map; points = t.points } };
+}
+
+impl Translation {
+    ghost use Rattle.block_law.specs.Empty.{IsEmpty};
+
+    /// The translation of no instruction.
+    pub fn empty(alloc: Global) -> Result<Translation, WantOfMemory>
+        ensures { IfOk result IsEmpty }
+    {
+        let map = address_map::build(alloc, &[]).map_err(|_| WantOfMemory)?;
+        let points = exception_records::build(Vec::new(alloc)).map_err(|_| WantOfMemory)?;
+        Ok(Translation {
+            words: Vec::new(alloc),
+            map,
+            points,
+        })
+    }
 }
 
 /// VAX addresses that a thread interprets, the first and the last included.

@@ -1,42 +1,18 @@
 // A translation of nothing, so that all is interpreted.
-ghost use Rattle.std.specs.Prelude.{◌≡◌, [], IfOk};
+ghost use Rattle.std.specs.Prelude.{◌≡◌, IfOk};
 ghost use Rattle.block_law.specs.Empty.{IsEmpty};
 
-use address_map::AddressMap;
-use anyhow::{Result, bail};
-use exception_records::Points;
+use anyhow::Result;
 use image_file::Image;
 use prepared_code::Prepared;
-use std::alloc::Global;
+use std::alloc::{AllocError, Global};
 use system_model::Translation;
-use vax_form::WantOfMemory;
 
-fn no_addresses(alloc: Global) -> Result<AddressMap>
-    ensures { IfOk result (λ map. map ≡ []) }
-{
-    match address_map::build(alloc, &[]) {
-        Ok(map) => Ok(map),
-        Err(_) => bail!("no map"),
-    }
-}
-
-fn no_points(alloc: Global) -> Result<Points>
-    ensures { IfOk result (λ points. points ≡ []) }
-{
-    match exception_records::build(Vec::new(alloc)) {
-        Ok(points) => Ok(points),
-        Err(_) => bail!("no points"),
-    }
-}
-
-/// It has no words, no mapped addresses and no points, so it meets the judgement for each image.
+/// It meets the judgement for each image.
 pub fn nothing(alloc: Global) -> Result<Translation>
     ensures { IfOk result IsEmpty }
 {
-    let map = no_addresses(alloc)?;
-    let points = no_points(alloc)?;
-    let words = Vec::new(alloc);
-    Ok(Translation { words, map, points })
+    Ok(Translation::empty(alloc).map_err(|_| AllocError)?)
 }
 
 /// The same made ready to be run.
@@ -49,8 +25,5 @@ pub fn made_ready<'a>(
     ensures code { IfOk result (λ p. p.code ≡ translation.now) }
     ensures pages { IfOk result (λ p. p.pages ≡ image.now.pages) }
 {
-    match tie_switch::made_ready(alloc, image, translation) {
-        Ok(prepared) => Ok(prepared),
-        Err(WantOfMemory) => bail!("no memory"),
-    }
+    Ok(tie_switch::made_ready(alloc, image, translation).map_err(|_| AllocError)?)
 }

@@ -3,7 +3,7 @@ ghost use Rattle.std.specs.Prelude.{◌≡◌, IfOk, length};
 ghost use Rattle.image_file.specs.Whole.{IsWhole};
 
 use anyhow::{Result, anyhow, bail};
-use image_file::{Image, read_image};
+use image_file::{Image, put_words, read_image};
 use row_tally::{bytes, bytes_or_none, fields, longword, number, pieces};
 use std::alloc::{AllocError, Global};
 
@@ -113,13 +113,6 @@ const HEAD: [u8; 6] = [0x56, 0x58, 0x49, 0x4d, 2, 0];
 /// R0 to R13 of a thread, each 4 bytes.
 const FIRST_BYTES: usize = 56;
 
-fn push_longwords(file: &mut Vec<u8>, longwords: &[u32]) -> Result<(), AllocError> {
-    for longword in longwords {
-        file.extend_from_slice(&longword.to_le_bytes())?;
-    }
-    Ok(())
-}
-
 /// The bytes of a section.
 const SIZE: u32 = 0x400;
 
@@ -132,13 +125,13 @@ fn sections_of(stored: usize) -> Result<[u32; 8]> {
 fn head_of(alloc: Global, threads: usize) -> Result<Vec<u8>> {
     let mut head = Vec::from_slice(alloc, &HEAD)?;
     head.extend_from_slice(&u16::try_from(threads)?.to_le_bytes())?;
-    push_longwords(&mut head, &[2])?;
+    put_words(&mut head, &[2])?;
     Ok(head)
 }
 
 fn push_starts(file: &mut Vec<u8>, starts: &[(u32, u32)]) -> Result<(), AllocError> {
     for (pc, sp) in starts {
-        push_longwords(file, &[*pc, *sp])?;
+        put_words(file, &[*pc, *sp])?;
         file.extend_from_slice(&[0; FIRST_BYTES])?;
     }
     Ok(())
@@ -148,7 +141,7 @@ fn push_starts(file: &mut Vec<u8>, starts: &[(u32, u32)]) -> Result<(), AllocErr
 fn file_of(alloc: Global, row: &Row<'_>) -> Result<Vec<u8>> {
     let mut file = head_of(alloc, row.starts.len())?;
     push_starts(&mut file, &row.starts)?;
-    push_longwords(&mut file, &sections_of(row.code.len())?)?;
+    put_words(&mut file, &sections_of(row.code.len())?)?;
     file.extend_from_slice(&row.code)?;
     Ok(file)
 }

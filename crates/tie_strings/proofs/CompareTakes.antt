@@ -4,8 +4,6 @@ use Rattle.vax_form.specs.Tree.{Tree, feed, tree_of, ends_with, instruction_tree
 use Rattle.vax_form.specs.Script.{◌>>◌, change, pure, when◌then◌else◌}
 use Rattle.vax_form.specs.declared.instr.Width.TheVariants.{Byte}
 use Rattle.vax_form.specs.declared.pages.Pages.{Pages}
-use Rattle.vax_form.specs.declared.state.RefKind.TheVariants.{Read}
-use Rattle.vax_form.specs.declared.state.Reference.{Reference}
 use Rattle.vax_form.specs.declared.state.VaxState.{VaxState}
 use Rattle.vax_meaning.specs.Memory.{low_bytes}
 use Rattle.vax_meaning.specs.Moves.{with_comparison}
@@ -16,11 +14,8 @@ use Rattle.tie_strings.specs.Compares.{compare_second, compare_on, comparing_end
 use Rattle.tie_strings.specs.declared.comparing.Pair.{Pair}
 use Rattle.tie_strings.specs.declared.comparing.Pair.TheVariants.{First, Second, Differs}
 use Rattle.tie_strings.specs.declared.comparing.Compared.{Compared}
-use Rattle.tie_strings.proofs.Replying.{reading, read_reply, check_made}
+use Rattle.tie_strings.proofs.Replying.{read_of, reading, read_reply, check_made}
 use Rattle.tie_strings.proofs.Unchecked.{some_left, compared_by, compared_from}
-
-abbrev reference : ℕ → Reference
-reference address = record { address = address; count = 1; kind = Read }
 
 abbrev tree : Pages → VaxState → Compared → (checked : Bool) → Pair → (left first second : ℕ) → Tree
 tree pages state compared checked pair left first second = instruction_tree pages (comparing_script checked pair left first second compared) state
@@ -35,7 +30,7 @@ second_read pages state compared left first second one = tree_of pages (compare_
 
 first_of : (checked : Bool) (pages : Pages) (state : VaxState) (compared : Compared) (left first second : ℕ) → (left == 0) ≡ false
     → tree pages state compared checked First left first second
-    ≡ reading checked first (reference first) (λ r. second_read pages state compared left first second (low_bytes 1 r))
+    ≡ reading checked first (read_of first) (λ r. second_read pages state compared left first second (low_bytes 1 r))
 unfolding comparing_script compare_on next_byte fetch_byte
 first_of true pages state compared left first second some = rw some refl
 first_of false pages state compared left first second some = rw some refl
@@ -47,7 +42,7 @@ unfolding comparing_script compare_on
 first_taken pages state compared checked pair left first second reply at some asks =
     let whole = ap (λ p. tree pages state compared checked p left first second) at ∙ first_of checked pages state compared left first second (some_left left some) in
     ap (λ t. feed pages t (reply ∷ [])) whole
-    ∙ read_reply checked pages first (reference first) (λ r. second_read pages state compared left first second (low_bytes 1 r)) reply
+    ∙ read_reply checked pages first (read_of first) (λ r. second_read pages state compared left first second (low_bytes 1 r)) reply
     (subst (λ t. IsAsking (feed pages t [])) whole asks)
 
 pub first_over : (pages : Pages) (state : VaxState) (compared : Compared) (checked : Bool) (pair : Pair) (left first second reply : ℕ) → pair ≡ First → left ≡ 0
@@ -71,7 +66,7 @@ looked_at pages state compared same one other left first second = compared_by pa
 
 second_of : (checked : Bool) (pages : Pages) (state : VaxState) (compared : Compared) (one left first second : ℕ)
     → tree pages state compared checked (Second one) left first second
-    ≡ reading checked second (reference second) (λ r. looked_at pages state compared (one == low_bytes 1 r) one (low_bytes 1 r) left first second)
+    ≡ reading checked second (read_of second) (λ r. looked_at pages state compared (one == low_bytes 1 r) one (low_bytes 1 r) left first second)
 unfolding comparing_script compare_on next_byte fetch_byte
 second_of true pages state compared one left first second = refl
 second_of false pages state compared one left first second = refl
@@ -83,7 +78,7 @@ second_taken : (pages : Pages) (state : VaxState) (compared : Compared) (checked
 second_taken pages state compared checked pair one left first second reply at asks =
     let whole = ap (λ p. tree pages state compared checked p left first second) at ∙ second_of checked pages state compared one left first second in
     ap (λ t. feed pages t (reply ∷ [])) whole
-    ∙ read_reply checked pages second (reference second) (λ r. looked_at pages state compared (one == low_bytes 1 r) one (low_bytes 1 r) left first second) reply
+    ∙ read_reply checked pages second (read_of second) (λ r. looked_at pages state compared (one == low_bytes 1 r) one (low_bytes 1 r) left first second) reply
     (subst (λ t. IsAsking (feed pages t [])) whole asks)
 
 pub second_same : (pages : Pages) (state : VaxState) (compared : Compared) (checked : Bool) (pair : Pair) (one left first second reply : ℕ) (same : Bool) → pair ≡ Second one
@@ -114,7 +109,7 @@ first_noted pages state compared checked left first second some asks =
     let on : ℕ → Tree = λ r. second_read pages state compared left first second (low_bytes 1 r) in
     let now = first_of checked pages state compared left first second (some_left left some) in
     ap (λ t. feed pages t []) (first_of true pages state compared left first second (some_left left some))
-    ∙ check_made checked pages first (reference first) on (subst (λ t. IsAsking (feed pages t [])) now asks)
+    ∙ check_made checked pages first (read_of first) on (subst (λ t. IsAsking (feed pages t [])) now asks)
     ∙ ap (λ t. feed pages t []) (sym now)
 
 second_noted : (pages : Pages) (state : VaxState) (compared : Compared) (checked : Bool) (one left first second : ℕ)
@@ -123,7 +118,7 @@ second_noted : (pages : Pages) (state : VaxState) (compared : Compared) (checked
 second_noted pages state compared checked one left first second asks =
     let on : ℕ → Tree = λ r. looked_at pages state compared (one == low_bytes 1 r) one (low_bytes 1 r) left first second in
     ap (λ t. feed pages t []) (second_of true pages state compared one left first second)
-    ∙ check_made checked pages second (reference second) on (subst (λ t. IsAsking (feed pages t [])) (second_of checked pages state compared one left first second) asks)
+    ∙ check_made checked pages second (read_of second) on (subst (λ t. IsAsking (feed pages t [])) (second_of checked pages state compared one left first second) asks)
     ∙ ap (λ t. feed pages t []) (sym (second_of checked pages state compared one left first second))
 
 -- once the next byte is wanted, its check was made

@@ -5,11 +5,16 @@ use Rattle.vax_form.specs.Pages.{first_bad}
 use Rattle.vax_form.specs.Tree.{Tree, Check, Ask, Fault, unless_bad, feed}
 use Rattle.vax_form.specs.declared.pages.Pages.{Pages}
 use Rattle.vax_form.specs.declared.state.Reference.{Reference}
+use Rattle.vax_form.specs.declared.state.RefKind.TheVariants.{Read}
 use Rattle.tie_operands.specs.Steps.{IsAsking}
 
 passed : (bad : Option ℕ) (reference : Reference) (on : ℕ → Tree) (tree : Tree) → IsAsking (unless_bad bad Fault false (Ask reference on)) → unless_bad bad Fault false tree ≡ tree
 passed None reference on tree asks = refl
 passed (Some address) reference on tree asks = absurd asks
+
+-- a byte that is read
+abbrev pub read_of : (address : ℕ) → Reference
+read_of address = record { address = address; count = 1; kind = Read }
 
 -- the read of a byte, which is checked first unless it was
 abbrev pub reading : (checked : Bool) → (address : ℕ) → Reference → (ℕ → Tree) → Tree

@@ -3,8 +3,6 @@ use Rattle.std.proofs.Common.{◌≡◌, ℕ, zero, suc, ◌<◌, ◌-◌, ◌%�
 use Rattle.vax_form.specs.Tree.{Tree, feed, instruction_tree}
 use Rattle.vax_form.specs.Script.{pure, when◌then◌else◌}
 use Rattle.vax_form.specs.declared.pages.Pages.{Pages}
-use Rattle.vax_form.specs.declared.state.RefKind.TheVariants.{Read}
-use Rattle.vax_form.specs.declared.state.Reference.{Reference}
 use Rattle.vax_form.specs.declared.state.VaxState.{VaxState}
 use Rattle.vax_meaning.specs.Memory.{low_bytes}
 use Rattle.vax_long.specs.Strings.{beside, fetch_byte, scan_bytes, stops_at}
@@ -12,11 +10,8 @@ use Rattle.tie_operands.specs.Steps.{IsAsking}
 use Rattle.tie_strings.specs.Bytes.{next_byte}
 use Rattle.tie_strings.specs.Scans.{scan_on, scanning_script}
 use Rattle.tie_strings.specs.declared.scanning.Scanned.{Scanned}
-use Rattle.tie_strings.proofs.Replying.{reading, read_reply, check_made}
+use Rattle.tie_strings.proofs.Replying.{read_of, reading, read_reply, check_made}
 use Rattle.tie_strings.proofs.Unchecked.{some_left, scanned_by, scanned_from}
-
-abbrev reference : ℕ → Reference
-reference address = record { address = address; count = 1; kind = Read }
 
 abbrev tree : Pages → VaxState → Scanned → (stopped checked : Bool) → (left address : ℕ) → Tree
 tree pages state scanned stopped checked left address = instruction_tree pages (scanning_script stopped checked left address scanned) state
@@ -28,7 +23,7 @@ looked_at pages state scanned stops left address =
 
 scan_of : (checked : Bool) (pages : Pages) (state : VaxState) (scanned : Scanned) (left address : ℕ) → (left == 0) ≡ false
     → tree pages state scanned false checked left address
-    ≡ reading checked address (reference address) (λ r. looked_at pages state scanned (stops_at scanned.locates scanned.character (low_bytes 1 r)) left address)
+    ≡ reading checked address (read_of address) (λ r. looked_at pages state scanned (stops_at scanned.locates scanned.character (low_bytes 1 r)) left address)
 unfolding scanning_script scan_on next_byte fetch_byte
 scan_of true pages state scanned left address some = rw some refl
 scan_of false pages state scanned left address some = rw some refl
@@ -40,7 +35,7 @@ taken : (pages : Pages) (state : VaxState) (scanned : Scanned) (stopped checked 
 taken pages state scanned stopped checked left address reply at some asks =
     let whole = ap (λ b. tree pages state scanned b checked left address) at ∙ scan_of checked pages state scanned left address (some_left left some) in
     ap (λ t. feed pages t (reply ∷ [])) whole
-    ∙ read_reply checked pages address (reference address) (λ r. looked_at pages state scanned (stops_at scanned.locates scanned.character (low_bytes 1 r)) left address) reply
+    ∙ read_reply checked pages address (read_of address) (λ r. looked_at pages state scanned (stops_at scanned.locates scanned.character (low_bytes 1 r)) left address) reply
     (subst (λ t. IsAsking (feed pages t [])) whole asks)
 
 pub stops : (pages : Pages) (state : VaxState) (scanned : Scanned) (stopped checked : Bool) (left address reply : ℕ) (b : Bool) → stopped ≡ false → 0 < left
@@ -80,7 +75,7 @@ noted_on pages state scanned checked left address some asks =
     let on : ℕ → Tree = λ r. looked_at pages state scanned (stops_at scanned.locates scanned.character (low_bytes 1 r)) left address in
     let now = scan_of checked pages state scanned left address (some_left left some) in
     ap (λ t. feed pages t []) (scan_of true pages state scanned left address (some_left left some))
-    ∙ check_made checked pages address (reference address) on (subst (λ t. IsAsking (feed pages t [])) now asks)
+    ∙ check_made checked pages address (read_of address) on (subst (λ t. IsAsking (feed pages t [])) now asks)
     ∙ ap (λ t. feed pages t []) (sym now)
 
 -- once the next byte is wanted, its check was made

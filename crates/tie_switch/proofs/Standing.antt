@@ -1,5 +1,5 @@
 -- For which processors of the model a processor stands, step by step.
-use Rattle.std.proofs.Common.{◌≡◌, ◌≢◌, ℕ, suc, ◌+◌, ◌==◌, ◌&&◌, List, [], ◌∷◌, ◌++◌, true, Option, Some, None, ap, ◌∙◌, subst, arith, refl}
+use Rattle.std.proofs.Common.{◌≡◌, ◌≢◌, ℕ, suc, ◌+◌, ◌==◌, ◌&&◌, List, [], ◌∷◌, ◌++◌, true, Option, Some, None, ap, ◌∙◌, subst, arith, refl, add-one}
 use Rattle.std.proofs.lemmas.List.{append-nil}
 use Rattle.alpha_meaning.specs.State.{Alpha}
 use Rattle.memory_core.specs.Requests.{CanMake}
@@ -26,10 +26,7 @@ use Rattle.tie_switch.specs.declared.processor.Mode.TheVariants as modes
 
 -- ---- one step more
 pub one_step : (k : ProcessorValue) (mode : Mode) → in_mode (record k { steps = k.steps + 1 }) mode ≡ stepped (in_mode k mode)
-one_step k mode = ap (λ (n : ℕ). record (in_mode k mode) { steps = n }) (next k.steps)
-  where
-    next : (n : ℕ) → n + 1 ≡ suc n
-    next n = omega arith
+one_step k mode = ap (λ (n : ℕ). record (in_mode k mode) { steps = n }) (add-one k.steps)
 
 -- ---- replies
 same_state : (s t : VaxState) (v w : List ℕ) → Interprets s v ≡ Interprets t w → s ≡ t

@@ -14,12 +14,12 @@ use Rattle.alpha_machine.specs.declared.cpu.Cpu.{Cpu}
 use Rattle.alpha_meaning.specs.Act.{Does, Goes, Asks, Calls, act, taken, target_of, finished, memory_act_by, memory_finish_by}
 use Rattle.alpha_meaning.specs.Memory.{kind_of, bytes_of, access_of, stores}
 use Rattle.alpha_meaning.proofs.Rows.{bytes_count}
-use Rattle.alpha_meaning.specs.Pieces.{loaded}
+use Rattle.alpha_meaning.specs.Pieces.{loaded, most_words}
 use Rattle.alpha_meaning.specs.State.{Alpha, at_place}
 use Rattle.alpha_meaning.specs.declared.access.AlphaAccess.{AlphaAccess}
 use Rattle.alpha_meaning.specs.declared.access.AlphaKind.{AlphaKind}
 use Rattle.alpha_meaning.specs.declared.access.AlphaKind.TheVariants.{Load, LoadLocked, Store, StoreConditional}
-use Rattle.block_law.specs.Translations.{fetch_of, most_words}
+use Rattle.block_law.specs.Translations.{fetch_of}
 use Rattle.system_model.specs.Settings.{Setting}
 use Rattle.system_model.specs.Steps.{Moves, Wants, Stuck, Moment, place_of, is_defined, request_for, accesses, does, next_by, next}
 use Rattle.tie_switch.specs.Accesses.{IsAccess, IsFetched, IsNextBy}

@@ -2,11 +2,12 @@
 use Rattle.std.proofs.Common.{◌≡◌, ◌≢◌, ℕ, zero, suc, ◌<◌, ◌≤◌, ◌==◌, ◌&&◌, inl, inr, Bool, true, false, if◌then◌else◌, List, [], ◌∷◌, ◌++◌, length, Some, refl, sym, ap, ◌∙◌, subst, arith}
 use Rattle.std.specs.Prelude.{MatchBool, option_map, reverse, slice_get, slice_set}
 use Rattle.std.specs.List.{AllByRecursion}
-use Rattle.std.proofs.lemmas.Bool.{and_parts}
+use Rattle.std.proofs.lemmas.Bool.{and_parts, eqb-true}
 use Rattle.std.proofs.lemmas.Bool.Decides.{nat_tests}
 use Rattle.std.proofs.lemmas.List.{append-nil, reverse-append, length-reverse, length-set}
 use Rattle.std.proofs.lemmas.List.Elements.{filter-append}
 use Rattle.std.proofs.lemmas.Option.{slice_get_within}
+use Rattle.system_model.proofs.Lists.{there_is}
 use Rattle.image_file.specs.Start.{start_state}
 use Rattle.memory_core.specs.Contents.{entry_for}
 use Rattle.memory_core.specs.Order.{own, Meets}
@@ -105,11 +106,6 @@ get_other (z ∷ zs) zero (suc m) y h = refl
 get_other (z ∷ zs) (suc n) zero y h = refl
 get_other (z ∷ zs) (suc n) (suc m) y h = get_other zs n m y (λ e. h (ap suc e))
 
-there_is : {A : Type 0} (xs : List A) (n : ℕ) → n < length xs → (x : A) × (slice_get xs n ≡ Some x)
-there_is [] n h = absurd (omega arith)
-there_is (x ∷ xs) zero h = (x, refl)
-there_is (x ∷ xs) (suc n) h = there_is xs n (omega arith)
-
 newest : (history : List Entry) (e : Entry) → reverse (history ++ e ∷ []) ≡ e ∷ reverse history
 newest history e = reverse-append history (e ∷ [])
 
@@ -194,10 +190,7 @@ module _ (steps : StepsKeepReached) (accesses : AccessesKeepReached) (ends : End
   by_out : (b : Bool) (q : Processor) (new : List Entry) → is_out budget p ≡ b → MatchBool b (IsStill (spent p) q old new) (Makes (turn setting p) set_up may_come p q old new) → Keeps new q
   by_out true q new e m =
       let tests = and_parts (goes_on p.mode) (p.steps == budget) e in
-      still (spent p) q new m (ends setting budget set_up.limit (reverse old) thread start p reached (going_by p.mode tests.0) (inl (same_number p.steps budget tests.1)))
-    where
-      same_number : (n m : ℕ) → (n == m) ≡ true → n ≡ m
-      same_number n m h = grind (arith, nat_tests)
+      still (spent p) q new m (ends setting budget set_up.limit (reverse old) thread start p reached (going_by p.mode tests.0) (inl (eqb-true p.steps budget tests.1)))
   by_out false q new e m = makes (turn setting p) q new refl e m
 
 -- for a memory between whose entries any of others may come
@@ -292,14 +285,11 @@ module _ (kept : TurnsKeepReached) (others : OthersKeepReached) (requests : Requ
   each_reached : (u : ℕ) (start : VaxState) (x : Processor) → starts set_up.image u ≡ Some start → slice_get (slice_set processors thread q) u ≡ Some x
       → (b : Bool) → (thread == u) ≡ b → IsReached setting budget set_up.limit (reverse new) u start x
   each_reached u start x s h true e =
-      let same : thread ≡ u = equal thread u e in
+      let same : thread ≡ u = eqb-true thread u e in
       let got : Some q ≡ Some x = sym (get_same processors thread p q at) ∙ ap (λ n. slice_get (slice_set processors thread q) n) same ∙ h in
       let is : q ≡ x = cc got in
       let here = kept setting set_up budget old new thread start p q (legal.each thread start p (ap (starts set_up.image) same ∙ s) at) (any_may (turn setting p) (is_out budget p) turned) in
       subst (λ n. IsReached setting budget set_up.limit (reverse new) n start x) same (subst (IsReached setting budget set_up.limit (reverse new) thread start) is here)
-    where
-      equal : (a b : ℕ) → (a == b) ≡ true → a ≡ b
-      equal a b k = grind (arith, nat_tests)
   each_reached u start x s h false e =
       let apart : thread ≢ u = unequal thread u e in
       let g = here_grown in

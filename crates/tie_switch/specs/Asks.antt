@@ -1,7 +1,7 @@
 -- Processors in Alpha code, at an access inside a block.
 use Rattle.std.specs.Prelude.{◌<◌}
 use Rattle.alpha_machine.specs.Step.{state_of}
-use Rattle.block_law.specs.Translations.{most_words}
+use Rattle.alpha_meaning.specs.Pieces.{most_words}
 use Rattle.prepared_code.specs.Asks.{AsksInside}
 use Rattle.prepared_code.specs.Sources.{Source}
 use Rattle.prepared_code.specs.declared.asked.Asked.{Asked}

@@ -1,9 +1,8 @@
 // Accesses inside a block, made with the registers in place.
 ghost use Rattle.std.specs.Prelude.{◌≡◌, ◌≤◌, ◌<◌, ◌+◌, ◌%◌, ◌↔◌, ◌⊎◌, ℕ, false, true, length, IfSome, IfNone, MatchOption};
 ghost use Rattle.alpha_meaning.specs.Act.{memory_finish};
-ghost use Rattle.alpha_meaning.specs.Pieces.{loaded};
+ghost use Rattle.alpha_meaning.specs.Pieces.{loaded, most_words};
 ghost use Rattle.alpha_meaning.specs.State.{Alpha};
-ghost use Rattle.block_law.specs.Translations.{most_words};
 ghost use Rattle.prepared_code.specs.Asks.{IsOfItsRow};
 ghost use Rattle.system_model.specs.Processors.{stepped};
 ghost use Rattle.system_model.specs.Processors as model;

@@ -14,7 +14,7 @@ ghost use Rattle.vax_form.specs.declared.pages.Pages.{Pages};
 
 use crate::interpreted::Interpreted;
 use crate::place::{Last, Place};
-use crate::processor::{ALL_HELD, Mode, Processor};
+use crate::processor::{Mode, Processor};
 use crate::registers::registers_of;
 use crate::setting::{Setting, goes_on};
 use alpha_machine::Cpu;
@@ -127,7 +127,7 @@ impl Processor {
         match last {
             Last::Finish(state) => {
                 let mode = mode_at(setting, self.thread, &state);
-                self.arrive(mode, state, ALL_HELD);
+                self.arrive(mode, state, Flags::ALL);
             }
             Last::Exit(state) => self.retire_and_end(state, End::Exit(state.register(0))),
             Last::Trap(kind, state) => {

@@ -4,7 +4,7 @@ ghost use Rattle.alpha_encode.specs.declared.registers.TheConstants.{TEMPORARIES
 ghost use Rattle.alpha_machine.specs.Step.{state_of};
 ghost use Rattle.block_law.specs.Follows.{call_of, probe_address, probe_count};
 ghost use Rattle.block_law.specs.Placements.{target};
-ghost use Rattle.block_law.specs.Translations.{most_words};
+ghost use Rattle.alpha_meaning.specs.Pieces.{most_words};
 ghost use Rattle.exception_records.specs.Codes.{all_ready};
 ghost use Rattle.exception_records.specs.Points.{point_at};
 ghost use Rattle.system_model.specs.Processors.{moment_of};

@@ -1,7 +1,7 @@
 // Many turns of a processor.
 ghost use Rattle.std.specs.Prelude.{◌≡◌, ◌<◌, ◌≤◌, ◌+◌, ◌⊎◌, ◌↔◌, ℕ, false, true, Some, IfNone, IfSome, length};
 ghost use Rattle.alpha_machine.specs.Step.{state_of};
-ghost use Rattle.block_law.specs.Translations.{most_words};
+ghost use Rattle.alpha_meaning.specs.Pieces.{most_words};
 ghost use Rattle.system_model.specs.Processors as model;
 ghost use Rattle.system_model.specs.Processors.{Runs, mode_of};
 ghost use Rattle.tie_switch.specs.Courses.{Begins, HasOpcode, course_of};

@@ -1,8 +1,8 @@
 // What the word at which a processor stands does.
 ghost use Rattle.std.specs.Prelude.{◌≡◌, ◌≢◌, ◌≤◌, ◌<◌, length};
 ghost use Rattle.alpha_machine.specs.Step.{state_of};
-ghost use Rattle.alpha_meaning.specs.Pieces.{loaded};
-ghost use Rattle.block_law.specs.Translations.{fetch_of, most_words};
+ghost use Rattle.alpha_meaning.specs.Pieces.{loaded, most_words};
+ghost use Rattle.block_law.specs.Translations.{fetch_of};
 ghost use Rattle.system_model.specs.Processors.{moment_of};
 ghost use Rattle.system_model.specs.Steps.{Stuck, next, held_behind, place_of, behind, state_at};
 ghost use Rattle.tie_switch.specs.Accesses.{AllCanAsk, Fits, IsFetched, IsNextBy};

@@ -61,13 +61,6 @@ impl Mode {
     }
 }
 
-pub(crate) const ALL_HELD: Flags = Flags {
-    n: true,
-    z: true,
-    v: true,
-    c: true,
-};
-
 impl Processor {
     ghost use Rattle.tie_switch.specs.Processors.{processor_of, StandsFor, end_of};
 
@@ -80,7 +73,7 @@ impl Processor {
             thread,
             mode: Mode::New,
             boundary: start.state(),
-            held: ALL_HELD,
+            held: Flags::ALL,
             retired: 0,
             steps: 0,
             interpreted: 0,

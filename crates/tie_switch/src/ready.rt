@@ -1,6 +1,6 @@
 // Translations made ready to be run.
 ghost use Rattle.std.specs.Prelude.{◌≡◌, ◌≤◌, IfOk, length};
-ghost use Rattle.block_law.specs.Translations.{most_words};
+ghost use Rattle.alpha_meaning.specs.Pieces.{most_words};
 
 use image_file::Image;
 use prepared_code::{Prepared, prepare};

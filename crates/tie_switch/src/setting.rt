@@ -19,13 +19,6 @@ pub(crate) struct Setting<'a> {
     pub ranges: &'a [Range],
 }
 
-const NO_CODES: Flags = Flags {
-    n: false,
-    z: false,
-    v: false,
-    c: false,
-};
-
 /// The condition codes that an instruction with that opcode writes; without one, none.
 pub(crate) fn codes_by(opcode: Option<u8>) -> Flags
     ensures { result ≡ codes_by opcode }
@@ -33,9 +26,9 @@ pub(crate) fn codes_by(opcode: Option<u8>) -> Flags
     match opcode {
         Some(opcode) => match operation_of(opcode) {
             Some(operation) => code_use(operation).writes,
-            None => NO_CODES,
+            None => Flags::NONE,
         },
-        None => NO_CODES,
+        None => Flags::NONE,
     }
 }
 

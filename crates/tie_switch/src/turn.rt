@@ -1,7 +1,7 @@
 // One turn of a processor.
 ghost use Rattle.std.specs.Prelude.{◌≡◌, ◌≢◌, ◌≤◌, ◌<◌, ◌+◌, ◌↔◌, ◌⊎◌, ℕ, false, true, length};
 ghost use Rattle.alpha_machine.specs.Step.{state_of};
-ghost use Rattle.block_law.specs.Translations.{most_words};
+ghost use Rattle.alpha_meaning.specs.Pieces.{most_words};
 ghost use Rattle.system_model.specs.Processors.{mode_of, alpha_turn, moment_of, placed, stepped};
 ghost use Rattle.system_model.specs.Processors as model;
 ghost use Rattle.system_model.specs.Steps.{Stuck, next};

@@ -7,7 +7,7 @@ use Rattle.vax_form.specs.GrammarFound.{found}
 use Rattle.vax_form.specs.declared.instr.Instr.{Instr}
 use Rattle.vax_form.specs.declared.pages.Pages.{Pages}
 use Rattle.branch_layout.specs.Layouts.{layout}
-use Rattle.flow_discovery.specs.Reach.{has}
+use Rattle.vax_form.specs.Targets.{has}
 use Rattle.code_runs.specs.Runs.{AreInOrder}
 use Rattle.translate.specs.Compiled.{AreFound, IsFunction, addresses, blocks_of}
 

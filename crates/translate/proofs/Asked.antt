@@ -11,7 +11,7 @@ use Rattle.vax_form.specs.declared.operation.BinaryOperation.{BinaryOperation}
 use Rattle.vax_form.specs.declared.operation.BinaryOperation.TheVariants as binary
 use Rattle.vax_form.specs.declared.operation.Operation.{Operation}
 use Rattle.vax_form.specs.declared.operation.Operation.TheVariants as operations
-use Rattle.cc_liveness.specs.Codes as code
+use Rattle.vax_form.specs.Codes as code
 use Rattle.micro_ops.specs.Sources.{from, sources_of, is_written}
 use Rattle.micro_ops.specs.Uses.{is_quad}
 use Rattle.micro_ops.specs.declared.codes.CodeSource.{CodeSource}

@@ -2,6 +2,7 @@
 use Rattle.std.proofs.Common.{◌≡◌, ℕ, zero, suc, ◌<◌, ◌||◌, refl, sym, ◌∙◌, ap, subst, arith, List, [], ◌∷◌, length, get_or, Bool, true, false, Option, Some, None, cond, inl, inr}
 use Rattle.std.specs.Prelude.{slice_get}
 use Rattle.std.proofs.lemmas.Option.{slice_get-get_or, slice_get_within}
+use Rattle.std.proofs.Math.Bool.{or-true}
 use Rattle.vax_form.specs.declared.instr.Instr.{Instr}
 use Rattle.vax_form.specs.declared.pages.Pages.{Pages}
 use Rattle.address_map.specs.Pairs.{word_at}
@@ -16,12 +17,11 @@ use Rattle.image_meaning.specs.Meant.{image_meaning}
 use Rattle.branch_layout.specs.Layouts.{Placed, IsLayout}
 use Rattle.branch_layout.proofs.Filling.{All_at, some_same}
 use Rattle.branch_layout.proofs.Places.{placed_of}
-use Rattle.flow_discovery.specs.Reach.{has}
 use Rattle.cc_liveness.specs.Uses.{use_of}
 use Rattle.code_runs.specs.Codes.{codes_at}
 use Rattle.code_runs.specs.Promises as runs
 use Rattle.micro_lower.specs.Lowering.{GoesTo}
-use Rattle.vax_form.specs.Targets.{fixed_targets}
+use Rattle.vax_form.specs.Targets.{fixed_targets, has}
 use Rattle.code_runs.specs.Runs.{instr_at, is_target, joined_at, joined_to, no_instr, only, ending_at}
 use Rattle.translate.specs.Compiled.{AreCompiled, AreFound, ArePages, HasItsRules, IsCompiled}
 use Rattle.translate.proofs.Placing.{are_of}
@@ -30,11 +30,7 @@ use Rattle.translate.proofs.Placing.{are_of}
 any_at : (instrs : List Instr) (address place : ℕ) → place < length instrs → has (fixed_targets (instr_at instrs place)) address ≡ true → is_target instrs address ≡ true
 any_at [] address place lt e = absurd (omega arith)
 any_at (i ∷ instrs) address zero lt e = rw e refl
-any_at (i ∷ instrs) address (suc place) lt e = rw (any_at instrs address place (omega arith) e) (or_true (has (fixed_targets i) address))
-  where
-    or_true : (b : Bool) → (b || true) ≡ true
-    or_true true = refl
-    or_true false = refl
+any_at (i ∷ instrs) address (suc place) lt e = rw (any_at instrs address place (omega arith) e) (or-true (has (fixed_targets i) address))
 
 -- one is joined to none
 target_begins : (instrs : List Instr) (address place : ℕ) → place < length instrs → has (fixed_targets (instr_at instrs place)) address ≡ true → joined_at instrs address ≡ None

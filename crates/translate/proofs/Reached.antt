@@ -13,7 +13,8 @@ use Rattle.std.proofs.lemmas.Map.Views.{any-filter_same}
 use Rattle.std.proofs.lemmas.Bool.{and_parts}
 use Rattle.address_map.specs.Pairs.{Pair, word_at}
 use Rattle.block_law.specs.Translations.{Code}
-use Rattle.flow_discovery.specs.Reach.{IsReach, has, instruction_at, instruction_in, most}
+use Rattle.vax_form.specs.Targets.{has}
+use Rattle.flow_discovery.specs.Reach.{IsReach, instruction_at, instruction_in, most}
 use Rattle.vax_form.specs.Grammar.{Found, instruction, past, reserved_instruction, reserved_mode}
 use Rattle.vax_form.specs.GrammarFound.{found}
 use Rattle.vax_form.specs.declared.instr.Instr.{Instr}

@@ -10,7 +10,7 @@ use Rattle.vax_form.specs.declared.instr.Instr.{Instr}
 use Rattle.vax_form.specs.declared.pages.Pages.{Pages}
 use Rattle.vax_form.specs.declared.state.Flags.{Flags}
 use Rattle.vax_form.specs.declared.state.VaxState.{VaxState}
-use Rattle.alpha_meaning.specs.Pieces.{Plain}
+use Rattle.alpha_meaning.specs.Pieces.{Plain, most_words}
 use Rattle.alpha_meaning.specs.State.{Regs, at_place}
 use Rattle.exception_records.specs.Blocks.{BlockValue}
 use Rattle.exception_records.specs.Shown.{Shows}
@@ -20,11 +20,11 @@ use Rattle.block_law.specs.Follows.{Follows}
 use Rattle.block_law.specs.Placements.{InForm}
 use Rattle.block_law.specs.Rounds.{block_steps, new_round}
 use Rattle.block_law.specs.Tidy.{codes_written}
-use Rattle.block_law.specs.Translations.{Code, most_words, placed}
+use Rattle.block_law.specs.Translations.{Code, placed}
 use Rattle.address_map.specs.Pairs.{word_at}
 use Rattle.image_meaning.specs.Meant.{image_meaning}
 use Rattle.branch_layout.specs.Layouts.{AddressesRise, AreBlocks, IsLayout, Placed, layout}
-use Rattle.flow_discovery.specs.Reach.{has}
+use Rattle.vax_form.specs.Targets.{has}
 use Rattle.code_runs.specs.Ready.{AreReady}
 use Rattle.code_runs.specs.Rules.{rules_behind}
 use Rattle.flag_codegen.specs.Made.{codes_made}

@@ -2,6 +2,7 @@
 use Rattle.std.proofs.Common.{◌≡◌, ◌≢◌, ℕ, suc, ◌+◌, ◌/◌, ◌%◌, ◌<◌, ◌≤◌, ◌⊎◌, Bool, true, false, cond, leb, List, [], ◌∷◌, length, take, Option, Some, None, refl, sym, ap, ◌∙◌, subst, inl, inr, arith, length-take}
 use Rattle.std.proofs.lemmas.Bool.{cases_eq, eqb-false, eqb-true, false≢true, leb-true, true≢false}
 use Rattle.std.specs.Option.{option_map}
+use Rattle.std.proofs.lemmas.Option.{some_pair_parts}
 use Rattle.vax_form.specs.Size.{bytes_of}
 use Rattle.vax_form.specs.Grammar.{Describes, HasRegister, IsReservedBase, Locates, ShowsReserved, ShowsReservedMode, Specifies, Steps, absolute, base, byte_displacement, byte_relative, constant_address, decrement, decrement_pc, deferred, deferred_pc, extended, immediate, increment, increment_deferred, index, index_pc, indexed, literal, long_displacement, long_relative, number, place, quad_in_r14, register, register_address, register_pc, steps_down, steps_up, steps_up_deferred, stored_immediate, word_displacement, word_relative, wrapped}
 use Rattle.vax_form.specs.GrammarLaws.{AreBytes}
@@ -29,13 +30,6 @@ pub chosen : {A : Type 0} (b : Bool) (x y z : A) → cond b x y ≡ z → ((b �
 chosen true x y z e = inl (refl, e)
 chosen false x y z e = inr (refl, e)
 
-pub same_pair : {A B : Type 0} (a c : A) (b d : B) → ◌≡◌ {A = Option (A × B)} (Some (a, b)) (Some (c, d)) → (a ≡ c) × (b ≡ d)
-same_pair {A} {B} a c b d e =
-    let x : A × B = (a, b) in
-    let y : A × B = (c, d) in
-    let both : x ≡ y = cc in
-    (ap (λ (p : A × B). p.0) both, ap (λ (p : A × B). p.1) both)
-
 -- ---- numbers
 
 -- a number of that size was read from the front
@@ -58,7 +52,7 @@ IsExtension (Some size) rest value len = IsNumber size rest value × (len ≡ by
 pub read_extension-some : (o : Option Size) (rest : List ℕ) (value len : ℕ) → read_extension o rest ≡ Some (value, len) → IsExtension o rest value len
 unfolding read_extension
 read_extension-some None rest value len e =
-    let h = same_pair 0 value 0 len e in
+    let h = some_pair_parts 0 value 0 len e in
     (sym h.0, sym h.1)
 read_extension-some (Some size) rest value len e =
     let x = option_map-some _ (read_number size rest) _ e in
@@ -152,7 +146,7 @@ read_plain-some : (a : Access) (size : Size) (at first : ℕ) (m : Mode) (rest :
     → read_plain a size at first m rest ≡ Some (shown, n) → IsBadMode a size first m shown n ⊎ IsPlain a size at first m rest shown n
 unfolding read_plain
 read_plain-some a size at first m rest shown n e = elim (chosen (is_reserved_mode a size (first % 16) m) _ _ _ e) [
-  | inl h ↦ inl (let p = same_pair reserved shown 1 n h.1 in (h.0, p.0, p.1))
+  | inl h ↦ inl (let p = some_pair_parts reserved shown 1 n h.1 in (h.0, p.0, p.1))
   | inr h ↦ inr (
       let x = option_map-some _ (read_extension (extension_size size m) rest) _ h.1 in
       record {
@@ -365,7 +359,7 @@ unfolding read_base
 Finds-base a size at first x byte rest shown n small below is e =
     let m = mode_of byte in
     elim (chosen (is_reserved_base x (byte % 16) m) _ _ _ e) [
-      | inl bad ↦ (let p = same_pair reserved shown 2 n bad.1 in (
+      | inl bad ↦ (let p = some_pair_parts reserved shown 2 n bad.1 in (
         omega (arith, p.1),
         subst (λ k. Describes_shown a size at (take k (first ∷ byte ∷ rest)) shown) p.1
             (subst (λ k. Describes_shown a size at (first ∷ byte ∷ []) k) p.0

@@ -3,11 +3,12 @@ use Rattle.std.proofs.Common.{◌≡◌, ℕ, suc, ◌+◌, ◌*◌, ◌<◌, �
 use Rattle.std.proofs.Math.Seq.{drop-append_seam, take-add}
 use Rattle.std.proofs.lemmas.List.{nil_from_length}
 use Rattle.std.specs.Option.{option_map}
+use Rattle.std.proofs.lemmas.Option.{some_pair_parts}
 use Rattle.vax_form.specs.Grammar.{Decides, EndReserved, Found, SpecifyAll, Specifies, instruction, padded, past, reserved_instruction, reserved_mode, wrapped}
 use Rattle.vax_form.specs.GrammarLaws.{AreBytes, Decided, DecidedOnce, ReadBack}
 use Rattle.vax_form.specs.GrammarReading.{Shown, complete, followed, in_front, instruction_of, read_instruction, read_operands, read_specifier, read_specifiers, reserved}
 use Rattle.vax_form.specs.GrammarRows.{operand_types}
-use Rattle.vax_form.proofs.GrammarFinds.{option_map-some, same_pair, specifier_found}
+use Rattle.vax_form.proofs.GrammarFinds.{option_map-some, specifier_found}
 use Rattle.vax_form.proofs.GrammarReads.{read_specifier-shows, read_specifier-specifies}
 use Rattle.vax_form.proofs.GrammarCounts.{operand_types-most}
 use Rattle.vax_form.proofs.GrammarLengths.{IsShort, IsShort-from, option_map-none, read_specifier-short}
@@ -80,10 +81,10 @@ in_front-some : (o : Operand) (m : ℕ) (others : Option (Shown (List Operand) �
     → in_front o m others ≡ Some (shown, n) → IsInFront o m others shown n
 in_front-some o m None shown n e = absurd cc
 in_front-some o m (Some (complete operands, count)) shown n e =
-    let p = same_pair (complete (o ∷ operands)) shown (m + count) n e in
+    let p = some_pair_parts (complete (o ∷ operands)) shown (m + count) n e in
     record { inner = complete operands; count = count; is = refl; gives = p.0; total = p.1 }
 in_front-some o m (Some (reserved, count)) shown n e =
-    let p = same_pair reserved shown (m + count) n e in
+    let p = some_pair_parts reserved shown (m + count) n e in
     record { inner = reserved; count = count; is = refl; gives = p.0; total = p.1 }
 
 -- what was read of one operand and of the others
@@ -97,7 +98,7 @@ followed-some : (one : Option (Shown Operand × ℕ)) (others : ℕ → Option (
     → followed one others ≡ Some (shown, n) → ((one ≡ Some (reserved, n)) × (reserved ≡ shown)) ⊎ IsFollowed one others shown n
 followed-some None others shown n e = absurd cc
 followed-some (Some (reserved, count)) others shown n e =
-    let p = same_pair reserved shown count n e in inl (ap (λ k. Some (reserved, k)) p.1, p.0)
+    let p = some_pair_parts reserved shown count n e in inl (ap (λ k. Some (reserved, k)) p.1, p.0)
 followed-some (Some (complete o, count)) others shown n e =
     inr (record { operand = o; count = count; is = refl; behind = in_front-some o count (others count) shown n e })
 
@@ -112,7 +113,7 @@ pub specifiers_found : (types : List (Access × Size)) (at : ℕ) (bytes : List 
     → (n ≤ length bytes) × SpecifyAll_shown types at (take n bytes) shown
 unfolding read_specifiers
 specifiers_found [] at bytes shown n are e =
-    let p = same_pair (complete []) shown 0 n e in (
+    let p = some_pair_parts (complete []) shown 0 n e in (
       omega (arith, p.1),
       subst (λ k. SpecifyAll_shown [] at (take k bytes) shown) p.1 (subst (λ k. SpecifyAll_shown [] at [] k) p.0 (refl, refl)),
     )
@@ -242,7 +243,7 @@ found_by_opcode : (at opcode : ℕ) (rest : List ℕ) (o : Option (List (Access 
     → (n ≤ suc (length rest)) × Decides at (take n (opcode ∷ rest)) found
 unfolding read_operands
 found_by_opcode at opcode rest None found n are is e =
-    let p = same_pair reserved_instruction found 1 n e in (
+    let p = some_pair_parts reserved_instruction found 1 n e in (
       omega (arith, p.1),
       subst (λ k. Decides at (take k (opcode ∷ rest)) found) p.1
           (subst (λ f. Decides at (opcode ∷ []) f) p.0 (opcode, is, refl)),
@@ -296,6 +297,6 @@ pub decides_once : DecidedOnce
 decides_once at bytes more found other h hs =
     let short = read_instruction-decides at bytes more found h in
     let long = read_instruction-decides at (bytes ++ more) [] other hs in
-    let p = same_pair found other (length bytes) (length (bytes ++ more))
+    let p = some_pair_parts found other (length bytes) (length (bytes ++ more))
     (sym short ∙ ap (read_instruction at) (sym (append-nil (bytes ++ more))) ∙ long) in
     (nil_from_length more (omega (arith, p.1, length-append bytes more)), p.0)

@@ -2,10 +2,11 @@
 use Rattle.std.proofs.Common.{◌≡◌, ℕ, ◌+◌, ◌%◌, ◌<◌, ◌≤◌, leb, List, [], ◌∷◌, length, Option, Some, None, refl, ap, inl, inr, arith}
 use Rattle.std.proofs.lemmas.Bool.{leb-false}
 use Rattle.std.specs.Option.{option_map}
+use Rattle.std.proofs.lemmas.Option.{some_pair_parts}
 use Rattle.vax_form.specs.Size.{bytes_of}
 use Rattle.vax_form.specs.GrammarModes.{extension_size, is_reserved_base, is_reserved_mode, mode_of}
 use Rattle.vax_form.specs.GrammarReading.{read_base, read_by_mode, read_displacement, read_extension, read_general, read_number, read_plain, read_specifier, reserved}
-use Rattle.vax_form.proofs.GrammarFinds.{IsExtension, chosen, option_map-some, read_extension-some, same_pair}
+use Rattle.vax_form.proofs.GrammarFinds.{IsExtension, chosen, option_map-some, read_extension-some}
 use Rattle.vax_form.specs.declared.mode.Mode.{Mode}
 use Rattle.vax_form.specs.declared.mode.Mode.TheVariants as mode
 use Rattle.vax_form.specs.declared.instr.Size.{Size}
@@ -63,7 +64,7 @@ read_plain-short a size at first m rest =
       | inr h ↦ (let short = read_extension-none o rest (option_map-none _ (read_extension o rest) h.1) in omega arith)
     ])
     (λ x n e. elim (chosen bad _ _ _ e) [
-      | inl h ↦ (let p = same_pair reserved x 1 n h.1 in omega (arith, p.1))
+      | inl h ↦ (let p = some_pair_parts reserved x 1 n h.1 in omega (arith, p.1))
       | inr h ↦ (
           let y = option_map-some _ (read_extension o rest) _ h.1 in
           let most = IsExtension-most o rest y.0.0 y.0.1 (read_extension-some o rest y.0.0 y.0.1 y.1) in
@@ -82,7 +83,7 @@ read_base-short size at x first (byte ∷ rest) =
       | inr h ↦ (let short = read_extension-none o rest (option_map-none _ (read_extension o rest) h.1) in omega arith)
     ])
     (λ x n e. elim (chosen bad _ _ _ e) [
-      | inl h ↦ (let p = same_pair reserved x 2 n h.1 in omega (arith, p.1))
+      | inl h ↦ (let p = some_pair_parts reserved x 2 n h.1 in omega (arith, p.1))
       | inr h ↦ (
           let y = option_map-some _ (read_extension o rest) _ h.1 in
           let most = IsExtension-most o rest y.0.0 y.0.1 (read_extension-some o rest y.0.0 y.0.1 y.1) in

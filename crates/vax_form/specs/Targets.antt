@@ -1,7 +1,7 @@
 -- The addresses that the operands of an instruction name, as far as its code fixes them.
 -- VAX Architecture Reference Manual, "Control Instructions"; "Operand Specifier Notation".
-use Rattle.std.specs.Prelude.{ℕ, false, List, ◌++◌, Option, Some, None, option_and_then, slice_index_or}
-use Rattle.std.specs.List.{filter_map}
+use Rattle.std.specs.Prelude.{ℕ, Bool, false, List, ◌++◌, Option, Some, None, nat_eq, option_and_then, slice_index_or}
+use Rattle.std.specs.List.{filter_map, list_any}
 use Rattle.std.specs.Option.{option_to_list}
 use Rattle.vax_form.specs.Operation.{operation_at}
 use Rattle.vax_form.specs.declared.instr.Base.TheVariants.{Fixed}
@@ -10,6 +10,10 @@ use Rattle.vax_form.specs.declared.instr.Operand.{Operand}
 use Rattle.vax_form.specs.declared.instr.Operand.TheVariants.{Place, Target, Unused}
 use Rattle.vax_form.specs.declared.operation.Operation.{Operation}
 use Rattle.vax_form.specs.declared.operation.Operation.TheVariants.{Jump, JumpToSubroutine}
+
+-- the address is in the list
+abbrev pub has : List ℕ → ℕ → Bool
+has addresses address = list_any (nat_eq address) addresses
 
 abbrev pub operand_of : Instr → ℕ → Operand
 operand_of instr number = slice_index_or instr.operands number Unused

@@ -84,6 +84,22 @@ pub struct Flags {
     pub c: bool,
 }
 
+impl Flags {
+    pub const NONE: Flags = Flags {
+        n: false,
+        z: false,
+        v: false,
+        c: false,
+    };
+
+    pub const ALL: Flags = Flags {
+        n: true,
+        z: true,
+        v: true,
+        c: true,
+    };
+}
+
 /// What a reference does. `Add`, `SetBit` and `ClearBit` are interlocked.
 #[derive(Clone, Copy, Debug, PartialEq, Eq)]
 pub enum RefKind {

@@ -3,6 +3,7 @@ use Rattle.std.proofs.Common.{◌≡◌, ℕ, zero, suc, ◌<◌, ◌≤◌, ◌
 use Rattle.std.proofs.Math.Seq.{take-suc}
 use Rattle.std.proofs.lemmas.Bool.Decides.{nat_tests}
 use Rattle.std.proofs.lemmas.List.{length-append}
+use Rattle.vt_words.proofs.Tests.{less_differs, greater_differs}
 use Rattle.image_file.specs.declared.image.Start.{Start}
 use Rattle.image_file.specs.Start.{start_state}
 use Rattle.image_file.specs.Values.{ImageValue}
@@ -28,12 +29,6 @@ chosen false xs ys is = absurd (cc is)
 passed : (b : Bool) (xs ys : List ℕ) → b ≡ false → (if b then xs else ys) ≡ ys
 passed true xs ys is = absurd (cc is)
 passed false xs ys is = refl
-
-other : (n k : ℕ) → n < k → (n == k) ≡ false
-other n k below = grind (arith, nat_tests)
-
-another : (n k : ℕ) → k < n → (n == k) ≡ false
-another n k below = grind (arith, nat_tests)
 
 drop_before : (n : ℕ) (xs ys : List ℕ) → n ≤ length xs → drop n (xs ++ ys) ≡ drop n xs ++ ys
 drop_before zero xs ys within = refl
@@ -93,7 +88,7 @@ module _ (image : ImageValue) (made : List Made) (m : Made) where
   others_stay k [] (t ∷ threads) below are = absurd are
   others_stay k (start ∷ starts) [] below are = absurd are
   others_stay k (start ∷ starts) (t ∷ threads) below are =
-      (stays k start t (other m.thread k below) are.0, others_stay (suc k) starts threads (omega arith) are.1)
+      (stays k start t (less_differs m.thread k below) are.0, others_stay (suc k) starts threads (omega arith) are.1)
 
   pub threads_on : (k at : ℕ) (starts : List Start) (threads : List Thread) (t new : Thread) → m.thread ≡ k + at → at < length threads → t ≡ get_or threads at t
       → AreThreads image k made starts threads → ((start : Start) → IsThread image m.thread made start t → IsThread image m.thread (m ∷ made) start new)
@@ -110,7 +105,7 @@ module _ (image : ImageValue) (made : List Made) (m : Made) where
       let e : m.thread ≡ suc k + at = omega arith in
       let l : at < length threads = omega arith in
       let apart : k < m.thread = omega arith in
-      (stays k start u (another m.thread k apart) are.0, threads_on (suc k) at starts threads t new e l same are.1 on)
+      (stays k start u (greater_differs m.thread k apart) are.0, threads_on (suc k) at starts threads t new e l same are.1 on)
 
 module _ (image : ImageValue) (made : List Made) where
   -- the thread of a number, and where it starts

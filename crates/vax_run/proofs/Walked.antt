@@ -2,6 +2,7 @@
 use Rattle.std.proofs.Common.{◌≡◌, ℕ, suc, ◌<◌, ◌≤◌, ◌+◌, Bool, true, false, List, [], ◌∷◌, ◌++◌, length, take, drop, reverse, map, Option, Some, None, get_or, slice_set, refl, sym, ap, ◌∙◌, subst, arith}
 use Rattle.std.proofs.Math.Seq.{take-suc, take-length}
 use Rattle.std.proofs.lemmas.List.{length-map, length-reverse, reverse-append, take-append-drop}
+use Rattle.std.proofs.lemmas.Grind.{reverse_onto}
 use Rattle.image_file.specs.Memory.{byte_in}
 use Rattle.image_file.specs.Values.{ImageValue}
 use Rattle.vax_form.specs.declared.state.Pick.{Pick}
@@ -21,9 +22,6 @@ use Rattle.vax_run.specs.declared.thread.Thread.{Thread}
 use Rattle.vax_run.specs.declared.world.World.{World}
 use Rattle.vax_run.proofs.Standing.{thread_among, none_beyond, reached_is, nothing_wanted, threads_on, taken_on}
 
-pub reverse_cons : {A : Type 0} (x : A) (xs : List A) → reverse (x ∷ xs) ≡ reverse xs ++ x ∷ []
-reverse_cons x xs = reverse-append (x ∷ []) xs
-
 reverse_more : (order : List Pick) (i : ℕ) (d : Pick) → i < length order → reverse (take (i + 1) order) ≡ get_or order i d ∷ reverse (take i order)
 reverse_more order i d below =
     let e : i + 1 ≡ suc i = omega arith in
@@ -35,7 +33,7 @@ put_turns (Write value) out = refl
 put_turns (Add value) out = refl
 put_turns (SetBit bit) out = refl
 put_turns (ClearBit bit) out = refl
-put_turns (Put value) out = sym (reverse_cons value out)
+put_turns (Put value) out = sym (reverse_onto out value [])
 put_turns Get out = refl
 
 gets_one : (kind : RefKind) (gets : ℕ) → gets_by kind gets ≤ gets + 1
@@ -107,7 +105,7 @@ module _ (image : ImageValue) (input : List ℕ) where
         bytes = bytes ∙ ap (changed reference) left.bytes;
         gets = gets ∙ ap (gets_by reference.kind) left.gets;
         output = output ∙ ap (put_by reference.kind) left.output ∙ put_turns reference.kind (output_after made);
-        references = references ∙ ap (λ l. l ++ reference ∷ []) left.references ∙ sym (reverse_cons reference (map (λ (m : Made). m.reference) made));
+        references = references ∙ ap (λ l. l ++ reference ∷ []) left.references ∙ sym (reverse_onto (map (λ (m : Made). m.reference) made) reference []);
       } in
       subst (λ o. IsWalked image (made_if (world_of image input) made pick.thread o) true new) (sym asked) (refl, after_it)
 

@@ -8,7 +8,7 @@ use Rattle.image_file.specs.Start.{start_state}
 use Rattle.image_file.specs.Values.{ImageValue}
 use Rattle.image_file.specs.declared.image.Start.{Start}
 use Rattle.legal_history.specs.Law.{IsRun}
-use Rattle.legal_history.proofs.Headlines.{there_is}
+use Rattle.system_model.proofs.Lists.{there_is}
 use Rattle.memory_core.specs.Contents.{Contents, fresh}
 use Rattle.memory_core.specs.declared.entry.Entry.{Entry}
 use Rattle.memory_core.specs.declared.entry.SetUp.{SetUp}

@@ -11,7 +11,7 @@ use Rattle.image_meaning.specs.Meant.{all_kinds, codes_written, image_meaning, n
 use Rattle.legal_history.specs.Headline.{HasFewSteps}
 use Rattle.legal_history.specs.Law.{IsRun}
 use Rattle.legal_history.specs.OneProcessor.{IsSteady, ReachedIsSteady}
-use Rattle.legal_history.proofs.Headlines.{there_is}
+use Rattle.system_model.proofs.Lists.{there_is}
 use Rattle.memory_core.specs.Contents.{Contents}
 use Rattle.memory_core.specs.Order.{own}
 use Rattle.memory_core.specs.declared.entry.Entry.{Entry}

@@ -3,6 +3,7 @@ use Rattle.std.proofs.Common.{◌≡◌, ◌<◌, ◌≤◌, ℕ, Bool, true, fa
 use Rattle.std.specs.Prelude.{IfErr, IfOk, MatchBool, MatchResult}
 use Rattle.std.proofs.lemmas.Result.{IfErr-weaker, IfOk-weaker}
 use Rattle.std.proofs.lemmas.Bool.Decides.{nat_tests}
+use Rattle.std.proofs.lemmas.Bool.{lt-ltb, le-ltb}
 use Rattle.vt_outside.specs.Desk.{Files, DeskMeaning, IsLonger}
 use Rattle.image_file.specs.Values.{ImageValue}
 use Rattle.image_file.specs.Reading.{image_of}
@@ -25,12 +26,6 @@ use Rattle.vest_files.specs.declared.stop.Stop.{Stop}
 use Rattle.vest_files.specs.declared.stop.Stop.TheVariants.{Absent, Refused, ReadFault, TooLong, WantOfMemory}
 use Rattle.vest_files.proofs.Members.{as_few, as_many}
 
-above : (limit n : ℕ) → limit < n → nat_lt limit n ≡ true
-above limit n h = grind (arith, nat_tests)
-
-within : (limit n : ℕ) → n ≤ limit → nat_lt limit n ≡ false
-within limit n h = grind (arith, nat_tests)
-
 -- ---- one stage
 stage : (Refuses : RefusalValue → Type 0) (stop : Stop) (d : Decision) → StopsWhere Refuses stop → ((r : RefusalValue) → Refuses r → d ≡ stops status.Refused)
     → StopsAsDecided stop d
@@ -42,7 +37,7 @@ stage Refuses WantOfMemory d h f = tt
 
 long_file : (file : Option (List ℕ)) (Then : List ℕ → Type 0) (d : Decision) → IsLonger file FILE_LIMIT → DecidesFile file Then d → d ≡ stops status.TooLong
 long_file None Then d h e = absurd h
-long_file (Some bytes) Then d h e = rw (above FILE_LIMIT (length bytes) h) at e
+long_file (Some bytes) Then d h e = rw (lt-ltb FILE_LIMIT (length bytes) h) at e
 
 file_stops : (stop : Stop) (name : List ℕ) (f : Files) (r w : ℕ) (new : DeskMeaning) (Then : List ℕ → Type 0) (d : Decision)
     → StopsAtFile stop name (record { files = Some f; read_faults = r; write_faults = w }) new → DecidesFile (f name) Then d → StopsAsDecided stop d
@@ -55,19 +50,19 @@ file_stops WantOfMemory name f r w new Then d h e = tt
 file_read : (f : Files) (name bytes : List ℕ) (Then : List ℕ → Type 0) (d : Decision) → IsFile (Some f) name bytes → DecidesFile (f name) Then d → Then bytes
 file_read f name bytes Then d file e =
     let read : DecidesFile (Some bytes) Then d = subst (λ (o : Option (List ℕ)). DecidesFile o Then d) file.held e in
-    rw (within FILE_LIMIT (length bytes) file.short) at read
+    rw (le-ltb FILE_LIMIT (length bytes) file.short) at read
 
 -- ---- the flow of an image
 too_many : (image : ImageValue) (hints : List ℕ) (Then : Type 0) (d : Decision) (r : RefusalValue) → RefusesFlow image hints r → DecidesFlow image hints Then d
     → d ≡ stops status.Refused
 too_many image hints Then d r h e =
     let decides = e.decides in
-    rw (above most (length e.addresses) (as_many image.pages (starts image hints) e.addresses h.count e.reached h.many)) at decides
+    rw (lt-ltb most (length e.addresses) (as_many image.pages (starts image hints) e.addresses h.count e.reached h.many)) at decides
 
 few_enough : (image : ImageValue) (hints : List ℕ) (Then : Type 0) (d : Decision) (code : Code) → IsTranslated image hints code → DecidesFlow image hints Then d → Then
 few_enough image hints Then d code h e =
     let decides = e.decides in
-    rw (within most (length e.addresses) (as_few image.pages (starts image hints) e.addresses e.reached h.few)) at decides
+    rw (le-ltb most (length e.addresses) (as_few image.pages (starts image hints) e.addresses e.reached h.few)) at decides
 
 -- ---- a VAX image
 image_refused : (bytes : List ℕ) (d : Decision) (r : RefusalValue) → RefusesImage bytes r → DecidesImage (image_of bytes) d → d ≡ stops status.Refused

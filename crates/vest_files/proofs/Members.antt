@@ -2,9 +2,9 @@
 use Rattle.std.proofs.Common.{◌≡◌, ◌<◌, ◌≤◌, ◌+◌, ℕ, suc, true, List, [], ◌∷◌, length, nat_eq, refl, sym, ap, subst, arith, inl, inr}
 use Rattle.std.specs.Prelude.{slice_index, ◌⊎◌}
 use Rattle.std.specs.List.Sorted.{IsStrictlyIncreasing}
-use Rattle.std.proofs.lemmas.Bool.{cases_eq, or_cases, or_left, or_right}
-use Rattle.std.proofs.lemmas.Bool.Decides.{nat_tests}
-use Rattle.flow_discovery.specs.Reach.{AreReached, AreTooMany, has, most}
+use Rattle.std.proofs.lemmas.Bool.{cases_eq, or_cases, or_left, or_right, eqb-true, eq-eqb}
+use Rattle.vax_form.specs.Targets.{has}
+use Rattle.flow_discovery.specs.Reach.{AreReached, AreTooMany, most}
 use Rattle.translate.specs.Refusal.{AreFew}
 use Rattle.vax_form.specs.declared.pages.Pages.{Pages}
 
@@ -24,18 +24,12 @@ rising_of n (x ∷ xs) h first = (
       (λ some. let up : x < slice_index xs 0 = h 0 (omega arith) in omega (arith, up)),
 )
 
-same_test : (a b : ℕ) → nat_eq a b ≡ true → a ≡ b
-same_test a b h = grind (arith, nat_tests)
-
-own_test : (a : ℕ) → nat_eq a a ≡ true
-own_test a = grind (arith, nat_tests)
-
 above : (n : ℕ) (xs : List ℕ) (a : ℕ) → Rising n xs → has xs a ≡ true → n ≤ a
 above n [] a r h = absurd cc
 above n (x ∷ xs) a r h = by (or_cases (nat_eq a x) (has xs a) h) (above (x + 1) xs a r.1)
   where
     by : (nat_eq a x ≡ true) ⊎ (has xs a ≡ true) → (has xs a ≡ true → x + 1 ≤ a) → n ≤ a
-    by (inl e) later = let same : a ≡ x = same_test a x e in let low : n ≤ x = r.0 in omega (arith, same, low)
+    by (inl e) later = let same : a ≡ x = eqb-true a x e in let low : n ≤ x = r.0 in omega (arith, same, low)
     by (inr e) later = let up : x + 1 ≤ a = later e in let low : n ≤ x = r.0 in omega (arith, up, low)
 
 -- the first of a list is not above any other of its numbers
@@ -48,16 +42,16 @@ behind : (x y : ℕ) (xs ys : List ℕ) → x ≡ y → Rising (x + 1) xs → ((
 behind x y xs ys same r in' a h = by (or_cases (nat_eq a y) (has ys a) (in' a (or_right (nat_eq a x) (has xs a) h)))
   where
     by : (nat_eq a y ≡ true) ⊎ (has ys a ≡ true) → has ys a ≡ true
-    by (inl e) = absurd (let is : a ≡ y = same_test a y e in let up : x + 1 ≤ a = above (x + 1) xs a r h in omega (arith, is, up, same))
+    by (inl e) = absurd (let is : a ≡ y = eqb-true a y e in let up : x + 1 ≤ a = above (x + 1) xs a r h in omega (arith, is, up, same))
     by (inr e) = e
 
 same_rising : (n m : ℕ) (xs ys : List ℕ) → Rising n xs → Rising m ys → ((a : ℕ) → has xs a ≡ true → has ys a ≡ true) → ((a : ℕ) → has ys a ≡ true → has xs a ≡ true) → xs ≡ ys
 same_rising n m [] [] r s f g = refl
-same_rising n m [] (y ∷ ys) r s f g = absurd (let there = g y (or_left (nat_eq y y) (has ys y) (own_test y)) in cc)
-same_rising n m (x ∷ xs) [] r s f g = absurd (let there = f x (or_left (nat_eq x x) (has xs x) (own_test x)) in cc)
+same_rising n m [] (y ∷ ys) r s f g = absurd (let there = g y (or_left (nat_eq y y) (has ys y) (eq-eqb y y refl)) in cc)
+same_rising n m (x ∷ xs) [] r s f g = absurd (let there = f x (or_left (nat_eq x x) (has xs x) (eq-eqb x x refl)) in cc)
 same_rising n m (x ∷ xs) (y ∷ ys) r s f g =
-    let low : y ≤ x = first_least y ys x s.1 (f x (or_left (nat_eq x x) (has xs x) (own_test x))) in
-    let high : x ≤ y = first_least x xs y r.1 (g y (or_left (nat_eq y y) (has ys y) (own_test y))) in
+    let low : y ≤ x = first_least y ys x s.1 (f x (or_left (nat_eq x x) (has xs x) (eq-eqb x x refl))) in
+    let high : x ≤ y = first_least x xs y r.1 (g y (or_left (nat_eq y y) (has ys y) (eq-eqb y y refl))) in
     let same : x ≡ y = omega (arith, low, high) in
     let rest : xs ≡ ys = same_rising (x + 1) (y + 1) xs ys r.1 s.1 (behind x y xs ys same r.1 f) (behind y x ys xs (sym same) s.1 g) in
     cc
@@ -70,9 +64,9 @@ one_list pages starts xs ys r s =
 -- ---- one of which the other has all members is not longer
 contained : (n m : ℕ) (xs ys : List ℕ) → Rising n xs → Rising m ys → ((a : ℕ) → has xs a ≡ true → has ys a ≡ true) → length xs ≤ length ys
 contained n m [] ys r s f = omega arith
-contained n m (x ∷ xs) [] r s f = absurd (let there = f x (or_left (nat_eq x x) (has xs x) (own_test x)) in cc)
+contained n m (x ∷ xs) [] r s f = absurd (let there = f x (or_left (nat_eq x x) (has xs x) (eq-eqb x x refl)) in cc)
 contained n m (x ∷ xs) (y ∷ ys) r s f =
-    let low : y ≤ x = first_least y ys x s.1 (f x (or_left (nat_eq x x) (has xs x) (own_test x))) in
+    let low : y ≤ x = first_least y ys x s.1 (f x (or_left (nat_eq x x) (has xs x) (eq-eqb x x refl))) in
     by (cases_eq x y) low (λ same. contained (x + 1) (y + 1) xs ys r.1 s.1 (behind x y xs ys same r.1 f))
     (λ g. contained x (y + 1) (x ∷ xs) ys (omega arith, r.1) s.1 g)
   where
@@ -80,7 +74,7 @@ contained n m (x ∷ xs) (y ∷ ys) r s f =
     beyond more a h = left (or_cases (nat_eq a y) (has ys a) (f a h))
       where
         left : (nat_eq a y ≡ true) ⊎ (has ys a ≡ true) → has ys a ≡ true
-        left (inl e) = absurd (let is : a ≡ y = same_test a y e in let up : x ≤ a = first_least x xs a r.1 h in omega (arith, is, up, more))
+        left (inl e) = absurd (let is : a ≡ y = eqb-true a y e in let up : x ≤ a = first_least x xs a r.1 h in omega (arith, is, up, more))
         left (inr e) = e
 
     by : (x ≡ y) ⊎ (x ≡ y → ⊥) → y ≤ x → (x ≡ y → length xs ≤ length ys) → (((a : ℕ) → has (x ∷ xs) a ≡ true → has ys a ≡ true) → suc (length xs) ≤ length ys)

@@ -2,6 +2,7 @@
 use Rattle.std.proofs.Common.{◌≡◌, ◌<◌, ◌≤◌, ℕ, List, ◌++◌, length, true, false, nat_lt, Option, None, Some, ap, ◌∙◌, subst, append-nil, inl, inr, arith, Result, Ok, Err, IfErr, IfOk}
 use Rattle.std.proofs.lemmas.Bool.Decides.{nat_tests}
 use Rattle.std.specs.Io.KnownBytes.{Consumes, IsAtEnd}
+use Rattle.std.proofs.lemmas.Bool.{lt-ltb, le-ltb}
 use Rattle.vt_outside.specs.Desk.{DeskMeaning, Files}
 use Rattle.vt_outside.specs.Source.{SourceMeaning}
 use Rattle.image_file.specs.Values.{ImageValue}
@@ -14,12 +15,6 @@ use Rattle.vest_files.specs.declared.stop.Stop.TheVariants.{Absent, Refused, Rea
 use Rattle.vest_runs.specs.Input.{DecidesInput, ReadsAll, StopsAtInput}
 use Rattle.vest_runs.specs.Run.{DecidesBehind, DecidesRun, StopsRun}
 use Rattle.vest_runs.specs.declared.input.TheConstants.{INPUT_LIMIT}
-
-above : (limit n : ℕ) → limit < n → nat_lt limit n ≡ true
-above limit n h = grind (arith, nat_tests)
-
-within : (limit n : ℕ) → n ≤ limit → nat_lt limit n ≡ false
-within limit n h = grind (arith, nat_tests)
 
 stops_at_load : (stop : Stop) (at d : Decision) (input : Option (List ℕ)) → StopsAsDecided stop at → DecidesBehind at input d → StopsAsDecided stop d
 stops_at_load Absent at d input h e = subst (λ (x : Decision). DecidesBehind x input d) h e
@@ -37,7 +32,7 @@ stops_for stop None n new d h e = absurd e
 stops_for Absent (Some input) n new d h e = absurd h
 stops_for (Refused refusal) (Some input) n new d h e = absurd h
 stops_for ReadFault (Some input) n new d h e = tt
-stops_for TooLong (Some input) n new d h e = rw (above INPUT_LIMIT (length input) h) at e
+stops_for TooLong (Some input) n new d h e = rw (lt-ltb INPUT_LIMIT (length input) h) at e
 stops_for WantOfMemory (Some input) n new d h e = tt
 
 stops_at_input : (stop : Stop) (old new : SourceMeaning) (at d : Decision) → at ≡ goes_on → StopsAtInput stop old new → DecidesBehind at old.left d
@@ -54,7 +49,7 @@ goes_by None n new bytes d read e = absurd e
 goes_by (Some input) n new bytes d read e =
     let same : input ≡ bytes = all_read input bytes new.left read.read read.end in
     let short : nat_lt INPUT_LIMIT (length input) ≡ false =
-    ap (λ b. nat_lt INPUT_LIMIT (length b)) same ∙ within INPUT_LIMIT (length bytes) read.short in
+    ap (λ b. nat_lt INPUT_LIMIT (length b)) same ∙ le-ltb INPUT_LIMIT (length bytes) read.short in
     rw short at e
 
 run_goes : (old new : SourceMeaning) (bytes : List ℕ) (at d : Decision) → at ≡ goes_on → ReadsAll old new bytes → DecidesBehind at old.left d → d ≡ goes_on

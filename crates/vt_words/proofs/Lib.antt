@@ -1,4 +1,5 @@
 pub mod Spreads
+pub mod Tests
 pub mod Laws
 pub mod Fields
 pub mod Joined

@@ -2,7 +2,7 @@ use Rattle.std.proofs.Common.{◌≡◌, ℕ, Bool, List, sym, ap, ◌∙◌, su
 use Rattle.std.specs.Prelude.{◌↔◌, IsTrue}
 use Rattle.std.specs.Option.{is_some}
 use Rattle.address_map.specs.Pairs.{word_at}
-use Rattle.flow_discovery.specs.Reach.{has}
+use Rattle.vax_form.specs.Targets.{has}
 use Rattle.flow_discovery.specs.Mapped.{Mapped}
 use Rattle.vax_form.specs.declared.pages.Pages.{Pages}
 use Rattle.flow_discovery.specs.Starts.{starts}

@@ -1,12 +1,12 @@
-use Rattle.std.proofs.Common.{◌≡◌, ◌+◌, ◌-◌, ◌<◌, length, get_or, drop, le_refl, arith}
+use Rattle.std.proofs.Common.{◌≡◌, ◌+◌, ◌-◌, ◌<◌, length, get_or, drop, le_refl, refl, arith}
 use Rattle.std.proofs.lemmas.List.{drop_all, drop_more}
-use Rattle.cc_liveness.specs.Codes.{none}
+use Rattle.vax_form.specs.Codes.{none}
 use Rattle.cc_liveness.specs.Uses.{goes_on}
 use Rattle.cc_liveness.proofs.Lives.{found_more, wanted_more}
 use Rattle.cc_liveness.proofs.liveness.backward.Goals as goal
 
 pub loop-i-init : goal.loop-i-init
-loop-i-init c = rw (drop_all (length c.args.run.now) c.args.run.now (le_refl _)) (c.new-found.ensures.items, c.all_codes-behind.ensures)
+loop-i-init c = rw (drop_all (length c.args.run.now) c.args.run.now (le_refl _)) (c.new-found.ensures.items, refl)
 
 pub loop-i-preserved : goal.loop-i-preserved
 loop-i-preserved c =

@@ -21,6 +21,6 @@ returns c =
       | in-None w ↦
           c.live_behind.ensures
           ∙ ap (λ (u : CodeUse). live_behind u c.match-joined_behind.wanted) c.use_of-2.ensures
-          ∙ ap (λ (set : Flags). live_behind (use_of (instr_at instrs place)) set) (w.wanted-is ∙ w.all_codes-wanted.ensures)
+          ∙ ap (λ (set : Flags). live_behind (use_of (instr_at instrs place)) set) w.wanted-is
           ∙ sym (live_last instrs c.requires.order place (sym w.in-None.ensures.value))
     ]

@@ -1,5 +1,5 @@
 use Rattle.std.proofs.Common.{◌≡◌, ◌<◌, ◌≤◌, ℕ, length, get_or}
-use Rattle.cc_liveness.specs.Codes.{none}
+use Rattle.vax_form.specs.Codes.{none}
 use Rattle.code_runs.specs.Codes.{live_at}
 use Rattle.code_runs.proofs.codes.live_codes.Given as goal
 

@@ -2,10 +2,9 @@ use Rattle.std.proofs.Common.{◌≡◌, ◌++◌, ◌+◌, ℕ, List, subst, sy
 use Rattle.std.specs.List.{filter_map}
 use Rattle.std.specs.Option.{option_to_list}
 use Rattle.vax_form.specs.declared.instr.Operand.TheVariants.{Unused}
-use Rattle.code_runs.specs.Runs.{has}
 use Rattle.code_runs.specs.Entrances.{AreChanged, also_target}
 use Rattle.code_runs.proofs.Entering.{branches_more, changed_both}
-use Rattle.vax_form.specs.Targets.{branch_target}
+use Rattle.vax_form.specs.Targets.{branch_target, has}
 use Rattle.code_runs.proofs.entrances.note_branches.Goals as goal
 
 pub loop-operand-preserved : goal.loop-operand-preserved

@@ -1,6 +1,6 @@
 use Rattle.std.proofs.Common.{ℕ, Option, subst, sym, set}
 use Rattle.std.specs.Option.{option_to_list}
-use Rattle.code_runs.specs.Runs.{has}
+use Rattle.vax_form.specs.Targets.{has}
 use Rattle.code_runs.specs.declared.entrances.Entrance.TheVariants.{Elsewhere}
 use Rattle.code_runs.specs.Entrances.{AreChanged, also_target}
 use Rattle.code_runs.proofs.Entering.{changed_at, changed_target}

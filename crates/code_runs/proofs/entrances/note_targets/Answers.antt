@@ -1,6 +1,6 @@
 use Rattle.std.proofs.Common.{ℕ, Option, subst}
 use Rattle.std.specs.Option.{option_to_list}
-use Rattle.code_runs.specs.Runs.{has}
+use Rattle.vax_form.specs.Targets.{has}
 use Rattle.code_runs.specs.Entrances.{AreChanged, also_target}
 use Rattle.code_runs.proofs.Entering.{changed_targets}
 use Rattle.code_runs.proofs.entrances.note_targets.Goals as goal

@@ -2,6 +2,7 @@
 use Rattle.std.proofs.Common.{◌≡◌, ◌<◌, ℕ, ◌==◌, false, None, refl, sym, ap, ◌∙◌, subst, arith}
 use Rattle.std.specs.Prelude.{MatchBool}
 use Rattle.std.proofs.lemmas.Bool.Decides.{nat_tests}
+use Rattle.vt_words.proofs.Tests.{less_differs}
 use Rattle.image_file.specs.Values.{ImageValue}
 use Rattle.system_model.specs.Legal.{spent}
 use Rattle.system_model.specs.Processors.{Mode, New, Runs, Interprets, Ended, turn}
@@ -11,9 +12,6 @@ use Rattle.tie_switch.specs.Settings.{image_setting}
 use Rattle.tie_switch.specs.Turns.{IsStill, Makes, has_ended}
 use Rattle.tie_switch.proofs.Standing.{out_is}
 use Rattle.tie_switch.proofs.processor.Processor.turn_prepared.Goals as goal
-
-below : (n m : ℕ) → n < m → (n == m) ≡ false
-below n m h = grind (arith, nat_tests)
 
 no_end : (m : Mode) → has_ended m ≡ false → end_of m ≡ None
 no_end New e = refl
@@ -38,7 +36,7 @@ returns-in-Some-clause-turned g c p stands =
     let none : end_of (processor_of old).mode ≡ None = no_end (processor_of old).mode c.in-Some.ensures.going in
     let steps : c.self.inside.steps ≡ old.steps = ap (λ (k : ProcessorValue). k.steps) c.self.view_is in
     let budget : c.self.inside.budget ≡ old.budget = ap (λ (k : ProcessorValue). k.budget) c.self.view_is in
-    let out = out_is pages old p old.budget stands none ∙ below old.steps old.budget (omega (arith, steps, budget, c.if-self.true)) in
+    let out = out_is pages old p old.budget stands none ∙ less_differs old.steps old.budget (omega (arith, steps, budget, c.if-self.true)) in
     record {
       processor = made.processor;
       stands = made.stands;
