@@ -91,7 +91,7 @@ fn enter(
     ensures { OnOk result (HasTables (tables first upper.new lower.new.items) (take (place + 1) pairs.now)) }
 {
     let (number, value) = pairs[place];
-    let table = table_for(upper, lower, (number / 512 - first) as usize)?;
+    let table = table_for(upper, lower, (number / PAGE as u32 - first) as usize)?;
     lower[PAGE * table + number as usize % PAGE] = Some(value);
     Ok(())
 }
@@ -119,7 +119,7 @@ fn table_for(
 fn found_in(first: u32, upper: &[u32], lower: &[Option<u32>], number: u32) -> Option<u32>
     ensures { (pairs : List Pair) → AreTablesOf (tables first upper.now lower.now) pairs → result ≡ word_at pairs number }
 {
-    let page = number / 512;
+    let page = number / PAGE as u32;
     if page < first {
         return None;
     }
@@ -138,7 +138,7 @@ fn first_page(pairs: &[(u32, u32)]) -> u32
     ensures { result ≡ first_page pairs.now }
 {
     match pairs.first() {
-        Some(pair) => pair.0 / 512,
+        Some(pair) => pair.0 / PAGE as u32,
         None => 0,
     }
 }
@@ -149,7 +149,7 @@ fn end_page(pairs: &[(u32, u32)]) -> u32
 {
     match pairs.len() {
         0 => 0,
-        len => pairs[len - 1].0 / 512 + 1,
+        len => pairs[len - 1].0 / PAGE as u32 + 1,
     }
 }
 

@@ -9,7 +9,7 @@ use alpha_encode::registers::{
 };
 use anyhow::{Context, Result, bail, ensure};
 use cc_liveness::code_use;
-use exception_records::{CodeRule, Rules, codes_shown};
+use exception_records::{CodeRule, Rules, codes_shown, still_held};
 use flag_codegen::code_words;
 use row_tally::{Tally, five_fields_and_rest, longword, number, rows};
 use std::alloc::{AllocError, Global};
@@ -114,7 +114,7 @@ impl Case {
     /// Whether the codes that are shown behind the code are those that are wanted, where these were held.
     fn agrees_with(&self, code: &Code, registers: &[u64; 32], held: Flags) -> bool {
         let found = codes_shown(&self.registers, &BEFORE, &held);
-        let left = codes_shown(registers, &code.rules, &still_held(held, code.written));
+        let left = codes_shown(registers, &code.rules, &still_held(&held, &code.written));
         self.agrees(found, left)
     }
 
@@ -151,16 +151,6 @@ fn rules_behind(written: Flags, answered: Rules) -> Rules {
         z: if written.z { answered.z } else { BEFORE.z },
         v: if written.v { answered.v } else { BEFORE.v },
         c: if written.c { answered.c } else { BEFORE.c },
-    }
-}
-
-/// The codes that are held behind the instruction: those that it doesn't write.
-fn still_held(held: Flags, written: Flags) -> Flags {
-    Flags {
-        n: held.n && !written.n,
-        z: held.z && !written.z,
-        v: held.v && !written.v,
-        c: held.c && !written.c,
     }
 }
 

@@ -1,7 +1,6 @@
 -- The three words of an exit, by what each of them is.
 use Rattle.std.proofs.Common.{◌≡◌, ℕ, zero, suc, ◌-◌, ◌^◌, ◌<◌, refl, subst, arith, [], ◌∷◌, length, Bool, true, false, Option, Some, None, lit<, lit≤}
-use Rattle.std.specs.Prelude.{slice_get, pos, negsuc, ◌<ℤ◌, ◌≤ℤ◌, FitsSigned}
-use Rattle.std.specs.Int.{cast_signed, w16}
+use Rattle.std.specs.Prelude.{slice_get, pos, negsuc, ◌<ℤ◌, ◌≤ℤ◌}
 use Rattle.std.proofs.lemmas.Int.{ints}
 use Rattle.std.proofs.lemmas.Bool.Decides.{nat_tests}
 use Rattle.alpha_encode.proofs.SignedHalves.{half_fits}

@@ -1,6 +1,6 @@
 -- Registers that are kept, and the parts of an operand of 1, 2, 4 or 8 bytes.
 use Rattle.std.proofs.Common.{◌≡◌, ℕ, ◌+◌, ◌-◌, ◌*◌, ◌/◌, ◌%◌, ◌^◌, ◌<◌, ◌≤◌, refl, arith, List, [], ◌∷◌, Bool, true, false, eqb, ne_eqb}
-use Rattle.std.specs.Prelude.{pos, nat_lt, nat_le, ◌||◌, if◌then◌else◌}
+use Rattle.std.specs.Prelude.{pos, nat_lt, nat_le, if◌then◌else◌}
 use Rattle.std.specs.Int.{cast_unsigned, w64}
 use Rattle.std.proofs.lemmas.Bool.Decides.{nat_tests}
 use Rattle.vt_words.specs.Quad.{IsCount, one as c1, two as c2, four as c4, eight as c8, field_of, crossing}

@@ -9,5 +9,5 @@ mod rules;
 
 pub use block::Block;
 pub use points::{Point, PointRefusal, Points, build};
-pub use registers::{codes_shown, shown};
+pub use registers::{codes_shown, shown, still_held};
 pub use rules::{CodeRule, Rules};

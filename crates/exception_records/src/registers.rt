@@ -1,12 +1,24 @@
 // The VAX state that Alpha registers show.
-ghost use Rattle.std.specs.Prelude.{◌≡◌, ◌%◌, ◌^◌, slice_index};
-ghost use Rattle.exception_records.specs.Shown.{code_shown, codes_shown, psw_shown, shown};
+ghost use Rattle.std.specs.Prelude.{◌≡◌, ◌%◌, ◌^◌, ◌&&◌, not, slice_index};
+ghost use Rattle.exception_records.specs.Shown.{code_shown, codes_shown, psw_shown, shown, still_held};
 
 use crate::rules::{CodeRule, Rules};
 use alpha_encode::registers::{
     CARRY, CARRY_FIRST, CARRY_SECOND, IS_ZERO, NEGATIVE, OVERFLOW, RULE_FIRST, RULE_SECOND, STATUS,
 };
 use vax_form::{Flags, Pending, VaxState};
+
+/// The codes that are still held behind an instruction: those that it doesn't write.
+pub fn still_held(held: &Flags, written: &Flags) -> Flags
+    ensures { result ≡ still_held held.now written.now }
+{
+    Flags {
+        n: held.n && !written.n,
+        z: held.z && !written.z,
+        v: held.v && !written.v,
+        c: held.c && !written.c,
+    }
+}
 
 // A code in its register where it is ready or held there, else by its rule.
 fn code_shown(rule: CodeRule, held: bool, in_register: bool, by_rule: bool) -> bool

@@ -3,10 +3,11 @@ use Rattle.std.specs.Prelude.{ℕ, ◌-◌, ◌/◌, Bool, Option, find, option_
 use Rattle.image_file.specs.Rows.{has_page}
 use Rattle.image_file.specs.Spelling.{row_of}
 use Rattle.image_file.specs.Values.{SectionValue, ImageValue}
+use Rattle.vax_form.specs.PageTable.{page_size}
 
 -- the address is in a page of the section
 abbrev pub has_address : ℕ → SectionValue → Bool
-has_address address s = has_page (address / 512) (row_of s)
+has_address address s = has_page (address / page_size) (row_of s)
 
 -- what the section stores, and 0 up to the end of its last page
 abbrev pub byte_at : ℕ → SectionValue → ℕ

@@ -7,6 +7,7 @@ ghost use Rattle.image_file.specs.Reading.{layout_of};
 use crate::limits::*;
 use crate::refusal::ImageRefusal;
 use crate::rows::Row;
+use vax_form::PAGE_SIZE;
 
 fn first_unsound(rows: &[Row]) -> Option<usize>
     ensures { result ≡ position (λ r. not (is_sound r)) rows.now }
@@ -40,7 +41,7 @@ fn total_bytes(rows: &[Row]) -> u64
 {
     let mut total = 0;
     for row in rows {
-        total += 512 * u64::from(row.pages());
+        total += PAGE_SIZE as u64 * u64::from(row.pages());
     }
     total
 }

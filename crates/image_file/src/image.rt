@@ -3,7 +3,7 @@ ghost use Rattle.std.specs.Prelude.{◌≡◌, false, is_some};
 
 use crate::limits::FIRST_REGISTERS;
 use std::marker::Model;
-use vax_form::{Pages, Pending, VaxState};
+use vax_form::{PAGE_SIZE, Pages, Pending, VaxState};
 
 /// Where a thread starts: its PC, its stack pointer, and R0 to R13, which are 0 in images of version 1.
 #[derive(Clone, Copy, Debug, PartialEq, Eq)]
@@ -56,9 +56,9 @@ impl Section {
     pub fn has(&self, address: u32) -> bool
         ensures { result ≡ has_address address self.now }
     {
-        let page = address / 512;
-        let first = self.start / 512;
-        first <= page && page - first < self.size.div_ceil(512)
+        let page = address / PAGE_SIZE;
+        let first = self.start / PAGE_SIZE;
+        first <= page && page - first < self.size.div_ceil(PAGE_SIZE)
     }
 
     fn byte(&self, address: u32) -> u8

@@ -39,7 +39,7 @@ use Rattle.vax_form.specs.declared.state.RefKind.{RefKind}
 use Rattle.vax_form.specs.declared.state.RefKind.TheVariants.{Read, Write, Add, SetBit, ClearBit, Put, Get}
 use Rattle.vax_form.specs.declared.state.VaxState.{VaxState}
 use Rattle.vax_form.specs.References.{FitsQuadword}
-use Rattle.block_law.specs.Follows.{Call, Probe, LookUp, Serve, Raise, Arithmetic, Switch, Other, call_of, probe_count, probe_address, Called, Landed, Clause}
+use Rattle.block_law.specs.Follows.{Call, Probe, LookUp, Serve, Raise, Arithmetic, Switch, call_of, probe_count, probe_address, Called, Landed}
 use Rattle.block_law.specs.Follows as block
 use Rattle.block_law.specs.Laws.{Ever}
 use Rattle.block_law.specs.Placements.{Placement, allowed_in, InForm, state_shown, target}

@@ -2,7 +2,7 @@
 use Rattle.std.specs.Prelude.{◌≡◌, ℕ, zero, suc, ◌+◌, ◌-◌, ◌*◌, ◌/◌, ◌%◌, Bool, List, [], ◌∷◌, Option, Some, None, option_map, slice_index, if◌then◌else◌}
 use Rattle.std.specs.List.{flat_map, list_any}
 use Rattle.vax_form.specs.declared.pages.PageRange.{PageRange}
-use Rattle.vax_form.specs.PageTable.{has_page}
+use Rattle.vax_form.specs.PageTable.{has_page, page_size}
 use Rattle.image_file.specs.Values.{ImageValue}
 use Rattle.memory_core.specs.Opening.{opening}
 
@@ -21,13 +21,17 @@ page_number [] page = None
 page_number (r ∷ rs) page =
     if has_page page r then Some (page - r.first) else option_map (λ n. r.count + n) (page_number rs page)
 
--- the number of a page's first quadword: a page has 64
+-- the quadwords of a page
+abbrev pub page_quads : ℕ
+page_quads = 64
+
+-- the number of a page's first quadword
 abbrev pub page_place : List PageRange → ℕ → Option ℕ
-page_place ranges page = option_map (λ n. 64 * n) (page_number ranges page)
+page_place ranges page = option_map (λ n. page_quads * n) (page_number ranges page)
 
 -- the number of the quadword at an address
 abbrev pub quad_place : List PageRange → ℕ → Option ℕ
-quad_place ranges address = option_map (λ n. 64 * n + address % 512 / 8) (page_number ranges (address / 512))
+quad_place ranges address = option_map (λ n. page_quads * n + address % page_size / 8) (page_number ranges (address / page_size))
 
 abbrev pub above : Option ℕ → ℕ
 above None = 0
@@ -48,4 +52,4 @@ quads_from image address (suc count) = opening image address ∷ quads_from imag
 
 -- the quadwords of all ranges, range after range
 abbrev pub quads_of : ImageValue → List PageRange → List ℕ
-quads_of image ranges = flat_map (λ (r : PageRange). quads_from image (512 * r.first) (64 * r.count)) ranges
+quads_of image ranges = flat_map (λ (r : PageRange). quads_from image (page_size * r.first) (page_quads * r.count)) ranges

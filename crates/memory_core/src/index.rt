@@ -6,16 +6,13 @@ ghost use Rattle.memory_core.specs.Places.{index_word, page_number, page_place, 
 use std::alloc::{AllocError, Global};
 use std::marker::Model;
 use std::snapshot::Snapshot;
-use vax_form::{PageRange, Pages};
-
-/// The bytes of a page.
-const PAGE: u32 = 512;
+use vax_form::{PAGE_SIZE, PageRange, Pages};
 
 /// The bytes of a quadword.
-const QUAD: u32 = 8;
+pub(crate) const QUAD: u32 = 8;
 
 /// The quadwords of a page.
-const QUADS: u32 = PAGE / QUAD;
+pub(crate) const QUADS: u32 = PAGE_SIZE / QUAD;
 
 /// A word for each page up to the last of an image: 0 where the image doesn't have the page, else one more than the
 /// page's number among the image's pages. Contracts see it as the ranges of the image's pages.
@@ -80,8 +77,8 @@ impl PageIndex {
     pub(crate) fn quad_place(&self, address: u32) -> Option<usize>
         ensures { result ≡ quad_place self.now address }
     {
-        let page = self.page_place(address / PAGE)?;
-        Some((page + address % PAGE / QUAD) as usize)
+        let page = self.page_place(address / PAGE_SIZE)?;
+        Some((page + address % PAGE_SIZE / QUAD) as usize)
     }
 }
 

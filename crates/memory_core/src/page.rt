@@ -1,17 +1,18 @@
 // The quadwords of an image's pages: what they are at first, and how they are stored.
 ghost use Rattle.std.specs.Prelude.{◌≡◌, ◌≤◌, ◌<◌, ◌*◌, ◌%◌, ◌+◌, ◌++◌, length, slice_index, find, IfSome, IfOk, OnOk};
 ghost use Rattle.std.specs.Option.{option_copied};
+ghost use Rattle.vax_form.specs.PageTable.{page_size};
 ghost use Rattle.image_file.specs.Memory.{has_address};
 ghost use Rattle.image_file.specs.Whole.{IsWhole};
 ghost use Rattle.memory_core.specs.Fields.{stored_at};
 ghost use Rattle.memory_core.specs.Bytes.{quad_of};
 ghost use Rattle.memory_core.specs.Opening.{opening};
-ghost use Rattle.memory_core.specs.Places.{quad_place, quads_from, quads_of};
+ghost use Rattle.memory_core.specs.Places.{page_quads, quad_place, quads_from, quads_of};
 
-use crate::index::PageIndex;
+use crate::index::{PageIndex, QUAD, QUADS};
 use image_file::{Image, Section};
 use std::alloc::{AllocError, Global};
-use vax_form::PageRange;
+use vax_form::{PAGE_SIZE, PageRange};
 
 /// Stores a quadword at the place of its address.
 pub(crate) fn store(index: &PageIndex, quads: &mut [u64], address: u32, value: u64)
@@ -62,10 +63,10 @@ fn byte_or_zero(bytes: &[u8], at: usize) -> u8
 fn push_range(quads: &mut Vec<u64>, image: &Image, range: &PageRange) -> Result<(), AllocError>
     requires whole { IsWhole image.now }
     requires low { range.now.first + range.now.count ≤ 4194304 }
-    ensures { OnOk result (quads.new.items ≡ quads.old.items ++ quads_from image.now (512 * range.now.first) (64 * range.now.count)) }
+    ensures { OnOk result (quads.new.items ≡ quads.old.items ++ quads_from image.now (page_size * range.now.first) (page_quads * range.now.count)) }
 {
-    for n in 0..64 * range.count {
-        quads.push(opening_quad(image, 512 * range.first + 8 * n))?;
+    for n in 0..QUADS * range.count {
+        quads.push(opening_quad(image, PAGE_SIZE * range.first + QUAD * n))?;
     }
     Ok(())
 }

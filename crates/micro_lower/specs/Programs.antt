@@ -1,5 +1,6 @@
 -- The programs of operations that evaluate no operand specifier.
 use Rattle.std.specs.Prelude.{ℕ, List, [], ◌∷◌, Bool, true, false, Option, Some, None, if◌then◌else◌}
+use Rattle.vax_form.specs.State.{SP}
 use Rattle.vax_form.specs.declared.instr.Size.TheVariants.{Byte, Long}
 use Rattle.vax_form.specs.declared.instr.Instr.{Instr}
 use Rattle.vax_form.specs.declared.operation.Condition.{Condition}
@@ -71,22 +72,22 @@ branch_if_program condition target after =
 -- BSB
 abbrev pub subroutine_program : (target after : ℕ) → List Micro
 subroutine_program target after =
-    Compute 1 ops.Add Long (Register 14) (Const 0xFFFFFFFC)
+    Compute 1 ops.Add Long (Register SP) (Const 0xFFFFFFFC)
     ∷ Compute 2 ops.Move Long (Const after) (Const 0)
     ∷ Probe 1 4 true
     ∷ Write 1 4 2
-    ∷ Commit 14 1
+    ∷ Commit SP 1
     ∷ Leave (Fixed target)
     ∷ []
 
 -- RSB
 abbrev pub return_program : List Micro
 return_program =
-    Compute 1 ops.Move Long (Register 14) (Const 0)
+    Compute 1 ops.Move Long (Register SP) (Const 0)
     ∷ Probe 1 4 false
     ∷ Read 0 1 4
-    ∷ Compute 5 ops.Add Long (Register 14) (Const 4)
-    ∷ Commit 14 5
+    ∷ Compute 5 ops.Add Long (Register SP) (Const 4)
+    ∷ Commit SP 5
     ∷ Leave (Computed 0)
     ∷ []
 

@@ -9,7 +9,7 @@ use crate::micros::{binary, unary};
 use crate::rows::INVERTED;
 use micro_ops::{Arg, Exit, Micro, MicroOp};
 use std::alloc::{AllocError, Global};
-use vax_form::{Condition, Instr, Operation, Size};
+use vax_form::{Condition, Instr, Operation, SP, Size};
 use vax_meaning::target;
 
 /// The flags that a condition is made from, by their numbers: one, or either of two.
@@ -86,7 +86,7 @@ fn conditional_branch(
     }
 }
 
-const STACK: Arg = Arg::Register(14);
+const STACK: Arg = Arg::Register(SP);
 
 /// The place below the top of the stack goes into 1.
 const BELOW: Micro = binary!(1, MicroOp::Add, Size::Long, STACK, Arg::Const(0xFFFF_FFFC));
@@ -104,7 +104,7 @@ const PUSHED: Micro = Micro::Write {
 };
 
 const COMMITTED: Micro = Micro::Commit {
-    register: 14,
+    register: SP,
     from: 1,
 };
 
@@ -137,7 +137,7 @@ const RETURN: [Micro; 6] = [
     },
     binary!(5, MicroOp::Add, Size::Long, STACK, Arg::Const(4)),
     Micro::Commit {
-        register: 14,
+        register: SP,
         from: 5,
     },
     Micro::Leave(Exit::Computed(0)),

@@ -6,11 +6,9 @@ ghost use Rattle.operand_programs.specs.Results.{result_program, replacement_pro
 use crate::specifiers::{Steps, add_step, long, step, sum_into};
 use micro_ops::{Arg, Micro, MicroOp};
 use std::alloc::AllocError;
-use vax_form::{Operand, Size, WantOfMemory};
+use vax_form::{Operand, SP, Size, WantOfMemory};
 
-/// The stack pointer.
-const STACK: u8 = 14;
-/// What a push adds to it.
+/// What a push adds to SP.
 const BELOW: u32 = 0xFFFF_FFFC;
 /// The bits above a byte, and above a word.
 const ABOVE_BYTE: u32 = 0xFFFF_FF00;
@@ -263,8 +261,8 @@ fn put_below(
     ensures program { OnOk result (program.new.items ≡ program.old.items ++ push_program steps.old place from) }
     ensures steps { OnOk result (steps.new ≡ steps_behind_push steps.old) }
 {
-    add_step(steps, STACK, BELOW);
-    program.push(sum_into(place, Some(STACK), step(steps, STACK)))?;
+    add_step(steps, SP, BELOW);
+    program.push(sum_into(place, Some(SP), step(steps, SP)))?;
     put_store(program, Size::Long, place, from)
 }
 

@@ -4,7 +4,7 @@ ghost use Rattle.vax_form.specs.GrammarModes.{base_of, extension_size, is_reserv
 ghost use Rattle.operand_specifiers.specs.Answer.{FitsExtension};
 
 use crate::number::extend;
-use vax_form::{Access, Base, Mode, Operand, Size};
+use vax_form::{Access, Base, Mode, Operand, SP, Size};
 
 /// Whether a mode with that register is reserved for an operand of that use and length.
 #[tactic(auto, unfolding(vax_form::specs::GrammarModes::is_reserved_mode))]
@@ -14,7 +14,7 @@ pub(crate) fn is_reserved(access: Access, size: Size, register: u8, mode: Mode) 
     match mode {
         Mode::Reserved => true,
         Mode::Literal => access != Access::Read,
-        Mode::Register => access == Access::Address || (size == Size::Quad && register == 14),
+        Mode::Register => access == Access::Address || (size == Size::Quad && register == SP),
         Mode::Immediate => access == Access::Write || access == Access::Modify,
         _ => false,
     }

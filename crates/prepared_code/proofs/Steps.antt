@@ -1,5 +1,5 @@
 -- One step more inside a block.
-use Rattle.std.proofs.Common.{◌≡◌, ℕ, suc, ◌+◌, Some, ap, ◌∙◌, arith, add-one}
+use Rattle.std.proofs.Common.{◌≡◌, ℕ, ◌+◌, Some, ap, ◌∙◌, add-one}
 use Rattle.std.specs.Prelude.{option_and_then}
 use Rattle.alpha_meaning.specs.State.{Alpha}
 use Rattle.block_law.specs.Translations.{Code}

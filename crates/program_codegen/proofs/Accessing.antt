@@ -9,7 +9,6 @@ use Rattle.vax_form.specs.PageTable.{IsPageTable}
 use Rattle.vax_form.specs.Pages.{first_bad}
 use Rattle.vax_form.specs.Parts.{parts}
 use Rattle.vax_form.specs.Ranges.{FitsPage}
-use Rattle.vax_form.specs.Tree.{Tree}
 use Rattle.vax_form.specs.Tree as trees
 use Rattle.vax_form.specs.declared.state.Exception.TheVariants.{ReservedOperand}
 use Rattle.vax_form.specs.declared.state.Reference.{Reference}

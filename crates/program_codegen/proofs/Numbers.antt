@@ -1,6 +1,6 @@
 -- Numbers in registers.
 use Rattle.std.proofs.Common.{◌≡◌, ℕ, ◌*◌, ◌/◌, ◌%◌, ◌^◌, ◌<◌, ◌≤◌, sym, ap, ◌∙◌, arith, Bool, true, false, lit≤}
-use Rattle.std.specs.Prelude.{◌==◌, ◌&&◌, nat_lt, bit_and, bit_or}
+use Rattle.std.specs.Prelude.{◌==◌, ◌&&◌, bit_and, bit_or}
 use Rattle.std.specs.Int.Bits.{or_zero_r}
 use Rattle.std.proofs.lemmas.Bool.Decides.{nat_tests}
 use Rattle.std.proofs.lemmas.Nat.{and_assoc, and_mask}

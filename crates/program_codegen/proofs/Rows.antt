@@ -1,7 +1,7 @@
 -- The words of operations by themselves: their encodings, what they write, whether they may fault, and how many they are.
 use Rattle.std.proofs.Common.{◌≡◌, ℕ, ◌+◌, ◌/◌, ◌%◌, ◌^◌, ◌<◌, ◌≤◌, refl, arith, rules, List, [], ◌∷◌, length, Bool, true, false, lit<, lit≤}
 use Rattle.std.specs.Prelude.{pos, ◌&&◌, ◌||◌, not, nat_lt, nat_le, All, FitsSigned, if◌then◌else◌}
-use Rattle.std.specs.Int.{cast_signed, w16}
+use Rattle.std.specs.Int.{w16}
 use Rattle.std.specs.List.{list_all, list_any}
 use Rattle.std.proofs.lemmas.Bool.Decides.{nat_tests}
 use Rattle.std.proofs.lemmas.Int.{ints}

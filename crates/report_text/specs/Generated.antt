@@ -5,6 +5,7 @@ use Rattle.std.specs.Int.{w16, to_le_bytes}
 use Rattle.image_file.specs.Pages.{pages_of}
 use Rattle.image_file.specs.Values.{SectionValue, ImageValue}
 use Rattle.image_file.specs.declared.image.Start.{Start}
+use Rattle.image_file.specs.declared.limits.TheConstants.{FIRST_REGISTERS}
 use Rattle.report_text.specs.declared.images.Group.{Group}
 use Rattle.report_text.specs.declared.images.Group.TheVariants.{Add, ExclusiveOr, Rotate, Store}
 
@@ -57,7 +58,7 @@ abbrev pub generated_code : ℕ → List ℕ
 generated_code number = front_bytes ++ groups number number ++ back_bytes
 
 abbrev pub generated_start : Start
-generated_start = record { pc = 0x10000; sp = 0x1800; first = replicate 14 0 }
+generated_start = record { pc = 0x10000; sp = 0x1800; first = replicate FIRST_REGISTERS 0 }
 
 -- read-only, and all of it is stored
 abbrev pub code_section : List ℕ → SectionValue

@@ -5,17 +5,12 @@ ghost use Rattle.image_file.specs.Spelling.{spelling};
 ghost use Rattle.image_file.specs.Whole.{IsWhole};
 ghost use Rattle.report_text.specs.Generated.{next_number, generated_code, generated_start, sections_with, generated_image};
 
-use image_file::{Image, Section, Start};
+use image_file::{FIRST_REGISTERS, Image, Section, Start, VERSION_1};
 use std::alloc::{AllocError, Global};
-use vax_form::{PageRange, Pages, WantOfMemory};
+use vax_form::{PAGE_SIZE, PageRange, Pages, WantOfMemory};
 
 /// The most groups of a generated image.
 pub const MOST_GROUPS: u32 = 32_000;
-
-/// The version of the format, and how many first registers a thread has in it.
-const VERSION: u16 = 1;
-
-const FIRST_REGISTERS: usize = 14;
 
 /// How the number behind another one comes from it, modulo 2^32.
 const FACTOR: u64 = 1_664_525;
@@ -50,13 +45,10 @@ const THREADS: usize = 4;
 
 const STACK: u32 = 0x1800;
 
-/// The bytes of a page.
-const PAGE: u32 = 512;
-
 /// The pages of the memory.
 const DATA_PAGES: PageRange = PageRange {
-    first: DATA_START / PAGE,
-    count: DATA_BYTES / PAGE,
+    first: DATA_START / PAGE_SIZE,
+    count: DATA_BYTES / PAGE_SIZE,
     writable: true,
     place: 0,
 };
@@ -152,9 +144,9 @@ fn pages_of(alloc: Global, code: &[u8]) -> Result<Pages, AllocError>
     requires few { length code.now ≤ 2 ^ 19 }
     ensures { IfOk result (λ pages. pages ≡ pages_of (sections_with code.now)) }
 {
-    let count = (code.len() as u32).div_ceil(PAGE);
+    let count = (code.len() as u32).div_ceil(PAGE_SIZE);
     let code_pages = PageRange {
-        first: CODE_START / PAGE,
+        first: CODE_START / PAGE_SIZE,
         count,
         writable: false,
         place: 0,
@@ -163,7 +155,7 @@ fn pages_of(alloc: Global, code: &[u8]) -> Result<Pages, AllocError>
     ranges.push(DATA_PAGES)?;
     ranges.push(code_pages)?;
     let mut bytes = Vec::from_slice(alloc, code)?;
-    bytes.resize((PAGE * count) as usize, 0)?;
+    bytes.resize((PAGE_SIZE * count) as usize, 0)?;
     Ok(Pages {
         ranges,
         code: bytes,
@@ -212,7 +204,7 @@ pub fn generated(alloc: Global, number: u32) -> Result<Image, WantOfMemory>
     let code = generated_code(alloc, number)?;
     let pages = pages_of(alloc, &code)?;
     Ok(Image {
-        version: VERSION,
+        version: VERSION_1,
         threads: threads_of(alloc)?,
         sections: sections_of(alloc, code)?,
         entries: Vec::new(alloc),

@@ -1,5 +1,5 @@
 -- Processors: each runs one thread, by Alpha steps in translated code and by interpreted steps elsewhere.
-use Rattle.std.specs.Prelude.{◌≡◌, ℕ, zero, suc, ◌*◌, ◌/◌, ◌%◌, ◌==◌, Bool, true, List, [], ◌∷◌, ◌++◌, Option, Some, None, nat_lt, slice_index, if◌then◌else◌}
+use Rattle.std.specs.Prelude.{◌≡◌, ℕ, zero, suc, ◌*◌, ◌/◌, ◌%◌, ◌==◌, Bool, List, [], ◌∷◌, ◌++◌, Option, Some, None, nat_lt, slice_index, if◌then◌else◌}
 use Rattle.alpha_encode.specs.declared.registers.TheConstants.{NEGATIVE, IS_ZERO, OVERFLOW, CARRY, STATUS}
 use Rattle.alpha_meaning.specs.State.{Alpha, Regs, at_place}
 use Rattle.memory_core.specs.declared.entry.Entry.{Entry}
@@ -9,7 +9,7 @@ use Rattle.memory_core.specs.declared.entry.Request.{Request}
 pub use Rattle.memory_core.specs.Order.{entry_by}
 use Rattle.vax_form.specs.Codes.{all}
 use Rattle.vax_form.specs.State.{register}
-use Rattle.vax_form.specs.Tree.{Tree, Ending, Finish, Exit, Trap, Answer, answer}
+use Rattle.vax_form.specs.Tree.{Finish, Exit, Trap, Answer, answer}
 use Rattle.vax_form.specs.Tree as trees
 use Rattle.vax_form.specs.declared.state.Exception.TheVariants.{Arithmetic}
 use Rattle.vax_form.specs.declared.state.Flags.{Flags}

@@ -1,5 +1,5 @@
 -- For which processors of the model a processor stands, step by step.
-use Rattle.std.proofs.Common.{◌≡◌, ◌≢◌, ℕ, suc, ◌+◌, ◌==◌, ◌&&◌, List, [], ◌∷◌, ◌++◌, true, Option, Some, None, ap, ◌∙◌, subst, arith, refl, add-one}
+use Rattle.std.proofs.Common.{◌≡◌, ◌≢◌, ℕ, ◌+◌, ◌==◌, ◌&&◌, List, [], ◌∷◌, ◌++◌, true, Option, Some, None, ap, ◌∙◌, subst, refl, add-one}
 use Rattle.std.proofs.lemmas.List.{append-nil}
 use Rattle.alpha_meaning.specs.State.{Alpha}
 use Rattle.memory_core.specs.Requests.{CanMake}

@@ -15,7 +15,7 @@ ghost use Rattle.vax_form.specs.declared.state.Pending.TheVariants.{Nothing};
 use crate::laws::{landings_are_turns, probes_are_turns, steps_are_turns};
 use crate::setting::codes_by;
 use alpha_machine::Cpu;
-use exception_records::Rules;
+use exception_records::{Rules, still_held};
 use prepared_code::{Block, Landing, Prepared};
 use system_model::{Range, shown, word_for};
 use vax_form::{Flags, Pages, VaxState};
@@ -34,17 +34,6 @@ pub(crate) struct Course {
     pub landed: Option<Landed>,
     pub held: Flags,
     pub retired: u64,
-}
-
-fn still_held(held: &Flags, written: &Flags) -> Flags
-    ensures { result ≡ still_held held.now written.now }
-{
-    Flags {
-        n: held.n && !written.n,
-        z: held.z && !written.z,
-        v: held.v && !written.v,
-        c: held.c && !written.c,
-    }
 }
 
 fn block_rules(block: &Block) -> Rules

@@ -15,7 +15,7 @@ use crate::registers::with_r0;
 use crate::setting::{Setting, codes_written, rules_at};
 use alpha_machine::{AlphaStep, Cpu, finish, step};
 use alpha_meaning::AlphaAccess;
-use exception_records::Rules;
+use exception_records::{Rules, still_held};
 use system_model::shown;
 use vax_form::{Flags, VaxState};
 use vt_words::field;
@@ -47,12 +47,7 @@ impl Processor {
         ensures { result ≡ held_behind (setting_of setting.entry) (moment_of (processor_of self.now)) }
     {
         let written = codes_written(setting.pages, self.boundary.pc);
-        Flags {
-            n: self.held.n && !written.n,
-            z: self.held.z && !written.z,
-            v: self.held.v && !written.v,
-            c: self.held.c && !written.c,
-        }
+        still_held(&self.held, &written)
     }
 
     /// The state that registers show at a PC, and all else as it was at the boundary.

@@ -2,6 +2,7 @@
 -- VAX Architecture Reference Manual, "Operand Specifiers", the summary of addressing modes.
 use Rattle.std.specs.Prelude.{ℕ, ◌+◌, ◌/◌, ◌%◌, Bool, true, false, ◌==◌, nat_lt, if◌then◌else◌}
 use Rattle.std.specs.Prelude.{Option, Some, None}
+use Rattle.vax_form.specs.State.{SP}
 use Rattle.vax_form.specs.Grammar.{extended, wrapped}
 use Rattle.vax_form.specs.declared.mode.Mode.{Mode}
 use Rattle.vax_form.specs.declared.mode.Mode.TheVariants as mode
@@ -58,7 +59,7 @@ is_reserved_mode access size n mode.Reserved = true
 is_reserved_mode Read size n mode.Literal = false
 is_reserved_mode access size n mode.Literal = true
 is_reserved_mode Address size n mode.Register = true
-is_reserved_mode access Quad n mode.Register = n == 14
+is_reserved_mode access Quad n mode.Register = n == SP
 is_reserved_mode Write size n mode.Immediate = true
 is_reserved_mode Modify size n mode.Immediate = true
 is_reserved_mode access size n m = false

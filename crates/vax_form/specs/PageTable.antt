@@ -4,6 +4,9 @@
 use Rattle.std.specs.Prelude.{◌≡◌, ◌≤◌, ◌+◌, ◌*◌, ◌&&◌, ℕ, Bool, List, [], ◌∷◌, length, nat_le, nat_lt, if◌then◌else◌}
 use Rattle.vax_form.specs.declared.pages.PageRange.{PageRange}
 
+abbrev pub page_size : ℕ
+page_size = 512
+
 pub record PageTable : Type 0 where
   pub ranges : List PageRange
   pub code : List ℕ
@@ -13,7 +16,7 @@ has_page page r = nat_le r.first page && nat_lt page (r.first + r.count)
 
 -- how many bytes of a range stand in the code
 abbrev pub code_bytes : PageRange → ℕ
-code_bytes r = if r.writable then 0 else 512 * r.count
+code_bytes r = if r.writable then 0 else page_size * r.count
 
 abbrev pub code_length : List PageRange → ℕ
 code_length [] = 0

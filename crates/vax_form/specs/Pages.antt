@@ -4,18 +4,18 @@ use Rattle.std.specs.Prelude.{ℕ, zero, suc, ◌+◌, ◌-◌, ◌*◌, ◌/◌
 use Rattle.std.specs.List.{list_any}
 use Rattle.vax_form.specs.declared.pages.PageRange.{PageRange}
 use Rattle.vax_form.specs.declared.pages.Pages.{Pages}
-use Rattle.vax_form.specs.PageTable.{has_page}
+use Rattle.vax_form.specs.PageTable.{has_page, page_size}
 
 -- the range has the address's page, and may be written where that is meant
 abbrev pub allows : ℕ → Bool → PageRange → Bool
-allows address write r = has_page (address / 512) r && (not write || r.writable)
+allows address write r = has_page (address / page_size) r && (not write || r.writable)
 
 abbrev pub is_allowed : Pages → ℕ → Bool → Bool
 is_allowed pages address write = list_any (allows address write) pages.ranges
 
 -- the range is read-only and has the address's page
 abbrev pub has_code : ℕ → PageRange → Bool
-has_code address r = has_page (address / 512) r && not r.writable
+has_code address r = has_page (address / page_size) r && not r.writable
 
 abbrev pub is_code : Pages → ℕ → Bool
 is_code pages address = list_any (has_code address) pages.ranges
@@ -23,7 +23,7 @@ is_code pages address = list_any (has_code address) pages.ranges
 -- the byte at an address in a read-only page
 abbrev pub code_byte_at : Pages → ℕ → Option ℕ
 code_byte_at pages address =
-    option_map (λ (r : PageRange). slice_index pages.code (r.place + (address - 512 * r.first))) (find (has_code address) pages.ranges)
+    option_map (λ (r : PageRange). slice_index pages.code (r.place + (address - page_size * r.first))) (find (has_code address) pages.ranges)
 
 -- the first of the bytes from the address on, modulo 2^32, that may not be used with that intent
 abbrev pub first_bad : Pages → (write : Bool) → (address count : ℕ) → Option ℕ

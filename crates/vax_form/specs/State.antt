@@ -7,6 +7,16 @@ use Rattle.vax_form.specs.declared.state.Reference.{Reference}
 use Rattle.vax_form.specs.declared.state.RefKind.{RefKind}
 use Rattle.vax_form.specs.declared.state.RefKind.TheVariants.{Read, Write, Add, SetBit, ClearBit, Put, Get}
 
+-- the argument pointer, the frame pointer and the stack pointer
+abbrev pub AP : ℕ
+AP = 12
+
+abbrev pub FP : ℕ
+FP = 13
+
+abbrev pub SP : ℕ
+SP = 14
+
 -- a state with other registers R0 to R14, PC and PSW
 abbrev pub with_core : VaxState → (r : List ℕ) → (pc psw : ℕ) → VaxState
 with_core state r pc psw = record state { r = r; pc = pc; psw = psw }

@@ -18,10 +18,11 @@ pub use mode::Mode;
 pub use operation::{
     BinaryOperation, BitBranch, BitStore, Condition, LongOperation, Operation, operation_of,
 };
-pub use pages::{PageRange, Pages};
+pub use pages::{PAGE_SIZE, PageRange, Pages};
 pub use row::{Class, Row, class_of, is_long, row_of};
 pub use script::{End, Stop, laws_of_after, laws_of_handlers, tree_laws};
 pub use state::{
-    Exception, Flags, Outcome, Pending, Pick, RefKind, Reference, USER_MODE, VaxState, WantOfMemory,
+    AP, Exception, FP, Flags, Outcome, Pending, Pick, RefKind, Reference, SP, USER_MODE, VaxState,
+    WantOfMemory,
 };
 pub use targets::{branch_target, fixed_address};

@@ -3,6 +3,9 @@ ghost use Rattle.std.specs.Prelude.{◌≡◌, ◌≤◌, is_some, find};
 
 use std::marker::Model;
 
+/// The bytes of a page.
+pub const PAGE_SIZE: u32 = 512;
+
 /// Pages that follow one another: `count` of them from the page number `first` on, which is an address divided by 512.
 /// `place` is where a read-only range's first byte stands in the code of its `Pages`, and 0 for a writable range.
 #[derive(Clone, Copy, Debug, PartialEq, Eq)]
@@ -51,7 +54,7 @@ impl Pages {
     pub fn allowed(&self, address: u32, write: bool) -> bool
         ensures { result ≡ is_allowed self.now address write }
     {
-        let page = address / 512;
+        let page = address / PAGE_SIZE;
         self.ranges
             .iter()
             .any(|r| r.has(page) && (!write || r.writable))
@@ -64,14 +67,14 @@ impl Pages {
     {
         let code = &self.code;
         let range = self.code_range(address)?;
-        let place = range.place + (address - 512 * range.first);
+        let place = range.place + (address - PAGE_SIZE * range.first);
         Some(code[place as usize])
     }
 
     fn code_range(&self, address: u32) -> Option<PageRange>
         ensures { result ≡ find (has_code address) self.now.ranges }
     {
-        let page = address / 512;
+        let page = address / PAGE_SIZE;
         self.ranges
             .iter()
             .find(|r| r.has(page) && !r.writable)

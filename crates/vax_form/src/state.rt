@@ -6,7 +6,14 @@ use std::alloc::AllocError;
 /// The processor status longword of a thread is this and its low word: user mode, now and before.
 pub const USER_MODE: u32 = 0x03C0_0000;
 
-/// A thread's processor state: R0 to R14 (R12 is AP, R13 FP, R14 SP), the PC, the low word of the processor status
+/// The argument pointer, the frame pointer and the stack pointer.
+pub const AP: u8 = 12;
+
+pub const FP: u8 = 13;
+
+pub const SP: u8 = 14;
+
+/// A thread's processor state: R0 to R14 (AP, FP and SP among them), the PC, the low word of the processor status
 /// (C is bit 0, V 1, Z 2, N 3, T 4, IV 5, FU 6, DV 7), the address of its handler, or 0 where it has none, and what it
 /// does before its next instruction.
 #[derive(Clone, Copy, Debug, PartialEq, Eq)]

@@ -1,7 +1,7 @@
 -- Procedure calls.
 -- VAX Architecture Reference Manual, "Procedure Call Instructions": CALLG, CALLS and RET, and the call frame.
 use Rattle.std.specs.Prelude.{ℕ, ◌+◌, ◌*◌, ◌/◌, ◌%◌, ◌^◌, ◌==◌, List, Bool, true, false}
-use Rattle.vax_form.specs.State.{register, with_register, with_psw}
+use Rattle.vax_form.specs.State.{register, with_register, with_psw, AP, FP, SP}
 use Rattle.vax_form.specs.Script.{Script, ◌>>=◌, ◌>>◌, pure, get, change, fail, when◌then◌else◌}
 use Rattle.vax_form.specs.declared.instr.Size.TheVariants.{Long}
 use Rattle.vax_form.specs.declared.instr.Instr.{Instr}
@@ -46,12 +46,12 @@ frame_status low stack mask psw = low * 2 ^ 30 + bit stack * 2 ^ 29 + mask % 409
 unfoldable pub push_frame : (pc : ℕ) → (stack : Bool) → (mask : ℕ) → Script (Unit {0})
 push_frame pc stack mask = do
   state ← get (λ state. state)
-  set_register 14 (aligned (register 14 state))
+  set_register SP (aligned (register SP state))
   push_registers 12 mask state
   push_checked pc
-  push_checked (register 13 state)
-  push_checked (register 12 state)
-  push_checked (frame_status (register 14 state % 4) stack mask state.psw)
+  push_checked (register FP state)
+  push_checked (register AP state)
+  push_checked (frame_status (register SP state % 4) stack mask state.psw)
   push_checked 0
 
 -- the PSW in a procedure: N, Z, V, C and FU are 0, DV is bit 15 of the mask, IV bit 14
@@ -61,9 +61,9 @@ entry_psw mask psw = psw / 256 * 256 + mask / 2 ^ 15 % 2 * 128 + mask / 2 ^ 14 %
 -- enters a procedure behind its mask: FP is SP, and AP is the address of the argument list
 unfoldable pub enter : (destination mask list : ℕ) → Script End
 enter destination mask list = do
-  frame ← get_register 14
-  set_register 13 frame
-  set_register 12 list
+  frame ← get_register SP
+  set_register FP frame
+  set_register AP list
   change (λ state. with_psw (entry_psw mask state.psw) state)
   go_to ((destination + 2) % 2 ^ 32)
 
@@ -72,7 +72,7 @@ unfoldable pub call_general : Instr → List Evaluated → Script End
 call_general instr values = do
   let destination = value_of_place values 1 Long
   mask ← entry_mask destination
-  top ← get_register 14
+  top ← get_register SP
   check_frame mask (aligned top)
   push_frame instr.after false mask
   enter destination mask (value_of_place values 0 Long)
@@ -82,7 +82,7 @@ unfoldable pub call_stack : Instr → List Evaluated → Script End
 call_stack instr values = do
   let destination = value_of_place values 1 Long
   mask ← entry_mask destination
-  top ← get_register 14
+  top ← get_register SP
   list ← check_push top
   check_frame mask (aligned list)
   push_checked (value_of_place values 0 Long)
@@ -91,7 +91,7 @@ call_stack instr values = do
 
 -- SP raised by so many bytes
 abbrev pub with_released : (bytes : ℕ) → VaxState → VaxState
-with_released bytes state = with_register 14 ((register 14 state + bytes) % 2 ^ 32) state
+with_released bytes state = with_register SP ((register SP state + bytes) % 2 ^ 32) state
 
 -- the argument list of CALLS goes: its count, and the longwords that the count's low byte says
 unfoldable pub release_arguments : (stack : Bool) → Script (Unit {0})
@@ -105,9 +105,9 @@ release_arguments stack =
 -- leaves a frame by its status, in reverse order
 unfoldable pub leave : (frame status : ℕ) → Script End
 leave frame status = do
-  set_register 14 ((frame + 8) % 2 ^ 32)
-  pop_register 12
-  pop_register 13
+  set_register SP ((frame + 8) % 2 ^ 32)
+  pop_register AP
+  pop_register FP
   pc ← pop
   pop_registers 12 0 (status / 2 ^ 16)
   change (with_released (status / 2 ^ 30))
@@ -118,7 +118,7 @@ leave frame status = do
 -- RET: the frame is at FP, and its status at FP + 4; bits 15:8 of the status are 0
 unfoldable pub return_from_procedure : Script End
 return_from_procedure = do
-  frame ← get_register 13
+  frame ← get_register FP
   longword ← fetch ((frame + 4) % 2 ^ 32) 4
   let status = low_bytes 4 longword
   when status / 256 % 256 == 0 then leave frame status else fail ReservedOperand

@@ -6,7 +6,7 @@ use Rattle.vax_form.specs.Exceptions.{vector_of, parameter_of, intent_of}
 use Rattle.vax_form.specs.Moments.{handled}
 use Rattle.vax_form.specs.Pages.{first_bad}
 use Rattle.vax_form.specs.Script.{Script, ◌>>=◌, ◌>>◌, get, change, fail, when◌then◌else◌}
-use Rattle.vax_form.specs.State.{register, with_psw, with_pending, user_mode, psl_of}
+use Rattle.vax_form.specs.State.{register, with_psw, with_pending, user_mode, psl_of, SP}
 use Rattle.vax_form.specs.Tree.{Tree, Fault, instruction_tree, unless_bad}
 use Rattle.vax_form.specs.declared.pages.Pages.{Pages}
 use Rattle.vax_form.specs.declared.script.End.{End}
@@ -29,7 +29,7 @@ frame_bytes = 20
 
 -- where the frame stands, below SP
 abbrev pub frame_address : VaxState → ℕ
-frame_address state = (register 14 state + (2 ^ 32 - frame_bytes)) % 2 ^ 32
+frame_address state = (register SP state + (2 ^ 32 - frame_bytes)) % 2 ^ 32
 
 -- goes on at an address with that PSW, and nothing pending
 unfoldable pub go_on : (pc psw : ℕ) → Script End
@@ -64,7 +64,7 @@ is_user_psl psl = psl / 256 * 256 == user_mode
 -- goes on as the frame at SP says, from its vector up: its PC, and the low byte of its processor status longword
 unfoldable pub resume : Script End
 resume = do
-  frame ← get_register 14
+  frame ← get_register SP
   check frame frame_bytes false
   vector ← pop_checked
   parameter ← pop_checked

@@ -1,7 +1,7 @@
 -- Lists of registers on the stack, by the bits of a mask.
 -- VAX Architecture Reference Manual, "Miscellaneous Instructions": PUSHR and POPR.
 use Rattle.std.specs.Prelude.{ℕ, zero, suc, ◌+◌, ◌-◌, ◌/◌, ◌%◌, ◌^◌, ◌==◌, List, Bool, true, false}
-use Rattle.vax_form.specs.State.{register}
+use Rattle.vax_form.specs.State.{register, SP}
 use Rattle.vax_form.specs.Script.{Script, ◌>>=◌, ◌>>◌, pure, get, when◌then◌else◌}
 use Rattle.vax_form.specs.declared.instr.Size.TheVariants.{Word}
 use Rattle.vax_form.specs.declared.instr.Instr.{Instr}
@@ -37,9 +37,9 @@ check_registers (suc number) mask top = do
 -- pushes a longword whose place was checked: SP is lowered by 4
 unfoldable pub push_checked : (value : ℕ) → Script (Unit {0})
 push_checked value = do
-  top ← get_register 14
+  top ← get_register SP
   write (below top) 4 value
-  set_register 14 (below top)
+  set_register SP (below top)
 
 -- pushes the registers below that number by a mask, highest first, with the values that a state has
 unfoldable pub push_registers : (number mask : ℕ) → VaxState → Script (Unit {0})
@@ -51,15 +51,15 @@ push_registers (suc number) mask values = do
 -- pops a longword whose place was checked: SP is raised by 4
 unfoldable pub pop_checked : Script ℕ
 pop_checked = do
-  top ← get_register 14
+  top ← get_register SP
   value ← read top 4
-  set_register 14 ((top + 4) % 2 ^ 32)
+  set_register SP ((top + 4) % 2 ^ 32)
   pure (low_bytes 4 value)
 
 -- checks and pops a longword
 unfoldable pub pop : Script ℕ
 pop = do
-  top ← get_register 14
+  top ← get_register SP
   check top 4 false
   pop_checked
 
@@ -81,7 +81,7 @@ unfoldable pub push_by_mask : Instr → List Evaluated → Script End
 push_by_mask instr values = do
   let mask = value_of_place values 0 Word
   state ← get (λ state. state)
-  check_registers 15 mask (register 14 state)
+  check_registers 15 mask (register SP state)
   push_registers 15 mask state
   go_to instr.after
 

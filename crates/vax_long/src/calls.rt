@@ -8,7 +8,7 @@ use crate::registers::{
     check_push, check_registers, is_in_mask, pop, pop_register, pop_registers, push_checked,
     push_registers,
 };
-use vax_form::{End, Exception, Instr, Size, Stop};
+use vax_form::{AP, End, Exception, FP, Instr, SP, Size, Stop};
 use vax_meaning::{
     Cursor, Evaluated, code_word, fetch, go_to, low_bytes, register_of, set_register_of,
     value_of_place,
@@ -65,12 +65,12 @@ fn push_frame(cursor: &mut Cursor, pc: u32, stack: bool, mask: u32) -> Result<()
     ensures few { Uses 34 cursor.old result cursor.new }
 {
     let state = cursor.state;
-    let top = state.register(14);
-    set_register_of(cursor, 14, aligned(top));
+    let top = state.register(SP);
+    set_register_of(cursor, SP, aligned(top));
     push_registers(cursor, 12, mask, &state)?;
     push_checked(cursor, pc)?;
-    push_checked(cursor, state.register(13))?;
-    push_checked(cursor, state.register(12))?;
+    push_checked(cursor, state.register(FP))?;
+    push_checked(cursor, state.register(AP))?;
     push_checked(cursor, frame_status(top % 4, stack, mask, state.psw))?;
     push_checked(cursor, 0)
 }
@@ -90,9 +90,9 @@ pub fn enter(cursor: &mut Cursor, destination: u32, mask: u32, list: u32) -> Res
     ensures plays { Plays (enter destination mask list) cursor.old result cursor.new }
     ensures few { Uses 0 cursor.old result cursor.new }
 {
-    let frame = register_of(cursor, 14);
-    set_register_of(cursor, 13, frame);
-    set_register_of(cursor, 12, list);
+    let frame = register_of(cursor, SP);
+    set_register_of(cursor, FP, frame);
+    set_register_of(cursor, AP, list);
     cursor.state.psw = entry_psw(mask, cursor.state.psw);
     go_to(cursor, destination.wrapping_add(2))
 }
@@ -109,7 +109,7 @@ pub fn call_general(
 {
     let destination = value_of_place(values, 1, Size::Long) as u32;
     let mask = entry_mask(cursor, destination)?;
-    let top = register_of(cursor, 14);
+    let top = register_of(cursor, SP);
     check_frame(cursor, mask, aligned(top))?;
     push_frame(cursor, instr.after, false, mask)?;
     let list = value_of_place(values, 0, Size::Long) as u32;
@@ -124,7 +124,7 @@ pub fn call_stack(cursor: &mut Cursor, instr: &Instr, values: &[Evaluated; 6]) -
 {
     let destination = value_of_place(values, 1, Size::Long) as u32;
     let mask = entry_mask(cursor, destination)?;
-    let top = register_of(cursor, 14);
+    let top = register_of(cursor, SP);
     let list = check_push(cursor, top)?;
     check_frame(cursor, mask, aligned(list))?;
     push_checked(cursor, value_of_place(values, 0, Size::Long) as u32)?;
@@ -136,8 +136,8 @@ pub fn call_stack(cursor: &mut Cursor, instr: &Instr, values: &[Evaluated; 6]) -
 pub fn release(cursor: &mut Cursor, bytes: u32)
     ensures { view cursor.new ≡ changed (with_released bytes) (view cursor.old) }
 {
-    let top = register_of(cursor, 14);
-    set_register_of(cursor, 14, top.wrapping_add(bytes));
+    let top = register_of(cursor, SP);
+    set_register_of(cursor, SP, top.wrapping_add(bytes));
 }
 
 /// Takes the argument list of CALLS off the stack.
@@ -159,9 +159,9 @@ fn leave(cursor: &mut Cursor, frame: u32, status: u32) -> Result<End, Stop>
     ensures plays { Plays (leave frame status) cursor.old result cursor.new }
     ensures few { Uses 32 cursor.old result cursor.new }
 {
-    set_register_of(cursor, 14, frame.wrapping_add(8));
-    pop_register(cursor, 12)?;
-    pop_register(cursor, 13)?;
+    set_register_of(cursor, SP, frame.wrapping_add(8));
+    pop_register(cursor, AP)?;
+    pop_register(cursor, FP)?;
     let pc = pop(cursor)?;
     pop_registers(cursor, 12, status / 0x1_0000)?;
     release(cursor, status / 0x4000_0000);
@@ -176,7 +176,7 @@ pub fn return_from_procedure(cursor: &mut Cursor) -> Result<End, Stop>
     ensures plays { Plays return_from_procedure cursor.old result cursor.new }
     ensures few { Uses 34 cursor.old result cursor.new }
 {
-    let frame = register_of(cursor, 13);
+    let frame = register_of(cursor, FP);
     let longword = fetch(cursor, frame.wrapping_add(4), 4)?;
     let status = low_bytes(4, longword) as u32;
     if status / 256 % 256 == 0 {

@@ -9,7 +9,7 @@ ghost use Rattle.vax_long.specs.Pending.{frame_address, frame_bytes, go_on, push
 use crate::bytes::{check_string, first_bad};
 use crate::meaning::seen_of;
 use crate::registers::{pop_checked, push_checked};
-use vax_form::{End, Exception, Outcome, Pages, Pending, Stop, USER_MODE, VaxState};
+use vax_form::{End, Exception, Outcome, Pages, Pending, SP, Stop, USER_MODE, VaxState};
 use vax_meaning::{Cursor, go_to, register_of};
 
 /// The frame of an exception: five longwords.
@@ -19,7 +19,7 @@ const FRAME_BYTES: u16 = 20;
 pub fn frame_is_allowed(state: &VaxState, pages: &Pages) -> bool
     ensures { result ≡ is_none (first_bad pages.now true (frame_address state.now) frame_bytes) }
 {
-    let frame = state.register(14).wrapping_sub(FRAME_BYTES as u32);
+    let frame = state.register(SP).wrapping_sub(FRAME_BYTES as u32);
     first_bad(pages, frame, FRAME_BYTES, true).is_none()
 }
 
@@ -62,7 +62,7 @@ pub fn resume(cursor: &mut Cursor) -> Result<End, Stop>
     ensures plays { Plays resume cursor.old result cursor.new }
     ensures few { Uses 10 cursor.old result cursor.new }
 {
-    let frame = register_of(cursor, 14);
+    let frame = register_of(cursor, SP);
     check_string(cursor, frame, FRAME_BYTES, false)?;
     pop_checked(cursor)?;
     pop_checked(cursor)?;

@@ -4,7 +4,7 @@ ghost use Rattle.vax_form.specs.Script.{pure, when◌then◌else◌};
 ghost use Rattle.vax_meaning.specs.Play.{Plays, Uses};
 ghost use Rattle.vax_long.specs.Registers.{is_in_mask, below, check_push, check_registers, push_checked, push_registers, pop_checked, pop, pop_register, pop_registers, push_by_mask, pop_by_mask};
 
-use vax_form::{End, Instr, Size, Stop, VaxState};
+use vax_form::{End, Instr, SP, Size, Stop, VaxState};
 use vax_meaning::{
     Cursor, Evaluated, check, go_to, low_bytes, read, register_of, set_register_of, value_of_place,
     write,
@@ -62,9 +62,9 @@ pub fn push_checked(cursor: &mut Cursor, value: u32) -> Result<(), Stop>
     ensures plays { Plays (push_checked value) cursor.old result cursor.new }
     ensures few { Uses 2 cursor.old result cursor.new }
 {
-    let top = register_of(cursor, 14).wrapping_sub(4);
+    let top = register_of(cursor, SP).wrapping_sub(4);
     write(cursor, top, 4, value as u64)?;
-    set_register_of(cursor, 14, top);
+    set_register_of(cursor, SP, top);
     Ok(())
 }
 
@@ -105,9 +105,9 @@ pub fn pop_checked(cursor: &mut Cursor) -> Result<u32, Stop>
     ensures plays { Plays pop_checked cursor.old result cursor.new }
     ensures few { Uses 2 cursor.old result cursor.new }
 {
-    let top = register_of(cursor, 14);
+    let top = register_of(cursor, SP);
     let value = read(cursor, top, 4)?;
-    set_register_of(cursor, 14, top.wrapping_add(4));
+    set_register_of(cursor, SP, top.wrapping_add(4));
     Ok(low_bytes(4, value) as u32)
 }
 
@@ -117,7 +117,7 @@ pub fn pop(cursor: &mut Cursor) -> Result<u32, Stop>
     ensures plays { Plays pop cursor.old result cursor.new }
     ensures few { Uses 2 cursor.old result cursor.new }
 {
-    check(cursor, register_of(cursor, 14), 4, false)?;
+    check(cursor, register_of(cursor, SP), 4, false)?;
     pop_checked(cursor)
 }
 
@@ -169,7 +169,7 @@ pub fn push_by_mask(
 {
     let mask = value_of_place(values, 0, Size::Word) as u32;
     let state = cursor.state;
-    check_registers(cursor, 15, mask, state.register(14))?;
+    check_registers(cursor, 15, mask, state.register(SP))?;
     push_registers(cursor, 15, mask, &state)?;
     go_to(cursor, instr.after)
 }

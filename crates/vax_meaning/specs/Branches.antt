@@ -1,6 +1,7 @@
 -- Branches, jumps and subroutines.
 -- VAX Architecture Reference Manual, "Control Instructions"; the entry is named at each.
 use Rattle.std.specs.Prelude.{ℕ, ◌+◌, ◌*◌, ◌%◌, ◌^◌, nat_le, nat_lt, int_lt, int_le, ◌==◌, List, Bool, true, false, not, ◌&&◌, ◌||◌, if◌then◌else◌}
+use Rattle.vax_form.specs.State.{SP}
 use Rattle.vax_form.specs.Size.{bytes_of, size_of}
 use Rattle.vax_form.specs.Script.{Script, ◌>>=◌, ◌>>◌, get, change, when◌then◌else◌}
 use Rattle.vax_form.specs.declared.instr.Size.TheVariants.{Long}
@@ -121,9 +122,9 @@ jump values = go_to (value_of_place values 0 Long)
 -- RSB: pops the PC
 unfoldable pub return_from_subroutine : Script End
 return_from_subroutine = do
-  top ← get_register 14
+  top ← get_register SP
   pc ← fetch top 4
-  set_register 14 ((top + 4) % 2 ^ 32)
+  set_register SP ((top + 4) % 2 ^ 32)
   go_to (low_bytes 4 pc)
 
 -- a signed word as a longword

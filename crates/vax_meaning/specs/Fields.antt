@@ -1,6 +1,7 @@
 -- Variable-length bit fields.
 -- VAX Architecture Reference Manual, "Variable-Length Bit Field Instructions"; the entry is named at each.
 use Rattle.std.specs.Prelude.{ℕ, ◌+◌, ◌-◌, ◌*◌, ◌/◌, ◌%◌, ◌^◌, nat_lt, nat_le, ◌==◌, List, Bool, true, false, not, ◌&&◌, ◌||◌, if◌then◌else◌}
+use Rattle.vax_form.specs.State.{SP}
 use Rattle.vax_form.specs.Script.{Script, ◌>>=◌, ◌>>◌, pure, fail, when◌then◌else◌}
 use Rattle.vax_form.specs.declared.instr.Size.TheVariants.{Byte, Long, Quad}
 use Rattle.vax_form.specs.declared.instr.Instr.{Instr}
@@ -41,7 +42,7 @@ field_bytes position size = (position % 8 + size + 7) / 8
 
 -- in registers a field begins in the first one, and runs on into the next, but not from R14
 abbrev pub is_outside : Location → (position size : ℕ) → Bool
-is_outside (InRegister n) position size = not (size == 0) && (nat_lt 31 position || (n == 14 && nat_lt 32 (position + size)))
+is_outside (InRegister n) position size = not (size == 0) && (nat_lt 31 position || (n == SP && nat_lt 32 (position + size)))
 is_outside (InMemory base) position size = false
 
 -- the value of a field; one of size 0 makes no reference, and is 0

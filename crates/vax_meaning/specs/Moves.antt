@@ -3,7 +3,7 @@
 -- "Miscellaneous Instructions"; the entry is named at each.
 use Rattle.std.specs.Prelude.{ℕ, ◌+◌, ◌-◌, ◌%◌, ◌^◌, nat_lt, int_lt, ◌==◌, List, Bool, true, false, bit_and, bit_or, if◌then◌else◌}
 use Rattle.vax_form.specs.Size.{bytes_of, size_of}
-use Rattle.vax_form.specs.State.{with_psw, psl_of}
+use Rattle.vax_form.specs.State.{with_psw, psl_of, SP}
 use Rattle.vax_form.specs.Script.{Script, ◌>>=◌, ◌>>◌, get, change, fail, when◌then◌else◌}
 use Rattle.vax_form.specs.declared.instr.Size.{Size}
 use Rattle.vax_form.specs.declared.instr.Size.TheVariants.{Word, Long}
@@ -54,11 +54,11 @@ move_zero_extended instr from to values = do
 -- pushes a longword: SP is lowered by 4
 unfoldable pub push : ℕ → Script (Unit {0})
 push value = do
-  stack ← get_register 14
+  stack ← get_register SP
   let top = (stack + (2 ^ 32 - 4)) % 2 ^ 32
   check top 4 true
   write top 4 value
-  set_register 14 top
+  set_register SP top
 
 -- PUSHL and PUSHA
 unfoldable pub push_value : Instr → List Evaluated → Script End

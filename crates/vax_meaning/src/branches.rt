@@ -12,7 +12,7 @@ use crate::evaluation::{Evaluated, location_of_place, value_of_place};
 use crate::memory::{code_word, fetch, low_bytes};
 use crate::moves::{push, set_compared};
 use crate::operands::{put, register_of, set_register_of};
-use vax_form::{Condition, End, Instr, Operand, Size, Stop, Width};
+use vax_form::{Condition, End, Instr, Operand, SP, Size, Stop, Width};
 use vt_words::{Coded, add, signed, sub};
 
 /// Where a branch goes: the target of its operand, 0 for an operand of another kind.
@@ -261,9 +261,9 @@ pub fn return_from_subroutine(cursor: &mut Cursor) -> Result<End, Stop>
     ensures plays { Plays return_from_subroutine cursor.old result cursor.new }
     ensures few { Uses 2 cursor.old result cursor.new }
 {
-    let top = register_of(cursor, 14);
+    let top = register_of(cursor, SP);
     let pc = fetch(cursor, top, 4)?;
-    set_register_of(cursor, 14, top.wrapping_add(4));
+    set_register_of(cursor, SP, top.wrapping_add(4));
     go_to(cursor, low_bytes(4, pc) as u32)
 }
 

@@ -10,7 +10,7 @@ use crate::evaluation::{Evaluated, location_of_place, value_of_place};
 use crate::memory::{check, fetch, lock, low_bytes, read, write};
 use crate::moves::give;
 use crate::operands::{Location, put};
-use vax_form::{BitBranch, BitStore, End, Exception, Instr, RefKind, Size, Stop};
+use vax_form::{BitBranch, BitStore, End, Exception, Instr, RefKind, SP, Size, Stop};
 use vt_words::shift_right;
 
 /// So many bits of a number, from a bit on.
@@ -67,7 +67,7 @@ fn is_outside(location: Location, position: u64, size: u32) -> bool
 {
     match location {
         Location::InRegister(number) => {
-            size != 0 && (position > 31 || number == 14 && position + size as u64 > 32)
+            size != 0 && (position > 31 || number == SP && position + size as u64 > 32)
         }
         Location::InMemory(_) => false,
     }

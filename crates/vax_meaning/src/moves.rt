@@ -10,7 +10,7 @@ use crate::cursor::Cursor;
 use crate::evaluation::{Evaluated, location_of_place, value_of_place};
 use crate::memory::{check, write};
 use crate::operands::{register_of, set_register_of, store};
-use vax_form::{End, Exception, Instr, Size, Stop, Width};
+use vax_form::{End, Exception, Instr, SP, Size, Stop, Width};
 use vt_words::{and, complement, signed};
 
 /// Writes a result to the operand of that place, and sets the codes by it.
@@ -118,10 +118,10 @@ pub fn push(cursor: &mut Cursor, value: u64) -> Result<(), Stop>
     ensures plays { Plays (push value) cursor.old result cursor.new }
     ensures few { Uses 2 cursor.old result cursor.new }
 {
-    let top = register_of(cursor, 14).wrapping_sub(4);
+    let top = register_of(cursor, SP).wrapping_sub(4);
     check(cursor, top, 4, true)?;
     write(cursor, top, 4, value)?;
-    set_register_of(cursor, 14, top);
+    set_register_of(cursor, SP, top);
     Ok(())
 }
 

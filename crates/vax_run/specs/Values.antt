@@ -4,6 +4,7 @@ use Rattle.std.specs.List.{flat_map}
 use Rattle.image_file.specs.Memory.{byte_in}
 use Rattle.image_file.specs.Start.{start_state}
 use Rattle.image_file.specs.Values.{ImageValue}
+use Rattle.vax_form.specs.PageTable.{page_size}
 use Rattle.vax_form.specs.declared.pages.PageRange.{PageRange}
 use Rattle.vax_form.specs.declared.state.Pick.{Pick}
 use Rattle.vax_form.specs.declared.state.Reference.{Reference}
@@ -32,7 +33,7 @@ addresses_from address (suc count) = address ∷ addresses_from (address + 1) co
 
 -- every address of the pages, in rising order
 abbrev pub addresses_of : List PageRange → List ℕ
-addresses_of ranges = flat_map (λ (range : PageRange). addresses_from (512 * range.first) (512 * range.count)) ranges
+addresses_of ranges = flat_map (λ (range : PageRange). addresses_from (page_size * range.first) (page_size * range.count)) ranges
 
 -- the references in order, each byte of the image's pages with its address, the bytes that were put, and the threads
 pub record RunValue : Type 0 where

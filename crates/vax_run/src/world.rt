@@ -1,5 +1,6 @@
 // All driven threads with their memory.
 ghost use Rattle.std.specs.Prelude.{◌≡◌, ◌≤◌, ◌+◌, ◌*◌, ◌++◌, [], List, length, option_map, reverse, map, IfOk, OnOk};
+ghost use Rattle.vax_form.specs.PageTable.{page_size};
 ghost use Rattle.vax_driven.specs.Driven.{picked, runs_from, walk};
 ghost use Rattle.vax_meaning.specs.Made.{Made};
 ghost use Rattle.vax_run.specs.Values.{addresses_from, threads_of, world_of};
@@ -11,7 +12,7 @@ use crate::thread::Thread;
 use image_file::Image;
 use std::alloc::{AllocError, Global};
 use vax_driven::ThreadRun;
-use vax_form::{PageRange, Pick, Reference};
+use vax_form::{PAGE_SIZE, PageRange, Pick, Reference};
 
 /// Threads on their way along an order: each of them, what their references left, and the references themselves.
 #[derive(Drop)]
@@ -113,10 +114,10 @@ impl World {
         range: &PageRange,
     ) -> Result<(), AllocError>
         requires { range.now.first + range.now.count ≤ 4194304 }
-        ensures { OnOk result (bytes.new.items ≡ bytes.old.items ++ map (pair_at image.now self.now.memory) (addresses_from (512 * range.now.first) (512 * range.now.count))) }
+        ensures { OnOk result (bytes.new.items ≡ bytes.old.items ++ map (pair_at image.now self.now.memory) (addresses_from (page_size * range.now.first) (page_size * range.now.count))) }
     {
-        for place in 0..512 * range.count {
-            let address = 512 * range.first + place;
+        for place in 0..PAGE_SIZE * range.count {
+            let address = PAGE_SIZE * range.first + place;
             bytes.push((address, self.memory.byte(image, address)))?;
         }
         Ok(())
