@@ -1,7 +1,7 @@
 // Blocks beside those that were worked out by hand.
 use crate::blocks::{BlockCode, Site, encoded_block};
 use crate::forms::{opcode, program};
-use crate::sets::lettered;
+use crate::sets::named;
 use anyhow::{Context, Result};
 use exception_records::{Point, Rules};
 use row_tally::{Tally, five_fields_and_rest};
@@ -66,7 +66,7 @@ fn points_text(
 fn block_of(alloc: Global, name: &str, live: &str, text: &str) -> Result<BlockCode> {
     let opcode = opcode(name)?.context("an opcode")?;
     let program = program(alloc, text)?;
-    encoded_block(alloc, Site::HERE, opcode, &program, lettered(live))
+    encoded_block(alloc, Site::HERE, opcode, &program, named(live)?)
 }
 
 /// Checks the words, the exits and the points of a row.

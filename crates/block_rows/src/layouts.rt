@@ -3,14 +3,13 @@ ghost use Rattle.std.specs.Prelude.{IfOk, false};
 ghost use Rattle.block_law.specs.Blocks.{IsBlockOf};
 
 use crate::blocks::{Site, made};
-use crate::sets::lettered;
 use anyhow::{Result, bail};
 use branch_layout::lay_out;
 use exception_records::{Block, Point};
 use micro_ops::{Arg, Exit, Micro, MicroOp};
 use row_tally::Tally;
 use std::alloc::Global;
-use vax_form::Size;
+use vax_form::{Flags, Size};
 
 /// Words, the map's pairs, and the points.
 type Code = (Vec<u32>, Vec<(u32, u32)>, Vec<(u32, Point)>);
@@ -51,7 +50,7 @@ fn block_at(alloc: Global, at: u32, program: &[Micro]) -> Result<Block>
     ensures { IfOk result (IsBlockOf false at) }
 {
     let site = Site { at, after: at };
-    let (block, _) = made(alloc, site, NOP, program, lettered("-"))?;
+    let (block, _) = made(alloc, site, NOP, program, Flags::NONE)?;
     Ok(block)
 }
 

@@ -1,5 +1,5 @@
 // The codes that are live behind each instruction of a run.
-use crate::sets::lettered;
+use crate::sets::named;
 use anyhow::{Context, Result};
 use cc_liveness::{CodeUse, code_use, live};
 use row_tally::{Tally, bytes, pieces, two_fields};
@@ -22,10 +22,10 @@ fn found(alloc: Global, digits: &str) -> Result<Vec<Flags>> {
     Ok(live(alloc, run.as_slice()).map_err(|_| AllocError)?)
 }
 
-fn sets(alloc: Global, text: &str) -> Result<Vec<Flags>, AllocError> {
+fn sets(alloc: Global, text: &str) -> Result<Vec<Flags>> {
     let mut sets = Vec::new(alloc);
     for letters in &pieces(alloc, text)? {
-        sets.push(lettered(letters))?;
+        sets.push(named(letters)?)?;
     }
     Ok(sets)
 }

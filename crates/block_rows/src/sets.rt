@@ -1,4 +1,5 @@
 // Sets of condition codes.
+use row_tally::{RowFault, condition_codes};
 use vax_form::Flags;
 
 /// How many sets there are.
@@ -14,12 +15,8 @@ pub fn set(number: u8) -> Flags {
     }
 }
 
-/// The set with these letters; `-` is the empty one.
-pub fn lettered(letters: &str) -> Flags {
-    Flags {
-        n: letters.contains('N'),
-        z: letters.contains('Z'),
-        v: letters.contains('V'),
-        c: letters.contains('C'),
-    }
+/// The set that letters name.
+pub fn named(letters: &str) -> Result<Flags, RowFault> {
+    let [n, z, v, c] = condition_codes(letters)?;
+    Ok(Flags { n, z, v, c })
 }

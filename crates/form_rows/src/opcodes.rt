@@ -2,7 +2,7 @@
 use crate::names::{cut, is_name_of};
 use anyhow::{Result, bail, ensure};
 use cc_liveness::{CodeUse, code_use};
-use row_tally::{Tally, longword};
+use row_tally::{Tally, condition_codes, longword};
 use vax_form::{Access, Class, Flags, Row, Size, class_of, is_long, operation_of, row_of};
 
 /// What an opcode is, beside its name.
@@ -49,14 +49,10 @@ fn class_named(word: &str) -> Result<(Class, bool)> {
     }
 }
 
-/// The codes with these letters; `-` is none.
-fn codes(letters: &str) -> Flags {
-    Flags {
-        n: letters.contains('N'),
-        z: letters.contains('Z'),
-        v: letters.contains('V'),
-        c: letters.contains('C'),
-    }
+/// The codes that letters name.
+fn codes(letters: &str) -> Result<Flags> {
+    let [n, z, v, c] = condition_codes(letters)?;
+    Ok(Flags { n, z, v, c })
 }
 
 /// Whether an instruction ends, by the word for it.
@@ -116,8 +112,8 @@ fn row_with(operands: &str) -> Result<Row> {
 
 fn uses_of(reads: &str, writes: &str, end: &str) -> Result<CodeUse> {
     Ok(CodeUse {
-        reads: codes(reads),
-        writes: codes(writes),
+        reads: codes(reads)?,
+        writes: codes(writes)?,
         ends: ends(end)?,
     })
 }

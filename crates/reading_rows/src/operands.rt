@@ -1,7 +1,7 @@
 // Questions about one operand specifier.
 ghost use Rattle.std.specs.Prelude.{◌≤◌, length, IfOk};
 
-use crate::lists::bytes_of;
+use crate::lists::{bytes_of, size_of};
 use crate::spelling::Spelling;
 use anyhow::{Result, bail};
 use operand_specifiers::{SpecFault, read_spec};
@@ -24,16 +24,6 @@ fn access_of(word: &str) -> Result<Access> {
         "field" => Access::Field,
         "branch" => Access::Branch,
         _ => bail!("no access: {word}"),
-    })
-}
-
-fn size_of(word: &str) -> Result<Size> {
-    Ok(match word {
-        "byte" => Size::Byte,
-        "word" => Size::Word,
-        "longword" => Size::Long,
-        "quadword" => Size::Quad,
-        _ => bail!("no size: {word}"),
     })
 }
 

@@ -1,9 +1,9 @@
 // Questions about points, rules and what registers show.
-use crate::lists::cut;
+use crate::lists::{cut, size_of};
 use crate::texts::{no_question, number_text, refusal_text, yes_or_no};
 use anyhow::{Result, bail, ensure};
 use exception_records::{CodeRule, Point, Rules, build, codes_shown, shown};
-use row_tally::{Given, four_fields, longword, number, pairs, two_fields};
+use row_tally::{Given, condition_codes, four_fields, longword, number, pairs, two_fields};
 use std::alloc::{AllocError, Global};
 use vax_form::{Flags, Size, VaxState};
 
@@ -25,14 +25,10 @@ fn point(vax_pc: u32, raises: u8) -> Point {
     }
 }
 
-/// The codes that are named in a text.
-fn flags(text: &str) -> Flags {
-    Flags {
-        n: text.contains("N"),
-        z: text.contains("Z"),
-        v: text.contains("V"),
-        c: text.contains("C"),
-    }
+/// The codes that letters name.
+fn flags(letters: &str) -> Result<Flags> {
+    let [n, z, v, c] = condition_codes(letters)?;
+    Ok(Flags { n, z, v, c })
 }
 
 fn name_if(is_set: bool, name: &'static str) -> &'static str {
@@ -48,16 +44,6 @@ fn flags_text(alloc: Global, flags: Flags) -> Result<String, AllocError> {
     let (n, z) = (name_if(n, "N"), name_if(z, "Z"));
     let (v, c) = (name_if(v, "V"), name_if(c, "C"));
     format!(in alloc; "{n}{z}{v}{c}")
-}
-
-fn size_of(word: &str) -> Result<Size> {
-    Ok(match word {
-        "byte" => Size::Byte,
-        "word" => Size::Word,
-        "long" => Size::Long,
-        "quad" => Size::Quad,
-        _ => bail!("no size: {word}"),
-    })
 }
 
 fn rule_of(word: &str, size: Size) -> Result<CodeRule> {
@@ -177,7 +163,7 @@ fn shown_by(alloc: Global, rules: &Rules, held: &Flags) -> Result<String> {
 
 fn shown_text(alloc: Global, rest: &str) -> Result<String> {
     let (rules, held) = two_fields(rest)?;
-    shown_by(alloc, &rules_of(rules)?, &flags(held))
+    shown_by(alloc, &rules_of(rules)?, &flags(held)?)
 }
 
 /// Answers `find POINTS WORD`, `raises OFFSET`, `codes RULE SIZE FIRST SECOND`, `ready RULE` and `shown RULES HELD`.
