@@ -1,7 +1,6 @@
 -- An access in place is the turn of a processor that goes on, within its budget.
 use Rattle.std.proofs.Common.{◌≡◌, false, None, refl, sym, ap, ◌∙◌, subst, arith}
 use Rattle.std.specs.Prelude.{MatchBool}
-use Rattle.std.proofs.lemmas.Bool.Decides.{nat_tests}
 use Rattle.vt_words.proofs.Tests.{less_differs}
 use Rattle.image_file.specs.Values.{ImageValue}
 use Rattle.system_model.specs.Legal.{spent}
