@@ -1,6 +1,5 @@
 -- What the file and the input decide on a run.
 use Rattle.std.proofs.Common.{◌≡◌, ℕ, List, ◌++◌, length, false, nat_lt, Option, None, Some, ap, ◌∙◌, subst, append-nil, inl, inr, Result, Ok, Err, IfErr, IfOk}
-use Rattle.std.proofs.lemmas.Bool.Decides.{nat_tests}
 use Rattle.std.specs.Io.KnownBytes.{Consumes, IsAtEnd}
 use Rattle.std.proofs.lemmas.Bool.{lt-ltb, le-ltb}
 use Rattle.vt_outside.specs.Desk.{DeskMeaning, Files}

@@ -1,4 +1,4 @@
-// Runs an image with its translation, and keeps the run.
+// Runs an image with its translation.
 ghost use Rattle.std.specs.Prelude.{◌≡◌, IfOk, map};
 ghost use Rattle.image_file.specs.Whole.{IsWhole};
 ghost use Rattle.block_law.specs.Translations.{Meets};
@@ -6,10 +6,9 @@ ghost use Rattle.image_meaning.specs.Meant.{image_meaning};
 ghost use Rattle.tie_switch.specs.Processors.{processor_of};
 ghost use Rattle.tie_switch.specs.Settings.{image_setting};
 ghost use Rattle.vest_runs.specs.Threads.{HasRun};
-ghost use Rattle.vest_runs.specs.Keeping.{HasKept, running_of};
+ghost use Rattle.vest_runs.specs.Keeping.{running_of};
 ghost use Rattle.vest_runs.specs.Made.{HasMade};
 
-use crate::kept::Kept;
 use crate::threads::run_all;
 use command_words::Limits;
 use image_file::Image;
@@ -106,35 +105,4 @@ pub fn execute<R: Threads + Wait + Sync, G: Gate + Sync>(
         memory,
         processors,
     })
-}
-
-/// Keeps a run. It takes no memory.
-pub fn keep(run: Run, kept: &mut Kept)
-    requires { HasMade run }
-    ensures kept { HasKept run.task.loaded.image run.task.loaded.translation run.task.taken.items run.task.limits run.task.ranges.items kept.new }
-    ensures history { kept.new.history ≡ run.memory.history }
-    ensures processors { kept.new.processors ≡ run.processors.items }
-{
-    let Run {
-        task,
-        memory,
-        processors,
-    } = run;
-    let Task {
-        loaded,
-        taken,
-        limits,
-        ranges,
-    } = task;
-    *kept = Kept {
-        image: Some(loaded.image),
-        input: taken,
-        history: memory.take_history(),
-        processors,
-        budget: limits.budget,
-        limit: limits.events,
-        miss: limits.miss,
-        translation: Some(loaded.translation),
-        ranges,
-    };
 }

@@ -1,101 +1,19 @@
 // The command `generate`.
-ghost use Rattle.std.specs.Prelude.{◌≡◌, ◌≤◌, IfOk, IfErr, []};
-ghost use Rattle.image_file.specs.Whole.{IsWhole};
-ghost use Rattle.report_text.specs.Generated.{generated_image};
-ghost use Rattle.vest_files.specs.Stages.{IsTranslated};
-ghost use Rattle.vest_runs.specs.Generate.{Generates, default_limits, lines_of, memory_sum};
+ghost use Rattle.std.specs.Prelude.{◌≡◌, ◌≤◌, IfOk, IfErr};
+ghost use Rattle.vest_runs.specs.Generate.{Generates};
 ghost use Rattle.vest_runs.specs.Kept.{nothing_kept};
 
 use crate::deliver::deliver;
-use crate::execute::{Run, Task, execute, keep};
+use crate::execute::execute;
+use crate::generated::{lines_of, task_of};
+use crate::keeping::keep;
 use crate::kept::Kept;
-use command_words::Limits;
-use generated_flow::reaches_few;
-use image_file::Image;
-use memory_core::MemState;
-use report_text::{Line, MOST_GROUPS, generated, generated_bytes, generated_lines};
+use report_text::MOST_GROUPS;
 use std::alloc::Global;
 use std::sync::Wait;
 use std::thread::Threads;
-use system_model::Translation;
-use translate::{Target, TranslateRefusal, translate};
-use vax_form::WantOfMemory;
-use vest_files::{Done, Loaded, Stop};
+use vest_files::{Done, Stop};
 use vt_outside::{Gate, Sink};
-
-/// The limits of a run where no option gives others.
-const DEFAULT_LIMITS: Limits = Limits {
-    budget: 100_000_000,
-    events: 4_194_304,
-    miss: 0,
-};
-
-/// Where the writable section of a generated image begins.
-const MEMORY: u32 = 0x1000;
-
-/// The bytes of that section.
-const MEMORY_BYTES: u32 = 2048;
-
-// The translation of the number's image, whose flow is never refused.
-fn translated(alloc: Global, number: u32, image: &Image) -> Result<Translation, WantOfMemory>
-    requires few { number ≤ MOST_GROUPS }
-    requires image { image.now ≡ generated_image number }
-    ensures { IfOk result (IsTranslated image.now []) }
-{
-    reaches_few();
-    match translate(alloc, image, &[], Target::Original) {
-        Ok(translation) => Ok(translation),
-        Err(TranslateRefusal::WantOfMemory) => Err(WantOfMemory),
-        Err(TranslateRefusal::Flow { .. }) => unreachable!(),
-    }
-}
-
-// The sum of the bytes of that section.
-fn memory_sum(memory: &MemState) -> u32
-    ensures { result ≡ memory_sum memory.now.set_up memory.now.history }
-{
-    let mut sum = 0;
-    for place in 0..MEMORY_BYTES {
-        sum += u32::from(memory.byte(MEMORY + place).unwrap_or(0));
-    }
-    sum
-}
-
-// What `out` takes.
-fn lines_of(number: u32, run: &Run) -> Line
-    requires few { number ≤ MOST_GROUPS }
-    ensures { result ≡ lines_of number run.now.task.loaded.translation run.now.memory.set_up run.now.memory.history }
-{
-    let translation = &run.task.loaded.translation;
-    let map = &translation.map;
-    let mapped = map.pairs().len() as u64;
-    generated_lines(
-        number,
-        generated_bytes(number),
-        mapped,
-        memory_sum(&run.memory),
-    )
-}
-
-// What `generate` runs: the number's image with its translation, without input, within the default limits.
-fn task_of(alloc: Global, number: u32) -> Result<Task, WantOfMemory>
-    requires { number ≤ MOST_GROUPS }
-    ensures image { IfOk result (λ task. task.loaded.image ≡ generated_image number) }
-    ensures whole { IfOk result (λ task. IsWhole task.loaded.image) }
-    ensures translated { IfOk result (λ task. IsTranslated (generated_image number) [] task.loaded.translation) }
-    ensures taken { IfOk result (λ task. task.taken.items ≡ []) }
-    ensures limits { IfOk result (λ task. task.limits ≡ default_limits) }
-    ensures ranges { IfOk result (λ task. task.ranges.items ≡ []) }
-{
-    let image = generated(alloc, number)?;
-    let translation = translated(alloc, number, &image)?;
-    Ok(Task {
-        loaded: Loaded { image, translation },
-        taken: Vec::new(alloc),
-        limits: DEFAULT_LIMITS,
-        ranges: Vec::new(alloc),
-    })
-}
 
 /// Runs the image that is generated for a number, at most 32,000, without input, within the default limits; lines on the image
 /// and on what the run left go out in the place of its output. It stops only for want of memory: then the sinks are as they were,

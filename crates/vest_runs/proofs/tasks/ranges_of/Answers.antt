@@ -1,7 +1,7 @@
 use Rattle.std.proofs.Common.{rules}
 use Rattle.std.proofs.lemmas.Iterator.{items_from_collect, YieldsList-from_map, YieldsList-from_slice}
 use Rattle.vest_runs.specs.Run.{range_of}
-use Rattle.vest_runs.proofs.running.ranges_of.Goals as goal
+use Rattle.vest_runs.proofs.tasks.ranges_of.Goals as goal
 
 pub returns : goal.returns
 returns c = items_from_collect _ c.list_of.ensures.ran

@@ -5,7 +5,7 @@ use Rattle.flow_discovery.specs.Starts.{starts}
 use Rattle.translate.specs.Refusal.{IsRefused}
 use Rattle.translate.specs.declared.refusal.TranslateRefusal.{TranslateRefusal}
 use Rattle.translate.specs.declared.refusal.TranslateRefusal.TheVariants.{Flow}
-use Rattle.vest_runs.proofs.generating.translated.Goals as goal
+use Rattle.vest_runs.proofs.generated.translated.Goals as goal
 
 pub unreachable-requires : goal.unreachable-requires
 unreachable-requires c =

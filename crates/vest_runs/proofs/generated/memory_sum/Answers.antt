@@ -2,7 +2,7 @@
 use Rattle.std.proofs.Common.{◌∙◌, ℕ, Option, ap, arith}
 use Rattle.std.specs.Option.{unwrap_or}
 use Rattle.vest_runs.proofs.Summing.{bytes_more, no_bytes}
-use Rattle.vest_runs.proofs.generating.memory_sum.Goals as goal
+use Rattle.vest_runs.proofs.generated.memory_sum.Goals as goal
 
 pub loop-place-init : goal.loop-place-init
 loop-place-init c = record { sum = no_bytes c.args.memory.now.set_up c.args.memory.now.history 4096; small = omega arith }

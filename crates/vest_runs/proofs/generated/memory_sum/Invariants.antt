@@ -1,7 +1,7 @@
 -- The sum of the bytes so far.
 use Rattle.std.proofs.Common.{◌≡◌, ◌≤◌, ◌*◌}
 use Rattle.vest_runs.specs.Generate.{bytes_left}
-use Rattle.vest_runs.proofs.generating.memory_sum.Given as goal
+use Rattle.vest_runs.proofs.generated.memory_sum.Given as goal
 
 abbrev pub invariant-loop-place : goal.invariant-loop-place
 invariant-loop-place l = record {

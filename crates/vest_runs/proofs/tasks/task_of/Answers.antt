@@ -3,7 +3,7 @@ use Rattle.std.proofs.Common.{◌≡◌, IfErr, IfOk, rules}
 use Rattle.vest_files.specs.Decided.{goes_on}
 use Rattle.vest_runs.specs.Run.{StopsRun}
 use Rattle.vest_runs.proofs.Deciding.{run_decided, runs_on}
-use Rattle.vest_runs.proofs.running.task_of.Goals as goal
+use Rattle.vest_runs.proofs.tasks.task_of.Goals as goal
 
 pub returns-in_err-taken-clause-decided : goal.returns-in_err-taken-clause-decided
 returns-in_err-taken-clause-decided g c = λ d e.
