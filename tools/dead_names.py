@@ -1,5 +1,6 @@
 #!/usr/bin/env python3
-"""Lists the definitions and lemmas that nothing cites, and the items that a crate gives out and no other crate names."""
+"""Lists the definitions and lemmas that nothing cites, and the items that a crate gives out and no other crate names, but for laws, and
+for what another item that is given out speaks of: a type of its signature or of a definition, or a table of its contract."""
 import collections
 import pathlib
 import re
@@ -10,6 +11,9 @@ NAME = re.compile(r"[A-Za-z_][A-Za-z0-9_'-]*")
 # A definition or lemma of specs/ or proofs/, with its type; a record or a data type.
 DEFINED = re.compile(r"^(?:(?:abbrev|unfoldable|opaque) +)*(?:pub +)?(?:record +|data +)?([A-Za-z_][A-Za-z0-9_'-]*) +(?::|\(|\{)")
 ITEM = re.compile(r"^ *pub (?:const fn|fn|struct|enum|const|trait|type) ([A-Za-z_][A-Za-z0-9_]*)")
+USE = re.compile(r"^\s*(ghost )?(pub )?use ")
+TYPE = re.compile(r"\b[A-Z][a-z][A-Za-z0-9]*\b")
+FUNCTION = re.compile(r"^ *pub (?:const )?fn ")
 # Files whose names the toolchain gives; and files of lemmas that stand for themselves: worked rows, and what is refused.
 GOALS = {"Answers.antt", "Invariants.antt", "Proof.antt"}
 ROWS = {"Refused.antt", "Rows.antt", "Sizes.antt", "Worked.antt"}
@@ -35,13 +39,28 @@ def given_out(crate, path, name):
     return path == root or f"pub mod {module};" in text or name in used
 
 
+def items_of(text):
+    """Each public item of a file: the number of its line, its name, and the words of its signature with the contract, of its fields or
+    of its variants; and whether it is a law, which has no body."""
+    found = []
+    for number, line in enumerate(text):
+        item = ITEM.match(line)
+        if not item:
+            continue
+        ends = re.compile(r"^ *\{\}?$|^(?! *(?:ensures|requires)\b).*\{$") if FUNCTION.match(line) else re.compile(r"^ *\}|;$")
+        end = next((n for n in range(number, len(text)) if ends.search(text[n])), number)
+        words = set(NAME.findall(" ".join(text[number:end + 1]))) - {item.group(1)}
+        found.append((number + 1, item.group(1), words, text[end].strip() == "{}"))
+    return found
+
+
 def main():
     crates = sorted(p for p in (ROOT / "crates").iterdir() if (p / "src").is_dir())
     lines = {p: text_of(p) for c in crates for s in ("antt", "rt") for p in files(c, s)}
     cited = collections.Counter()
     for path, text in lines.items():
         for line in text:
-            if re.match(r"^\s*(ghost )?(pub )?use ", line):
+            if USE.match(line):
                 continue
             cited.update(set(NAME.findall(line)))
     dead = []
@@ -71,16 +90,17 @@ def main():
             continue
         others = "\n".join("\n".join(t) for p, t in lines.items() if crate not in p.parents)
         words = set(NAME.findall(others))
-        for path in files(crate, "rt"):
-            for number, line in enumerate(lines[path], 1):
-                found = ITEM.match(line)
-                if found and found.group(1) not in words and given_out(crate, path, found.group(1)):
-                    unused.append(f"{path.relative_to(ROOT)}:{number}: {found.group(1)}")
+        public = [(path, *head) for path in files(crate, "rt") for head in items_of(lines[path]) if given_out(crate, path, head[1])]
+        types = {name for path in files(crate / "specs", "antt") for line in lines[path] if not USE.match(line) for name in TYPE.findall(line)}
+        for path, number, name, _, is_law in public:
+            spoken_of = name in types or any(name in said for other, at, _, said, _ in public if (other, at) != (path, number))
+            if not (name in words or is_law or spoken_of):
+                unused.append(f"{path.relative_to(ROOT)}:{number}: {name}")
     print(f"cited by nothing: {len(dead)}")
     print("\n".join(dead))
     print(f"given out, and named by no other crate: {len(unused)}")
     print("\n".join(unused))
-    return 1 if dead else 0
+    return 1 if dead or unused else 0
 
 
 if __name__ == "__main__":
