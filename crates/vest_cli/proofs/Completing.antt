@@ -60,14 +60,14 @@ module _ (old new : Lent) (kept : KeptValue) (none : NoneFailed old new) where
   no_desk_read h = stood old.desk.read_faults new.desk.read_faults none.desk_reads h
 
   run_reads : (name : List ℕ) → StopsRun ReadFault name old.desk new.desk old.input new.input → ⊥
-  run_reads name (inl h) = no_desk_read (load_rose name old.desk new.desk h)
+  run_reads name (inl h) = no_desk_read (load_rose name old.desk new.desk h.0)
   run_reads name (inr (image, code, loads, h)) = stood old.input.faults new.input.faults none.input h
 
   command_reads : (command : CommandValue) → StopsAt command ReadFault old.desk new.desk old.input new.input → ⊥
   command_reads (run name limits ranges) h = run_reads name h
-  command_reads (translate image to) h = no_desk_read (translate_rose image old.desk new.desk h)
-  command_reads (list name) h = no_desk_read (load_rose name old.desk new.desk h)
-  command_reads (generate number) h = let same : ReadFault ≡ WantOfMemory = h.want in cc same
+  command_reads (translate image to) h = no_desk_read (translate_rose image old.desk new.desk h.0)
+  command_reads (list name) h = no_desk_read (load_rose name old.desk new.desk h.0)
+  command_reads (generate number) h = let same : ReadFault ≡ WantOfMemory = h.0 in cc same
 
   call_reads : (command : Option CommandValue) → Stops command ReadFault old.desk new.desk old.input new.input → ⊥
   call_reads None h = h
@@ -87,7 +87,7 @@ module _ (old new : Lent) (kept : KeptValue) (none : NoneFailed old new) where
   done_reads dones.WriteFault e = cc e
 
   no_read_fault : (command : Option CommandValue) (result : Status) → Ends command result old new kept → result ≡ status.ReadFault → ⊥
-  no_read_fault command result (unspelled never is left) e = let same : status.Usage ≡ status.ReadFault = sym is ∙ e in cc same
+  no_read_fault command result (unspelled never is untouched left) e = let same : status.Usage ≡ status.ReadFault = sym is ∙ e in cc same
   no_read_fault command result (stopped stop is why left) e = stop_reads command stop (sym is ∙ e) why
   no_read_fault command result (done spelled end so is does) e = done_reads end (sym is ∙ e)
 
@@ -120,7 +120,7 @@ module _ (old new : Lent) (kept : KeptValue) (none : NoneFailed old new) where
   done_writes command dones.WriteFault e h = command_writes command h
 
   no_write_fault : (command : Option CommandValue) (result : Status) → Ends command result old new kept → result ≡ status.WriteFault → ⊥
-  no_write_fault command result (unspelled never is left) e = let same : status.Usage ≡ status.WriteFault = sym is ∙ e in cc same
+  no_write_fault command result (unspelled never is untouched left) e = let same : status.Usage ≡ status.WriteFault = sym is ∙ e in cc same
   no_write_fault command result (stopped stop is why left) e = stop_writes stop (sym is ∙ e)
   no_write_fault command result (done spelled end so is does) e = done_writes spelled end (sym is ∙ e) does
 

@@ -65,17 +65,17 @@ module _ (spelled : Option CommandValue) where
       → (fault ≡ Usage → spelled ≡ None) → kept ≡ nothing_kept → RefusesWords fault result mid report
       → Ends spelled result (lent desk input out mid) (lent desk input out report) kept
   words_end Usage result desk input out mid report kept none nothing says =
-      unspelled (none refl) says.0 (record { desk = record { files = refl; write_faults = refl }; out = refl; kept_nothing = nothing; said = says.1 })
+      unspelled (none refl) says.0 (record { same_desk = refl; same_input = refl }) (record { desk = record { files = refl; write_faults = refl }; out = refl; kept_nothing = nothing; said = says.1 })
   words_end faults.WantOfMemory result desk input out mid report kept none nothing says =
       stopped WantOfMemory says.0 (stops_short spelled)
       (record { desk = record { files = refl; write_faults = refl }; out = refl; kept_nothing = nothing; said = says.1 })
     where
       stops_short : (c : Option CommandValue) → Stops c WantOfMemory desk desk input input
-      stops_short None = tt
-      stops_short (Some (run name limits ranges)) = inl (inl tt)
-      stops_short (Some (translate image to)) = inl tt
-      stops_short (Some (list name)) = inl tt
-      stops_short (Some (generate number)) = record { want = refl; same_desk = refl; same_input = refl }
+      stops_short None = record { same_desk = refl; same_input = refl }
+      stops_short (Some (run name limits ranges)) = inl (inl tt, refl)
+      stops_short (Some (translate image to)) = (inl tt, refl)
+      stops_short (Some (list name)) = (inl tt, refl)
+      stops_short (Some (generate number)) = (refl, record { same_desk = refl; same_input = refl })
 
   pub words_usage : (fault : WordsFault) (result : Status) (mid report : SinkMeaning) → (fault ≡ Usage → spelled ≡ None) → RefusesWords fault result mid report
       → result ≡ status.Usage → spelled ≡ None

@@ -58,8 +58,11 @@ module _ (r : Result Done Stop) where
   only_generates number desk input out out' report report' kept h =
       IfOk-weaker r _ _ (λ end generates. record { generates = generates; desk = refl; input = refl }) h
 
+  pub input_stays : (StopsSo : Stop → Type 0) (input : SourceMeaning) → IfErr r StopsSo → IfErr r (λ stop. StopsSo stop × (input ≡ input))
+  input_stays StopsSo input h = IfErr-weaker r _ _ (λ stop so. (so, refl)) h
+
   pub generate_stops : (desk : DeskMeaning) (input : SourceMeaning) → IfErr r (λ stop. stop ≡ WantOfMemory) → IfErr r (λ stop. StopsGenerate stop desk desk input input)
-  generate_stops desk input h = IfErr-weaker r _ _ (λ stop want. record { want = want; same_desk = refl; same_input = refl }) h
+  generate_stops desk input h = IfErr-weaker r _ _ (λ stop want. (want, record { same_desk = refl; same_input = refl })) h
 
 -- it is only stopped for want of memory, which decides nothing
 pub generate_decided : (r : Result Done Stop) → IfErr r (λ stop. stop ≡ WantOfMemory) → (d : Decision) → d ≡ goes_on → IsDecided r d

@@ -20,22 +20,25 @@ use Rattle.vest_runs.specs.Lent.{Lent}
 use Rattle.vest_runs.specs.Run.{Runs, StopsRun}
 use Rattle.vest_cli.specs.Stopping.{Stopped, usage_line}
 
--- `generate` stops only for want of memory, and touches neither desk nor input
-pub record StopsGenerate (stop : Stop) (desk desk' : DeskMeaning) (input input' : SourceMeaning) : Type 0 where
-  pub want : stop ≡ WantOfMemory
+-- neither desk nor input was touched
+pub record Untouched (desk desk' : DeskMeaning) (input input' : SourceMeaning) : Type 0 where
   pub same_desk : desk' ≡ desk
   pub same_input : input' ≡ input
 
--- why a command stops
+-- `generate` stops only for want of memory
+abbrev pub StopsGenerate : Stop → DeskMeaning → DeskMeaning → SourceMeaning → SourceMeaning → Type 0
+StopsGenerate stop desk desk' input input' = (stop ≡ WantOfMemory) × Untouched desk desk' input input'
+
+-- why a command stops; `translate` and `list` leave the input
 abbrev pub StopsAt : CommandValue → Stop → DeskMeaning → DeskMeaning → SourceMeaning → SourceMeaning → Type 0
 StopsAt (run name limits ranges) stop desk desk' input input' = StopsRun stop name desk desk' input input'
-StopsAt (translate image to) stop desk desk' input input' = StopsTranslate stop image desk desk'
-StopsAt (list name) stop desk desk' input input' = StopsAtLoad stop name desk desk'
+StopsAt (translate image to) stop desk desk' input input' = StopsTranslate stop image desk desk' × (input' ≡ input)
+StopsAt (list name) stop desk desk' input input' = StopsAtLoad stop name desk desk' × (input' ≡ input)
 StopsAt (generate number) stop desk desk' input input' = StopsGenerate stop desk desk' input input'
 
 -- why a call stops: there was no memory to read its words; or its command says why
 abbrev pub Stops : Option CommandValue → Stop → DeskMeaning → DeskMeaning → SourceMeaning → SourceMeaning → Type 0
-Stops None WantOfMemory desk desk' input input' = Unit {0}
+Stops None WantOfMemory desk desk' input input' = Untouched desk desk' input input'
 Stops None stop desk desk' input input' = ⊥
 Stops (Some command) stop desk desk' input input' = StopsAt command stop desk desk' input input'
 
@@ -70,7 +73,8 @@ Does (generate number) result old new kept = OnlyGenerates result number old new
 
 -- no command was spelled; or a call stops and says why; or it does what its command says
 pub data Ends (command : Option CommandValue) (result : Status) (old new : Lent) (kept : KeptValue) : Type 0 where
-  unspelled : command ≡ None → result ≡ status.Usage → Stopped usage_line old new kept → Ends command result old new kept
+  unspelled : command ≡ None → result ≡ status.Usage → Untouched old.desk new.desk old.input new.input → Stopped usage_line old new kept
+      → Ends command result old new kept
   stopped : (stop : Stop) → result ≡ status_of stop → Stops command stop old.desk new.desk old.input new.input
       → Stopped (line_of stop) old new kept → Ends command result old new kept
   done : (spelled : CommandValue) (end : Done) → command ≡ Some spelled → result ≡ status_of_done end → Does spelled end old new kept

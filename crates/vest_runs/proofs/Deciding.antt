@@ -57,7 +57,7 @@ run_goes old new bytes at d goes read e = goes_by old.left old.faults new bytes 
 run_stops : (stop : Stop) (name : List ℕ) (desk desk' : DeskMeaning) (input input' : SourceMeaning) (d : Decision) → StopsRun stop name desk desk' input input'
     → DecidesRun desk.files name input.left d → StopsAsDecided stop d
 run_stops stop name desk desk' input input' d (inl h) e =
-    stops_at_load stop e.at_load d input.left (load_stops stop name desk desk' e.at_load h e.load) e.behind
+    stops_at_load stop e.at_load d input.left (load_stops stop name desk desk' e.at_load h.0 e.load) e.behind
 run_stops stop name desk desk' input input' d (inr (image, code, loaded, h)) e =
     stops_at_input stop input input' e.at_load d (load_goes desk.files name image code e.at_load loaded e.load) h e.behind
 

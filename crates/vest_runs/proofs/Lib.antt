@@ -3,4 +3,5 @@ mod Delivering
 mod Outputs
 mod Progress
 mod Spent
+mod Stopping
 mod Summing

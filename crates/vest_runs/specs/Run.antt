@@ -22,10 +22,10 @@ use Rattle.vest_runs.specs.Input.{DecidesInput, ReadsAll, StopsAtInput}
 use Rattle.vest_runs.specs.Lent.{Lent}
 use Rattle.vest_runs.specs.declared.execute.Task.{Task}
 
--- why `run` stops before its run: at the file and its translation, or behind that, at the input
+-- why `run` stops before its run: at the file and its translation, with the input as it was, or behind that, at the input
 abbrev pub StopsRun : Stop → (name : List ℕ) → DeskMeaning → DeskMeaning → SourceMeaning → SourceMeaning → Type 0
 StopsRun stop name desk desk' input input' =
-    StopsAtLoad stop name desk desk'
+    (StopsAtLoad stop name desk desk' × (input' ≡ input))
     ⊎ ((image : ImageValue) × (code : Code) × Loads desk.files name image code × StopsAtInput stop input input')
 
 -- the addresses that a thread interprets, of the words

@@ -3,9 +3,11 @@ use Rattle.std.proofs.Common.{IfOk, List, ap, subst}
 use Rattle.command_words.specs.Answers.{command_value}
 use Rattle.command_words.specs.Commands.{generate, list, run, translate}
 use Rattle.command_words.specs.declared.numbers.Range.{Range}
+use Rattle.vest_files.specs.Loading.{StopsAtLoad}
+use Rattle.vest_files.specs.Translate.{StopsTranslate}
 use Rattle.vest_runs.specs.Lent.{lent}
 use Rattle.vest_runs.specs.Run.{Runs}
-use Rattle.vest_cli.proofs.Obeying.{decided_as, does_as, generate_decided, generate_leaves, generate_stops, list_leaves, only_generates, only_lists, only_translates, stops_as, translate_leaves}
+use Rattle.vest_cli.proofs.Obeying.{decided_as, does_as, generate_decided, generate_leaves, generate_stops, input_stays, list_leaves, only_generates, only_lists, only_translates, stops_as, translate_leaves}
 use Rattle.vest_cli.proofs.top.obey.Goals as goal
 
 pub returns-in-Run-clause-does : goal.returns-in-Run-clause-does
@@ -37,7 +39,8 @@ returns-in-Translate-clause-does g c =
 pub returns-in-Translate-clause-why : goal.returns-in-Translate-clause-why
 returns-in-Translate-clause-why g c =
     stops_as c.translate_file.result (command_value c.args.command) (translate c.in-Translate.image.now c.in-Translate.to.now)
-    (g.D.Desk.meaning c.args.desk.now) (g.D.Desk.meaning c.translate_file.new.desk) (g.I.Source.meaning c.args.input.now) (g.I.Source.meaning c.args.input.now) (ap command_value c.in-Translate.is) c.translate_file.ensures.why
+    (g.D.Desk.meaning c.args.desk.now) (g.D.Desk.meaning c.translate_file.new.desk) (g.I.Source.meaning c.args.input.now) (g.I.Source.meaning c.args.input.now) (ap command_value c.in-Translate.is)
+    (input_stays c.translate_file.result (λ stop. StopsTranslate stop c.in-Translate.image.now (g.D.Desk.meaning c.args.desk.now) (g.D.Desk.meaning c.translate_file.new.desk)) (g.I.Source.meaning c.args.input.now) c.translate_file.ensures.why)
 
 pub returns-in-Translate-clause-decided : goal.returns-in-Translate-clause-decided
 returns-in-Translate-clause-decided g c =
@@ -58,7 +61,8 @@ returns-in-List-clause-does g c =
 pub returns-in-List-clause-why : goal.returns-in-List-clause-why
 returns-in-List-clause-why g c =
     stops_as c.list_file.result (command_value c.args.command) (list c.in-List.name.now)
-    (g.D.Desk.meaning c.args.desk.now) (g.D.Desk.meaning c.list_file.new.desk) (g.I.Source.meaning c.args.input.now) (g.I.Source.meaning c.args.input.now) (ap command_value c.in-List.is) c.list_file.ensures.why
+    (g.D.Desk.meaning c.args.desk.now) (g.D.Desk.meaning c.list_file.new.desk) (g.I.Source.meaning c.args.input.now) (g.I.Source.meaning c.args.input.now) (ap command_value c.in-List.is)
+    (input_stays c.list_file.result (λ stop. StopsAtLoad stop c.in-List.name.now (g.D.Desk.meaning c.args.desk.now) (g.D.Desk.meaning c.list_file.new.desk)) (g.I.Source.meaning c.args.input.now) c.list_file.ensures.why)
 
 pub returns-in-List-clause-decided : goal.returns-in-List-clause-decided
 returns-in-List-clause-decided g c =
