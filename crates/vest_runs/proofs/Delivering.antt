@@ -29,23 +29,23 @@ report_more ps i d lt =
 report_whole : (ps : List ProcessorValue) (i : ℕ) → report ps ≡ report (take i ps) ++ report (drop i ps)
 report_whole ps i = ap report (sym (take-append-drop i ps)) ∙ report_both (take i ps) (drop i ps)
 
+report_next : (ps : List ProcessorValue) (i : ℕ) (p : ProcessorValue) → i < length ps → p ≡ get_or ps i p → report (take i ps) ++ lines_of (processor_of p) ≡ report (take (i + 1) ps)
+report_next ps i p lt at =
+    ap (λ (q : ProcessorValue). report (take i ps) ++ lines_of (processor_of q)) at ∙ sym (report_more ps i p lt)
+
 -- one more took its lines
-pub took_lines : (ps : List ProcessorValue) (i : ℕ) (p : ProcessorValue) (lines : List ℕ) (old mid new : SinkMeaning) → i < length ps → p ≡ get_or ps i p → lines ≡ lines_of (processor_of p)
-    → TookAll old mid (report (take i ps)) → TookAll mid new lines → TookAll old new (report (take (i + 1) ps))
-took_lines ps i p lines old mid new lt at is before here =
-    let same : report (take i ps) ++ lines ≡ report (take (i + 1) ps) =
-    ap (λ (t : List ℕ). report (take i ps) ++ t) (is ∙ ap (λ (q : ProcessorValue). lines_of (processor_of q)) at) ∙ sym (report_more ps i p lt) in
-    subst (λ (t : List ℕ). TookAll old new t) same (took_both old mid new (report (take i ps)) lines before here)
+pub took_lines : (ps : List ProcessorValue) (i : ℕ) (p : ProcessorValue) (old mid new : SinkMeaning) → i < length ps → p ≡ get_or ps i p
+    → TookAll old mid (report (take i ps)) → TookAll mid new (lines_of (processor_of p)) → TookAll old new (report (take (i + 1) ps))
+took_lines ps i p old mid new lt at before here =
+    subst (λ (t : List ℕ). TookAll old new t) (report_next ps i p lt at) (took_both old mid new (report (take i ps)) (lines_of (processor_of p)) before here)
 
 -- or failed in them
-pub failed_lines : (ps : List ProcessorValue) (i : ℕ) (p : ProcessorValue) (lines : List ℕ) (old mid new : SinkMeaning) → i < length ps → p ≡ get_or ps i p → lines ≡ lines_of (processor_of p)
-    → TookAll old mid (report (take i ps)) → TookSome mid new lines → TookSome old new (report ps)
-failed_lines ps i p lines old mid new lt at is before here =
-    let same : report (take i ps) ++ lines ≡ report (take (i + 1) ps) =
-    ap (λ (t : List ℕ). report (take i ps) ++ t) (is ∙ ap (λ (q : ProcessorValue). lines_of (processor_of q)) at) ∙ sym (report_more ps i p lt) in
+pub failed_lines : (ps : List ProcessorValue) (i : ℕ) (p : ProcessorValue) (old mid new : SinkMeaning) → i < length ps → p ≡ get_or ps i p
+    → TookAll old mid (report (take i ps)) → TookSome mid new (lines_of (processor_of p)) → TookSome old new (report ps)
+failed_lines ps i p old mid new lt at before here =
     subst (λ (t : List ℕ). TookSome old new t) (sym (report_whole ps (i + 1)))
     (took_some_first old new (report (take (i + 1) ps)) (report (drop (i + 1) ps))
-    (subst (λ (t : List ℕ). TookSome old new t) same (took_some_second old mid new (report (take i ps)) lines before here)))
+    (subst (λ (t : List ℕ). TookSome old new t) (report_next ps i p lt at) (took_some_second old mid new (report (take i ps)) (lines_of (processor_of p)) before here)))
 
 -- ---- how a run ends
 abbrev pub raised : List ProcessorValue → Bool
@@ -83,7 +83,3 @@ module _ (ps : List ProcessorValue) (n : ℕ) (all : length ps ≤ n) (none : ra
   pub all_exit : false ≡ spent (take n ps) → done.Ok ≡ done_by_ends (map processor_of ps)
   unfolding by_tests
   all_exit none_spent = tested ps false false no_exception (ap spent (sym (take_all n ps all)) ∙ sym none_spent)
-
-pub on_err : {A E : Type 0} (r : Result A E) (P : Type 0) → P → OnErr r P
-on_err (Ok x) P h = tt
-on_err (Err e) P h = h

@@ -2,11 +2,12 @@
 ghost use Rattle.std.specs.Prelude.{◌≡◌, map, OnErr, OnOk};
 ghost use Rattle.system_model.specs.Interpreted.{has_raised};
 ghost use Rattle.tie_switch.specs.Processors.{processor_of};
+ghost use Rattle.report_text.specs.Offer.{Offers};
 ghost use Rattle.vt_outside.specs.Taking.{TookAll, TookSome};
 ghost use Rattle.vest_runs.specs.Delivery.{Delivers};
 ghost use Rattle.vest_runs.specs.Report.{is_spent, lines_of, report_of, done_by_ends};
 
-use report_text::{Line, thread_lines};
+use report_text::{Offered, offer};
 use tie_switch::{End, Processor};
 use vest_files::Done;
 use vt_outside::{Failed, Sink, write_all};
@@ -36,23 +37,27 @@ fn write_report<E: Sink>(processors: &[Processor], report: &mut E) -> Result<(),
     ensures err { OnErr result (TookSome (E.meaning report.old) (E.meaning report.new) (report_of (map processor_of processors.now))) }
 {
     for processor in processors {
-        write_all(report, lines_of(processor).as_slice())?;
+        match offer_lines(processor, report) {
+            Offered::Written => {}
+            Offered::Failed => return Err(Failed),
+        }
     }
     Ok(())
 }
 
 // The lines of its end.
-fn lines_of(processor: &Processor) -> Line
-    ensures { result ≡ lines_of (processor_of processor.now) }
+fn offer_lines<E: Sink>(processor: &Processor, report: &mut E) -> Offered
+    ensures { Offers result (E.meaning report.old) (E.meaning report.new) (lines_of (processor_of processor.now)) }
 {
     match processor.end() {
-        Some(end) => thread_lines(
-            u64::from(processor.thread()),
+        Some(end) => offer(
+            processor.thread(),
             end,
             &processor.shown(),
             processor.retired(),
+            report,
         ),
-        None => Line::new(),
+        None => Offered::Written,
     }
 }
 
