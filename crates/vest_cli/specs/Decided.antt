@@ -22,7 +22,7 @@ abbrev pub DecidesCall : Option CommandValue → Option Files → (input : Optio
 DecidesCall None files input decision = decision ≡ stops status.Usage
 DecidesCall (Some command) files input decision = DecidesOn command files input decision
 
--- behind a run: all threads exited, some raised an exception, or some was spent
+-- behind a run: all threads exited, some ended by an exception, or some was spent
 abbrev pub EndsARun : Status → Type 0
 EndsARun status.Ok = Unit {0}
 EndsARun status.Exception = Unit {0}

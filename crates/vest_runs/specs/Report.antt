@@ -25,7 +25,7 @@ abbrev pub is_spent : Mode → Bool
 is_spent (Ended Spent) = true
 is_spent _ = false
 
--- some thread raised an exception; else some processor is spent; else all exited
+-- some thread ended by an exception; else some processor is spent; else all exited
 abbrev pub done_by_ends : List Processor → Done
 done_by_ends processors =
     if list_any (λ (p : Processor). has_raised p.mode) processors then done.Exception

@@ -61,7 +61,7 @@ fn offer_lines<E: Sink>(processor: &Processor, report: &mut E) -> Offered
     }
 }
 
-// A thread that raised an exception decides first, and then a processor that is spent.
+// A thread that ended by an exception decides first, and then a processor that is spent.
 fn done_by_ends(processors: &[Processor]) -> Done
     ensures { result ≡ done_by_ends (map processor_of processors.now) }
 {
