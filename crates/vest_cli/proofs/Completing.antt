@@ -61,7 +61,7 @@ module _ (old new : Lent) (kept : KeptValue) (none : NoneFailed old new) where
 
   run_reads : (name : List ℕ) → StopsRun ReadFault name old.desk new.desk old.input new.input → ⊥
   run_reads name (inl h) = no_desk_read (load_rose name old.desk new.desk h.0)
-  run_reads name (inr (image, code, loads, h)) = stood old.input.faults new.input.faults none.input h
+  run_reads name (inr (image, code, loads, h)) = stood old.input.faults new.input.faults none.input h.0
 
   command_reads : (command : CommandValue) → StopsAt command ReadFault old.desk new.desk old.input new.input → ⊥
   command_reads (run name limits ranges) h = run_reads name h

@@ -1,5 +1,5 @@
 -- What the file and the input decide on a run.
-use Rattle.std.proofs.Common.{◌≡◌, ℕ, List, ◌++◌, length, false, nat_lt, Option, None, Some, ap, ◌∙◌, subst, append-nil, inl, inr, Result, Ok, Err, IfErr, IfOk}
+use Rattle.std.proofs.Common.{◌≡◌, ◌<◌, ◌≤◌, ◌+◌, ℕ, List, ◌++◌, length, length-append, arith, false, nat_lt, Option, None, Some, ap, ◌∙◌, subst, append-nil, inl, inr, Result, Ok, Err, IfErr, IfOk}
 use Rattle.std.specs.Io.KnownBytes.{Consumes, IsAtEnd}
 use Rattle.std.proofs.lemmas.Bool.{lt-ltb, le-ltb}
 use Rattle.vt_outside.specs.Desk.{DeskMeaning, Files}
@@ -25,13 +25,20 @@ stops_at_load WantOfMemory at d input h e = tt
 decides_input : (at d : Decision) (input : Option (List ℕ)) → at ≡ goes_on → DecidesBehind at input d → DecidesInput input d
 decides_input at d input h e = subst (λ (x : Decision). DecidesBehind x input d) h e
 
+-- a source that gave so many bytes had them
+given_of : (input : List ℕ) (left : Option (List ℕ)) (bytes : List ℕ) → Consumes (Some input) left bytes → length bytes ≤ length input
+given_of input None bytes h = absurd h
+given_of input (Some rest) bytes h = let count : length input ≡ length bytes + length rest = ap length h ∙ length-append bytes rest in omega (arith, count)
+
 stops_for : (stop : Stop) (left : Option (List ℕ)) (n : ℕ) (new : SourceMeaning) (d : Decision)
     → StopsAtInput stop (record { left = left; faults = n }) new → DecidesInput left d → StopsAsDecided stop d
 stops_for stop None n new d h e = absurd e
 stops_for Absent (Some input) n new d h e = absurd h
 stops_for (Refused refusal) (Some input) n new d h e = absurd h
 stops_for ReadFault (Some input) n new d h e = tt
-stops_for TooLong (Some input) n new d h e = rw (lt-ltb INPUT_LIMIT (length input) h) at e
+stops_for TooLong (Some input) n new d h e =
+    let long : INPUT_LIMIT < length input = omega (arith, given_of input new.left h.bytes h.read, h.enough) in
+    rw (lt-ltb INPUT_LIMIT (length input) long) at e
 stops_for WantOfMemory (Some input) n new d h e = tt
 
 stops_at_input : (stop : Stop) (old new : SourceMeaning) (at d : Decision) → at ≡ goes_on → StopsAtInput stop old new → DecidesBehind at old.left d

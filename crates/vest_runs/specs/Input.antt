@@ -1,5 +1,5 @@
 -- The input of a run.
-use Rattle.std.specs.Prelude.{◌≡◌, ℕ, ◌<◌, ◌≤◌, List, length, Option, None, Some, IfSome, nat_lt, if◌then◌else◌}
+use Rattle.std.specs.Prelude.{◌≡◌, ◌+◌, ℕ, ◌≤◌, List, length, Option, None, Some, nat_lt, if◌then◌else◌}
 use Rattle.std.specs.Io.KnownBytes.{Consumes, IsAtEnd}
 use Rattle.vt_outside.specs.Causes.{Rose}
 use Rattle.vt_outside.specs.Source.{SourceMeaning}
@@ -7,7 +7,7 @@ use Rattle.vest_files.specs.Decided.{Decision, stops, goes_on}
 use Rattle.vest_files.specs.declared.status.Status.TheVariants as status
 use Rattle.vest_files.specs.declared.stop.Stop.{Stop}
 use Rattle.vest_files.specs.declared.stop.Stop.TheVariants.{ReadFault, TooLong, WantOfMemory}
-use Rattle.vest_runs.specs.declared.input.TheConstants.{INPUT_LIMIT}
+use Rattle.vest_runs.specs.declared.input.TheConstants.{AT_ONCE, INPUT_LIMIT}
 
 -- these bytes are all that the source had left, where it tells them, and nothing is left
 pub record ReadsAll (old new : SourceMeaning) (bytes : List ℕ) : Type 0 where
@@ -15,10 +15,17 @@ pub record ReadsAll (old new : SourceMeaning) (bytes : List ℕ) : Type 0 where
   pub read : Consumes old.left new.left bytes
   pub end : IsAtEnd new.left
 
--- why the input was not read
+-- so many bytes, at least and at most, were read of those that the source had left, where it tells them
+pub record HasGiven (least most : ℕ) (old new : SourceMeaning) : Type 0 where
+  pub bytes : List ℕ
+  pub enough : least ≤ length bytes
+  pub few : length bytes ≤ most
+  pub read : Consumes old.left new.left bytes
+
+-- why the input was not read to its end; behind the first byte too much nothing is read but what came with it
 abbrev pub StopsAtInput : Stop → SourceMeaning → SourceMeaning → Type 0
-StopsAtInput TooLong old new = IfSome old.left (λ bytes. INPUT_LIMIT < length bytes)
-StopsAtInput ReadFault old new = Rose old.faults new.faults
+StopsAtInput TooLong old new = HasGiven (INPUT_LIMIT + 1) (INPUT_LIMIT + AT_ONCE) old new
+StopsAtInput ReadFault old new = Rose old.faults new.faults × HasGiven 0 INPUT_LIMIT old new
 StopsAtInput WantOfMemory old new = Unit {0}
 StopsAtInput stop old new = ⊥
 

@@ -9,6 +9,9 @@ use vt_outside::{Got, Source};
 /// The most bytes of input.
 pub const INPUT_LIMIT: usize = 65_536;
 
+/// The most bytes of one call.
+pub const AT_ONCE: usize = 1024;
+
 // Each call takes a byte at least, so one more call than there may be bytes tells.
 const CALLS: usize = 65_537;
 
@@ -28,7 +31,7 @@ fn read_all<I: Source>(input: &mut I, bytes: &mut Vec<u8>) -> Result<(), Stop>
     ensures ok { OnOk result (ReadsAll (I.meaning input.old) (I.meaning input.new) bytes.new.items) }
     ensures err { IfErr result (λ stop. StopsAtInput stop (I.meaning input.old) (I.meaning input.new)) }
 {
-    let mut buffer = [0; 1024];
+    let mut buffer = [0; AT_ONCE];
     for turn in 0..CALLS {
         match input.read(&mut buffer) {
             Got::Bytes(count) => bytes.extend_from_slice(&buffer[..count])?,
