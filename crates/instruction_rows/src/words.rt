@@ -1,13 +1,13 @@
-// How many words the micro programs of instructions are counted as.
+// How many words the micro programs of instructions are counted as, and that others have none.
 ghost use Rattle.std.specs.Prelude.{IfOk};
 ghost use Rattle.vax_form.specs.Grammar.{IsSpelled};
 
 use crate::ending::instr_of;
 use crate::memory::Memory;
-use anyhow::{Context, Result, bail};
+use anyhow::{Context, Result};
 use micro_lower::lower;
 use micro_ops::{program_words, sources_of};
-use row_tally::{Tally, bytes, longword, two_fields};
+use row_tally::{Tally, bytes, two_fields};
 use std::alloc::Global;
 use vax_form::{Instr, operation_of};
 
@@ -23,19 +23,26 @@ fn instr_spelled(alloc: Global, code: &str) -> Result<Instr>
     instr_of(alloc, &memory, CODE)
 }
 
-/// How many words the program of the instruction with these bytes is counted as.
-fn words_of(alloc: Global, code: &str) -> Result<u32> {
+/// How many words the program of the instruction with these bytes is counted as, or the number of its refusal.
+fn words_of(alloc: Global, code: &str) -> Result<String> {
     let instr = instr_spelled(alloc, code)?;
-    let operation = operation_of(instr.opcode).context("a reserved opcode")?;
-    let Ok(program) = lower(alloc, &instr) else {
-        bail!("no program of {code}");
+    let text = match lower(alloc, &instr) {
+        Ok(program) => {
+            let operation = operation_of(instr.opcode).context("a reserved opcode")?;
+            let words = program_words(sources_of(operation), &program);
+            format!(in alloc; "{words:X}")
+        }
+        Err(refusal) => {
+            let number = refusal.number().context("want of memory")?;
+            format!(in alloc; "refusal-{number}")
+        }
     };
-    Ok(program_words(sources_of(operation), &program))
+    Ok(text?)
 }
 
-/// Checks a row: the bytes of an instruction, and the words of its program.
+/// Checks a row: the bytes of an instruction, and the words of its program or its refusal.
 pub fn check_row(rt: &(impl Print + AllocGlobal), tally: &mut Tally, row: &str) -> Result<()> {
     let (code, wanted) = two_fields(row)?;
     let found = words_of(rt.alloc(), code)?;
-    tally.check(rt, row, &found, &longword(wanted)?)
+    tally.check(rt, row, &found.as_str(), &wanted)
 }

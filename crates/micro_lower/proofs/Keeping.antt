@@ -1,12 +1,13 @@
 -- A program of pieces that read no other codes than some and do not leave, with its exit behind them, keeps to its instruction.
 use Rattle.std.proofs.Common.{◌≡◌, ℕ, zero, suc, ◌<◌, Bool, true, false, List, [], ◌∷◌, ◌++◌, Some, None, refl, sym, ap, ◌∙◌, subst, arith, inl, inr, append-nil, append_assoc, leb-true}
-use Rattle.std.specs.Prelude.{◌&&◌, ◌||◌, nat_eq, nat_le, All, slice_index_or, filter_map, option_to_list}
+use Rattle.std.specs.Prelude.{◌&&◌, ◌||◌, nat_eq, nat_le, All, is_none, slice_index_or, filter_map, option_to_list}
 use Rattle.std.specs.List.{list_any}
 use Rattle.std.specs.Option.{option_map_or}
 use Rattle.std.proofs.lemmas.Bool.Decides.{eqb_tells, nat_tests}
 use Rattle.std.proofs.lemmas.List.Elements.{All-nil, All-cons}
 use Rattle.std.proofs.lemmas.List.Folds.{list_all-append, list_any-append}
 use Rattle.std.proofs.lemmas.Bool.{and_parts, or_right, eq-eqb}
+use Rattle.std.proofs.lemmas.Option.{same_Some}
 use Rattle.vax_form.specs.Operation.{operation_at}
 use Rattle.vax_form.specs.Targets.{branch_target, fixed_address, jump_target, jump_of, fixed_targets}
 use Rattle.vax_form.specs.declared.instr.Base.TheVariants as bases
@@ -30,7 +31,7 @@ use Rattle.micro_ops.specs.declared.program.Micro.{Micro}
 use Rattle.micro_ops.specs.declared.program.Micro.TheVariants.{Compute, Probe, Refuse, Read, Write, Locked, Commit, Codes, SetPsw, Leave}
 use Rattle.operand_programs.specs.InOrder.{operands_program, no_steps}
 use Rattle.operand_programs.specs.Operands.{IsTarget}
-use Rattle.micro_lower.specs.Lowering.{holds_flag, GoesTo, KeepsTo}
+use Rattle.micro_lower.specs.Lowering.{GoesTo, KeepsTo, computes_address, holds_flag}
 use Rattle.micro_lower.specs.Plans.{Plan, specifiers_from, steps_of, steps_behind_target, write_program, end_program, codes_program, program_of}
 use Rattle.micro_lower.specs.Rows.{jump_exit}
 use Rattle.micro_lower.proofs.Inner.{is_allowed, is_inner, IsInner, joined, operands_inner, target_inner, end_inner, codes_inner}
@@ -128,28 +129,31 @@ computes_of set (Codes n z v c) inner = refl
 computes_of set (SetPsw from) inner = refl
 computes_of set (Leave left) inner = cc
 
-computes_all : (set : Flags) (exit : Exit) (piece : List Micro) → IsInner set piece → list_any leaves_computed (piece ++ Leave exit ∷ []) ≡ true → leaves_computed (Leave exit) ≡ true
-computes_all set exit [] inner is = or_not (leaves_computed (Leave exit)) false (leaves_computed (Leave exit) ≡ true) is (λ this. this) (λ none. cc)
-computes_all set exit (operation ∷ piece) inner is =
-    let i = and_parts _ _ inner in
-    or_not (leaves_computed operation) (list_any leaves_computed (piece ++ Leave exit ∷ [])) (leaves_computed (Leave exit) ≡ true) is (λ this. cc (this, computes_of set operation i.0)) (computes_all set exit piece i.1)
-
 -- ---- the exit
 -- it leads to where the instruction goes on
 pub record ExitKeeps (instr : Instr) (exit : Exit) : Type 0 where
   pub goes : All (GoesTo instr) (exit_addresses instr.after exit)
   pub computed : leaves_computed (Leave exit) ≡ true → (use_of instr).ends ≡ true
 
+-- the pieces compute no address
+computes_last : (set : Flags) (exit : Exit) (piece : List Micro) → IsInner set piece → list_any leaves_computed (piece ++ Leave exit ∷ []) ≡ leaves_computed (Leave exit)
+computes_last set exit [] inner = elim (leaves_computed (Leave exit)) as (λ (x : Bool). (x || false) ≡ x) [ true ↦ refl | false ↦ refl ]
+computes_last set exit (operation ∷ piece) inner =
+    let i = and_parts _ _ inner in
+    rw (computes_of set operation i.0) (computes_last set exit piece i.1)
+
 pub keeps : (operation : Operation) (instr : Instr) (exit : Exit) (program : List Micro) → operation_at instr.opcode ≡ Some operation
-    → Ends (code_use_of operation).reads exit program → ExitKeeps instr exit → KeepsTo instr program
+    → Ends (code_use_of operation).reads exit program → leaves_computed (Leave exit) ≡ computes_address operation instr → ExitKeeps instr exit → KeepsTo instr program
 unfolding use_of
-keeps operation instr exit program is ends exits =
+keeps operation instr exit program is ends just exits =
     let set = (code_use_of operation).reads in
     let used : use_of instr ≡ code_use_of operation = ap (λ o. option_map_or code_use_of o (goes_on none none)) is in
     subst (KeepsTo instr) (sym ends.1) (record {
       reads = λ flag low reads. rw used (reads_all set flag exit ends.0 low ends.2 reads);
       exits = rw (goes_all set instr.after exit ends.0 ends.2) exits.goes;
-      computed = λ is. exits.computed (computes_all set exit ends.0 ends.2 is);
+      computed = λ some. exits.computed (sym (computes_last set exit ends.0 ends.2) ∙ some);
+      computes = λ other found. subst (λ (o : Operation). list_any leaves_computed (ends.0 ++ Leave exit ∷ []) ≡ computes_address o instr) (same_Some _ _ (sym is ∙ found))
+          (computes_last set exit ends.0 ends.2 ∙ just);
     })
 
 -- ---- exits
@@ -224,11 +228,19 @@ module _ (operation : Operation) (instr : Instr) (is : operation_at instr.opcode
   unfolding jump_of
   jump_keeps fixed = jump_keeps_at (operand instr 0) (rw is fixed)
 
+-- a jump computes its address just where the code doesn't fix it
+jump_computes : (to : Operand) → leaves_computed (Leave (jump_exit to)) ≡ is_none (fixed_address to)
+jump_computes (operands.Place (bases.Fixed address false) None) = refl
+jump_computes _ = refl
+
+pub jump_computes_for : (instr : Instr) → leaves_computed (Leave (jump_exit (operand instr 0))) ≡ is_none (fixed_address (operand instr 0))
+jump_computes_for instr = jump_computes (operand instr 0)
+
 -- ---- plans
 pub plan_keeps : (operation : Operation) (instr : Instr) (plan : Plan) (program : List Micro) → operation_at instr.opcode ≡ Some operation
-    → IsInner (code_use_of operation).reads (plan.before ++ plan.behind) → ExitKeeps instr plan.exit
+    → IsInner (code_use_of operation).reads (plan.before ++ plan.behind) → leaves_computed (Leave plan.exit) ≡ computes_address operation instr → ExitKeeps instr plan.exit
     → program ≡ program_of (sources_of operation) plan instr → KeepsTo instr program
-plan_keeps operation instr plan program is inner exits made =
+plan_keeps operation instr plan program is inner just exits made =
     let set = (code_use_of operation).reads in
     let parts = and_parts _ _ (sym (list_all-append (is_inner set) plan.before plan.behind) ∙ inner) in
     let codes = sources_of operation in
@@ -237,4 +249,4 @@ plan_keeps operation instr plan program is inner exits made =
     let specifiers = specifiers_from 0 plan.slots instr in
     keeps operation instr plan.exit program is (subst (Ends set plan.exit) (sym made)
     (ends_all set plan.exit (operands_program specifiers no_steps) plan.before (write_program plan.target steps) plan.behind (end_program plan.target behind) (codes_program codes)
-    (operands_inner set specifiers no_steps) parts.0 (target_inner set plan.target steps) parts.1 (end_inner set plan.target behind) (codes_inner set codes.nzv codes.c))) exits
+    (operands_inner set specifiers no_steps) parts.0 (target_inner set plan.target steps) parts.1 (end_inner set plan.target behind) (codes_inner set codes.nzv codes.c))) just exits

@@ -31,13 +31,13 @@ use Rattle.micro_ops.specs.declared.program.Micro.{Micro}
 use Rattle.micro_ops.specs.declared.program.Micro.TheVariants.{Compute, Probe, Read, Write, Commit}
 use Rattle.micro_ops.specs.declared.program.MicroOp.TheVariants as ops
 use Rattle.operand_programs.specs.Operands.{IsTarget}
-use Rattle.micro_lower.specs.Lowering.{AreLongOperands, KeepsTo}
+use Rattle.micro_lower.specs.Lowering.{AreLongOperands, KeepsTo, computes_address}
 use Rattle.micro_lower.specs.Plans.{Plan, program_of}
 use Rattle.micro_lower.specs.Programs.{flags_of, flag_test, inversion, branch_if_program, subroutine_program, return_program, plain_program_of}
 use Rattle.micro_lower.specs.Rows.{move_row, arithmetic_row, control_row, own_program_of, row_program_of, branch_exit, move_plan, clear_plan, move_zero_extended_plan, move_complemented_plan, move_negated_plan, convert_plan, move_address_plan, push_address_plan, push_long_plan, compare_plan, test_plan, bit_test_plan, by_one_plan, two_operands_plan, three_operands_plan, low_bit_plan, subtract_one_plan, add_one_plan, add_compare_plan, jump_plan, jump_to_subroutine_plan, add_with_carry_plan, change_mode_plan, subtract_with_carry_plan, rotate_plan, arithmetic_shift_plan, change_psw_plan, bit_tested, bit_stored, byte_program, before_bit, bit_branch_plan, before_aligned, add_aligned_plan, move_psl_plan}
 use Rattle.micro_lower.proofs.Covered.{targeted}
 use Rattle.micro_lower.proofs.Inner.{IsInner, joined}
-use Rattle.micro_lower.proofs.Keeping.{Ends, ExitKeeps, keeps, ends_here, next_keeps, breakpoint_keeps, branch_fixed, fixed_keeps, choice_keeps, computed_keeps, jump_keeps, plan_keeps}
+use Rattle.micro_lower.proofs.Keeping.{Ends, ExitKeeps, keeps, ends_here, next_keeps, breakpoint_keeps, branch_fixed, fixed_keeps, choice_keeps, computed_keeps, jump_computes_for, jump_keeps, plan_keeps}
 use Rattle.micro_lower.proofs.Lowered.{slots_of, second, third, fourth}
 use Rattle.micro_lower.proofs.ProductLower.{product_keeps}
 use Rattle.micro_lower.proofs.Spelled.{Given, given}
@@ -86,23 +86,23 @@ return_ends set =
 pub plain_keep : (operation : Operation) → Keeps operation (λ instr program. plain_program_of operation instr ≡ Some program)
 unfolding plain_program_of code_use_of operands_of
 plain_keep operations.NoOperation instr program spelled long is made =
-    subst (KeepsTo instr) (same_Some _ _ made) (keeps operations.NoOperation instr exits.Next _ is (ends_here _ exits.Next [] refl) (next_keeps instr exits.Next refl refl))
+    subst (KeepsTo instr) (same_Some _ _ made) (keeps operations.NoOperation instr exits.Next _ is (ends_here _ exits.Next [] refl) refl (next_keeps instr exits.Next refl refl))
 plain_keep operations.Breakpoint instr program spelled long is made =
-    subst (KeepsTo instr) (same_Some _ _ made) (keeps operations.Breakpoint instr exits.Breakpoint _ is (ends_here _ exits.Breakpoint [] refl) (breakpoint_keeps instr))
+    subst (KeepsTo instr) (same_Some _ _ made) (keeps operations.Breakpoint instr exits.Breakpoint _ is (ends_here _ exits.Breakpoint [] refl) refl (breakpoint_keeps instr))
 plain_keep (operations.Branch width) instr program spelled long is made =
     let fixed = branch_fixed instr 0 (displaced instr (size_of width) _ spelled is refl) in
     let to = target (operand instr 0) in
-    subst (KeepsTo instr) (same_Some _ _ made) (keeps (operations.Branch width) instr (exits.Fixed to) _ is (ends_here _ (exits.Fixed to) [] refl) (fixed_keeps _ instr is refl to fixed))
+    subst (KeepsTo instr) (same_Some _ _ made) (keeps (operations.Branch width) instr (exits.Fixed to) _ is (ends_here _ (exits.Fixed to) [] refl) refl (fixed_keeps _ instr is refl to fixed))
 plain_keep (operations.BranchIf condition) instr program spelled long is made =
     let fixed = branch_fixed instr 0 (displaced instr Byte _ spelled is refl) in
     let to = target (operand instr 0) in
-    subst (KeepsTo instr) (same_Some _ _ made) (keeps (operations.BranchIf condition) instr (exits.Choice 0 to instr.after) _ is (branch_if_ends condition to instr.after) (choice_keeps _ instr is refl 0 to fixed))
+    subst (KeepsTo instr) (same_Some _ _ made) (keeps (operations.BranchIf condition) instr (exits.Choice 0 to instr.after) _ is (branch_if_ends condition to instr.after) refl (choice_keeps _ instr is refl 0 to fixed))
 plain_keep (operations.BranchToSubroutine width) instr program spelled long is made =
     let fixed = branch_fixed instr 0 (displaced instr (size_of width) _ spelled is refl) in
     let to = target (operand instr 0) in
-    subst (KeepsTo instr) (same_Some _ _ made) (keeps (operations.BranchToSubroutine width) instr (exits.Fixed to) _ is (subroutine_ends _ to instr.after) (fixed_keeps _ instr is refl to fixed))
+    subst (KeepsTo instr) (same_Some _ _ made) (keeps (operations.BranchToSubroutine width) instr (exits.Fixed to) _ is (subroutine_ends _ to instr.after) refl (fixed_keeps _ instr is refl to fixed))
 plain_keep operations.ReturnFromSubroutine instr program spelled long is made =
-    subst (KeepsTo instr) (same_Some _ _ made) (keeps operations.ReturnFromSubroutine instr (exits.Computed 0) _ is (return_ends _) (computed_keeps _ instr is refl 0))
+    subst (KeepsTo instr) (same_Some _ _ made) (keeps operations.ReturnFromSubroutine instr (exits.Computed 0) _ is (return_ends _) refl (computed_keeps _ instr is refl 0))
 plain_keep _ instr program spelled long is made = cc
 
 -- ---- rows
@@ -156,68 +156,68 @@ branch_keeps : (operation : Operation) (instr : Instr) → operation_at instr.op
 branch_keeps operation instr is ends number displaced = choice_keeps operation instr is ends 0 (target (operand instr number)) (branch_fixed instr number displaced)
 
 next_row : (operation : Operation) (instr : Instr) (plan : Plan) (program : List Micro) → operation_at instr.opcode ≡ Some operation
-    → IsInner (code_use_of operation).reads (plan.before ++ plan.behind) → plan.exit ≡ exits.Next
+    → IsInner (code_use_of operation).reads (plan.before ++ plan.behind) → plan.exit ≡ exits.Next → computes_address operation instr ≡ false
     → Some (program_of (sources_of operation) plan instr) ≡ Some program → KeepsTo instr program
-next_row operation instr plan program is inner exit row =
-    plan_keeps operation instr plan program is inner (rw exit (next_keeps instr exits.Next refl refl)) (sym (same_Some _ _ row))
+next_row operation instr plan program is inner exit none row =
+    plan_keeps operation instr plan program is inner (rw (exit, none) refl) (rw exit (next_keeps instr exits.Next refl refl)) (sym (same_Some _ _ row))
 
 two_operands_keep : (operation : BinaryOperation) (width : Width) → KeepsByRow (operations.TwoOperands operation width)
 unfolding own_program_of move_row arithmetic_row control_row code_use_of
 two_operands_keep binary.Divide width instr program spelled long is row = cc
-two_operands_keep operation width instr program spelled long is row = next_row (operations.TwoOperands operation width) instr (two_operands_plan operation width instr) program is refl refl row
+two_operands_keep operation width instr program spelled long is row = next_row (operations.TwoOperands operation width) instr (two_operands_plan operation width instr) program is refl refl refl row
 
 three_operands_keep : (operation : BinaryOperation) (width : Width) → KeepsByRow (operations.ThreeOperands operation width)
 unfolding own_program_of move_row arithmetic_row control_row code_use_of
 three_operands_keep binary.Divide width instr program spelled long is row = cc
-three_operands_keep operation width instr program spelled long is row = next_row (operations.ThreeOperands operation width) instr (three_operands_plan operation width instr) program is refl refl row
+three_operands_keep operation width instr program spelled long is row = next_row (operations.ThreeOperands operation width) instr (three_operands_plan operation width instr) program is refl refl refl row
 
 pub rows_keep : (operation : Operation) → KeepsByRow operation
 unfolding own_program_of move_row arithmetic_row control_row code_use_of operands_of jump_target
-rows_keep (operations.Move size) instr program spelled long is row = next_row (operations.Move size) instr (move_plan size instr) program is refl refl row
-rows_keep (operations.MoveZeroExtended from to) instr program spelled long is row = next_row (operations.MoveZeroExtended from to) instr (move_zero_extended_plan from to instr) program is refl refl row
-rows_keep (operations.Clear size) instr program spelled long is row = next_row (operations.Clear size) instr (clear_plan size instr) program is refl refl row
-rows_keep (operations.MoveComplemented width) instr program spelled long is row = next_row (operations.MoveComplemented width) instr (move_complemented_plan width instr) program is refl refl row
-rows_keep (operations.MoveNegated width) instr program spelled long is row = next_row (operations.MoveNegated width) instr (move_negated_plan width instr) program is refl refl row
-rows_keep (operations.Convert from to) instr program spelled long is row = next_row (operations.Convert from to) instr (convert_plan from to instr) program is refl refl row
-rows_keep (operations.MoveAddress size) instr program spelled long is row = next_row (operations.MoveAddress size) instr (move_address_plan size instr) program is refl refl row
-rows_keep (operations.PushAddress size) instr program spelled long is row = next_row (operations.PushAddress size) instr (push_address_plan size) program is refl refl row
-rows_keep operations.PushLong instr program spelled long is row = next_row operations.PushLong instr (push_long_plan) program is refl refl row
-rows_keep (operations.Compare width) instr program spelled long is row = next_row (operations.Compare width) instr (compare_plan width) program is refl refl row
-rows_keep (operations.Test width) instr program spelled long is row = next_row (operations.Test width) instr (test_plan width) program is refl refl row
-rows_keep (operations.BitTest width) instr program spelled long is row = next_row (operations.BitTest width) instr (bit_test_plan width) program is refl refl row
-rows_keep (operations.Increment width) instr program spelled long is row = next_row (operations.Increment width) instr (by_one_plan ops.Add width instr) program is refl refl row
-rows_keep (operations.Decrement width) instr program spelled long is row = next_row (operations.Decrement width) instr (by_one_plan ops.Sub width instr) program is refl refl row
-rows_keep operations.SubtractWithCarry instr program spelled long is row = next_row operations.SubtractWithCarry instr (subtract_with_carry_plan instr) program is refl refl row
-rows_keep operations.AddWithCarry instr program spelled long is row = next_row operations.AddWithCarry instr (add_with_carry_plan instr) program is refl refl row
-rows_keep operations.Rotate instr program spelled long is row = next_row operations.Rotate instr (rotate_plan instr) program is refl refl row
-rows_keep operations.AddAlignedWord instr program spelled long is row = next_row operations.AddAlignedWord instr (add_aligned_plan instr) program is (aligned_inner _ (operand instr 1)) refl row
-rows_keep operations.ArithmeticShift instr program spelled long is row = next_row operations.ArithmeticShift instr (arithmetic_shift_plan instr) program is refl refl row
-rows_keep operations.BitSetPsw instr program spelled long is row = next_row operations.BitSetPsw instr (change_psw_plan ops.Or) program is refl refl row
-rows_keep operations.BitClearPsw instr program spelled long is row = next_row operations.BitClearPsw instr (change_psw_plan ops.AndNot) program is refl refl row
+rows_keep (operations.Move size) instr program spelled long is row = next_row (operations.Move size) instr (move_plan size instr) program is refl refl refl row
+rows_keep (operations.MoveZeroExtended from to) instr program spelled long is row = next_row (operations.MoveZeroExtended from to) instr (move_zero_extended_plan from to instr) program is refl refl refl row
+rows_keep (operations.Clear size) instr program spelled long is row = next_row (operations.Clear size) instr (clear_plan size instr) program is refl refl refl row
+rows_keep (operations.MoveComplemented width) instr program spelled long is row = next_row (operations.MoveComplemented width) instr (move_complemented_plan width instr) program is refl refl refl row
+rows_keep (operations.MoveNegated width) instr program spelled long is row = next_row (operations.MoveNegated width) instr (move_negated_plan width instr) program is refl refl refl row
+rows_keep (operations.Convert from to) instr program spelled long is row = next_row (operations.Convert from to) instr (convert_plan from to instr) program is refl refl refl row
+rows_keep (operations.MoveAddress size) instr program spelled long is row = next_row (operations.MoveAddress size) instr (move_address_plan size instr) program is refl refl refl row
+rows_keep (operations.PushAddress size) instr program spelled long is row = next_row (operations.PushAddress size) instr (push_address_plan size) program is refl refl refl row
+rows_keep operations.PushLong instr program spelled long is row = next_row operations.PushLong instr (push_long_plan) program is refl refl refl row
+rows_keep (operations.Compare width) instr program spelled long is row = next_row (operations.Compare width) instr (compare_plan width) program is refl refl refl row
+rows_keep (operations.Test width) instr program spelled long is row = next_row (operations.Test width) instr (test_plan width) program is refl refl refl row
+rows_keep (operations.BitTest width) instr program spelled long is row = next_row (operations.BitTest width) instr (bit_test_plan width) program is refl refl refl row
+rows_keep (operations.Increment width) instr program spelled long is row = next_row (operations.Increment width) instr (by_one_plan ops.Add width instr) program is refl refl refl row
+rows_keep (operations.Decrement width) instr program spelled long is row = next_row (operations.Decrement width) instr (by_one_plan ops.Sub width instr) program is refl refl refl row
+rows_keep operations.SubtractWithCarry instr program spelled long is row = next_row operations.SubtractWithCarry instr (subtract_with_carry_plan instr) program is refl refl refl row
+rows_keep operations.AddWithCarry instr program spelled long is row = next_row operations.AddWithCarry instr (add_with_carry_plan instr) program is refl refl refl row
+rows_keep operations.Rotate instr program spelled long is row = next_row operations.Rotate instr (rotate_plan instr) program is refl refl refl row
+rows_keep operations.AddAlignedWord instr program spelled long is row = next_row operations.AddAlignedWord instr (add_aligned_plan instr) program is (aligned_inner _ (operand instr 1)) refl refl row
+rows_keep operations.ArithmeticShift instr program spelled long is row = next_row operations.ArithmeticShift instr (arithmetic_shift_plan instr) program is refl refl refl row
+rows_keep operations.BitSetPsw instr program spelled long is row = next_row operations.BitSetPsw instr (change_psw_plan ops.Or) program is refl refl refl row
+rows_keep operations.BitClearPsw instr program spelled long is row = next_row operations.BitClearPsw instr (change_psw_plan ops.AndNot) program is refl refl refl row
 rows_keep operations.ExtendedMultiply instr program spelled long is row = product_keeps instr program is (sym (same_Some _ _ row))
-rows_keep operations.MovePsl instr program spelled long is row = next_row operations.MovePsl instr (move_psl_plan instr) program is refl refl row
+rows_keep operations.MovePsl instr program spelled long is row = next_row operations.MovePsl instr (move_psl_plan instr) program is refl refl refl row
 rows_keep operations.ChangeMode instr program spelled long is row =
-    plan_keeps operations.ChangeMode instr change_mode_plan program is refl (next_keeps instr (exits.Service 0) refl refl) (sym (same_Some _ _ row))
+    plan_keeps operations.ChangeMode instr change_mode_plan program is refl refl (next_keeps instr (exits.Service 0) refl refl) (sym (same_Some _ _ row))
 rows_keep (operations.BranchOnLowBit state) instr program spelled long is row =
     let slots = slots_of (operations.BranchOnLowBit state) instr (low_bit_plan state instr) program spelled long is (sym (same_Some _ _ row)) refl refl (lit≤ tt) in
-    plan_keeps (operations.BranchOnLowBit state) instr (low_bit_plan state instr) program is (low_bit_inner _ state instr) (branch_keeps (operations.BranchOnLowBit state) instr is refl 1 (second _ _ _ instr slots).0.0) (sym (same_Some _ _ row))
+    plan_keeps (operations.BranchOnLowBit state) instr (low_bit_plan state instr) program is (low_bit_inner _ state instr) refl (branch_keeps (operations.BranchOnLowBit state) instr is refl 1 (second _ _ _ instr slots).0.0) (sym (same_Some _ _ row))
 rows_keep (operations.SubtractOneBranch or_equal) instr program spelled long is row =
     let slots = slots_of (operations.SubtractOneBranch or_equal) instr (subtract_one_plan or_equal instr) program spelled long is (sym (same_Some _ _ row)) refl refl (lit≤ tt) in
-    plan_keeps (operations.SubtractOneBranch or_equal) instr (subtract_one_plan or_equal instr) program is (subtract_one_inner _ or_equal instr) (branch_keeps (operations.SubtractOneBranch or_equal) instr is refl 1 (second _ _ _ instr slots).0.0) (sym (same_Some _ _ row))
+    plan_keeps (operations.SubtractOneBranch or_equal) instr (subtract_one_plan or_equal instr) program is (subtract_one_inner _ or_equal instr) refl (branch_keeps (operations.SubtractOneBranch or_equal) instr is refl 1 (second _ _ _ instr slots).0.0) (sym (same_Some _ _ row))
 rows_keep (operations.AddOneBranch or_equal) instr program spelled long is row =
     let slots = slots_of (operations.AddOneBranch or_equal) instr (add_one_plan or_equal instr) program spelled long is (sym (same_Some _ _ row)) refl refl (lit≤ tt) in
-    plan_keeps (operations.AddOneBranch or_equal) instr (add_one_plan or_equal instr) program is (add_one_inner _ or_equal instr) (branch_keeps (operations.AddOneBranch or_equal) instr is refl 2 (third _ _ _ _ instr slots).0.0) (sym (same_Some _ _ row))
+    plan_keeps (operations.AddOneBranch or_equal) instr (add_one_plan or_equal instr) program is (add_one_inner _ or_equal instr) refl (branch_keeps (operations.AddOneBranch or_equal) instr is refl 2 (third _ _ _ _ instr slots).0.0) (sym (same_Some _ _ row))
 rows_keep (operations.AddCompareBranch width) instr program spelled long is row =
     let slots = slots_of (operations.AddCompareBranch width) instr (add_compare_plan width instr) program spelled long is (sym (same_Some _ _ row)) refl refl (lit≤ tt) in
-    plan_keeps (operations.AddCompareBranch width) instr (add_compare_plan width instr) program is refl (branch_keeps (operations.AddCompareBranch width) instr is refl 3 (fourth _ _ _ _ _ instr slots).0.0) (sym (same_Some _ _ row))
+    plan_keeps (operations.AddCompareBranch width) instr (add_compare_plan width instr) program is refl refl (branch_keeps (operations.AddCompareBranch width) instr is refl 3 (fourth _ _ _ _ _ instr slots).0.0) (sym (same_Some _ _ row))
 rows_keep (operations.BranchOnBit branch) instr program spelled long is row =
     let slots = slots_of (operations.BranchOnBit branch) instr (bit_branch_plan branch instr) program spelled long is (sym (same_Some _ _ row)) refl refl (lit≤ tt) in
-    plan_keeps (operations.BranchOnBit branch) instr (bit_branch_plan branch instr) program is (bit_inner _ (operand instr 1) branch.state branch.store)
+    plan_keeps (operations.BranchOnBit branch) instr (bit_branch_plan branch instr) program is (bit_inner _ (operand instr 1) branch.state branch.store) refl
     (branch_keeps (operations.BranchOnBit branch) instr is refl 2 (third _ _ _ _ instr slots).0.0) (sym (same_Some _ _ row))
 rows_keep operations.Jump instr program spelled long is row =
-    plan_keeps operations.Jump instr (jump_plan instr) program is refl (jump_keeps _ instr is refl refl) (sym (same_Some _ _ row))
+    plan_keeps operations.Jump instr (jump_plan instr) program is refl (jump_computes_for instr) (jump_keeps _ instr is refl refl) (sym (same_Some _ _ row))
 rows_keep operations.JumpToSubroutine instr program spelled long is row =
-    plan_keeps operations.JumpToSubroutine instr (jump_to_subroutine_plan instr) program is refl (jump_keeps _ instr is refl refl) (sym (same_Some _ _ row))
+    plan_keeps operations.JumpToSubroutine instr (jump_to_subroutine_plan instr) program is refl (jump_computes_for instr) (jump_keeps _ instr is refl refl) (sym (same_Some _ _ row))
 rows_keep (operations.TwoOperands operation width) instr program spelled long is row = two_operands_keep operation width instr program spelled long is row
 rows_keep (operations.ThreeOperands operation width) instr program spelled long is row = three_operands_keep operation width instr program spelled long is row
 rows_keep _ instr program spelled long is row = cc

@@ -115,4 +115,4 @@ product_keeps instr program is made =
     (ends_behind set exits.Next (operands_program (factors_of instr) no_steps) (product_program ++ rest) (operands_inner set (factors_of instr) no_steps)
     (ends_behind set exits.Next product_program rest refl
     (ends_all set exits.Next (operands_program (others_of instr) steps) plan.before (write_program plan.target behind) plan.behind (end_program plan.target behind) (codes_program codes)
-    (operands_inner set (others_of instr) steps) refl (target_inner set plan.target behind) refl (end_inner set plan.target behind) (codes_inner set codes.nzv codes.c))))) (next_keeps instr exits.Next refl refl)
+    (operands_inner set (others_of instr) steps) refl (target_inner set plan.target behind) refl (end_inner set plan.target behind) (codes_inner set codes.nzv codes.c))))) refl (next_keeps instr exits.Next refl refl)

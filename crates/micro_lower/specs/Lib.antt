@@ -3,3 +3,4 @@ pub mod Programs
 pub mod Plans
 pub mod Rows
 pub mod Ends
+pub mod Refusal

@@ -1,16 +1,17 @@
 -- What a lowered program has to meet: it does what the instruction does, the temporaries hold what its condition codes
 -- come from where it leaves, it fits a block, and it reads no other code and goes nowhere else than the instruction.
-use Rattle.std.specs.Prelude.{◌≡◌, ◌↔◌, ◌⊎◌, ◌<◌, ◌==◌, ℕ, Bool, true, All, List, Some, nat_eq, if◌then◌else◌}
+use Rattle.std.specs.Prelude.{◌≡◌, ◌↔◌, ◌⊎◌, ◌<◌, ◌==◌, ℕ, Bool, true, false, is_none, All, List, Some, nat_eq, if◌then◌else◌}
 use Rattle.std.specs.List.{list_any}
 use Rattle.vax_form.specs.Operation.{operation_at}
 use Rattle.vax_form.specs.Row.{class_at}
 use Rattle.vax_form.specs.State.{IsState}
-use Rattle.vax_form.specs.Targets.{fixed_targets}
+use Rattle.vax_form.specs.Targets.{fixed_targets, jump_target}
 use Rattle.vax_form.specs.Tree.{Same}
 use Rattle.vax_form.specs.declared.instr.Instr.{Instr}
 use Rattle.vax_form.specs.declared.instr.Operand.{Operand}
 use Rattle.vax_form.specs.declared.instr.Operand.TheVariants as operands
 use Rattle.vax_form.specs.declared.operation.Operation.{Operation}
+use Rattle.vax_form.specs.declared.operation.Operation.TheVariants.{Jump, JumpToSubroutine, ReturnFromSubroutine}
 use Rattle.vax_form.specs.declared.row.Class.TheVariants.{Translated}
 use Rattle.vax_form.specs.declared.pages.Pages.{Pages}
 use Rattle.vax_form.specs.declared.state.Flags.{Flags}
@@ -62,6 +63,13 @@ holds_flag flag set = if flag == 0 then set.n else if flag == 1 then set.z else 
 abbrev pub GoesTo : Instr → (address : ℕ) → Type 0
 GoesTo instr address = (address ≡ instr.after) ⊎ (((use_of instr).ends ≡ true) × (list_any (nat_eq address) (fixed_targets instr) ≡ true))
 
+-- only running it tells where RSB goes, and JMP and JSB whose address the code doesn't fix
+abbrev pub computes_address : Operation → Instr → Bool
+computes_address ReturnFromSubroutine instr = true
+computes_address Jump instr = is_none (jump_target instr Jump)
+computes_address JumpToSubroutine instr = is_none (jump_target instr JumpToSubroutine)
+computes_address _ instr = false
+
 pub record KeepsTo (instr : Instr) (program : List Micro) : Type 0 where
   -- it reads no other codes than the instruction
   pub reads : (flag : ℕ) → flag < 4 → list_any (reads_flag flag) program ≡ true → holds_flag flag (use_of instr).reads ≡ true
@@ -69,6 +77,8 @@ pub record KeepsTo (instr : Instr) (program : List Micro) : Type 0 where
   pub exits : All (GoesTo instr) (addresses_of instr.after program)
   -- it leaves to an address that it computes only where the instruction may jump
   pub computed : list_any leaves_computed program ≡ true → (use_of instr).ends ≡ true
+  -- and it does so just where only running the instruction tells where it goes
+  pub computes : (operation : Operation) → operation_at instr.opcode ≡ Some operation → list_any leaves_computed program ≡ computes_address operation instr
 
 -- ---- the program of an instruction
 pub record IsLowered (instr : Instr) (program : List Micro) : Type 0 where

@@ -20,6 +20,20 @@ pub enum LowerFault {
     WantOfMemory,
 }
 
+impl LowerFault {
+    ghost use Rattle.micro_lower.specs.Refusal.{number_of};
+
+    /// The number of the refusal. Want of memory has none.
+    pub fn number(&self) -> Option<u8>
+        ensures { result ≡ number_of self.now }
+    {
+        match self {
+            LowerFault::NotTranslated => Some(1),
+            LowerFault::WantOfMemory => None,
+        }
+    }
+}
+
 /// Whether an instruction has a program: whether it is translated.
 #[tactic(auto, unfolding(crate::specs::Rows::has_program))]
 pub fn has_program(instr: &Instr) -> bool
