@@ -1,6 +1,7 @@
 -- Accesses that instructions ask for inside a block.
-use Rattle.std.specs.Prelude.{◌≡◌, ◌+◌, ◌<◌, ℕ, ℤ, Some, None}
+use Rattle.std.specs.Prelude.{◌≡◌, ◌+◌, ◌<◌, ◌&&◌, ℕ, ℤ, Bool, false, Option, Some, None, is_none, is_some}
 use Rattle.address_map.specs.Pairs.{address_at}
+use Rattle.alpha_encode.specs.declared.instr.AlphaInstr.{AlphaInstr}
 use Rattle.alpha_encode.specs.declared.instr.AlphaInstr.TheVariants.{Memory}
 use Rattle.alpha_meaning.specs.Memory.{kind_of, bytes_of, address_of, access_of}
 use Rattle.alpha_meaning.specs.State.{Alpha}
@@ -24,3 +25,12 @@ pub record AsksInside (source : Source) (c : Alpha) (a : Asked) : Type 0 where
   pub access : a.access ≡ access_of a.op a.access.kind (address_of a.op (c.regs base) disp) (c.regs a.register)
   pub inside : address_at source.code.map (c.pc + 1) ≡ None
   pub few : c.pc < most_words
+
+-- LDA and LDAH access nothing
+abbrev pub asks_access : Option AlphaInstr → Bool
+asks_access (Some (Memory op register base disp)) = is_some (kind_of op)
+asks_access other = false
+
+-- the word there asks for an access, and no block begins at the next
+abbrev pub asks_inside : Source → Alpha → Bool
+asks_inside source c = asks_access (fetch_of source.code.words c.pc) && is_none (address_at source.code.map (c.pc + 1))

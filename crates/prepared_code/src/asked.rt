@@ -1,12 +1,12 @@
 // An access that an instruction asks for inside a block.
-ghost use Rattle.std.specs.Prelude.{◌≡◌, ◌<◌, ◌+◌, ◌%◌, ◌^◌, IfSome};
+ghost use Rattle.std.specs.Prelude.{◌≡◌, ◌<◌, ◌+◌, ◌%◌, ◌^◌, IfSome, is_some};
 ghost use Rattle.alpha_machine.specs.Step.{state_of};
 ghost use Rattle.alpha_meaning.specs.Act.{memory_finish};
 ghost use Rattle.alpha_meaning.specs.Pieces.{loaded, most_words};
 ghost use Rattle.alpha_meaning.specs.State.{Alpha, regs_of};
 ghost use Rattle.block_law.specs.Translations.{fetch_of};
 ghost use Rattle.alpha_encode.specs.declared.instr.AlphaInstr.TheVariants.{Memory};
-ghost use Rattle.prepared_code.specs.Asks.{AsksInside, IsOfItsRow};
+ghost use Rattle.prepared_code.specs.Asks.{AsksInside, IsOfItsRow, asks_inside};
 ghost use Rattle.prepared_code.specs.Effects.{behind};
 
 use crate::effect::{Effect, commit};
@@ -80,9 +80,10 @@ impl Asked {
 }
 
 impl<'a> Prepared<'a> {
-    /// What the word there asks for, where it is an access and no block begins at the next.
+    /// What the word there asks for, where it is an access and no block begins at the next; None else.
     #[inline(always)]
     pub fn asked(&self, cpu: &Cpu) -> Option<Asked>
+        ensures just { is_some result ≡ asks_inside self.now (state_of cpu.now) }
         ensures asks { IfSome result (AsksInside self.now (state_of cpu.now)) }
         ensures row { IfSome result IsOfItsRow }
     {
@@ -98,6 +99,7 @@ impl<'a> Prepared<'a> {
         requires rb { rb < 32 }
         requires few { cpu.now.pc < most_words }
         requires fetched { fetch_of self.now.code.words cpu.now.pc ≡ Some (Memory op ra rb disp) }
+        ensures just { is_some result ≡ asks_inside self.now (state_of cpu.now) }
         ensures asks { IfSome result (AsksInside self.now (state_of cpu.now)) }
         ensures row { IfSome result IsOfItsRow }
     {

@@ -6,7 +6,7 @@ ghost use Rattle.alpha_machine.specs.Step.{state_of};
 ghost use Rattle.block_law.specs.Follows.{probe_count, probe_address};
 ghost use Rattle.alpha_meaning.specs.Pieces.{most_words};
 ghost use Rattle.block_law.specs.Translations.{fetch_of};
-ghost use Rattle.prepared_code.specs.Probes.{Passes};
+ghost use Rattle.prepared_code.specs.Probes.{Passes, is_allowed, passes};
 ghost use Rattle.vax_form.specs.Pages.{first_bad};
 
 use crate::prepared::Prepared;
@@ -33,7 +33,8 @@ pub fn probe_count(point: &Point, cpu: &Cpu) -> u16
 // Whether all bytes of a probe may be used. More than eight are left to be asked one by one.
 #[tactic(auto, unfolding(alpha_meaning::specs::State::regs_of))]
 fn is_allowed(pages: &Pages, point: &Point, cpu: &Cpu) -> bool
-    ensures { result ≡ true → first_bad pages.now point.now.write (probe_address (state_of cpu.now).regs) (probe_count point.now (state_of cpu.now).regs) ≡ None }
+    ensures just { result ≡ is_allowed pages.now point.now (state_of cpu.now).regs }
+    ensures free { result ≡ true → first_bad pages.now point.now.write (probe_address (state_of cpu.now).regs) (probe_count point.now (state_of cpu.now).regs) ≡ None }
 {
     let address = (cpu.r[registers::ADDRESS as usize] % (1 << 32)) as u32;
     let count = probe_count(point, cpu);
@@ -48,7 +49,8 @@ impl<'a> Prepared<'a> {
     fn goes_on(&self, cpu: &Cpu) -> bool
         requires calls { fetch_of self.now.code.words cpu.now.pc ≡ Some (Pal PROBE) }
         requires few { cpu.now.pc < most_words }
-        ensures { result ≡ true → Passes self.now (state_of cpu.now) }
+        ensures just { result ≡ passes self.now (state_of cpu.now) }
+        ensures passes { result ≡ true → Passes self.now (state_of cpu.now) }
     {
         match self.points().find(cpu.pc) {
             Some(point) => is_allowed(self.pages(), point, cpu) && !self.begins(cpu.pc + 1),
@@ -58,11 +60,12 @@ impl<'a> Prepared<'a> {
 
     /// Whether the word there is a probe of at most eight bytes that may all be used, and no block begins at the next.
     pub fn passes(&self, cpu: &Cpu) -> bool
+        ensures just { result ≡ passes self.now (state_of cpu.now) }
         ensures passes { result ≡ true → Passes self.now (state_of cpu.now) }
         ensures few { result ≡ true → cpu.now.pc < most_words }
     {
         match self.instr_at(cpu.pc) {
-            Some(AlphaInstr::Pal(pal::PROBE)) => self.goes_on(cpu),
+            Some(AlphaInstr::Pal(number)) => number == pal::PROBE && self.goes_on(cpu),
             _ => false,
         }
     }
