@@ -34,7 +34,7 @@ use Rattle.vax_form.specs.Row.{class_at}
 use Rattle.vax_form.specs.declared.row.Class.TheVariants.{Translated}
 use Rattle.code_runs.specs.Promises.{AreTranslated}
 use Rattle.code_runs.proofs.Meeting.{rules_always_meet}
-use Rattle.translate.specs.Compiled.{AreReadyFor}
+use Rattle.translate.specs.Compiled.{AreAlwaysReady, AreReadyFor}
 use Rattle.micro_lower.specs.Rows.{has_program}
 use Rattle.micro_lower.proofs.Instructions.{programs_are_translated}
 use Rattle.flow_discovery.specs.Mapped.{has_block}
@@ -132,6 +132,13 @@ pub ready_for : (instrs : List Instr) (order : AreInOrder instrs) → AreTransla
 ready_for instrs order translated place lt =
     let meet = rules_always_meet instrs order translated in
     record { reads = meet.reads place lt; behind = refl; ends = meet.ends place lt; narrow = narrow_at instrs order place lt }
+
+pub always_ready : AreAlwaysReady
+always_ready = record {
+  together = keeps_together;
+  narrow = λ operation live before. narrow_behind (sources_of operation).nzv live.v before.v (operation_narrow operation);
+  ready = ready_for;
+}
 
 -- what holds of each mapped element
 pub all_of_map : {A B : Type 0} (P : B → Type 0) (f : A → B) (xs : List A) → All P (map f xs) → All (λ x. P (f x)) xs

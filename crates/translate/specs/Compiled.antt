@@ -7,6 +7,7 @@ use Rattle.vax_form.specs.GrammarLaws.{AreBytes}
 use Rattle.vax_form.specs.PageTable.{IsPageTable}
 use Rattle.vax_form.specs.State.{IsState}
 use Rattle.vax_form.specs.declared.instr.Instr.{Instr}
+use Rattle.vax_form.specs.declared.operation.Operation.{Operation}
 use Rattle.vax_form.specs.declared.pages.Pages.{Pages}
 use Rattle.vax_form.specs.declared.state.Flags.{Flags}
 use Rattle.vax_form.specs.declared.state.VaxState.{VaxState}
@@ -22,9 +23,11 @@ use Rattle.block_law.specs.Rounds.{block_steps, new_round}
 use Rattle.block_law.specs.Tidy.{codes_written}
 use Rattle.block_law.specs.Translations.{Code, placed}
 use Rattle.address_map.specs.Pairs.{word_at}
+use Rattle.micro_ops.specs.Sources.{sources_of}
 use Rattle.image_meaning.specs.Meant.{image_meaning}
 use Rattle.branch_layout.specs.Layouts.{AddressesRise, AreBlocks, IsLayout, Placed, layout}
 use Rattle.vax_form.specs.Targets.{has}
+use Rattle.code_runs.specs.Promises.{AreTranslated}
 use Rattle.code_runs.specs.Ready.{AreReady}
 use Rattle.code_runs.specs.Rules.{rules_behind}
 use Rattle.flag_codegen.specs.Made.{codes_made}
@@ -34,7 +37,7 @@ use Rattle.code_runs.specs.Codes.{AreCodes, code_sources, codes_at, instruction_
 use Rattle.code_runs.specs.Runs.{AreInOrder, instr_at}
 use Rattle.code_runs.specs.declared.codes.InstrCodes.{InstrCodes}
 use Rattle.exception_records.specs.Codes.{all_ready}
-use Rattle.program_codegen.specs.Programs.{is_narrow}
+use Rattle.program_codegen.specs.Programs.{KeepsTogether, is_narrow}
 use Rattle.micro_lower.specs.Lowering.{GoesTo}
 use Rattle.program_codegen.specs.Promises.{BeginsBy, HasRules}
 use Rattle.program_codegen.specs.Words.{program_block}
@@ -98,6 +101,12 @@ pub record AreReadyFor (instr : Instr) (codes : InstrCodes) : Type 0 where
   pub behind : codes.behind ≡ rules_behind (code_sources instr) codes.live codes.before
   pub ends : (use_of instr).ends ≡ true → codes.behind ≡ all_ready
   pub narrow : is_narrow codes.behind.v ≡ true
+
+-- what a block asks for: of every operation's sources, of the rules behind it, and along every run
+pub record AreAlwaysReady : Type 0 where
+  pub together : (operation : Operation) → KeepsTogether (sources_of operation)
+  pub narrow : (operation : Operation) (live : Flags) (before : Rules) → is_narrow before.v ≡ true → is_narrow (rules_behind (sources_of operation) live before).v ≡ true
+  pub ready : (instrs : List Instr) → AreInOrder instrs → AreTranslated instrs → (place : ℕ) → place < length instrs → AreReadyFor (instr_at instrs place) (codes_at instrs place)
 
 -- ---- a translation
 -- addresses rise

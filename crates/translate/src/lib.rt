@@ -27,7 +27,7 @@ use exception_records::Block;
 use flow_discovery::reach;
 use image_file::Image;
 use image_meaning::laws::page_table_has_bytes;
-pub use laws::translation_law;
+pub use laws::{ready_law, translation_law};
 use micro_lower::has_program;
 pub use refusal::{Numbers, TranslateRefusal};
 use std::alloc::Global;
