@@ -43,6 +43,13 @@ pub struct Limits {
     pub miss: u16,
 }
 
+/// The limits of a run where no option gives others.
+pub const DEFAULT_LIMITS: Limits = Limits {
+    budget: BUDGET,
+    events: EVENTS as u32,
+    miss: MISS as u16,
+};
+
 /// What a command line asks for. The names are words of the line.
 #[derive(Debug, Drop)]
 pub enum Command<'a> {

@@ -1,7 +1,7 @@
 -- The command `generate`.
 use Rattle.std.specs.Prelude.{◌+◌, ◌%◌, ◌^◌, ℕ, zero, suc, List, [], length}
 use Rattle.std.specs.Option.{unwrap_or}
-use Rattle.command_words.specs.declared.commands.Limits.{Limits}
+use Rattle.command_words.specs.declared.commands.TheConstants.{DEFAULT_LIMITS}
 use Rattle.vt_outside.specs.Sink.{SinkMeaning}
 use Rattle.image_file.specs.Spelling.{spelling}
 use Rattle.image_file.specs.Whole.{IsWhole}
@@ -16,11 +16,6 @@ use Rattle.vest_files.specs.declared.status.Done.{Done}
 use Rattle.vest_runs.specs.Delivery.{Delivers}
 use Rattle.vest_runs.specs.Keeping.{HasKept, processors_of, set_up_of}
 use Rattle.vest_runs.specs.Kept.{KeptValue}
-
--- the limits of a run where no option gives others: the most steps of a processor, the most entries of a history, and that no
--- store conditional misses
-abbrev pub default_limits : Limits
-default_limits = record { budget = 100000000; events = 4194304; miss = 0 }
 
 -- ---- what `out` takes
 
@@ -46,6 +41,6 @@ pub record Generates (result : Done) (number : ℕ) (out out' report report' : S
   pub code : Code
   pub whole : IsWhole (generated_image number)
   pub translated : IsTranslated (generated_image number) [] code
-  pub has_kept : HasKept (generated_image number) code [] default_limits [] kept
+  pub has_kept : HasKept (generated_image number) code [] DEFAULT_LIMITS [] kept
   pub delivered : Delivers result (lines_of number code (set_up_of (generated_image number) kept) kept.history) (processors_of kept)
       out out' report report'

@@ -3,10 +3,11 @@ ghost use Rattle.std.specs.Prelude.{◌≡◌, ◌≤◌, IfOk, []};
 ghost use Rattle.image_file.specs.Whole.{IsWhole};
 ghost use Rattle.report_text.specs.Generated.{generated_image};
 ghost use Rattle.vest_files.specs.Stages.{IsTranslated};
-ghost use Rattle.vest_runs.specs.Generate.{default_limits, lines_of, memory_sum};
+ghost use Rattle.command_words.specs.declared.commands.TheConstants as default;
+ghost use Rattle.vest_runs.specs.Generate.{lines_of, memory_sum};
 
 use crate::execute::{Run, Task};
-use command_words::Limits;
+use command_words::DEFAULT_LIMITS;
 use generated_flow::reaches_few;
 use image_file::Image;
 use memory_core::MemState;
@@ -16,13 +17,6 @@ use system_model::Translation;
 use translate::{Target, TranslateRefusal, translate};
 use vax_form::WantOfMemory;
 use vest_files::Loaded;
-
-/// The limits of a run where no option gives others.
-const DEFAULT_LIMITS: Limits = Limits {
-    budget: 100_000_000,
-    events: 4_194_304,
-    miss: 0,
-};
 
 /// Where the writable section of a generated image begins.
 const MEMORY: u32 = 0x1000;
@@ -78,7 +72,7 @@ pub(crate) fn task_of(alloc: Global, number: u32) -> Result<Task, WantOfMemory>
     ensures whole { IfOk result (λ task. IsWhole task.loaded.image) }
     ensures translated { IfOk result (λ task. IsTranslated (generated_image number) [] task.loaded.translation) }
     ensures taken { IfOk result (λ task. task.taken.items ≡ []) }
-    ensures limits { IfOk result (λ task. task.limits ≡ default_limits) }
+    ensures limits { IfOk result (λ task. task.limits ≡ default.DEFAULT_LIMITS) }
     ensures ranges { IfOk result (λ task. task.ranges.items ≡ []) }
 {
     let image = generated(alloc, number)?;
