@@ -12,7 +12,7 @@ pub enum Status {
     Absent = 2,
     /// The image, the translated file or the flow is refused.
     Refused = 3,
-    /// Some thread raised an exception.
+    /// Some thread ended by an exception that no handler took.
     Exception = 4,
     /// A processor used up its budget, or the history has its limit.
     Spent = 5,
@@ -21,6 +21,17 @@ pub enum Status {
     /// The file or the input has too many bytes.
     TooLong = 8,
     WantOfMemory = 9,
+}
+
+impl Status {
+    ghost use Rattle.vest_files.specs.Status.{number_of};
+
+    /// The exit code of the program.
+    pub fn number(self) -> u8
+        ensures { result ≡ number_of self }
+    {
+        self as u8
+    }
 }
 
 /// How a call ends that did not stop before it wrote.

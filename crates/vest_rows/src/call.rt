@@ -67,7 +67,7 @@ fn seen(alloc: Global, status: Status, kept: &Kept) -> Result<Run, AllocError> {
     let steps = steps_of(alloc, kept)?;
     let history = kept.history.as_slice().to_vec(alloc)?;
     Ok(Run {
-        status: status as u64,
+        status: u64::from(status.number()),
         is_kept: kept.image.is_some(),
         ranges: kept.ranges.len() as u64,
         steps,
