@@ -12,6 +12,7 @@ use Rattle.exception_records.specs.declared.points.Point.{Point}
 use Rattle.vax_form.specs.Pages.{first_bad}
 use Rattle.vax_form.specs.declared.pages.Pages.{Pages}
 use Rattle.prepared_code.specs.Sources.{Source}
+use Rattle.prepared_code.specs.declared.probe.TheConstants.{MOST_BYTES}
 
 -- the word there is a probe whose bytes may all be used, and no block begins at the next
 pub record Passes (source : Source) (c : Alpha) : Type 0 where
@@ -22,9 +23,9 @@ pub record Passes (source : Source) (c : Alpha) : Type 0 where
   pub inside : address_at source.code.map (c.pc + 1) ≡ None
 
 -- ---- which of them are told
--- two tests of pages decide on so many bytes; more are left to be asked one by one
+-- two tests of pages decide on that many bytes; more are left to be asked one by one
 abbrev pub is_allowed : Pages → Point → Regs → Bool
-is_allowed pages point regs = nat_le (probe_count point regs) 8 && is_none (first_bad pages point.write (probe_address regs) (probe_count point regs))
+is_allowed pages point regs = nat_le (probe_count point regs) MOST_BYTES && is_none (first_bad pages point.write (probe_address regs) (probe_count point regs))
 
 abbrev pub is_allowed_at : Pages → Option Point → Regs → Bool
 is_allowed_at pages (Some point) regs = is_allowed pages point regs

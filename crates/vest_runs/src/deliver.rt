@@ -45,7 +45,7 @@ fn write_report<E: Sink>(processors: &[Processor], report: &mut E) -> Result<(),
     Ok(())
 }
 
-// The lines of its end.
+// Writes the lines of its end to the report.
 fn offer_lines<E: Sink>(processor: &Processor, report: &mut E) -> Offered
     ensures { Offers result (E.meaning report.old) (E.meaning report.new) (lines_of (processor_of processor.now)) }
 {

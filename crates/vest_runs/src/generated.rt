@@ -1,9 +1,9 @@
 // What `generate` runs, and the lines on what is left.
 ghost use Rattle.std.specs.Prelude.{◌≡◌, ◌≤◌, IfOk, []};
+ghost use Rattle.command_words.specs.declared.commands.TheConstants.{DEFAULT_LIMITS};
 ghost use Rattle.image_file.specs.Whole.{IsWhole};
 ghost use Rattle.report_text.specs.Generated.{generated_image};
 ghost use Rattle.vest_files.specs.Stages.{IsTranslated};
-ghost use Rattle.command_words.specs.declared.commands.TheConstants as default;
 ghost use Rattle.vest_runs.specs.Generate.{lines_of, memory_sum};
 
 use crate::execute::{Run, Task};
@@ -72,7 +72,7 @@ pub(crate) fn task_of(alloc: Global, number: u32) -> Result<Task, WantOfMemory>
     ensures whole { IfOk result (λ task. IsWhole task.loaded.image) }
     ensures translated { IfOk result (λ task. IsTranslated (generated_image number) [] task.loaded.translation) }
     ensures taken { IfOk result (λ task. task.taken.items ≡ []) }
-    ensures limits { IfOk result (λ task. task.limits ≡ default.DEFAULT_LIMITS) }
+    ensures limits { IfOk result (λ task. task.limits ≡ DEFAULT_LIMITS) }
     ensures ranges { IfOk result (λ task. task.ranges.items ≡ []) }
 {
     let image = generated(alloc, number)?;
