@@ -1,6 +1,6 @@
 #!/usr/bin/env bash
 # Measures a million accesses by 1, 2, 4 and 16 threads over one memory: interlocked additions to one word, as the tests of
-# shared_rows make them; and the same by one thread over a memory that it does not share. The time is from making the memory to
+# tools/measure_shared make them; and the same by one thread over a memory that it does not share. The time is from making the memory to
 # closing it.
 set -euo pipefail
 . "$(dirname "$0")/scratch.sh"
@@ -96,14 +96,11 @@ fn main(rt: HostRuntime) -> io::Result<()> {
     Ok(())
 }
 PROGRAM
-cp ../shared_rows/src/{threads,worker}.rt src
+workers
 mkdir -p proofs/added
-cp -R ../shared_rows/specs .
-cp -R ../shared_rows/proofs/{threads,worker} proofs
-: > proofs/Lib.antt
 cat > proofs/added/Invariants.antt <<'PROOF'
 use Rattle.std.proofs.Common.{◌≡◌, ◌≤◌}
-use Rattle.shared_rows.proofs.added.Given as goal
+use Rattle.measure.proofs.added.Given as goal
 
 abbrev pub invariant-loop-n : goal.invariant-loop-n
 invariant-loop-n l = record {
@@ -112,5 +109,4 @@ invariant-loop-n l = record {
     made : l.made ≤ l.n;
   }
 PROOF
-grep -rl shared_rows src specs proofs | xargs sed -i 's/shared_rows/measure/g'
 rt run

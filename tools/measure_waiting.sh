@@ -66,12 +66,7 @@ build() {
     (
         . "$top/tools/scratch.sh"
         scratch "shared_memory memory_core vt_outside image_file vax_form" < <(program)
-        cp ../shared_rows/src/{threads,worker}.rt src
-        mkdir -p proofs
-        cp -R ../shared_rows/specs .
-        cp -R ../shared_rows/proofs/{threads,worker} proofs
-        : > proofs/Lib.antt
-        grep -rl shared_rows src specs proofs | xargs sed -i 's/shared_rows/measure/g'
+        workers
         if [ "$1" != here ]; then
             rm -rf ../shared_memory
             git -C "$top" archive "$1" crates/shared_memory | tar -C ../.. -xf -

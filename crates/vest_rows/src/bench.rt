@@ -7,6 +7,7 @@ use crate::lent::{Lent, object_of};
 use crate::pieces::{first_word, parted, place_of, spelled};
 use crate::turns::Turns;
 use anyhow::{Context, Result, bail};
+use row_tally::longword;
 use std::alloc::Global;
 use std::sync::Wait;
 use std::thread::Threads;
@@ -152,6 +153,13 @@ impl Bench {
         Ok(self.left()?.out.starts_with(&wanted))
     }
 
+    // ADDRESS PIECES: whether the kept memory has these bytes from there on.
+    fn has_memory(&self, alloc: Global, rest: &str) -> Result<bool> {
+        let (address, pieces) = first_word(rest);
+        let wanted = spelled(alloc, &self.files, pieces)?;
+        Ok(self.left()?.run.has_memory(longword(address)?, &wanted))
+    }
+
     // A row about what stands.
     fn stands<R: Print>(&self, rt: &R, alloc: Global, verb: &str, rest: &str) -> Result<bool> {
         match verb {
@@ -159,6 +167,7 @@ impl Bench {
             "absent" => Ok(self.files.find(rest).is_none()),
             "left" => self.left()?.agrees(rt, alloc, rest),
             "history" => self.left()?.has_history(alloc, rest),
+            "memory" => self.has_memory(alloc, rest),
             "begins" => self.begins(alloc, rest),
             _ => bail!("an unknown row"),
         }

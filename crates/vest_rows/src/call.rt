@@ -8,6 +8,7 @@ use anyhow::Result;
 use std::alloc::{AllocError, Global};
 use std::sync::Wait;
 use std::thread::Threads;
+use tie_switch::Processor;
 use vest_cli::{Kept, Status, vest};
 use vt_outside::{Got, MemoryDesk, MemorySink, MemorySource, Source};
 
@@ -60,24 +61,29 @@ fn run_of<R: Threads + Wait + Sync>(
 ) -> Result<Run, AllocError> {
     let mut kept = Kept::empty(alloc);
     let status = obey(rt, alloc, words, desk, objects, &mut kept);
-    seen(alloc, status, &kept)
+    seen(alloc, status, kept)
 }
 
-fn seen(alloc: Global, status: Status, kept: &Kept) -> Result<Run, AllocError> {
-    let steps = steps_of(alloc, kept)?;
-    let history = kept.history.as_slice().to_vec(alloc)?;
+fn seen(alloc: Global, status: Status, kept: Kept) -> Result<Run, AllocError> {
+    let Kept {
+        image,
+        history,
+        processors,
+        ranges,
+        ..
+    } = kept;
     Ok(Run {
         status: u64::from(status.number()),
-        is_kept: kept.image.is_some(),
-        ranges: kept.ranges.len() as u64,
-        steps,
+        image,
+        ranges: ranges.len() as u64,
+        steps: steps_of(alloc, &processors)?,
         history,
     })
 }
 
-fn steps_of(alloc: Global, kept: &Kept) -> Result<Vec<Steps>, AllocError> {
+fn steps_of(alloc: Global, processors: &[Processor]) -> Result<Vec<Steps>, AllocError> {
     let mut steps = Vec::new(alloc);
-    for processor in &kept.processors {
+    for processor in processors {
         steps.push(Steps {
             retired: processor.retired(),
             interpreted: processor.interpreted_steps(),

@@ -1,6 +1,7 @@
 // What a call left, beside the files.
 use crate::pieces::{first_word, report_of};
 use anyhow::Result;
+use image_file::Image;
 use memory_core::Entry;
 use row_tally::{number, words};
 use std::alloc::{AllocError, Global};
@@ -15,14 +16,20 @@ pub struct Steps {
     pub interpreted: u64,
 }
 
-/// The status, and of a run that was kept how many ranges of addresses, the threads and the history.
+/// The status, and of a run that was kept the image, how many ranges of addresses, the threads and the history.
 #[derive(Drop)]
 pub struct Run {
     pub status: u64,
-    pub is_kept: bool,
+    pub image: Option<Image>,
     pub ranges: u64,
     pub steps: Vec<Steps>,
     pub history: Vec<Entry>,
+}
+
+impl Run {
+    pub fn is_kept(&self) -> bool {
+        self.image.is_some()
+    }
 }
 
 /// Also how many bytes of the input are left, what the sinks took, and whether each hold ended because its access came.
@@ -58,7 +65,7 @@ impl Left {
 
     /// Whether the call was refused with that line.
     pub fn is_refused(&self, line: &str) -> bool {
-        self.has(REFUSED, &[], line.as_bytes()) && !self.run.is_kept
+        self.has(REFUSED, &[], line.as_bytes()) && !self.run.is_kept()
     }
 
     fn has_out(&self, alloc: Global, wanted: &str) -> Result<bool> {

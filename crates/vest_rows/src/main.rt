@@ -2,7 +2,7 @@
 //! how many leave what stands there.
 //!
 //! `pieces` reads bytes, `files` keeps them by their names, `lent` and `gates` have what a call is lent beside the files,
-//! `call` makes the call, `left` and `numbers` have what it left, `cuts` goes through beginnings and changes of a translated
+//! `call` makes the call, `left`, `numbers` and `memory` have what it left, `cuts` goes through beginnings and changes of a translated
 //! file, `turns` through the calls of an object that may fail, and `bench` says which of these a row asks for.
 #![tactic(auto)]
 
@@ -13,6 +13,7 @@ mod files;
 mod gates;
 mod left;
 mod lent;
+mod memory;
 mod numbers;
 mod pieces;
 mod turns;

@@ -69,7 +69,7 @@ impl Left {
     // A number of the call.
     fn of_call(&self, name: &str) -> Result<u64> {
         match name {
-            "kept" => Ok(u64::from(self.run.is_kept)),
+            "kept" => Ok(u64::from(self.run.is_kept())),
             "ranges" => Ok(self.run.ranges),
             "unread" => Ok(self.unread),
             "lines" => Ok(lines(&self.out)),

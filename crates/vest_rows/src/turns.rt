@@ -42,7 +42,7 @@ fn is_cut(object: Object, number: u64, whole: &Left, left: &Left) -> bool {
 
 /// Whether a run is kept of it where that is due: a run that was made, and whose output or report failed.
 fn is_kept(whole: &Left, left: &Left) -> bool {
-    left.run.is_kept == (whole.run.is_kept && left.run.status == WRITE_FAULT)
+    left.run.is_kept() == (whole.run.is_kept() && left.run.status == WRITE_FAULT)
 }
 
 impl Turns<'_> {

@@ -1,0 +1,5 @@
+mod Arithmetic
+mod Calls
+mod Opcodes
+mod Operates
+mod Words
