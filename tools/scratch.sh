@@ -24,9 +24,10 @@ scratch() {
 # Copies the threads that share a memory, and what is proved of them, into the scratch crate: the files of tools/measure_shared without
 # their last ending, since the gate wants each file of code in a crate.
 workers() {
-    (cd "$top/tools/measure_shared" && find . -name '*.txt') | while read -r file; do
+    local from=../../tools/measure_shared file
+    (cd "$from" && find . -name '*.txt') | while read -r file; do
         mkdir -p "$(dirname "$file")"
-        cp "$top/tools/measure_shared/$file" "${file%.txt}"
+        cp "$from/$file" "${file%.txt}"
     done
     : > proofs/Lib.antt
 }
