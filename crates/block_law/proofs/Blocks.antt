@@ -14,7 +14,7 @@ use Rattle.alpha_meaning.proofs.Laws.{steps_map, Covers, onto, steps_refine, ste
 use Rattle.exception_records.specs.declared.points.Point.{Point}
 use Rattle.block_law.specs.References.{reply_by, is_of_memory, wanted_by, wants}
 use Rattle.block_law.specs.Placements.{Placement, allowed_in, state_shown, target}
-use Rattle.block_law.specs.Rounds.{Round, stepped, with_reference, with_next, round_behind, MayGo, round_after}
+use Rattle.block_law.specs.Rounds.{new_round, Round, stepped, with_reference, with_next, round_behind, MayGo, round_after}
 use Rattle.block_law.specs.Laws.{Ever, OneStepOpens, FewerStepsFollow, SameTreeFollows}
 use Rattle.block_law.specs.Follows.{Call, Probe, LookUp, Serve, Raise, Arithmetic, Switch, call_of, Called, Landed, Lands, Onward, Clause, Follows}
 use Rattle.block_law.proofs.Rounds.{Fits, fits_spare, fits_less, fits_step, fits_forth, may_forth, fits_counted, fits_failed}
@@ -163,13 +163,13 @@ open_follows p phase spare round c t h =
       steps_refine (allowed_in p.pages) p.bonus phase (spare - 1) c t _ _ _ _ (λ phase' spare' d u. (n : ℕ) → Onward p (Follows p n) phase' spare' (round_behind phase' t round) d u) (λ phase' spare' d u. Onward p (Ever p) phase' spare' (round_behind phase' t round) d u)
           (λ d x. lands_open (p.stops d.pc) (p.points d.pc) phase t p d.regs (MayGo p.bonus p.first phase round c.pc d.pc) (λ n. Follows p n (phase_after phase c.pc d.pc) (spare - 1) (round_after phase round c.pc d.pc) d t) x)
           (λ k x.
-          called_refine (call_of k) (p.points c.pc) phase t p c (λ d u. (n : ℕ) → Onward p (Follows p n) Plain (spare - 1) (stepped round) d u) (λ d u. Onward p (Ever p) Plain (spare - 1) (stepped round) d u) (λ d u y. onward_open p Plain (spare - 1) (stepped round) d u y)
-          (called_open (call_of k) (p.points c.pc) phase t p c (λ n d u. Onward p (Follows p n) Plain (spare - 1) (stepped round) d u) x))
+          called_refine (call_of k) (p.points c.pc) phase t p c (λ d u. (n : ℕ) → Onward p (Follows p n) Plain (spare - 1) new_round d u) (λ d u. Onward p (Ever p) Plain (spare - 1) new_round d u) (λ d u y. onward_open p Plain (spare - 1) new_round d u y)
+          (called_open (call_of k) (p.points c.pc) phase t p c (λ n d u. Onward p (Follows p n) Plain (spare - 1) new_round d u) x))
           (λ phase' spare' d u at x. onward_open p phase' spare' (round_behind phase' t round) d u x)
           (wants p.kinds t) (p.fetch c.pc)
           (steps_open (λ n phase' spare' d u. Onward p (Follows p n) phase' spare' (round_behind phase' t round) d u) (allowed_in p.pages) p.bonus phase (spare - 1) c (wants p.kinds t) t
           (λ n d. Lands (p.stops d.pc) (p.points d.pc) phase t p d.regs (MayGo p.bonus p.first phase round c.pc d.pc × Follows p n (phase_after phase c.pc d.pc) (spare - 1) (round_after phase round c.pc d.pc) d t))
-          (λ n k. Called (call_of k) (p.points c.pc) phase t p c (λ d u. Onward p (Follows p n) Plain (spare - 1) (stepped round) d u))
+          (λ n k. Called (call_of k) (p.points c.pc) phase t p c (λ d u. Onward p (Follows p n) Plain (spare - 1) new_round d u))
           (p.fetch c.pc) (λ n. (clause_of p n phase spare round c t (h (suc n))).3)),
     )
 
@@ -313,8 +313,8 @@ follows_as p (suc n) (suc m) le phase spare spare' round c t u room h f =
           (MayGo p.bonus p.first phase round c.pc d.pc × Follows p n (phase_after phase c.pc d.pc) (spare' - 1) (round_after phase round c.pc d.pc) d u)
           h (λ z. (z.0, again (phase_after phase c.pc d.pc) (spare - 1) (spare' - 1) (round_after phase round c.pc d.pc) d t u (omega arith) h z.1)) y)
           (λ k y.
-          called_same (call_of k) (p.points c.pc) phase t u p c (λ d v. Onward p (Follows p m) Plain (spare - 1) (stepped round) d v) (λ d v. Onward p (Follows p n) Plain (spare' - 1) (stepped round) d v) h
-          (λ d t u r z. (z.0, again Plain (spare - 1) (spare' - 1) (stepped round) d t u (omega arith) r z.1)) y)
+          called_same (call_of k) (p.points c.pc) phase t u p c (λ d v. Onward p (Follows p m) Plain (spare - 1) new_round d v) (λ d v. Onward p (Follows p n) Plain (spare' - 1) new_round d v) h
+          (λ d t u r z. (z.0, again Plain (spare - 1) (spare' - 1) new_round d t u (omega arith) r z.1)) y)
           (p.fetch c.pc) x.3,
     )
 

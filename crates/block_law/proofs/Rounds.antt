@@ -6,7 +6,7 @@ use Rattle.vax_form.specs.Tree.{Tree, Check, Ask, Fault, Ends}
 use Rattle.vax_form.specs.declared.state.RefKind.{RefKind}
 use Rattle.vax_form.specs.declared.state.RefKind.TheVariants.{Read, Write, Add, SetBit, ClearBit, Put, Get}
 use Rattle.alpha_meaning.specs.Pieces.{Phase, Plain, Held, Failed, Forth, retry_steps}
-use Rattle.block_law.specs.Rounds.{block_steps, Round, stepped, with_reference, with_next, round_behind, MayGo, round_after}
+use Rattle.block_law.specs.Rounds.{block_steps, Round, new_round, stepped, with_reference, with_next, round_behind, MayGo, round_after}
 
 -- the references that were made
 abbrev pub made_in : Round → ℕ
@@ -18,11 +18,11 @@ pub record HasMade (made round : Round) : Type 0 where
   pub writes : round.writes ≡ made.writes
   pub others : round.others ≡ made.others
 
--- so many steps of the round are left, which began with all that a block may take
+-- so many steps of the round are left, of all that a block may take, and what its references allow is spare behind them
 pub record IsRound (bonus left spare : ℕ) (made round : Round) : Type 0 where
   pub refs : HasMade made round
   pub within : round.steps + left ≤ block_steps + retry_steps * round.failed
-  pub earned : block_steps + retry_steps * round.failed + bonus * made_in round ≤ spare + round.steps
+  pub earned : left + bonus * made_in round ≤ spare
 
 -- at least so many steps are spare in any round; or in one in which just these references were made
 abbrev pub Fits : (bonus : ℕ) → Option Round → (left spare : ℕ) → Round → Type 0
@@ -36,9 +36,15 @@ fits_spare bonus (Some made) left spare round h =
     let b = h.earned in
     omega arith
 
+-- a call of PALcode begins a round
+pub fits_anew : (bonus : ℕ) (o : Option Round) (left spare : ℕ) (round : Round) → left ≤ block_steps → Fits bonus o left spare round → Fits bonus (Some new_round) left spare new_round
+fits_anew bonus o left spare round few h =
+    let roomy = fits_spare bonus o left spare round h in
+    record { refs = record { reads = refl; writes = refl; others = refl }; within = omega arith; earned = omega arith }
+
 pub fits_less : (bonus : ℕ) (o : Option Round) (left left' spare : ℕ) (round : Round) → left' ≤ left → Fits bonus o left spare round → Fits bonus o left' spare round
 fits_less bonus None left left' spare round le h = omega arith
-fits_less bonus (Some made) left left' spare round le h = record { refs = h.refs; within = (let a = h.within in omega arith); earned = h.earned }
+fits_less bonus (Some made) left left' spare round le h = record { refs = h.refs; within = (let a = h.within in omega arith); earned = (let a = h.earned in omega arith) }
 
 -- ---- a step
 pub fits_step : (bonus : ℕ) (o : Option Round) (left spare : ℕ) (round : Round) → 0 < left → Fits bonus o left spare round → Fits bonus o (left - 1) (spare - 1) (stepped round)
@@ -73,7 +79,7 @@ module _ (bonus left spare : ℕ) (made round : Round) (some : 0 < left) (h : Is
   reference_fits kind = by kind h.refs.reads h.refs.writes h.refs.others h.within h.earned (fits_spare bonus (Some made) left spare round h)
     where
       by : (kind : RefKind) → round.reads ≡ made.reads → round.writes ≡ made.writes → round.others ≡ made.others → round.steps + left ≤ block_steps + retry_steps * round.failed
-          → block_steps + retry_steps * round.failed + bonus * made_in round ≤ spare + round.steps → left ≤ spare
+          → left + bonus * made_in round ≤ spare → left ≤ spare
           → IsRound bonus (left - 1) (spare - 1 + bonus) (with_reference kind made) (with_reference kind (stepped round))
       by Read r w o a b roomy = record { refs = record { reads = ap suc r; writes = w; others = o }; within = omega arith; earned = omega arith }
       by (Write value) r w o a b roomy = record { refs = record { reads = r; writes = ap suc w; others = o }; within = omega arith; earned = omega arith }

@@ -44,7 +44,7 @@ module _ (p : Placement) (made : Option Round) where
   Moved n spare round c t d = Lands (p.stops d.pc) (p.points d.pc) Plain t p d.regs (MayGo p.bonus p.first Plain round c.pc d.pc × Follows p n Plain (spare - 1) (round_after Plain round c.pc d.pc) d t)
 
   abbrev Answered : (n spare : ℕ) (round : Round) (c : Alpha) (t : Tree) → ℕ → Type 0
-  Answered n spare round c t number = Called (call_of number) (p.points c.pc) Plain t p c (λ d u. Onward p (Follows p n) Plain (spare - 1) (stepped round) d u)
+  Answered n spare round c t number = Called (call_of number) (p.points c.pc) Plain t p c (λ d u. Onward p (Follows p n) Plain (spare - 1) new_round d u)
 
   -- and behind an access
   abbrev Accessed : (n : ℕ) (round : Round) (t : Tree) → Phase → ℕ → Alpha → Tree → Type 0
@@ -126,19 +126,23 @@ module _ (p : Placement) (made : Option Round) where
 
   -- a call, from what it answers for its point
   calls : (number : ℕ) (n spare : ℕ) (round : Round) (c : Alpha) (t : Tree) (point : Option Point) → IsAt p c.pc (Pal number) → p.points c.pc ≡ point → 0 < spare
-      → Called (call_of number) point Plain t p c (λ d u. Onward p (Follows p n) Plain (spare - 1) (stepped round) d u) → Follows p (suc n) Plain spare round c t
+      → Called (call_of number) point Plain t p c (λ d u. Onward p (Follows p n) Plain (spare - 1) new_round d u) → Follows p (suc n) Plain spare round c t
   calls number n spare round c t point at has some h =
       stepping n spare round c t (Pal number) (Calls number) at refl some
-      (subst (λ x. Called (call_of number) x Plain t p c (λ d u. Onward p (Follows p n) Plain (spare - 1) (stepped round) d u)) (sym has) h)
+      (subst (λ x. Called (call_of number) x Plain t p c (λ d u. Onward p (Follows p n) Plain (spare - 1) new_round d u)) (sym has) h)
+
+  -- behind a call a round begins, of which may be told what was made
+  abbrev pub Anew : (then_made : Option Round) → (need : ℕ) → Type 0
+  Anew then_made need = (spare : ℕ) (round : Round) → Fits p.bonus made need spare round → Fits p.bonus then_made need spare new_round
 
   -- a probe is the next check
-  pub probes : (need address count : ℕ) (write : Bool) (c : Alpha) (t : Tree) (point : Point) → IsAt p c.pc (Pal 0x80) → p.points c.pc ≡ Some point → p.stops (c.pc + 1) ≡ None
-      → address ≡ probe_address c.regs → count ≡ probe_count point c.regs → write ≡ point.write
-      → (first_bad p.pages write address count ≡ None → Always p made need (at_place c.regs (c.pc + 1)) t) → Always p made (need + 1) c (Check address count write t)
-  probes need address count write c t point at has inside is_address is_count is_write rest zero spare round fits = no_steps p Plain spare round c (Check address count write t)
-  probes need address count write c t point at has inside is_address is_count is_write rest (suc n) spare round fits =
+  pub probes : (then_made : Option Round) (need address count : ℕ) (write : Bool) (c : Alpha) (t : Tree) (point : Point) → IsAt p c.pc (Pal 0x80) → p.points c.pc ≡ Some point → p.stops (c.pc + 1) ≡ None
+      → address ≡ probe_address c.regs → count ≡ probe_count point c.regs → write ≡ point.write → Anew then_made need
+      → (first_bad p.pages write address count ≡ None → Always p then_made need (at_place c.regs (c.pc + 1)) t) → Always p made (need + 1) c (Check address count write t)
+  probes then_made need address count write c t point at has inside is_address is_count is_write anew rest zero spare round fits = no_steps p Plain spare round c (Check address count write t)
+  probes then_made need address count write c t point at has inside is_address is_count is_write anew rest (suc n) spare round fits =
       calls 0x80 n spare round c (Check address count write t) (Some point) at has (spare_some need spare round fits)
-      (is_address, is_count, is_write, λ ok. (inside, rest ok n (spare - 1) (stepped round) (one_less need spare round fits)))
+      (is_address, is_count, is_write, λ ok. (inside, rest ok n (spare - 1) new_round (anew (spare - 1) (stepped round) (one_less need spare round fits))))
 
   pub raises : (exception : Exception) (c : Alpha) (point : Point) → IsAt p c.pc (Pal 0x83) → p.points c.pc ≡ Some point → raised_at point.raises ≡ Some exception → Always p made 1 c (Fault exception)
   raises exception c point at has is zero spare round fits = no_steps p Plain spare round c (Fault exception)
@@ -156,13 +160,14 @@ module _ (p : Placement) (made : Option Round) where
   switches s c at form is unmapped zero spare round fits = no_steps p Plain spare round c (Ends (Finish s))
   switches s c at form is unmapped (suc n) spare round fits = calls 0x86 n spare round c (Ends (Finish s)) (p.points c.pc) at refl (spare_some 0 spare round fits) (form, is, unmapped)
 
-  pub serves : (need : ℕ) (c : Alpha) (t : Tree) (point : Point) → IsAt p c.pc (Pal 0x82) → p.points c.pc ≡ Some point → p.stops (c.pc + 1) ≡ None → InForm c.regs
+  pub serves : (then_made : Option Round) (need : ℕ) (c : Alpha) (t : Tree) (point : Point) → IsAt p c.pc (Pal 0x82) → p.points c.pc ≡ Some point → p.stops (c.pc + 1) ≡ None → InForm c.regs
       → Same t (p.serve (c.regs 21 % 2 ^ 16) (state_shown p c.regs (target c.regs) point.rules p.held))
-      → ((value : ℕ) → value < 2 ^ 32 → Always p made need (at_place (put c.regs 0 (sign_extended value 32)) (c.pc + 1)) (Ends (Finish (with_register 0 value (state_shown p c.regs (target c.regs) point.rules p.held)))))
+      → Anew then_made need
+      → ((value : ℕ) → value < 2 ^ 32 → Always p then_made need (at_place (put c.regs 0 (sign_extended value 32)) (c.pc + 1)) (Ends (Finish (with_register 0 value (state_shown p c.regs (target c.regs) point.rules p.held)))))
       → Always p made (need + 1) c t
-  serves need c t point at has inside form same rest zero spare round fits = no_steps p Plain spare round c t
-  serves need c t point at has inside form same rest (suc n) spare round fits =
-      calls 0x82 n spare round c t (Some point) at has (spare_some need spare round fits) (form, same, λ value lt. (inside, rest value lt n (spare - 1) (stepped round) (one_less need spare round fits)))
+  serves then_made need c t point at has inside form same anew rest zero spare round fits = no_steps p Plain spare round c t
+  serves then_made need c t point at has inside form same anew rest (suc n) spare round fits =
+      calls 0x82 n spare round c t (Some point) at has (spare_some need spare round fits) (form, same, λ value lt. (inside, rest value lt n (spare - 1) new_round (anew (spare - 1) (stepped round) (one_less need spare round fits))))
 
   -- ---- a piece with its plan, and the rest
   pub runs : {A : Type 0} (need pc size : ℕ) (Final : A → Regs → Type 0) (kinds : Kinds) (k : A → Tree) (then_made : Option Round) (regs : Regs) (t : Plan A) (u : Tree) → p.first ≤ pc → pc + size ≤ p.end → ((q : ℕ) → pc < q → q ≤ pc + size → p.stops q ≡ None)
@@ -181,7 +186,7 @@ comes_back p made need c d i t at acts low back inside some enough reads writes 
     let left = fits.within in
     let room = fits.earned in
     let all_made : made_in round ≡ 2 = rw (fits.refs.reads, fits.refs.writes, fits.refs.others, reads, writes, others) refl in
-    let gained : block_steps + retry_steps * round.failed + p.bonus * 2 ≤ spare + round.steps = rw all_made at room in
+    let gained : 1 + p.bonus * 2 ≤ spare = rw all_made at room in
     stepping p (Some made) n spare round c t i (Goes d) at acts (omega arith)
     (subst (λ o. Lands o (p.points d.pc) Plain t p d.regs (MayGo p.bonus p.first Plain round c.pc d.pc × Follows p n Plain (spare - 1) (round_after Plain round c.pc d.pc) d t)) (sym inside) (
       (low, λ _. (some, record { reads = fits.refs.reads ∙ reads; writes = fits.refs.writes ∙ writes; others = fits.refs.others ∙ others; steps = omega arith })),

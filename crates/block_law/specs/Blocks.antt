@@ -15,7 +15,7 @@ use Rattle.exception_records.specs.declared.rules.Rules.{Rules}
 use Rattle.block_law.specs.Placements.{Placement}
 use Rattle.block_law.specs.Follows.{LeadsTo}
 use Rattle.block_law.specs.Tidy.{is_kept, register_written, may_fault, interprets, IsTidy}
-use Rattle.block_law.specs.Translations.{Meaning, Code, placed, end_of, fetch_of, done_at}
+use Rattle.block_law.specs.Translations.{Meaning, Permit, Code, placed, end_of, fetch_of, done_at}
 
 -- ---- exits
 -- the word at which an exit begins, and the VAX address to which it leads
@@ -101,5 +101,5 @@ pub record IsLaid (code : Code) (address : ℕ) (block : BlockValue) : Type 0 wh
   pub first : ℕ
   pub mapped : word_at code.map address ≡ Some first
   pub stands : Stands code block first
-  pub leads : (meaning : Meaning) (thread : ℕ) (state : VaxState) (held : Flags) (rules : Rules) → RulesMeet code block.exits rules
-      → ExitsLead (placed meaning code thread state held first) block.exits first rules
+  pub leads : (meaning : Meaning) (permit : Permit) (thread : ℕ) (state : VaxState) (held : Flags) (rules : Rules) → RulesMeet code block.exits rules
+      → ExitsLead (placed meaning permit code thread state held first) block.exits first rules

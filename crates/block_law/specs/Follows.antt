@@ -12,7 +12,7 @@ use Rattle.exception_records.specs.Points.{raised_at}
 use Rattle.exception_records.specs.declared.points.Point.{Point}
 use Rattle.exception_records.specs.declared.rules.Rules.{Rules}
 use Rattle.block_law.specs.References.{wants}
-use Rattle.block_law.specs.Rounds.{Round, stepped, round_behind, round_after, MayGo}
+use Rattle.block_law.specs.Rounds.{Round, new_round, round_behind, round_after, MayGo}
 use Rattle.block_law.specs.Placements.{Placement, allowed_in, InForm, state_shown, state_behind, state_ready, target}
 
 -- ---- PALcode calls
@@ -93,7 +93,7 @@ Clause p Next phase spare round c tree =
     × Steps (p.fetch c.pc) (allowed_in p.pages) p.bonus phase (spare - 1) c (wants p.kinds tree) tree
     (λ d. Lands (p.stops d.pc) (p.points d.pc) phase tree p d.regs
     (MayGo p.bonus p.first phase round c.pc d.pc × Next (phase_after phase c.pc d.pc) (spare - 1) (round_after phase round c.pc d.pc) d tree))
-    (λ number. Called (call_of number) (p.points c.pc) phase tree p c (λ d u. Onward p Next Plain (spare - 1) (stepped round) d u))
+    (λ number. Called (call_of number) (p.points c.pc) phase tree p c (λ d u. Onward p Next Plain (spare - 1) new_round d u))
     (λ phase' spare' d u. Onward p Next phase' spare' (round_behind phase' tree round) d u)
 
 -- For n steps, whatever memory answers, the words do what the tree says: they make its checks and references in their

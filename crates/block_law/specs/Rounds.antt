@@ -1,4 +1,5 @@
--- Loops in a block. A round is what was made since the last step back of a loop, or since the block began.
+-- Loops in a block. A round is what was made since the last step back of a loop, the last call of PALcode, or since the
+-- block began.
 use Rattle.std.specs.Prelude.{◌≡◌, ℕ, suc, ◌<◌, ◌≤◌, ◌+◌, ◌*◌, nat_lt, if◌then◌else◌}
 use Rattle.vax_form.specs.Tree.{Tree, Check, Ask, Fault, Ends}
 use Rattle.vax_form.specs.declared.state.RefKind.{RefKind}
@@ -61,7 +62,7 @@ MayGo bonus first Plain round pc pc' = (first < pc') × (pc' ≤ pc → (0 < bon
 MayGo bonus first (Held quad found place) round pc pc' = Forth (Held quad found place) first pc pc'
 MayGo bonus first (Failed place) round pc pc' = Forth (Failed place) first pc pc'
 
--- a loop's step back begins a round
+-- a loop's step back begins a round; so does a call of PALcode
 abbrev pub round_after : Phase → Round → (pc pc' : ℕ) → Round
 round_after Plain round pc pc' = if nat_lt pc pc' then stepped round else new_round
 round_after (Held quad found place) round pc pc' = stepped round

@@ -21,9 +21,8 @@ use Rattle.block_law.specs.Rounds.{block_steps, new_round}
 use Rattle.block_law.specs.Follows.{Follows}
 use Rattle.block_law.specs.Tidy.{IsTidy}
 
--- what the instructions of an image mean: the tree of the one at a state of a thread, what a service does there, the
--- condition codes that the one at an address writes, the kinds of accesses that its block may make for a reference, and
--- how many steps more each that counts allows
+-- what the instructions of an image mean: the tree of the one at a state of a thread, what a service does there, and the
+-- condition codes that the one at an address writes
 pub record Meaning : Type 0 where
   pub pages : Pages
   pub tree : (thread : ℕ) → VaxState → Tree
@@ -31,6 +30,10 @@ pub record Meaning : Type 0 where
   pub moment : (thread : ℕ) → VaxState → Tree
   pub serve : (thread code : ℕ) → VaxState → Tree
   pub written : (address : ℕ) → Flags
+
+-- what the block of the instruction at an address may do: the kinds of accesses that it may make for a reference, and how
+-- many steps more each that counts allows
+pub record Permit : Type 0 where
   pub kinds : (address : ℕ) → Reference → Kinds
   pub bonus : (address : ℕ) → ℕ
 
@@ -54,8 +57,8 @@ abbrev pub end_of : Code → (first : ℕ) → ℕ
 end_of code first = next_first (find (λ pair. nat_lt first pair.1) code.map) (length code.words)
 
 -- the block at that word, for the instruction that begins in that state
-abbrev pub placed : Meaning → Code → (thread : ℕ) → VaxState → (held : Flags) → (first : ℕ) → Placement
-placed meaning code thread begun held first = record {
+abbrev pub placed : Meaning → Permit → Code → (thread : ℕ) → VaxState → (held : Flags) → (first : ℕ) → Placement
+placed meaning permit code thread begun held first = record {
   pages = meaning.pages;
   fetch = fetch_of code.words;
   points = point_at code.points;
@@ -67,13 +70,13 @@ placed meaning code thread begun held first = record {
   held = held;
   written = meaning.written begun.pc;
   serve = meaning.serve thread;
-  kinds = meaning.kinds begun.pc;
-  bonus = meaning.bonus begun.pc;
+  kinds = permit.kinds begun.pc;
+  bonus = permit.bonus begun.pc;
 }
 
 -- the block of an instruction may have a loop where accesses that count allow more steps
-abbrev pub has_loop : Meaning → (address : ℕ) → Bool
-has_loop meaning address = nat_lt 0 (meaning.bonus address)
+abbrev pub has_loop : Permit → (address : ℕ) → Bool
+has_loop permit address = nat_lt 0 (permit.bonus address)
 
 -- whether the instruction is done at its word
 abbrev pub done_at : Option AlphaInstr → ℕ
@@ -84,8 +87,8 @@ done_at (Some (Operate op ra rb rc)) = 0
 done_at (Some (Jump ra rb)) = 0
 done_at None = 0
 
--- the block of the instruction at that address stands at that word
-pub record IsBlock (meaning : Meaning) (code : Code) (address first : ℕ) : Type 0 where
+-- the block of the instruction at that address stands at that word, and does what it may
+pub record IsBlock (meaning : Meaning) (permit : Permit) (code : Code) (address first : ℕ) : Type 0 where
   pub point : Point
   pub has_point : point_at code.points first ≡ Some point
   -- the points of its words are the instruction's
@@ -96,15 +99,15 @@ pub record IsBlock (meaning : Meaning) (code : Code) (address first : ℕ) : Typ
   pub ends : first + length words ≡ end_of code first
   pub within : end_of code first ≤ length code.words
   pub stand : HasAt (fetch_of code.words) first words
-  pub tidy : IsTidy (has_loop meaning address) words
+  pub tidy : IsTidy (has_loop permit address) words
   -- whatever the thread's state there is, and the registers that show it, they follow the instruction's tree
   pub follows : (thread n : ℕ) (state : VaxState) (held : Flags) (regs : Regs) → thread < 256 → IsState state → state.pc ≡ address
       → InForm regs → Shows regs address point.rules held state
-      → Follows (placed meaning code thread state held first) n Plain block_steps new_round (at_place regs first) (meaning.tree thread state)
+      → Follows (placed meaning permit code thread state held first) n Plain block_steps new_round (at_place regs first) (meaning.tree thread state)
 
--- each mapped instruction has its block
-pub record Meets (meaning : Meaning) (code : Code) : Type 0 where
+-- each mapped instruction has its block, which does what it may
+pub record Meets (meaning : Meaning) (permit : Permit) (code : Code) : Type 0 where
   pub few : length code.words ≤ most_words
   pub map_rises : AllRise code.map
   pub points_rise : WordsRise code.points
-  pub blocks : (address first : ℕ) → word_at code.map address ≡ Some first → IsBlock meaning code address first
+  pub blocks : (address first : ℕ) → word_at code.map address ≡ Some first → IsBlock meaning permit code address first

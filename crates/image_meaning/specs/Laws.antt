@@ -43,7 +43,6 @@ abbrev pub CodesWrittenAreTheOperations : Type 0
 CodesWrittenAreTheOperations = (pages : Pages) (address : ℕ) (instr : Instr) → AreBytes pages.code → address < 2 ^ 32
     → found pages address ≡ instruction instr → codes_written pages address ≡ codes_of (operation_at instr.opcode)
 
--- where the code has bytes alone, and an access allows at most as many steps more as a block may take
+-- where the code has bytes alone
 abbrev pub VaxMeaningIsSound : Type 0
-VaxMeaningIsSound = (pages : Pages) (written : ℕ → Flags) (kinds : ℕ → Reference → Kinds) (bonus : ℕ → ℕ)
-    → AreBytes pages.code → ((address : ℕ) → bonus address ≤ block_steps) → IsSound (vax_meaning pages written kinds bonus)
+VaxMeaningIsSound = (pages : Pages) (written : ℕ → Flags) → AreBytes pages.code → IsSound (vax_meaning pages written)

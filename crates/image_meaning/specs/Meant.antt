@@ -6,26 +6,22 @@ use Rattle.vax_form.specs.Tree.{instruction_tree}
 use Rattle.vax_form.specs.declared.operation.Operation.{Operation}
 use Rattle.vax_form.specs.declared.pages.Pages.{Pages}
 use Rattle.vax_form.specs.declared.state.Flags.{Flags}
-use Rattle.vax_form.specs.declared.state.Reference.{Reference}
 use Rattle.vax_meaning.specs.Control.{serve}
 use Rattle.vax_long.specs.Instructions.{tree_at}
 use Rattle.vax_long.specs.Pending.{moment_at}
 use Rattle.vax_form.specs.Codes.{none}
 use Rattle.cc_liveness.specs.Uses.{code_use_of}
-use Rattle.alpha_meaning.specs.Pieces.{Kinds}
 use Rattle.block_law.specs.Translations.{Meaning}
 
 -- what stands at a state's PC, what a thread does at a state, and what CHMK does, with what a translation says of each
 -- address
-abbrev pub vax_meaning : Pages → (written : ℕ → Flags) → (kinds : ℕ → Reference → Kinds) → (bonus : ℕ → ℕ) → Meaning
-vax_meaning pages written kinds bonus = record {
+abbrev pub vax_meaning : Pages → (written : ℕ → Flags) → Meaning
+vax_meaning pages written = record {
   pages = pages;
   tree = tree_at pages;
   moment = moment_at pages;
   serve = λ thread code state. instruction_tree pages (serve code thread) state;
   written = written;
-  kinds = kinds;
-  bonus = bonus;
 }
 
 abbrev pub codes_of : Option Operation → Flags
@@ -41,12 +37,6 @@ codes_by (Some opcode) = codes_of (operation_at opcode)
 abbrev pub codes_written : Pages → (address : ℕ) → Flags
 codes_written pages address = codes_by (code_byte_at pages address)
 
-abbrev pub all_kinds : (address : ℕ) → Reference → Kinds
-all_kinds address reference kind bytes = true
-
-abbrev pub no_bonus : (address : ℕ) → ℕ
-no_bonus address = 0
-
 -- what the instructions of an image with these pages mean
 abbrev pub image_meaning : Pages → Meaning
-image_meaning pages = vax_meaning pages (codes_written pages) all_kinds no_bonus
+image_meaning pages = vax_meaning pages (codes_written pages)

@@ -10,6 +10,7 @@ use Rattle.vax_form.specs.Tree.{Retired}
 use Rattle.vax_form.specs.declared.state.Reference.{Reference}
 use Rattle.vax_form.specs.declared.state.VaxState.{VaxState}
 use Rattle.vax_driven.specs.Threads.{Threads, reached, wanted}
+use Rattle.block_law.specs.Translations.{Permit}
 use Rattle.system_model.specs.Interpreted.{threads_of, is_translated}
 use Rattle.system_model.specs.Settings.{Setting}
 use Rattle.legal_history.specs.Explained.{replies_by}
@@ -43,17 +44,17 @@ IsMadeIn true each wanted kind = IsAlpha kind each wanted
 IsMadeIn false each wanted kind = IsTie kind
 
 -- the kinds of the instruction at which the thread stands
-abbrev pub IsMadeAt : Setting → (thread : ℕ) → Option Retired → (wanted : Option Reference) → Kind → Type 0
-IsMadeAt setting thread None wanted kind = IsTie kind
-IsMadeAt setting thread (Some here) wanted kind = IsMadeIn (is_translated setting thread here.state) (setting.meaning.kinds here.state.pc) wanted kind
+abbrev pub IsMadeAt : Setting → Permit → (thread : ℕ) → Option Retired → (wanted : Option Reference) → Kind → Type 0
+IsMadeAt setting permit thread None wanted kind = IsTie kind
+IsMadeAt setting permit thread (Some here) wanted kind = IsMadeIn (is_translated setting thread here.state) (permit.kinds here.state.pc) wanted kind
 
 -- an entry has a kind of Alpha code where the thread's instruction then was translated, one that may be made for the
 -- reference that the thread wanted then; and one of TIE where it was not
-abbrev pub IsMade : Setting → Threads → (thread : ℕ) → (replies : List ℕ) → Entry → Type 0
-IsMade setting threads thread replies e = IsMadeAt setting thread (reached threads thread e.retired replies) (wanted threads thread e.retired replies) e.kind
+abbrev pub IsMade : Setting → Permit → Threads → (thread : ℕ) → (replies : List ℕ) → Entry → Type 0
+IsMade setting permit threads thread replies e = IsMadeAt setting permit thread (reached threads thread e.retired replies) (wanted threads thread e.retired replies) e.kind
 
 -- each entry has such a kind
-abbrev pub AllMadeIn : Setting → (starts : ℕ → Option VaxState) → (thread : ℕ) → List Entry → Type 0
-AllMadeIn setting starts thread [] = Unit {0}
-AllMadeIn setting starts thread (e ∷ mine) =
-    AllMadeIn setting starts thread mine × IsMade setting (threads_of setting starts) thread (replies_by (threads_of setting starts) thread mine) e
+abbrev pub AllMadeIn : Setting → Permit → (starts : ℕ → Option VaxState) → (thread : ℕ) → List Entry → Type 0
+AllMadeIn setting permit starts thread [] = Unit {0}
+AllMadeIn setting permit starts thread (e ∷ mine) =
+    AllMadeIn setting permit starts thread mine × IsMade setting permit (threads_of setting starts) thread (replies_by (threads_of setting starts) thread mine) e

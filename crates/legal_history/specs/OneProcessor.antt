@@ -5,7 +5,7 @@ use Rattle.memory_core.specs.declared.entry.SetUp.{SetUp}
 use Rattle.memory_core.specs.Order.{own, Meets}
 use Rattle.memory_core.specs.Requests.{CanMake}
 use Rattle.memory_core.specs.declared.entry.Request.{Request}
-use Rattle.block_law.specs.Sound.{IsSound}
+use Rattle.block_law.specs.Sound.{IsSound, AllowsFew}
 use Rattle.block_law.specs.Translations as translations
 use Rattle.vax_form.specs.declared.state.VaxState.{VaxState}
 use Rattle.system_model.specs.Settings.{Setting}
@@ -21,7 +21,7 @@ pub record IsSteady (setting : Setting) (set_up : SetUp) (entries : List Entry) 
   pub steps : HasFewSteps p (own thread entries)
 
 abbrev pub ReachedIsSteady : Type 0
-ReachedIsSteady = (setting : Setting) (set_up : SetUp) (budget : ℕ) (entries : List Entry) (thread : ℕ) (start : VaxState) (p : Processor)
-    → IsSound setting.meaning → translations.Meets setting.meaning setting.code → IsRun set_up → setting.meaning.pages ≡ set_up.image.pages → Meets set_up entries
+ReachedIsSteady = (setting : Setting) (permit : translations.Permit) (set_up : SetUp) (budget : ℕ) (entries : List Entry) (thread : ℕ) (start : VaxState) (p : Processor)
+    → IsSound setting.meaning → AllowsFew permit → translations.Meets setting.meaning permit setting.code → IsRun set_up → setting.meaning.pages ≡ set_up.image.pages → Meets set_up entries
     → starts set_up.image thread ≡ Some start → IsReached setting budget set_up.limit entries thread start p
     → IsSteady setting set_up entries thread p

@@ -43,7 +43,7 @@ use Rattle.block_law.specs.Tidy.{is_kept}
 use Rattle.block_law.specs.Translations.{Code, placed, fetch_of}
 use Rattle.block_law.proofs.Blocks.{Begins, piece_terms}
 use Rattle.block_law.proofs.Kept.{same_status}
-use Rattle.block_law.proofs.Rounds.{fits_spare}
+use Rattle.block_law.proofs.Rounds.{fits_spare, fits_anew}
 use Rattle.block_law.proofs.Rules.{Always, IsAt, goes, passes, skips, probes, runs, roomy, comes_back}
 use Rattle.program_codegen.proofs.Operands.{readable, in_quad, first_passes}
 use Rattle.branch_layout.proofs.Filling.{has_by}
@@ -372,9 +372,9 @@ module _ (pages : Pages) (after : ℕ) (code : Code) (first thread : ℕ) (state
           let count_in : f3 21 % 2 ^ 16 ≡ count = sum_low (start 31) (start 0) zero_in in
           one In 21 0 (Operate Addq 31 (Register 0) 21) start _ (lit< tt) refl refl
           (one In 20 1 (Operate Addq 31 (Register 1) 27) f1 _ (lit< tt) refl refl
-          (probing 19 2 source count false f2 _ (point_of address false) (lit< tt) (lit< tt) refl (sym (here.points 2 (lit< tt))) (sym (sum_long (start 31) (start 1) zero_in)) (sym count_in) refl
+          (probing 19 2 source count false f2 _ (point_of address false) (lit< tt) (lit< tt) (lit≤ tt) refl (sym (here.points 2 (lit< tt))) (sym (sum_long (start 31) (start 1) zero_in)) (sym count_in) refl
           (λ ok. one In 18 3 (Operate Addq 31 (Register 3) 27) f2 _ (lit< tt) refl refl
-          (probing 17 4 target count true f3 _ (point_of address true) (lit< tt) (lit< tt) refl (sym (here.points 4 (lit< tt))) (sym (sum_long (start 31) (start 3) zero_in)) (sym count_in) refl
+          (probing 17 4 target count true f3 _ (point_of address true) (lit< tt) (lit< tt) (lit≤ tt) refl (sym (here.points 4 (lit< tt))) (sym (sum_long (start 31) (start 3) zero_in)) (sym count_in) refl
           (λ ok'. one In 16 5 (Operate Extwl 21 (Literal 0) 0) f3 _ (lit< tt) refl refl
           (loops count source target f4 (omega arith) (omega arith) (omega arith) ok ok' (record {
             left_in = extracted (f3 21) 0 0 (omega arith) c2 ∙ (word_low (f3 21) ∙ count_in);
@@ -401,13 +401,13 @@ module _ (pages : Pages) (after : ℕ) (code : Code) (first thread : ℕ) (state
               let b : (n == 27) ≡ false = grind (arith, nat_tests, free) in
               rw (not_0, a, b) refl
 
-          probing : (need k address' count' : ℕ) (write : Bool) (f : Regs) (t : Tree) (point : Point) → 0 < k + 1 → k < 22 → slice_get copy_words k ≡ Some (Pal 0x80) → Some point ≡ p.points (first + k)
+          probing : (need k address' count' : ℕ) (write : Bool) (f : Regs) (t : Tree) (point : Point) → 0 < k + 1 → k < 22 → need ≤ 256 → slice_get copy_words k ≡ Some (Pal 0x80) → Some point ≡ p.points (first + k)
               → address' ≡ f 27 % 2 ^ 32 → count' ≡ probe_count point f → write ≡ point.write
               → (first_bad pages write address' count' ≡ None → Always p In need (at_place f (first + (k + 1))) t)
               → Always p In (need + 1) (at_place f (first + k)) (Check address' count' write t)
-          probing need k address' count' write f t point some lt is has is_address is_count is_write rest =
+          probing need k address' count' write f t point some lt few is has is_address is_count is_write rest =
               let there : first + (k + 1) ≡ first + k + 1 = omega arith in
-              probes p In need address' count' write (at_place f (first + k)) t point (at k (Pal 0x80) lt is) (sym has) (inside_of (k + 1) some (omega arith) (first + k + 1) (sym there)) is_address is_count is_write
+              probes p In In need address' count' write (at_place f (first + k)) t point (at k (Pal 0x80) lt is) (sym has) (inside_of (k + 1) some (omega arith) (first + k + 1) (sym there)) is_address is_count is_write (λ spare round fits. fits_anew p.bonus In need spare round few fits)
               (λ ok. subst (λ pc. Always p In need (at_place f pc) t) there (rest ok))
 
 -- ---- wherever it stands

@@ -119,8 +119,8 @@ module _ (p : Placement) (site : Site) where
       roomy p None (need + 1 + 1) (2 + need) (at_place regs pc) _ (omega arith)
       (goes p None (need + 1) (at_place regs pc) (at_place (put regs 27 (bit_or (regs (21 + place)) 0)) (pc + 1)) (copy (holder place) 27) _ (stands p site.behind pc (copy (holder place) 27) None _ w) refl (omega arith)
       (is_inside p site.behind pc (pc + 1) _ w (omega arith) (omega arith))
-      (probes p None need (standing.temps place) count write (at_place (put regs 27 (bit_or (regs (21 + place)) 0)) (pc + 1)) (tree p course) (probing site count write) (stands p site.behind (pc + 1) (Pal 0x80) (Some (probing site count write)) rest w1) w1.has.0.1
-      (is_inside p site.behind pc (pc + 1 + 1) _ w (omega arith) (omega arith)) address_is (is_probed count is write site (put regs 27 (bit_or (regs (21 + place)) 0))) refl
+      (probes p None None need (standing.temps place) count write (at_place (put regs 27 (bit_or (regs (21 + place)) 0)) (pc + 1)) (tree p course) (probing site count write) (stands p site.behind (pc + 1) (Pal 0x80) (Some (probing site count write)) rest w1) w1.has.0.1
+      (is_inside p site.behind pc (pc + 1 + 1) _ w (omega arith) (omega arith)) address_is (is_probed count is write site (put regs 27 (bit_or (regs (21 + place)) 0))) refl (λ spare round fits. fits)
       (λ ok. subst (λ q. Always p None need (at_place (put regs 27 (bit_or (regs (21 + place)) 0)) q) (tree p course)) two
       (behind (put regs 27 (bit_or (regs (21 + place)) 0)) ok
       (unchanged p site known (behind_access (record known { checked = At place count write })) standing standing.temps regs (put regs 27 (bit_or (regs (21 + place)) 0))

@@ -165,9 +165,9 @@ module _ (p : Placement) (site : Site) (known : Known) (standing : Standing) (re
       found_is ∙ (sym (state_kept regs g same p site.after site.before p.held) ∙ ap (λ pc. state_shown p g pc site.before p.held) (sym low)) in
       let there = end in
       let w3 = next p site.behind (pc + 1 + 1 + 1) (Pal 0x82) (Some (point_of site)) (exit_lines site.after) w2 in
-      serves p None 3 (at_place g (pc + 1 + 1 + 1)) t (point_of site) (stands p site.behind (pc + 1 + 1 + 1) (Pal 0x82) (Some (point_of site)) (exit_lines site.after) w2) w2.has.0.1
+      serves p None None 3 (at_place g (pc + 1 + 1 + 1)) t (point_of site) (stands p site.behind (pc + 1 + 1 + 1) (Pal 0x82) (Some (point_of site)) (exit_lines site.after) w2) w2.has.0.1
       (is_inside p site.behind (pc + 1 + 1 + 1) (pc + 1 + 1 + 1 + 1) _ w2 (omega arith) (omega arith)) form
-      (subst (λ (u : Tree). Same t u) (ap (λ code. p.serve code (with_pc site.after standing.state)) (sym code) ∙ ap (p.serve (g 21 % 2 ^ 16)) found) (same_refl t))
+      (subst (λ (u : Tree). Same t u) (ap (λ code. p.serve code (with_pc site.after standing.state)) (sym code) ∙ ap (p.serve (g 21 % 2 ^ 16)) found) (same_refl t)) (λ spare round fits. fits)
       (λ value value_lt n spare round fits.
       subst (λ (s : VaxState). Follows p n Plain spare round (at_place (put g 0 (sign_extended value 32)) (pc + 1 + 1 + 1 + 1)) (Ends (Finish s)))
       (sym (ap (λ pc. with_register 0 value (state_shown p g pc site.before p.held)) low ∙ behind_service g value value_lt same))

@@ -1,5 +1,5 @@
 -- A turn keeps its processor's thread, makes one step, and asks for that thread.
-use Rattle.std.proofs.Common.{◌≡◌, ℕ, suc, ◌%◌, ◌^◌, ◌==◌, Bool, true, false, if◌then◌else◌, List, Option, Some, None, refl}
+use Rattle.std.proofs.Common.{◌≡◌, ℕ, suc, ◌%◌, ◌^◌, ◌==◌, Bool, true, false, if◌then◌else◌, ◌≤◌, ap, arith, List, Option, Some, None, refl}
 use Rattle.alpha_encode.specs.declared.instr.AlphaInstr.{AlphaInstr}
 use Rattle.alpha_meaning.specs.Act.{Does, Goes, Asks as AsksAccess, Calls, act}
 use Rattle.alpha_meaning.specs.State.{Alpha}
@@ -29,6 +29,66 @@ abbrev IsOfThread : ℕ → Next → Type 0
 IsOfThread thread (Moves place) = Unit {0}
 IsOfThread thread (Wants request on) = request.processor ≡ thread
 IsOfThread thread step.Stuck = Unit {0}
+
+-- and tells the instructions that had retired
+abbrev IsAfter : ℕ → Next → Type 0
+IsAfter retired (Moves place) = Unit {0}
+IsAfter retired (Wants request on) = request.retired ≡ retired
+IsAfter retired step.Stuck = Unit {0}
+
+after_access : (b : Bool) (setting : Setting) (m : Moment) (i : AlphaInstr) (a : AlphaAccess) (c : Alpha) → IsAfter m.retired (accesses b setting m i a c)
+after_access true setting m i a c = refl
+after_access false setting m i a c = tt
+
+after_raised : (retired : ℕ) (o : Option Exception) → IsAfter retired (raised o)
+after_raised retired None = tt
+after_raised retired (Some x) = tt
+
+after_choices : (retired : ℕ) (one two three four five six : Bool) (exit : Place) (put get : Request) (stays : Place) (gets : ℕ → Bool → Place) (tells swaps resumes none : Place) → put.retired ≡ retired → get.retired ≡ retired
+    → IsAfter retired (if one then Moves exit else if two then Wants put (λ before success. stays) else if three then Wants get gets else if four then Moves tells else if five then Moves swaps else if six then Moves resumes else Moves none)
+after_choices retired true two three four five six exit put get stays gets tells swaps resumes none p g = tt
+after_choices retired false true three four five six exit put get stays gets tells swaps resumes none p g = p
+after_choices retired false false true four five six exit put get stays gets tells swaps resumes none p g = g
+after_choices retired false false false true five six exit put get stays gets tells swaps resumes none p g = tt
+after_choices retired false false false false true six exit put get stays gets tells swaps resumes none p g = tt
+after_choices retired false false false false false true exit put get stays gets tells swaps resumes none p g = tt
+after_choices retired false false false false false false exit put get stays gets tells swaps resumes none p g = tt
+
+after_served : (setting : Setting) (m : Moment) (code : ℕ) (rules : Rules) (c : Alpha) → IsAfter m.retired (served setting m code rules c)
+after_served setting m code rules c =
+    after_choices m.retired (code == 1) (code == 2) (code == 3) (code == 4) (code == 5) (code == 6) (Leaves (Comes (Exit (state_at m.boundary c.regs (target c.regs) rules m.held))))
+    (record { processor = m.thread; retired = m.retired; kind = kinds.Put; quad = 0; change = Byte (c.regs 0 % 256) })
+    (record { processor = m.thread; retired = m.retired; kind = kinds.Get; quad = 0; change = Nothing })
+    (behind setting m c c.regs) (λ before success. behind setting m c (with_r0 c.regs before)) (behind setting m c (with_r0 c.regs m.thread))
+    (Leaves (Comes (Finish (exchanged (state_at m.boundary c.regs (target c.regs) rules m.held)))))
+    (Leaves (Comes (Finish (with_pending Resume (state_at m.boundary c.regs (target c.regs) rules m.held)))))
+    (behind setting m c (with_r0 c.regs 0)) refl refl
+
+after_called : (setting : Setting) (m : Moment) (call : Call) (point : Option Point) (c : Alpha) → IsAfter m.retired (called setting m call point c)
+after_called setting m Probe (Some point) c = tt
+after_called setting m Probe None c = tt
+after_called setting m Serve (Some point) c = after_served setting m (c.regs 21 % 2 ^ 16) point.rules c
+after_called setting m Serve None c = tt
+after_called setting m Raise (Some point) c = after_raised m.retired (raised_at point.raises)
+after_called setting m Raise None c = tt
+after_called setting m Arithmetic (Some point) c = tt
+after_called setting m Arithmetic None c = tt
+after_called setting m LookUp point c = tt
+after_called setting m Switch point c = tt
+after_called setting m Other point c = tt
+
+after_does : (setting : Setting) (m : Moment) (i : AlphaInstr) (what : Does) (c : Alpha) → IsAfter m.retired (does setting m i what c)
+after_does setting m i (Goes d) c = tt
+after_does setting m i (AsksAccess a) c = after_access (is_defined setting a) setting m i a c
+after_does setting m i (Calls number) c = after_called setting m (call_of number) (point_at setting.code.points c.pc) c
+
+after_next_by : (setting : Setting) (m : Moment) (o : Option AlphaInstr) (c : Alpha) → IsAfter m.retired (next_by setting m o c)
+after_next_by setting m None c = tt
+after_next_by setting m (Some i) c = after_does setting m i (act i c) c
+
+after_next : (setting : Setting) (m : Moment) (c : Alpha) → IsAfter m.retired (next setting m c)
+unfolding next
+after_next setting m c = after_next_by setting m (fetch_of setting.code.words c.pc) c
 
 of_access : (b : Bool) (setting : Setting) (m : Moment) (i : AlphaInstr) (a : AlphaAccess) (c : Alpha) → IsOfThread m.thread (accesses b setting m i a c)
 of_access true setting m i a c = refl
@@ -124,3 +184,50 @@ makes_in setting p (Ended end) = tt
 
 pub makes : (setting : Setting) (p : Processor) → Makes p (turn setting p)
 makes setting p = makes_in setting p (mode_of setting p p.mode)
+
+-- ---- one step retires one instruction at most
+pub record RetiresOne (p q : Processor) : Type 0 where
+  pub least : p.retired ≤ q.retired
+  pub most : q.retired ≤ suc p.retired
+
+same_retired : (p q : Processor) → q.retired ≡ p.retired → RetiresOne p q
+same_retired p q h = record { least = omega (arith, h); most = omega (arith, h) }
+
+more_retired : (p q : Processor) → q.retired ≡ suc p.retired → RetiresOne p q
+more_retired p q h = record { least = omega (arith, h); most = omega (arith, h) }
+
+left_retires : (setting : Setting) (p q : Processor) (last : Last) → q.retired ≡ p.retired → RetiresOne p (left setting q last)
+left_retires setting p q (Comes (Finish s)) h = more_retired p _ (ap suc h)
+left_retires setting p q (Comes (Exit s)) h = more_retired p _ (ap suc h)
+left_retires setting p q (Comes (Trap kind s)) h = more_retired p _ (ap suc h)
+left_retires setting p q (Fails x) h = same_retired p _ h
+
+placed_retires : (setting : Setting) (p : Processor) (to : Place) → RetiresOne p (placed setting (stepped p) to)
+placed_retires setting p (Inside alpha) = same_retired p _ refl
+placed_retires setting p (Lands s held regs) = more_retired p _ refl
+placed_retires setting p (Leaves last) = left_retires setting p (stepped p) (settled_last p.boundary last) refl
+
+abbrev pub Retires : Processor → Turn → Type 0
+Retires p (Went q) = RetiresOne p q
+Retires p (Asks request on) = (request.retired ≡ p.retired) × ((before : ℕ) (success : Bool) → RetiresOne p (on before success))
+Retires p Over = Unit {0}
+Retires p Stuck = Unit {0}
+
+alpha_retires : (setting : Setting) (p : Processor) (to : Next) → IsAfter p.retired to → Retires p (alpha_turn setting p to)
+alpha_retires setting p (Moves to) h = placed_retires setting p to
+alpha_retires setting p (Wants request on) h = (h, λ before success. placed_retires setting p (on before success))
+alpha_retires setting p step.Stuck h = tt
+
+tie_retires : (setting : Setting) (p : Processor) (state : VaxState) (replies : List ℕ) (a : Answer) → Retires p (tie_turn setting p state replies a)
+tie_retires setting p state replies (trees.Wants q) = (refl, λ before success. same_retired p _ refl)
+tie_retires setting p state replies (trees.Fails x) = left_retires setting p (tied p) (Fails x) refl
+tie_retires setting p state replies (trees.Comes x rest) = left_retires setting p (tied p) (Comes x) refl
+
+retires_in : (setting : Setting) (p : Processor) (mode : Mode) → Retires p (turn_in setting p mode)
+retires_in setting p New = tt
+retires_in setting p (Runs alpha) = alpha_retires setting p (next setting (moment_of p) alpha) (after_next setting (moment_of p) alpha)
+retires_in setting p (Interprets state replies) = tie_retires setting p state replies (answer setting.meaning.pages (setting.meaning.moment p.thread state) replies)
+retires_in setting p (Ended end) = tt
+
+pub retires : (setting : Setting) (p : Processor) → Retires p (turn setting p)
+retires setting p = retires_in setting p (mode_of setting p p.mode)

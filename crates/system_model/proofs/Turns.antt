@@ -1,6 +1,7 @@
 -- What keeps a processor reached by its own entries, and makes a history legal.
 use Rattle.std.proofs.Common.{◌≡◌, ℕ, zero, suc, ◌+◌, ◌≤◌, ◌==◌, Bool, true, if◌then◌else◌, List, [], ◌∷◌, ◌++◌, length, Some, refl, sym, ap, ◌∙◌, subst, arith, ◌⊎◌, inl, inr, ⊎_elim}
 use Rattle.std.specs.Prelude.{option_map, slice_get}
+use Rattle.std.specs.List.{AllByRecursion}
 use Rattle.std.proofs.lemmas.List.{length-append}
 use Rattle.std.proofs.lemmas.List.Elements.{filter-append}
 use Rattle.std.proofs.lemmas.Bool.{eq-eqb}
@@ -12,8 +13,8 @@ use Rattle.vax_form.specs.declared.state.VaxState.{VaxState}
 use Rattle.system_model.specs.Settings.{Setting}
 use Rattle.system_model.specs.Processors.{Processor, begun, entry_by, Reaches, Begins, Steps, Takes}
 use Rattle.system_model.specs.Legal.{IsGoing, IsSpent, IsReached}
-use Rattle.system_model.specs.Laws.{begun_from, BeginningsAreLegal, StepsKeepReached, AccessesKeepReached, EndsKeepReached, OthersKeepReached, RequestsAreOwn, ReachedAreLegal}
-use Rattle.system_model.proofs.Requests.{IsStep, Makes, makes}
+use Rattle.system_model.specs.Laws.{begun_from, BeginningsAreLegal, StepsKeepReached, AccessesKeepReached, EndsKeepReached, OthersKeepReached, RequestsAreOwn, ReachedAreLegal, ReachedCounts}
+use Rattle.system_model.proofs.Requests.{IsStep, Makes, makes, RetiresOne, Retires, retires}
 
 own_if : (b : Bool) (e : Entry) (mine : List Entry) (c : Bool) → b ≡ c → (if b then e ∷ mine else mine) ≡ (if c then e ∷ mine else mine)
 own_if b e mine c h = ap (λ x. if x then e ∷ mine else mine) h
@@ -27,6 +28,26 @@ pub reached_thread : (setting : Setting) (first : Processor) (n : ℕ) (mine : L
 reached_thread setting first n mine p Begins = refl
 reached_thread setting first n mine p (Steps {p = q} r e) = (subst (Makes q) e (makes setting q)).thread ∙ reached_thread setting first _ mine q r
 reached_thread setting first n mine p (Takes {mine = older} {p = q} r e before success) = ((subst (Makes q) e (makes setting q)).1 before success).thread ∙ reached_thread setting first _ older q r
+
+-- ---- what it has counted
+all_below : (mine : List Entry) (m n : ℕ) → m ≤ n → AllByRecursion (λ (e : Entry). e.retired ≤ m) mine → AllByRecursion (λ (e : Entry). e.retired ≤ n) mine
+all_below [] m n lt all = tt
+all_below (e ∷ mine) m n lt all = (omega (arith, lt, all.0), all_below mine m n lt all.1)
+
+pub reached_counts : ReachedCounts
+reached_counts setting thread start n mine p Begins = (refl, omega arith, tt)
+reached_counts setting thread start n mine p (Steps {p = q} r e) =
+    let before = reached_counts setting thread start _ mine q r in
+    let step : IsStep q p = subst (Makes q) e (makes setting q) in
+    let one : RetiresOne q p = subst (Retires q) e (retires setting q) in
+    (step.steps ∙ ap suc before.0, omega (arith, before.1, one.most), all_below mine q.retired p.retired one.least before.2)
+reached_counts setting thread start n mine p (Takes {mine = older} {p = q} {request = request} r e before success) =
+    let was = reached_counts setting thread start _ older q r in
+    let step : IsStep q p = (subst (Makes q) e (makes setting q)).1 before success in
+    let asked = subst (Retires q) e (retires setting q) in
+    let one : RetiresOne q p = asked.1 before success in
+    let told : request.retired ≡ q.retired = asked.0 in
+    (step.steps ∙ ap suc was.0, omega (arith, was.1, one.most), (omega (arith, told, one.least), all_below older q.retired p.retired one.least was.2))
 
 -- ---- the beginning
 pub begun_length : (n : ℕ) (xs : List Start) → length (begun_from n xs) ≡ length xs

@@ -20,7 +20,7 @@ use Rattle.system_model.specs.Matches.{KeepsOthers}
 use Rattle.system_model.specs.Quadwords.{quad_at, quad_address, change_of, reply_found, IsOf}
 use Rattle.system_model.specs.Settings.{Setting}
 use Rattle.system_model.specs.Steps.{Place, Wants, Moment, next}
-use Rattle.system_model.specs.Processors.{Processor, Went, Asks, begun, request_of, turn, entry_by}
+use Rattle.system_model.specs.Processors.{Processor, Went, Asks, begun, request_of, turn, entry_by, Reaches}
 use Rattle.system_model.specs.Legal.{starts, spent, IsGoing, IsAsking, IsReached, IsLegal}
 
 -- ---- legal histories
@@ -64,6 +64,12 @@ OthersKeepReached = (setting : Setting) (budget limit : ℕ) (later entries : Li
 abbrev pub RequestsAreOwn : Type 0
 RequestsAreOwn = (setting : Setting) (budget limit : ℕ) (entries : List Entry) (thread : ℕ) (start : VaxState) (p : Processor) (request : Request) (on : ℕ → Bool → Processor)
     → IsReached setting budget limit entries thread start p → IsGoing p.mode → turn setting p ≡ Asks request on → request.processor ≡ thread
+
+-- a processor that began so made as many steps as turns, has retired no more instructions than that, and no entry of its own
+-- tells more of them
+abbrev pub ReachedCounts : Type 0
+ReachedCounts = (setting : Setting) (thread : ℕ) (start : VaxState) (n : ℕ) (mine : List Entry) (p : Processor) → Reaches setting (begun thread start) n mine p
+    → (p.steps ≡ n) × (p.retired ≤ n) × AllByRecursion (λ (e : Entry). e.retired ≤ p.retired) mine
 
 -- just one processor for each thread of the image, each reached by its own entries of a history that meets the memory
 -- order and the limit and has entries of these alone
