@@ -21,7 +21,7 @@ use Rattle.block_law.specs.Rounds.{block_steps, new_round}
 use Rattle.block_law.specs.Follows.{Follows}
 use Rattle.block_law.specs.Tidy.{is_kept, register_written, may_raise, may_fault, interprets, keeps_to, keeps_until, IsTidy}
 use Rattle.block_law.specs.Blocks.{is_exit_word, is_quiet, IsBlockOf, IsLike, IsLaid}
-use Rattle.block_law.specs.Translations.{Meaning, Code, IsBlock, placed, has_loop, fetch_of, end_of, done_at}
+use Rattle.block_law.specs.Translations.{Meaning, Permit, Code, IsBlock, placed, has_loop, fetch_of, end_of, done_at}
 
 -- the word at each place
 pub has_each : (fetch : Fetch) (pc : ℕ) (is : List AlphaInstr) → HasAt fetch pc is → (j : ℕ) (i : AlphaInstr) → slice_get is j ≡ Some i → fetch (pc + j) ≡ Some i
@@ -110,7 +110,7 @@ module _ (loops : Bool) (address : ℕ) (block : BlockValue) (words : List Alpha
       }
 
 -- ---- a block in its place
-module _ (meaning : Meaning) (code : Code) (address : ℕ) (block : BlockValue) (shape : IsBlockOf (has_loop meaning address) address block) (laid : IsLaid code address block) where
+module _ (meaning : Meaning) (permit : Permit) (code : Code) (address : ℕ) (block : BlockValue) (shape : IsBlockOf (has_loop permit address) address block) (laid : IsLaid code address block) where
   pub first_point : point_at code.points laid.first ≡ Some shape.first
   first_point =
       let some = shape.tidy.some in
@@ -128,12 +128,12 @@ module _ (meaning : Meaning) (code : Code) (address : ℕ) (block : BlockValue) 
       let there = has_each (fetch_of code.words) laid.first stands.words stands.stand word it here in
       let before = get_or block.words word nop in
       let was : slice_get block.words word ≡ Some before = slice_get-get_or block.words word nop own.within in
-      let alike = like_alike (has_loop meaning address) address block stands.words shape stands.like word it before here was in
+      let alike = like_alike (has_loop permit address) address block stands.words shape stands.like word it before here was in
       (own.its, own.done ∙ ap done_at was ∙ sym alike.done ∙ ap done_at (sym there))
 
   pub is_block : ((thread n : ℕ) (state : VaxState) (held : Flags) (regs : Regs) → thread < 256 → IsState state → state.pc ≡ address → InForm regs → Shows regs address shape.first.rules held state
-      → Follows (placed meaning code thread state held laid.first) n Plain block_steps new_round (at_place regs laid.first) (meaning.tree thread state))
-      → IsBlock meaning code address laid.first
+      → Follows (placed meaning permit code thread state held laid.first) n Plain block_steps new_round (at_place regs laid.first) (meaning.tree thread state))
+      → IsBlock meaning permit code address laid.first
   is_block follows =
       let stands = laid.stands in
       record {
@@ -144,7 +144,7 @@ module _ (meaning : Meaning) (code : Code) (address : ℕ) (block : BlockValue) 
         ends = stands.ends;
         within = stands.within;
         stand = stands.stand;
-        tidy = like_tidy (has_loop meaning address) address block stands.words shape stands.like;
+        tidy = like_tidy (has_loop permit address) address block stands.words shape stands.like;
         follows = follows;
       }
     where

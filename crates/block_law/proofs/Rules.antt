@@ -16,7 +16,7 @@ use Rattle.alpha_encode.specs.declared.instr.AlphaInstr.TheVariants.{Branch, Pal
 use Rattle.alpha_meaning.specs.State.{Alpha, Regs, put, at_place}
 use Rattle.alpha_meaning.specs.Act.{Does, Goes, Calls, act, taken, links, target_of}
 use Rattle.alpha_meaning.specs.Loops.{is_operate, effect, effects}
-use Rattle.alpha_meaning.specs.Pieces.{Kinds, Plan, Phase, Plain, Acts, Steps, Runs, HasAt, piece, retry_steps}
+use Rattle.alpha_meaning.specs.Pieces.{Kinds, Plan, Phase, Plain, Acts, Steps, Runs, HasAt, piece}
 use Rattle.alpha_meaning.proofs.Rules.{act_operate, not_linked}
 use Rattle.exception_records.specs.Points.{raised_at}
 use Rattle.exception_records.specs.declared.points.Point.{Point}

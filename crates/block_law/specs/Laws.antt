@@ -2,16 +2,19 @@
 use Rattle.std.specs.Prelude.{◌≡◌, ℕ, ◌≤◌, ◌+◌, ◌==◌, ◌&&◌, ◌||◌, nat_lt, nat_le, Bool, true, false}
 use Rattle.vax_form.specs.Tree.{Tree, Same}
 use Rattle.vax_form.specs.declared.state.Flags.{Flags}
+use Rattle.vax_form.specs.declared.state.Reference.{Reference}
 use Rattle.alpha_encode.specs.declared.instr.AlphaInstr.{AlphaInstr}
 use Rattle.alpha_encode.specs.declared.registers.TheConstants.{CARRY_FIRST, TEMPORARIES, RULE_FIRST, ZERO}
 use Rattle.alpha_meaning.specs.State.{Alpha, Regs}
 use Rattle.alpha_meaning.specs.Act.{Does, Goes, Asks, Calls, act, finished}
-use Rattle.alpha_meaning.specs.Pieces.{Phase}
+use Rattle.alpha_meaning.specs.Pieces.{Phase, Kinds}
+use Rattle.alpha_meaning.specs.declared.access.AlphaKind.{AlphaKind}
 use Rattle.exception_records.specs.Shown.{psw_shown}
 use Rattle.exception_records.specs.declared.rules.Rules.{Rules}
 use Rattle.block_law.specs.Placements.{Placement}
 use Rattle.block_law.specs.Rounds.{Round}
 use Rattle.block_law.specs.Follows.{Clause, Follows}
+use Rattle.block_law.specs.Translations.{Meaning, Permit, Code, Meets}
 use Rattle.block_law.specs.Tidy.{register_written}
 
 -- what holds for every number of steps
@@ -31,6 +34,20 @@ FewerStepsFollow =
 abbrev pub SameTreeFollows : Type 0
 SameTreeFollows =
     (p : Placement) (n : ℕ) (phase : Phase) (spare : ℕ) (round : Round) (c : Alpha) (tree other : Tree) → Same other tree → Follows p n phase spare round c tree → Follows p n phase spare round c other
+
+-- ---- permits
+-- each kind of access that may be made stays one
+abbrev pub MoreKinds : (kinds more : Reference → Kinds) → Type 0
+MoreKinds kinds more = (r : Reference) (kind : AlphaKind) (bytes : ℕ) → kinds r kind bytes ≡ true → more r kind bytes ≡ true
+
+-- a permit with more kinds, and the same loops
+pub record AllowsMore (permit more : Permit) : Type 0 where
+  pub kinds : (address : ℕ) → MoreKinds (permit.kinds address) (more.kinds address)
+  pub bonus : (address : ℕ) → more.bonus address ≡ permit.bonus address
+
+-- code that meets a permit meets one with more kinds
+abbrev pub MoreKindsMeet : Type 0
+MoreKindsMeet = (meaning : Meaning) (permit more : Permit) (code : Code) → AllowsMore permit more → Meets meaning permit code → Meets meaning more code
 
 -- ---- registers
 -- the register is as before: behind a local step, and behind an access, whatever it found
