@@ -5,7 +5,7 @@ use Rattle.std.specs.Int.{cast_signed, w16}
 use Rattle.alpha_encode.specs.declared.instr.AlphaInstr.{AlphaInstr}
 use Rattle.alpha_encode.specs.declared.instr.AlphaInstr.TheVariants.{Memory}
 use Rattle.alpha_encode.specs.declared.instr.MemoryOp.TheVariants.{Lda, Ldah}
-use Rattle.alpha_encode.specs.declared.registers.TheConstants.{ZERO}
+use Rattle.alpha_encode.specs.Registers.{ZERO}
 
 -- the low half as a signed number, and the high half with the borrow of the low one added
 abbrev pub low_half : (value : ℕ) → ℤ

@@ -1,3 +1,5 @@
+pub mod Calls
+pub mod Registers
 pub mod Table
 pub mod Rows
 pub mod Words

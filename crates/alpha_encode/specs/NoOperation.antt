@@ -4,7 +4,7 @@ use Rattle.alpha_encode.specs.declared.instr.AlphaInstr.{AlphaInstr}
 use Rattle.alpha_encode.specs.declared.instr.AlphaInstr.TheVariants.{Operate}
 use Rattle.alpha_encode.specs.declared.instr.OperateOp.TheVariants.{Bis}
 use Rattle.alpha_encode.specs.declared.instr.Second.TheVariants.{Register}
-use Rattle.alpha_encode.specs.declared.registers.TheConstants.{ZERO}
+use Rattle.alpha_encode.specs.Registers.{ZERO}
 
 abbrev pub nop : AlphaInstr
 nop = Operate Bis ZERO (Register ZERO) ZERO

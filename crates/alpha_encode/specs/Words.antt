@@ -7,7 +7,7 @@ use Rattle.alpha_encode.specs.declared.instr.Second.{Second}
 use Rattle.alpha_encode.specs.declared.instr.Second.TheVariants.{Register, Literal}
 use Rattle.alpha_encode.specs.declared.instr.AlphaInstr.{AlphaInstr}
 use Rattle.alpha_encode.specs.declared.instr.AlphaInstr.TheVariants.{Memory, Branch, Operate, Jump, Pal}
-use Rattle.alpha_encode.specs.declared.pal.TheConstants.{PROBE, SWITCH}
+use Rattle.alpha_encode.specs.Calls.{PROBE, SWITCH}
 use Rattle.alpha_encode.specs.Rows.{memory_opcode, memory_at, branch_opcode, branch_at, operate_code, operate_at}
 
 -- ---- from an instruction to its word

@@ -1,4 +1,6 @@
 // What the Alpha registers hold in translated code. R0 to R14 are the VAX registers, as sign-extended longwords.
+ghost use Rattle.std.specs.Prelude.{◌≡◌};
+ghost use Rattle.alpha_encode.specs.Registers as stated;
 
 /// The first operand of the rule of C.
 pub const CARRY_FIRST: u8 = 15;
@@ -32,3 +34,20 @@ pub const RULE_SECOND: u8 = 29;
 pub const CARRY_SECOND: u8 = 30;
 /// Reads zero, and is not written.
 pub const ZERO: u8 = 31;
+
+/// The registers of the state are those that the definitions state in figures.
+pub fn registers_are_as_stated()
+    ensures carry_first { CARRY_FIRST ≡ stated.CARRY_FIRST }
+    ensures negative { NEGATIVE ≡ stated.NEGATIVE }
+    ensures is_zero { IS_ZERO ≡ stated.IS_ZERO }
+    ensures overflow { OVERFLOW ≡ stated.OVERFLOW }
+    ensures carry { CARRY ≡ stated.CARRY }
+    ensures status { STATUS ≡ stated.STATUS }
+    ensures temporaries { TEMPORARIES ≡ stated.TEMPORARIES }
+    ensures target { TARGET ≡ stated.TARGET }
+    ensures address { ADDRESS ≡ stated.ADDRESS }
+    ensures rule_first { RULE_FIRST ≡ stated.RULE_FIRST }
+    ensures rule_second { RULE_SECOND ≡ stated.RULE_SECOND }
+    ensures carry_second { CARRY_SECOND ≡ stated.CARRY_SECOND }
+    ensures zero { ZERO ≡ stated.ZERO }
+{}
