@@ -25,4 +25,4 @@ pub use state::{
     AP, Exception, FP, Flags, Outcome, Pending, Pick, RefKind, Reference, SP, USER_MODE, VaxState,
     WantOfMemory,
 };
-pub use targets::{branch_target, fixed_address};
+pub use targets::{branch_target, call_of, fixed_address, jump_of};
