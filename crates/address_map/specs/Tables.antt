@@ -4,9 +4,13 @@ use Rattle.std.specs.Prelude.{◌≡◌, ◌<◌, ◌≤◌, ◌+◌, ◌-◌, �
 use Rattle.std.specs.List.{list_any}
 use Rattle.address_map.specs.Pairs.{Pair, word_at}
 
+-- the numbers of a page
+abbrev pub page_size : ℕ
+page_size = 512
+
 -- a number of the page has a pair
 abbrev pub has_page : List Pair → ℕ → Bool
-has_page pairs page = list_any (λ (p : Pair). p.0 / 512 == page) pairs
+has_page pairs page = list_any (λ (p : Pair). p.0 / page_size == page) pairs
 
 -- how many of the pages below it
 abbrev pub count_below : (ℕ → Bool) → ℕ → ℕ
@@ -23,17 +27,17 @@ upper_word pairs page = if has_page pairs page then suc (table_number pairs page
 
 -- the place of a number in the lower tables
 abbrev pub lower_place : List Pair → ℕ → ℕ
-lower_place pairs number = 512 * table_number pairs (number / 512) + number % 512
+lower_place pairs number = page_size * table_number pairs (number / page_size) + number % page_size
 
 -- the page of the first pair, which has the lowest number
 abbrev pub first_page : List Pair → ℕ
 first_page [] = 0
-first_page (p ∷ ps) = p.0 / 512
+first_page (p ∷ ps) = p.0 / page_size
 
 -- the page behind that of the last pair, which has the highest number
 abbrev pub end_page : List Pair → ℕ
 end_page [] = 0
-end_page (p ∷ []) = p.0 / 512 + 1
+end_page (p ∷ []) = p.0 / page_size + 1
 end_page (p ∷ q ∷ ps) = end_page (q ∷ ps)
 
 -- how many pages there are from one to the other
@@ -52,7 +56,7 @@ tables first upper lower = record { first = first; upper = upper; lower = lower 
 abbrev pub opened : ℕ → List ℕ → List (Option ℕ) → List ℕ × List (Option ℕ)
 opened page upper lower =
     if slice_index upper page == 0
-    then (slice_set upper page (length lower / 512 + 1), lower ++ replicate 512 None)
+    then (slice_set upper page (length lower / page_size + 1), lower ++ replicate page_size None)
     else (upper, lower)
 
 -- the page has an upper word
@@ -63,8 +67,8 @@ IsInside t page = (t.first ≤ page) × (page < t.first + length t.upper)
 pub record Holds (t : TablesValue) (has : ℕ → Bool) (word : ℕ → Option ℕ) : Type 0 where
   pub inside : (page : ℕ) → has page ≡ true → IsInside t page
   pub upper : (page : ℕ) → IsInside t page → slice_index t.upper (page - t.first) ≡ (if has page then suc (count_below has page) else 0)
-  pub tables : length t.lower ≡ 512 * count_below has (t.first + length t.upper)
-  pub lower : (number : ℕ) → has (number / 512) ≡ true → slice_index_or t.lower (512 * count_below has (number / 512) + number % 512) None ≡ word number
+  pub tables : length t.lower ≡ page_size * count_below has (t.first + length t.upper)
+  pub lower : (number : ℕ) → has (number / page_size) ≡ true → slice_index_or t.lower (page_size * count_below has (number / page_size) + number % page_size) None ≡ word number
 
 -- of these pairs
 abbrev pub HasTables : TablesValue → List Pair → Type 0

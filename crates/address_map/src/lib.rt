@@ -63,7 +63,7 @@ impl Model for AddressMap {
 impl AddressMap {
     ghost use Rattle.std.specs.Prelude.{◌+◌, ◌/◌, ◌<◌, ◌*◌, ℕ, true, Some, length, slice_get, slice_index};
     ghost use Rattle.address_map.specs.Pairs.{AllRise, address_at, word_at};
-    ghost use Rattle.address_map.specs.Tables.{has_page, first_page, end_page, page_span, table_number, upper_word, lower_place};
+    ghost use Rattle.address_map.specs.Tables.{has_page, first_page, end_page, page_size, page_span, table_number, upper_word, lower_place};
 
     /// The Alpha word number of a VAX address; None where no pair has the address.
     pub fn look_up(&self, vax_pc: u32) -> Option<u32>
@@ -100,8 +100,8 @@ impl AddressMap {
 
     /// The lower tables, of 512 places each: place `512 * number + address % 512` is `look_up(address)`.
     pub fn lower(&self) -> &[Option<u32>]
-        ensures tables { length result.now ≡ 512 * table_number self.now (end_page self.now) }
-        ensures places { (address : ℕ) → has_page self.now (address / 512) ≡ true → slice_get result.now (lower_place self.now address) ≡ Some (word_at self.now address) }
+        ensures tables { length result.now ≡ page_size * table_number self.now (end_page self.now) }
+        ensures places { (address : ℕ) → has_page self.now (address / page_size) ≡ true → slice_get result.now (lower_place self.now address) ≡ Some (word_at self.now address) }
     {
         self.by_address.lower()
     }
