@@ -7,8 +7,7 @@ use Rattle.std.proofs.lemmas.Bool.Decides.{nat_tests}
 use Rattle.std.proofs.lemmas.Bool.{le-ltb}
 use Rattle.std.proofs.lemmas.List.{length-append, length-map, take_at, drop_at}
 use Rattle.std.proofs.lemmas.Nat.{from_le_bytes-to_le_bytes_2}
-use Rattle.image_file.specs.declared.limits.TheConstants.{MAGIC, MOST_SECTIONS, MOST_ENTRIES}
-use Rattle.image_file.specs.Limits.{is_version, most_threads, most_bytes, start_width}
+use Rattle.image_file.specs.Limits.{MAGIC, MOST_SECTIONS, MOST_ENTRIES, is_version, most_threads, most_bytes, start_width}
 use Rattle.image_file.specs.declared.rows.Row.{Row}
 use Rattle.image_file.specs.declared.header.Counts.{Counts}
 use Rattle.image_file.specs.Values.{SectionValue, ImageValue}

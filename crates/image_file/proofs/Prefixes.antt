@@ -4,11 +4,10 @@ use Rattle.std.specs.Prelude.{◌==◌}
 use Rattle.std.specs.Int.{w16, w32, from_le_bytes}
 use Rattle.std.proofs.lemmas.Bool.{cases_lt, lt-ltb, le-ltb}
 use Rattle.std.proofs.lemmas.List.{length-take, take-take, drop-take}
-use Rattle.image_file.specs.declared.limits.TheConstants.{MAGIC, HEADER}
 use Rattle.image_file.specs.declared.header.Counts.{Counts}
 use Rattle.image_file.specs.declared.refusal.ImageRefusal.{ImageRefusal}
 use Rattle.image_file.specs.declared.refusal.ImageRefusal.TheVariants.{Truncated}
-use Rattle.image_file.specs.Limits.{is_version}
+use Rattle.image_file.specs.Limits.{MAGIC, HEADER, is_version}
 use Rattle.image_file.specs.Values.{ImageValue}
 use Rattle.image_file.specs.Rows.{stored_bytes}
 use Rattle.image_file.specs.Reading.{half, word, rows_at, tables_end, counts_in, counts_allowed, counts_of, table_in, row_in, rows_in, entries_in, layout_of, image_of}

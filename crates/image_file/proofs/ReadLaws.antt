@@ -4,8 +4,7 @@ use Rattle.std.specs.Prelude.{position, ◌==◌}
 use Rattle.std.specs.List.{list_all, list_any}
 use Rattle.std.proofs.lemmas.Bool.{and_parts, eqb-true, le-ltb, ltb-false, not-false}
 use Rattle.std.proofs.lemmas.List.{length-take, length-drop, take_all}
-use Rattle.image_file.specs.declared.limits.TheConstants.{MAGIC, HEADER, MOST_SECTIONS, MOST_ENTRIES}
-use Rattle.image_file.specs.Limits.{is_version, most_threads, most_bytes}
+use Rattle.image_file.specs.Limits.{MAGIC, HEADER, MOST_SECTIONS, MOST_ENTRIES, is_version, most_threads, most_bytes}
 use Rattle.image_file.specs.declared.rows.Row.{Row}
 use Rattle.image_file.specs.declared.header.Counts.{Counts}
 use Rattle.image_file.specs.declared.refusal.ImageRefusal.TheVariants.{Truncated, BadMagic, BadVersion, NoThread, TooManyThreads, TooManySections, BadSection, Overlap, TooLarge, Trailing}

@@ -4,8 +4,7 @@ use Rattle.std.specs.Prelude.{codes}
 use Rattle.std.specs.List.{flat_map, list_all, list_any}
 use Rattle.std.specs.Int.{w16, w32, to_le_bytes}
 use Rattle.std.proofs.lemmas.List.{length-drop, take_all}
-use Rattle.image_file.specs.declared.limits.TheConstants.{HEADER, ROW_BYTES, ENTRY_BYTES}
-use Rattle.image_file.specs.Limits.{most_bytes, start_width}
+use Rattle.image_file.specs.Limits.{HEADER, ROW_BYTES, ENTRY_BYTES, most_bytes, start_width}
 use Rattle.image_file.specs.declared.rows.Row.{Row}
 use Rattle.image_file.specs.declared.header.Counts.{Counts}
 use Rattle.image_file.specs.Values.{SectionValue, ImageValue}

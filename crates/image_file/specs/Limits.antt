@@ -1,5 +1,41 @@
--- What differs between the versions of the format.
+-- The numbers of the format, in figures, and what differs between its versions.
 use Rattle.std.specs.Prelude.{ℕ, ◌==◌, ◌||◌, Bool, if◌then◌else◌}
+
+-- the bytes VXIM, the lowest first
+abbrev pub MAGIC : ℕ
+MAGIC = 0x4d495856
+
+-- the bytes of the header
+abbrev pub HEADER : ℕ
+HEADER = 12
+
+-- how many registers of a thread a file of version 2 has, R0 to R13, and where they stand in the thread's bytes
+abbrev pub FIRST_REGISTERS : ℕ
+FIRST_REGISTERS = 14
+
+abbrev pub FIRST_AT : ℕ
+FIRST_AT = 8
+
+-- the bytes of a register, of a row of the section table, and of an entry
+abbrev pub REGISTER_BYTES : ℕ
+REGISTER_BYTES = 4
+
+abbrev pub ROW_BYTES : ℕ
+ROW_BYTES = 16
+
+abbrev pub ENTRY_BYTES : ℕ
+ENTRY_BYTES = 4
+
+-- the most sections of an image, and the most entries
+abbrev pub MOST_SECTIONS : ℕ
+MOST_SECTIONS = 64
+
+abbrev pub MOST_ENTRIES : ℕ
+MOST_ENTRIES = 4096
+
+-- sections end at this address or below it
+abbrev pub ADDRESS_END : ℕ
+ADDRESS_END = 0x80000000
 
 abbrev pub is_version : ℕ → Bool
 is_version number = (number == 1) || (number == 2)

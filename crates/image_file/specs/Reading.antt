@@ -5,10 +5,9 @@ use Rattle.std.specs.Int.{w16, w32, from_le_bytes}
 use Rattle.image_file.specs.declared.image.Start.{Start}
 use Rattle.image_file.specs.declared.rows.Row.{Row}
 use Rattle.image_file.specs.declared.header.Counts.{Counts}
-use Rattle.image_file.specs.declared.limits.TheConstants.{MAGIC, HEADER, FIRST_REGISTERS, FIRST_AT, REGISTER_BYTES, ROW_BYTES, ENTRY_BYTES, MOST_SECTIONS, MOST_ENTRIES}
 use Rattle.image_file.specs.declared.refusal.ImageRefusal.{ImageRefusal}
 use Rattle.image_file.specs.declared.refusal.ImageRefusal.TheVariants.{Truncated, BadMagic, BadVersion, NoThread, TooManyThreads, TooManySections, BadSection, Overlap, TooLarge, BadEntry, Trailing, TooManyEntries, WantOfMemory}
-use Rattle.image_file.specs.Limits.{is_version, most_threads, most_bytes, start_width}
+use Rattle.image_file.specs.Limits.{MAGIC, HEADER, FIRST_REGISTERS, FIRST_AT, REGISTER_BYTES, ROW_BYTES, ENTRY_BYTES, MOST_SECTIONS, MOST_ENTRIES, is_version, most_threads, most_bytes, start_width}
 use Rattle.image_file.specs.Values.{SectionValue, ImageValue}
 use Rattle.image_file.specs.Rows.{is_sound, has_code, first_overlap, total_bytes, stored_bytes}
 use Rattle.image_file.specs.Pages.{pages_of}

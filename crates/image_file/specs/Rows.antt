@@ -1,7 +1,7 @@
 -- Rows of the section table, and the pages that they stand for.
 use Rattle.std.specs.Prelude.{ℕ, ◌+◌, ◌-◌, ◌*◌, ◌/◌, ◌%◌, ◌==◌, ◌&&◌, ◌||◌, Bool, Option, None, option_map, List, [], ◌∷◌, nat_le, nat_lt, position}
 use Rattle.std.specs.Option.{option_or}
-use Rattle.image_file.specs.declared.limits.TheConstants.{ADDRESS_END}
+use Rattle.image_file.specs.Limits.{ADDRESS_END}
 use Rattle.image_file.specs.declared.rows.Row.{Row}
 use Rattle.vax_form.specs.PageTable.{page_size}
 

@@ -2,8 +2,7 @@
 use Rattle.std.specs.Prelude.{◌≡◌, ℕ, ◌≤◌, ◌<◌, ◌^◌, true, None, length, map, replicate}
 use Rattle.std.specs.List.{AllByRecursion, list_any, list_all}
 use Rattle.image_file.specs.declared.image.Start.{Start}
-use Rattle.image_file.specs.declared.limits.TheConstants.{FIRST_REGISTERS, MOST_SECTIONS, MOST_ENTRIES}
-use Rattle.image_file.specs.Limits.{is_version, most_threads, most_bytes}
+use Rattle.image_file.specs.Limits.{FIRST_REGISTERS, MOST_SECTIONS, MOST_ENTRIES, is_version, most_threads, most_bytes}
 use Rattle.image_file.specs.Values.{ImageValue}
 use Rattle.image_file.specs.Rows.{is_sound, has_code, first_overlap, total_bytes}
 use Rattle.image_file.specs.Spelling.{row_of}

@@ -18,7 +18,7 @@ mod writing;
 pub use fields::word_at;
 pub use image::{Image, Section, Start};
 pub use lengths::image_length;
-pub use limits::{FIRST_REGISTERS, VERSION_1, most_threads};
+pub use limits::{FIRST_REGISTERS, VERSION_1, limits_are_as_stated, most_threads};
 pub use reading::read_image;
 pub use refusal::{ImageRefusal, Numbers};
 pub use writing::{put_words, write_image};

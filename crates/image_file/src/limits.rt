@@ -1,6 +1,7 @@
 //! The numbers of the format, and the limits of each version.
 ghost use Rattle.std.specs.Prelude.{◌≡◌, ◌≤◌};
 ghost use Rattle.image_file.specs.Limits.{is_version, most_threads, most_bytes, start_width};
+ghost use Rattle.image_file.specs.Limits as stated;
 
 /// The most sections of an image.
 pub const MOST_SECTIONS: u16 = 64;
@@ -79,3 +80,19 @@ pub fn start_width(version: u16) -> usize
         START_BYTES_2
     }
 }
+
+/// The numbers and the limits are those that the definitions state in figures.
+pub fn limits_are_as_stated()
+    ensures magic { MAGIC ≡ stated.MAGIC }
+    ensures header { HEADER ≡ stated.HEADER }
+    ensures first_registers { FIRST_REGISTERS ≡ stated.FIRST_REGISTERS }
+    ensures first_at { FIRST_AT ≡ stated.FIRST_AT }
+    ensures register_bytes { REGISTER_BYTES ≡ stated.REGISTER_BYTES }
+    ensures row_bytes { ROW_BYTES ≡ stated.ROW_BYTES }
+    ensures entry_bytes { ENTRY_BYTES ≡ stated.ENTRY_BYTES }
+    ensures most_sections { MOST_SECTIONS ≡ stated.MOST_SECTIONS }
+    ensures most_entries { MOST_ENTRIES ≡ stated.MOST_ENTRIES }
+    ensures address_end { ADDRESS_END ≡ stated.ADDRESS_END }
+    ensures version_1 { VERSION_1 ≡ 1 }
+    ensures version_2 { VERSION_2 ≡ 2 }
+{}

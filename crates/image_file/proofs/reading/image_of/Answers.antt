@@ -1,5 +1,5 @@
 use Rattle.std.proofs.Common.{◌≡◌, ◌≤◌, ◌+◌, ◌*◌, length, drop, take, ap, sym, ◌∙◌, ◌-◌, Ok, arith}
-use Rattle.image_file.specs.declared.limits.TheConstants.{ROW_BYTES, ENTRY_BYTES}
+use Rattle.image_file.specs.Limits.{ROW_BYTES, ENTRY_BYTES}
 use Rattle.image_file.specs.Rows.{stored_bytes}
 use Rattle.image_file.specs.Reading.{row_in, word, rows_at, rows_in, entries_in, layout_of, sections_in}
 use Rattle.image_file.specs.Pages.{pages_of}

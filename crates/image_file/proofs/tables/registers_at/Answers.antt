@@ -1,7 +1,7 @@
 use Rattle.std.proofs.Common.{◌≡◌, ◌*◌, ◌<◌, ◌∷◌, [], ◌++◌, length, drop, ap, sym, ◌∙◌, arith}
 use Rattle.std.proofs.Math.ListN.{length-set}
 use Rattle.std.proofs.lemmas.List.{take_all, take_more_set}
-use Rattle.image_file.specs.declared.limits.TheConstants.{FIRST_REGISTERS, REGISTER_BYTES}
+use Rattle.image_file.specs.Limits.{FIRST_REGISTERS, REGISTER_BYTES}
 use Rattle.image_file.specs.Reading.{word, table_in}
 use Rattle.image_file.proofs.TableItems.{word_behind, table_more}
 use Rattle.image_file.proofs.tables.registers_at.Goals as goal

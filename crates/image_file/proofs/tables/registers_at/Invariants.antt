@@ -1,5 +1,5 @@
 use Rattle.std.proofs.Common.{◌≡◌, length, take, drop}
-use Rattle.image_file.specs.declared.limits.TheConstants.{FIRST_REGISTERS, REGISTER_BYTES}
+use Rattle.image_file.specs.Limits.{FIRST_REGISTERS, REGISTER_BYTES}
 use Rattle.image_file.specs.Reading.{word, table_in}
 use Rattle.image_file.proofs.tables.registers_at.Given as goal
 

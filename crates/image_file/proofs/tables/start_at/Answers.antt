@@ -1,6 +1,6 @@
 use Rattle.std.proofs.Common.{ap, sym, ◌∙◌}
 use Rattle.std.proofs.lemmas.List.{drop-drop}
-use Rattle.image_file.specs.declared.limits.TheConstants.{FIRST_AT}
+use Rattle.image_file.specs.Limits.{FIRST_AT}
 use Rattle.image_file.specs.Reading.{first_in}
 use Rattle.image_file.proofs.TableItems.{word_behind}
 use Rattle.image_file.proofs.tables.start_at.Goals as goal

@@ -1,6 +1,6 @@
 use Rattle.std.proofs.Common.{◌++◌, ◌∙◌}
 use Rattle.std.specs.Int.{w16, w32, to_le_bytes}
-use Rattle.image_file.specs.declared.limits.TheConstants.{MAGIC}
+use Rattle.image_file.specs.Limits.{MAGIC}
 use Rattle.image_file.proofs.WriteLaws.{five_parts}
 use Rattle.image_file.proofs.writing.put_header.Goals as goal
 
