@@ -7,7 +7,7 @@ use report_text::{
 };
 use row_tally::{Given, five_fields, longword, number, pairs, pieces, three_fields, two_fields};
 use std::alloc::Global;
-use system_model::End;
+use vax_driven::End;
 use vax_form::{Exception, Pending, VaxState};
 use vt_outside::MemorySink;
 

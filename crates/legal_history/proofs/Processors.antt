@@ -18,8 +18,8 @@ use Rattle.vax_form.specs.declared.state.Reference.{Reference}
 use Rattle.vax_form.specs.declared.state.VaxState.{VaxState}
 use Rattle.vax_driven.specs.declared.ThreadRun.{ThreadRun}
 use Rattle.vax_driven.specs.Threads.{Threads, after_start, wanted, run_at, fault_of, thread_run}
-use Rattle.system_model.specs.declared.translation.End.{End}
-use Rattle.system_model.specs.declared.translation.End.TheVariants as ends
+use Rattle.vax_driven.specs.declared.thread.End.{End}
+use Rattle.vax_driven.specs.declared.thread.End.TheVariants as ends
 use Rattle.system_model.specs.Settings.{Setting, goes_on}
 use Rattle.system_model.specs.Steps.{Last, Comes, Fails, Place, Inside, Lands, Leaves, Next, Moves, Wants, Moment, next, settled_last}
 use Rattle.system_model.specs.Steps as step

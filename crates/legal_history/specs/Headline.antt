@@ -9,7 +9,7 @@ use Rattle.block_law.specs.Rounds.{block_steps}
 use Rattle.system_model.specs.Interpreted.{interpreted}
 use Rattle.system_model.specs.Settings.{Setting}
 use Rattle.system_model.specs.Processors.{Mode, New, Runs, Interprets, Ended, Processor}
-use Rattle.system_model.specs.declared.translation.End.TheVariants as ends
+use Rattle.vax_driven.specs.declared.thread.End.TheVariants as ends
 use Rattle.legal_history.specs.Entries.{counted_in, failed_in}
 
 -- what a processor's end claims of its driven thread: the thread exited with that R0, or raised that exception, and

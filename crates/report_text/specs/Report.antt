@@ -7,8 +7,8 @@ use Rattle.vax_form.specs.State.{psl_of}
 use Rattle.vax_form.specs.declared.state.Exception.{Exception}
 use Rattle.vax_form.specs.declared.state.Exception.TheVariants.{AccessViolation, Arithmetic}
 use Rattle.vax_form.specs.declared.state.VaxState.{VaxState}
-use Rattle.system_model.specs.declared.translation.End.{End}
-use Rattle.system_model.specs.declared.translation.End.TheVariants.{Exit, Raised, Spent}
+use Rattle.vax_driven.specs.declared.thread.End.{End}
+use Rattle.vax_driven.specs.declared.thread.End.TheVariants.{Exit, Raised, Spent}
 use Rattle.report_text.specs.Digits.{two_digits, eight_digits}
 use Rattle.report_text.specs.Numbers.{longwords}
 

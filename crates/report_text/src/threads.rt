@@ -8,7 +8,7 @@ ghost use Rattle.report_text.specs.Report.{detail_of, state_text, end_text, thre
 
 use crate::line::{LINE_ROOM, Line};
 use std::alloc::Global;
-use system_model::End;
+use vax_driven::End;
 use vax_form::{Exception, VaxState, WantOfMemory};
 use vt_outside::{Sink, write_all};
 

@@ -15,7 +15,7 @@ use Rattle.block_law.specs.Translations.{Meaning}
 use Rattle.system_model.specs.Interpreted.{interpreted}
 use Rattle.system_model.specs.Processors.{New, Interprets, Ended, Processor, begun, all_held, turn, Went, entry_by, request_of, Reaches, Begins, Steps, Takes}
 use Rattle.system_model.specs.Settings.{Setting, goes_on}
-use Rattle.system_model.specs.declared.translation.End.TheVariants.{Raised}
+use Rattle.vax_driven.specs.declared.thread.End.TheVariants.{Raised}
 use Rattle.system_model.specs.declared.translation.Range.{Range}
 
 abbrev state_at : (pc : ℕ) → VaxState

@@ -6,7 +6,7 @@ use Rattle.vax_form.specs.Tree.{Tree, Check, Ask, Fault, Ends, Life, Runs, Exite
 use Rattle.vax_form.specs.declared.pages.Pages.{Pages}
 use Rattle.vax_form.specs.declared.state.VaxState.{VaxState}
 use Rattle.vax_driven.specs.Threads.{Threads, reached}
-use Rattle.system_model.specs.declared.translation.End.TheVariants as ends
+use Rattle.vax_driven.specs.declared.thread.End.TheVariants as ends
 use Rattle.system_model.specs.Processors.{Mode, Ended}
 use Rattle.system_model.specs.Settings.{Setting, goes_on}
 

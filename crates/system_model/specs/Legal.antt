@@ -7,7 +7,7 @@ use Rattle.memory_core.specs.declared.entry.Entry.{Entry}
 use Rattle.memory_core.specs.declared.entry.SetUp.{SetUp}
 use Rattle.memory_core.specs.Order.{own, Meets}
 use Rattle.vax_form.specs.declared.state.VaxState.{VaxState}
-use Rattle.system_model.specs.declared.translation.End.TheVariants.{Spent}
+use Rattle.vax_driven.specs.declared.thread.End.TheVariants.{Spent}
 use Rattle.system_model.specs.Settings.{Setting}
 use Rattle.system_model.specs.Processors.{Mode, New, Runs, Interprets, Ended, Processor, Turn, Went, Asks, Over, Stuck, begun, turn, Reaches}
 

@@ -18,8 +18,8 @@ use Rattle.vax_form.specs.declared.state.RefKind.{RefKind}
 use Rattle.vax_form.specs.declared.state.RefKind.TheVariants.{Read, Write, Add, SetBit, ClearBit, Put, Get}
 use Rattle.vax_form.specs.declared.state.VaxState.{VaxState}
 use Rattle.vt_words.specs.Quad.{sign_extended}
-use Rattle.system_model.specs.declared.translation.End.{End}
-use Rattle.system_model.specs.declared.translation.End.TheVariants as ends
+use Rattle.vax_driven.specs.declared.thread.End.{End}
+use Rattle.vax_driven.specs.declared.thread.End.TheVariants as ends
 use Rattle.system_model.specs.Quadwords.{quad_address, change_of, reply_found}
 use Rattle.system_model.specs.Settings.{Setting, goes_on}
 use Rattle.system_model.specs.Steps.{Last, Comes, Fails, Place, Inside, Lands, Leaves, Next, Moves, Wants, Moment, next, settled_last}

@@ -13,4 +13,5 @@ mod translation;
 
 pub use boundary::shown;
 pub use order::order_of;
-pub use translation::{End, Range, Translation, word_for};
+pub use translation::{Range, Translation, word_for};
+pub use vax_driven::End;

@@ -1,4 +1,4 @@
-// Translations, ranges of interpreted addresses, and how a processor ends.
+// Translations, and ranges of interpreted addresses.
 ghost use Rattle.std.specs.Prelude.{◌≡◌, IfOk};
 ghost use Rattle.std.specs.List.{list_any};
 ghost use Rattle.system_model.specs.Ranges.{covers, word_for};
@@ -7,7 +7,7 @@ use address_map::AddressMap;
 use exception_records::Points;
 use std::alloc::Global;
 use std::marker::Model;
-use vax_form::{Exception, WantOfMemory};
+use vax_form::WantOfMemory;
 
 /// The Alpha words of an image, the first word of each mapped VAX address, and what is known of words.
 #[derive(Debug, Drop)]
@@ -48,16 +48,6 @@ pub struct Range {
     pub thread: u8,
     pub first: u32,
     pub last: u32,
-}
-
-/// How a processor ended.
-#[derive(Clone, Copy, Debug, PartialEq, Eq)]
-pub enum End {
-    /// By the service that ends its thread, with that R0.
-    Exit(u32),
-    Raised(Exception),
-    /// It came to its budget of steps, or the history was full.
-    Spent,
 }
 
 impl Range {

@@ -8,7 +8,7 @@ use Rattle.alpha_machine.specs.Step.{state_of}
 use Rattle.system_model.specs.Processors.{Processor, Asks, Stuck, request_of, turn}
 use Rattle.system_model.specs.Processors as model
 use Rattle.system_model.specs.Settings.{Setting}
-use Rattle.system_model.specs.declared.translation.End.{End}
+use Rattle.vax_driven.specs.declared.thread.End.{End}
 use Rattle.vax_form.specs.declared.pages.Pages.{Pages}
 use Rattle.vax_form.specs.declared.state.Flags.{Flags}
 use Rattle.vax_form.specs.Tree.{Wants, answer}

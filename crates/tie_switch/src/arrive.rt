@@ -18,7 +18,7 @@ use crate::processor::{Mode, Processor};
 use crate::registers::registers_of;
 use crate::setting::{Setting, goes_on};
 use alpha_machine::Cpu;
-use system_model::End;
+use vax_driven::End;
 use vax_form::{Exception, Flags, VaxState};
 
 /// Interprets what the thread does at a state.

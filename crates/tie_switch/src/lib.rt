@@ -27,5 +27,6 @@ mod turn;
 
 pub use processor::Processor;
 pub use ready::made_ready;
-pub use system_model::{End, Range};
+pub use system_model::Range;
 pub use turn::Turn;
+pub use vax_driven::End;

@@ -9,7 +9,7 @@ use crate::interpreted::Interpreted;
 use alpha_machine::Cpu;
 use image_file::Start;
 use std::marker::Model;
-use system_model::End;
+use vax_driven::End;
 use vax_form::{Flags, VaxState};
 
 #[derive(Clone, Copy, Debug)]

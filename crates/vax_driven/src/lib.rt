@@ -5,4 +5,4 @@
 pub mod laws;
 mod thread;
 
-pub use thread::ThreadRun;
+pub use thread::{End, ThreadRun};

@@ -2,7 +2,7 @@
 use Rattle.std.specs.Prelude.{Bool, true, false, ℕ, List, [], ◌∷◌, ◌++◌, if◌then◌else◌}
 use Rattle.std.specs.List.{list_any}
 use Rattle.system_model.specs.Processors.{Mode, Ended, Processor}
-use Rattle.system_model.specs.declared.translation.End.TheVariants.{Spent}
+use Rattle.vax_driven.specs.declared.thread.End.TheVariants.{Spent}
 use Rattle.system_model.specs.Interpreted.{has_raised}
 use Rattle.report_text.specs.Report.{thread_text}
 use Rattle.vest_files.specs.declared.status.Done.{Done}

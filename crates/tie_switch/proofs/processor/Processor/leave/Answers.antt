@@ -1,7 +1,7 @@
 -- Each way to leave.
 use Rattle.std.proofs.Common.{◌≡◌, ℕ, suc, sym, ap, subst}
 use Rattle.system_model.specs.Processors.{Ended, left, mode_at, registers_of}
-use Rattle.system_model.specs.declared.translation.End.TheVariants as ends
+use Rattle.vax_driven.specs.declared.thread.End.TheVariants as ends
 use Rattle.tie_switch.specs.Processors.{ProcessorValue, IsMode, StandsFor, in_mode}
 use Rattle.tie_switch.specs.Seen as seen
 use Rattle.tie_switch.specs.Seen.{setting_of}

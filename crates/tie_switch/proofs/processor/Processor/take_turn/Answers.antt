@@ -5,7 +5,7 @@ use Rattle.std.specs.Option.{is_some}
 use Rattle.std.proofs.lemmas.Bool.Decides.{nat_tests}
 use Rattle.system_model.specs.Legal.{spent}
 use Rattle.system_model.specs.Processors.{Processor, turn}
-use Rattle.system_model.specs.declared.translation.End.{End}
+use Rattle.vax_driven.specs.declared.thread.End.{End}
 use Rattle.tie_switch.specs.Processors.{ProcessorValue, StandsFor, end_of, processor_of}
 use Rattle.tie_switch.specs.Seen.{setting_of}
 use Rattle.tie_switch.specs.Turns.{IsStill, Makes}
