@@ -43,9 +43,9 @@ use Rattle.block_law.specs.Follows.{Call, Probe, LookUp, Serve, Raise, Arithmeti
 use Rattle.block_law.specs.Follows as block
 use Rattle.block_law.specs.Laws.{Ever}
 use Rattle.block_law.specs.Placements.{Placement, allowed_in, InForm, state_shown, target}
-use Rattle.block_law.specs.Rounds.{block_steps, Round, stepped, round_behind, MayGo, round_after}
+use Rattle.block_law.specs.Rounds.{block_steps, Round, new_round, stepped, round_behind, MayGo, round_after}
 use Rattle.block_law.specs.References.{wants, wanted_by, is_of_memory, reply_by}
-use Rattle.block_law.specs.Translations.{fetch_of, placed}
+use Rattle.block_law.specs.Translations.{Permit, fetch_of, placed}
 use Rattle.block_law.proofs.Blocks.{open_follows}
 use Rattle.system_model.specs.Settings.{Setting}
 use Rattle.system_model.specs.Steps.{kind_of, Comes, Place, Lands, Leaves, Moves, Wants, Moment, state_at, rules_of, held_behind, place_by, place_of, request_for, is_defined, accesses, behind, with_r0, probed, raised, called, does, exchanged, next_by, next}
@@ -54,7 +54,7 @@ use Rattle.legal_history.specs.Entries.{Lock}
 use Rattle.legal_history.specs.Kinds.{IsAlpha}
 use Rattle.legal_history.proofs.Judged.{MadeBy, head_of}
 use Rattle.system_model.specs.Quadwords.{quad_address, reply_from, IsOf, IsOfKind, IsAccess}
-use Rattle.block_law.specs.Sound.{IsSound}
+use Rattle.block_law.specs.Sound.{IsSound, AllowsFew}
 use Rattle.legal_history.proofs.Fields.{field_stored, left_changed}
 use Rattle.legal_history.proofs.Sames.{same_ends, same_ask}
 use Rattle.legal_history.proofs.Maps.{there_and_back}
@@ -89,18 +89,18 @@ pub record IsForm (setting : Setting) (state : VaxState) (held : Flags) (regs : 
   pub form : InForm regs
   pub shows : (word : ℕ) (point : Point) → word_at setting.code.map state.pc ≡ Some word → point_at setting.code.points word ≡ Some point → Shows regs state.pc point.rules held state
 
-module _ (setting : Setting) (thread : ℕ) (sound : IsSound setting.meaning) (rises : AllRise setting.code.map) where
+module _ (setting : Setting) (permit : Permit) (thread : ℕ) (sound : IsSound setting.meaning) (allows : AllowsFew permit) (rises : AllRise setting.code.map) where
   -- the block's judgement, for every number of steps
   pub record Owes (b : VaxState) (held : Flags) (lock : Option Lock) (spare : ℕ) (c : Alpha) (t : Tree) : Type 0 where
     pub first : ℕ
     pub phase : Phase
     pub is_lock : phase_lock phase ≡ lock
     pub round : Round
-    pub ever : Ever (placed setting.meaning setting.code thread b held first) phase spare round c t
+    pub ever : Ever (placed setting.meaning permit setting.code thread b held first) phase spare round c t
 
   module _ (b : VaxState) (held : Flags) (retired : ℕ) (first : ℕ) where
     abbrev p : Placement
-    p = placed setting.meaning setting.code thread b held first
+    p = placed setting.meaning permit setting.code thread b held first
 
     abbrev m : Moment
     m = moment_at thread retired b held
@@ -182,7 +182,7 @@ module _ (setting : Setting) (thread : ℕ) (sound : IsSound setting.meaning) (r
     leads i a c before success = finished i (loaded a before) success c
 
     few : p.bonus ≤ block_steps
-    few = sound.few b.pc
+    few = allows b.pc
 
     loads : (address bytes value : ℕ) (i : AlphaInstr) (c : Alpha) (spare : ℕ) (next : Round) (t : Tree) (before : ℕ) (success : Bool) → before < 2 ^ 64 → success ≡ true
         → let a = an_access alpha.Load address bytes value in
@@ -244,7 +244,7 @@ module _ (setting : Setting) (thread : ℕ) (sound : IsSound setting.meaning) (r
     access_owed : (kind : AlphaKind) (phase : Phase) (address bytes value : ℕ) (i : AlphaInstr) (c : Alpha) (spare : ℕ) (round : Round) (t : Tree) → address % 8 + bytes ≤ 8 → Suits (wants p.kinds t) kind bytes
         → let a = an_access kind address bytes value in
         Accesses kind phase c.pc (wants p.kinds t) (quad_of a) (changed a) (leads i a c) p.bonus spare t (λ phase' spare' d u. block.Onward p (Ever p) phase' spare' (round_behind phase' t round) d u)
-        → OwedAccess setting.meaning.pages (Owes b held) (IsForm setting) (λ l. l) (setting.meaning.kinds b.pc) retired (phase_lock phase) spare t (request_for m a) (λ before success. place_of setting m (leads i a c before success))
+        → OwedAccess setting.meaning.pages (Owes b held) (IsForm setting) (λ l. l) (permit.kinds b.pc) retired (phase_lock phase) spare t (request_for m a) (λ before success. place_of setting m (leads i a c before success))
     access_owed alpha.Load Plain address bytes value i c spare round t within suits h = record {
       same = refl;
       paired = tt;
@@ -284,11 +284,11 @@ module _ (setting : Setting) (thread : ℕ) (sound : IsSound setting.meaning) (r
     probe_owed point address count write tree c spare next a k w on (Some bad) found =
         (Check address count write tree, Here, (refl, ap (λ o. unless_bad o trees.Fails write (answer setting.meaning.pages tree [])) found ∙ ap (λ x. trees.Fails (AccessViolation bad x)) w))
 
-    raise_owed : (o : Option Exception) (x : Exception) (c : Alpha) (spare : ℕ) → o ≡ Some x → OwedNext setting.meaning.pages (Owes b held) (IsForm setting) (λ l. l) (setting.meaning.kinds b.pc) retired None spare (Fault x) (raised o)
+    raise_owed : (o : Option Exception) (x : Exception) (c : Alpha) (spare : ℕ) → o ≡ Some x → OwedNext setting.meaning.pages (Owes b held) (IsForm setting) (λ l. l) (permit.kinds b.pc) retired None spare (Fault x) (raised o)
     raise_owed None x c spare h = absurd (cc h)
     raise_owed (Some y) x c spare h = (Fault x, Here, (refl, ap trees.Fails (cc (sym h))))
 
-    ends_owed : (t : Tree) (e e' : Ending) (spare : ℕ) → t ≡ Ends e → e ≡ e' → OwedNext setting.meaning.pages (Owes b held) (IsForm setting) (λ l. l) (setting.meaning.kinds b.pc) retired None spare t (Moves (Leaves (Comes e')))
+    ends_owed : (t : Tree) (e e' : Ending) (spare : ℕ) → t ≡ Ends e → e ≡ e' → OwedNext setting.meaning.pages (Owes b held) (IsForm setting) (λ l. l) (permit.kinds b.pc) retired None spare t (Moves (Leaves (Comes e')))
     ends_owed t e e' spare is same = (t, Here, (refl, ap (λ x. answer setting.meaning.pages x []) is ∙ ap (λ x. trees.Comes x []) same))
 
     longword_again : (x : ℕ) → sign_extended (x % 2 ^ 32) 32 ≡ sign_extended x 32
@@ -328,7 +328,7 @@ module _ (setting : Setting) (thread : ℕ) (sound : IsSound setting.meaning) (r
           (subst (λ regs. Owed_at None spare (Ends (Finish s)) (behind setting m c regs)) (r0_stays c.regs form) there)
 
       put_owed : (t : Tree) → Same t (Ask (record { address = 0; count = 0; kind = Put (register 0 s % 256) }) (λ _. Ends (Finish s))) → After
-          → OwedNext setting.meaning.pages (Owes b held) (IsForm setting) (λ l. l) (setting.meaning.kinds b.pc) retired None spare t (Wants (record { processor = thread; retired = retired; kind = kinds.Put; quad = 0; change = changes.Byte (c.regs 0 % 256) }) (λ before success. behind setting m c c.regs))
+          → OwedNext setting.meaning.pages (Owes b held) (IsForm setting) (λ l. l) (permit.kinds b.pc) retired None spare t (Wants (record { processor = thread; retired = retired; kind = kinds.Put; quad = 0; change = changes.Byte (c.regs 0 % 256) }) (λ before success. behind setting m c c.regs))
       put_owed t same on =
           let r : Reference = record { address = 0; count = 0; kind = Put (register 0 s % 256) } in
           let asks = same_ask t r (λ _. Ends (Finish s)) same in
@@ -348,7 +348,7 @@ module _ (setting : Setting) (thread : ℕ) (sound : IsSound setting.meaning) (r
           }
 
       get_owed : (t : Tree) → Same t (Ask (record { address = 0; count = 0; kind = Get }) (λ reply. Ends (Finish (with_register 0 (reply % 2 ^ 32) s)))) → After
-          → OwedNext setting.meaning.pages (Owes b held) (IsForm setting) (λ l. l) (setting.meaning.kinds b.pc) retired None spare t (Wants (record { processor = thread; retired = retired; kind = kinds.Get; quad = 0; change = changes.Nothing }) (λ before success. behind setting m c (with_r0 c.regs before)))
+          → OwedNext setting.meaning.pages (Owes b held) (IsForm setting) (λ l. l) (permit.kinds b.pc) retired None spare t (Wants (record { processor = thread; retired = retired; kind = kinds.Get; quad = 0; change = changes.Nothing }) (λ before success. behind setting m c (with_r0 c.regs before)))
       get_owed t same on =
           let r : Reference = record { address = 0; count = 0; kind = Get } in
           let asks = same_ask t r (λ reply. Ends (Finish (with_register 0 (reply % 2 ^ 32) s))) same in
@@ -369,7 +369,7 @@ module _ (setting : Setting) (thread : ℕ) (sound : IsSound setting.meaning) (r
                 );
           }
 
-      moves_owed : (t : Tree) (value : ℕ) → value < 2 ^ 32 → Same t (Ends (Finish (with_register 0 value s))) → After → OwedNext setting.meaning.pages (Owes b held) (IsForm setting) (λ l. l) (setting.meaning.kinds b.pc) retired None spare t (Moves (behind setting m c (with_r0 c.regs value)))
+      moves_owed : (t : Tree) (value : ℕ) → value < 2 ^ 32 → Same t (Ends (Finish (with_register 0 value s))) → After → OwedNext setting.meaning.pages (Owes b held) (IsForm setting) (λ l. l) (permit.kinds b.pc) retired None spare t (Moves (behind setting m c (with_r0 c.regs value)))
       moves_owed t value small same on = (t, Here, r0_owed t value small (same_ends t (Finish (with_register 0 value s)) same) on)
 
       serve_owed : (t : Tree) (one two three four five six : Bool)
@@ -377,7 +377,7 @@ module _ (setting : Setting) (thread : ℕ) (sound : IsSound setting.meaning) (r
           else if three then Ask (record { address = 0; count = 0; kind = Get }) (λ reply. Ends (Finish (with_register 0 (reply % 2 ^ 32) s)))
           else if four then Ends (Finish (with_register 0 thread s)) else if five then Ends (Finish (exchanged s)) else if six then Ends (Finish (with_pending Resume s)) else Ends (Finish (with_register 0 0 s)))
           → After
-          → OwedNext setting.meaning.pages (Owes b held) (IsForm setting) (λ l. l) (setting.meaning.kinds b.pc) retired None spare t
+          → OwedNext setting.meaning.pages (Owes b held) (IsForm setting) (λ l. l) (permit.kinds b.pc) retired None spare t
           (if one then Moves (Leaves (Comes (Exit s)))
           else if two then Wants (record { processor = thread; retired = retired; kind = kinds.Put; quad = 0; change = changes.Byte (c.regs 0 % 256) }) (λ before success. behind setting m c c.regs)
           else if three then Wants (record { processor = thread; retired = retired; kind = kinds.Get; quad = 0; change = changes.Nothing }) (λ before success. behind setting m c (with_r0 c.regs before))
@@ -391,7 +391,7 @@ module _ (setting : Setting) (thread : ℕ) (sound : IsSound setting.meaning) (r
       serve_owed t false false false false false false same on = moves_owed t 0 (lit< tt) same on
 
     called_owed : thread < 256 → (call : Call) (point : Option Point) (phase : Phase) (t : Tree) (c : Alpha) (spare : ℕ) (next : Round) → Called call point phase t p c (λ d u. block.Onward p (Ever p) Plain spare next d u)
-        → OwedNext setting.meaning.pages (Owes b held) (IsForm setting) (λ l. l) (setting.meaning.kinds b.pc) retired (phase_lock phase) spare t (called setting m call point c)
+        → OwedNext setting.meaning.pages (Owes b held) (IsForm setting) (λ l. l) (permit.kinds b.pc) retired (phase_lock phase) spare t (called setting m call point c)
     called_owed lt Probe (Some point) Plain (Check address count write tree) c spare next h =
         let same : first_bad setting.meaning.pages point.write (probe_address c.regs) (probe_count point c.regs) ≡ first_bad setting.meaning.pages write address count =
         sym (ap (λ w. first_bad setting.meaning.pages w address count) h.2 ∙ ap (λ a. first_bad setting.meaning.pages point.write a count) h.0 ∙ ap (λ n. first_bad setting.meaning.pages point.write (probe_address c.regs) n) h.1) in
@@ -411,23 +411,23 @@ module _ (setting : Setting) (thread : ℕ) (sound : IsSound setting.meaning) (r
     acts_owed : thread < 256 → (i : AlphaInstr) (phase : Phase) (t : Tree) (c : Alpha) (spare : ℕ) (round : Round) (what : Does) → act i c ≡ what
         → Acts what i (allowed_in p.pages) p.bonus phase spare c (wants p.kinds t) t
         (λ d. block.Lands (p.stops d.pc) (p.points d.pc) phase t p d.regs (MayGo p.bonus p.first phase round c.pc d.pc × Ever p (phase_after phase c.pc d.pc) spare (round_after phase round c.pc d.pc) d t))
-        (λ number. Called (call_of number) (p.points c.pc) phase t p c (λ d u. block.Onward p (Ever p) Plain spare (stepped round) d u))
+        (λ number. Called (call_of number) (p.points c.pc) phase t p c (λ d u. block.Onward p (Ever p) Plain spare new_round d u))
         (λ phase' spare' d u. block.Onward p (Ever p) phase' spare' (round_behind phase' t round) d u)
-        → OwedNext setting.meaning.pages (Owes b held) (IsForm setting) (λ l. l) (setting.meaning.kinds b.pc) retired (phase_lock phase) spare t (does setting m i what c)
+        → OwedNext setting.meaning.pages (Owes b held) (IsForm setting) (λ l. l) (permit.kinds b.pc) retired (phase_lock phase) spare t (does setting m i what c)
     acts_owed lt i phase t c spare round (Goes d) is h = (t, Here, goes_to c.pc d phase t spare round (address_at setting.code.map d.pc) refl h)
-    acts_owed lt i phase t c spare round (Calls number) is h = called_owed lt (call_of number) (point_at setting.code.points c.pc) phase t c spare (stepped round) h
+    acts_owed lt i phase t c spare round (Calls number) is h = called_owed lt (call_of number) (point_at setting.code.points c.pc) phase t c spare new_round h
     acts_owed lt i phase t c spare round (Asks a) is h =
         let within = asks_within i c a is h.0 in
         let defined : is_defined setting a ≡ true = and_from (a.address % a.bytes == 0) (is_allowed setting.meaning.pages (quad_of a) (stores a.kind)) (zero_test (a.address % a.bytes) h.0) h.1 in
-        subst (λ x. OwedNext setting.meaning.pages (Owes b held) (IsForm setting) (λ l. l) (setting.meaning.kinds b.pc) retired (phase_lock phase) spare t (accesses x setting m i a c)) (sym defined)
+        subst (λ x. OwedNext setting.meaning.pages (Owes b held) (IsForm setting) (λ l. l) (permit.kinds b.pc) retired (phase_lock phase) spare t (accesses x setting m i a c)) (sym defined)
         (access_owed a.kind phase a.address a.bytes a.value i c spare round t within h.2 h.3)
 
     step_owed : thread < 256 → (o : Option AlphaInstr) (phase : Phase) (t : Tree) (c : Alpha) (spare : ℕ) (round : Round)
         → Steps o (allowed_in p.pages) p.bonus phase spare c (wants p.kinds t) t
         (λ d. block.Lands (p.stops d.pc) (p.points d.pc) phase t p d.regs (MayGo p.bonus p.first phase round c.pc d.pc × Ever p (phase_after phase c.pc d.pc) spare (round_after phase round c.pc d.pc) d t))
-        (λ number. Called (call_of number) (p.points c.pc) phase t p c (λ d u. block.Onward p (Ever p) Plain spare (stepped round) d u))
+        (λ number. Called (call_of number) (p.points c.pc) phase t p c (λ d u. block.Onward p (Ever p) Plain spare new_round d u))
         (λ phase' spare' d u. block.Onward p (Ever p) phase' spare' (round_behind phase' t round) d u)
-        → OwedNext setting.meaning.pages (Owes b held) (IsForm setting) (λ l. l) (setting.meaning.kinds b.pc) retired (phase_lock phase) spare t (next_by setting m o c)
+        → OwedNext setting.meaning.pages (Owes b held) (IsForm setting) (λ l. l) (permit.kinds b.pc) retired (phase_lock phase) spare t (next_by setting m o c)
     step_owed lt None phase t c spare round h = absurd h
     step_owed lt (Some i) phase t c spare round h = acts_owed lt i phase t c spare round (act i c) refl h
 
@@ -437,11 +437,11 @@ module _ (setting : Setting) (thread : ℕ) (sound : IsSound setting.meaning) (r
 
   -- what is owed of a processor's step
   pub opens : thread < 256 → (retired : ℕ) (b : VaxState) (held : Flags) (lock : Option Lock) (spare : ℕ) (c : Alpha) (t : Tree) → Owes b held lock spare c t
-      → (0 < spare) × OwedNext setting.meaning.pages (Owes b held) (IsForm setting) (λ l. l) (setting.meaning.kinds b.pc) retired lock (spare - 1) t (next setting (moment_at thread retired b held) c)
+      → (0 < spare) × OwedNext setting.meaning.pages (Owes b held) (IsForm setting) (λ l. l) (permit.kinds b.pc) retired lock (spare - 1) t (next setting (moment_at thread retired b held) c)
   opens lt retired b held lock spare c t o =
-      let one = open_follows (placed setting.meaning setting.code thread b held o.first) o.phase spare o.round c t o.ever in (
+      let one = open_follows (placed setting.meaning permit setting.code thread b held o.first) o.phase spare o.round c t o.ever in (
         one.2,
-        subst (λ n. OwedNext setting.meaning.pages (Owes b held) (IsForm setting) (λ l. l) (setting.meaning.kinds b.pc) retired lock (spare - 1) t n) (sym (next_is (moment_at thread retired b held) c))
-            (subst (λ l. OwedNext setting.meaning.pages (Owes b held) (IsForm setting) (λ l. l) (setting.meaning.kinds b.pc) retired l (spare - 1) t (next_by setting (moment_at thread retired b held) (fetch_of setting.code.words c.pc) c)) o.is_lock
+        subst (λ n. OwedNext setting.meaning.pages (Owes b held) (IsForm setting) (λ l. l) (permit.kinds b.pc) retired lock (spare - 1) t n) (sym (next_is (moment_at thread retired b held) c))
+            (subst (λ l. OwedNext setting.meaning.pages (Owes b held) (IsForm setting) (λ l. l) (permit.kinds b.pc) retired l (spare - 1) t (next_by setting (moment_at thread retired b held) (fetch_of setting.code.words c.pc) c)) o.is_lock
             (step_owed b held retired o.first lt (fetch_of setting.code.words c.pc) o.phase t c (spare - 1) o.round one.3)),
       )

@@ -21,11 +21,11 @@ use Rattle.vax_form.specs.declared.state.Pending.{Pending}
 use Rattle.vax_form.specs.declared.state.Pending.TheVariants.{Nothing, Deliver, Resume}
 use Rattle.vax_form.specs.declared.state.VaxState.{VaxState}
 use Rattle.block_law.specs.Placements.{InForm}
-use Rattle.block_law.specs.Translations.{Meets}
+use Rattle.block_law.specs.Translations.{Meets, Permit}
 use Rattle.system_model.specs.Settings.{Setting, goes_on, unless_pending}
 use Rattle.system_model.specs.Ranges.{covers, word_for}
 use Rattle.system_model.specs.Processors.{all_held, registers_of}
-use Rattle.block_law.specs.Sound.{IsSound}
+use Rattle.block_law.specs.Sound.{IsSound, AllowsFew}
 use Rattle.legal_history.proofs.Blocks.{IsForm, Owes}
 
 low_small : (x : ℕ) → x < 2 ^ 32 → sign_extended x 32 % 2 ^ 32 ≡ x
@@ -168,10 +168,10 @@ awake (Deliver x) o word h = absurd (cc h)
 awake Resume o word h = absurd (cc h)
 
 -- where a thread goes on in Alpha code, its block follows its instruction's tree
-pub enter : (setting : Setting) (thread : ℕ) (sound : IsSound setting.meaning) (meets : Meets setting.meaning setting.code) → thread < 256
+pub enter : (setting : Setting) (permit : Permit) (thread : ℕ) (sound : IsSound setting.meaning) (allows : AllowsFew permit) (meets : Meets setting.meaning permit setting.code) → thread < 256
     → (state : VaxState) (held : Flags) (regs : Regs) (word : ℕ) → IsState state → IsForm setting state held regs → goes_on setting thread state ≡ Some word
-    → Owes setting thread sound meets.map_rises state held None block_steps (at_place regs word) (setting.meaning.tree thread state)
-enter setting thread sound meets lt state held regs word is form goes =
+    → Owes setting permit thread sound allows meets.map_rises state held None block_steps (at_place regs word) (setting.meaning.tree thread state)
+enter setting permit thread sound allows meets lt state held regs word is form goes =
     let at = mapped (list_any (covers thread state.pc) setting.ranges) (word_at setting.code.map state.pc) word (awake state.pending (word_for setting.code.map setting.ranges thread state.pc) word goes).1 in
     let block = meets.blocks state.pc word at in
     record { first = word; round = new_round; phase = Plain; is_lock = refl; ever = λ n. block.follows thread n state held regs lt is refl form.form (form.shows word block.point at block.has_point) }

@@ -1,5 +1,6 @@
 -- What one processor's own entries say of it and of its thread.
 use Rattle.std.proofs.Common.{◌≡◌, ◌≢◌, ℕ, ◌+◌, ◌*◌, ◌≤◌, List, Option, Some, length}
+use Rattle.block_law.specs.Translations.{Permit}
 use Rattle.memory_core.specs.Requests.{CanMake}
 use Rattle.memory_core.specs.declared.entry.Entry.{Entry}
 use Rattle.memory_core.specs.declared.entry.SetUp.{SetUp}
@@ -33,12 +34,12 @@ abbrev pub HasFewEntries : List Entry → Type 0
 HasFewEntries mine = length mine ≤ 2 * (counted_in mine + failed_in mine) + 1
 
 -- what one processor's own entries say of it and of its thread
-pub record Facts (setting : Setting) (starts : ℕ → Option VaxState) (thread : ℕ) (mine : List Entry) (p : Processor) : Type 0 where
+pub record Facts (setting : Setting) (permit : Permit) (starts : ℕ → Option VaxState) (thread : ℕ) (mine : List Entry) (p : Processor) : Type 0 where
   pub explained : Explained (threads_of setting starts) thread mine
   pub shown : IsShown setting starts thread (replies_by (threads_of setting starts) thread mine) p
   pub interpreted : HasInterpreted setting starts thread (replies_by (threads_of setting starts) thread mine) p
   pub steps : HasFewSteps p mine
-  pub kinds : AllMadeIn setting starts thread mine
+  pub kinds : AllMadeIn setting permit starts thread mine
   pub paired : AllPaired mine
   pub entries : HasFewEntries mine
   pub goes_on : turn setting p ≢ Stuck

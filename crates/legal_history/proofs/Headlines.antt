@@ -27,7 +27,7 @@ use Rattle.vax_driven.specs.Driven.{run_before, runs_from, ended, driven_on}
 use Rattle.legal_history.specs.Explained.{replies_by, Explained}
 use Rattle.legal_history.specs.OneHistory.{world_of, IsDriven}
 use Rattle.legal_history.proofs.Histories.{one_history}
-use Rattle.block_law.specs.Translations.{Meets}
+use Rattle.block_law.specs.Translations.{Meets, Permit}
 use Rattle.system_model.specs.Settings.{Setting, goes_on}
 use Rattle.system_model.specs.Processors.{Mode, New, Runs, Interprets, Ended, Processor, Stuck, begun, turn, Reaches}
 use Rattle.system_model.specs.Legal.{starts, spent, IsGoing, IsReached, IsLegal}
@@ -37,7 +37,7 @@ use Rattle.legal_history.proofs.Facts.{IsShown, CanTurn, HasFewEntries, Facts}
 use Rattle.system_model.specs.Interpreted.{threads_of, interpreted_of, interpreted_in, end_in, has_raised}
 use Rattle.legal_history.specs.Law.{IsRun, HasHeadline, LegalHasHeadline}
 use Rattle.legal_history.specs.OneProcessor.{ReachedIsSteady}
-use Rattle.block_law.specs.Sound.{IsSound}
+use Rattle.block_law.specs.Sound.{IsSound, AllowsFew}
 use Rattle.legal_history.proofs.Blocks.{Owes, IsForm, opens}
 use Rattle.legal_history.proofs.Boundaries.{fresh, enter, awake}
 use Rattle.legal_history.proofs.Handled.{Handled, opens_handled}
@@ -85,8 +85,8 @@ not_raised (Ended end) g = absurd g
 over_goes : (setting : Setting) (p : Processor) → turn setting (spent p) ≢ Stuck
 over_goes setting p = λ e. absurd (cc e)
 
-spent_facts : (setting : Setting) (begin : ℕ → Option VaxState) (thread : ℕ) (mine : List Entry) (was : Processor) → IsGoing was.mode → Facts setting begin thread mine was → Facts setting begin thread mine (spent was)
-spent_facts setting begin thread mine was going f = record {
+spent_facts : (setting : Setting) (permit : Permit) (begin : ℕ → Option VaxState) (thread : ℕ) (mine : List Entry) (was : Processor) → IsGoing was.mode → Facts setting permit begin thread mine was → Facts setting permit begin thread mine (spent was)
+spent_facts setting permit begin thread mine was going f = record {
   explained = f.explained;
   shown = record { run = f.shown.run; driven = f.shown.driven; state = f.shown.state; claims = spent_claims was.mode f.shown.run going f.shown.claims };
   interpreted = f.interpreted ∙ ap (λ b. interpreted_of setting begin thread was.retired w + (interpreted_in setting thread here_is + (if b then end_in setting thread here_is else 0))) (not_raised was.mode going);
@@ -105,50 +105,50 @@ spent_facts setting begin thread mine was going f = record {
     here_is = reached (threads_of setting begin) thread was.retired w
 
 -- ---- what is owed of a thread's instructions, with its handler
-module _ (setting : Setting) (sound : IsSound setting.meaning) (meets : Meets setting.meaning setting.code) (thread : ℕ) (few : thread < 256) where
+module _ (setting : Setting) (permit : Permit) (sound : IsSound setting.meaning) (allows : AllowsFew permit) (meets : Meets setting.meaning permit setting.code) (thread : ℕ) (few : thread < 256) where
   abbrev pub Owing : VaxState → Flags → Option Lock → (spare : ℕ) → Alpha → Tree → Type 0
-  Owing b held = Handled setting.meaning.pages b (Owes setting thread sound meets.map_rises b held) (IsForm setting)
+  Owing b held = Handled setting.meaning.pages b (Owes setting permit thread sound allows meets.map_rises b held) (IsForm setting)
 
   pub owing_enters : (state : VaxState) (held : Flags) (regs : Regs) (word : ℕ) → IsState state → IsForm setting state held regs → goes_on setting thread state ≡ Some word
       → Owing state held None block_steps (at_place regs word) (setting.meaning.moment thread state)
   owing_enters state held regs word is form goes = record {
     alone = setting.meaning.tree thread state;
     is = sound.moments thread state (awake state.pending (word_for setting.code.map setting.ranges thread state.pc) word goes).0;
-    owes = enter setting thread sound meets few state held regs word is form goes;
+    owes = enter setting permit thread sound allows meets few state held regs word is form goes;
   }
 
   pub owing_opens : (retired : ℕ) (b : VaxState) (held : Flags) (lock : Option Lock) (spare : ℕ) (alpha : Alpha) (k : Tree) → Owing b held lock spare alpha k
-      → (0 < spare) × OwedNext setting.meaning.pages (Owing b held) (IsForm setting) (settled_last b) (setting.meaning.kinds b.pc) retired lock (spare - 1) k (next setting (moment_at thread retired b held) alpha)
+      → (0 < spare) × OwedNext setting.meaning.pages (Owing b held) (IsForm setting) (settled_last b) (permit.kinds b.pc) retired lock (spare - 1) k (next setting (moment_at thread retired b held) alpha)
   owing_opens retired b held lock spare alpha k =
-      opens_handled setting.meaning.pages b (Owes setting thread sound meets.map_rises b held) (IsForm setting) (setting.meaning.kinds b.pc) retired lock spare alpha k (next setting (moment_at thread retired b held) alpha)
-      (λ t. opens setting thread sound meets.map_rises few retired b held lock spare alpha t)
+      opens_handled setting.meaning.pages b (Owes setting permit thread sound allows meets.map_rises b held) (IsForm setting) (permit.kinds b.pc) retired lock spare alpha k (next setting (moment_at thread retired b held) alpha)
+      (λ t. opens setting permit thread sound allows meets.map_rises few retired b held lock spare alpha t)
 
 -- ---- one processor
-module _ (setting : Setting) (set_up : SetUp) (entries : List Entry) (sound : IsSound setting.meaning) (meets : Meets setting.meaning setting.code) (run : IsRun set_up) (order : memory.Meets set_up entries) where
+module _ (setting : Setting) (permit : Permit) (set_up : SetUp) (entries : List Entry) (sound : IsSound setting.meaning) (allows : AllowsFew permit) (meets : Meets setting.meaning permit setting.code) (run : IsRun set_up) (order : memory.Meets set_up entries) where
   started : (thread : ℕ) (start : VaxState) → starts set_up.image thread ≡ Some start → IsState start × (thread < 256)
   started thread start h =
       let found = option_map-some start_state (slice_get set_up.image.threads thread) start h in
       let range = run.starts thread found.0 found.1 in
       (subst IsState found.2 (start_is found.0 range.1), range.0)
 
-  was_facts : (thread : ℕ) (start : VaxState) (was : Processor) → starts set_up.image thread ≡ Some start → Reaches setting (begun thread start) was.steps (own thread entries) was → Facts setting (starts set_up.image) thread (own thread entries) was
+  was_facts : (thread : ℕ) (start : VaxState) (was : Processor) → starts set_up.image thread ≡ Some start → Reaches setting (begun thread start) was.steps (own thread entries) was → Facts setting permit (starts set_up.image) thread (own thread entries) was
   was_facts thread start was h reached_was =
       let s = started thread start h in
-      facts setting (starts set_up.image) thread start h s.0 (sound.moments_ranged thread s.1)
-      (Owing setting sound meets thread s.1) (IsForm setting) (fresh setting) (owing_enters setting sound meets thread s.1) (owing_opens setting sound meets thread s.1)
+      facts setting permit (starts set_up.image) thread start h s.0 (sound.moments_ranged thread s.1)
+      (Owing setting permit sound allows meets thread s.1) (IsForm setting) (fresh setting) (owing_enters setting permit sound allows meets thread s.1) (owing_opens setting permit sound allows meets thread s.1)
       was.steps (own thread entries) was reached_was (all_fair set_up run.bytes entries order thread)
 
-  pub facts_of : (budget thread : ℕ) (start : VaxState) (p : Processor) → starts set_up.image thread ≡ Some start → IsReached setting budget set_up.limit entries thread start p → Facts setting (starts set_up.image) thread (own thread entries) p
+  pub facts_of : (budget thread : ℕ) (start : VaxState) (p : Processor) → starts set_up.image thread ≡ Some start → IsReached setting budget set_up.limit entries thread start p → Facts setting permit (starts set_up.image) thread (own thread entries) p
   facts_of budget thread start p h r =
       let f = was_facts thread start r.was h r.reaches in
-      ⊎_elim (λ e. subst (Facts setting (starts set_up.image) thread (own thread entries)) (sym e) f) (λ s. subst (Facts setting (starts set_up.image) thread (own thread entries)) (sym s.is) (spent_facts setting (starts set_up.image) thread (own thread entries) r.was s.going f)) r.now
+      ⊎_elim (λ e. subst (Facts setting permit (starts set_up.image) thread (own thread entries)) (sym e) f) (λ s. subst (Facts setting permit (starts set_up.image) thread (own thread entries)) (sym s.is) (spent_facts setting permit (starts set_up.image) thread (own thread entries) r.was s.going f)) r.now
 
 pub reached_is_steady : ReachedIsSteady
-reached_is_steady setting set_up budget entries thread start p sound meets run pages order h r =
-    let f = facts_of setting set_up entries sound meets run order budget thread start p h r in
+reached_is_steady setting permit set_up budget entries thread start p sound allows meets run pages order h r =
+    let f = facts_of setting permit set_up entries sound allows meets run order budget thread start p h r in
     record { goes_on = f.goes_on; asks = λ request on e. subst (CanTurn set_up) e (f.asks set_up pages); steps = f.steps }
 
-module _ (setting : Setting) (set_up : SetUp) (budget : ℕ) (entries : List Entry) (processors : List Processor) (sound : IsSound setting.meaning) (meets : Meets setting.meaning setting.code) (run : IsRun set_up) (legal : IsLegal setting set_up budget entries processors) where
+module _ (setting : Setting) (permit : Permit) (set_up : SetUp) (budget : ℕ) (entries : List Entry) (processors : List Processor) (sound : IsSound setting.meaning) (allows : AllowsFew permit) (meets : Meets setting.meaning permit setting.code) (run : IsRun set_up) (legal : IsLegal setting set_up budget entries processors) where
   abbrev begin : ℕ → Option VaxState
   begin = starts set_up.image
 
@@ -156,12 +156,12 @@ module _ (setting : Setting) (set_up : SetUp) (budget : ℕ) (entries : List Ent
   threads = threads_of setting begin
 
   -- the facts of each processor
-  each_facts : (thread : ℕ) (p : Processor) → slice_get processors thread ≡ Some p → Facts setting begin thread (own thread entries) p
+  each_facts : (thread : ℕ) (p : Processor) → slice_get processors thread ≡ Some p → Facts setting permit begin thread (own thread entries) p
   each_facts thread p at =
       let lt = slice_get_within processors thread p at in
       let s = there_is set_up.image.threads thread (omega (arith, lt, legal.count)) in
       let h : begin thread ≡ Some (start_state s.0) = ap (option_map start_state) s.1 in
-      facts_of setting set_up entries sound meets run legal.order budget thread (start_state s.0) p h (legal.each thread (start_state s.0) p h at)
+      facts_of setting permit set_up entries sound allows meets run legal.order budget thread (start_state s.0) p h (legal.each thread (start_state s.0) p h at)
 
   explained_by : (thread : ℕ) (o : Option Processor) → slice_get processors thread ≡ o → Explained threads thread (own thread entries)
   explained_by thread None at = subst (Explained threads thread) (sym (own_none (length processors) entries thread legal.known (beyond processors thread at))) tt
@@ -214,7 +214,7 @@ module _ (setting : Setting) (set_up : SetUp) (budget : ℕ) (entries : List Ent
       none_plus : (k : ℕ) → k ≡ 0 + k
       none_plus k = omega arith
 
-  pub headline : HasHeadline setting set_up entries processors
+  pub headline : HasHeadline setting permit set_up entries processors
   headline = record {
     history = whole;
     runs = all_runs.runs;
@@ -236,4 +236,4 @@ module _ (setting : Setting) (set_up : SetUp) (budget : ℕ) (entries : List Ent
   }
 
 pub legal_has_headline : LegalHasHeadline
-legal_has_headline setting set_up budget entries processors sound meets run legal = headline setting set_up budget entries processors sound meets run legal
+legal_has_headline setting permit set_up budget entries processors sound allows meets run legal = headline setting permit set_up budget entries processors sound allows meets run legal

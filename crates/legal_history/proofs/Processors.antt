@@ -2,6 +2,7 @@
 use Rattle.std.proofs.Common.{◌≡◌, ◌≢◌, ℕ, suc, ◌+◌, ◌-◌, ◌*◌, ◌<◌, ◌≤◌, Bool, true, false, if◌then◌else◌, List, [], ◌∷◌, ◌++◌, Option, Some, None, refl, sym, ap, ◌∙◌, subst, arith, length}
 use Rattle.alpha_meaning.specs.Pieces.{Kinds, retry_steps}
 use Rattle.block_law.specs.Rounds.{block_steps}
+use Rattle.block_law.specs.Translations.{Permit}
 use Rattle.std.specs.Option.{is_some}
 use Rattle.std.specs.Prelude.{MatchBool}
 use Rattle.alpha_meaning.specs.State.{Alpha, Regs, at_place}
@@ -89,13 +90,13 @@ module _ (setting : Setting) (starts : ℕ → Option VaxState) (thread : ℕ) w
     range = silent_ends setting.meaning.pages k u [] refl p f.range;
   }
 
-  module _ (keeps : StaysInRange setting.meaning.pages tree)
+  module _ (permit : Permit) (keeps : StaysInRange setting.meaning.pages tree)
       (Owes : VaxState → Flags → Option Lock → (spare : ℕ) → Alpha → Tree → Type 0)
       (Form : VaxState → Flags → Regs → Type 0)
       (fresh : (state : VaxState) → IsState state → Form state all_held (registers_of state))
       (enter : (state : VaxState) (held : Flags) (regs : Regs) (word : ℕ) → IsState state → Form state held regs → goes_on setting thread state ≡ Some word → Owes state held None block_steps (at_place regs word) (tree state))
       (opens : (retired : ℕ) (b : VaxState) (held : Flags) (lock : Option Lock) (spare : ℕ) (alpha : Alpha) (k : Tree) → Owes b held lock spare alpha k
-      → (0 < spare) × OwedNext setting.meaning.pages (Owes b held) Form (settled_last b) (setting.meaning.kinds b.pc) retired lock (spare - 1) k (next setting (moment_at thread retired b held) alpha)) where
+      → (0 < spare) × OwedNext setting.meaning.pages (Owes b held) Form (settled_last b) (permit.kinds b.pc) retired lock (spare - 1) k (next setting (moment_at thread retired b held) alpha)) where
     -- what a processor's mode says of its thread, which was told w
     record Flies (w : List ℕ) (lock : Option Lock) (share : ℕ) (p : Processor) (alpha : Alpha) : Type 0 where
       pending : List ℕ
@@ -218,7 +219,7 @@ module _ (setting : Setting) (starts : ℕ → Option VaxState) (thread : ℕ) w
 
     -- ---- a step that asks nothing
     moves_alpha : (w : List ℕ) (lock : Option Lock) (share : ℕ) (p q : Processor) (alpha : Alpha) (s : Flies w lock share p alpha) (to : Next) → p.thread ≡ thread
-        → 0 < s.spare → OwedNext setting.meaning.pages (Owes p.boundary p.held) Form (settled_last p.boundary) (setting.meaning.kinds p.boundary.pc) p.retired lock (s.spare - 1) s.rest to → alpha_turn setting p to ≡ Went q → Stands w lock share q q.mode
+        → 0 < s.spare → OwedNext setting.meaning.pages (Owes p.boundary p.held) Form (settled_last p.boundary) (permit.kinds p.boundary.pc) p.retired lock (s.spare - 1) s.rest to → alpha_turn setting p to ≡ Went q → Stands w lock share q q.mode
     moves_alpha w lock share p q alpha s (Moves to) is some owed e =
         let e' : placed setting (stepped p) to ≡ q = cc e in
         let room : suc p.steps + (s.spare - 1) ≤ block_steps * p.retired + block_steps + share = omega (arith, some, s.room) in
@@ -266,9 +267,9 @@ module _ (setting : Setting) (starts : ℕ → Option VaxState) (thread : ℕ) w
 
     -- the boundary is where the thread is
     made_at : (w : List ℕ) (n : ℕ) (boundary : VaxState) (pending : List ℕ) (b : Bool) (want : Option Reference) (kind : Kind) → here setting starts thread n w ≡ running boundary pending → is_translated setting thread boundary ≡ b
-        → IsMadeIn b (setting.meaning.kinds boundary.pc) want kind → IsMadeAt setting thread (here setting starts thread n w) want kind
+        → IsMadeIn b (permit.kinds boundary.pc) want kind → IsMadeAt setting permit thread (here setting starts thread n w) want kind
     made_at w n boundary pending b want kind at t i =
-        subst (λ a. IsMadeAt setting thread a want kind) (sym at) (subst (λ (x : Bool). IsMadeIn x (setting.meaning.kinds boundary.pc) want kind) (sym t) i)
+        subst (λ a. IsMadeAt setting permit thread a want kind) (sym at) (subst (λ (x : Bool). IsMadeIn x (permit.kinds boundary.pc) want kind) (sym t) i)
 
     -- a tree in flight wants what its thread wants
     flight_made : (w : List ℕ) (n : ℕ) (b : VaxState) (pending : List ℕ) (k : Tree) (kind : Kind) (each : Reference → Kinds) → Flight w n b pending k → IsAlpha kind each (head_of k) → IsAlpha kind each (wanted threads thread n w)
@@ -281,12 +282,12 @@ module _ (setting : Setting) (starts : ℕ → Option VaxState) (thread : ℕ) w
     record Tells (mine : List Entry) (lock : Option Lock) (e : Entry) (q : Processor) : Type 0 where
       counted : is_counted e ≡ true → IsWanted threads thread (replies_by threads thread mine) e
       paired : Paired e.kind lock e.quad
-      made : IsMade setting threads thread (replies_by threads thread mine) e
+      made : IsMade setting permit threads thread (replies_by threads thread mine) e
       stands : Stands (replies_by threads thread (e ∷ mine)) (lock_by e.kind e.quad e.before) (share_of (e ∷ mine)) q q.mode
 
     -- ---- one access of Alpha code
     module _ (mine : List Entry) (lock : Option Lock) (p : Processor) (alpha : Alpha) (s : Flies (replies_by threads thread mine) lock (share_of mine) p alpha) (r : Request) (on : ℕ → Bool → Place) (is : p.thread ≡ thread) (some : 0 < s.spare)
-        (owed : OwedAccess setting.meaning.pages (Owes p.boundary p.held) Form (settled_last p.boundary) (setting.meaning.kinds p.boundary.pc) p.retired lock (s.spare - 1) s.rest r on) (before : ℕ) (success : Bool) where
+        (owed : OwedAccess setting.meaning.pages (Owes p.boundary p.held) Form (settled_last p.boundary) (permit.kinds p.boundary.pc) p.retired lock (s.spare - 1) s.rest r on) (before : ℕ) (success : Bool) where
       abbrev said : List ℕ
       said = replies_by threads thread mine
 
@@ -296,11 +297,11 @@ module _ (setting : Setting) (starts : ℕ → Option VaxState) (thread : ℕ) w
       at_retired : here setting starts thread made.retired said ≡ running p.boundary s.pending
       at_retired = ap (λ n. here setting starts thread n said) owed.same ∙ s.flight.at
 
-      alpha_made : IsMade setting threads thread said made
+      alpha_made : IsMade setting permit threads thread said made
       alpha_made =
           made_at said made.retired p.boundary s.pending true (wanted threads thread made.retired said) r.kind at_retired s.translated
-          (subst (λ n. IsAlpha r.kind (setting.meaning.kinds p.boundary.pc) (wanted threads thread n said)) (sym owed.same)
-          (flight_made said p.retired p.boundary s.pending s.rest r.kind (setting.meaning.kinds p.boundary.pc) s.flight owed.alpha))
+          (subst (λ n. IsAlpha r.kind (permit.kinds p.boundary.pc) (wanted threads thread n said)) (sym owed.same)
+          (flight_made said p.retired p.boundary s.pending s.rest r.kind (permit.kinds p.boundary.pc) s.flight owed.alpha))
 
       takes_silent : counts r.kind success ≡ false → OwedPlace setting.meaning.pages (Owes p.boundary p.held) Form (settled_last p.boundary) (lock_by made.kind made.quad made.before) (more_by r.kind success (s.spare - 1)) s.rest (on before success)
           → Tells mine lock made (placed setting (stepped p) (on before success))
@@ -353,7 +354,7 @@ module _ (setting : Setting) (starts : ℕ → Option VaxState) (thread : ℕ) w
     Owed mine lock before success turn = Unit {0}
 
     takes_alpha : (mine : List Entry) (lock : Option Lock) (p : Processor) (alpha : Alpha) (s : Flies (replies_by threads thread mine) lock (share_of mine) p alpha) (to : Next) (before : ℕ) (success : Bool) → p.thread ≡ thread
-        → 0 < s.spare → OwedNext setting.meaning.pages (Owes p.boundary p.held) Form (settled_last p.boundary) (setting.meaning.kinds p.boundary.pc) p.retired lock (s.spare - 1) s.rest to → Owed mine lock before success (alpha_turn setting p to)
+        → 0 < s.spare → OwedNext setting.meaning.pages (Owes p.boundary p.held) Form (settled_last p.boundary) (permit.kinds p.boundary.pc) p.retired lock (s.spare - 1) s.rest to → Owed mine lock before success (alpha_turn setting p to)
     takes_alpha mine lock p alpha s (Moves to) before success is some owed = tt
     takes_alpha mine lock p alpha s step.Stuck before success is some owed = tt
     takes_alpha mine lock p alpha s (Wants r on) before success is some owed =
@@ -474,26 +475,26 @@ pub share_is : (mine : List Entry) → share_of mine ≡ block_steps * counted_i
 share_is [] = refl
 share_is (e ∷ mine) = ap (share_by e.kind e.success) (share_is mine) ∙ shares e.kind e.success (counted_in mine) (failed_in mine)
 
-module _ (setting : Setting) (starts : ℕ → Option VaxState) (thread : ℕ) (start : VaxState) (started : starts thread ≡ Some start) (ranged : IsState start)
+module _ (setting : Setting) (permit : Permit) (starts : ℕ → Option VaxState) (thread : ℕ) (start : VaxState) (started : starts thread ≡ Some start) (ranged : IsState start)
     (keeps : StaysInRange setting.meaning.pages (setting.meaning.moment thread))
     (Owes : VaxState → Flags → Option Lock → (spare : ℕ) → Alpha → Tree → Type 0)
     (Form : VaxState → Flags → Regs → Type 0)
     (fresh : (state : VaxState) → IsState state → Form state all_held (registers_of state))
     (enter : (state : VaxState) (held : Flags) (regs : Regs) (word : ℕ) → IsState state → Form state held regs → goes_on setting thread state ≡ Some word → Owes state held None block_steps (at_place regs word) (setting.meaning.moment thread state))
     (opens : (retired : ℕ) (b : VaxState) (held : Flags) (lock : Option Lock) (spare : ℕ) (alpha : Alpha) (k : Tree) → Owes b held lock spare alpha k
-    → (0 < spare) × OwedNext setting.meaning.pages (Owes b held) Form (settled_last b) (setting.meaning.kinds b.pc) retired lock (spare - 1) k (next setting (moment_at thread retired b held) alpha)) where
+    → (0 < spare) × OwedNext setting.meaning.pages (Owes b held) Form (settled_last b) (permit.kinds b.pc) retired lock (spare - 1) k (next setting (moment_at thread retired b held) alpha)) where
   abbrev its_threads : Threads
   its_threads = threads_of setting starts
 
   abbrev Here_stands : List ℕ → Option Lock → (share : ℕ) → Processor → Mode → Type 0
-  Here_stands = Stands setting starts thread keeps Owes Form fresh enter opens
+  Here_stands = Stands setting starts thread permit keeps Owes Form fresh enter opens
 
   -- after any number of turns
   record Told (mine : List Entry) (p : Processor) : Type 0 where
     is : p.thread ≡ thread
     explained : Explained its_threads thread mine
     stands : Here_stands (replies_by its_threads thread mine) (lock_of mine) (share_of mine) p p.mode
-    made : AllMadeIn setting starts thread mine
+    made : AllMadeIn setting permit starts thread mine
     paired : AllPaired mine
     long : length mine ≤ 2 * (counted_in mine + failed_in mine) + open_by (lock_of mine)
 
@@ -504,19 +505,19 @@ module _ (setting : Setting) (starts : ℕ → Option VaxState) (thread : ℕ) (
   told n mine p Begins fair = record { is = refl; explained = tt; stands = begins; made = tt; paired = tt; long = omega arith }
   told n mine p (Steps {p = q} reached_q e) fair =
       let before = told _ mine q reached_q fair in
-      let settled = settle setting starts thread keeps Owes Form fresh enter opens (replies_by its_threads thread mine) (lock_of mine) (share_of mine) q q.mode before.is before.stands in
+      let settled = settle setting starts thread permit keeps Owes Form fresh enter opens (replies_by its_threads thread mine) (lock_of mine) (share_of mine) q q.mode before.is before.stands in
       record {
         is = subst (KeepsThread q) e (turn_thread setting q (mode_of setting q q.mode)) ∙ before.is;
         explained = before.explained;
-        stands = moves setting starts thread keeps Owes Form fresh enter opens (replies_by its_threads thread mine) (lock_of mine) (share_of mine) q p (mode_of setting q q.mode) before.is settled e;
+        stands = moves setting starts thread permit keeps Owes Form fresh enter opens (replies_by its_threads thread mine) (lock_of mine) (share_of mine) q p (mode_of setting q q.mode) before.is settled e;
         made = before.made;
         paired = before.paired;
         long = before.long;
       }
   told n mine p (Takes {mine = older} {p = q} {request = r} {on = on} reached_q e found success) fair =
       let before = told _ older q reached_q fair.0 in
-      let settled = settle setting starts thread keeps Owes Form fresh enter opens (replies_by its_threads thread older) (lock_of older) (share_of older) q q.mode before.is before.stands in
-      let owed = subst (Owed setting starts thread keeps Owes Form fresh enter opens older (lock_of older) found success) e (takes_in setting starts thread keeps Owes Form fresh enter opens older (lock_of older) q (mode_of setting q q.mode) found success before.is settled) in
+      let settled = settle setting starts thread permit keeps Owes Form fresh enter opens (replies_by its_threads thread older) (lock_of older) (share_of older) q q.mode before.is before.stands in
+      let owed = subst (Owed setting starts thread permit keeps Owes Form fresh enter opens older (lock_of older) found success) e (takes_in setting starts thread permit keeps Owes Form fresh enter opens older (lock_of older) q (mode_of setting q q.mode) found success before.is settled) in
       let x = owed fair.1 in
       record {
         is = subst (KeepsThread q) e (turn_thread setting q (mode_of setting q q.mode)) found success ∙ before.is;
@@ -532,7 +533,7 @@ module _ (setting : Setting) (starts : ℕ → Option VaxState) (thread : ℕ) (
       let run : ThreadRun = record { state = p.boundary; exited = false; raised = fault_of (answer setting.meaning.pages (setting.meaning.moment thread p.boundary) pending) } in
       record { run = run; driven = ap (run_at its_threads thread) at; state = refl; claims = claims run refl }
 
-  shown_ended : (w : List ℕ) (p : Processor) (end : End) → p.mode ≡ Ended end → Left setting starts thread keeps Owes Form fresh enter opens w p end → IsShown setting starts thread w p
+  shown_ended : (w : List ℕ) (p : Processor) (end : End) → p.mode ≡ Ended end → Left setting starts thread permit keeps Owes Form fresh enter opens w p end → IsShown setting starts thread w p
   shown_ended w p (ends.Exit value) m l =
       let run : ThreadRun = record { state = p.boundary; exited = true; raised = None } in
       record { run = run; driven = l.0; state = refl; claims = subst (λ m. Claims m run) (sym m) (refl, l.1) }
@@ -563,7 +564,7 @@ module _ (setting : Setting) (starts : ℕ → Option VaxState) (thread : ℕ) (
   tied_in w lock share p (Interprets state pending) s = omega (arith, s.interpreted, interpreted_loud setting starts thread p.retired w p.boundary pending s.flight.at s.untranslated)
   tied_in w lock share p (Ended end) s = s.interpreted
 
-  alpha_moves : (p : Processor) (lock : Option Lock) (spare : ℕ) (k : Tree) (to : Next) → OwedNext setting.meaning.pages (Owes p.boundary p.held) Form (settled_last p.boundary) (setting.meaning.kinds p.boundary.pc) p.retired lock spare k to → alpha_turn setting p to ≢ Stuck
+  alpha_moves : (p : Processor) (lock : Option Lock) (spare : ℕ) (k : Tree) (to : Next) → OwedNext setting.meaning.pages (Owes p.boundary p.held) Form (settled_last p.boundary) (permit.kinds p.boundary.pc) p.retired lock spare k to → alpha_turn setting p to ≢ Stuck
   alpha_moves p lock spare k (Moves to) o e = absurd (cc e)
   alpha_moves p lock spare k (Wants r on) o e = absurd (cc e)
   alpha_moves p lock spare k step.Stuck o e = absurd o
@@ -619,11 +620,11 @@ module _ (setting : Setting) (starts : ℕ → Option VaxState) (thread : ℕ) (
   not_new p (Ended end) = λ e. absurd (cc e)
 
   -- what holds of a processor after any number of turns
-  pub facts : (n : ℕ) (mine : List Entry) (p : Processor) → Reaches setting (begun thread start) n mine p → AllFair mine → Facts setting starts thread mine p
+  pub facts : (n : ℕ) (mine : List Entry) (p : Processor) → Reaches setting (begun thread start) n mine p → AllFair mine → Facts setting permit starts thread mine p
   facts n mine p reached_p fair =
       let t = told n mine p reached_p fair in
       let w = replies_by its_threads thread mine in
-      let settled = settle setting starts thread keeps Owes Form fresh enter opens w (lock_of mine) (share_of mine) p p.mode t.is t.stands in
+      let settled = settle setting starts thread permit keeps Owes Form fresh enter opens w (lock_of mine) (share_of mine) p p.mode t.is t.stands in
       let bound = bounded w (lock_of mine) (share_of mine) p p.mode t.stands in
       record {
         explained = t.explained;
@@ -636,18 +637,3 @@ module _ (setting : Setting) (starts : ℕ → Option VaxState) (thread : ℕ) (
         goes_on = moves_in w (lock_of mine) (share_of mine) p (mode_of setting p p.mode) t.is (not_new p p.mode) settled;
         asks = λ set_up pages. asks_in set_up pages w (lock_of mine) (share_of mine) p (mode_of setting p p.mode) t.is settled;
       }
-
-  -- in Alpha code something is owed of what is still to be done
-  pub record Flying (lock : Option Lock) (p : Processor) (alpha : Alpha) : Type 0 where
-    pub is : p.thread ≡ thread
-    pub spare : ℕ
-    pub rest : Tree
-    pub range : IsInRange setting.meaning.pages rest
-    pub owed : Owes p.boundary p.held lock spare alpha rest
-
-  pub flying : (n : ℕ) (mine : List Entry) (p : Processor) → Reaches setting (begun thread start) n mine p → AllFair mine → (alpha : Alpha) → mode_of setting p p.mode ≡ Runs alpha → Flying (lock_of mine) p alpha
-  flying n mine p reached_p fair alpha m =
-      let t = told n mine p reached_p fair in
-      let w = replies_by its_threads thread mine in
-      let s = subst (Here_stands w (lock_of mine) (share_of mine) p) m (settle setting starts thread keeps Owes Form fresh enter opens w (lock_of mine) (share_of mine) p p.mode t.is t.stands) in
-      record { is = t.is; spare = s.spare; rest = s.rest; range = s.flight.range; owed = s.owed }
