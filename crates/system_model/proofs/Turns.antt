@@ -5,6 +5,7 @@ use Rattle.std.specs.List.{AllByRecursion}
 use Rattle.std.proofs.lemmas.List.{length-append}
 use Rattle.std.proofs.lemmas.List.Elements.{filter-append}
 use Rattle.std.proofs.lemmas.Bool.{eq-eqb}
+use Rattle.std.proofs.lemmas.Option.{slice_get_within}
 use Rattle.image_file.specs.Start.{start_state}
 use Rattle.image_file.specs.declared.image.Start.{Start}
 use Rattle.memory_core.specs.declared.entry.Entry.{Entry}
@@ -12,8 +13,9 @@ use Rattle.memory_core.specs.Order.{own}
 use Rattle.vax_form.specs.declared.state.VaxState.{VaxState}
 use Rattle.system_model.specs.Settings.{Setting}
 use Rattle.system_model.specs.Processors.{Processor, begun, entry_by, Reaches, Begins, Steps, Takes}
-use Rattle.system_model.specs.Legal.{IsGoing, IsSpent, IsReached}
-use Rattle.system_model.specs.Laws.{begun_from, BeginningsAreLegal, StepsKeepReached, AccessesKeepReached, EndsKeepReached, OthersKeepReached, RequestsAreOwn, ReachedAreLegal, ReachedCounts}
+use Rattle.system_model.specs.Legal.{starts, IsGoing, IsSpent, IsReached}
+use Rattle.system_model.specs.Laws.{begun_from, BeginningsAreLegal, StepsKeepReached, AccessesKeepReached, EndsKeepReached, OthersKeepReached, RequestsAreOwn, ReachedAreLegal, IsWithin, ReachedAreWithin, LegalAreWithin}
+use Rattle.system_model.proofs.Lists.{there_is}
 use Rattle.system_model.proofs.Requests.{IsStep, Makes, makes, RetiresOne, Retires, retires}
 
 own_if : (b : Bool) (e : Entry) (mine : List Entry) (c : Bool) → b ≡ c → (if b then e ∷ mine else mine) ≡ (if c then e ∷ mine else mine)
@@ -34,20 +36,43 @@ all_below : (mine : List Entry) (m n : ℕ) → m ≤ n → AllByRecursion (λ (
 all_below [] m n lt all = tt
 all_below (e ∷ mine) m n lt all = (omega (arith, lt, all.0), all_below mine m n lt all.1)
 
-pub reached_counts : ReachedCounts
-reached_counts setting thread start n mine p Begins = (refl, omega arith, tt)
-reached_counts setting thread start n mine p (Steps {p = q} r e) =
-    let before = reached_counts setting thread start _ mine q r in
+-- it retires at most one instruction a step
+reaches_within : (setting : Setting) (thread : ℕ) (start : VaxState) (n : ℕ) (mine : List Entry) (p : Processor) → Reaches setting (begun thread start) n mine p → IsWithin n mine p
+reaches_within setting thread start n mine p Begins = record { steps = omega arith; retired = omega arith; told = tt }
+reaches_within setting thread start n mine p (Steps {p = q} r e) =
+    let was = reaches_within setting thread start _ mine q r in
     let step : IsStep q p = subst (Makes q) e (makes setting q) in
     let one : RetiresOne q p = subst (Retires q) e (retires setting q) in
-    (step.steps ∙ ap suc before.0, omega (arith, before.1, one.most), all_below mine q.retired p.retired one.least before.2)
-reached_counts setting thread start n mine p (Takes {mine = older} {p = q} {request = request} r e before success) =
-    let was = reached_counts setting thread start _ older q r in
+    record {
+      steps = omega (arith, step.steps, was.steps);
+      retired = omega (arith, step.steps, was.retired, one.most);
+      told = all_below mine q.retired p.retired one.least was.told;
+    }
+reaches_within setting thread start n mine p (Takes {mine = older} {p = q} {request = request} r e before success) =
+    let was = reaches_within setting thread start _ older q r in
     let step : IsStep q p = (subst (Makes q) e (makes setting q)).1 before success in
     let asked = subst (Retires q) e (retires setting q) in
     let one : RetiresOne q p = asked.1 before success in
-    let told : request.retired ≡ q.retired = asked.0 in
-    (step.steps ∙ ap suc was.0, omega (arith, was.1, one.most), (omega (arith, told, one.least), all_below older q.retired p.retired one.least was.2))
+    let same : request.retired ≡ q.retired = asked.0 in
+    record {
+      steps = omega (arith, step.steps, was.steps);
+      retired = omega (arith, step.steps, was.retired, one.most);
+      told = (omega (arith, same, one.least), all_below older q.retired p.retired one.least was.told);
+    }
+
+pub reached_are_within : ReachedAreWithin
+reached_are_within setting budget limit entries thread start p r =
+    let was = reaches_within setting thread start r.was.steps (own thread entries) r.was r.reaches in
+    let within : IsWithin budget (own thread entries) r.was = record { steps = r.within; retired = was.retired; told = was.told } in
+    ⊎_elim (λ same. subst (IsWithin budget (own thread entries)) (sym same) within)
+    (λ s. subst (IsWithin budget (own thread entries)) (sym s.is) (record { steps = within.steps; retired = within.retired; told = within.told })) r.now
+
+pub legal_are_within : LegalAreWithin
+legal_are_within setting set_up budget entries processors legal thread p at =
+    let lt = slice_get_within processors thread p at in
+    let start = there_is set_up.image.threads thread (omega (arith, lt, legal.count)) in
+    let starts_so : starts set_up.image thread ≡ Some (start_state start.0) = ap (option_map start_state) start.1 in
+    reached_are_within setting budget set_up.limit entries thread (start_state start.0) p (legal.each thread (start_state start.0) p starts_so at)
 
 -- ---- the beginning
 pub begun_length : (n : ℕ) (xs : List Start) → length (begun_from n xs) ≡ length xs

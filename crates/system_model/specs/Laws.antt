@@ -20,7 +20,7 @@ use Rattle.system_model.specs.Matches.{KeepsOthers}
 use Rattle.system_model.specs.Quadwords.{quad_at, quad_address, change_of, reply_found, IsOf}
 use Rattle.system_model.specs.Settings.{Setting}
 use Rattle.system_model.specs.Steps.{Place, Wants, Moment, next}
-use Rattle.system_model.specs.Processors.{Processor, Went, Asks, begun, request_of, turn, entry_by, Reaches}
+use Rattle.system_model.specs.Processors.{Processor, Went, Asks, begun, request_of, turn, entry_by}
 use Rattle.system_model.specs.Legal.{starts, spent, IsGoing, IsAsking, IsReached, IsLegal}
 
 -- ---- legal histories
@@ -35,6 +35,13 @@ BeginningsAreLegal = (setting : Setting) (set_up : SetUp) (budget : ℕ) → set
     → IsLegal setting set_up budget [] (begun_from 0 set_up.image.threads)
 
 -- ---- one processor, by its own entries
+-- it made at most as many steps as its budget has, and retired no more instructions than it made steps; and none of its
+-- entries tells more of them
+pub record IsWithin (budget : ℕ) (mine : List Entry) (p : Processor) : Type 0 where
+  pub steps : p.steps ≤ budget
+  pub retired : p.retired ≤ p.steps
+  pub told : AllByRecursion (λ (e : Entry). e.retired ≤ p.retired) mine
+
 -- it stays reached by a turn that asks nothing
 abbrev pub StepsKeepReached : Type 0
 StepsKeepReached = (setting : Setting) (budget limit : ℕ) (entries : List Entry) (thread : ℕ) (start : VaxState) (p q : Processor)
@@ -65,11 +72,10 @@ abbrev pub RequestsAreOwn : Type 0
 RequestsAreOwn = (setting : Setting) (budget limit : ℕ) (entries : List Entry) (thread : ℕ) (start : VaxState) (p : Processor) (request : Request) (on : ℕ → Bool → Processor)
     → IsReached setting budget limit entries thread start p → IsGoing p.mode → turn setting p ≡ Asks request on → request.processor ≡ thread
 
--- a processor that began so made as many steps as turns, has retired no more instructions than that, and no entry of its own
--- tells more of them
-abbrev pub ReachedCounts : Type 0
-ReachedCounts = (setting : Setting) (thread : ℕ) (start : VaxState) (n : ℕ) (mine : List Entry) (p : Processor) → Reaches setting (begun thread start) n mine p
-    → (p.steps ≡ n) × (p.retired ≤ n) × AllByRecursion (λ (e : Entry). e.retired ≤ p.retired) mine
+-- it is within its budget
+abbrev pub ReachedAreWithin : Type 0
+ReachedAreWithin = (setting : Setting) (budget limit : ℕ) (entries : List Entry) (thread : ℕ) (start : VaxState) (p : Processor)
+    → IsReached setting budget limit entries thread start p → IsWithin budget (own thread entries) p
 
 -- just one processor for each thread of the image, each reached by its own entries of a history that meets the memory
 -- order and the limit and has entries of these alone
@@ -80,6 +86,12 @@ ReachedAreLegal = (setting : Setting) (set_up : SetUp) (budget : ℕ) (entries :
     → ((thread : ℕ) (start : VaxState) (p : Processor) → starts set_up.image thread ≡ Some start → slice_get processors thread ≡ Some p
     → IsReached setting budget set_up.limit entries thread start p)
     → IsLegal setting set_up budget entries processors
+
+-- and each processor of a legal history is within its budget
+abbrev pub LegalAreWithin : Type 0
+LegalAreWithin = (setting : Setting) (set_up : SetUp) (budget : ℕ) (entries : List Entry) (processors : List Processor)
+    → IsLegal setting set_up budget entries processors → (thread : ℕ) (p : Processor) → slice_get processors thread ≡ Some p
+    → IsWithin budget (own thread entries) p
 
 -- ---- what memory is asked
 -- it can make the access of a reference that fits its page

@@ -1,6 +1,6 @@
 //! What keeps processors reached and makes a history legal, and references beside the quadwords of their accesses, for the proofs of the crates above.
 //! Its functions do nothing.
-ghost use Rattle.system_model.specs.Laws.{BeginningsAreLegal, StepsKeepReached, AccessesKeepReached, EndsKeepReached, OthersKeepReached, RequestsAreOwn, ReachedAreLegal, ReachedCounts, ReferencesCanBeMade, StepsCanBeMade, QuadwordChanges, OtherQuadwordsStay, QuadwordReplies, NeighboursStay, OrderTurns};
+ghost use Rattle.system_model.specs.Laws.{BeginningsAreLegal, StepsKeepReached, AccessesKeepReached, EndsKeepReached, OthersKeepReached, RequestsAreOwn, ReachedAreLegal, ReachedAreWithin, LegalAreWithin, ReferencesCanBeMade, StepsCanBeMade, QuadwordChanges, OtherQuadwordsStay, QuadwordReplies, NeighboursStay, OrderTurns};
 
 /// Processors before their first turn are legal, whatever is interpreted.
 pub fn beginnings_are_legal()
@@ -43,10 +43,15 @@ pub fn reached_are_legal()
     ensures { ReachedAreLegal }
 {}
 
-/// A processor that began so made as many steps as turns, and has retired no more instructions; no entry of its own tells more.
-#[tactic(auto, using(crate::proofs::Turns::reached_counts))]
-pub fn reached_counts()
-    ensures { ReachedCounts }
+/// A reached processor made no more steps than its budget has and retired no more instructions than it made steps, and none
+/// of its entries tells more of them.
+pub fn reached_are_within()
+    ensures { ReachedAreWithin }
+{}
+
+/// So did each processor of a legal history.
+pub fn legal_are_within()
+    ensures { LegalAreWithin }
 {}
 
 /// Memory can make the access of a reference that fits its page.
