@@ -16,4 +16,4 @@ pub use generating::generated_lines;
 pub use images::{MOST_GROUPS, generated, generated_bytes};
 pub use line::{LINE_ROOM, Line};
 pub use refused::{MOST_NUMBERS, Subject, refused_line};
-pub use threads::{Offered, offer, report, thread_lines};
+pub use threads::{Offered, offer, report};

@@ -52,7 +52,7 @@ pub fn report(alloc: Global, processors: &[(End, VaxState, u64)]) -> Result<Vec<
 }
 
 /// The lines of a thread that ended so, with that shown state and that count of retired instructions.
-pub fn thread_lines(thread: u64, end: End, state: &VaxState, retired: u64) -> Line
+fn thread_lines(thread: u64, end: End, state: &VaxState, retired: u64) -> Line
     ensures { result ≡ thread_text thread end state.now retired }
 {
     let mut line = Line::new();
