@@ -4,7 +4,6 @@
 //! `Failed` comes only where the count rose, so a caller can say of its own faults whose they were.
 #![tactic(auto)]
 
-mod crossing;
 mod desk;
 mod gate;
 mod memory;
@@ -13,7 +12,6 @@ mod source;
 mod system;
 mod whole;
 
-pub use crossing::CrossingGate;
 pub use desk::{Desk, DeskRead, DeskWrite};
 pub use gate::{Gate, OpenGate};
 pub use memory::desk::MemoryDesk;

@@ -2,7 +2,7 @@
 use Rattle.std.proofs.Common.{◌≡◌, ℕ, zero, suc, ◌+◌, ◌-◌, ◌*◌, ◌/◌, ◌%◌, ◌^◌, ◌<◌, ◌≤◌, refl, sym, ap, ◌∙◌, subst, arith, lit<}
 use Rattle.std.specs.Prelude.{bit_or}
 use Rattle.std.specs.Int.Bits.{or_zero_l, or_shifted_r, or_block}
-use Rattle.std.proofs.lemmas.Nat.{pow_pos, pow-add, and_mask, and_comm, and-not, mod_below, shr_split, mod-pow-add, mod_low, one_shl, shl-shr, field_of as std_field_of}
+use Rattle.std.proofs.lemmas.Nat.{pow_pos, pow-add, and_mask, and_comm, and-not, mod_below, shr_split, mod-pow-add, mod_low, shl-shr, field_of as std_field_of}
 use Rattle.std.proofs.lemmas.Nat.Bits.{and_high}
 use Rattle.std.proofs.Math.Nat.{mul_assoc, add-mul, div-one}
 use Rattle.vt_words.specs.Quad.{IsCount, one, two, four, eight, spread, kept, cleared, left, right, ext_low, ins_low, ins_high, msk_low, msk_high, field_of, with_field_of}
@@ -149,11 +149,3 @@ run_of_suc = below_8 (λ at. (c : ℕ) → c < 8 → at + suc c ≤ 8 → IsRun 
 pub run_of : (at count : ℕ) → 1 ≤ count → at + count ≤ 8 → IsRun ((2 ^ count - 1) * 2 ^ at) at count
 run_of at zero some within = absurd (omega arith)
 run_of at (suc c) some within = run_of_suc at (omega arith) c (omega arith) within
-
-pub with_field_is : (q at count v : ℕ) → q < 2 ^ 64 → 1 ≤ count → at + count ≤ 8 → bit_or (kept ((2 ^ count - 1) * 2 ^ at) (left v (8 * at))) (cleared ((2 ^ count - 1) * 2 ^ at) q) ≡ with_field_of q at count v
-with_field_is q at count v hq some within =
-    replaced_run ((2 ^ count - 1) * 2 ^ at) at count q (left v (8 * at)) v (run_of at count some within) hq (left_field v at count within)
-
--- the mask as the code computes it
-pub mask_code : (at count : ℕ) → 1 ≤ count → at + count ≤ 8 → ((1 * 2 ^ count % 2 ^ 32 - 1) * (1 * 2 ^ at % 2 ^ 32) ≡ (2 ^ count - 1) * 2 ^ at) × ((2 ^ count - 1) * 2 ^ at < 2 ^ 8)
-mask_code at count some within = (rw (one_shl count 32 (omega arith), one_shl at 32 (omega arith)) refl, (run_of at count some within).byte)

@@ -1,6 +1,6 @@
 // Bytes of a quadword: masks, fields and byte manipulation.
 ghost use Rattle.std.specs.Prelude.{◌≡◌, ◌+◌, ◌*◌, ◌/◌, ◌%◌, ◌^◌, ◌<◌, ◌≤◌};
-ghost use Rattle.vt_words.specs.Quad.{spread, kept, cleared, ext_low, ext_high, ins_low, ins_high, msk_low, msk_high, field_of, with_field_of, sign_extended};
+ghost use Rattle.vt_words.specs.Quad.{spread, kept, cleared, ext_low, ext_high, ins_low, ins_high, msk_low, msk_high, field_of, sign_extended};
 
 /// All the bits of each byte that a bit of the mask names.
 pub fn spread(mask: u8) -> u64
@@ -108,15 +108,4 @@ pub fn sign_extend(value: u64, bits: u32) -> u64
     } else {
         low + (u64::MAX << bits)
     }
-}
-
-/// The quadword with these bytes replaced by the lowest of the value.
-pub fn with_field(quad: u64, at: u32, count: u32, value: u64) -> u64
-    requires some { 1 ≤ count }
-    requires within { at + count ≤ 8 }
-    ensures { result ≡ with_field_of quad at count value }
-{
-    let ones = ((1u32 << count) - 1) * (1 << at);
-    let mask = ones as u8;
-    kept(mask, value << (8 * at)) | cleared(mask, quad)
 }

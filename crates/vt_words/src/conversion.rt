@@ -1,19 +1,10 @@
 // Conversion between sizes, and the extended product.
-ghost use Rattle.std.specs.Prelude.{◌≡◌, ◌<◌, ◌≤◌, ◌*◌, ◌/◌, ◌^◌, ◌↔◌, IsTrue, pos, neg_ℤ, ◌<ℤ◌, ◌+ℤ◌, ◌*ℤ◌, unsigned_abs};
+ghost use Rattle.std.specs.Prelude.{◌≡◌, ◌<◌, ◌≤◌, ◌*◌, ◌/◌, ◌^◌, pos, neg_ℤ, ◌+ℤ◌, ◌*ℤ◌, unsigned_abs};
 ghost use Rattle.vt_words.specs.Values.{IsSize, modulus, signed_value, value_of};
 ghost use Rattle.vt_words.specs.Arithmetic.{conversion_of, extended_product_of};
 
 use crate::arithmetic::{Coded, signed_product, with_signs};
 use crate::values::{is_in_range, limit, signed, wrapped};
-
-/// Whether the bytes of a value spell a negative number.
-pub fn is_negative(bytes: u32, value: u64) -> bool
-    requires size { IsSize bytes }
-    requires value_fits { value < modulus bytes }
-    ensures { IsTrue result ↔ (signed_value bytes value <ℤ pos 0) }
-{
-    signed(bytes, value) < 0
-}
 
 /// The signed number of a value in another size: CVT.
 #[tactic(auto, unfolding(crate::specs::Arithmetic::conversion_of))]

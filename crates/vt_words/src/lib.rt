@@ -13,8 +13,8 @@ pub use arithmetic::{Coded, add, divide, mul, negate, sub, with_signs};
 pub use bits::{and, and_not, complement, or, rotate, shift_left, shift_right, xor};
 pub use bytes::{
     cleared, extract_high, extract_low, field, insert_high, insert_low, kept, mask_high, mask_low,
-    sign_extend, spread, with_field,
+    sign_extend, spread,
 };
-pub use conversion::{convert, extended_product, is_negative};
+pub use conversion::{convert, extended_product};
 pub use extensions::{extension_laws, quadword_laws};
 pub use values::{limit, signed, wrapped};
