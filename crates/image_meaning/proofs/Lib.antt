@@ -27,4 +27,5 @@ pub mod AlikeBranches
 pub mod AlikeLong
 pub mod CodesUsed
 pub mod Written
+pub mod Permits
 mod Refused

@@ -1,5 +1,5 @@
 -- What the VAX instructions do stays in range, and goes with processors.
-use Rattle.std.specs.Prelude.{◌≡◌, ℕ, ◌<◌, ◌≤◌, ◌^◌}
+use Rattle.std.specs.Prelude.{◌≡◌, ℕ, ◌<◌, ◌^◌}
 use Rattle.vax_form.specs.Grammar.{instruction}
 use Rattle.vax_form.specs.GrammarFound.{found}
 use Rattle.vax_form.specs.GrammarLaws.{AreBytes}
@@ -10,13 +10,10 @@ use Rattle.vax_form.specs.Tree.{instruction_tree}
 use Rattle.vax_form.specs.declared.instr.Instr.{Instr}
 use Rattle.vax_form.specs.declared.pages.Pages.{Pages}
 use Rattle.vax_form.specs.declared.state.Flags.{Flags}
-use Rattle.vax_form.specs.declared.state.Reference.{Reference}
 use Rattle.vax_form.specs.declared.state.VaxState.{VaxState}
 use Rattle.vax_meaning.specs.Control.{serve}
 use Rattle.vax_long.specs.Instructions.{tree_at}
 use Rattle.vax_long.specs.Pending.{moment_at}
-use Rattle.alpha_meaning.specs.Pieces.{Kinds}
-use Rattle.block_law.specs.Rounds.{block_steps}
 use Rattle.block_law.specs.Services.{service}
 use Rattle.block_law.specs.Sound.{IsSound}
 use Rattle.image_meaning.specs.Meant.{codes_of, codes_written, vax_meaning}

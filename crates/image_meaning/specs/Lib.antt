@@ -1,3 +1,5 @@
 pub mod Meant
 pub mod Laws
 pub mod CodeUses
+pub mod Written
+pub mod Permits

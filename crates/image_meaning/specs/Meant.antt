@@ -1,5 +1,5 @@
 -- What the VAX instructions of a page table mean, for processors that run them.
-use Rattle.std.specs.Prelude.{ℕ, true, Option, Some, None}
+use Rattle.std.specs.Prelude.{ℕ, Option, Some, None}
 use Rattle.vax_form.specs.Operation.{operation_at}
 use Rattle.vax_form.specs.Pages.{code_byte_at}
 use Rattle.vax_form.specs.Tree.{instruction_tree}

@@ -1,6 +1,7 @@
 //! Laws of what instructions do, for the proofs of the crates above. Their functions do nothing.
 ghost use Rattle.vax_form.specs.GrammarLaws.{AreBytes};
 ghost use Rattle.image_meaning.specs.CodeUses.{CodesAreUsed};
+ghost use Rattle.image_meaning.specs.Permits.{AnyPermitAllowsFew, MeetsAnyPermit, PermitsAllowFew};
 ghost use Rattle.image_meaning.specs.Laws.{TreeAtStaysInRange, MomentsStayInRange, TreeAtFailsByFaults, ServicesAre, CodesWrittenAreTheOperations, VaxMeaningIsSound};
 
 use vax_form::Pages;
@@ -41,6 +42,14 @@ pub fn codes_written_are_the_operations()
 #[tactic(auto, using(crate::proofs::Meanings::vax_meaning_is_sound))]
 pub fn vax_meaning_is_sound()
     ensures { VaxMeaningIsSound }
+{}
+
+/// An access allows at most as many steps more as a block may take; and code that meets what it may do on the processors
+/// that it is made for meets what it may do on any.
+pub fn permits()
+    ensures few { PermitsAllowFew }
+    ensures any_few { AnyPermitAllowsFew }
+    ensures meets { MeetsAnyPermit }
 {}
 
 /// The code of a page table has bytes alone.
