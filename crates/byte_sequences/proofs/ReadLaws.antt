@@ -212,10 +212,10 @@ reads place count to c1 a_place a_to fetch terms pc f low may has n =
     let within = may.within in
     let pages = subst (λ b. All (λ part. terms.allowed false (quad_of_part part) ≡ true) (parts_by b (f place) 1)) (byte_within (f place)) may.pages in
     subst (λ b. Runs (piece fetch terms pc (pc + 2)) (Holds f to 1) n Plain 2 (at_place f pc) (read_plan (parts_by b (f place) 1))) (sym (byte_within (f place)))
-    (byte_reads fetch terms pc f place to a_place a_to (omega arith) (pages 0 (0, 0) (lit< tt)) (may.loads 8) has n n 2 (omega arith) (lit≤ tt))
+    (byte_reads fetch terms pc f place to a_place a_to (omega arith) (pages 0 (0, 0) (lit< tt)) may.loads has n n 2 (omega arith) (lit≤ tt))
 reads place count to c2 a_place a_to fetch terms pc f low may has n =
-    unaligned_reads fetch terms pc f place 2 to c2 a_place a_to low (let within = may.within in omega arith) may.within may.pages (may.loads 8) has n n 9 (omega arith) (lit≤ tt)
+    unaligned_reads fetch terms pc f place 2 to c2 a_place a_to low (let within = may.within in omega arith) may.within may.pages may.loads has n n 9 (omega arith) (lit≤ tt)
 reads place count to c4 a_place a_to fetch terms pc f low may has n =
-    unaligned_reads fetch terms pc f place 4 to c4 a_place a_to low (let within = may.within in omega arith) may.within may.pages (may.loads 8) has n n 9 (omega arith) (lit≤ tt)
+    unaligned_reads fetch terms pc f place 4 to c4 a_place a_to low (let within = may.within in omega arith) may.within may.pages may.loads has n n 9 (omega arith) (lit≤ tt)
 reads place count to c8 a_place a_to fetch terms pc f low may has n =
-    unaligned_reads fetch terms pc f place 8 to c8 a_place a_to low (let within = may.within in omega arith) may.within may.pages (may.loads 8) has n n 9 (omega arith) (lit≤ tt)
+    unaligned_reads fetch terms pc f place 8 to c8 a_place a_to low (let within = may.within in omega arith) may.within may.pages may.loads has n n 9 (omega arith) (lit≤ tt)

@@ -17,7 +17,8 @@ pub record MayRead (terms : Terms) (address count : ℕ) : Type 0 where
   -- the operand ends within the address space
   pub within : address + count ≤ 2 ^ 32
   pub pages : All (λ part. terms.allowed false (quad_of_part part) ≡ true) (parts address count)
-  pub loads : (bytes : ℕ) → terms.kinds Load bytes ≡ true
+  -- quadwords are loaded, aligned or not
+  pub loads : terms.kinds Load 8 ≡ true
 
 -- load-locked accesses and stores conditional of whole quadwords
 pub record MayRetry (terms : Terms) : Type 0 where
