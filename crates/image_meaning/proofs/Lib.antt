@@ -26,6 +26,9 @@ pub mod AlikeMoves
 pub mod AlikeBranches
 pub mod AlikeLong
 pub mod CodesUsed
+pub mod Witnesses
+pub mod CodesRead
+pub mod Elsewhere
 pub mod Written
 pub mod Permits
 mod Refused

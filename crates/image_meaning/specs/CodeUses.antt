@@ -1,15 +1,16 @@
 -- What instructions do with condition codes: which they read, which they write, and where they go on.
 -- VAX Architecture Reference Manual, "Instruction Descriptions": the line of condition codes of each instruction.
-use Rattle.std.specs.Prelude.{◌≡◌, ℕ, ◌/◌, true, false, Some}
+use Rattle.std.specs.Prelude.{◌≡◌, ℕ, ◌/◌, true, false, List, [], Some}
 use Rattle.vax_form.specs.Operation.{operation_at}
-use Rattle.vax_form.specs.Tree.{Tree, Check, Ask, Fault, Ends, Ending, Finish, Exit, Trap}
+use Rattle.vax_form.specs.PageTable.{IsPageTable}
+use Rattle.vax_form.specs.State.{IsState}
+use Rattle.vax_form.specs.Tree.{Tree, Check, Ask, Fault, Ends, Ending, Finish, Exit, Trap, AnswersTree, Comes, answer, instruction_tree}
 use Rattle.vax_form.specs.declared.instr.Instr.{Instr}
 use Rattle.vax_form.specs.declared.operation.Operation.{Operation}
 use Rattle.vax_form.specs.declared.pages.Pages.{Pages}
 use Rattle.vax_form.specs.declared.state.Flags.{Flags}
 use Rattle.vax_form.specs.declared.state.VaxState.{VaxState}
 use Rattle.vax_long.specs.Instructions.{any_script_of}
-use Rattle.vax_form.specs.Tree.{instruction_tree}
 use Rattle.cc_liveness.specs.declared.uses.CodeUse.{CodeUse}
 use Rattle.vax_form.specs.Codes.{Code, holds}
 use Rattle.cc_liveness.specs.Uses.{code_use_of}
@@ -66,3 +67,50 @@ AreUsedAs said = (pages : Pages) (thread : ℕ) (instr : Instr) (operation : Ope
 
 abbrev pub CodesAreUsed : Type 0
 CodesAreUsed = AreUsedAs code_use_of
+
+-- ---- and it is said to do no more than it does
+
+-- An instruction of the opcode, and two states that differ in the one code alone, from which its trees aren't alike.
+pub record TellsApart (used : CodeUse) (opcode : ℕ) (code : Code) : Type 0 where
+  pub pages : Pages
+  pub is_table : IsPageTable pages
+  pub thread : ℕ
+  pub instr : Instr
+  pub has_opcode : instr.opcode ≡ opcode
+  pub one : VaxState
+  pub other : VaxState
+  pub is_state : IsState one × IsState other
+  pub same : SameButCodes one other
+  pub others : (o : Code) → ¬ (o ≡ code) → holds o (codes_in one.psw) ≡ holds o (codes_in other.psw)
+  pub apart : ¬ Alike (EndAlike used instr.after one other)
+      (instruction_tree pages (any_script_of instr thread) one) (instruction_tree pages (any_script_of instr thread) other)
+
+-- each code that an operation is said to read has an effect
+abbrev pub HaveEffect : (said : Operation → CodeUse) → Type 0
+HaveEffect said = (opcode : ℕ) (operation : Operation) (code : Code)
+    → operation_at opcode ≡ Some operation → holds code (said operation).reads ≡ true → TellsApart (said operation) opcode code
+
+abbrev pub CodesReadHaveEffect : Type 0
+CodesReadHaveEffect = HaveEffect code_use_of
+
+-- An instruction of the opcode, a state, and replies with which it finishes elsewhere than behind itself.
+pub record GoesElsewhere (opcode : ℕ) : Type 0 where
+  pub pages : Pages
+  pub is_table : IsPageTable pages
+  pub thread : ℕ
+  pub instr : Instr
+  pub has_opcode : instr.opcode ≡ opcode
+  pub before : VaxState
+  pub is_state : IsState before
+  pub replies : List ℕ
+  pub answers : AnswersTree (instruction_tree pages (any_script_of instr thread) before) replies
+  pub left : VaxState
+  pub finishes : answer pages (instruction_tree pages (any_script_of instr thread) before) replies ≡ Comes (Finish left) []
+  pub elsewhere : ¬ (left.pc ≡ instr.after)
+
+-- each operation that is said to end may go on elsewhere
+abbrev pub MayGoElsewhere : (said : Operation → CodeUse) → Type 0
+MayGoElsewhere said = (opcode : ℕ) (operation : Operation) → operation_at opcode ≡ Some operation → (said operation).ends ≡ true → GoesElsewhere opcode
+
+abbrev pub EndsGoElsewhere : Type 0
+EndsGoElsewhere = MayGoElsewhere code_use_of

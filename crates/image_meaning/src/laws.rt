@@ -2,6 +2,7 @@
 ghost use Rattle.vax_form.specs.GrammarLaws.{AreBytes};
 ghost use Rattle.image_meaning.specs.CodeUses.{CodesAreUsed};
 ghost use Rattle.image_meaning.specs.Permits.{AnyPermitAllowsFew, MeetsAnyPermit, PermitsAllowFew};
+ghost use Rattle.image_meaning.specs.CodeUses.{CodesAreUsed, CodesReadHaveEffect, EndsGoElsewhere};
 ghost use Rattle.image_meaning.specs.Laws.{TreeAtStaysInRange, MomentsStayInRange, TreeAtFailsByFaults, ServicesAre, CodesWrittenAreTheOperations, VaxMeaningIsSound};
 
 use vax_form::Pages;
@@ -69,4 +70,17 @@ fn code_has_bytes(code: &[u8])
 #[tactic(auto, using(crate::proofs::CodesUsed::codes_are_used))]
 pub fn codes_are_used()
     ensures { CodesAreUsed }
+{}
+
+/// No instruction is said to read a code that has no effect: from some two states that differ in that code alone it does
+/// not do the same.
+#[tactic(auto, using(crate::proofs::CodesRead::codes_read_have_effect))]
+pub fn codes_read_have_effect()
+    ensures { CodesReadHaveEffect }
+{}
+
+/// No instruction is said to end that always goes on behind itself.
+#[tactic(auto, using(crate::proofs::Elsewhere::ends_go_elsewhere))]
+pub fn ends_go_elsewhere()
+    ensures { EndsGoElsewhere }
 {}
