@@ -14,7 +14,7 @@ use Rattle.code_runs.specs.declared.entrances.Entrance.TheVariants.{Nowhere, Els
 use Rattle.code_runs.specs.Entrances.{AreChanged, AreEntrances, NoneStandsAt, StandsAt, also_behind, also_target, entrance, entrance_at, entrance_of, joined_by}
 use Rattle.code_runs.specs.Runs.{AreInOrder, ending_at, instr_at, is_target, joined_at, only}
 use Rattle.code_runs.proofs.Places.{same_place}
-use Rattle.vax_form.specs.Targets.{branch_target, fixed_targets, jump_of, has}
+use Rattle.vax_form.specs.Targets.{branch_target, fixed_targets, call_of, jump_of, has}
 
 same_address : (a b : ℕ) → a ≡ b → nat_eq a b ≡ true
 same_address a b e = grind (arith, nat_tests)
@@ -98,10 +98,12 @@ branches_more operands count d lt =
     ∙ filter_map-append branch_target (take count operands) (get_or operands count d ∷ [])
     ∙ ap (λ (xs : List ℕ). filter_map branch_target (take count operands) ++ xs) (some_target (get_or operands count d) (branch_target (get_or operands count d)) refl)
 
-pub changed_targets : (instrs : List Instr) (a b c : List Entrance) (instr : Instr) → AreChanged instrs (has (filter_map branch_target instr.operands)) also_target a b → AreChanged instrs (has (option_to_list (jump_of instr))) also_target b c
-    → AreChanged instrs (has (fixed_targets instr)) also_target a c
+pub changed_targets : (instrs : List Instr) (a b c d : List Entrance) (instr : Instr) → AreChanged instrs (has (filter_map branch_target instr.operands)) also_target a b → AreChanged instrs (has (option_to_list (jump_of instr))) also_target b c
+    → AreChanged instrs (has (option_to_list (call_of instr))) also_target c d → AreChanged instrs (has (fixed_targets instr)) also_target a d
 unfolding fixed_targets
-changed_targets instrs a b c instr g h = changed_both instrs a b c (filter_map branch_target instr.operands) (option_to_list (jump_of instr)) g h
+changed_targets instrs a b c d instr g h k =
+    changed_both instrs a c d (filter_map branch_target instr.operands ++ option_to_list (jump_of instr)) (option_to_list (call_of instr))
+    (changed_both instrs a b c (filter_map branch_target instr.operands) (option_to_list (jump_of instr)) g h) k
 
 -- ---- one instruction more
 ending_more : (address first : ℕ) (xs : List Instr) (x : Instr) → ending_at address first (xs ++ x ∷ []) ≡ ending_at address first xs ++ cond (eqb x.after address) ((first + length xs) ∷ []) []

@@ -4,10 +4,10 @@ ghost use Rattle.std.specs.List.{filter_map};
 ghost use Rattle.std.specs.Option.{option_to_list};
 ghost use Rattle.code_runs.specs.Runs.{AreInOrder};
 ghost use Rattle.code_runs.specs.Entrances.{AreChanged, AreEntrances, NoneStandsAt, StandsAt, also_behind, also_target, joined_by};
-ghost use Rattle.vax_form.specs.Targets.{branch_target, fixed_targets, jump_of, jump_target, has};
+ghost use Rattle.vax_form.specs.Targets.{branch_target, fixed_targets, has};
 
 use std::alloc::{AllocError, Global};
-use vax_form::{Instr, Operand, Operation, branch_target, fixed_address, operation_of};
+use vax_form::{Instr, Operand, branch_target, call_of, jump_of};
 
 /// From where control comes to an instruction: from behind no other, from behind one alone, or also from elsewhere, since
 /// it is a fixed target or stands behind several.
@@ -49,16 +49,6 @@ pub(crate) fn place_of(instrs: &[Instr], address: u32) -> Option<usize>
     instrs.binary_search_by_key(&address, |instr| instr.at).ok()
 }
 
-#[tactic(auto, unfolding(vax_form::specs::Targets::jump_target))]
-fn jump_target(instr: &Instr, operation: Operation) -> Option<u32>
-    ensures { result ≡ jump_target instr.now operation }
-{
-    match operation {
-        Operation::Jump | Operation::JumpToSubroutine => fixed_address(&instr.operands[0]),
-        _ => None,
-    }
-}
-
 /// Notes an instruction that ends at the address.
 fn note_end(entrances: &mut [Entrance], instrs: &[Instr], address: u32, place: usize)
     requires order { AreInOrder instrs.now }
@@ -95,17 +85,6 @@ fn note_branches(entrances: &mut [Entrance], instrs: &[Instr], operands: &[Opera
     }
 }
 
-/// The address of the instruction's jump.
-#[tactic(auto, unfolding(vax_form::specs::Targets::jump_of))]
-fn jump_of(instr: &Instr) -> Option<u32>
-    ensures { result ≡ jump_of instr.now }
-{
-    match operation_of(instr.opcode) {
-        Some(operation) => jump_target(instr, operation),
-        None => None,
-    }
-}
-
 /// Notes the fixed targets of an instruction.
 fn note_targets(entrances: &mut [Entrance], instrs: &[Instr], instr: &Instr)
     requires order { AreInOrder instrs.now }
@@ -114,6 +93,7 @@ fn note_targets(entrances: &mut [Entrance], instrs: &[Instr], instr: &Instr)
 {
     note_branches(entrances, instrs, &instr.operands);
     note_target(entrances, instrs, jump_of(instr));
+    note_target(entrances, instrs, call_of(instr));
 }
 
 /// Notes where each instruction ends, and its fixed targets.
