@@ -1,17 +1,11 @@
 -- One more step of scripts that go through strings.
 use Rattle.std.proofs.Common.{◌≡◌, ℕ, suc, ◌==◌, Bool, true, false, refl, sym, ◌∙◌, arith}
 use Rattle.std.proofs.lemmas.Grind.{common_steps}
-use Rattle.vax_form.specs.Pages.{is_allowed, first_bad}
 use Rattle.vax_form.specs.Script.{Moment, Script, ◌>>◌, pure, change, run, then_do, when◌then◌else◌}
 use Rattle.vax_form.specs.declared.instr.Width.TheVariants.{Byte}
-use Rattle.vax_form.specs.declared.pages.Pages.{Pages}
 use Rattle.vax_meaning.specs.Memory.{read_part, write_part}
 use Rattle.vax_meaning.specs.Moves.{with_comparison}
 use Rattle.vax_long.specs.Strings.{beside, move_bytes, fill_bytes, fetch_byte, compare_bytes, stops_at, scan_bytes}
-
-pub first_step : (whole rest address : ℕ) (pages : Pages) (write : Bool) → whole ≡ suc rest → is_allowed pages address write ≡ true
-    → first_bad pages write (beside false address) rest ≡ first_bad pages write address whole
-first_step whole rest address pages write is allowed = rw is (rw allowed refl)
 
 moved : (down : Bool) (rest from to : ℕ) (moment : Moment) → run (move_bytes down (suc rest) from to) moment
     ≡ then_do (run (read_part from 1) moment) (λ byte t. then_do (run (write_part to 1 byte) t) (λ _. run (move_bytes down rest (beside down from) (beside down to))))

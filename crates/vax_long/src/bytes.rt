@@ -1,11 +1,12 @@
 // The bytes of strings.
-ghost use Rattle.std.specs.Prelude.{◌≡◌, ◌<◌};
+ghost use Rattle.std.specs.Prelude.{◌≡◌, ◌<◌, ◌-◌, ◌%◌, min};
+ghost use Rattle.vax_form.specs.PageTable.{page_size};
 ghost use Rattle.vax_form.specs.Pages.{first_bad};
 ghost use Rattle.vax_meaning.specs.Play.{Plays, Uses};
 ghost use Rattle.vax_meaning.specs.Memory.{check, read_part, write_part};
 ghost use Rattle.vax_long.specs.Strings.{beyond, beside, fetch_byte};
 
-use vax_form::{Exception, Pages, RefKind, Reference, Stop};
+use vax_form::{Exception, PAGE_SIZE, Pages, RefKind, Reference, Stop};
 use vax_meaning::{Cursor, check};
 
 /// So many bytes beyond an address.
@@ -26,17 +27,28 @@ pub fn beside(down: bool, address: u32) -> u32
     }
 }
 
+/// How many of so many bytes from the address on stand in its page.
+fn count_in_page(address: u32, count: u16) -> u16
+    ensures { result ≡ min count (page_size - address % page_size) }
+{
+    let room = PAGE_SIZE - address % PAGE_SIZE;
+    count.min(room as u16)
+}
+
 /// The first of so many bytes from the address on, which goes on at 0 behind the last, that may not be read or, where
-/// `write` is, written; none where all may.
+/// `write` is, written; none where all may. The bytes of a page may be used alike.
 pub fn first_bad(pages: &Pages, address: u32, count: u16, write: bool) -> Option<u32>
     ensures { result ≡ first_bad pages.now write address count }
 {
     let mut place = address;
-    for _ in 0..count {
+    let mut left = count;
+    while left > 0 {
         if !pages.allowed(place, write) {
             return Some(place);
         }
-        place = beside(false, place);
+        let here = count_in_page(place, left);
+        place = beyond(place, here);
+        left -= here;
     }
     None
 }
