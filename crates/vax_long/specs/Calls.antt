@@ -20,11 +20,15 @@ use Rattle.vax_long.specs.Registers.{is_in_mask, check_push, check_registers, pu
 abbrev pub aligned : ℕ → ℕ
 aligned address = address / 4 * 4
 
--- the entry mask at a procedure's address; its bits 13:12 are 0
+-- bits 13:12 of an entry mask are 0
+abbrev pub is_entry_mask : (mask : ℕ) → Bool
+is_entry_mask mask = mask / 4096 % 4 == 0
+
+-- the entry mask at a procedure's address
 unfoldable pub entry_mask : (destination : ℕ) → Script ℕ
 entry_mask destination = do
   mask ← code_word destination
-  when mask / 4096 % 4 == 0 then pure mask else fail ReservedOperand
+  when is_entry_mask mask then pure mask else fail ReservedOperand
 
 -- checks the pushes of a call frame from that top on
 unfoldable pub check_frame : (mask top : ℕ) → Script (Unit {0})

@@ -2,7 +2,7 @@
 ghost use Rattle.std.specs.Prelude.{◌≡◌, ◌<◌};
 ghost use Rattle.vax_form.specs.Script.{changed};
 ghost use Rattle.vax_meaning.specs.Play.{Plays, Uses, view};
-ghost use Rattle.vax_long.specs.Calls.{aligned, entry_mask, check_frame, frame_status, push_frame, entry_psw, enter, call_general, call_stack, with_released, release_arguments, leave, return_from_procedure};
+ghost use Rattle.vax_long.specs.Calls.{aligned, is_entry_mask, entry_mask, check_frame, frame_status, push_frame, entry_psw, enter, call_general, call_stack, with_released, release_arguments, leave, return_from_procedure};
 
 use crate::registers::{
     check_push, check_registers, is_in_mask, pop, pop_register, pop_registers, push_checked,
@@ -21,14 +21,21 @@ pub fn aligned(address: u32) -> u32
     address / 4 * 4
 }
 
-/// The entry mask at a procedure's address; its bits 13:12 are 0.
+/// Whether bits 13:12 of an entry mask are 0.
+pub fn is_entry_mask(mask: u32) -> bool
+    ensures { result ≡ is_entry_mask mask }
+{
+    mask / 4096 % 4 == 0
+}
+
+/// The entry mask at a procedure's address.
 #[tactic(auto, unfolding(crate::specs::Calls::entry_mask))]
 pub fn entry_mask(cursor: &mut Cursor, destination: u32) -> Result<u32, Stop>
     ensures plays { Plays (entry_mask destination) cursor.old result cursor.new }
     ensures few { Uses 0 cursor.old result cursor.new }
 {
     let mask = code_word(cursor, destination)?;
-    if mask / 4096 % 4 == 0 {
+    if is_entry_mask(mask) {
         Ok(mask)
     } else {
         Err(Stop::Fails(Exception::ReservedOperand))

@@ -5,6 +5,7 @@
 
 mod bytes;
 mod calls;
+mod forms;
 mod indexing;
 mod instructions;
 mod meaning;
@@ -16,6 +17,7 @@ mod standing;
 
 pub use bytes::{beside, beyond, check_string, fetch_byte, first_bad, read_byte, write_byte};
 pub use calls::{call_general, call_stack, return_from_procedure};
+pub use forms::long_form;
 pub use indexing::index;
 pub use instructions::{long_body, long_operation_of, long_operation_run};
 pub use meaning::next_long;
