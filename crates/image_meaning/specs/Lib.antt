@@ -1,5 +1,4 @@
 pub mod Meant
 pub mod Laws
 pub mod CodeUses
-pub mod Written
 pub mod Permits

@@ -2,7 +2,7 @@
 use Rattle.std.specs.Prelude.{ℕ, ◌%◌, ◌==◌, ◌&&◌, ◌||◌, Bool, true, false, Option, Some, None, if◌then◌else◌}
 use Rattle.vax_form.specs.Operation.{operation_at}
 use Rattle.vax_form.specs.Pages.{code_byte_at}
-use Rattle.image_meaning.specs.Written.{written_bytes}
+use Rattle.vax_form.specs.Written.{written_bytes}
 use Rattle.vax_form.specs.declared.operation.Operation.{Operation}
 use Rattle.vax_form.specs.declared.pages.Pages.{Pages}
 use Rattle.vax_form.specs.declared.state.Reference.{Reference}

@@ -1,8 +1,7 @@
 //! Laws of what instructions do, for the proofs of the crates above. Their functions do nothing.
 ghost use Rattle.vax_form.specs.GrammarLaws.{AreBytes};
-ghost use Rattle.image_meaning.specs.CodeUses.{CodesAreUsed};
-ghost use Rattle.image_meaning.specs.Permits.{AnyPermitAllowsFew, MeetsAnyPermit, PermitsAllowFew};
 ghost use Rattle.image_meaning.specs.CodeUses.{CodesAreUsed, CodesReadHaveEffect, EndsGoElsewhere};
+ghost use Rattle.image_meaning.specs.Permits.{AnyPermitAllowsFew, MeetsAnyPermit, PermitsAllowFew};
 ghost use Rattle.image_meaning.specs.Laws.{TreeAtStaysInRange, MomentsStayInRange, TreeAtFailsByFaults, ServicesAre, CodesWrittenAreTheOperations, VaxMeaningIsSound};
 
 use vax_form::Pages;
