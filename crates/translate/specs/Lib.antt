@@ -1,3 +1,4 @@
 pub mod Compiled
 pub mod Mapped
 pub mod Refusal
+pub mod Translated

@@ -7,22 +7,22 @@ use Rattle.memory_core.specs.Contents.{output_of}
 use Rattle.report_text.specs.Generated.{generated_image}
 use Rattle.system_model.specs.Processors.{Processor}
 use Rattle.command_words.specs.Commands.{CommandValue, run, translate, list, generate}
-use Rattle.vest_files.specs.Decided.{Decision}
+use Rattle.vest_stops.specs.Decided.{Decision}
 use Rattle.vest_files.specs.Loading.{StopsAtImageFile, StopsAtLoad, StopsAtTranslatedFile, is_translated}
-use Rattle.vest_files.specs.Status.{status_of, status_of_done}
+use Rattle.vest_stops.specs.Status.{status_of, status_of_done}
 use Rattle.vest_files.specs.Translate.{StopsTranslate}
-use Rattle.vest_files.specs.declared.status.Done.{Done}
-use Rattle.vest_files.specs.declared.status.Done.TheVariants as dones
-use Rattle.vest_files.specs.declared.status.Status.{Status}
-use Rattle.vest_files.specs.declared.status.Status.TheVariants as status
-use Rattle.vest_files.specs.declared.stop.Stop.{Stop}
-use Rattle.vest_files.specs.declared.stop.Stop.TheVariants.{Absent, Refused, ReadFault, TooLong, WantOfMemory}
+use Rattle.vest_stops.specs.declared.status.Done.{Done}
+use Rattle.vest_stops.specs.declared.status.Done.TheVariants as dones
+use Rattle.vest_stops.specs.declared.status.Status.{Status}
+use Rattle.vest_stops.specs.declared.status.Status.TheVariants as status
+use Rattle.vest_stops.specs.declared.stop.Stop.{Stop}
+use Rattle.vest_stops.specs.declared.stop.Stop.TheVariants.{Absent, Refused, ReadFault, TooLong, WantOfMemory}
 use Rattle.vest_runs.specs.Delivery.{Delivers}
 use Rattle.vest_runs.specs.Generate.{lines_of}
 use Rattle.vest_runs.specs.Kept.{KeptValue}
-use Rattle.vest_runs.specs.Lent.{Lent}
+use Rattle.vest_cli.specs.Lent.{Lent}
 use Rattle.vest_runs.specs.Keeping.{processors_of, set_up_of}
-use Rattle.vest_runs.specs.Run.{StopsRun}
+use Rattle.vest_cli.specs.Run.{StopsRun}
 use Rattle.vest_cli.specs.Decided.{IsOrFault, IsOrWant, NoneFailed, Stood}
 use Rattle.vest_cli.specs.Vest.{Does, Ends, Stops, StopsAt, done, stopped, unspelled}
 

@@ -1,15 +1,15 @@
 -- What the meaning of a call says of its status.
 use Rattle.std.proofs.Common.{◌≡◌, ◌≢◌, Option, Some, refl, sym, subst}
 use Rattle.command_words.specs.Commands.{CommandValue, run, translate, list, generate}
-use Rattle.vest_files.specs.Decided.{Decision, goes_on, StopsAsDecided}
-use Rattle.vest_files.specs.Status.{status_of, status_of_done}
-use Rattle.vest_files.specs.declared.status.Done.{Done}
-use Rattle.vest_files.specs.declared.status.Done.TheVariants as dones
-use Rattle.vest_files.specs.declared.status.Status.TheVariants as status
-use Rattle.vest_files.specs.declared.stop.Stop.{Stop}
-use Rattle.vest_files.specs.declared.stop.Stop.TheVariants.{Absent, Refused, ReadFault, TooLong, WantOfMemory}
+use Rattle.vest_stops.specs.Decided.{Decision, goes_on, StopsAsDecided}
+use Rattle.vest_stops.specs.Status.{status_of, status_of_done}
+use Rattle.vest_stops.specs.declared.status.Done.{Done}
+use Rattle.vest_stops.specs.declared.status.Done.TheVariants as dones
+use Rattle.vest_stops.specs.declared.status.Status.TheVariants as status
+use Rattle.vest_stops.specs.declared.stop.Stop.{Stop}
+use Rattle.vest_stops.specs.declared.stop.Stop.TheVariants.{Absent, Refused, ReadFault, TooLong, WantOfMemory}
 use Rattle.vest_runs.specs.Kept.{KeptValue}
-use Rattle.vest_runs.specs.Lent.{Lent}
+use Rattle.vest_cli.specs.Lent.{Lent}
 use Rattle.vest_cli.specs.Decided.{IsOrFault}
 use Rattle.vest_cli.specs.Vest.{Does}
 

@@ -8,16 +8,16 @@ use Rattle.command_words.specs.declared.WordsFault.TheVariants as faults
 use Rattle.vt_outside.specs.Desk.{DeskMeaning, Files}
 use Rattle.vt_outside.specs.Sink.{SinkMeaning}
 use Rattle.vt_outside.specs.Source.{SourceMeaning}
-use Rattle.vest_files.specs.Decided.{Decision, IsDecided}
-use Rattle.vest_files.specs.Line.{line_of}
-use Rattle.vest_files.specs.declared.status.Done.{Done}
-use Rattle.vest_files.specs.declared.status.Status.{Status}
-use Rattle.vest_files.specs.declared.status.Status.TheVariants as status
-use Rattle.vest_files.specs.declared.stop.Stop.{Stop}
-use Rattle.vest_files.specs.declared.stop.Stop.TheVariants.{WantOfMemory}
+use Rattle.vest_stops.specs.Decided.{Decision, IsDecided}
+use Rattle.vest_stops.specs.Line.{line_of}
+use Rattle.vest_stops.specs.declared.status.Done.{Done}
+use Rattle.vest_stops.specs.declared.status.Status.{Status}
+use Rattle.vest_stops.specs.declared.status.Status.TheVariants as status
+use Rattle.vest_stops.specs.declared.stop.Stop.{Stop}
+use Rattle.vest_stops.specs.declared.stop.Stop.TheVariants.{WantOfMemory}
 use Rattle.vest_runs.specs.Kept.{KeptValue, nothing_kept}
-use Rattle.vest_runs.specs.Lent.{Lent, lent}
-use Rattle.vest_runs.specs.Leaving.{LeavesAll}
+use Rattle.vest_cli.specs.Lent.{Lent, lent}
+use Rattle.vest_cli.specs.Leaving.{LeavesAll}
 use Rattle.vest_cli.specs.Decided.{DecidesCall, DecidesOn, IsOrFault}
 use Rattle.vest_cli.specs.Stopping.{Concludes, RefusesWords, Says}
 use Rattle.vest_cli.specs.Vest.{Does, Ends, Stops, StopsAt, done, stopped, unspelled}

@@ -3,3 +3,5 @@ mod Completing
 mod Deciding
 mod Ending
 mod Obeying
+mod RunDecided
+mod RunStopping

@@ -6,17 +6,17 @@ use Rattle.command_words.specs.Commands.{CommandValue}
 use Rattle.vt_outside.specs.Desk.{DeskMeaning, Files}
 use Rattle.vt_outside.specs.Sink.{SinkMeaning}
 use Rattle.vt_outside.specs.Source.{SourceMeaning}
-use Rattle.vest_files.specs.Decided.{Decision, goes_on, IsDecided, StopsAsDecided}
+use Rattle.vest_stops.specs.Decided.{Decision, goes_on, IsDecided, StopsAsDecided}
 use Rattle.vest_files.specs.List.{Lists}
-use Rattle.vest_files.specs.Stages.{SameFiles}
+use Rattle.vest_stops.specs.Files.{SameFiles}
 use Rattle.vest_files.specs.Translate.{Translates}
-use Rattle.vest_files.specs.declared.status.Done.{Done}
-use Rattle.vest_files.specs.declared.stop.Stop.{Stop}
-use Rattle.vest_files.specs.declared.stop.Stop.TheVariants.{WantOfMemory}
-use Rattle.vest_runs.specs.Generate.{Generates}
+use Rattle.vest_stops.specs.declared.status.Done.{Done}
+use Rattle.vest_stops.specs.declared.stop.Stop.{Stop}
+use Rattle.vest_stops.specs.declared.stop.Stop.TheVariants.{WantOfMemory}
+use Rattle.vest_cli.specs.Generate.{Generates}
 use Rattle.vest_runs.specs.Kept.{KeptValue, nothing_kept}
-use Rattle.vest_runs.specs.Lent.{Lent, lent}
-use Rattle.vest_runs.specs.Leaving.{LeavesAll}
+use Rattle.vest_cli.specs.Lent.{Lent, lent}
+use Rattle.vest_cli.specs.Leaving.{LeavesAll}
 use Rattle.vest_cli.specs.Decided.{DecidesOn}
 use Rattle.vest_cli.specs.Vest.{Does, OnlyGenerates, OnlyLists, OnlyTranslates, StopsAt, StopsGenerate}
 

@@ -3,13 +3,13 @@ use Rattle.std.specs.Prelude.{◌≡◌, ◌<◌, ℕ, List, Option, None, Some}
 use Rattle.command_words.specs.Commands.{CommandValue, generate, list, run, translate}
 use Rattle.vt_outside.specs.Causes.{one_more}
 use Rattle.vt_outside.specs.Desk.{Files}
-use Rattle.vest_files.specs.Decided.{Decision, stops, goes_on}
+use Rattle.vest_stops.specs.Decided.{Decision, stops, goes_on}
 use Rattle.vest_files.specs.Loading.{DecidesLoad}
 use Rattle.vest_files.specs.Translate.{DecidesTranslate}
-use Rattle.vest_files.specs.declared.status.Status.{Status}
-use Rattle.vest_files.specs.declared.status.Status.TheVariants as status
-use Rattle.vest_runs.specs.Lent.{Lent}
-use Rattle.vest_runs.specs.Run.{DecidesRun}
+use Rattle.vest_stops.specs.declared.status.Status.{Status}
+use Rattle.vest_stops.specs.declared.status.Status.TheVariants as status
+use Rattle.vest_cli.specs.Lent.{Lent}
+use Rattle.vest_cli.specs.Run.{DecidesRun}
 
 -- what a command comes to; what is not told decides nothing, and on `generate` nothing has to be told
 abbrev pub DecidesOn : CommandValue → Option Files → (input : Option (List ℕ)) → Decision → Type 0

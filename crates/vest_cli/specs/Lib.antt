@@ -1,4 +1,9 @@
 pub mod Words
+pub mod Lent
+pub mod Leaving
 pub mod Stopping
+pub mod Made
+pub mod Run
+pub mod Generate
 pub mod Vest
 pub mod Decided

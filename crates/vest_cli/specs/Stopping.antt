@@ -5,16 +5,16 @@ use Rattle.vt_outside.specs.Taking.{TookAll, TookSome}
 use Rattle.command_words.specs.declared.WordsFault.{WordsFault}
 use Rattle.command_words.specs.declared.WordsFault.TheVariants.{Usage}
 use Rattle.command_words.specs.declared.WordsFault.TheVariants as faults
-use Rattle.vest_files.specs.Line.{line_of}
-use Rattle.vest_files.specs.Stages.{SameFiles}
-use Rattle.vest_files.specs.Status.{status_of, status_of_done}
-use Rattle.vest_files.specs.declared.status.Done.{Done}
-use Rattle.vest_files.specs.declared.status.Status.{Status}
-use Rattle.vest_files.specs.declared.status.Status.TheVariants as status
-use Rattle.vest_files.specs.declared.stop.Stop.{Stop}
-use Rattle.vest_files.specs.declared.stop.Stop.TheVariants.{WantOfMemory}
+use Rattle.vest_stops.specs.Line.{line_of}
+use Rattle.vest_stops.specs.Files.{SameFiles}
+use Rattle.vest_stops.specs.Status.{status_of, status_of_done}
+use Rattle.vest_stops.specs.declared.status.Done.{Done}
+use Rattle.vest_stops.specs.declared.status.Status.{Status}
+use Rattle.vest_stops.specs.declared.status.Status.TheVariants as status
+use Rattle.vest_stops.specs.declared.stop.Stop.{Stop}
+use Rattle.vest_stops.specs.declared.stop.Stop.TheVariants.{WantOfMemory}
 use Rattle.vest_runs.specs.Kept.{KeptValue, nothing_kept}
-use Rattle.vest_runs.specs.Lent.{Lent}
+use Rattle.vest_cli.specs.Lent.{Lent}
 
 -- the report took the line, or failed in it
 abbrev pub Says : (line : List ℕ) → (old new : SinkMeaning) → Type 0

@@ -3,21 +3,21 @@ use Rattle.std.specs.Prelude.{◌≡◌, ℕ, List, Option, None, Some}
 use Rattle.command_words.specs.Commands.{CommandValue, generate, list, run, translate}
 use Rattle.vt_outside.specs.Desk.{DeskMeaning}
 use Rattle.vt_outside.specs.Source.{SourceMeaning}
-use Rattle.vest_files.specs.Line.{line_of}
+use Rattle.vest_stops.specs.Line.{line_of}
 use Rattle.vest_files.specs.List.{Lists}
 use Rattle.vest_files.specs.Loading.{StopsAtLoad}
-use Rattle.vest_files.specs.Stages.{SameFiles}
-use Rattle.vest_files.specs.Status.{status_of, status_of_done}
+use Rattle.vest_stops.specs.Files.{SameFiles}
+use Rattle.vest_stops.specs.Status.{status_of, status_of_done}
 use Rattle.vest_files.specs.Translate.{StopsTranslate, Translates}
-use Rattle.vest_files.specs.declared.status.Done.{Done}
-use Rattle.vest_files.specs.declared.status.Status.{Status}
-use Rattle.vest_files.specs.declared.status.Status.TheVariants as status
-use Rattle.vest_files.specs.declared.stop.Stop.{Stop}
-use Rattle.vest_files.specs.declared.stop.Stop.TheVariants.{WantOfMemory}
-use Rattle.vest_runs.specs.Generate.{Generates}
+use Rattle.vest_stops.specs.declared.status.Done.{Done}
+use Rattle.vest_stops.specs.declared.status.Status.{Status}
+use Rattle.vest_stops.specs.declared.status.Status.TheVariants as status
+use Rattle.vest_stops.specs.declared.stop.Stop.{Stop}
+use Rattle.vest_stops.specs.declared.stop.Stop.TheVariants.{WantOfMemory}
+use Rattle.vest_cli.specs.Generate.{Generates}
 use Rattle.vest_runs.specs.Kept.{KeptValue, nothing_kept}
-use Rattle.vest_runs.specs.Lent.{Lent}
-use Rattle.vest_runs.specs.Run.{Runs, StopsRun}
+use Rattle.vest_cli.specs.Lent.{Lent}
+use Rattle.vest_cli.specs.Run.{Runs, StopsRun}
 use Rattle.vest_cli.specs.Stopping.{Stopped, usage_line}
 
 -- neither desk nor input was touched

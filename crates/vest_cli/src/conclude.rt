@@ -1,12 +1,12 @@
 // How a call ends: its status, and the line that says why it stopped.
 ghost use Rattle.std.specs.Prelude.{◌≡◌};
-ghost use Rattle.vest_files.specs.Line.{line_of};
-ghost use Rattle.vest_files.specs.Status.{status_of};
+ghost use Rattle.vest_stops.specs.Line.{line_of};
+ghost use Rattle.vest_stops.specs.Status.{status_of};
 ghost use Rattle.vest_cli.specs.Stopping.{Concludes, RefusesWords, Says, usage_line};
 
 use command_words::WordsFault;
 use report_text::Line;
-use vest_files::{Done, Status, Stop};
+use vest_stops::{Done, Status, Stop};
 use vt_outside::{Sink, write_all};
 
 /// The status, and where the command stopped, why.

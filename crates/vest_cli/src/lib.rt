@@ -1,14 +1,26 @@
 //! The top call: it obeys one command line, over what it is lent of the outside.
 //!
 //! A call whose words spell no command says so (status 1). A call stops before it has written anything (statuses 2, 3, 6,
-//! 8 and 9) and says why in one line of the report, or it does what its command says: `vest_runs` has the commands that run
-//! something, and `vest_files` those that run nothing. `specs/Vest.antt` has the whole meaning.
+//! 8 and 9) and says why in one line of the report, or it does what its command says: `running` and `generating` have the commands that
+//! run something, and `vest_files` those that run nothing.
+//!
+//! Those that run something take all that they need first (`tasks`, `execute`): the image with its translation, the input, the
+//! memory, the code made ready. Then the image's threads run at once over one memory (`threads`), each in Alpha code where that is
+//! mapped and interpreted where not; output and report go out, and the run is kept. `specs/Vest.antt` has the whole meaning,
+//! `specs/Run.antt` and `specs/Generate.antt` that of the two commands.
 #![tactic(auto)]
 
 mod conclude;
+mod execute;
+mod generating;
+mod running;
+mod tasks;
+mod threads;
 mod top;
 
 pub use conclude::refuse;
+pub use generating::generate;
+pub use running::run;
 pub use top::vest;
-pub use vest_files::{Status, Stop};
 pub use vest_runs::Kept;
+pub use vest_stops::{Status, Stop};

@@ -1,21 +1,24 @@
 // The top call.
 ghost use Rattle.std.specs.Prelude.{◌≡◌, ◌⊎◌, IfOk, IfErr, None};
 ghost use Rattle.command_words.specs.Answers.{command_value};
-ghost use Rattle.vest_files.specs.Decided.{Decision, IsDecided};
-ghost use Rattle.vest_runs.specs.Lent.{lent};
+ghost use Rattle.vest_stops.specs.Decided.{Decision, IsDecided};
+ghost use Rattle.vest_cli.specs.Lent.{lent};
 ghost use Rattle.vest_runs.specs.Kept.{nothing_kept};
-ghost use Rattle.vest_runs.specs.Leaving.{LeavesAll};
+ghost use Rattle.vest_cli.specs.Leaving.{LeavesAll};
 ghost use Rattle.vest_cli.specs.Words.{CanBeObeyed, spelled};
 ghost use Rattle.vest_cli.specs.Decided.{DecidesCall, DecidesOn, IsOrFault, IsOrWant, NoneFailed};
 ghost use Rattle.vest_cli.specs.Vest.{Does, Ends, StopsAt};
 
 use crate::conclude::{conclude, refuse_words};
+use crate::generating::generate;
+use crate::running::run;
 use command_words::{Command, read_words};
 use std::alloc::Global;
 use std::sync::Wait;
 use std::thread::Threads;
-use vest_files::{Done, Status, Stop, list_file, translate_file};
-use vest_runs::{Kept, generate, run};
+use vest_files::{list_file, translate_file};
+use vest_runs::Kept;
+use vest_stops::{Done, Status, Stop};
 use vt_outside::{Desk, Gate, Sink, Source};
 
 /// Obeys one command line. `words` are the words after the program's name. It may wait, where the image has several threads.

@@ -13,16 +13,17 @@ use Rattle.translated_file.specs.declared.refusal.TranslatedRefusal.{TranslatedR
 use Rattle.flow_discovery.specs.Reach.{most}
 use Rattle.flow_discovery.specs.Starts.{starts}
 use Rattle.block_law.specs.Translations.{Code}
-use Rattle.vest_files.specs.Decided.{Decision, stops, goes_on, IsDecided, StopsAsDecided}
+use Rattle.vest_stops.specs.Decided.{Decision, stops, goes_on, IsDecided, StopsAsDecided}
 use Rattle.vest_files.specs.Loading.{DecidesBytes, DecidesFile, DecidesFlow, DecidesImage, DecidesLoad, DecidesParts, DecidesTail, is_translated}
 use Rattle.vest_files.specs.Loading.{IsOfImage, IsOfTranslated, Loads, StopsAtImageFile, StopsAtLoad, StopsAtTranslatedFile}
-use Rattle.vest_files.specs.Refusal.{RefusalValue}
-use Rattle.vest_files.specs.Stages.{HasParts, IsFile, IsImage, IsTranslated, RefusesFlow, RefusesImage, RefusesParts, RefusesTail, StopsAtFile, StopsWhere}
+use Rattle.vest_stops.specs.Refusal.{RefusalValue}
+use Rattle.vest_files.specs.Stages.{HasParts, IsFile, IsImage, RefusesFlow, RefusesImage, RefusesParts, RefusesTail, StopsAtFile, StopsWhere}
+use Rattle.translate.specs.Translated.{IsTranslated}
 use Rattle.vest_files.specs.Translate.{DecidesTranslate, StopsTranslate}
 use Rattle.vest_files.specs.declared.stages.TheConstants.{FILE_LIMIT}
-use Rattle.vest_files.specs.declared.status.Status.TheVariants as status
-use Rattle.vest_files.specs.declared.stop.Stop.{Stop}
-use Rattle.vest_files.specs.declared.stop.Stop.TheVariants.{Absent, Refused, ReadFault, TooLong, WantOfMemory}
+use Rattle.vest_stops.specs.declared.status.Status.TheVariants as status
+use Rattle.vest_stops.specs.declared.stop.Stop.{Stop}
+use Rattle.vest_stops.specs.declared.stop.Stop.TheVariants.{Absent, Refused, ReadFault, TooLong, WantOfMemory}
 use Rattle.vest_files.proofs.Members.{as_few, as_many}
 
 -- ---- one stage

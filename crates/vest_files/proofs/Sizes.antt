@@ -5,11 +5,11 @@ use Rattle.std.proofs.lemmas.List.{get_or-map, length-map}
 use Rattle.std.proofs.lemmas.List.Elements.{recursion_from_All}
 use Rattle.address_map.specs.Pairs.{AllRise, Pair}
 use Rattle.address_map.proofs.Lookups.{word_at-pair}
-use Rattle.block_law.specs.Translations.{Code, Meaning, Meets}
+use Rattle.block_law.specs.Translations.{Code, Meaning, Meets, Permit}
 use Rattle.image_file.specs.Values.{ImageValue}
 use Rattle.report_text.specs.Listing.{AreWithin}
 use Rattle.translate.proofs.Reached.{is_mapped}
-use Rattle.vest_files.specs.Stages.{IsTranslated}
+use Rattle.translate.specs.Translated.{IsTranslated}
 use Rattle.vest_files.proofs.Members.{not_longer}
 
 addresses_rise : (pairs : List Pair) → AllRise pairs → IsStrictlyIncreasing (map (λ (p : Pair). p.0) pairs)
@@ -30,8 +30,8 @@ few_pairs image hints code is =
     omega (arith, few, count, fewer)
 
 -- each block begins within the words, or behind them
-pub blocks_within : (meaning : Meaning) (code : Code) → Meets meaning code → AreWithin code.words code.map
-blocks_within meaning code meets = recursion_from_All (λ (pair : Pair). pair.1 ≤ length code.words) code.map
+pub blocks_within : (meaning : Meaning) (permit : Permit) (code : Code) → Meets meaning permit code → AreWithin code.words code.map
+blocks_within meaning permit code meets = recursion_from_All (λ (pair : Pair). pair.1 ≤ length code.words) code.map
     (λ k d lt.
     let block = meets.blocks (get_or code.map k d).0 (get_or code.map k d).1 (word_at-pair code.map k d meets.map_rises lt) in
     let ends = block.ends in

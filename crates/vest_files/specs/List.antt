@@ -7,8 +7,8 @@ use Rattle.image_file.specs.Values.{ImageValue}
 use Rattle.block_law.specs.Translations.{Code}
 use Rattle.report_text.specs.Listing.{listing_text}
 use Rattle.vest_files.specs.Loading.{Loads}
-use Rattle.vest_files.specs.declared.status.Done.{Done}
-use Rattle.vest_files.specs.declared.status.Done.TheVariants as done
+use Rattle.vest_stops.specs.declared.status.Done.{Done}
+use Rattle.vest_stops.specs.declared.status.Done.TheVariants as done
 
 -- the sink took the text, or failed in it
 abbrev pub Sends : Done → (text : List ℕ) → (old new : SinkMeaning) → Type 0

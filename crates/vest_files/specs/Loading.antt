@@ -12,11 +12,12 @@ use Rattle.translated_file.specs.declared.refusal.TranslatedRefusal.{TranslatedR
 use Rattle.flow_discovery.specs.Reach.{AreReached, most}
 use Rattle.flow_discovery.specs.Starts.{starts}
 use Rattle.block_law.specs.Translations.{Code}
-use Rattle.vest_files.specs.Decided.{Decision, stops, goes_on}
-use Rattle.vest_files.specs.Stages.{HasParts, IsFile, IsImage, IsTranslated, StopsAtFile, StopsAtImage, StopsAtParts, StopsAtTail, StopsAtTranslation}
+use Rattle.vest_stops.specs.Decided.{Decision, stops, goes_on}
+use Rattle.vest_files.specs.Stages.{HasParts, IsFile, IsImage, StopsAtFile, StopsAtImage, StopsAtParts, StopsAtTail, StopsAtTranslation}
+use Rattle.translate.specs.Translated.{IsTranslated}
 use Rattle.vest_files.specs.declared.stages.TheConstants.{FILE_LIMIT}
-use Rattle.vest_files.specs.declared.status.Status.TheVariants as status
-use Rattle.vest_files.specs.declared.stop.Stop.{Stop}
+use Rattle.vest_stops.specs.declared.status.Status.TheVariants as status
+use Rattle.vest_stops.specs.declared.stop.Stop.{Stop}
 
 -- a translated file by its first four bytes; every other file is a VAX image
 abbrev pub is_translated : List ℕ → Bool

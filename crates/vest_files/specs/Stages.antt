@@ -15,22 +15,15 @@ use Rattle.translated_file.specs.Whole.{AreWhole}
 use Rattle.translated_file.specs.declared.refusal.TranslatedRefusal.{TranslatedRefusal}
 use Rattle.flow_discovery.specs.Reach.{AreTooMany}
 use Rattle.flow_discovery.specs.Starts.{starts}
-use Rattle.block_law.specs.Translations.{Code, Meets}
-use Rattle.image_meaning.specs.Meant.{image_meaning}
-use Rattle.translate.specs.Compiled.{IsTranslation}
-use Rattle.translate.specs.Mapped.{HasMapped}
-use Rattle.translate.specs.Refusal.{AreFew, numbers_of as flow_numbers}
+use Rattle.block_law.specs.Translations.{Code}
+use Rattle.translate.specs.Refusal.{numbers_of as flow_numbers}
+use Rattle.translate.specs.Translated.{IsTranslated}
 use Rattle.translate.specs.declared.refusal.TranslateRefusal.TheVariants.{Flow as TooMuch}
 use Rattle.report_text.specs.declared.refused.Subject.TheVariants as subjects
-use Rattle.vest_files.specs.Refusal.{RefusalValue, told}
+use Rattle.vest_stops.specs.Refusal.{RefusalValue, told}
 use Rattle.vest_files.specs.declared.stages.TheConstants.{FILE_LIMIT}
-use Rattle.vest_files.specs.declared.stop.Stop.{Stop}
-use Rattle.vest_files.specs.declared.stop.Stop.TheVariants.{Absent, Refused, ReadFault, TooLong, WantOfMemory}
-
--- no file changed, and no write failed
-pub record SameFiles (old new : DeskMeaning) : Type 0 where
-  pub files : new.files ≡ old.files
-  pub write_faults : new.write_faults ≡ old.write_faults
+use Rattle.vest_stops.specs.declared.stop.Stop.{Stop}
+use Rattle.vest_stops.specs.declared.stop.Stop.TheVariants.{Absent, Refused, ReadFault, TooLong, WantOfMemory}
 
 -- ---- the bytes of the file, within the limit; the desk holds them, where it tells its files
 pub record IsFile (files : Option Files) (name bytes : List ℕ) : Type 0 where
@@ -76,15 +69,7 @@ pub record RefusesParts (bytes : List ℕ) (refusal : RefusalValue) : Type 0 whe
 abbrev pub StopsAtParts : Stop → (bytes : List ℕ) → Type 0
 StopsAtParts stop bytes = StopsWhere (RefusesParts bytes) stop
 
--- ---- the translation of an image: what can be reached in it, from its threads, its entries and these hints, is not too
--- much; the code does what the instructions mean, and has just those of the reached ones that have a block
-pub record IsTranslated (image : ImageValue) (hints : List ℕ) (code : Code) : Type 0 where
-  pub few : AreFew image.pages (starts image hints)
-  pub meets : Meets (image_meaning image.pages) code
-  pub mapped : HasMapped image.pages (starts image hints) code
-  -- the only one that an image has with these hints
-  pub is : IsTranslation image.pages (starts image hints) code
-
+-- ---- the translation of an image with these hints
 pub record RefusesFlow (image : ImageValue) (hints : List ℕ) (refusal : RefusalValue) : Type 0 where
   pub count : ℕ
   pub many : AreTooMany image.pages (starts image hints) count

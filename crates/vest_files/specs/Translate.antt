@@ -7,12 +7,12 @@ use Rattle.image_file.specs.Reading.{image_of}
 use Rattle.translated_file.specs.Spelling.{spelling}
 use Rattle.translated_file.specs.declared.limits.TheConstants.{VERSION}
 use Rattle.block_law.specs.Translations.{Code}
-use Rattle.vest_files.specs.Decided.{Decision}
+use Rattle.vest_stops.specs.Decided.{Decision}
 use Rattle.vest_files.specs.Loading.{DecidesFile, DecidesImage, IsOfImage, StopsAtImageFile}
 use Rattle.vest_files.specs.Stages.{IsFile, StopsAtFile}
-use Rattle.vest_files.specs.declared.status.Done.{Done}
-use Rattle.vest_files.specs.declared.status.Done.TheVariants as done
-use Rattle.vest_files.specs.declared.stop.Stop.{Stop}
+use Rattle.vest_stops.specs.declared.status.Done.{Done}
+use Rattle.vest_stops.specs.declared.status.Done.TheVariants as done
+use Rattle.vest_stops.specs.declared.stop.Stop.{Stop}
 
 -- under the name stand the bytes and every other name has what it had; or the write failed, and the desk is as a failed write
 -- leaves it

@@ -7,12 +7,9 @@
 mod listing;
 mod loading;
 mod stages;
-mod status;
-mod stop;
 mod translating;
 
 pub use listing::list_file;
 pub use loading::{Loaded, load};
-pub use status::{Done, Status};
-pub use stop::{Refusal, Stop};
 pub use translating::translate_file;
+pub use vest_stops::{Done, Refusal, Status, Stop};

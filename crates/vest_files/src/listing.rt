@@ -1,18 +1,17 @@
 //! The command `list`.
 ghost use Rattle.std.specs.Prelude.{◌≡◌, IfOk, IfErr};
 ghost use Rattle.report_text.specs.Listing.{AreWithin, listing_text};
-ghost use Rattle.vest_files.specs.Decided.{Decision, IsDecided};
+ghost use Rattle.vest_stops.specs.Decided.{Decision, IsDecided};
 ghost use Rattle.vest_files.specs.List.{Lists, Sends};
 ghost use Rattle.vest_files.specs.Loading.{DecidesLoad, StopsAtLoad};
-ghost use Rattle.vest_files.specs.Stages.{SameFiles};
+ghost use Rattle.vest_stops.specs.Files.{SameFiles};
 
 use crate::loading::load;
-use crate::status::Done;
-use crate::stop::Stop;
 use report_text::listing;
 use std::alloc::Global;
 use system_model::Translation;
 use vax_form::WantOfMemory;
+use vest_stops::{Done, Stop};
 use vt_outside::{Desk, Sink, write_all};
 
 /// Writes the listing of a file's translation: of a VAX image, or of a translated file.

@@ -3,16 +3,18 @@ ghost use Rattle.std.specs.Prelude.{IfOk, IfErr};
 ghost use Rattle.block_law.specs.Translations.{Meets};
 ghost use Rattle.image_file.specs.Whole.{IsWhole};
 ghost use Rattle.image_meaning.specs.Meant.{image_meaning};
-ghost use Rattle.vest_files.specs.Decided.{Decision, IsDecided};
+ghost use Rattle.image_meaning.specs.Permits.{permit_of};
+ghost use Rattle.image_meaning.specs.declared.target.Target.TheVariants.{Original};
+ghost use Rattle.vest_stops.specs.Decided.{Decision, IsDecided};
 ghost use Rattle.vest_files.specs.Loading.{DecidesLoad, IsOfImage, IsOfTranslated, Loads};
 ghost use Rattle.vest_files.specs.Loading.{StopsAtImageFile, StopsAtLoad, StopsAtTranslatedFile};
-ghost use Rattle.vest_files.specs.Stages.{SameFiles};
+ghost use Rattle.vest_stops.specs.Files.{SameFiles};
 
 use crate::stages::{check_tail, image_of, parts_of, read_file, translated};
-use crate::stop::Stop;
 use image_file::Image;
 use std::alloc::Global;
 use system_model::Translation;
+use vest_stops::Stop;
 use vt_outside::Desk;
 
 /// The first bytes of a translated file.
@@ -29,7 +31,7 @@ pub struct Loaded {
 pub fn of_image(alloc: Global, bytes: &[u8]) -> Result<Loaded, Stop>
     ensures ok { IfOk result (λ loaded. IsOfImage bytes.now loaded.image loaded.translation) }
     ensures whole { IfOk result (λ loaded. IsWhole loaded.image) }
-    ensures meets { IfOk result (λ loaded. Meets (image_meaning loaded.image.pages) loaded.translation) }
+    ensures meets { IfOk result (λ loaded. Meets (image_meaning loaded.image.pages) (permit_of Original loaded.image.pages) loaded.translation) }
     ensures err { IfErr result (λ stop. StopsAtImageFile stop bytes.now) }
 {
     let image = image_of(alloc, bytes)?;
@@ -41,7 +43,7 @@ pub fn of_image(alloc: Global, bytes: &[u8]) -> Result<Loaded, Stop>
 fn of_translated(alloc: Global, bytes: &[u8]) -> Result<Loaded, Stop>
     ensures ok { IfOk result (λ loaded. IsOfTranslated bytes.now loaded.image loaded.translation) }
     ensures whole { IfOk result (λ loaded. IsWhole loaded.image) }
-    ensures meets { IfOk result (λ loaded. Meets (image_meaning loaded.image.pages) loaded.translation) }
+    ensures meets { IfOk result (λ loaded. Meets (image_meaning loaded.image.pages) (permit_of Original loaded.image.pages) loaded.translation) }
     ensures err { IfErr result (λ stop. StopsAtTranslatedFile stop bytes.now) }
 {
     let parts = parts_of(alloc, bytes)?;
@@ -58,7 +60,7 @@ fn of_translated(alloc: Global, bytes: &[u8]) -> Result<Loaded, Stop>
 pub fn load<D: Desk>(alloc: Global, desk: &mut D, name: &str) -> Result<Loaded, Stop>
     ensures does { IfOk result (λ loaded. Loads (D.meaning desk.old).files name.now loaded.image loaded.translation) }
     ensures whole { IfOk result (λ loaded. IsWhole loaded.image) }
-    ensures meets { IfOk result (λ loaded. Meets (image_meaning loaded.image.pages) loaded.translation) }
+    ensures meets { IfOk result (λ loaded. Meets (image_meaning loaded.image.pages) (permit_of Original loaded.image.pages) loaded.translation) }
     ensures why { IfErr result (λ stop. StopsAtLoad stop name.now (D.meaning desk.old) (D.meaning desk.new)) }
     ensures stays { SameFiles (D.meaning desk.old) (D.meaning desk.new) }
     ensures decided { (decision : Decision) → DecidesLoad (D.meaning desk.old).files name.now decision → IsDecided result decision }

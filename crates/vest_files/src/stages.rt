@@ -2,16 +2,18 @@
 ghost use Rattle.std.specs.Prelude.{◌≡◌, IfOk, IfErr, OnOk, Ok};
 ghost use Rattle.translated_file.specs.Comparing.{compared};
 ghost use Rattle.translated_file.specs.Whole.{AreWhole};
-ghost use Rattle.vest_files.specs.Stages.{HasParts, IsFile, IsImage, IsTranslated, SameFiles};
+ghost use Rattle.vest_files.specs.Stages.{HasParts, IsFile, IsImage};
+ghost use Rattle.translate.specs.Translated.{IsTranslated};
+ghost use Rattle.vest_stops.specs.Files.{SameFiles};
 ghost use Rattle.vest_files.specs.Stages.{StopsAtFile, StopsAtImage, StopsAtParts, StopsAtTail, StopsAtTranslation};
 
-use crate::stop::{Refusal, Stop};
 use image_file::{Image, ImageRefusal, read_image};
 use report_text::Subject;
 use std::alloc::Global;
 use system_model::Translation;
 use translate::{Target, TranslateRefusal, translate};
 use translated_file::{Parts, TranslatedRefusal, compare, read_parts};
+use vest_stops::{Refusal, Stop};
 use vt_outside::{Desk, DeskRead};
 
 /// The most bytes of a file.

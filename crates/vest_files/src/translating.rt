@@ -3,19 +3,19 @@ ghost use Rattle.std.specs.Prelude.{◌≡◌, IfOk, IfErr, []};
 ghost use Rattle.image_file.specs.Whole.{IsWhole};
 ghost use Rattle.translated_file.specs.Spelling.{spelling};
 ghost use Rattle.translated_file.specs.declared.limits.TheConstants.{VERSION};
-ghost use Rattle.vest_files.specs.Decided.{Decision, IsDecided};
-ghost use Rattle.vest_files.specs.Stages.{IsTranslated, SameFiles};
+ghost use Rattle.vest_stops.specs.Decided.{Decision, IsDecided};
+ghost use Rattle.translate.specs.Translated.{IsTranslated};
+ghost use Rattle.vest_stops.specs.Files.{SameFiles};
 ghost use Rattle.vest_files.specs.Translate.{DecidesTranslate, StopsTranslate, Translates, Writes};
 
 use crate::loading::of_image;
 use crate::stages::read_file;
-use crate::status::Done;
-use crate::stop::Stop;
 use image_file::Image;
 use std::alloc::Global;
 use system_model::Translation;
 use translated_file::write_translated;
 use vax_form::WantOfMemory;
+use vest_stops::{Done, Stop};
 use vt_outside::{Desk, DeskWrite};
 
 /// Writes the translated file of a VAX image, without hints. It reads every file as a VAX image, and reads before it writes.

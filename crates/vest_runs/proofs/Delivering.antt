@@ -6,8 +6,8 @@ use Rattle.std.proofs.lemmas.List.Folds.{list_any_at}
 use Rattle.system_model.specs.Processors.{Processor}
 use Rattle.tie_switch.specs.Processors.{ProcessorValue, processor_of}
 use Rattle.system_model.specs.Interpreted.{has_raised}
-use Rattle.vest_files.specs.declared.status.Done.{Done}
-use Rattle.vest_files.specs.declared.status.Done.TheVariants as done
+use Rattle.vest_stops.specs.declared.status.Done.{Done}
+use Rattle.vest_stops.specs.declared.status.Done.TheVariants as done
 use Rattle.vest_runs.specs.Report.{is_spent, lines_of, report_of, done_by_ends}
 use Rattle.vt_outside.proofs.Taking.{took_both, took_some_first, took_some_second}
 use Rattle.vt_outside.specs.Sink.{SinkMeaning}

@@ -1,7 +1,5 @@
-mod Deciding
 mod Delivering
-mod Outputs
+pub mod Outputs
 mod Progress
-mod Spent
-mod Stopping
+pub mod Spent
 mod Summing

@@ -4,6 +4,7 @@ use Rattle.std.specs.Prelude.{slice_get}
 use Rattle.std.specs.Option.{option_map}
 use Rattle.std.proofs.lemmas.Option.{slice_get-map, slice_get_within}
 use Rattle.alpha_meaning.specs.State.{Regs}
+use Rattle.block_law.specs.Translations.{Permit}
 use Rattle.image_file.specs.Start.{start_state}
 use Rattle.image_file.specs.declared.image.Start.{Start}
 use Rattle.memory_core.specs.declared.entry.Entry.{Entry}
@@ -110,9 +111,9 @@ runs_driven world counts (Some made) driven h = by (runs_from world.threads made
         subst (λ (d : Driven). runs_from world.threads d.made 0 counts ≡ Some d.runs) same is
 
 -- so its processor's steps are few
-few_steps : (setting : Setting) (of : SetUp) (entries : List Entry) (processors : List Processor) → HasHeadline setting of entries processors
+few_steps : (setting : Setting) (permit : Permit) (of : SetUp) (entries : List Entry) (processors : List Processor) → HasHeadline setting permit of entries processors
     → (thread : ℕ) (p : Processor) → slice_get processors thread ≡ Some p → HasFewSteps p (own thread entries)
-few_steps setting of entries processors headline thread p at =
+few_steps setting permit of entries processors headline thread p at =
     let counts = map (λ (q : Processor). q.retired) processors in
     let world = world_of (threads_of setting (starts of.image)) of in
     let there = run_at world.threads headline.history.made counts 0 headline.runs
@@ -140,9 +141,9 @@ module _ (setting : Setting) (of : SetUp) (budget : ℕ) (entries : List Entry) 
   start_of (s ∷ threads) zero lt = (s, refl)
   start_of (s ∷ threads) (suc k) lt = start_of threads k (omega arith)
 
-  pub all_have_cause : (processors : List Processor) → IsLegal setting of budget entries processors → HasHeadline setting of entries processors
+  pub all_have_cause : (permit : Permit) (processors : List Processor) → IsLegal setting of budget entries processors → HasHeadline setting permit of entries processors
       → (thread : ℕ) (p : Processor) → slice_get processors thread ≡ Some p → SpentHasCause budget of.limit entries (length processors) thread p
-  all_have_cause processors legal headline thread p at spent =
+  all_have_cause permit processors legal headline thread p at spent =
       by (of_reached thread (start_state start.0) p (legal.each thread (start_state start.0) p (ap (option_map start_state) start.1) at) spent)
     where
       start : (start : Start) × (slice_get of.image.threads thread ≡ Some start)
@@ -152,5 +153,5 @@ module _ (setting : Setting) (of : SetUp) (budget : ℕ) (entries : List Entry) 
           start_of of.image.threads thread (omega (arith, lt, count))
 
       by : (p.steps ≡ budget) ⊎ (length entries ≡ of.limit) → SpentByBudget budget p (own thread entries) ⊎ SpentByLimit of.limit entries (length processors)
-      by (inl out) = inl (out, let few = few_steps setting of entries processors headline thread p at in omega (arith, few, out))
+      by (inl out) = inl (out, let few = few_steps setting permit of entries processors headline thread p at in omega (arith, few, out))
       by (inr full) = inr (full, let few = headline.few_entries in omega (arith, few, full))

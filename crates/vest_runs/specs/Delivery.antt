@@ -3,8 +3,8 @@ use Rattle.std.specs.Prelude.{◌≡◌, ◌⊎◌, ℕ, List}
 use Rattle.vt_outside.specs.Sink.{SinkMeaning}
 use Rattle.vt_outside.specs.Taking.{TookAll, TookSome}
 use Rattle.system_model.specs.Processors.{Processor}
-use Rattle.vest_files.specs.declared.status.Done.{Done}
-use Rattle.vest_files.specs.declared.status.Done.TheVariants as done
+use Rattle.vest_stops.specs.declared.status.Done.{Done}
+use Rattle.vest_stops.specs.declared.status.Done.TheVariants as done
 use Rattle.vest_runs.specs.Report.{report_of, done_by_ends}
 
 -- the output goes out and then the report of the ends, and the first fault of a sink ends it; else the ends decide

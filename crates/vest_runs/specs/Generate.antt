@@ -1,23 +1,13 @@
--- The command `generate`.
-use Rattle.std.specs.Prelude.{◌+◌, ◌%◌, ◌^◌, ℕ, zero, suc, List, [], length}
+-- What `generate` writes.
+use Rattle.std.specs.Prelude.{◌+◌, ◌%◌, ◌^◌, ℕ, zero, suc, List, length}
 use Rattle.std.specs.Option.{unwrap_or}
-use Rattle.command_words.specs.declared.commands.TheConstants.{DEFAULT_LIMITS}
-use Rattle.vt_outside.specs.Sink.{SinkMeaning}
 use Rattle.image_file.specs.Spelling.{spelling}
-use Rattle.image_file.specs.Whole.{IsWhole}
 use Rattle.memory_core.specs.Contents.{byte_left}
 use Rattle.memory_core.specs.declared.entry.Entry.{Entry}
 use Rattle.memory_core.specs.declared.entry.SetUp.{SetUp}
 use Rattle.block_law.specs.Translations.{Code}
 use Rattle.report_text.specs.Generated.{data_section, generated_image}
 use Rattle.report_text.specs.Generating.{generated_text}
-use Rattle.vest_files.specs.Stages.{IsTranslated}
-use Rattle.vest_files.specs.declared.status.Done.{Done}
-use Rattle.vest_runs.specs.Delivery.{Delivers}
-use Rattle.vest_runs.specs.Keeping.{HasKept, processors_of, set_up_of}
-use Rattle.vest_runs.specs.Kept.{KeptValue}
-
--- ---- what `out` takes
 
 -- the sum of so many bytes from an address on, as a history left them
 unfoldable pub bytes_left : SetUp → List Entry → (first count : ℕ) → ℕ
@@ -32,15 +22,3 @@ memory_sum of history = bytes_left of history data_section.start data_section.si
 abbrev pub lines_of : (number : ℕ) → Code → SetUp → List Entry → List ℕ
 lines_of number code of history =
     generated_text number (length (spelling (generated_image number))) (length code.map) (memory_sum of history)
-
--- ---- the command
-
--- a run was made of the number's image and its translation without hints, on no input, by the default limits, in which
--- threads interpret no addresses but those that are not mapped; and those lines were delivered in the place of an output
-pub record Generates (result : Done) (number : ℕ) (out out' report report' : SinkMeaning) (kept : KeptValue) : Type 0 where
-  pub code : Code
-  pub whole : IsWhole (generated_image number)
-  pub translated : IsTranslated (generated_image number) [] code
-  pub has_kept : HasKept (generated_image number) code [] DEFAULT_LIMITS [] kept
-  pub delivered : Delivers result (lines_of number code (set_up_of (generated_image number) kept) kept.history) (processors_of kept)
-      out out' report report'

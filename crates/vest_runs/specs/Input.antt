@@ -3,10 +3,10 @@ use Rattle.std.specs.Prelude.{◌≡◌, ◌+◌, ℕ, ◌≤◌, List, length, 
 use Rattle.std.specs.Io.KnownBytes.{Consumes, IsAtEnd}
 use Rattle.vt_outside.specs.Causes.{Rose}
 use Rattle.vt_outside.specs.Source.{SourceMeaning}
-use Rattle.vest_files.specs.Decided.{Decision, stops, goes_on}
-use Rattle.vest_files.specs.declared.status.Status.TheVariants as status
-use Rattle.vest_files.specs.declared.stop.Stop.{Stop}
-use Rattle.vest_files.specs.declared.stop.Stop.TheVariants.{ReadFault, TooLong, WantOfMemory}
+use Rattle.vest_stops.specs.Decided.{Decision, stops, goes_on}
+use Rattle.vest_stops.specs.declared.status.Status.TheVariants as status
+use Rattle.vest_stops.specs.declared.stop.Stop.{Stop}
+use Rattle.vest_stops.specs.declared.stop.Stop.TheVariants.{ReadFault, TooLong, WantOfMemory}
 use Rattle.vest_runs.specs.declared.input.TheConstants.{AT_ONCE, INPUT_LIMIT}
 
 -- these bytes are all that the source had left, where it tells them, and nothing is left

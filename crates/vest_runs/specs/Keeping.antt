@@ -4,18 +4,15 @@ use Rattle.command_words.specs.declared.commands.Limits.{Limits}
 use Rattle.image_file.specs.Values.{ImageValue}
 use Rattle.memory_core.specs.declared.entry.SetUp.{SetUp}
 use Rattle.block_law.specs.Translations.{Code}
+use Rattle.image_meaning.specs.Permits.{permit_of}
+use Rattle.image_meaning.specs.declared.target.Target.TheVariants.{Original}
 use Rattle.system_model.specs.Processors.{Processor}
 use Rattle.system_model.specs.Settings.{Setting}
 use Rattle.system_model.specs.declared.translation.Range.{Range}
 use Rattle.tie_switch.specs.Settings.{image_setting}
 use Rattle.tie_switch.specs.Processors.{processor_of}
-use Rattle.run_threads.specs.Runs.{RunningValue}
 use Rattle.vest_runs.specs.Kept.{KeptValue}
 use Rattle.vest_runs.specs.Threads.{HasRun}
-
--- what a run starts with: its history has at most as many entries as the limits allow
-abbrev pub running_of : ImageValue → (input : List ℕ) → Limits → RunningValue
-running_of image input limits = record { set_up = record { image = image; input = input; limit = limits.events; miss = limits.miss }; budget = limits.budget }
 
 -- the memory that the history is of
 abbrev pub set_up_of : ImageValue → KeptValue → SetUp
@@ -38,5 +35,6 @@ pub record HasKept (image : ImageValue) (code : Code) (taken : List ℕ) (limits
   pub budget : kept.budget ≡ limits.budget
   pub limit : kept.limit ≡ limits.events
   pub miss : kept.miss ≡ limits.miss
-  -- the history and the processors are a legal run, in which all threads have ended, and so what the VAX threads do
-  pub has_run : HasRun (setting_of image code kept) (set_up_of image kept) kept.budget kept.history (processors_of kept)
+  -- the history and the processors are a legal run, in which all threads have ended, and so what the VAX threads do, by
+  -- the accesses of the first Alpha processors
+  pub has_run : HasRun (setting_of image code kept) (permit_of Original image.pages) (set_up_of image kept) kept.budget kept.history (processors_of kept)

@@ -1,11 +1,7 @@
-pub mod Lent
 pub mod Kept
-pub mod Leaving
 pub mod Threads
 pub mod Input
 pub mod Report
 pub mod Delivery
 pub mod Keeping
-pub mod Made
-pub mod Run
 pub mod Generate

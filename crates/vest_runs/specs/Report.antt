@@ -5,8 +5,8 @@ use Rattle.system_model.specs.Processors.{Mode, Ended, Processor}
 use Rattle.vax_driven.specs.declared.thread.End.TheVariants.{Spent}
 use Rattle.system_model.specs.Interpreted.{has_raised}
 use Rattle.report_text.specs.Report.{thread_text}
-use Rattle.vest_files.specs.declared.status.Done.{Done}
-use Rattle.vest_files.specs.declared.status.Done.TheVariants as done
+use Rattle.vest_stops.specs.declared.status.Done.{Done}
+use Rattle.vest_stops.specs.declared.status.Done.TheVariants as done
 
 -- the lines of a processor that ended
 abbrev pub lines_by : Mode → Processor → List ℕ

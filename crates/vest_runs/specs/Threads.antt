@@ -3,6 +3,7 @@ use Rattle.std.specs.Prelude.{◌≡◌, ◌⊎◌, ◌≤◌, ◌+◌, ◌*◌,
 use Rattle.std.specs.List.{AllByRecursion}
 use Rattle.alpha_meaning.specs.Pieces.{retry_steps}
 use Rattle.block_law.specs.Rounds.{block_steps}
+use Rattle.block_law.specs.Translations.{Permit}
 use Rattle.memory_core.specs.Contents.{output_of}
 use Rattle.memory_core.specs.Order.{own}
 use Rattle.memory_core.specs.declared.entry.Entry.{Entry}
@@ -32,17 +33,17 @@ abbrev pub SpentHasCause : (budget limit : ℕ) → List Entry → (threads thre
 SpentHasCause budget limit entries threads thread p = is_spent p.mode ≡ true
     → SpentByBudget budget p (own thread entries) ⊎ SpentByLimit limit entries threads
 
--- a history, oldest first, and processors are what the VAX threads do that are driven by its order; and the output is what
--- these put out, which they tell newest first
-pub record AreDriven (setting : Setting) (of : SetUp) (history : List Entry) (processors : List Processor) : Type 0 where
-  pub headline : HasHeadline setting of (reverse history) processors
+-- a history, oldest first, and processors are what the VAX threads do that are driven by its order, by the accesses of a permit;
+-- and the output is what these put out, which they tell newest first
+pub record AreDriven (setting : Setting) (permit : Permit) (of : SetUp) (history : List Entry) (processors : List Processor) : Type 0 where
+  pub headline : HasHeadline setting permit of (reverse history) processors
   pub output : output_of history ≡ reverse (output_after headline.history.made)
 
 -- the history, oldest first, and the processors are a legal run, in which all threads have ended: so they are what the VAX
 -- threads do
-pub record HasRun (setting : Setting) (of : SetUp) (budget : ℕ) (history : List Entry) (processors : List Processor) : Type 0 where
+pub record HasRun (setting : Setting) (permit : Permit) (of : SetUp) (budget : ℕ) (history : List Entry) (processors : List Processor) : Type 0 where
   pub legal : IsLegal setting of budget (reverse history) processors
   pub ended : AllByRecursion (λ (p : Processor). has_ended p.mode ≡ true) processors
   pub spent : (thread : ℕ) (p : Processor) → slice_get processors thread ≡ Some p
       → SpentHasCause budget of.limit (reverse history) (length processors) thread p
-  pub driven : AreDriven setting of history processors
+  pub driven : AreDriven setting permit of history processors

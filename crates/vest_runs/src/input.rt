@@ -3,7 +3,7 @@ ghost use Rattle.std.specs.Prelude.{◌≡◌, IfOk, IfErr, OnOk, []};
 ghost use Rattle.vest_runs.specs.Input.{ReadsAll, StopsAtInput};
 
 use std::alloc::Global;
-use vest_files::Stop;
+use vest_stops::Stop;
 use vt_outside::{Got, Source};
 
 /// The most bytes of input.

@@ -1,23 +1,17 @@
-//! The commands that run something: `run` and `generate`.
+//! What the commands that run something have in common: the input is read, output and report go out, and a run is kept.
 //!
-//! Each takes all that it needs first (`tasks`, `generated`, `execute`): the image with its translation, the input, the memory, the
-//! code made ready.
-//! Then the image's threads run at once over one memory (`threads`), each in Alpha code where that is mapped and interpreted
-//! where not; output and report go out (`deliver`), and the run is kept (`keeping`). A command stops only before its run, and then
-//! it has written nothing. `specs/Run.antt` and `specs/Generate.antt` have the whole meaning, and `specs/Keeping.antt` what is known of a run.
+//! `input` reads the input to its end, `delivery` writes what came of a run, `keeping` keeps it in `kept`, and `generated` makes the lines
+//! that `generate` writes. `specs/Keeping.antt` has what is known of a run that was kept, and `specs/Threads.antt` why a processor is spent.
 #![tactic(auto)]
 
-mod deliver;
-mod execute;
+mod delivery;
 mod generated;
-mod generating;
 mod input;
 mod keeping;
 mod kept;
-mod running;
-mod tasks;
-mod threads;
 
-pub use generating::generate;
+pub use delivery::deliver;
+pub use generated::lines_of;
+pub use input::read_input;
+pub use keeping::keep;
 pub use kept::Kept;
-pub use running::run;

@@ -5,8 +5,8 @@ use Rattle.command_words.specs.Commands.{generate, list, run, translate}
 use Rattle.command_words.specs.declared.numbers.Range.{Range}
 use Rattle.vest_files.specs.Loading.{StopsAtLoad}
 use Rattle.vest_files.specs.Translate.{StopsTranslate}
-use Rattle.vest_runs.specs.Lent.{lent}
-use Rattle.vest_runs.specs.Run.{Runs}
+use Rattle.vest_cli.specs.Lent.{lent}
+use Rattle.vest_cli.specs.Run.{Runs}
 use Rattle.vest_cli.proofs.Obeying.{decided_as, does_as, generate_decided, generate_leaves, generate_stops, input_stays, list_leaves, only_generates, only_lists, only_translates, stops_as, translate_leaves}
 use Rattle.vest_cli.proofs.top.obey.Goals as goal
 

@@ -2,7 +2,7 @@
 use Rattle.std.proofs.Common.{map}
 use Rattle.std.specs.String.{string_bytes}
 use Rattle.command_words.specs.Answers.{command_value}
-use Rattle.vest_runs.specs.Lent.{lent}
+use Rattle.vest_cli.specs.Lent.{lent}
 use Rattle.vest_cli.specs.Words.{spelled}
 use Rattle.vest_cli.proofs.Bounds.{can_be_obeyed}
 use Rattle.vest_cli.proofs.Completing.{complete}

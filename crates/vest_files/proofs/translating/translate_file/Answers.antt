@@ -1,6 +1,6 @@
 -- What `translate` does and why it stops, by its stages.
 use Rattle.std.proofs.Common.{◌≡◌, IfErr, IfOk, ℕ, List, rules, subst, sym}
-use Rattle.vest_files.specs.Decided.{goes_on}
+use Rattle.vest_stops.specs.Decided.{goes_on}
 use Rattle.vest_files.specs.Stages.{IsFile}
 use Rattle.vest_files.specs.Translate.{StopsTranslate}
 use Rattle.vest_files.proofs.Deciding.{translate_decided, translate_goes}

@@ -1,0 +1,26 @@
+-- A run that was made, before it is kept.
+use Rattle.std.specs.Prelude.{◌≡◌, ℕ, List, map}
+use Rattle.command_words.specs.declared.commands.Limits.{Limits}
+use Rattle.image_file.specs.Values.{ImageValue}
+use Rattle.image_meaning.specs.Permits.{permit_of}
+use Rattle.image_meaning.specs.declared.target.Target.TheVariants.{Original}
+use Rattle.tie_switch.specs.Processors.{processor_of}
+use Rattle.tie_switch.specs.Settings.{image_setting}
+use Rattle.vest_cli.specs.declared.execute.Run.{Run}
+use Rattle.vest_cli.specs.declared.execute.Task.{Task}
+use Rattle.run_threads.specs.Runs.{RunningValue}
+use Rattle.vest_runs.specs.Threads.{HasRun}
+
+-- what a run starts with: its history has at most as many entries as the limits allow
+abbrev pub running_of : ImageValue → (input : List ℕ) → Limits → RunningValue
+running_of image input limits = record { set_up = record { image = image; input = input; limit = limits.events; miss = limits.miss }; budget = limits.budget }
+
+-- what a task starts with
+abbrev pub started : Task → RunningValue
+started task = running_of task.loaded.image task.taken.items task.limits
+
+-- its memory is that of the task, and its history and its processors are what the threads did
+pub record HasMade (run : Run) : Type 0 where
+  pub set_up : run.memory.set_up ≡ (started run.task).set_up
+  pub ran : HasRun (image_setting run.task.loaded.image.pages run.task.loaded.translation run.task.ranges.items) (permit_of Original run.task.loaded.image.pages) (started run.task).set_up (started run.task).budget
+      run.memory.history (map processor_of run.processors.items)

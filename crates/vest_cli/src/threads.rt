@@ -1,0 +1,50 @@
+// All threads of an image, to their ends.
+ghost use Rattle.std.specs.Prelude.{◌≡◌, map};
+ghost use Rattle.image_file.specs.Whole.{IsWhole};
+ghost use Rattle.block_law.specs.Translations.{Meets};
+ghost use Rattle.image_meaning.specs.Meant.{image_meaning};
+ghost use Rattle.image_meaning.specs.Permits.{permit_of};
+ghost use Rattle.image_meaning.specs.declared.target.Target.TheVariants.{Original};
+ghost use Rattle.tie_switch.specs.Processors.{processor_of};
+ghost use Rattle.tie_switch.specs.Settings.{image_setting};
+ghost use Rattle.vest_runs.specs.Threads.{HasRun};
+
+use image_file::Image;
+use image_meaning::laws::{page_table_has_bytes, permits, vax_meaning_is_sound};
+use legal_history::laws::{images_are_runs, legal_has_headline};
+use memory_core::MemState;
+use prepared_code::Prepared;
+use run_threads::Running;
+use std::sync::Wait;
+use std::thread::Threads;
+use system_model::{Range, Translation};
+use tie_switch::Processor;
+use vt_outside::Gate;
+
+/// Runs every thread in a thread of its own, over one memory. It takes no memory.
+pub(crate) fn run_all<R: Threads + Wait + Sync, G: Gate + Sync>(
+    rt: &R,
+    running: Running,
+    image: &Image,
+    input: &[u8],
+    translation: &Translation,
+    prepared: &Prepared<'_>,
+    ranges: &[Range],
+    gate: &G,
+) -> (MemState, Vec<Processor>)
+    requires whole { IsWhole image.now }
+    requires image { running.set_up.image ≡ image.now }
+    requires input { running.set_up.input ≡ input.now }
+    requires code { prepared.now.code ≡ translation.now }
+    requires pages { prepared.now.pages ≡ image.now.pages }
+    requires meets { Meets (image_meaning image.now.pages) (permit_of Original image.now.pages) translation.now }
+    ensures set_up { result.0.set_up ≡ running.set_up }
+    ensures ran { HasRun (image_setting image.now.pages translation.now ranges.now) (permit_of Original image.now.pages) running.set_up running.budget result.0.history (map processor_of result.1.items) }
+{
+    page_table_has_bytes(&image.pages);
+    images_are_runs(image, input);
+    vax_meaning_is_sound();
+    permits();
+    legal_has_headline();
+    running.go(rt, image, translation, prepared, ranges, gate)
+}

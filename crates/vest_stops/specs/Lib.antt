@@ -1,0 +1,5 @@
+pub mod Refusal
+pub mod Line
+pub mod Status
+pub mod Decided
+pub mod Files
