@@ -2,12 +2,12 @@
 use Rattle.std.proofs.Common.{◌≡◌, ℕ, ◌<◌, ◌+◌, ◌⊎◌, inl, inr, ◌↔◌, false, true, get_or, List, [], length, Some, refl, sym, ap, ◌∙◌, subst, arith}
 use Rattle.std.specs.Prelude.{option_map, reverse, slice_get, slice_set}
 use Rattle.std.proofs.lemmas.Option.{slice_get-get_or, slice_get_within}
-use Rattle.block_law.specs.Sound.{IsSound}
-use Rattle.block_law.specs.Translations.{Meets}
+use Rattle.block_law.specs.Sound.{AllowsFew, IsSound}
+use Rattle.block_law.specs.Translations.{Meets, Permit}
 use Rattle.image_file.specs.Start.{start_state}
 use Rattle.image_file.specs.Values.{ImageValue}
 use Rattle.image_meaning.specs.Laws.{VaxMeaningIsSound}
-use Rattle.image_meaning.specs.Meant.{all_kinds, codes_written, image_meaning, no_bonus}
+use Rattle.image_meaning.specs.Meant.{codes_written, image_meaning}
 use Rattle.legal_history.specs.Headline.{HasFewSteps}
 use Rattle.legal_history.specs.Law.{IsRun}
 use Rattle.legal_history.specs.OneProcessor.{IsSteady, ReachedIsSteady}
@@ -44,7 +44,7 @@ no_others between = between ≡ []
 
 -- ---- a legal world
 module _ (steady_law : ReachedIsSteady) (legal_law : TurnsStayLegal)
-    (setting : Setting) (sound : IsSound setting.meaning) (meets : Meets setting.meaning setting.code) where
+    (setting : Setting) (permit : Permit) (sound : IsSound setting.meaning) (few : AllowsFew permit) (meets : Meets setting.meaning permit setting.code) where
   -- where the thread of a processor starts
   start_of : (set_up : SetUp) (budget : ℕ) (entries : List Entry) (processors : List Processor) (thread : ℕ) (p : Processor)
       → IsLegal setting set_up budget entries processors → slice_get processors thread ≡ Some p → (start : VaxState) × (starts set_up.image thread ≡ Some start)
@@ -57,7 +57,7 @@ module _ (steady_law : ReachedIsSteady) (legal_law : TurnsStayLegal)
       → IsLegal setting set_up budget entries processors → slice_get processors thread ≡ Some p → IsSteady setting set_up entries thread p
   is_steady set_up budget entries processors thread p run legal at =
       let there = start_of set_up budget entries processors thread p legal at in
-      steady_law setting set_up budget entries thread there.0 p sound meets run legal.pages legal.order there.1 (legal.each thread there.0 p there.1 at)
+      steady_law setting permit set_up budget entries thread there.0 p sound few meets run legal.pages legal.order there.1 (legal.each thread there.0 p there.1 at)
 
   module _ (old : WorldValue) (run : IsRun old.memory.set_up) (legal : IsLegalWorld setting old) (thread : ℕ) (k : ProcessorValue) (at : slice_get old.processors thread ≡ Some k) where
     its_processor : (p : Processor) × (slice_get legal.processors thread ≡ Some p) × StandsFor setting.meaning.pages k p
@@ -197,7 +197,7 @@ served_behind new old behind = sym (behind_keeps _ (λ (m : Contents). m.process
 -- ---- what `pick` and `advance` know
 pub image_is_sound : VaxMeaningIsSound → (image : ImageValue) (pages : Pages) → pages ≡ image.pages → AreBytes pages.code → IsSound (image_meaning image.pages)
 image_is_sound law image pages same bytes =
-    law image.pages (codes_written image.pages) all_kinds no_bonus (subst (λ (p : Pages). AreBytes p.code) same bytes) (λ address. omega arith)
+    law image.pages (codes_written image.pages) (subst (λ (p : Pages). AreBytes p.code) same bytes)
 
 -- the picked processor stands at its place
 pub stands_at : (w seen : WorldValue) (n processor : ℕ) (k : ProcessorValue) → w ≡ seen → n ≡ processor → processor < length seen.processors → k ≡ get_or w.processors n k

@@ -1,6 +1,8 @@
 -- Worlds: a memory of one owner and its processors. Histories are oldest first.
 use Rattle.std.specs.Prelude.{◌≡◌, ℕ, ◌<◌, ◌+◌, ◌↔◌, false, true, List, [], Some, length, reverse, slice_get, slice_set}
 use Rattle.std.specs.List.{AllZip}
+use Rattle.block_law.specs.Sound.{AllowsFew}
+use Rattle.block_law.specs.Translations.{Meets, Permit}
 use Rattle.image_file.specs.Values.{ImageValue}
 use Rattle.legal_history.specs.Headline.{HasFewSteps}
 use Rattle.legal_history.specs.Law.{HasHeadline, IsRun}
@@ -45,10 +47,12 @@ pub record IsLegalWorld (setting : Setting) (w : WorldValue) : Type 0 where
   pub stand : AllZip (StandsFor setting.meaning.pages) w.processors processors
   pub legal : IsLegal setting w.memory.set_up w.budget (reverse w.memory.history) processors
 
--- whatever legal run they stand for, it is what the VAX threads do that are driven by the order of its history
+-- whatever legal run they stand for, it is what the VAX threads do that are driven by the order of its history, by each
+-- permit that the code meets
 abbrev pub IsExplained : Setting → WorldValue → Type 0
 IsExplained setting w =
-    (legal : IsLegalWorld setting w) → HasHeadline setting w.memory.set_up (reverse w.memory.history) legal.processors
+    (permit : Permit) → AllowsFew permit → Meets setting.meaning permit setting.code
+    → (legal : IsLegalWorld setting w) → HasHeadline setting permit w.memory.set_up (reverse w.memory.history) legal.processors
 
 -- what many turns of one processor, one after the other, do to a world, where so many were asked for
 pub record IsAdvanced (setting : Setting) (thread most turns : ℕ) (old new : WorldValue) : Type 0 where

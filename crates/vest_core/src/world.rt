@@ -4,6 +4,7 @@ ghost use Rattle.std.specs.List.{AllZip};
 ghost use Rattle.block_law.specs.Translations.{Meets};
 ghost use Rattle.image_file.specs.Whole.{IsWhole};
 ghost use Rattle.image_meaning.specs.Meant.{image_meaning};
+ghost use Rattle.image_meaning.specs.Permits.{any_permit};
 ghost use Rattle.memory_core.specs.Contents.{fresh};
 ghost use Rattle.system_model.specs.Laws.{begun_from};
 ghost use Rattle.system_model.specs.Settings.{Setting};
@@ -95,7 +96,7 @@ impl World {
     ) -> Turn
         requires there { processor < length self.old.processors }
         requires image { self.old.memory.set_up.image ≡ image.now }
-        requires meets { Meets (image_meaning image.now.pages) translation.now }
+        requires meets { Meets (image_meaning image.now.pages) (any_permit image.now.pages) translation.now }
         requires legal { IsLegalWorld (image_setting image.now.pages translation.now ranges.now) self.old }
         ensures set_up { self.new.memory.set_up ≡ self.old.memory.set_up }
         ensures budget { self.new.budget ≡ self.old.budget }
@@ -128,7 +129,7 @@ impl World {
         requires image { self.old.memory.set_up.image ≡ image.now }
         requires code { prepared.now.code ≡ translation.now }
         requires pages { prepared.now.pages ≡ image.now.pages }
-        requires meets { Meets (image_meaning image.now.pages) translation.now }
+        requires meets { Meets (image_meaning image.now.pages) (any_permit image.now.pages) translation.now }
         requires legal { IsLegalWorld (image_setting image.now.pages translation.now ranges.now) self.old }
         ensures some { 0 < most → 0 < result }
         ensures most { result ≤ most }
