@@ -62,7 +62,7 @@ module _ (setting : Setting) (set_up : SetUp) (may_come : List Entry → Type 0)
         let turns = over_any n q new made in
         let reached = law setting set_up k.budget n seen new k.thread way.start way.processor q way.reached turns in
         let order = many_ordered setting set_up k.budget way.processor seen way.order turns in
-        let steady = steady_law setting set_up k.budget (reverse new) k.thread way.start q can.sound can.meets can.run can.pages order way.starts_so reached in
+        let steady = steady_law setting can.permit set_up k.budget (reverse new) k.thread way.start q can.sound can.few can.meets can.run can.pages order way.starts_so reached in
         record { goes_on = steady.goes_on; asks = steady.asks };
   }
 

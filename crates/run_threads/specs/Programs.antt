@@ -1,7 +1,7 @@
 -- What processors run.
 use Rattle.std.specs.Prelude.{◌≡◌}
-use Rattle.block_law.specs.Sound.{IsSound}
-use Rattle.block_law.specs.Translations.{Meets}
+use Rattle.block_law.specs.Sound.{AllowsFew, IsSound}
+use Rattle.block_law.specs.Translations.{Meets, Permit}
 use Rattle.legal_history.specs.Law.{IsRun}
 use Rattle.memory_core.specs.declared.entry.SetUp.{SetUp}
 use Rattle.system_model.specs.Settings.{Setting}
@@ -16,9 +16,12 @@ pub record HasPrepared (program : Program) : Type 0 where
   pub code : program.prepared.now.code ≡ program.translation.now
   pub pages : program.prepared.now.pages ≡ program.image.now.pages
 
--- its instructions go with processors, its code means them, and the memory is of its pages, with numbers in range
+-- its instructions go with processors, its code means them and does what it may, and the memory is of its pages, with
+-- numbers in range
 pub record CanRun (setting : Setting) (set_up : SetUp) : Type 0 where
   pub pages : setting.meaning.pages ≡ set_up.image.pages
   pub sound : IsSound setting.meaning
-  pub meets : Meets setting.meaning setting.code
+  pub permit : Permit
+  pub few : AllowsFew permit
+  pub meets : Meets setting.meaning permit setting.code
   pub run : IsRun set_up

@@ -4,6 +4,7 @@ ghost use Rattle.std.specs.List.{AllByRecursion};
 ghost use Rattle.image_file.specs.Whole.{IsWhole};
 ghost use Rattle.block_law.specs.Translations.{Meets};
 ghost use Rattle.image_meaning.specs.Meant.{image_meaning};
+ghost use Rattle.image_meaning.specs.Permits.{any_permit};
 ghost use Rattle.system_model.specs.Legal.{IsLegal};
 ghost use Rattle.tie_switch.specs.Processors.{processor_of};
 ghost use Rattle.tie_switch.specs.Settings.{image_setting};
@@ -95,7 +96,7 @@ impl Running {
         requires image { self.set_up.image ≡ image.now }
         requires code { prepared.now.code ≡ translation.now }
         requires pages { prepared.now.pages ≡ image.now.pages }
-        requires meets { Meets (image_meaning image.now.pages) translation.now }
+        requires meets { Meets (image_meaning image.now.pages) (any_permit image.now.pages) translation.now }
         ensures set_up { result.0.set_up ≡ self.set_up }
         ensures legal { IsLegal (image_setting image.now.pages translation.now ranges.now) self.set_up self.budget (reverse result.0.history) (map processor_of result.1.items) }
         ensures ended { AllByRecursion (λ p. has_ended p.mode ≡ true) (map processor_of result.1.items) }

@@ -1,16 +1,35 @@
 use Rattle.std.proofs.Common.{◌≡◌, List, length, drop, reverse, sym, ap, ◌∙◌, subst, arith}
 use Rattle.std.specs.Prelude.{map}
+use Rattle.image_file.specs.Values.{ImageValue}
+use Rattle.image_meaning.specs.Meant.{codes_written}
+use Rattle.image_meaning.specs.Permits.{any_permit}
+use Rattle.image_meaning.proofs.Permits.{any_permit_allows_few}
 use Rattle.memory_core.specs.Contents.{Contents}
 use Rattle.memory_core.specs.declared.entry.Entry.{Entry}
 use Rattle.shared_memory.specs.Passes.{set_up_of, seen_of, given_of}
 use Rattle.system_model.specs.Legal.{IsLegal}
 use Rattle.tie_switch.specs.Processors.{processor_of}
 use Rattle.tie_switch.specs.Settings.{image_setting}
+use Rattle.vax_form.specs.GrammarLaws.{AreBytes}
 use Rattle.run_threads.specs.declared.job.Job.{Job}
 use Rattle.run_threads.specs.Jobs.{AllReady, AllHavePasses, HasSplit, HasJoined}
 use Rattle.run_threads.specs.Runs.{RunningValue}
 use Rattle.run_threads.proofs.Closing.{lent_back, is_legal, all_ended}
 use Rattle.run_threads.proofs.running.Running.go.Goals as goal
+
+pub run_all-requires-clause-can_run : goal.run_all-requires-clause-can_run
+run_all-requires-clause-can_run g c =
+    let image = c.args.image.now in
+    let memory = c.self.inside.memory in
+    let same : (set_up_of memory).image ≡ image = ap (λ (r : RunningValue). r.set_up.image) c.self.view_is ∙ c.requires.image in
+    record {
+      pages = sym (ap (λ (i : ImageValue). i.pages) same);
+      sound = c.vax_meaning_is_sound.ensures image.pages (codes_written image.pages) (subst (λ (i : ImageValue). AreBytes i.pages.code) c.image.view_is c.page_table_has_bytes.ensures);
+      permit = any_permit image.pages;
+      few = any_permit_allows_few image.pages;
+      meets = c.requires.meets;
+      run = c.self.invariant.run;
+    }
 
 pub run_all-requires-clause-ready : goal.run_all-requires-clause-ready
 run_all-requires-clause-ready g c κs within =
