@@ -2,6 +2,7 @@
 use Rattle.std.specs.Prelude.{◌≡◌}
 use Rattle.block_law.specs.Translations.{Meets}
 use Rattle.image_meaning.specs.Meant.{image_meaning}
+use Rattle.image_meaning.specs.Permits.{any_permit}
 use Rattle.system_model.specs.Settings.{Setting}
 use Rattle.tie_switch.specs.Settings.{image_setting}
 use Rattle.vest_core.specs.Worlds.{IsLegalWorld, WorldValue}
@@ -13,7 +14,7 @@ setting_of program = image_setting program.image.now.pages program.translation.n
 -- its translation means what its image means, and is the one that was made ready
 abbrev pub CanRun : Program → Type 0
 CanRun program =
-    Meets (image_meaning program.image.now.pages) program.translation.now
+    Meets (image_meaning program.image.now.pages) (any_permit program.image.now.pages) program.translation.now
     × (program.prepared.now.code ≡ program.translation.now)
     × (program.prepared.now.pages ≡ program.image.now.pages)
 

@@ -2,6 +2,7 @@
 ghost use Rattle.block_law.specs.Translations.{Meets};
 ghost use Rattle.image_file.specs.Whole.{IsWhole};
 ghost use Rattle.image_meaning.specs.Meant.{image_meaning};
+ghost use Rattle.image_meaning.specs.Permits.{any_permit};
 ghost use Rattle.world_rows.specs.Ready.{CanRun, IsReady};
 
 use crate::driven::check_driven;
@@ -178,7 +179,7 @@ fn answer_in(
     asked: Asked,
 ) -> Result<String>
     requires whole { IsWhole image.now }
-    requires meets { Meets (image_meaning image.now.pages) translation.now }
+    requires meets { Meets (image_meaning image.now.pages) (any_permit image.now.pages) translation.now }
 {
     let prepared = made_ready(alloc, image, translation)?;
     let program = Program {

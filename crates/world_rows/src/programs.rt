@@ -2,6 +2,7 @@
 ghost use Rattle.std.specs.Prelude.{◌≡◌, IfOk};
 ghost use Rattle.block_law.specs.Translations.{Meets};
 ghost use Rattle.image_meaning.specs.Meant.{image_meaning};
+ghost use Rattle.image_meaning.specs.Permits.{any_permit};
 
 use anyhow::{Result, bail};
 use image_file::Image;
@@ -31,7 +32,7 @@ pub struct Program<'a> {
 
 /// The translation of an image.
 pub fn translated(alloc: Global, image: &Image) -> Result<Translation>
-    ensures { IfOk result (Meets (image_meaning image.now.pages)) }
+    ensures { IfOk result (Meets (image_meaning image.now.pages) (any_permit image.now.pages)) }
 {
     match translate(alloc, image, &[], Target::Original) {
         Ok(translation) => Ok(translation),
@@ -45,7 +46,7 @@ pub fn made_ready<'a>(
     image: &'a Image,
     translation: &'a Translation,
 ) -> Result<Prepared<'a>>
-    requires { Meets (image_meaning image.now.pages) translation.now }
+    requires { Meets (image_meaning image.now.pages) (any_permit image.now.pages) translation.now }
     ensures code { IfOk result (λ prepared. prepared.code ≡ translation.now) }
     ensures pages { IfOk result (λ prepared. prepared.pages ≡ image.now.pages) }
 {

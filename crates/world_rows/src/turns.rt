@@ -3,6 +3,7 @@ ghost use Rattle.std.specs.Prelude.{IfOk};
 ghost use Rattle.block_law.specs.Translations.{Meets};
 ghost use Rattle.image_file.specs.Whole.{IsWhole};
 ghost use Rattle.image_meaning.specs.Meant.{image_meaning};
+ghost use Rattle.image_meaning.specs.Permits.{any_permit};
 ghost use Rattle.world_rows.specs.Ready.{CanRun, IsReady};
 
 use crate::driven::check_driven;
@@ -175,7 +176,7 @@ struct Asked<'a> {
 /// What is left of the world of an image with a translation.
 fn left_in(alloc: Global, asked: Asked<'_>, translation: &Translation) -> Result<String>
     requires whole { IsWhole asked.image.now }
-    requires meets { Meets (image_meaning asked.image.now.pages) translation.now }
+    requires meets { Meets (image_meaning asked.image.now.pages) (any_permit asked.image.now.pages) translation.now }
 {
     let prepared = made_ready(alloc, asked.image, translation)?;
     let program = Program {
@@ -189,7 +190,7 @@ fn left_in(alloc: Global, asked: Asked<'_>, translation: &Translation) -> Result
 }
 
 fn translation_in(alloc: Global, asked: Asked<'_>) -> Result<Translation>
-    ensures { IfOk result (Meets (image_meaning asked.entry.image.now.pages)) }
+    ensures { IfOk result (Meets (image_meaning asked.entry.image.now.pages) (any_permit asked.entry.image.now.pages)) }
 {
     match asked.way {
         Way::Interpreted => nothing_translated(alloc, asked.image),
