@@ -4,7 +4,8 @@ use Rattle.alpha_encode.specs.declared.instr.MemoryOp.TheVariants.{LdqL, StqC}
 use Rattle.alpha_encode.specs.declared.instr.BranchOp.TheVariants.{Beq}
 use Rattle.alpha_encode.specs.declared.instr.AlphaInstr.{AlphaInstr}
 use Rattle.alpha_encode.specs.declared.instr.AlphaInstr.TheVariants.{Memory, Branch, Operate}
-use Rattle.alpha_encode.specs.declared.registers.TheConstants.{QUAD, QUAD_ADDRESS, ZERO}
+use Rattle.alpha_encode.specs.Registers.{ZERO}
+use Rattle.alpha_encode.specs.declared.registers.TheConstants.{QUAD, QUAD_ADDRESS}
 use Rattle.alpha_meaning.specs.Result.{result_of}
 use Rattle.alpha_meaning.specs.State.{Regs, put}
 use Rattle.alpha_meaning.specs.Act.{second_value}

@@ -10,7 +10,7 @@ use Rattle.micro_ops.specs.Meaning.{Temps, Departure, flag_of}
 use Rattle.micro_ops.specs.Leaving.{CodesComeFrom, state_left}
 use Rattle.micro_ops.specs.Sources.{is_written, codes_written_by}
 use Rattle.alpha_encode.specs.declared.instr.AlphaInstr.{AlphaInstr}
-use Rattle.alpha_encode.specs.declared.registers.TheConstants.{CARRY_FIRST, NEGATIVE, IS_ZERO, OVERFLOW, CARRY, STATUS, TEMPORARIES, RULE_FIRST, RULE_SECOND, CARRY_SECOND, ZERO}
+use Rattle.alpha_encode.specs.Registers.{CARRY_FIRST, NEGATIVE, IS_ZERO, OVERFLOW, CARRY, STATUS, TEMPORARIES, RULE_FIRST, RULE_SECOND, CARRY_SECOND, ZERO}
 use Rattle.alpha_meaning.specs.State.{Regs}
 use Rattle.alpha_meaning.specs.Loops.{fine, effects}
 use Rattle.exception_records.specs.Shown.{codes_shown, still_held}

@@ -4,8 +4,8 @@ use Rattle.vt_words.specs.Quad.{sign_extended}
 use Rattle.vax_form.specs.Pages.{first_bad}
 use Rattle.vax_form.specs.State.{with_register}
 use Rattle.vax_form.specs.Tree.{Tree, Check, Fault, Ends, Finish, Trap, Same}
-use Rattle.alpha_encode.specs.declared.pal.TheConstants.{PROBE, LOOK_UP, SERVE, RAISE, TRAP, SWITCH}
-use Rattle.alpha_encode.specs.declared.registers.TheConstants.{TEMPORARIES, ADDRESS}
+use Rattle.alpha_encode.specs.Calls.{PROBE, LOOK_UP, SERVE, RAISE, TRAP, SWITCH}
+use Rattle.alpha_encode.specs.Registers.{TEMPORARIES, ADDRESS}
 use Rattle.alpha_meaning.specs.State.{Alpha, Regs, put, at_place}
 use Rattle.alpha_meaning.specs.Pieces.{Phase, Plain, Steps, phase_after}
 use Rattle.exception_records.specs.Points.{raised_at}

@@ -4,7 +4,7 @@ use Rattle.vax_form.specs.Tree.{Tree, Same}
 use Rattle.vax_form.specs.declared.state.Flags.{Flags}
 use Rattle.vax_form.specs.declared.state.Reference.{Reference}
 use Rattle.alpha_encode.specs.declared.instr.AlphaInstr.{AlphaInstr}
-use Rattle.alpha_encode.specs.declared.registers.TheConstants.{CARRY_FIRST, TEMPORARIES, RULE_FIRST, ZERO}
+use Rattle.alpha_encode.specs.Registers.{CARRY_FIRST, TEMPORARIES, RULE_FIRST, ZERO}
 use Rattle.alpha_meaning.specs.State.{Alpha, Regs}
 use Rattle.alpha_meaning.specs.Act.{Does, Goes, Asks, Calls, act, finished}
 use Rattle.alpha_meaning.specs.Pieces.{Phase, Kinds}

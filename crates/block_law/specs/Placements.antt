@@ -8,7 +8,7 @@ use Rattle.vax_form.specs.declared.pages.Pages.{Pages}
 use Rattle.vax_form.specs.declared.state.Flags.{Flags}
 use Rattle.vax_form.specs.declared.state.Reference.{Reference}
 use Rattle.vax_form.specs.declared.state.VaxState.{VaxState}
-use Rattle.alpha_encode.specs.declared.registers.TheConstants.{NEGATIVE, STATUS, TARGET, ZERO}
+use Rattle.alpha_encode.specs.Registers.{NEGATIVE, STATUS, TARGET, ZERO}
 use Rattle.alpha_meaning.specs.State.{Regs}
 use Rattle.alpha_meaning.specs.Pieces.{Allowed, Fetch, Kinds}
 use Rattle.exception_records.specs.Codes.{all_ready}

@@ -1,7 +1,7 @@
 -- The services as trees.
 -- VAX Architecture Reference Manual, "Operating System Support": CHMK, whose codes are this system's own.
 use Rattle.std.specs.Prelude.{ℕ, ◌%◌, ◌^◌, ◌==◌, if◌then◌else◌}
-use Rattle.service_codes.specs.declared.TheConstants.{EXIT, PUT, GET, THREAD, HANDLER, RESUME}
+use Rattle.service_codes.specs.Codes.{EXIT, PUT, GET, THREAD, HANDLER, RESUME}
 use Rattle.vax_form.specs.State.{register, with_register, with_handler, with_pending}
 use Rattle.vax_form.specs.declared.state.Pending.TheVariants.{Resume}
 use Rattle.vax_form.specs.Tree.{Tree, Ask, Ends, Finish, Exit}

@@ -4,8 +4,8 @@ use Rattle.std.specs.List.{list_any}
 use Rattle.vax_form.specs.declared.state.Flags.{Flags}
 use Rattle.alpha_encode.specs.declared.instr.AlphaInstr.{AlphaInstr}
 use Rattle.alpha_encode.specs.declared.instr.AlphaInstr.TheVariants.{Memory, Branch, Operate, Jump, Pal}
-use Rattle.alpha_encode.specs.declared.pal.TheConstants.{PROBE, SERVE, RAISE, INTERPRET}
-use Rattle.alpha_encode.specs.declared.registers.TheConstants.{NEGATIVE, IS_ZERO, OVERFLOW, CARRY, TEMPORARIES, RULE_FIRST, ZERO}
+use Rattle.alpha_encode.specs.Calls.{PROBE, SERVE, RAISE, INTERPRET}
+use Rattle.alpha_encode.specs.Registers.{NEGATIVE, IS_ZERO, OVERFLOW, CARRY, TEMPORARIES, RULE_FIRST, ZERO}
 use Rattle.alpha_meaning.specs.declared.access.AlphaKind.{AlphaKind}
 use Rattle.alpha_meaning.specs.declared.access.AlphaKind.TheVariants.{Load, LoadLocked, Store, StoreConditional}
 use Rattle.alpha_meaning.specs.Memory.{kind_of}

@@ -9,7 +9,7 @@ use Rattle.vax_form.specs.declared.state.VaxState.{VaxState}
 use Rattle.alpha_encode.specs.Words.{instr_at}
 use Rattle.alpha_encode.specs.declared.instr.AlphaInstr.{AlphaInstr}
 use Rattle.alpha_encode.specs.declared.instr.AlphaInstr.TheVariants.{Memory, Branch, Operate, Jump, Pal}
-use Rattle.alpha_encode.specs.declared.pal.TheConstants.{TRAP}
+use Rattle.alpha_encode.specs.Calls.{TRAP}
 use Rattle.alpha_meaning.specs.State.{Regs, at_place}
 use Rattle.alpha_meaning.specs.Pieces.{Fetch, Kinds, Plain, HasAt, most_words}
 use Rattle.address_map.specs.Pairs.{Pair, AllRise, word_at, address_at}

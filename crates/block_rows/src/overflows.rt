@@ -1,6 +1,6 @@
 // V of sums and differences.
 ghost use Rattle.std.specs.Prelude.{◌<◌, ◌≢◌};
-ghost use Rattle.alpha_encode.specs.declared.registers.TheConstants.{ADDRESS};
+ghost use Rattle.alpha_encode.specs.Registers.{ADDRESS};
 
 use crate::machine::encoded;
 use crate::names::width;

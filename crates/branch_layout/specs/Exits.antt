@@ -2,8 +2,8 @@
 -- Alpha Architecture Reference Manual, 4.3 "Control Instructions". The entry of the PALcode and the
 -- registers are this system's own: R26 holds a VAX address, and R27 is free.
 use Rattle.std.specs.Prelude.{ℕ, ◌+◌, ◌*◌, ◌^◌, ◌&&◌, nat_lt, nat_le, Bool, true, false, ℤ, pos, ◌-ℤ◌, List, [], ◌∷◌, Option, Some, None}
-use Rattle.alpha_encode.specs.declared.pal.TheConstants.{SWITCH}
-use Rattle.alpha_encode.specs.declared.registers.TheConstants.{TARGET, ADDRESS, ZERO}
+use Rattle.alpha_encode.specs.Calls.{SWITCH}
+use Rattle.alpha_encode.specs.Registers.{TARGET, ADDRESS, ZERO}
 use Rattle.alpha_encode.specs.Halves.{load_high, load_low}
 use Rattle.alpha_encode.specs.NoOperation.{nop}
 use Rattle.alpha_encode.specs.declared.instr.AlphaInstr.{AlphaInstr}

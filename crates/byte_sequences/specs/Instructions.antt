@@ -4,7 +4,8 @@ use Rattle.alpha_encode.specs.declared.instr.MemoryOp.{MemoryOp}
 use Rattle.alpha_encode.specs.declared.instr.MemoryOp.TheVariants.{Stl, Stq}
 use Rattle.alpha_encode.specs.declared.instr.AlphaInstr.{AlphaInstr}
 use Rattle.alpha_encode.specs.declared.instr.AlphaInstr.TheVariants.{Memory, Branch, Operate, Jump, Pal}
-use Rattle.alpha_encode.specs.declared.registers.TheConstants.{TEMPORARIES, QUAD, BYTES, QUAD_ADDRESS, ZERO}
+use Rattle.alpha_encode.specs.Registers.{TEMPORARIES, ZERO}
+use Rattle.alpha_encode.specs.declared.registers.TheConstants.{QUAD, BYTES, QUAD_ADDRESS}
 use Rattle.alpha_meaning.specs.Act.{links}
 
 -- R21 to R24 hold the address and the value

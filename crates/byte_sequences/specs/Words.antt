@@ -9,7 +9,8 @@ use Rattle.alpha_encode.specs.declared.instr.OperateOp.TheVariants.{Extbl, Extwl
 use Rattle.alpha_encode.specs.declared.instr.Second.TheVariants.{Register, Literal}
 use Rattle.alpha_encode.specs.declared.instr.AlphaInstr.{AlphaInstr}
 use Rattle.alpha_encode.specs.declared.instr.AlphaInstr.TheVariants.{Memory, Branch, Operate}
-use Rattle.alpha_encode.specs.declared.registers.TheConstants.{QUAD, BYTES, QUAD_ADDRESS, ZERO}
+use Rattle.alpha_encode.specs.Registers.{ZERO}
+use Rattle.alpha_encode.specs.declared.registers.TheConstants.{QUAD, BYTES, QUAD_ADDRESS}
 use Rattle.alpha_meaning.specs.Loops.{retry}
 use Rattle.micro_ops.specs.declared.program.LockedOp.{LockedOp}
 use Rattle.micro_ops.specs.declared.program.LockedOp.TheVariants.{AddWord, SetBit, ClearBit}

@@ -9,7 +9,7 @@ use Rattle.alpha_encode.specs.declared.instr.OperateOp.TheVariants.{Sll}
 use Rattle.alpha_encode.specs.declared.instr.Second.TheVariants.{Literal}
 use Rattle.alpha_encode.specs.declared.instr.AlphaInstr.{AlphaInstr}
 use Rattle.alpha_encode.specs.declared.instr.AlphaInstr.TheVariants.{Memory, Operate}
-use Rattle.alpha_encode.specs.declared.registers.TheConstants.{ZERO}
+use Rattle.alpha_encode.specs.Registers.{ZERO}
 use Rattle.alpha_encode.specs.Halves.{low_half, high_half, load_high, load_low, load_longword}
 
 -- the high longword with the borrow of the low one added: its two halves together are negative from 7FFF8000 on

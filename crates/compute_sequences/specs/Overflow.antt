@@ -12,7 +12,7 @@ use Rattle.alpha_encode.specs.declared.instr.OperateOp.TheVariants as row
 use Rattle.alpha_encode.specs.declared.instr.Second.TheVariants.{Register, Literal}
 use Rattle.alpha_encode.specs.declared.instr.AlphaInstr.{AlphaInstr}
 use Rattle.alpha_encode.specs.declared.instr.AlphaInstr.TheVariants.{Operate}
-use Rattle.alpha_encode.specs.declared.registers.TheConstants.{ADDRESS}
+use Rattle.alpha_encode.specs.Registers.{ADDRESS}
 use Rattle.alpha_meaning.specs.State.{Regs}
 use Rattle.micro_ops.specs.Values.{low}
 use Rattle.compute_sequences.specs.declared.overflow.Arithmetic.{Arithmetic}

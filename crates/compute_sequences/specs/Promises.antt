@@ -4,7 +4,7 @@ use Rattle.vax_form.specs.declared.instr.Size.{Size}
 use Rattle.alpha_encode.specs.declared.instr.MemoryOp.TheVariants.{Lda, Ldah}
 use Rattle.alpha_encode.specs.declared.instr.AlphaInstr.{AlphaInstr}
 use Rattle.alpha_encode.specs.declared.instr.AlphaInstr.TheVariants.{Memory, Branch, Operate, Jump, Pal}
-use Rattle.alpha_encode.specs.declared.registers.TheConstants.{ZERO}
+use Rattle.alpha_encode.specs.Registers.{ZERO}
 use Rattle.alpha_meaning.specs.Act.{links}
 use Rattle.alpha_meaning.specs.State.{Regs, at_place}
 use Rattle.alpha_meaning.specs.Pieces.{Fetch, Terms, Over, Plain, Runs, HasAt, piece, Only, most_words}

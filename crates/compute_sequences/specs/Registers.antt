@@ -1,7 +1,7 @@
 -- Which registers hold the arguments of a computation, and which it changes.
 use Rattle.std.specs.Prelude.{ℕ, ◌+◌, ◌/◌, ◌%◌, ◌^◌, ◌<◌, ◌≤◌, ◌==◌, ◌||◌, not, nat_lt, Bool, true, false, if◌then◌else◌}
 use Rattle.vax_form.specs.declared.instr.Size.{Size}
-use Rattle.alpha_encode.specs.declared.registers.TheConstants.{NEGATIVE, STATUS, TEMPORARIES, TARGET, ADDRESS, ZERO}
+use Rattle.alpha_encode.specs.Registers.{NEGATIVE, STATUS, TEMPORARIES, TARGET, ADDRESS, ZERO}
 use Rattle.alpha_meaning.specs.State.{Regs}
 use Rattle.micro_ops.specs.declared.program.Arg.{Arg}
 use Rattle.micro_ops.specs.declared.program.Arg.TheVariants.{Temp, Register, Flag, Const}

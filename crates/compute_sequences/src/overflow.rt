@@ -1,7 +1,7 @@
 // V of a sum and of a difference: the true result is made from the operands with their signs, as a quadword.
 ghost use Rattle.std.specs.Prelude.{◌≡◌, ◌≢◌, ◌≤◌, ◌<◌, ◌++◌, length, All, IfOk, OnOk, true};
 ghost use Rattle.std.specs.List.{list_all};
-ghost use Rattle.alpha_encode.specs.declared.registers.TheConstants.{ADDRESS};
+ghost use Rattle.alpha_encode.specs.Registers.{ADDRESS};
 ghost use Rattle.alpha_encode.specs.Words.{IsEncodable};
 ghost use Rattle.compute_sequences.specs.Registers.{IsTarget, may_change};
 ghost use Rattle.compute_sequences.specs.Promises.{changes_only};

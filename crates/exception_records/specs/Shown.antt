@@ -8,7 +8,7 @@ use Rattle.vax_form.specs.State.{with_core}
 use Rattle.vax_form.specs.declared.state.Flags.{Flags}
 use Rattle.vax_form.specs.declared.state.VaxState.{VaxState}
 use Rattle.vax_form.specs.declared.state.Pending.TheVariants.{Nothing}
-use Rattle.alpha_encode.specs.declared.registers.TheConstants.{CARRY_FIRST, NEGATIVE, IS_ZERO, OVERFLOW, CARRY, STATUS, RULE_FIRST, RULE_SECOND, CARRY_SECOND}
+use Rattle.alpha_encode.specs.Registers.{CARRY_FIRST, NEGATIVE, IS_ZERO, OVERFLOW, CARRY, STATUS, RULE_FIRST, RULE_SECOND, CARRY_SECOND}
 use Rattle.exception_records.specs.declared.rules.CodeRule.{CodeRule}
 use Rattle.exception_records.specs.declared.rules.Rules.{Rules}
 use Rattle.exception_records.specs.Codes.{codes_by, is_ready}

@@ -5,6 +5,7 @@ use Rattle.vax_form.specs.Grammar.{Spells, number, padded, wrapped, immediate, l
 use Rattle.vax_form.specs.GrammarRows.{operand_types}
 use Rattle.vax_form.specs.Operation.{operation_at, integer_opcodes, control_opcodes, mixed_opcodes, move_opcodes, bit_opcodes}
 use Rattle.vax_form.specs.Row.{operands_of}
+use Rattle.vax_form.specs.Targets.{call_of, call_target, fixed_targets, jump_of, jump_target}
 use Rattle.vax_form.specs.declared.instr.Access.TheVariants.{Read, Write, Modify}
 use Rattle.vax_form.specs.declared.instr.Base.TheVariants.{Offset}
 use Rattle.vax_form.specs.declared.instr.Instr.{Instr}
@@ -12,7 +13,7 @@ use Rattle.vax_form.specs.declared.instr.Operand.{Operand}
 use Rattle.vax_form.specs.declared.instr.Operand.TheVariants.{Value, Register, Place}
 use Rattle.vax_form.specs.declared.instr.Size.TheVariants.{Byte, Word, Long}
 use Rattle.std.specs.Prelude.{Some, None, false}
-use Rattle.flow_discovery.specs.Flow.{falls_through, goes_on, jump_addresses}
+use Rattle.flow_discovery.specs.Flow.{falls_through, goes_on, table_of}
 use Rattle.vax_form.specs.declared.pages.Pages.{Pages}
 use Rattle.report_text.specs.Generated.{group_bytes, group_of}
 use Rattle.report_text.proofs.GeneratedLaws.{each_kind}
@@ -29,7 +30,7 @@ instr_of at opcode count size operands =
 
 -- CHMK #code
 pub service : (at code : ℕ) → code ≤ 63 → Goes at (0xBC ∷ code ∷ [])
-unfolding operation_at integer_opcodes control_opcodes mixed_opcodes move_opcodes bit_opcodes operands_of goes_on falls_through jump_addresses
+unfolding operation_at integer_opcodes control_opcodes mixed_opcodes move_opcodes bit_opcodes operands_of goes_on falls_through fixed_targets jump_of jump_target call_of call_target table_of
 service at code small =
     let one : List Operand = Value code ∷ [] in
     record {
@@ -49,7 +50,7 @@ service at code small =
 
 -- MOVL Rm, Rn
 pub move : (at m n : ℕ) → m ≤ 14 → n ≤ 14 → Goes at (0xD0 ∷ (0x50 + m) ∷ (0x50 + n) ∷ [])
-unfolding operation_at integer_opcodes control_opcodes mixed_opcodes move_opcodes bit_opcodes operands_of goes_on falls_through jump_addresses
+unfolding operation_at integer_opcodes control_opcodes mixed_opcodes move_opcodes bit_opcodes operands_of goes_on falls_through fixed_targets jump_of jump_target call_of call_target table_of
 move at m n small_m small_n =
     let two : List Operand = Register m ∷ Register n ∷ [] in
     record {
@@ -109,17 +110,17 @@ changes_register at opcode byte is goes = record {
 
 -- ADDB2 #byte, R2
 add : (at byte : ℕ) → Goes at (0x80 ∷ 0x8F ∷ byte ∷ 0x52 ∷ [])
-unfolding operation_at integer_opcodes control_opcodes mixed_opcodes move_opcodes bit_opcodes operands_of goes_on falls_through jump_addresses
+unfolding operation_at integer_opcodes control_opcodes mixed_opcodes move_opcodes bit_opcodes operands_of goes_on falls_through fixed_targets jump_of jump_target call_of call_target table_of
 add at byte = changes_register at 0x80 byte refl (λ pages. refl)
 
 -- XORB2 #byte, R2
 exclusive_or : (at byte : ℕ) → Goes at (0x8C ∷ 0x8F ∷ byte ∷ 0x52 ∷ [])
-unfolding operation_at integer_opcodes control_opcodes mixed_opcodes move_opcodes bit_opcodes operands_of goes_on falls_through jump_addresses
+unfolding operation_at integer_opcodes control_opcodes mixed_opcodes move_opcodes bit_opcodes operands_of goes_on falls_through fixed_targets jump_of jump_target call_of call_target table_of
 exclusive_or at byte = changes_register at 0x8C byte refl (λ pages. refl)
 
 -- ROTL #3, R2, R2
 rotate : (at : ℕ) → Goes at (0x9C ∷ 0x03 ∷ 0x52 ∷ 0x52 ∷ [])
-unfolding operation_at integer_opcodes control_opcodes mixed_opcodes move_opcodes bit_opcodes operands_of goes_on falls_through jump_addresses
+unfolding operation_at integer_opcodes control_opcodes mixed_opcodes move_opcodes bit_opcodes operands_of goes_on falls_through fixed_targets jump_of jump_target call_of call_target table_of
 rotate at =
     let three : List Operand = Value 3 ∷ Register 2 ∷ Register 2 ∷ [] in
     record {
@@ -157,7 +158,7 @@ rotate at =
 
 -- MOVB R2, place(R1)
 store : (at address : ℕ) → Goes at (0x90 ∷ 0x52 ∷ 0xC1 ∷ to_le_bytes w16 address)
-unfolding operation_at integer_opcodes control_opcodes mixed_opcodes move_opcodes bit_opcodes operands_of goes_on falls_through jump_addresses
+unfolding operation_at integer_opcodes control_opcodes mixed_opcodes move_opcodes bit_opcodes operands_of goes_on falls_through fixed_targets jump_of jump_target call_of call_target table_of
 store at address =
     let word : List ℕ = to_le_bytes w16 address in
     let there : Operand = Place (Offset 1 (extended Word (number word)) false) None in

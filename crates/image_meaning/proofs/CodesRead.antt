@@ -1,15 +1,13 @@
 -- Each code that an operation is said to read has an effect: a row for each.
-use Rattle.std.proofs.Common.{◌≡◌, ℕ, ◌<◌, ◌∷◌, [], List, refl, sym, ap, Bool, true, false, eqb, lit<, Some}
+use Rattle.std.proofs.Common.{◌≡◌, ℕ, ◌<◌, ◌∷◌, [], List, refl, ap, Bool, true, false, eqb, lit<}
 use Rattle.std.specs.Prelude.{◌/◌, ◌==◌, slice_index}
 use Rattle.std.proofs.lemmas.Bool.{false≢true, true≢false}
 use Rattle.vax_form.specs.Codes.{Code, negative, zero_code, overflow, carry, holds, none}
 use Rattle.vax_form.specs.Grammar.{padded}
-use Rattle.vax_form.specs.Operation.{operation_at}
 use Rattle.vax_form.specs.Row.{operands_of}
 use Rattle.vax_form.specs.Script.{Script}
 use Rattle.vax_form.specs.State.{user_mode}
 use Rattle.vax_form.specs.Tree.{instruction_tree}
-use Rattle.vax_form.specs.declared.instr.Instr.{Instr}
 use Rattle.vax_form.specs.declared.instr.Operand.{Operand}
 use Rattle.vax_form.specs.declared.instr.Operand.TheVariants.{Register, Target}
 use Rattle.vax_form.specs.declared.operation.Condition.{Condition}
@@ -25,10 +23,9 @@ use Rattle.vax_meaning.specs.Evaluation.{evaluated_row, find, obtain, operands_f
 use Rattle.vax_meaning.specs.Instructions.{body, operation_script}
 use Rattle.vax_meaning.specs.Moves.{change_psw, move_psl}
 use Rattle.vax_meaning.specs.Operands.{locate, modify_at, put, store}
-use Rattle.vax_long.specs.Instructions.{any_script_of}
 use Rattle.cc_liveness.specs.Uses.{code_use_of, tested_by}
 use Rattle.block_law.specs.CodeWords.{codes_in}
-use Rattle.image_meaning.specs.CodeUses.{Alike, CodesReadHaveEffect, EndAlike, TellsApart}
+use Rattle.image_meaning.specs.CodeUses.{Alike, CodesReadHaveEffect, EndAlike}
 use Rattle.image_meaning.proofs.Witnesses.{any_by, behind, instr_of, is_state_of, is_table, script_by, state_of, two_pages}
 
 -- the bit of a code in the processor status

@@ -1,8 +1,7 @@
 -- Each operation that is said to end may go on elsewhere: a row for each.
-use Rattle.std.proofs.Common.{◌≡◌, ℕ, ◌<◌, ◌∷◌, [], List, refl, Bool, true, false, eqb, lit<, Some, None}
+use Rattle.std.proofs.Common.{◌≡◌, ℕ, ◌<◌, ◌∷◌, [], List, refl, Bool, true, false, eqb, lit<, None}
 use Rattle.std.specs.Prelude.{replicate}
 use Rattle.std.proofs.lemmas.Bool.{eqb-false, false≢true}
-use Rattle.vax_form.specs.Operation.{operation_at}
 use Rattle.vax_form.specs.Grammar.{padded}
 use Rattle.vax_form.specs.Row.{operands_of, operands_of_long}
 use Rattle.vax_form.specs.Script.{Script}
@@ -16,7 +15,7 @@ use Rattle.vax_form.specs.declared.instr.Width.TheVariants.{Byte, Word, Long}
 use Rattle.vax_form.specs.declared.operation.BitStore.{BitStore}
 use Rattle.vax_form.specs.declared.operation.BitStore.TheVariants.{Nothing, Plain, Interlocked}
 use Rattle.vax_form.specs.declared.operation.Condition.{Condition}
-use Rattle.vax_form.specs.declared.operation.Condition.TheVariants.{NotEqual, Equal, Greater, LessOrEqual, GreaterOrEqual, Less, GreaterUnsigned, LessOrEqualUnsigned, OverflowClear, OverflowSet, CarryClear, CarrySet}
+use Rattle.vax_form.specs.declared.operation.Condition.TheVariants.{NotEqual, Equal, LessOrEqual, Less, LessOrEqualUnsigned, OverflowSet, CarrySet}
 use Rattle.vax_form.specs.declared.operation.LongOperation.{LongOperation}
 use Rattle.vax_form.specs.declared.operation.LongOperation.TheVariants.{CallGeneral, CallStack, Return}
 use Rattle.vax_form.specs.declared.operation.Operation.{Operation}

@@ -1,8 +1,8 @@
 -- Instructions, states and pages that show what an operation does.
-use Rattle.std.proofs.Common.{◌≡◌, ℕ, ◌+◌, ◌<◌, ◌∷◌, [], ◌++◌, List, refl, sym, subst, Option, Some, None, true, false, arith, lit<, lit≤}
-use Rattle.std.specs.Prelude.{All, replicate}
+use Rattle.std.proofs.Common.{◌≡◌, ℕ, ◌+◌, ◌<◌, ◌∷◌, [], ◌++◌, List, refl, sym, subst, Some, true, false, arith, lit<}
+use Rattle.std.specs.Prelude.{replicate}
 use Rattle.std.proofs.lemmas.List.Elements.{All-append, All-cons, All-nil, All-replicate}
-use Rattle.vax_form.specs.Codes.{Code, negative, zero_code, overflow, carry, holds}
+use Rattle.vax_form.specs.Codes.{holds}
 use Rattle.vax_form.specs.Operation.{operation_at}
 use Rattle.vax_form.specs.PageTable.{IsPageTable}
 use Rattle.vax_form.specs.Script.{Script}

@@ -11,8 +11,9 @@ use Rattle.vax_form.specs.declared.state.RefKind.{RefKind}
 use Rattle.vax_form.specs.declared.state.RefKind.TheVariants.{Read, Write}
 use Rattle.vax_form.specs.declared.state.VaxState.{VaxState}
 use Rattle.alpha_encode.specs.NoOperation.{nop}
-use Rattle.alpha_encode.specs.declared.pal.TheConstants.{PROBE}
-use Rattle.alpha_encode.specs.declared.registers.TheConstants.{ADDRESS, BYTES, QUAD, QUAD_ADDRESS, TEMPORARIES, ZERO}
+use Rattle.alpha_encode.specs.Calls.{PROBE}
+use Rattle.alpha_encode.specs.Registers.{ADDRESS, TEMPORARIES, ZERO}
+use Rattle.alpha_encode.specs.declared.registers.TheConstants.{BYTES, QUAD, QUAD_ADDRESS}
 use Rattle.alpha_encode.specs.declared.instr.AlphaInstr.{AlphaInstr}
 use Rattle.alpha_encode.specs.declared.instr.AlphaInstr.TheVariants.{Memory, Branch, Operate, Pal}
 use Rattle.alpha_encode.specs.declared.instr.BranchOp.TheVariants.{Br, Beq}

@@ -3,7 +3,7 @@ use Rattle.std.specs.Prelude.{◌≡◌, ◌+◌, ◌&&◌, Bool, true, false, O
 use Rattle.address_map.specs.Pairs.{address_at}
 use Rattle.alpha_encode.specs.declared.instr.AlphaInstr.{AlphaInstr}
 use Rattle.alpha_encode.specs.declared.instr.AlphaInstr.TheVariants.{Pal}
-use Rattle.alpha_encode.specs.declared.pal.TheConstants.{PROBE}
+use Rattle.alpha_encode.specs.Calls.{PROBE}
 use Rattle.alpha_meaning.specs.State.{Alpha, Regs}
 use Rattle.block_law.specs.Follows.{probe_count, probe_address}
 use Rattle.block_law.specs.Translations.{fetch_of}

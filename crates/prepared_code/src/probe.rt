@@ -1,7 +1,7 @@
 // A probe whose bytes may all be used.
 ghost use Rattle.std.specs.Prelude.{◌≡◌, ◌<◌, Some, true, false};
 ghost use Rattle.alpha_encode.specs.declared.instr.AlphaInstr.TheVariants.{Pal};
-ghost use Rattle.alpha_encode.specs.declared.pal.TheConstants.{PROBE};
+ghost use Rattle.alpha_encode.specs.Calls.{PROBE};
 ghost use Rattle.alpha_machine.specs.Step.{state_of};
 ghost use Rattle.block_law.specs.Follows.{probe_count, probe_address};
 ghost use Rattle.alpha_meaning.specs.Pieces.{most_words};

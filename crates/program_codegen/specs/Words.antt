@@ -11,8 +11,8 @@ use Rattle.alpha_encode.specs.Halves.{load_longword}
 use Rattle.alpha_encode.specs.NoOperation.{nop}
 use Rattle.alpha_encode.specs.declared.instr.AlphaInstr.{AlphaInstr}
 use Rattle.alpha_encode.specs.declared.instr.AlphaInstr.TheVariants.{Memory, Branch, Operate, Pal}
-use Rattle.alpha_encode.specs.declared.pal.TheConstants.{PROBE, LOOK_UP, SERVE, RAISE, TRAP}
-use Rattle.alpha_encode.specs.declared.registers.TheConstants.{OVERFLOW, STATUS, TEMPORARIES, TARGET, ADDRESS, RULE_FIRST, RULE_SECOND, ZERO}
+use Rattle.alpha_encode.specs.Calls.{PROBE, LOOK_UP, SERVE, RAISE, TRAP}
+use Rattle.alpha_encode.specs.Registers.{OVERFLOW, STATUS, TEMPORARIES, TARGET, ADDRESS, RULE_FIRST, RULE_SECOND, ZERO}
 use Rattle.alpha_encode.specs.declared.instr.BranchOp.TheVariants.{Br, Beq}
 use Rattle.alpha_encode.specs.declared.instr.MemoryOp.TheVariants.{Lda}
 use Rattle.alpha_encode.specs.declared.instr.OperateOp.TheVariants.{Addl, And, Bis}

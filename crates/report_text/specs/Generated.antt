@@ -5,7 +5,7 @@ use Rattle.std.specs.Int.{w16, to_le_bytes}
 use Rattle.image_file.specs.Pages.{pages_of}
 use Rattle.image_file.specs.Values.{SectionValue, ImageValue}
 use Rattle.image_file.specs.declared.image.Start.{Start}
-use Rattle.image_file.specs.declared.limits.TheConstants.{FIRST_REGISTERS}
+use Rattle.image_file.specs.Limits.{FIRST_REGISTERS}
 use Rattle.report_text.specs.declared.images.Group.{Group}
 use Rattle.report_text.specs.declared.images.Group.TheVariants.{Add, ExclusiveOr, Rotate, Store}
 

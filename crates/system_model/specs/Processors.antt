@@ -1,6 +1,6 @@
 -- Processors: each runs one thread, by Alpha steps in translated code and by interpreted steps elsewhere.
 use Rattle.std.specs.Prelude.{◌≡◌, ℕ, zero, suc, ◌*◌, ◌/◌, ◌%◌, ◌==◌, Bool, List, [], ◌∷◌, ◌++◌, Option, Some, None, nat_lt, slice_index, if◌then◌else◌}
-use Rattle.alpha_encode.specs.declared.registers.TheConstants.{NEGATIVE, IS_ZERO, OVERFLOW, CARRY, STATUS}
+use Rattle.alpha_encode.specs.Registers.{NEGATIVE, IS_ZERO, OVERFLOW, CARRY, STATUS}
 use Rattle.alpha_meaning.specs.State.{Alpha, Regs, at_place}
 use Rattle.memory_core.specs.declared.entry.Entry.{Entry}
 use Rattle.memory_core.specs.declared.entry.Kind.{Kind}

@@ -1,6 +1,6 @@
 // The PALcode calls.
 ghost use Rattle.std.specs.Prelude.{◌≡◌, ◌≢◌, ◌≤◌, ◌<◌, ◌^◌, ◌%◌, length};
-ghost use Rattle.alpha_encode.specs.declared.registers.TheConstants.{TEMPORARIES};
+ghost use Rattle.alpha_encode.specs.Registers.{TEMPORARIES};
 ghost use Rattle.alpha_machine.specs.Step.{state_of};
 ghost use Rattle.block_law.specs.Follows.{call_of, probe_address, probe_count};
 ghost use Rattle.block_law.specs.Placements.{target};

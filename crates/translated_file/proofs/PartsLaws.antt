@@ -9,10 +9,9 @@ use Rattle.image_file.specs.Steps.{refuse_if, refuse_at}
 use Rattle.image_file.specs.declared.refusal.ImageRefusal.{ImageRefusal}
 use Rattle.image_file.proofs.StepLaws.{bind_ok, passed, passed_at, done, ok_is}
 use Rattle.translated_file.specs.declared.header.Header.{Header}
-use Rattle.translated_file.specs.declared.limits.TheConstants.{MAGIC, HEADER, MOST_HINTS}
 use Rattle.translated_file.specs.declared.refusal.TranslatedRefusal.{TranslatedRefusal}
 use Rattle.translated_file.specs.declared.refusal.TranslatedRefusal.TheVariants.{Truncated, BadMagic, BadVersion, Inner, NotTheTranslation, Trailing, BadHint, WantOfMemory}
-use Rattle.translated_file.specs.Limits.{is_version}
+use Rattle.translated_file.specs.Limits.{MAGIC, HEADER, MOST_HINTS, is_version}
 use Rattle.translated_file.specs.Values.{PartsValue}
 use Rattle.translated_file.specs.Reading.{Gives, hints_at, tail_at, header_in, header_of, image_bytes_in, hints_in, of_image, first_fall, parts_in, parts_of}
 

@@ -11,10 +11,9 @@ use Rattle.image_file.proofs.LengthLaws.{read_length}
 use Rattle.image_file.proofs.Prefixes.{cut, word_front, front_at, table_front, table_at, cut_length}
 use Rattle.image_file.proofs.StepLaws.{bind_ok}
 use Rattle.translated_file.specs.declared.header.Header.{Header}
-use Rattle.translated_file.specs.declared.limits.TheConstants.{MAGIC, HEADER, MOST_HINTS}
 use Rattle.translated_file.specs.declared.refusal.TranslatedRefusal.{TranslatedRefusal}
 use Rattle.translated_file.specs.declared.refusal.TranslatedRefusal.TheVariants.{Truncated}
-use Rattle.translated_file.specs.Limits.{is_version}
+use Rattle.translated_file.specs.Limits.{MAGIC, HEADER, MOST_HINTS, is_version}
 use Rattle.translated_file.specs.Values.{PartsValue}
 use Rattle.translated_file.specs.Spelling.{tail_words}
 use Rattle.translated_file.specs.Reading.{hints_at, tail_at, header_in, header_of, image_bytes_in, hints_in, first_fall, parts_in, parts_of}

@@ -4,7 +4,7 @@ use Rattle.address_map.specs.Pairs.{Pair}
 use Rattle.image_file.specs.Reading.{word, table_in}
 use Rattle.image_file.specs.Spelling as Image
 use Rattle.image_file.specs.Steps.{◌>>=◌, refuse_if, refuse_at}
-use Rattle.translated_file.specs.declared.limits.TheConstants.{HEADER, WORD_BYTES}
+use Rattle.translated_file.specs.Limits.{HEADER, WORD_BYTES}
 use Rattle.translated_file.specs.declared.refusal.TranslatedRefusal.{TranslatedRefusal}
 use Rattle.translated_file.specs.declared.refusal.TranslatedRefusal.TheVariants.{Truncated, NotTheTranslation, Trailing}
 use Rattle.translated_file.specs.Spelling.{tail_words}

@@ -5,10 +5,9 @@ use Rattle.image_file.specs.Values.{ImageValue}
 use Rattle.image_file.specs.Reading.{word, table_in, image_of}
 use Rattle.image_file.specs.Steps.{◌>>=◌, refuse_if, refuse_at}
 use Rattle.translated_file.specs.declared.header.Header.{Header}
-use Rattle.translated_file.specs.declared.limits.TheConstants.{MAGIC, HEADER, WORD_BYTES, MOST_HINTS}
 use Rattle.translated_file.specs.declared.refusal.TranslatedRefusal.{TranslatedRefusal}
 use Rattle.translated_file.specs.declared.refusal.TranslatedRefusal.TheVariants.{Truncated, BadMagic, BadVersion, Inner, BadHint, WantOfMemory}
-use Rattle.translated_file.specs.Limits.{is_version}
+use Rattle.translated_file.specs.Limits.{MAGIC, HEADER, WORD_BYTES, MOST_HINTS, is_version}
 use Rattle.translated_file.specs.Values.{PartsValue}
 
 -- a call's answer, seen by view, is what reading gives, unless memory ran out

@@ -3,8 +3,7 @@ use Rattle.std.specs.Prelude.{◌≡◌, ℕ, ◌≤◌, ◌<◌, ◌^◌, true,
 use Rattle.std.specs.List.{AllByRecursion, AllAdjacentBelow}
 use Rattle.address_map.specs.Pairs.{Pair}
 use Rattle.image_file.specs.Whole.{IsWhole}
-use Rattle.translated_file.specs.declared.limits.TheConstants.{MOST_HINTS, MOST_WORDS, MOST_PAIRS}
-use Rattle.translated_file.specs.Limits.{is_version}
+use Rattle.translated_file.specs.Limits.{MOST_HINTS, MOST_WORDS, MOST_PAIRS, is_version}
 use Rattle.translated_file.specs.Values.{PartsValue}
 
 abbrev pub IsLong : ℕ → Type 0

@@ -1,6 +1,7 @@
 //! The numbers of the format, and its limits.
 ghost use Rattle.std.specs.Prelude.{◌≡◌};
 ghost use Rattle.translated_file.specs.Limits.{is_version};
+ghost use Rattle.translated_file.specs.Limits as stated;
 
 /// The version that is written.
 pub const VERSION: u32 = 1;
@@ -26,3 +27,14 @@ pub fn is_version(number: u32) -> bool
 {
     number == VERSION
 }
+
+/// The numbers and the limits are those that the definitions state in figures.
+pub fn limits_are_as_stated()
+    ensures magic { MAGIC ≡ stated.MAGIC }
+    ensures version { VERSION ≡ stated.VERSION }
+    ensures header { HEADER ≡ stated.HEADER }
+    ensures word_bytes { WORD_BYTES ≡ stated.WORD_BYTES }
+    ensures most_hints { MOST_HINTS ≡ stated.MOST_HINTS }
+    ensures most_words { MOST_WORDS ≡ stated.MOST_WORDS }
+    ensures most_pairs { MOST_PAIRS ≡ stated.MOST_PAIRS }
+{}

@@ -1,7 +1,7 @@
 -- The services and the breakpoint.
 -- VAX Architecture Reference Manual, "Operating System Support": CHMK, whose codes are this system's own.
 use Rattle.std.specs.Prelude.{ℕ, ◌%◌, ◌^◌, ◌==◌, List}
-use Rattle.service_codes.specs.declared.TheConstants.{EXIT, PUT, GET, THREAD, HANDLER, RESUME}
+use Rattle.service_codes.specs.Codes.{EXIT, PUT, GET, THREAD, HANDLER, RESUME}
 use Rattle.vax_form.specs.State.{with_pc, with_handler, with_pending}
 use Rattle.vax_form.specs.Script.{Script, ◌>>=◌, ◌>>◌, pure, ask, get, change, when◌then◌else◌}
 use Rattle.vax_form.specs.declared.instr.Size.TheVariants.{Word}

@@ -5,7 +5,7 @@ use Rattle.vt_outside.specs.Desk.{BothTold, DeskMeaning, Files, Puts, PutsPart}
 use Rattle.image_file.specs.Values.{ImageValue}
 use Rattle.image_file.specs.Reading.{image_of}
 use Rattle.translated_file.specs.Spelling.{spelling}
-use Rattle.translated_file.specs.declared.limits.TheConstants.{VERSION}
+use Rattle.translated_file.specs.Limits.{VERSION}
 use Rattle.block_law.specs.Translations.{Code}
 use Rattle.vest_stops.specs.Decided.{Decision}
 use Rattle.vest_files.specs.Loading.{DecidesFile, DecidesImage, IsOfImage, StopsAtImageFile}

@@ -2,7 +2,7 @@
 ghost use Rattle.std.specs.Prelude.{◌≡◌, IfOk, IfErr, []};
 ghost use Rattle.image_file.specs.Whole.{IsWhole};
 ghost use Rattle.translated_file.specs.Spelling.{spelling};
-ghost use Rattle.translated_file.specs.declared.limits.TheConstants.{VERSION};
+ghost use Rattle.translated_file.specs.Limits.{VERSION};
 ghost use Rattle.vest_stops.specs.Decided.{Decision, IsDecided};
 ghost use Rattle.translate.specs.Translated.{IsTranslated};
 ghost use Rattle.vest_stops.specs.Files.{SameFiles};
