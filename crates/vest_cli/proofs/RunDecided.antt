@@ -13,7 +13,7 @@ use Rattle.vest_stops.specs.declared.stop.Stop.{Stop}
 use Rattle.vest_stops.specs.declared.stop.Stop.TheVariants.{Absent, Refused, ReadFault, TooLong, WantOfMemory}
 use Rattle.vest_runs.specs.Input.{DecidesInput, ReadsAll, StopsAtInput}
 use Rattle.vest_cli.specs.Run.{DecidesBehind, DecidesRun, StopsRun}
-use Rattle.vest_runs.specs.declared.input.TheConstants.{INPUT_LIMIT}
+use Rattle.vest_runs.specs.Limits.{INPUT_LIMIT}
 
 stops_at_load : (stop : Stop) (at d : Decision) (input : Option (List ℕ)) → StopsAsDecided stop at → DecidesBehind at input d → StopsAsDecided stop d
 stops_at_load Absent at d input h e = subst (λ (x : Decision). DecidesBehind x input d) h e

@@ -20,7 +20,7 @@ use Rattle.vest_stops.specs.Refusal.{RefusalValue}
 use Rattle.vest_files.specs.Stages.{HasParts, IsFile, IsImage, RefusesFlow, RefusesImage, RefusesParts, RefusesTail, StopsAtFile, StopsWhere}
 use Rattle.translate.specs.Translated.{IsTranslated}
 use Rattle.vest_files.specs.Translate.{DecidesTranslate, StopsTranslate}
-use Rattle.vest_files.specs.declared.stages.TheConstants.{FILE_LIMIT}
+use Rattle.vest_files.specs.Limits.{FILE_LIMIT}
 use Rattle.vest_stops.specs.declared.status.Status.TheVariants as status
 use Rattle.vest_stops.specs.declared.stop.Stop.{Stop}
 use Rattle.vest_stops.specs.declared.stop.Stop.TheVariants.{Absent, Refused, ReadFault, TooLong, WantOfMemory}

@@ -15,7 +15,7 @@ use Rattle.block_law.specs.Translations.{Code}
 use Rattle.vest_stops.specs.Decided.{Decision, stops, goes_on}
 use Rattle.vest_files.specs.Stages.{HasParts, IsFile, IsImage, StopsAtFile, StopsAtImage, StopsAtParts, StopsAtTail, StopsAtTranslation}
 use Rattle.translate.specs.Translated.{IsTranslated}
-use Rattle.vest_files.specs.declared.stages.TheConstants.{FILE_LIMIT}
+use Rattle.vest_files.specs.Limits.{FILE_LIMIT}
 use Rattle.vest_stops.specs.declared.status.Status.TheVariants as status
 use Rattle.vest_stops.specs.declared.stop.Stop.{Stop}
 

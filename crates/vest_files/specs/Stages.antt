@@ -21,7 +21,7 @@ use Rattle.translate.specs.Translated.{IsTranslated}
 use Rattle.translate.specs.declared.refusal.TranslateRefusal.TheVariants.{Flow as TooMuch}
 use Rattle.report_text.specs.declared.refused.Subject.TheVariants as subjects
 use Rattle.vest_stops.specs.Refusal.{RefusalValue, told}
-use Rattle.vest_files.specs.declared.stages.TheConstants.{FILE_LIMIT}
+use Rattle.vest_files.specs.Limits.{FILE_LIMIT}
 use Rattle.vest_stops.specs.declared.stop.Stop.{Stop}
 use Rattle.vest_stops.specs.declared.stop.Stop.TheVariants.{Absent, Refused, ReadFault, TooLong, WantOfMemory}
 

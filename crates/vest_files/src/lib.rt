@@ -11,5 +11,6 @@ mod translating;
 
 pub use listing::list_file;
 pub use loading::{Loaded, load};
+pub use stages::file_limit_is_as_stated;
 pub use translating::translate_file;
 pub use vest_stops::{Done, Refusal, Status, Stop};

@@ -2,6 +2,7 @@
 ghost use Rattle.std.specs.Prelude.{◌≡◌, IfOk, IfErr, OnOk, Ok};
 ghost use Rattle.translated_file.specs.Comparing.{compared};
 ghost use Rattle.translated_file.specs.Whole.{AreWhole};
+ghost use Rattle.vest_files.specs.Limits as stated;
 ghost use Rattle.vest_files.specs.Stages.{HasParts, IsFile, IsImage};
 ghost use Rattle.translate.specs.Translated.{IsTranslated};
 ghost use Rattle.vest_stops.specs.Files.{SameFiles};
@@ -18,6 +19,11 @@ use vt_outside::{Desk, DeskRead};
 
 /// The most bytes of a file.
 pub const FILE_LIMIT: usize = 50_331_648;
+
+/// The limit is the one that the definitions state in figures.
+pub fn file_limit_is_as_stated()
+    ensures { FILE_LIMIT ≡ stated.FILE_LIMIT }
+{}
 
 /// The bytes of a file.
 pub fn read_file<D: Desk>(alloc: Global, desk: &mut D, name: &str) -> Result<Vec<u8>, Stop>

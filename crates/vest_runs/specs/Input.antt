@@ -7,7 +7,8 @@ use Rattle.vest_stops.specs.Decided.{Decision, stops, goes_on}
 use Rattle.vest_stops.specs.declared.status.Status.TheVariants as status
 use Rattle.vest_stops.specs.declared.stop.Stop.{Stop}
 use Rattle.vest_stops.specs.declared.stop.Stop.TheVariants.{ReadFault, TooLong, WantOfMemory}
-use Rattle.vest_runs.specs.declared.input.TheConstants.{AT_ONCE, INPUT_LIMIT}
+use Rattle.vest_runs.specs.Limits.{INPUT_LIMIT}
+use Rattle.vest_runs.specs.declared.input.TheConstants.{AT_ONCE}
 
 -- these bytes are all that the source had left, where it tells them, and nothing is left
 pub record ReadsAll (old new : SourceMeaning) (bytes : List ℕ) : Type 0 where

@@ -1,5 +1,6 @@
 pub mod Kept
 pub mod Threads
+pub mod Limits
 pub mod Input
 pub mod Report
 pub mod Delivery

@@ -1,6 +1,7 @@
 // The input of a run.
 ghost use Rattle.std.specs.Prelude.{◌≡◌, IfOk, IfErr, OnOk, []};
 ghost use Rattle.vest_runs.specs.Input.{ReadsAll, StopsAtInput};
+ghost use Rattle.vest_runs.specs.Limits as stated;
 
 use std::alloc::Global;
 use vest_stops::Stop;
@@ -8,6 +9,11 @@ use vt_outside::{Got, Source};
 
 /// The most bytes of input.
 pub const INPUT_LIMIT: usize = 65_536;
+
+/// The limit is the one that the definitions state in figures.
+pub fn input_limit_is_as_stated()
+    ensures { INPUT_LIMIT ≡ stated.INPUT_LIMIT }
+{}
 
 /// The most bytes of one call.
 pub const AT_ONCE: usize = 1024;

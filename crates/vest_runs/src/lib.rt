@@ -12,6 +12,6 @@ mod kept;
 
 pub use delivery::deliver;
 pub use generated::lines_of;
-pub use input::read_input;
+pub use input::{input_limit_is_as_stated, read_input};
 pub use keeping::keep;
 pub use kept::Kept;
