@@ -2,18 +2,18 @@
 -- VAX Architecture Reference Manual, "Control Instructions" and "Procedure Call Instructions".
 use Rattle.std.specs.Prelude.{ℕ, ◌+◌, ◌*◌, Bool, true, false, List, [], ◌∷◌, ◌++◌, Option, option_map, option_and_then, nat_lt, if◌then◌else◌}
 use Rattle.std.specs.List.{filter_map, range_with_len}
-use Rattle.std.specs.Option.{option_map_or, option_to_list}
+use Rattle.std.specs.Option.{option_map_or}
 use Rattle.vax_form.specs.Grammar.{extended, wrapped}
 use Rattle.vax_form.specs.Operation.{operation_at}
 use Rattle.vax_form.specs.Pages.{code_byte_at}
-use Rattle.vax_form.specs.Targets.{branch_target, fixed_address, operand_of}
+use Rattle.vax_form.specs.Targets.{fixed_targets, operand_of}
 use Rattle.vax_form.specs.declared.instr.Instr.{Instr}
 use Rattle.vax_form.specs.declared.instr.Operand.{Operand}
 use Rattle.vax_form.specs.declared.instr.Operand.TheVariants.{Value}
 use Rattle.vax_form.specs.declared.instr.Size.TheVariants.{Word}
-use Rattle.vax_form.specs.declared.operation.LongOperation.TheVariants.{CallGeneral, CallStack, Return}
+use Rattle.vax_form.specs.declared.operation.LongOperation.TheVariants.{Return}
 use Rattle.vax_form.specs.declared.operation.Operation.{Operation}
-use Rattle.vax_form.specs.declared.operation.Operation.TheVariants.{Branch, Breakpoint, Case, Jump, JumpToSubroutine, Long, ReturnFromSubroutine}
+use Rattle.vax_form.specs.declared.operation.Operation.TheVariants.{Branch, Breakpoint, Case, Jump, Long, ReturnFromSubroutine}
 use Rattle.vax_form.specs.declared.pages.Pages.{Pages}
 
 -- ---- the address behind the instruction
@@ -27,12 +27,6 @@ falls_through (Long Return) = false
 falls_through Breakpoint = false
 falls_through (Case width) = false
 falls_through _ = true
-
--- ---- addresses that the operands name
-
--- a procedure begins with its entry mask, a word
-abbrev pub behind_mask : ℕ → ℕ
-behind_mask address = wrapped (address + 2)
 
 -- ---- the table of a CASE: words behind the instruction, numbered from 0 to the limit, each the displacement of its
 -- target from the table
@@ -64,19 +58,15 @@ case_addresses pages table base limit = []
 
 -- ---- the instruction
 
--- the addresses that jumps, calls and CASE give
-unfoldable pub jump_addresses : Pages → Instr → Operation → List ℕ
-jump_addresses pages instr Jump = option_to_list (fixed_address (operand_of instr 0))
-jump_addresses pages instr JumpToSubroutine = option_to_list (fixed_address (operand_of instr 0))
-jump_addresses pages instr (Long CallGeneral) = option_to_list (option_map behind_mask (fixed_address (operand_of instr 1)))
-jump_addresses pages instr (Long CallStack) = option_to_list (option_map behind_mask (fixed_address (operand_of instr 1)))
-jump_addresses pages instr (Case width) = case_addresses pages instr.after (operand_of instr 1) (operand_of instr 2)
-jump_addresses pages instr _ = []
+-- the addresses that a CASE gives
+unfoldable pub table_of : Pages → Instr → Operation → List ℕ
+table_of pages instr (Case width) = case_addresses pages instr.after (operand_of instr 1) (operand_of instr 2)
+table_of pages instr _ = []
 
--- the address behind it, its branch target, and the addresses of jumps, calls and CASE
+-- the address behind it, the targets of its branch, jump or call that its operands fix, and the addresses of a CASE
 abbrev pub goes_on_by : Pages → Instr → Operation → List ℕ
 goes_on_by pages instr operation =
-    (if falls_through operation then instr.after ∷ [] else []) ++ filter_map branch_target instr.operands ++ jump_addresses pages instr operation
+    (if falls_through operation then instr.after ∷ [] else []) ++ fixed_targets instr ++ table_of pages instr operation
 
 -- all addresses to which the instruction goes on
 unfoldable pub goes_on : Pages → Instr → List ℕ

@@ -4,12 +4,12 @@ ghost use Rattle.std.specs.List.{filter_map};
 ghost use Rattle.std.specs.Option.{option_to_list};
 ghost use Rattle.vax_form.specs.Grammar.{extended};
 ghost use Rattle.vax_form.specs.declared.instr.Size.TheVariants.{Word};
-ghost use Rattle.flow_discovery.specs.Flow.{case_addresses, falls_through, goes_on, jump_addresses, table_addresses, table_limit, table_target, word_at};
-ghost use Rattle.vax_form.specs.Targets.{branch_target};
+ghost use Rattle.flow_discovery.specs.Flow.{case_addresses, falls_through, goes_on, table_addresses, table_limit, table_of, table_target, word_at};
+ghost use Rattle.vax_form.specs.Targets.{branch_target, fixed_targets};
 
 use std::alloc::{AllocError, Global};
 use vax_form::{
-    Instr, LongOperation, Operand, Operation, Pages, branch_target, fixed_address, operation_of,
+    Instr, LongOperation, Operand, Operation, Pages, branch_target, call_of, jump_of, operation_of,
 };
 
 #[tactic(auto, unfolding(crate::specs::Flow::falls_through))]
@@ -92,24 +92,17 @@ fn push_case(
     }
 }
 
-#[tactic(auto, unfolding(crate::specs::Flow::jump_addresses))]
-fn push_jumps(
+#[tactic(auto, unfolding(crate::specs::Flow::table_of))]
+fn push_table_of(
     pages: &Pages,
     instr: &Instr,
     operation: Operation,
     into: &mut Vec<u32>,
 ) -> Result<(), AllocError>
-    ensures { OnOk result (into.new.items ≡ into.old.items ++ jump_addresses pages.now instr.now operation) }
+    ensures { OnOk result (into.new.items ≡ into.old.items ++ table_of pages.now instr.now operation) }
 {
     let operands = &instr.operands;
     match operation {
-        Operation::Jump | Operation::JumpToSubroutine => {
-            push_some(fixed_address(&operands[0]), into)
-        }
-        Operation::Long(LongOperation::CallGeneral | LongOperation::CallStack) => {
-            let procedure = fixed_address(&operands[1]);
-            push_some(procedure.map(|mask| mask.wrapping_add(2)), into)
-        }
         Operation::Case(_) => push_case(pages, instr.after, &operands[1], &operands[2], into),
         _ => Ok(()),
     }
@@ -124,6 +117,15 @@ fn push_branch_targets(operands: &[Operand], into: &mut Vec<u32>) -> Result<(), 
     Ok(())
 }
 
+#[tactic(auto, unfolding(vax_form::specs::Targets::fixed_targets))]
+fn push_fixed_targets(instr: &Instr, into: &mut Vec<u32>) -> Result<(), AllocError>
+    ensures { OnOk result (into.new.items ≡ into.old.items ++ fixed_targets instr.now) }
+{
+    push_branch_targets(&instr.operands, into)?;
+    push_some(jump_of(instr), into)?;
+    push_some(call_of(instr), into)
+}
+
 /// The addresses to which control may go on from the instruction.
 #[tactic(auto, unfolding(crate::specs::Flow::goes_on))]
 pub fn goes_on(alloc: Global, pages: &Pages, instr: &Instr) -> Result<Vec<u32>, AllocError>
@@ -136,7 +138,7 @@ pub fn goes_on(alloc: Global, pages: &Pages, instr: &Instr) -> Result<Vec<u32>, 
     if falls_through(operation) {
         addresses.push(instr.after)?;
     }
-    push_branch_targets(&instr.operands, &mut addresses)?;
-    push_jumps(pages, instr, operation, &mut addresses)?;
+    push_fixed_targets(instr, &mut addresses)?;
+    push_table_of(pages, instr, operation, &mut addresses)?;
     Ok(addresses)
 }

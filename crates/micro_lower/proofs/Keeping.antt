@@ -9,7 +9,7 @@ use Rattle.std.proofs.lemmas.List.Folds.{list_all-append, list_any-append}
 use Rattle.std.proofs.lemmas.Bool.{and_parts, or_right, eq-eqb}
 use Rattle.std.proofs.lemmas.Option.{same_Some}
 use Rattle.vax_form.specs.Operation.{operation_at}
-use Rattle.vax_form.specs.Targets.{branch_target, fixed_address, jump_target, jump_of, fixed_targets}
+use Rattle.vax_form.specs.Targets.{branch_target, fixed_address, jump_target, jump_of, call_of, fixed_targets}
 use Rattle.vax_form.specs.declared.instr.Base.TheVariants as bases
 use Rattle.vax_form.specs.declared.instr.Instr.{Instr}
 use Rattle.vax_form.specs.declared.instr.Operand.{Operand}
@@ -184,17 +184,24 @@ branch_among (operands.Place base index ∷ others) (suc number) is = branch_amo
 abbrev pub IsFixed : Instr → (address : ℕ) → Type 0
 IsFixed instr address = list_any (nat_eq address) (fixed_targets instr) ≡ true
 
+module _ (address : ℕ) (xs ys zs : List ℕ) where
+  among_first : list_any (nat_eq address) xs ≡ true → list_any (nat_eq address) (xs ++ ys ++ zs) ≡ true
+  among_first is = list_any-append (nat_eq address) (xs ++ ys) zs ∙ rw (list_any-append (nat_eq address) xs ys, is) refl
+
+  among_second : list_any (nat_eq address) ys ≡ true → list_any (nat_eq address) (xs ++ ys ++ zs) ≡ true
+  among_second is =
+      let both = list_any-append (nat_eq address) xs ys ∙ or_right (list_any (nat_eq address) xs) (list_any (nat_eq address) ys) is in
+      list_any-append (nat_eq address) (xs ++ ys) zs ∙ rw both refl
+
 pub branch_fixed : (instr : Instr) (number : ℕ) → IsTarget (operand instr number) → IsFixed instr (target (operand instr number))
 unfolding fixed_targets
 branch_fixed instr number is =
-    let t = target (operand instr number) in
-    list_any-append (nat_eq t) (filter_map branch_target instr.operands) (option_to_list (jump_of instr)) ∙ rw (branch_among instr.operands number is) refl
+    among_first (target (operand instr number)) (filter_map branch_target instr.operands) (option_to_list (jump_of instr)) (option_to_list (call_of instr)) (branch_among instr.operands number is)
 
 pub jump_fixed : (instr : Instr) (address : ℕ) → jump_of instr ≡ Some address → IsFixed instr address
 unfolding fixed_targets
 jump_fixed instr address is =
-    list_any-append (nat_eq address) (filter_map branch_target instr.operands) (option_to_list (jump_of instr))
-    ∙ or_right (list_any (nat_eq address) (filter_map branch_target instr.operands)) (list_any (nat_eq address) (option_to_list (jump_of instr))) (rw (is, eq-eqb address address refl) refl)
+    among_second address (filter_map branch_target instr.operands) (option_to_list (jump_of instr)) (option_to_list (call_of instr)) (rw (is, eq-eqb address address refl) refl)
 
 module _ (operation : Operation) (instr : Instr) (is : operation_at instr.opcode ≡ Some operation) (ends : (code_use_of operation).ends ≡ true) where
   may_jump : (use_of instr).ends ≡ true
