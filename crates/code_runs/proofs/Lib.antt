@@ -7,3 +7,4 @@ pub mod Alone
 pub mod Meeting
 pub mod Searched
 pub mod Entering
+pub mod LongCodes

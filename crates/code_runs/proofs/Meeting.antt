@@ -2,10 +2,8 @@
 use Rattle.std.proofs.Common.{◌≡◌, ◌≢◌, ◌<◌, ℕ, Bool, true, false, zero, suc, refl, sym, ap, ◌∙◌, subst, arith, cond, List, length, Option, Some, None}
 use Rattle.std.specs.Option.{option_map_or}
 use Rattle.vax_form.specs.Operation.{operation_at}
-use Rattle.vax_form.specs.Row.{class_at, class_where}
 use Rattle.vax_form.specs.declared.instr.Instr.{Instr}
 use Rattle.vax_form.specs.declared.operation.Operation.{Operation}
-use Rattle.vax_form.specs.declared.row.Class.TheVariants.{Translated}
 use Rattle.vax_form.specs.declared.state.Flags.{Flags}
 use Rattle.vax_form.specs.Codes.{Code, all, holds, none}
 use Rattle.vax_form.specs.Codes as code
@@ -19,12 +17,12 @@ use Rattle.exception_records.specs.Codes.{all_ready, is_ready}
 use Rattle.exception_records.specs.declared.rules.CodeRule.{CodeRule}
 use Rattle.exception_records.specs.declared.rules.CodeRule.TheVariants as rule
 use Rattle.exception_records.specs.declared.rules.Rules.{Rules}
-use Rattle.code_runs.specs.Ready.{AreReady}
+use Rattle.code_runs.specs.Ready.{AreReady, can_have_block}
 use Rattle.code_runs.specs.Rules.{rules_behind}
 use Rattle.code_runs.proofs.Ready.{live_are_ready, ready_all, wanted_live}
 use Rattle.code_runs.specs.Runs.{AreInOrder, instr_at, joined_to, no_instr}
 use Rattle.code_runs.specs.Codes.{code_sources, codes_at, joined_behind, live_at, rules_before}
-use Rattle.code_runs.specs.Promises.{AreTranslated, RulesAlwaysMeet, RulesMeet}
+use Rattle.code_runs.specs.Promises.{CanHaveBlocks, RulesAlwaysMeet, RulesMeet}
 use Rattle.code_runs.proofs.Places.{same_place}
 use Rattle.code_runs.proofs.Joined.{joined, joined_alone, joined_is_behind, none_is_behind}
 use Rattle.code_runs.proofs.Chains.{live_last, live_more, rules_first, rules_more}
@@ -58,16 +56,16 @@ reads_wanted its live code.carry h = read_passes its.reads.c its.writes.c live.c
 
 -- ---- an instruction
 -- the codes that are live behind it are ready there, if those that are wanted before it are ready before
-live_ready : (instr : Instr) (live : Flags) (before : Rules) → class_at instr.opcode ≡ Translated → AreReady (wanted_before (use_of instr) live) before → AreReady live (rules_behind (code_sources instr) live before)
+live_ready : (instr : Instr) (live : Flags) (before : Rules) → option_map_or can_have_block (operation_at instr.opcode) false ≡ true → AreReady (wanted_before (use_of instr) live) before → AreReady live (rules_behind (code_sources instr) live before)
 unfolding use_of code_sources
-live_ready instr live before translated h = by (operation_at instr.opcode) translated h
+live_ready instr live before can h = by (operation_at instr.opcode) can h
   where
-    by : (o : Option Operation) → class_where o ≡ Translated → AreReady (wanted_before (option_map_or code_use_of o (goes_on none none)) live) before
+    by : (o : Option Operation) → option_map_or can_have_block o false ≡ true → AreReady (wanted_before (option_map_or code_use_of o (goes_on none none)) live) before
         → AreReady live (rules_behind (option_map_or sources_of o (from Kept Kept)) live before)
     by None e h = absurd (cc e)
     by (Some operation) e h = live_are_ready operation live before e h
 
-module _ (instrs : List Instr) (order : AreInOrder instrs) (translated : AreTranslated instrs) where
+module _ (instrs : List Instr) (order : AreInOrder instrs) (can : CanHaveBlocks instrs) where
   wanted_ready : (most place : ℕ) → place < most → place < length instrs → AreReady (wanted_before (use_of (instr_at instrs place)) (live_at instrs place)) (rules_before instrs place)
   wanted_ready zero place enough lt = absurd (omega arith)
   wanted_ready (suc most) place enough lt = by (joined_to instrs place) refl (wanted_ready most)
@@ -85,14 +83,14 @@ module _ (instrs : List Instr) (order : AreInOrder instrs) (translated : AreTran
           let j = joined instrs order p place e in
           let before = j.before in
           let wanted = wanted_before (use_of (instr_at instrs place)) (live_at instrs place) in
-          let ready = live_ready (instr_at instrs p) (live_at instrs p) (rules_before instrs p) (translated p no_instr (omega arith)) (earlier p (omega arith) (omega arith)) in
+          let ready = live_ready (instr_at instrs p) (live_at instrs p) (rules_before instrs p) (can p no_instr (omega arith)) (earlier p (omega arith) (omega arith)) in
           let live = live_more instrs order p place (joined_is_behind instrs order p place e) in
           let shown = subst (λ (set : Flags). AreReady set (codes_at instrs p).behind) live ready in
           subst (λ (rules : Rules). AreReady wanted rules) (sym (rules_more instrs order place p lt e)) (λ c h. shown c (wanted_live (use_of (instr_at instrs p)) wanted c h))
 
   behind_ready : (place : ℕ) → place < length instrs → AreReady (live_at instrs place) (codes_at instrs place).behind
   behind_ready place lt =
-      live_ready (instr_at instrs place) (live_at instrs place) (rules_before instrs place) (translated place no_instr lt) (wanted_ready (suc place) place (omega arith) lt)
+      live_ready (instr_at instrs place) (live_at instrs place) (rules_before instrs place) (can place no_instr lt) (wanted_ready (suc place) place (omega arith) lt)
 
   behind_all : (place : ℕ) → place < length instrs → live_at instrs place ≡ all → (codes_at instrs place).behind ≡ all_ready
   behind_all place lt e = all_are_ready (codes_at instrs place).behind (subst (λ (set : Flags). AreReady set (codes_at instrs place).behind) e (behind_ready place lt))
@@ -136,4 +134,4 @@ module _ (instrs : List Instr) (order : AreInOrder instrs) (translated : AreTran
   }
 
 pub rules_always_meet : RulesAlwaysMeet
-rules_always_meet instrs order translated = meet instrs order translated
+rules_always_meet instrs order can = meet instrs order can

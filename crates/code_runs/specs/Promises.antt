@@ -1,11 +1,11 @@
 -- What holds of the runs of instructions, and of the condition codes along them.
 use Rattle.cc_liveness.specs.Uses.{use_of}
-use Rattle.std.specs.Prelude.{◌≡◌, ◌≢◌, ◌<◌, ℕ, true, All, Contains, List, None, length}
-use Rattle.vax_form.specs.Row.{class_at}
+use Rattle.std.specs.Prelude.{◌≡◌, ◌≢◌, ◌<◌, ℕ, true, false, All, Contains, List, None, length}
+use Rattle.std.specs.Option.{option_map_or}
+use Rattle.vax_form.specs.Operation.{operation_at}
 use Rattle.vax_form.specs.declared.instr.Instr.{Instr}
-use Rattle.vax_form.specs.declared.row.Class.TheVariants.{Translated}
 use Rattle.exception_records.specs.Codes.{all_ready}
-use Rattle.code_runs.specs.Ready.{AreReady}
+use Rattle.code_runs.specs.Ready.{AreReady, can_have_block}
 use Rattle.code_runs.specs.Runs.{AreInOrder, instr_at, joined_to, IsRun}
 use Rattle.code_runs.specs.Codes.{codes_at}
 
@@ -19,8 +19,9 @@ pub record IsInOneRun (instrs : List Instr) (place : ℕ) : Type 0 where
 abbrev pub EachInOneRun : Type 0
 EachInOneRun = (instrs : List Instr) → AreInOrder instrs → (place : ℕ) → place < length instrs → IsInOneRun instrs place
 
-abbrev pub AreTranslated : List Instr → Type 0
-AreTranslated instrs = All (λ instr. class_at instr.opcode ≡ Translated) instrs
+-- there can be a block for each
+abbrev pub CanHaveBlocks : List Instr → Type 0
+CanHaveBlocks instrs = All (λ instr. option_map_or can_have_block (operation_at instr.opcode) false ≡ true) instrs
 
 -- Where an instruction ends, control may be elsewhere behind it, and all codes are ready there; so they are before one that
 -- is joined to none. An instruction finds the rules of the one that ends where it begins, and behind one where none begins
@@ -35,4 +36,4 @@ pub record RulesMeet (instrs : List Instr) : Type 0 where
   pub reads : (place : ℕ) → place < length instrs → AreReady (use_of (instr_at instrs place)).reads (codes_at instrs place).before
 
 abbrev pub RulesAlwaysMeet : Type 0
-RulesAlwaysMeet = (instrs : List Instr) → AreInOrder instrs → AreTranslated instrs → RulesMeet instrs
+RulesAlwaysMeet = (instrs : List Instr) → AreInOrder instrs → CanHaveBlocks instrs → RulesMeet instrs

@@ -9,9 +9,9 @@ pub fn run_laws()
     ensures rules { RulesAlwaysMeet }
 {}
 
-/// A translated operation writes the codes that have a source. A code that is live behind it is ready there, if those that
-/// are wanted before it are ready before. So along a run of translated instructions, before which all codes are ready, the
-/// live codes are.
+/// An operation for which there can be a block writes the codes that have a source. A code that is live behind it is ready
+/// there, if those that are wanted before it are ready before. So along a run of such instructions, before which all codes
+/// are ready, the live codes are.
 pub fn rule_laws()
     ensures sources { SourcesAreWritten }
     ensures ready { LiveAreReady }

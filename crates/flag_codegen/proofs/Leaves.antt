@@ -6,6 +6,8 @@ use Rattle.vax_form.specs.declared.instr.Instr.{Instr}
 use Rattle.vax_form.specs.declared.instr.Width.{Width}
 use Rattle.vax_form.specs.declared.operation.BinaryOperation.{BinaryOperation}
 use Rattle.vax_form.specs.declared.operation.BinaryOperation.TheVariants as binary
+use Rattle.vax_form.specs.declared.operation.LongOperation.{LongOperation}
+use Rattle.vax_form.specs.declared.operation.LongOperation.TheVariants.{CallGeneral}
 use Rattle.vax_form.specs.declared.operation.Operation.{Operation}
 use Rattle.vax_form.specs.declared.operation.Operation.TheVariants as operations
 use Rattle.vax_form.specs.declared.state.Flags.{Flags}
@@ -24,12 +26,18 @@ unfolding sources_of
 binary_pair binary.Add width = refl
 binary_pair _ width = tt
 
+long_pair : (operation : LongOperation) → let sources = sources_of (operations.Long operation) in pairs sources.c sources.nzv
+unfolding sources_of
+long_pair CallGeneral = tt
+long_pair _ = tt
+
 sums_pair : (operation : Operation) → let sources = sources_of operation in pairs sources.c sources.nzv
 unfolding sources_of
 sums_pair (operations.TwoOperands operation width) = binary_pair operation width
 sums_pair (operations.ThreeOperands operation width) = binary_pair operation width
 sums_pair (operations.Increment width) = refl
 sums_pair operations.AddAlignedWord = refl
+sums_pair (operations.Long operation) = long_pair operation
 sums_pair _ = tt
 
 instr_pairs : (instr : Instr) → let sources = code_sources instr in pairs sources.c sources.nzv

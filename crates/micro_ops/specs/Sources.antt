@@ -6,6 +6,8 @@ use Rattle.vax_form.specs.declared.instr.Size.{Size}
 use Rattle.vax_form.specs.declared.instr.Size.TheVariants.{Word, Long, Quad}
 use Rattle.vax_form.specs.declared.operation.BinaryOperation.{BinaryOperation}
 use Rattle.vax_form.specs.declared.operation.BinaryOperation.TheVariants as binary
+use Rattle.vax_form.specs.declared.operation.LongOperation.{LongOperation}
+use Rattle.vax_form.specs.declared.operation.LongOperation.TheVariants.{CallGeneral, CallStack, MoveCharacters}
 use Rattle.vax_form.specs.declared.operation.Operation.{Operation}
 use Rattle.vax_form.specs.declared.operation.Operation.TheVariants as operations
 use Rattle.vax_form.specs.declared.state.Flags.{Flags}
@@ -33,6 +35,13 @@ sources_of_binary binary.Subtract size = from (Sub size) (Sub size)
 sources_of_binary binary.Multiply size = from (Computed size) Zero
 sources_of_binary binary.Divide size = from (Computed size) Zero
 sources_of_binary _ size = from (Result size) Kept
+
+-- of the long operations those for which there can be a block
+abbrev pub sources_of_long : LongOperation → CodeSources
+sources_of_long CallGeneral = from (Computed Long) (Computed Long)
+sources_of_long CallStack = from (Computed Long) (Computed Long)
+sources_of_long MoveCharacters = from (Computed Long) (Computed Long)
+sources_of_long _ = from Kept Kept
 
 unfoldable pub sources_of : Operation → CodeSources
 sources_of (operations.Move size) = from (Result size) Kept
@@ -62,4 +71,5 @@ sources_of operations.Rotate = from (Result Long) Kept
 sources_of (operations.AddOneBranch or_equal) = from (Computed Long) Kept
 sources_of (operations.SubtractOneBranch or_equal) = from (Computed Long) Kept
 sources_of (operations.AddCompareBranch width) = from (Computed (size_of width)) Kept
+sources_of (operations.Long operation) = sources_of_long operation
 sources_of _ = from Kept Kept

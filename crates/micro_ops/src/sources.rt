@@ -1,9 +1,9 @@
 // The table of where each operation's condition codes come from.
 ghost use Rattle.std.specs.Prelude.{◌≡◌};
-ghost use Rattle.micro_ops.specs.Sources.{from, sources_of_binary, sources_of};
+ghost use Rattle.micro_ops.specs.Sources.{from, sources_of_binary, sources_of_long, sources_of};
 
 use crate::codes::{CodeSource, CodeSources};
-use vax_form::{BinaryOperation, Operation, Size};
+use vax_form::{BinaryOperation, LongOperation, Operation, Size};
 
 fn from(nzv: CodeSource, c: CodeSource) -> CodeSources
     ensures { result ≡ from nzv c }
@@ -22,6 +22,19 @@ fn of_binary(operation: BinaryOperation, size: Size) -> CodeSources
             CodeSource::Zero,
         ),
         _ => from(CodeSource::Result(size), CodeSource::Kept),
+    }
+}
+
+fn of_long(operation: LongOperation) -> CodeSources
+    ensures { result ≡ sources_of_long operation }
+{
+    match operation {
+        LongOperation::CallGeneral | LongOperation::CallStack | LongOperation::MoveCharacters =>
+            from(
+                CodeSource::Computed(Size::Long),
+                CodeSource::Computed(Size::Long),
+            ),
+        _ => from(CodeSource::Kept, CodeSource::Kept),
     }
 }
 
@@ -60,6 +73,7 @@ pub fn sources_of(operation: Operation) -> CodeSources
             Kept,
         ),
         Operation::AddCompareBranch(width) => from(Computed(width.size()), Kept),
+        Operation::Long(operation) => of_long(operation),
         _ => from(Kept, Kept),
     }
 }

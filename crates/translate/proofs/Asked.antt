@@ -9,6 +9,8 @@ use Rattle.vax_form.specs.declared.instr.Width.{Width}
 use Rattle.vax_form.specs.declared.instr.Width.TheVariants as widths
 use Rattle.vax_form.specs.declared.operation.BinaryOperation.{BinaryOperation}
 use Rattle.vax_form.specs.declared.operation.BinaryOperation.TheVariants as binary
+use Rattle.vax_form.specs.declared.operation.LongOperation.{LongOperation}
+use Rattle.vax_form.specs.declared.operation.LongOperation.TheVariants.{CallGeneral}
 use Rattle.vax_form.specs.declared.operation.Operation.{Operation}
 use Rattle.vax_form.specs.declared.operation.Operation.TheVariants as operations
 use Rattle.vax_form.specs.Codes as code
@@ -19,7 +21,7 @@ use Rattle.micro_ops.specs.declared.codes.CodeSource.TheVariants.{Kept}
 use Rattle.micro_ops.specs.declared.program.Micro.{Micro}
 use Rattle.exception_records.specs.declared.rules.CodeRule.{CodeRule}
 use Rattle.exception_records.specs.declared.rules.Rules.{Rules}
-use Rattle.code_runs.specs.Ready.{AreReady}
+use Rattle.code_runs.specs.Ready.{AreReady, can_have_block}
 use Rattle.code_runs.specs.Rules.{rule_behind, rule_of}
 use Rattle.cc_liveness.specs.Uses.{use_of}
 use Rattle.code_runs.specs.Codes.{code_sources, codes_at, live_at, rules_before}
@@ -30,9 +32,10 @@ use Rattle.micro_lower.specs.Lowering.{IsLowered}
 use Rattle.program_codegen.specs.Programs.{KeepsTogether, ReadsReady, is_narrow}
 use Rattle.std.specs.Prelude.{All}
 use Rattle.std.proofs.lemmas.List.{get_or-map, length-map}
-use Rattle.vax_form.specs.Row.{class_at}
+use Rattle.vax_form.specs.Row.{class_at, class_of_operation, class_where, is_translated}
 use Rattle.vax_form.specs.declared.row.Class.TheVariants.{Translated}
-use Rattle.code_runs.specs.Promises.{AreTranslated}
+use Rattle.vax_form.specs.declared.pages.Pages.{Pages}
+use Rattle.code_runs.specs.Promises.{CanHaveBlocks}
 use Rattle.code_runs.proofs.Meeting.{rules_always_meet}
 use Rattle.translate.specs.Compiled.{AreAlwaysReady, AreReadyFor}
 use Rattle.micro_lower.specs.Rows.{has_program}
@@ -46,10 +49,17 @@ unfolding sources_of
 binary_together binary.Add width = refl
 binary_together operation width = refl
 
+long_together : (operation : LongOperation)
+    → (is_written (sources_of (operations.Long operation)).nzv || not (is_written (sources_of (operations.Long operation)).c)) ≡ true
+unfolding sources_of
+long_together CallGeneral = refl
+long_together operation = refl
+
 together : (operation : Operation) → (is_written (sources_of operation).nzv || not (is_written (sources_of operation).c)) ≡ true
 unfolding sources_of
 together (operations.TwoOperands operation width) = binary_together operation width
 together (operations.ThreeOperands operation width) = binary_together operation width
+together (operations.Long operation) = long_together operation
 together operation = refl
 
 pub keeps_together : (operation : Operation) → KeepsTogether (sources_of operation)
@@ -72,6 +82,11 @@ binary_narrow binary.Add width = width_narrow width
 binary_narrow binary.Subtract width = width_narrow width
 binary_narrow operation width = refl
 
+long_narrow : (operation : LongOperation) → is_narrow (rule_of (sources_of (operations.Long operation)).nzv) ≡ true
+unfolding sources_of
+long_narrow CallGeneral = refl
+long_narrow operation = refl
+
 operation_narrow : (operation : Operation) → is_narrow (rule_of (sources_of operation).nzv) ≡ true
 unfolding sources_of
 operation_narrow (operations.TwoOperands operation width) = binary_narrow operation width
@@ -79,6 +94,7 @@ operation_narrow (operations.ThreeOperands operation width) = binary_narrow oper
 operation_narrow (operations.MoveNegated width) = width_narrow width
 operation_narrow (operations.Increment width) = width_narrow width
 operation_narrow (operations.Decrement width) = width_narrow width
+operation_narrow (operations.Long operation) = long_narrow operation
 operation_narrow operation = refl
 
 instr_narrow : (instr : Instr) → is_narrow (rule_of (code_sources instr).nzv) ≡ true
@@ -120,17 +136,30 @@ reads_ready instr program before lowered ready (suc (suc (suc zero))) lt e = rea
 reads_ready instr program before lowered ready (suc (suc (suc (suc flag)))) lt e = absurd (omega arith)
 
 -- ---- an instruction that has a block is translated
-pub built_translated : (instr : Instr) → has_block instr ≡ true → class_at instr.opcode ≡ Translated
-unfolding has_program
-built_translated instr h = (programs_are_translated instr).0 h
+abbrev pub AreTranslated : List Instr → Type 0
+AreTranslated instrs = All (λ instr. class_at instr.opcode ≡ Translated) instrs
 
-pub are_translated : (instrs : List Instr) → All (λ instr. has_block instr ≡ true) instrs → AreTranslated instrs
-are_translated instrs built k d lt = built_translated (get_or instrs k d) (built k d lt)
+pub are_translated : (pages : Pages) (instrs : List Instr) → All (λ instr. has_block instr pages ≡ true) instrs → AreTranslated instrs
+unfolding has_program
+are_translated pages instrs built k d lt = (programs_are_translated (get_or instrs k d)).0 (built k d lt)
+
+-- and one that is translated can have a block
+operation_can : (operation : Operation) → class_of_operation operation ≡ Translated → can_have_block operation ≡ true
+unfolding class_of_operation can_have_block
+operation_can (operations.Long operation) h = absurd (cc h)
+operation_can operation h = ap is_translated h
+
+can_have : (o : Option Operation) → class_where o ≡ Translated → option_map_or can_have_block o false ≡ true
+can_have None h = absurd (cc h)
+can_have (Some operation) h = operation_can operation h
+
+pub can_have_blocks : (instrs : List Instr) → AreTranslated instrs → CanHaveBlocks instrs
+can_have_blocks instrs translated k d lt = can_have (operation_at (get_or instrs k d).opcode) (translated k d lt)
 
 -- ---- all that is asked along runs
-pub ready_for : (instrs : List Instr) (order : AreInOrder instrs) → AreTranslated instrs → (place : ℕ) → place < length instrs → AreReadyFor (instr_at instrs place) (codes_at instrs place)
-ready_for instrs order translated place lt =
-    let meet = rules_always_meet instrs order translated in
+pub ready_for : (instrs : List Instr) (order : AreInOrder instrs) → CanHaveBlocks instrs → (place : ℕ) → place < length instrs → AreReadyFor (instr_at instrs place) (codes_at instrs place)
+ready_for instrs order can place lt =
+    let meet = rules_always_meet instrs order can in
     record { reads = meet.reads place lt; behind = refl; ends = meet.ends place lt; narrow = narrow_at instrs order place lt }
 
 pub always_ready : AreAlwaysReady

@@ -50,6 +50,9 @@ is_mapped (p ∷ pairs) a = by (nat_eq a p.0) (p.0 == a) (grind (arith, nat_test
 
 -- ---- instructions
 module _ (pages : Pages) where
+  abbrev built : Instr → Bool
+  built i = has_block i pages
+
   abbrev Decoded : Instr → Type 0
   Decoded i = instruction_at pages i.at ≡ Some i
 
@@ -63,26 +66,26 @@ module _ (pages : Pages) where
   unfolding instruction_at
   is_found i e = in_found (found pages i.at) i e
 
-  kept_addresses : (instrs : List Instr) → All Decoded instrs → addresses (filter has_block instrs) ≡ filter (has_block_at pages) (addresses instrs)
+  kept_addresses : (instrs : List Instr) → All Decoded instrs → addresses (filter built instrs) ≡ filter (has_block_at pages) (addresses instrs)
   kept_addresses [] all = refl
   kept_addresses (i ∷ instrs) all =
-      by (has_block i) (has_block_at pages i.at) (sym (ap (λ o. option_map_or has_block o false) (all 0 i (omega arith)))) (kept_addresses instrs (λ k d lt. all (suc k) d (omega arith)))
+      by (built i) (has_block_at pages i.at) (sym (ap (λ o. option_map_or built o false) (all 0 i (omega arith)))) (kept_addresses instrs (λ k d lt. all (suc k) d (omega arith)))
     where
-      by : (b c : Bool) → b ≡ c → addresses (filter has_block instrs) ≡ filter (has_block_at pages) (addresses instrs)
-          → addresses (cond b (i ∷ filter has_block instrs) (filter has_block instrs)) ≡ cond c (i.at ∷ filter (has_block_at pages) (addresses instrs)) (filter (has_block_at pages) (addresses instrs))
+      by : (b c : Bool) → b ≡ c → addresses (filter built instrs) ≡ filter (has_block_at pages) (addresses instrs)
+          → addresses (cond b (i ∷ filter built instrs) (filter built instrs)) ≡ cond c (i.at ∷ filter (has_block_at pages) (addresses instrs)) (filter (has_block_at pages) (addresses instrs))
       by true true e h = ap (λ (xs : List ℕ). i.at ∷ xs) h
       by true false e h = absurd (cc e)
       by false true e h = absurd (cc e)
       by false false e h = h
 
-  module _ (starts : List ℕ) (instrs kept : List Instr) (reach : IsReach pages starts instrs) (is : kept ≡ filter has_block instrs) where
+  module _ (starts : List ℕ) (instrs kept : List Instr) (reach : IsReach pages starts instrs) (is : kept ≡ filter built instrs) where
     same_addresses : addresses kept ≡ filter (has_block_at pages) (addresses instrs)
     same_addresses = ap addresses is ∙ kept_addresses instrs reach.decoded
 
     pub kept_few : length instrs ≤ most → length kept ≤ most
     kept_few few =
-        let count : length kept ≡ count_by has_block instrs = ap length is ∙ length-filter has_block instrs in
-        let within : count_by has_block instrs ≤ length instrs = count_by-le-length has_block instrs in
+        let count : length kept ≡ count_by built instrs = ap length is ∙ length-filter built instrs in
+        let within : count_by built instrs ≤ length instrs = count_by-le-length built instrs in
         omega (arith, count, within, few)
 
     pub reached_few : length instrs ≤ most → AreFew pages starts
@@ -92,14 +95,14 @@ module _ (pages : Pages) where
 
     pub kept_found : AreFound pages kept
     kept_found = subst (λ (xs : List Instr). AreFound pages xs) (sym is)
-        (All-filter has_block (λ i. found pages i.at ≡ instruction i) instrs (λ k d lt. is_found (get_or instrs k d) (reach.decoded k d lt)))
+        (All-filter built (λ i. found pages i.at ≡ instruction i) instrs (λ k d lt. is_found (get_or instrs k d) (reach.decoded k d lt)))
 
     pub kept_rise : InOrder kept
     kept_rise = in_order kept (subst (λ (xs : List ℕ). IsStrictlyIncreasing xs) (sym same_addresses)
         (IsStrictlyIncreasing-filter (has_block_at pages) (addresses instrs) reach.reached.rising))
 
-    pub kept_built : All (λ i. has_block i ≡ true) kept
-    kept_built = subst (λ (xs : List Instr). All (λ i. has_block i ≡ true) xs) (sym is) (filter_passes has_block instrs)
+    pub kept_built : All (λ i. has_block i pages ≡ true) kept
+    kept_built = subst (λ (xs : List Instr). All (λ i. has_block i pages ≡ true) xs) (sym is) (filter_passes built instrs)
 
     -- whether the map has an address
     map_has : (code : Code) (address : ℕ) → map (λ (p : Pair). p.0) code.map ≡ addresses kept

@@ -27,7 +27,7 @@ use Rattle.micro_ops.specs.Sources.{sources_of}
 use Rattle.image_meaning.specs.Meant.{image_meaning}
 use Rattle.branch_layout.specs.Layouts.{AddressesRise, AreBlocks, IsLayout, Placed, layout}
 use Rattle.vax_form.specs.Targets.{has}
-use Rattle.code_runs.specs.Promises.{AreTranslated}
+use Rattle.code_runs.specs.Promises.{CanHaveBlocks}
 use Rattle.code_runs.specs.Ready.{AreReady}
 use Rattle.code_runs.specs.Rules.{rules_behind}
 use Rattle.flag_codegen.specs.Made.{codes_made}
@@ -106,7 +106,7 @@ pub record AreReadyFor (instr : Instr) (codes : InstrCodes) : Type 0 where
 pub record AreAlwaysReady : Type 0 where
   pub together : (operation : Operation) → KeepsTogether (sources_of operation)
   pub narrow : (operation : Operation) (live : Flags) (before : Rules) → is_narrow before.v ≡ true → is_narrow (rules_behind (sources_of operation) live before).v ≡ true
-  pub ready : (instrs : List Instr) → AreInOrder instrs → AreTranslated instrs → (place : ℕ) → place < length instrs → AreReadyFor (instr_at instrs place) (codes_at instrs place)
+  pub ready : (instrs : List Instr) → AreInOrder instrs → CanHaveBlocks instrs → (place : ℕ) → place < length instrs → AreReadyFor (instr_at instrs place) (codes_at instrs place)
 
 -- ---- a translation
 -- addresses rise

@@ -1,12 +1,13 @@
 // The blocks of the instructions of a list.
-ghost use Rattle.std.specs.Prelude.{◌≡◌, All, IfOk, Some, true};
+ghost use Rattle.std.specs.Prelude.{◌≡◌, All, IfOk, Some};
 ghost use Rattle.vax_form.specs.Grammar.{IsSpelled};
+ghost use Rattle.vax_form.specs.Row.{class_at};
+ghost use Rattle.vax_form.specs.declared.row.Class.TheVariants.{Translated};
 ghost use Rattle.code_runs.specs.Codes.{instruction_codes};
 ghost use Rattle.code_runs.specs.Runs.{AreInOrder};
 ghost use Rattle.micro_lower.specs.Lowering.{IsLowered};
 ghost use Rattle.micro_lower.specs.Rows.{program_for};
 ghost use Rattle.translate.specs.Compiled.{AreCompiled, AreReadyFor, IsCompiled};
-ghost use Rattle.flow_discovery.specs.Mapped.{has_block};
 
 use code_runs::{InstrCodes, instruction_codes};
 use exception_records::Block;
@@ -33,7 +34,7 @@ fn compiled_instr(
     codes: &InstrCodes,
 ) -> Result<(u32, Block), WantOfMemory>
     requires spelled { IsSpelled instr.now }
-    requires built { has_block instr.now ≡ true }
+    requires translated { class_at instr.now.opcode ≡ Translated }
     requires ready { AreReadyFor instr.now codes.now }
     ensures { IfOk result (IsCompiled instr.now codes.now) }
 {
@@ -62,7 +63,7 @@ fn compiled_all(
 ) -> Result<Vec<(u32, Block)>, WantOfMemory>
     requires order { AreInOrder instrs.now }
     requires spelled { All IsSpelled instrs.now }
-    requires built { All (λ instr. has_block instr ≡ true) instrs.now }
+    requires translated { All (λ instr. class_at instr.opcode ≡ Translated) instrs.now }
     requires codes { codes.now ≡ instruction_codes instrs.now }
     ensures { IfOk result (λ blocks. AreCompiled instrs.now blocks.items) }
 {
@@ -78,7 +79,7 @@ fn compiled_all(
 pub(crate) fn compiled(alloc: Global, instrs: &[Instr]) -> Result<Vec<(u32, Block)>, WantOfMemory>
     requires order { AreInOrder instrs.now }
     requires spelled { All IsSpelled instrs.now }
-    requires built { All (λ instr. has_block instr ≡ true) instrs.now }
+    requires translated { All (λ instr. class_at instr.opcode ≡ Translated) instrs.now }
     ensures { IfOk result (λ blocks. AreCompiled instrs.now blocks.items) }
 {
     let codes = instruction_codes(alloc, instrs)?;

@@ -89,7 +89,7 @@ fn translate_instrs(
     requires few { length instrs.now ≤ 32768 }
     requires rising { InOrder instrs.now }
     requires found { AreFound pages.now instrs.now }
-    requires built { All (λ instr. has_block instr ≡ true) instrs.now }
+    requires built { All (λ instr. has_block instr pages.now ≡ true) instrs.now }
     ensures meets { IfOk result (Meets (image_meaning pages.now)) }
     ensures mapped { IfOk result (λ code. map (λ pair. pair.0) code.map ≡ addresses instrs.now) }
     ensures blocks { IfOk result (AreLaidOut instrs.now) }
@@ -102,17 +102,17 @@ fn translate_instrs(
 
 /// Whether the instruction has a block.
 #[tactic(auto, unfolding(micro_lower::specs::Rows::has_program))]
-fn has_block(instr: &Instr) -> bool
-    ensures { result ≡ has_block instr.now }
+fn has_block(instr: &Instr, _pages: &Pages) -> bool
+    ensures { result ≡ has_block instr.now _pages.now }
 {
     has_program(instr)
 }
 
 // Drops those that have no block.
-fn keep_built(instrs: &mut Vec<Instr>)
-    ensures { instrs.new.items ≡ filter has_block instrs.old.items }
+fn keep_built(instrs: &mut Vec<Instr>, pages: &Pages)
+    ensures { instrs.new.items ≡ filter (λ instr. has_block instr pages.now) instrs.old.items }
 {
-    instrs.retain(|instr| has_block(instr));
+    instrs.retain(|instr| has_block(instr, pages));
 }
 
 /// The translation of an image, as far as its instructions can be reached from its threads, its entries and these hints,
@@ -135,6 +135,6 @@ pub fn translate(
 {
     let Target::Original = target;
     let mut instrs = reach(alloc, image, hints)?;
-    keep_built(&mut instrs);
+    keep_built(&mut instrs, &image.pages);
     Ok(translate_instrs(alloc, &image.pages, &instrs)?)
 }

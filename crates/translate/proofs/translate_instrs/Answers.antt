@@ -9,7 +9,7 @@ use Rattle.code_runs.proofs.Along.{are_codes}
 use Rattle.code_runs.proofs.Meeting.{rules_always_meet}
 use Rattle.translate.specs.Compiled.{AreCompiled, CanBeLaid, IsLaidOut}
 use Rattle.translate.proofs.Above.{goes_on_above, is_spelled}
-use Rattle.translate.proofs.Asked.{are_translated}
+use Rattle.translate.proofs.Asked.{are_translated, can_have_blocks}
 use Rattle.translate.proofs.Meeting.{its_rules, meets}
 use Rattle.translate.proofs.Placing.{are_blocks, are_of, blocks_rise, map_addresses}
 use Rattle.translate.proofs.translate_instrs.Goals as goal
@@ -22,6 +22,9 @@ compiled-requires-clause-order c = record {
 
 pub compiled-requires-clause-spelled : goal.compiled-requires-clause-spelled
 compiled-requires-clause-spelled c = λ k d lt. is_spelled c.args.pages.now (get_or c.args.instrs.now k d) c.pages_are.ensures (c.requires.found k d lt)
+
+pub compiled-requires-clause-translated : goal.compiled-requires-clause-translated
+compiled-requires-clause-translated c = are_translated c.args.pages.now c.args.instrs.now c.requires.built
 
 pub laid_out-requires : goal.laid_out-requires
 laid_out-requires c =
@@ -45,7 +48,7 @@ returns-clause-meets c =
     } in
     let blocks = c.in_ok-blocks.blocks.items in
     IfOk-weaker c.laid_out.result (IsLaidOut blocks) _
-    (λ code laid. meets c.args.pages.now instrs blocks code c.in_ok-blocks.ensures laid.laid c.requires.found c.pages_are.ensures (rules_always_meet instrs order (are_translated instrs c.requires.built)))
+    (λ code laid. meets c.args.pages.now instrs blocks code c.in_ok-blocks.ensures laid.laid c.requires.found c.pages_are.ensures (rules_always_meet instrs order (can_have_blocks instrs (are_translated c.args.pages.now instrs c.requires.built))))
     (subst (λ (bs : List Placed). IfOk c.laid_out.result (IsLaidOut bs)) c.deref.ensures.value c.laid_out.ensures)
 
 pub returns-clause-mapped : goal.returns-clause-mapped
@@ -68,7 +71,7 @@ returns-clause-blocks c =
       order = order;
       codes = are_codes instrs order (instruction_codes instrs) refl;
       compiled = subst (AreCompiled instrs) (are_of instrs blocks c.in_ok-blocks.ensures) c.in_ok-blocks.ensures;
-      rules = its_rules c.args.pages.now instrs blocks code c.in_ok-blocks.ensures laid.laid c.requires.found c.pages_are.ensures (rules_always_meet instrs order (are_translated instrs c.requires.built));
+      rules = its_rules c.args.pages.now instrs blocks code c.in_ok-blocks.ensures laid.laid c.requires.found c.pages_are.ensures (rules_always_meet instrs order (can_have_blocks instrs (are_translated c.args.pages.now instrs c.requires.built)));
       laid = laid.value ∙ ap layout (are_of instrs blocks c.in_ok-blocks.ensures);
     })
     (subst (λ (bs : List Placed). IfOk c.laid_out.result (IsLaidOut bs)) c.deref.ensures.value c.laid_out.ensures)

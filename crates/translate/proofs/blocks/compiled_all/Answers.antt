@@ -5,7 +5,7 @@ use Rattle.code_runs.specs.Runs.{instr_at}
 use Rattle.code_runs.specs.declared.codes.InstrCodes.{InstrCodes}
 use Rattle.code_runs.proofs.Along.{codes_found}
 use Rattle.translate.specs.Compiled.{AreReadyFor, IsCompiled}
-use Rattle.translate.proofs.Asked.{are_translated, ready_for}
+use Rattle.translate.proofs.Asked.{can_have_blocks, ready_for}
 use Rattle.translate.proofs.Placing.{compiled_more}
 use Rattle.translate.proofs.blocks.compiled_all.Goals as goal
 
@@ -21,7 +21,7 @@ compiled_instr-requires-clause-ready c =
     let instrs = c.args.instrs.now in
     let place = c.loop-place.place in
     let found = codes_found instrs c.requires.order c.args.codes.now c.requires.codes place c.loop-place-test.true in
-    subst (λ (codes : InstrCodes). AreReadyFor (instr_at instrs place) codes) (sym found) (ready_for instrs c.requires.order (are_translated instrs c.requires.built) place c.loop-place-test.true)
+    subst (λ (codes : InstrCodes). AreReadyFor (instr_at instrs place) codes) (sym found) (ready_for instrs c.requires.order (can_have_blocks instrs c.requires.translated) place c.loop-place-test.true)
 
 pub loop-place-preserved : goal.loop-place-preserved
 loop-place-preserved c =

@@ -18,7 +18,7 @@ use Rattle.program_codegen.specs.Words.{program_block}
 use Rattle.translate.specs.Compiled.{block_of}
 use Rattle.micro_lower.specs.Rows.{program_for}
 use Rattle.micro_lower.specs.Lowering.{GoesTo}
-use Rattle.translate.proofs.Asked.{all_of_map, built_translated, keeps_together, reads_ready}
+use Rattle.translate.proofs.Asked.{all_of_map, keeps_together, reads_ready}
 use Rattle.translate.proofs.Following.{compiles, sources_are}
 use Rattle.translate.proofs.blocks.compiled_instr.Goals as goal
 
@@ -78,5 +78,5 @@ returns c =
           made.written
           ∙ ap codes_written c.deref-2.ensures.value
           ∙ c.in_ok-words.ensures.writes;
-      means = compiles instr program codes.before codes.behind block c.in_ok-program.ensures.lowered (built_translated instr c.requires.built) means;
+      means = compiles instr program codes.before codes.behind block c.in_ok-program.ensures.lowered c.requires.translated means;
     }
