@@ -1,5 +1,5 @@
 -- How a call ends, by its words and by what its command came to.
-use Rattle.std.proofs.Common.{◌≡◌, ◌⊎◌, ◌∙◌, List, Option, None, Some, Result, Ok, Err, IfErr, IfOk, refl, sym, subst, inl, inr}
+use Rattle.std.proofs.Common.{◌≡◌, ◌⊎◌, ◌∙◌, List, Option, None, Some, Result, Ok, Err, IfErr, IfOk, refl, sym, subst, inl, inr, arith}
 use Rattle.std.specs.Prelude.{ℕ}
 use Rattle.command_words.specs.Commands.{CommandValue, generate, list, run, translate}
 use Rattle.command_words.specs.declared.WordsFault.{WordsFault}
@@ -65,10 +65,10 @@ module _ (spelled : Option CommandValue) where
       → (fault ≡ Usage → spelled ≡ None) → kept ≡ nothing_kept → RefusesWords fault result mid report
       → Ends spelled result (lent desk input out mid) (lent desk input out report) kept
   words_end Usage result desk input out mid report kept none nothing says =
-      unspelled (none refl) says.0 (record { same_desk = refl; same_input = refl }) (record { desk = record { files = refl; write_faults = refl }; out = refl; kept_nothing = nothing; said = says.1 })
+      unspelled (none refl) says.0 (record { same_desk = refl; same_input = refl }) (record { desk = record { files = refl; write_faults = refl; read_faults = omega arith }; out = refl; kept_nothing = nothing; said = says.1 })
   words_end faults.WantOfMemory result desk input out mid report kept none nothing says =
       stopped WantOfMemory says.0 (stops_short spelled)
-      (record { desk = record { files = refl; write_faults = refl }; out = refl; kept_nothing = nothing; said = says.1 })
+      (record { desk = record { files = refl; write_faults = refl; read_faults = omega arith }; out = refl; kept_nothing = nothing; said = says.1 })
     where
       stops_short : (c : Option CommandValue) → Stops c WantOfMemory desk desk input input
       stops_short None = record { same_desk = refl; same_input = refl }

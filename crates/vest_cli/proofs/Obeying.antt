@@ -1,5 +1,5 @@
 -- What each command does and why it stops, as the top call says it.
-use Rattle.std.proofs.Common.{◌≡◌, List, Option, Result, Ok, Err, IfErr, IfOk, refl, sym, subst}
+use Rattle.std.proofs.Common.{◌≡◌, List, Option, Result, Ok, Err, IfErr, IfOk, refl, sym, subst, arith}
 use Rattle.std.specs.Prelude.{ℕ}
 use Rattle.std.proofs.lemmas.Result.{IfErr-weaker, IfOk-weaker}
 use Rattle.command_words.specs.Commands.{CommandValue}
@@ -74,4 +74,4 @@ pub generate_leaves : (r : Result Done Stop) (desk : DeskMeaning) (input : Sourc
     → IfErr r (λ _. LeavesAll (lent desk input out report) (lent desk input out' report') kept)
 generate_leaves (Ok end) desk input out out' report report' kept unsent unsaid unkept = tt
 generate_leaves (Err stop) desk input out out' report report' kept unsent unsaid unkept =
-    record { desk = record { files = refl; write_faults = refl }; out = unsent; report = unsaid; kept_nothing = unkept }
+    record { desk = record { files = refl; write_faults = refl; read_faults = omega arith }; out = unsent; report = unsaid; kept_nothing = unkept }
