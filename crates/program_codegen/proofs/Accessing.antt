@@ -11,10 +11,8 @@ use Rattle.vax_form.specs.Parts.{parts}
 use Rattle.vax_form.specs.Ranges.{FitsPage}
 use Rattle.vax_form.specs.Tree as trees
 use Rattle.vax_form.specs.declared.state.Exception.TheVariants.{ReservedOperand}
-use Rattle.vax_form.specs.declared.state.Reference.{Reference}
 use Rattle.alpha_encode.specs.declared.instr.AlphaInstr.TheVariants.{Branch, Pal}
 use Rattle.alpha_encode.specs.declared.instr.BranchOp.TheVariants.{Beq}
-use Rattle.alpha_meaning.specs.declared.access.AlphaKind.{AlphaKind}
 use Rattle.alpha_meaning.specs.State.{Regs, put, at_place}
 use Rattle.alpha_meaning.specs.Act.{target_of}
 use Rattle.alpha_meaning.proofs.Registers.{put_same, put_other}
@@ -38,18 +36,20 @@ use Rattle.byte_sequences.proofs.LockLaws.{locks}
 use Rattle.byte_sequences.proofs.ReadLaws.{reads}
 use Rattle.byte_sequences.proofs.WriteLaws.{writes}
 use Rattle.block_law.specs.Follows.{probe_count}
+use Rattle.block_law.specs.Laws.{MoreKinds}
 use Rattle.block_law.specs.Placements.{Placement}
 use Rattle.block_law.specs.Tidy.{is_kept}
 use Rattle.block_law.proofs.Blocks.{Begins, piece_terms}
 use Rattle.block_law.proofs.Rules.{Always, roomy, goes, passes, skips, probes, raises, runs}
 use Rattle.program_codegen.specs.declared.lines.Line.{Line}
 use Rattle.program_codegen.specs.declared.points.Site.{Site}
+use Rattle.program_codegen.specs.Accesses.{by_loads, by_locks, by_stores, needed}
 use Rattle.program_codegen.specs.Words.{plain, marked, holder, copy, probing, raising}
 use Rattle.program_codegen.proofs.Numbers.{all_three, all_four, all_five, copied}
 use Rattle.program_codegen.proofs.Knowing.{SameChanges, write_changes, access_changes}
 use Rattle.program_codegen.proofs.Walk.{Within, next, stands, row_words, row_length, is_inside}
 use Rattle.program_codegen.proofs.Holding.{Holds, HoldsAs, tree}
-use Rattle.program_codegen.proofs.Computing.{any_kind, held_value, held_still, unchanged, checks_written, value_written}
+use Rattle.program_codegen.proofs.Computing.{held_value, held_still, unchanged, checks_written, value_written}
 use Rattle.program_codegen.proofs.Operands.{count_some, IsUsable, usable, may_read, may_write, may_lock, begins_read, begins_write, begins_locked}
 
 -- ---- registers
@@ -181,7 +181,7 @@ locked_holds SetBit value r e lt = (e, omega arith)
 locked_holds ClearBit value r e lt = (e, omega arith)
 
 -- ---- a read
-module _ (p : Placement) (site : Site) (table : IsPageTable p.pages) (kinds : (reference : Reference) (kind : AlphaKind) (size : ℕ) → p.kinds reference kind size ≡ true) where
+module _ (p : Placement) (site : Site) (table : IsPageTable p.pages) (kinds : MoreKinds needed p.kinds) where
   pub reads_operand : (need pc to place count : ℕ) (rest : List Line) (known : Known) (standing : Standing) (regs : Regs) (on : ℕ → Course Left)
       → Within p site.behind pc (map plain (read_code (holder place) count (holder to)) ++ rest) → 1 ≤ length rest
       → read_fits known to place count ≡ true → bytes.IsArgument (holder place) → bytes.IsArgument (holder to) → IsCount count → Holds p site known standing regs
@@ -200,11 +200,11 @@ module _ (p : Placement) (site : Site) (table : IsPageTable p.pages) (kinds : (r
       let count_is = row_length p site.behind (read_code (21 + place) count (21 + to)) rest in
       let end = w.high in
       let near = w.near in
-      let may : sequences.MayRead (piece_terms p any_kind) (regs (21 + place)) count = subst (λ a. sequences.MayRead (piece_terms p any_kind) a count) (sym v.1) (may_read p table (standing.temps place) count is v.0) in
-      runs p None need pc (length (read_code (21 + place) count (21 + to))) (sequences.Holds regs (21 + to) count) any_kind (λ value. tree p (on value)) None regs (read_plan (parts (regs (21 + place)) count)) _
+      let may : sequences.MayRead (piece_terms p by_loads) (regs (21 + place)) count = subst (λ a. sequences.MayRead (piece_terms p by_loads) a count) (sym v.1) (may_read p table (standing.temps place) count is v.0) in
+      runs p None need pc (length (read_code (21 + place) count (21 + to))) (sequences.Holds regs (21 + to) count) by_loads (λ value. tree p (on value)) None regs (read_plan (parts (regs (21 + place)) count)) _
       w.low (omega arith) (λ q gt le. is_inside p site.behind pc q (map plain (read_code (21 + place) count (21 + to)) ++ rest) w gt (omega arith))
-      (subst (λ a. Begins any_kind p.kinds (λ value. tree p (on value)) None (read_plan (parts a count)) (tree p (read_parts (parts (standing.temps place) count) on)) None) (sym v.1) (begins_read p kinds (standing.temps place) count on size.0))
-      (λ n. reads (21 + place) count (21 + to) is a_place a_to p.fetch (piece_terms p any_kind) pc regs (omega arith) may (row_words p site.behind pc (read_code (21 + place) count (21 + to)) rest w) n)
+      (subst (λ a. Begins by_loads p.kinds (λ value. tree p (on value)) None (read_plan (parts a count)) (tree p (read_parts (parts (standing.temps place) count) on)) None) (sym v.1) (begins_read p kinds (standing.temps place) count on size.0))
+      (λ n. reads (21 + place) count (21 + to) is a_place a_to p.fetch (piece_terms p by_loads) pc regs (omega arith) may (row_words p site.behind pc (read_code (21 + place) count (21 + to)) rest w) n)
       (λ value g l. behind value g l.fits
       (unchanged p site known (behind_access (behind_write to (holding_of (nat_le count 4)) known)) standing (with_temp to value standing.temps) regs g
       (written_changes known to (holding_of (nat_le count 4)))
@@ -229,13 +229,13 @@ module _ (p : Placement) (site : Site) (table : IsPageTable p.pages) (kinds : (r
       let count_is = row_length p site.behind (write_code (21 + place) count (21 + source)) rest in
       let end = w.high in
       let near = w.near in
-      let may : sequences.MayWrite sequences.stored_bytes (piece_terms p any_kind) (regs (21 + place)) count = subst (λ a. sequences.MayWrite sequences.stored_bytes (piece_terms p any_kind) a count) (sym v.1) (may_write p table (standing.temps place) count is v.0) in
-      runs p None need pc (length (write_code (21 + place) count (21 + source))) (sequences.Keeps regs) any_kind (λ done. tree p on) None regs (write_plan (parts (regs (21 + place)) count) (regs (21 + source))) _
+      let may : sequences.MayWrite sequences.stored_bytes (piece_terms p by_stores) (regs (21 + place)) count = subst (λ a. sequences.MayWrite sequences.stored_bytes (piece_terms p by_stores) a count) (sym v.1) (may_write p table (standing.temps place) count is v.0) in
+      runs p None need pc (length (write_code (21 + place) count (21 + source))) (sequences.Keeps regs) by_stores (λ done. tree p on) None regs (write_plan (parts (regs (21 + place)) count) (regs (21 + source))) _
       w.low (omega arith) (λ q gt le. is_inside p site.behind pc q (map plain (write_code (21 + place) count (21 + source)) ++ rest) w gt (omega arith))
-      (subst (λ a. Begins any_kind p.kinds (λ (done : Unit {0}). tree p on) None (write_plan (parts a count) (regs (21 + source))) (tree p (write_parts (parts (standing.temps place) count) (standing.temps source) on)) None) (sym v.1)
-      (subst (λ value. Begins any_kind p.kinds (λ (done : Unit {0}). tree p on) None (write_plan (parts (standing.temps place) count) value) (tree p (write_parts (parts (standing.temps place) count) (standing.temps source) on)) None) (sym u.0)
+      (subst (λ a. Begins by_stores p.kinds (λ (done : Unit {0}). tree p on) None (write_plan (parts a count) (regs (21 + source))) (tree p (write_parts (parts (standing.temps place) count) (standing.temps source) on)) None) (sym v.1)
+      (subst (λ value. Begins by_stores p.kinds (λ (done : Unit {0}). tree p on) None (write_plan (parts (standing.temps place) count) value) (tree p (write_parts (parts (standing.temps place) count) (standing.temps source) on)) None) (sym u.0)
       (begins_write p kinds (parts (standing.temps place) count) (standing.temps source) on)))
-      (λ n. writes (21 + place) count (21 + source) is a_place a_source p.fetch (piece_terms p any_kind) pc regs (omega arith) may (row_words p site.behind pc (write_code (21 + place) count (21 + source)) rest w) n)
+      (λ n. writes (21 + place) count (21 + source) is a_place a_source p.fetch (piece_terms p by_stores) pc regs (omega arith) may (row_words p site.behind pc (write_code (21 + place) count (21 + source)) rest w) n)
       (λ done g l. behind g
       (unchanged p site known (behind_access known) standing standing.temps regs g (access_changes known)
       (λ n kept. l.only n (kept_not_scratch n kept)) (l.only 31 refl)
@@ -265,14 +265,14 @@ module _ (p : Placement) (site : Site) (table : IsPageTable p.pages) (kinds : (r
       let end = w.high in
       let near = w.near in
       let lock = may_lock p table kind (standing.temps place) (standing.temps source) v.0 page in
-      let may : sequences.MayLock (piece_terms p any_kind) kind (regs (21 + place)) (regs (21 + source)) =
-      subst (λ a. sequences.MayLock (piece_terms p any_kind) kind a (regs (21 + source))) (sym v.1) (subst (λ n. sequences.MayLock (piece_terms p any_kind) kind (standing.temps place) n) (sym u.0) lock) in
-      runs p None need pc (length (locked_code kind (21 + place) (21 + source) (21 + to))) (sequences.Holds regs (21 + to) (locked_count kind)) any_kind (λ value. tree p (on value)) None regs (locked_plan kind (regs (21 + place)) (regs (21 + source))) _
+      let may : sequences.MayLock (piece_terms p by_locks) kind (regs (21 + place)) (regs (21 + source)) =
+      subst (λ a. sequences.MayLock (piece_terms p by_locks) kind a (regs (21 + source))) (sym v.1) (subst (λ n. sequences.MayLock (piece_terms p by_locks) kind (standing.temps place) n) (sym u.0) lock) in
+      runs p None need pc (length (locked_code kind (21 + place) (21 + source) (21 + to))) (sequences.Holds regs (21 + to) (locked_count kind)) by_locks (λ value. tree p (on value)) None regs (locked_plan kind (regs (21 + place)) (regs (21 + source))) _
       w.low (omega arith) (λ q gt le. is_inside p site.behind pc q (map plain (locked_code kind (21 + place) (21 + source) (21 + to)) ++ rest) w gt (omega arith))
-      (subst (λ a. Begins any_kind p.kinds (λ value. tree p (on value)) None (locked_plan kind a (regs (21 + source))) (tree p (asked kind on)) None) (sym v.1)
-      (subst (λ n. Begins any_kind p.kinds (λ value. tree p (on value)) None (locked_plan kind (standing.temps place) n) (tree p (asked kind on)) None) (sym u.0)
+      (subst (λ a. Begins by_locks p.kinds (λ value. tree p (on value)) None (locked_plan kind a (regs (21 + source))) (tree p (asked kind on)) None) (sym v.1)
+      (subst (λ n. Begins by_locks p.kinds (λ value. tree p (on value)) None (locked_plan kind (standing.temps place) n) (tree p (asked kind on)) None) (sym u.0)
       (begins_locked p kinds kind (standing.temps place) (standing.temps source) on lock.operand)))
-      (λ n. locks kind (21 + place) (21 + source) (21 + to) a_place a_source a_to (apart_of _ _ (shifted place to place_apart)) (apart_of _ _ (shifted source to source_apart)) p.fetch (piece_terms p any_kind) pc regs (omega arith) may
+      (λ n. locks kind (21 + place) (21 + source) (21 + to) a_place a_source a_to (apart_of _ _ (shifted place to place_apart)) (apart_of _ _ (shifted source to source_apart)) p.fetch (piece_terms p by_locks) pc regs (omega arith) may
       (row_words p site.behind pc (locked_code kind (21 + place) (21 + source) (21 + to)) rest w) n)
       (λ value g l. behind value g l.fits
       (unchanged p site known (behind_access (behind_write to Wide known)) standing (with_temp to value standing.temps) regs g

@@ -17,14 +17,16 @@ use Rattle.micro_ops.specs.Known.{at_start}
 use Rattle.micro_ops.specs.Meaning.{started}
 use Rattle.block_law.specs.Blocks.{is_exit_word, Stands, ExitsLead}
 use Rattle.block_law.specs.CodeWords.{LeavesCodes}
+use Rattle.block_law.specs.Laws.{MoreKinds}
 use Rattle.block_law.specs.Placements.{Placement}
 use Rattle.block_law.specs.Rounds.{block_steps, new_round}
 use Rattle.alpha_meaning.specs.Pieces.{most_words}
-use Rattle.block_law.specs.Translations.{Meaning, Code, placed, fetch_of}
+use Rattle.block_law.specs.Translations.{Meaning, Permit, Code, placed, fetch_of}
 use Rattle.program_codegen.specs.declared.lines.Line.{Line}
 use Rattle.program_codegen.specs.declared.points.Site.{Site}
 use Rattle.program_codegen.specs.Words.{point_of, with_first, words_of, with_entry, points_from, exits_from, block_of, block_lines, program_lines}
 use Rattle.program_codegen.specs.Programs.{AllHaveWords, ReadsReady, LeavesReady, KeepsTogether, is_narrow}
+use Rattle.program_codegen.specs.Accesses.{needed}
 use Rattle.program_codegen.specs.Promises.{CompilesProgram}
 use Rattle.program_codegen.proofs.Walk.{IsMarked, HasLine, HasLines, Within}
 use Rattle.program_codegen.proofs.Holding.{Setting, LeavingFollows}
@@ -92,9 +94,9 @@ has_own p behind pc point (line ∷ lines) h = (by line.exit h.0, h.1)
     by (Some address) h = h
 
 -- ---- where a block stands
-module _ (meaning : Meaning) (code : Code) (thread : ℕ) (state : VaxState) (held : Flags) (first : ℕ) (behind : Rules) (point : Point) (lines : List Line) where
+module _ (meaning : Meaning) (permit : Permit) (code : Code) (thread : ℕ) (state : VaxState) (held : Flags) (first : ℕ) (behind : Rules) (point : Point) (lines : List Line) where
   abbrev p : Placement
-  p = placed meaning code thread state held first
+  p = placed meaning permit code thread state held first
 
   abbrev all : List Line
   all = with_first point lines
@@ -141,17 +143,17 @@ module _ (instr : Instr) (sources : CodeSources) (program : List Micro) (codes :
       → IsWhole 0 (block_lines site codes program) → length (program_lines site codes program) ≤ 256
       → ((p : Placement) → Setting p site codes → LeavingFollows p site codes)
       → CompilesProgram instr sources program before behind (block_of (block_lines site codes program))
-  compiles leaves together narrow after words reads ready ended whole short leaving meaning writes code first thread n state held regs few stands at form shows leads range agree =
-      let p = placed meaning code thread state held first in
+  compiles leaves together narrow after words reads ready ended whole short leaving meaning permit writes code first thread n state held regs few stands at form shows leads range agree =
+      let p = placed meaning permit code thread state held first in
       let setting : Setting p site codes = record {
         pages = writes.pages;
         written = ap meaning.written at ∙ writes.written;
-        kinds = λ reference kind bytes. ap (λ (address : ℕ). meaning.kinds address reference kind bytes) at ∙ writes.kinds reference kind bytes;
+        kinds = subst (λ (address : ℕ). MoreKinds needed (permit.kinds address)) (sym at) writes.kinds;
         leaves = leaves;
         together = together;
         narrow = narrow;
         after = after;
       } in
       follows p site codes setting (leaving p setting) program at_start (started state) regs first
-      (within_block meaning code thread state held first behind (point_of site) (program_lines site codes program) few whole stands leads)
+      (within_block meaning permit code thread state held first behind (point_of site) (program_lines site codes program) few whole stands leads)
       words reads ready refl ended (holds_at_start p site instr.at regs form shows) range agree n block_steps new_round short

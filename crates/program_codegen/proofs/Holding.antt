@@ -7,10 +7,8 @@ use Rattle.vax_form.specs.Ranges.{IsInRange}
 use Rattle.vax_form.specs.State.{register, with_core}
 use Rattle.vax_form.specs.Tree.{Tree}
 use Rattle.vax_form.specs.declared.pages.Pages.{Pages}
-use Rattle.vax_form.specs.declared.state.Reference.{Reference}
 use Rattle.alpha_encode.specs.declared.instr.AlphaInstr.{AlphaInstr}
 use Rattle.alpha_meaning.specs.State.{Regs, at_place}
-use Rattle.alpha_meaning.specs.declared.access.AlphaKind.{AlphaKind}
 use Rattle.exception_records.specs.Shown.{registers_shown, codes_shown}
 use Rattle.micro_ops.specs.declared.known.Holding.{Holding}
 use Rattle.micro_ops.specs.declared.known.Holding.TheVariants.{Nothing, Wide, Longword}
@@ -26,10 +24,12 @@ use Rattle.micro_ops.specs.Known.{held, is_committed}
 use Rattle.micro_ops.specs.Leaving.{CodesComeFrom}
 use Rattle.micro_ops.specs.Meaning.{Temps, Found, Standing, Left, departed, flag_of, leaves_by, course_of}
 use Rattle.block_law.specs.CodeWords.{LeavesCodes, codes_in}
+use Rattle.block_law.specs.Laws.{MoreKinds}
 use Rattle.micro_ops.specs.Sources.{codes_written_by}
 use Rattle.block_law.specs.Placements.{Placement, InForm}
 use Rattle.block_law.proofs.Rules.{Always}
 use Rattle.program_codegen.specs.declared.points.Site.{Site}
+use Rattle.program_codegen.specs.Accesses.{needed}
 use Rattle.program_codegen.specs.Words.{leaving, program_lines}
 use Rattle.program_codegen.specs.Programs.{KeepsTogether, ReadsReady, LeavesReady, AllHaveWords, IsExit, is_narrow}
 use Rattle.program_codegen.proofs.Walk.{Within}
@@ -39,7 +39,7 @@ use Rattle.program_codegen.proofs.Walk.{Within}
 pub record Setting (p : Placement) (site : Site) (codes : List AlphaInstr) : Type 0 where
   pub pages : IsPageTable p.pages
   pub written : p.written ≡ codes_written_by site.sources
-  pub kinds : (reference : Reference) (kind : AlphaKind) (bytes : ℕ) → p.kinds reference kind bytes ≡ true
+  pub kinds : MoreKinds needed p.kinds
   pub leaves : LeavesCodes site.sources site.before site.behind codes
   pub together : KeepsTogether site.sources
   pub narrow : is_narrow site.behind.v ≡ true

@@ -1,3 +1,4 @@
 pub mod Words
 pub mod Programs
+pub mod Accesses
 pub mod Promises

@@ -1,15 +1,13 @@
 -- What a block promises wherever it comes to stand.
-use Rattle.std.specs.Prelude.{◌≡◌, ℕ, ◌≤◌, ◌==◌, true, List, Some, length, if◌then◌else◌}
+use Rattle.std.specs.Prelude.{◌≡◌, ℕ, ◌≤◌, ◌==◌, List, Some, length, if◌then◌else◌}
 use Rattle.vax_form.specs.PageTable.{IsPageTable}
 use Rattle.vax_form.specs.Ranges.{IsInRange}
 use Rattle.vax_form.specs.Tree.{Tree}
 use Rattle.vax_form.specs.declared.instr.Instr.{Instr}
 use Rattle.vax_form.specs.declared.state.Flags.{Flags}
-use Rattle.vax_form.specs.declared.state.Reference.{Reference}
 use Rattle.vax_form.specs.declared.state.VaxState.{VaxState}
 use Rattle.alpha_meaning.specs.State.{Regs, at_place}
 use Rattle.alpha_meaning.specs.Pieces.{Plain, most_words}
-use Rattle.alpha_meaning.specs.declared.access.AlphaKind.{AlphaKind}
 use Rattle.exception_records.specs.Blocks.{BlockValue}
 use Rattle.exception_records.specs.Points.{Entry, point_at}
 use Rattle.exception_records.specs.Shown.{Shows}
@@ -22,9 +20,11 @@ use Rattle.micro_ops.specs.declared.program.Micro.{Micro}
 use Rattle.block_law.specs.Blocks.{Stands, ExitsLead}
 use Rattle.micro_ops.specs.Sources.{codes_written_by}
 use Rattle.block_law.specs.Follows.{Follows}
+use Rattle.block_law.specs.Laws.{MoreKinds}
 use Rattle.block_law.specs.Placements.{InForm}
 use Rattle.block_law.specs.Rounds.{block_steps, new_round}
-use Rattle.block_law.specs.Translations.{Meaning, Code, placed}
+use Rattle.block_law.specs.Translations.{Meaning, Permit, Code, placed}
+use Rattle.program_codegen.specs.Accesses.{needed}
 
 -- a point has the rules before the instruction, and where it is done, at a trap, those behind it
 abbrev pub HasRules : (before behind : Rules) → Entry → Type 0
@@ -34,12 +34,12 @@ HasRules before behind entry = entry.1.rules ≡ (if entry.1.done == 1 then behi
 abbrev pub BeginsBy : Rules → BlockValue → Type 0
 BeginsBy before block = (point : Point) → point_at block.points 0 ≡ Some point → point.rules ≡ before
 
--- the instruction at the address writes the codes of these sources, its block may make all kinds of accesses, and the
--- pages are those of an image
-pub record Writes (sources : CodeSources) (address : ℕ) (meaning : Meaning) : Type 0 where
+-- the instruction at the address writes the codes of these sources, its block may make the accesses that its words need
+-- for each reference, and the pages are those of an image
+pub record Writes (sources : CodeSources) (address : ℕ) (meaning : Meaning) (permit : Permit) : Type 0 where
   pub pages : IsPageTable meaning.pages
   pub written : meaning.written address ≡ codes_written_by sources
-  pub kinds : (reference : Reference) (kind : AlphaKind) (bytes : ℕ) → meaning.kinds address reference kind bytes ≡ true
+  pub kinds : MoreKinds needed (permit.kinds address)
 
 -- what the program means from a state on, with the services of a thread
 abbrev pub meant : Meaning → (thread : ℕ) → Instr → List Micro → VaxState → Tree
@@ -50,11 +50,11 @@ meant meaning thread instr program state = program_tree (meaning.serve thread) p
 -- range, and where it leaves, the codes come from the sources.
 abbrev pub CompilesProgram : Instr → CodeSources → List Micro → (before behind : Rules) → BlockValue → Type 0
 CompilesProgram instr sources program before behind block =
-    (meaning : Meaning) → Writes sources instr.at meaning
+    (meaning : Meaning) (permit : Permit) → Writes sources instr.at meaning permit
     → (code : Code) (first thread n : ℕ) (state : VaxState) (held : Flags) (regs : Regs)
     → length code.words ≤ most_words → Stands code block first → state.pc ≡ instr.at
     → InForm regs → Shows regs instr.at before held state
-    → ExitsLead (placed meaning code thread state held first) block.exits first behind
+    → ExitsLead (placed meaning permit code thread state held first) block.exits first behind
     → IsInRange meaning.pages (meant meaning thread instr program state)
     → CodesAgree sources program state instr.after
-    → Follows (placed meaning code thread state held first) n Plain block_steps new_round (at_place regs first) (meant meaning thread instr program state)
+    → Follows (placed meaning permit code thread state held first) n Plain block_steps new_round (at_place regs first) (meant meaning thread instr program state)
