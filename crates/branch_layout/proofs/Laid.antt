@@ -11,7 +11,7 @@ use Rattle.exception_records.specs.declared.points.Point.{Point}
 use Rattle.exception_records.specs.declared.rules.Rules.{Rules}
 use Rattle.block_law.specs.Blocks.{Exit, IsExitOf, Stands, RulesAt}
 use Rattle.block_law.specs.Follows.{LeadsTo}
-use Rattle.block_law.specs.Translations.{Meaning, Code, fetch_of, end_of, placed}
+use Rattle.block_law.specs.Translations.{Meaning, Permit, Code, fetch_of, end_of, placed}
 use Rattle.block_law.proofs.Laid.{has_each}
 use Rattle.branch_layout.specs.Exits.{is_near, code_to, exit_code}
 use Rattle.branch_layout.specs.Layouts.{Placed, IsPlaced, AddressesRise, AreBlocks, IsLayout, places, words_of}
@@ -121,9 +121,9 @@ module _ (blocks : List Placed) (are : AreBlocks blocks) (rising : AddressesRise
         has_point = ap (point_at points) (here ∙ sym (add-zero (words_of (take h.place blocks)))) ∙ (set h.place h.block h.is).points_stand 0 some ∙ of.has_first;
       }
 
-  module _ (meaning : Meaning) (thread : ℕ) (state : VaxState) (held : Flags) (rules : Rules) (place : ℕ) (block : Placed) (at : slice_get blocks place ≡ Some block) where
+  module _ (meaning : Meaning) (permit : Permit) (thread : ℕ) (state : VaxState) (held : Flags) (rules : Rules) (place : ℕ) (block : Placed) (at : slice_get blocks place ≡ Some block) where
     exit_leads : (exit_place : ℕ) (exit : Exit) → slice_get block.1.exits exit_place ≡ Some exit → RulesAt code (word_at (places 0 blocks) exit.1) rules
-        → LeadsTo (placed meaning code thread state held (words_of (take place blocks))) (words_of (take place blocks) + exit.0) exit.1 rules 3
+        → LeadsTo (placed meaning permit code thread state held (words_of (take place blocks))) (words_of (take place blocks) + exit.0) exit.1 rules 3
     exit_leads exit_place exit exit_at rules_at =
         by (word_at (places 0 blocks) exit.1) refl rules_at (exit_stands place block at exit_place exit exit_at)
       where
@@ -140,8 +140,8 @@ module _ (blocks : List Placed) (are : AreBlocks blocks) (rising : AddressesRise
         inside k low below = let room = in_block.0 in alone_in place block k at (omega arith) (omega arith)
 
         by : (o : Option ℕ) → word_at (places 0 blocks) exit.1 ≡ o → RulesAt code o rules → HasAt (fetch_of words) word (exit_code o word exit.1)
-            → LeadsTo (placed meaning code thread state held (words_of (take place blocks))) word exit.1 rules 3
-        by None e ready has = none_leads (placed meaning code thread state held (words_of (take place blocks))) word exit.1 rules (omega arith) high inside ready in_block.1 e has
+            → LeadsTo (placed meaning permit code thread state held (words_of (take place blocks))) word exit.1 rules 3
+        by None e ready has = none_leads (placed meaning permit code thread state held (words_of (take place blocks))) word exit.1 rules (omega arith) high inside ready in_block.1 e has
         by (Some target) e same has =
             let there = is_target exit.1 target e in
             let room = in_block.0 in
@@ -150,11 +150,11 @@ module _ (blocks : List Placed) (are : AreBlocks blocks) (rising : AddressesRise
             near target there (omega arith) (same there.point there.has_point) (is_near word target) has
           where
             near : (target : ℕ) (there : IsTarget exit.1 target) → word < 2 ^ 23 → there.point.rules ≡ rules → (b : Bool) → HasAt (fetch_of words) word (code_to b word target)
-                → LeadsTo (placed meaning code thread state held (words_of (take place blocks))) word exit.1 rules 3
+                → LeadsTo (placed meaning permit code thread state held (words_of (take place blocks))) word exit.1 rules 3
             near target there small same true has =
-                near_leads (placed meaning code thread state held (words_of (take place blocks))) word exit.1 rules (omega arith) high inside target there.point small there.below there.begins there.has_point same has
+                near_leads (placed meaning permit code thread state held (words_of (take place blocks))) word exit.1 rules (omega arith) high inside target there.point small there.below there.begins there.has_point same has
             near target there small same false has =
-                far_leads (placed meaning code thread state held (words_of (take place blocks))) word exit.1 rules (omega arith) high inside target there.point small there.below there.begins there.has_point same has
+                far_leads (placed meaning permit code thread state held (words_of (take place blocks))) word exit.1 rules (omega arith) high inside target there.point small there.below there.begins there.has_point same has
 
   pub is_laid : IsLayout blocks code
   is_laid = record {
@@ -167,7 +167,7 @@ module _ (blocks : List Placed) (are : AreBlocks blocks) (rising : AddressesRise
       first = words_of (take place blocks);
       mapped = first_word place block at;
       stands = block_stands place block at;
-      leads = λ meaning thread state held rules meet exit_place exit exit_at. exit_leads meaning thread state held rules place block at exit_place exit exit_at (meet exit_place exit exit_at);
+      leads = λ meaning permit thread state held rules meet exit_place exit exit_at. exit_leads meaning permit thread state held rules place block at exit_place exit exit_at (meet exit_place exit exit_at);
     };
     exits = λ place block first exit_place exit at is exit_at.
         subst (λ (n : ℕ). HasAt (fetch_of words) (n + exit.0) (exit_code (word_at (places 0 blocks) exit.1) (n + exit.0) exit.1)) (some_same (sym (first_word place block at) ∙ is)) (exit_stands place block at exit_place exit exit_at);
