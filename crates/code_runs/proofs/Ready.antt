@@ -9,6 +9,7 @@ use Rattle.vax_form.specs.declared.operation.LongOperation.{LongOperation}
 use Rattle.vax_form.specs.declared.operation.LongOperation.TheVariants as long
 use Rattle.vax_form.specs.declared.operation.Operation.{Operation}
 use Rattle.vax_form.specs.declared.operation.Operation.TheVariants as operations
+use Rattle.vax_form.specs.declared.row.Class.TheVariants.{Translated}
 use Rattle.vax_form.specs.declared.state.Flags.{Flags}
 use Rattle.vax_form.specs.Codes.{Code, holds, all}
 use Rattle.vax_form.specs.Codes as code
@@ -24,6 +25,12 @@ use Rattle.exception_records.specs.declared.rules.CodeRule.{CodeRule}
 use Rattle.exception_records.specs.declared.rules.Rules.{Rules}
 use Rattle.code_runs.specs.Rules.{rule_behind, rules_behind}
 use Rattle.code_runs.specs.Ready.{AreReady, SourcesAreWritten, LiveAreReady, RunsAreReady, AreReadyAlong, AllCanHaveBlocks, can_have_block, long_can_have_block, rules_of_run}
+
+-- ---- what is translated can have a block
+pub translated_can : (operation : Operation) → class_of_operation operation ≡ Translated → can_have_block operation ≡ true
+unfolding class_of_operation can_have_block
+translated_can (operations.Long operation) h = absurd (cc h)
+translated_can operation h = ap is_translated h
 
 -- ---- what is written
 binary_written : (operation : BinaryOperation) (width : Width) → is_translated (class_of_binary operation) ≡ true

@@ -32,11 +32,12 @@ use Rattle.micro_lower.specs.Lowering.{IsLowered}
 use Rattle.program_codegen.specs.Programs.{KeepsTogether, ReadsReady, is_narrow}
 use Rattle.std.specs.Prelude.{All}
 use Rattle.std.proofs.lemmas.List.{get_or-map, length-map}
-use Rattle.vax_form.specs.Row.{class_at, class_of_operation, class_where, is_translated}
+use Rattle.vax_form.specs.Row.{class_at, class_where}
 use Rattle.vax_form.specs.declared.row.Class.TheVariants.{Translated}
 use Rattle.vax_form.specs.declared.pages.Pages.{Pages}
 use Rattle.code_runs.specs.Promises.{CanHaveBlocks}
 use Rattle.code_runs.proofs.Meeting.{rules_always_meet}
+use Rattle.code_runs.proofs.Ready.{translated_can}
 use Rattle.translate.specs.Compiled.{AreAlwaysReady, AreReadyFor}
 use Rattle.micro_lower.specs.Rows.{has_program}
 use Rattle.micro_lower.proofs.Instructions.{programs_are_translated}
@@ -144,14 +145,9 @@ unfolding has_program
 are_translated pages instrs built k d lt = (programs_are_translated (get_or instrs k d)).0 (built k d lt)
 
 -- and one that is translated can have a block
-operation_can : (operation : Operation) → class_of_operation operation ≡ Translated → can_have_block operation ≡ true
-unfolding class_of_operation can_have_block
-operation_can (operations.Long operation) h = absurd (cc h)
-operation_can operation h = ap is_translated h
-
 can_have : (o : Option Operation) → class_where o ≡ Translated → option_map_or can_have_block o false ≡ true
 can_have None h = absurd (cc h)
-can_have (Some operation) h = operation_can operation h
+can_have (Some operation) h = translated_can operation h
 
 pub can_have_blocks : (instrs : List Instr) → AreTranslated instrs → CanHaveBlocks instrs
 can_have_blocks instrs translated k d lt = can_have (operation_at (get_or instrs k d).opcode) (translated k d lt)

@@ -31,7 +31,7 @@ use Rattle.exception_records.specs.declared.rules.Rules.{Rules}
 use Rattle.image_meaning.specs.Meant.{codes_by, codes_of, image_meaning}
 use Rattle.image_meaning.proofs.TreesAt.{tree_at_stays_in_range}
 use Rattle.micro_lower.specs.Lowering.{IsLowered}
-use Rattle.code_runs.proofs.Ready.{sources_are_written}
+use Rattle.code_runs.proofs.Ready.{sources_are_written, translated_can}
 use Rattle.code_runs.specs.Codes.{code_sources}
 use Rattle.program_codegen.specs.Promises.{CompilesProgram, Writes, meant}
 use Rattle.translate.specs.Compiled.{ArePages, Compiles}
@@ -65,7 +65,7 @@ sources_are instr operation e = ap (λ (o : Option Operation). option_map_or sou
 pub written_agrees : (pages : Pages) (instr : Instr) (operation : Operation) → ArePages pages → instr.at < 2 ^ 32 → found pages instr.at ≡ instruction instr → operation_at instr.opcode ≡ Some operation → class_of_operation operation ≡ Translated
     → (image_meaning pages).written instr.at ≡ codes_written_by (sources_of operation)
 written_agrees pages instr operation are fits stands e class =
-    ap codes_by (opcode_at pages instr are fits stands) ∙ ap (λ (o : Option Operation). codes_of o) e ∙ sym (sources_are_written operation class)
+    ap codes_by (opcode_at pages instr are fits stands) ∙ ap (λ (o : Option Operation). codes_of o) e ∙ sym (sources_are_written operation (translated_can operation class))
 
 -- ---- from the program to the instruction
 module _ (instr : Instr) (program : List Micro) (before behind : Rules) (block : BlockValue) (lowered : IsLowered instr program) (translated : class_at instr.opcode ≡ Translated) where
