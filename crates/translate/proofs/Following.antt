@@ -1,5 +1,6 @@
 -- A block that follows the program of an instruction follows what the instruction means.
-use Rattle.std.proofs.Common.{◌≡◌, ◌<◌, ◌^◌, refl, sym, ap, ◌∙◌, subst, Option, Some, None, List}
+use Rattle.std.proofs.Common.{◌≡◌, ℕ, ◌<◌, ◌^◌, refl, sym, ap, ◌∙◌, subst, Bool, true, false, Option, Some, None, List}
+use Rattle.std.specs.Prelude.{◌==◌, ◌||◌}
 use Rattle.std.specs.Option.{option_map_or}
 use Rattle.vax_form.specs.Grammar.{instruction}
 use Rattle.vax_form.specs.GrammarFound.{found}
@@ -12,6 +13,8 @@ use Rattle.vax_form.specs.declared.operation.Operation.{Operation}
 use Rattle.vax_form.specs.declared.operation.Operation.TheVariants as operations
 use Rattle.vax_form.specs.declared.pages.Pages.{Pages}
 use Rattle.vax_form.specs.declared.row.Class.TheVariants.{Translated}
+use Rattle.vax_form.specs.declared.state.RefKind.{RefKind}
+use Rattle.vax_form.specs.declared.state.RefKind.TheVariants.{Read, Write, Add, SetBit, ClearBit, Put, Get}
 use Rattle.vax_meaning.specs.Instructions.{tree_for}
 use Rattle.vax_long.specs.Instructions.{long_at, long_operation, tree_at}
 use Rattle.vax_long.proofs.TreesAt.{short_stands}
@@ -25,14 +28,19 @@ use Rattle.block_law.specs.Rounds.{block_steps, new_round}
 use Rattle.block_law.specs.Translations.{placed}
 use Rattle.block_law.proofs.Blocks.{follows_same}
 use Rattle.alpha_meaning.specs.Pieces.{Plain}
+use Rattle.alpha_meaning.specs.declared.access.AlphaKind.{AlphaKind}
+use Rattle.alpha_meaning.specs.declared.access.AlphaKind.TheVariants.{Load, LoadLocked, Store, StoreConditional}
 use Rattle.alpha_meaning.specs.State.{at_place}
 use Rattle.exception_records.specs.Blocks.{BlockValue}
 use Rattle.exception_records.specs.declared.rules.Rules.{Rules}
 use Rattle.image_meaning.specs.Meant.{codes_by, codes_of, image_meaning}
+use Rattle.image_meaning.specs.Permits.{permit_of}
+use Rattle.image_meaning.specs.declared.target.Target.TheVariants.{Original}
 use Rattle.image_meaning.proofs.TreesAt.{tree_at_stays_in_range}
 use Rattle.micro_lower.specs.Lowering.{IsLowered}
 use Rattle.code_runs.proofs.Ready.{sources_are_written, translated_can}
 use Rattle.code_runs.specs.Codes.{code_sources}
+use Rattle.program_codegen.specs.Accesses.{accesses_of, by_loads, by_locks, by_stores}
 use Rattle.program_codegen.specs.Promises.{CompilesProgram, Writes, meant}
 use Rattle.translate.specs.Compiled.{ArePages, Compiles}
 use Rattle.translate.proofs.Above.{opcode_at}
@@ -67,6 +75,35 @@ pub written_agrees : (pages : Pages) (instr : Instr) (operation : Operation) →
 written_agrees pages instr operation are fits stands e class =
     ap codes_by (opcode_at pages instr are fits stands) ∙ ap (λ (o : Option Operation). codes_of o) e ∙ sym (sources_are_written operation (translated_can operation class))
 
+-- ---- the accesses that a program needs have 4 or 8 bytes
+eight : (four eight : Bool) → eight ≡ true → (four || eight) ≡ true
+eight true b e = refl
+eight false b e = e
+
+loads_are_whole : (kind : AlphaKind) (bytes : ℕ) → by_loads kind bytes ≡ true → (bytes == 4 || bytes == 8) ≡ true
+loads_are_whole Load bytes e = eight (bytes == 4) (bytes == 8) e
+loads_are_whole kind bytes e = absurd (cc e)
+
+stores_are_whole : (kind : AlphaKind) (bytes : ℕ) → by_stores kind bytes ≡ true → (bytes == 4 || bytes == 8) ≡ true
+stores_are_whole Load bytes e = absurd (cc e)
+stores_are_whole Store bytes e = e
+stores_are_whole LoadLocked bytes e = eight (bytes == 4) (bytes == 8) e
+stores_are_whole StoreConditional bytes e = eight (bytes == 4) (bytes == 8) e
+
+locks_are_whole : (kind : AlphaKind) (bytes : ℕ) → by_locks kind bytes ≡ true → (bytes == 4 || bytes == 8) ≡ true
+locks_are_whole LoadLocked bytes e = eight (bytes == 4) (bytes == 8) e
+locks_are_whole StoreConditional bytes e = eight (bytes == 4) (bytes == 8) e
+locks_are_whole kind bytes e = absurd (cc e)
+
+are_whole : (of : RefKind) (kind : AlphaKind) (bytes : ℕ) → accesses_of of kind bytes ≡ true → (bytes == 4 || bytes == 8) ≡ true
+are_whole Read kind bytes e = loads_are_whole kind bytes e
+are_whole (Write value) kind bytes e = stores_are_whole kind bytes e
+are_whole (Add value) kind bytes e = locks_are_whole kind bytes e
+are_whole (SetBit n) kind bytes e = locks_are_whole kind bytes e
+are_whole (ClearBit n) kind bytes e = locks_are_whole kind bytes e
+are_whole (Put byte) kind bytes e = absurd (cc e)
+are_whole Get kind bytes e = absurd (cc e)
+
 -- ---- from the program to the instruction
 module _ (instr : Instr) (program : List Micro) (before behind : Rules) (block : BlockValue) (lowered : IsLowered instr program) (translated : class_at instr.opcode ≡ Translated) where
   pub compiles : CompilesProgram instr (code_sources instr) program before behind block → Compiles instr before behind block
@@ -81,13 +118,14 @@ module _ (instr : Instr) (program : List Micro) (before behind : Rules) (block :
       let tree : tree_at pages thread state ≡ tree_for state instr pages thread = short_stands pages thread state instr found_there short in
       let means = lowers.means state pages thread is_state in
       let range : IsInRange pages (tree_for state instr pages thread) = subst (IsInRange pages) tree (tree_at_stays_in_range pages thread are.bytes lt state is_state) in
-      let writes : Writes (code_sources instr) instr.at meaning = record {
+      let permit = permit_of Original pages in
+      let writes : Writes (code_sources instr) instr.at meaning permit = record {
         pages = are.table;
         written = written_agrees pages instr of.operation are fits stands of.is of.class ∙ ap codes_written_by (sym same);
-        kinds = λ reference kind bytes. refl;
+        kinds = λ reference kind bytes may. are_whole reference.kind kind bytes may;
       } in
       let agree : CodesAgree (code_sources instr) program state instr.after = subst (λ (s : CodeSources). CodesAgree s program state instr.after) (sym same) (lowers.holds state is_state) in
-      let followed = follows meaning writes code first thread n state held regs few in_place pc form shows lead (same_range pages (meant meaning thread instr program state) (tree_for state instr pages thread) means range) agree in
-      subst (λ (t : Tree). Follows (placed meaning code thread state held first) n Plain block_steps new_round (at_place regs first) t) (sym tree)
-      (follows_same (placed meaning code thread state held first) n Plain block_steps new_round (at_place regs first) (meant meaning thread instr program state) (tree_for state instr pages thread)
+      let followed = follows meaning permit writes code first thread n state held regs few in_place pc form shows lead (same_range pages (meant meaning thread instr program state) (tree_for state instr pages thread) means range) agree in
+      subst (λ (t : Tree). Follows (placed meaning permit code thread state held first) n Plain block_steps new_round (at_place regs first) t) (sym tree)
+      (follows_same (placed meaning permit code thread state held first) n Plain block_steps new_round (at_place regs first) (meant meaning thread instr program state) (tree_for state instr pages thread)
       (same_back (meant meaning thread instr program state) (tree_for state instr pages thread) means) followed)

@@ -25,6 +25,8 @@ use Rattle.block_law.specs.Translations.{Code, placed}
 use Rattle.address_map.specs.Pairs.{word_at}
 use Rattle.micro_ops.specs.Sources.{sources_of}
 use Rattle.image_meaning.specs.Meant.{image_meaning}
+use Rattle.image_meaning.specs.Permits.{permit_of}
+use Rattle.image_meaning.specs.declared.target.Target.TheVariants.{Original}
 use Rattle.branch_layout.specs.Layouts.{AddressesRise, AreBlocks, IsLayout, Placed, layout}
 use Rattle.vax_form.specs.Targets.{has}
 use Rattle.code_runs.specs.Promises.{CanHaveBlocks}
@@ -56,16 +58,17 @@ pub record ArePages (pages : Pages) : Type 0 where
   pub table : IsPageTable pages
   pub bytes : AreBytes pages.code
 
--- Wherever the block stands in the code of an image that has the instruction, it follows what that means: from registers
--- in form that show the state by the rules before it, where its exits lead to their addresses by those behind it.
+-- Wherever the block stands in the code of an image that has the instruction, it follows what that means, by accesses that
+-- the first Alpha processors have: from registers in form that show the state by the rules before it, where its exits lead to
+-- their addresses by those behind it.
 abbrev pub Compiles : Instr → (before behind : Rules) → BlockValue → Type 0
 Compiles instr before behind block =
     (pages : Pages) → ArePages pages → found pages instr.at ≡ instruction instr
     → (code : Code) (first thread n : ℕ) (state : VaxState) (held : Flags) (regs : Regs)
     → length code.words ≤ most_words → Stands code block first → thread < 256 → IsState state → state.pc ≡ instr.at
     → InForm regs → Shows regs instr.at before held state
-    → ExitsLead (placed (image_meaning pages) code thread state held first) block.exits first behind
-    → Follows (placed (image_meaning pages) code thread state held first) n Plain block_steps new_round (at_place regs first) ((image_meaning pages).tree thread state)
+    → ExitsLead (placed (image_meaning pages) (permit_of Original pages) code thread state held first) block.exits first behind
+    → Follows (placed (image_meaning pages) (permit_of Original pages) code thread state held first) n Plain block_steps new_round (at_place regs first) ((image_meaning pages).tree thread state)
 
 -- the block of an instruction that has these codes along its run, with its address
 unfoldable pub block_of : Instr → InstrCodes → Placed

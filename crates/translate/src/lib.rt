@@ -14,6 +14,8 @@ ghost use Rattle.std.specs.List.{filter};
 ghost use Rattle.flow_discovery.specs.Starts.{starts};
 ghost use Rattle.block_law.specs.Translations.{Meets};
 ghost use Rattle.image_meaning.specs.Meant.{image_meaning};
+ghost use Rattle.image_meaning.specs.Permits.{any_permit, permit_of};
+ghost use Rattle.image_meaning.specs.declared.target.Target.TheVariants.{Original};
 ghost use Rattle.branch_layout.specs.Layouts.{layout};
 ghost use Rattle.code_runs.specs.Runs.{AreInOrder};
 ghost use Rattle.translate.specs.Compiled.{AreCompiled, AreFound, AreLaidOut, ArePages, CanBeLaid, InOrder, IsLaidOut, IsTranslation, addresses};
@@ -26,6 +28,7 @@ use branch_layout::lay_out;
 use exception_records::Block;
 use flow_discovery::reach;
 use image_file::Image;
+pub use image_meaning::Target;
 use image_meaning::laws::page_table_has_bytes;
 pub use laws::{ready_law, translation_law};
 use micro_lower::has_program;
@@ -33,13 +36,6 @@ pub use refusal::{Numbers, TranslateRefusal};
 use std::alloc::Global;
 use system_model::Translation;
 use vax_form::{Instr, Pages, WantOfMemory};
-
-/// The processors for which code is made.
-#[derive(Clone, Copy, Debug, PartialEq, Eq)]
-pub enum Target {
-    /// The first Alpha processors, without loads and stores of bytes and words.
-    Original,
-}
 
 // An address is a longword.
 fn address_fits(instr: &Instr)
@@ -90,7 +86,7 @@ fn translate_instrs(
     requires rising { InOrder instrs.now }
     requires found { AreFound pages.now instrs.now }
     requires built { All (λ instr. has_block instr pages.now ≡ true) instrs.now }
-    ensures meets { IfOk result (Meets (image_meaning pages.now)) }
+    ensures meets { IfOk result (Meets (image_meaning pages.now) (permit_of Original pages.now)) }
     ensures mapped { IfOk result (λ code. map (λ pair. pair.0) code.map ≡ addresses instrs.now) }
     ensures blocks { IfOk result (AreLaidOut instrs.now) }
 {
@@ -123,8 +119,12 @@ pub fn translate(
     hints: &[u32],
     target: Target,
 ) -> Result<Translation, TranslateRefusal>
-    // Each mapped instruction has its block, which does what the instruction means.
-    ensures meets { IfOk result (Meets (image_meaning image.now.pages)) }
+    // Code is made for the first processors alone.
+    requires { target ≡ Original }
+    // Each mapped instruction has its block, which does what the instruction means, by accesses that these processors have.
+    ensures meets { IfOk result (Meets (image_meaning image.now.pages) (permit_of target image.now.pages)) }
+    // So it does what it may on any.
+    ensures any { IfOk result (Meets (image_meaning image.now.pages) (any_permit image.now.pages)) }
     // Mapped are just those of the reached instructions that have a block.
     ensures mapped { IfOk result (HasMapped image.now.pages (starts image.now hints.now)) }
     // Each block is the instruction's, by the codes along its run.
@@ -133,7 +133,9 @@ pub fn translate(
     ensures few { IfOk result (λ _. AreFew image.now.pages (starts image.now hints.now)) }
     ensures refused { IfErr result (IsRefused image.now.pages (starts image.now hints.now)) }
 {
-    let Target::Original = target;
+    let Target::Original = target else {
+        unreachable!()
+    };
     let mut instrs = reach(alloc, image, hints)?;
     keep_built(&mut instrs, &image.pages);
     Ok(translate_instrs(alloc, &image.pages, &instrs)?)
