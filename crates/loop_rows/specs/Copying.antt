@@ -7,7 +7,6 @@ use Rattle.vax_form.specs.State.{IsState, register, with_register, with_pc}
 use Rattle.vax_form.specs.Tree.{Tree, Check, Ask, Ends, Finish}
 use Rattle.vax_form.specs.declared.pages.Pages.{Pages}
 use Rattle.vax_form.specs.declared.state.Flags.{Flags}
-use Rattle.vax_form.specs.declared.state.RefKind.{RefKind}
 use Rattle.vax_form.specs.declared.state.RefKind.TheVariants.{Read, Write}
 use Rattle.vax_form.specs.declared.state.VaxState.{VaxState}
 use Rattle.alpha_encode.specs.NoOperation.{nop}
@@ -20,8 +19,7 @@ use Rattle.alpha_encode.specs.declared.instr.BranchOp.TheVariants.{Br, Beq}
 use Rattle.alpha_encode.specs.declared.instr.MemoryOp.TheVariants.{LdqU, LdqL, StqC}
 use Rattle.alpha_encode.specs.declared.instr.OperateOp.TheVariants.{Addq, Addl, Subl, Extwl, Extll, Extbl, Bic, Mskbl, Insbl, Bis}
 use Rattle.alpha_encode.specs.declared.instr.Second.TheVariants.{Register, Literal}
-use Rattle.alpha_meaning.specs.declared.access.AlphaKind.TheVariants.{Load, LoadLocked, StoreConditional}
-use Rattle.alpha_meaning.specs.Pieces.{Kinds, Plain, most_words}
+use Rattle.alpha_meaning.specs.Pieces.{Plain, most_words}
 use Rattle.alpha_meaning.specs.State.{Regs, at_place}
 use Rattle.exception_records.specs.Blocks.{BlockValue}
 use Rattle.exception_records.specs.Codes.{all_ready}
@@ -32,7 +30,8 @@ use Rattle.block_law.specs.Follows.{Follows}
 use Rattle.block_law.specs.Placements.{InForm}
 use Rattle.block_law.specs.Rounds.{block_steps, new_round}
 use Rattle.block_law.specs.Services.{service}
-use Rattle.block_law.specs.Translations.{Meaning, Code, IsBlock, placed}
+use Rattle.block_law.specs.Translations.{Meaning, Permit, Code, IsBlock, placed}
+use Rattle.program_codegen.specs.Accesses.{needed}
 
 -- ---- what it means
 -- R0 has the bytes that are left, R1 and R3 the addresses behind those that were copied
@@ -47,42 +46,44 @@ copied (suc left) source target state =
     (λ byte. Ask (record { address = target; count = 1; kind = Write byte })
     (λ done. copied left ((source + 1) % 2 ^ 32) ((target + 1) % 2 ^ 32) state))
 
--- as many bytes as the low word of R0 says, from the address in R1 to that in R3
+-- both strings of so many bytes are probed, that from the address in R1 on and that from the address in R3 on
+abbrev pub string_tree : (after count : ℕ) → VaxState → Tree
+string_tree after count state =
+    Check (register 1 state) count false (Check (register 3 state) count true (copied count (register 1 state) (register 3 state) (with_pc after state)))
+
+-- as many bytes as the low word of R0 says
 abbrev pub copy_tree : (after : ℕ) → VaxState → Tree
-copy_tree after state =
-    Check (register 1 state) (register 0 state % 2 ^ 16) false
-    (Check (register 3 state) (register 0 state % 2 ^ 16) true
-    (copied (register 0 state % 2 ^ 16) (register 1 state) (register 3 state) (with_pc after state)))
+copy_tree after state = string_tree after (register 0 state % 2 ^ 16) state
 
--- a byte is read by a load, and written by a load-locked access and a store conditional of its quadword
-abbrev pub copy_kinds : RefKind → Kinds
-copy_kinds Read Load bytes = true
-copy_kinds (Write value) LoadLocked bytes = true
-copy_kinds (Write value) StoreConditional bytes = true
-copy_kinds other kind bytes = false
-
--- each access that counts allows as many steps more as a block may take
-abbrev pub copy_meaning : Pages → (after : ℕ) → Meaning
-copy_meaning pages after = record {
-  pages = pages;
-  tree = λ thread state. copy_tree after state;
-  moment = λ thread state. handled pages state (copy_tree after state);
-  serve = service;
-  written = λ address. none;
-  kinds = λ address reference. copy_kinds reference.kind;
+-- references are made as those of a program, and each access that counts allows as many steps more as a block may take
+abbrev pub copy_permit : Permit
+copy_permit = record {
+  kinds = λ address. needed;
   bonus = λ address. block_steps;
 }
+
+-- an instruction that writes no codes, by its tree
+abbrev pub string_meaning : Pages → (VaxState → Tree) → Meaning
+string_meaning pages tree = record {
+  pages = pages;
+  tree = λ thread state. tree state;
+  moment = λ thread state. handled pages state (tree state);
+  serve = service;
+  written = λ address. none;
+}
+
+abbrev pub copy_meaning : Pages → (after : ℕ) → Meaning
+copy_meaning pages after = string_meaning pages (copy_tree after)
 
 -- ---- its words
 -- of a probe that takes its count from R21
 abbrev pub point_of : (address : ℕ) → (write : Bool) → Point
 point_of address write = record { vax_pc = address; done = 0; count = 0; write = write; raises = 0; rules = all_ready }
 
--- the first temporary gets the count, and an address is probed; then R0 has the bytes that are left
+-- where the first temporary has the count, both strings are probed; then R0 has the bytes that are left
 abbrev pub probe_words : List AlphaInstr
 probe_words =
-    Operate Addq ZERO (Register 0) TEMPORARIES
-    ∷ Operate Addq ZERO (Register 1) ADDRESS
+    Operate Addq ZERO (Register 1) ADDRESS
     ∷ Pal PROBE
     ∷ Operate Addq ZERO (Register 3) ADDRESS
     ∷ Pal PROBE
@@ -119,10 +120,14 @@ turn_words =
     ∷ Branch Br ZERO (negsuc 15)
     ∷ []
 
-abbrev pub copy_words : List AlphaInstr
-copy_words = probe_words ++ turn_words ++ nop ∷ nop ∷ nop ∷ []
+-- the loop, with an exit behind it
+abbrev pub loop_words : List AlphaInstr
+loop_words = probe_words ++ turn_words ++ nop ∷ nop ∷ nop ∷ []
 
--- with an exit behind them
+-- the first temporary gets the low word of R0
+abbrev pub copy_words : List AlphaInstr
+copy_words = Operate Addq ZERO (Register 0) TEMPORARIES ∷ loop_words
+
 abbrev pub copy_value : (address after : ℕ) → BlockValue
 copy_value address after = record {
   words = copy_words;
@@ -134,10 +139,10 @@ copy_value address after = record {
 abbrev pub Copies : (address after : ℕ) → BlockValue → Type 0
 Copies address after block = (pages : Pages) (code : Code) (first thread n : ℕ) (state : VaxState) (held : Flags) (regs : Regs)
     → length code.words ≤ most_words → Stands code block first → IsState state → InForm regs → Shows regs address all_ready held state
-    → ExitsLead (placed (copy_meaning pages after) code thread state held first) block.exits first all_ready
-    → Follows (placed (copy_meaning pages after) code thread state held first) n Plain block_steps new_round (at_place regs first) (copy_tree after state)
+    → ExitsLead (placed (copy_meaning pages after) copy_permit code thread state held first) block.exits first all_ready
+    → Follows (placed (copy_meaning pages after) copy_permit code thread state held first) n Plain block_steps new_round (at_place regs first) (copy_tree after state)
 
 -- wherever it is laid out, where all rules are ready at its exit, it is all that a block has to be
 abbrev pub MeetsAll : (address after : ℕ) → BlockValue → Type 0
 MeetsAll address after block = (pages : Pages) (code : Code) (laid : IsLaid code address block)
-    → length code.words ≤ most_words → RulesMeet code block.exits all_ready → IsBlock (copy_meaning pages after) code address laid.first
+    → length code.words ≤ most_words → RulesMeet code block.exits all_ready → IsBlock (copy_meaning pages after) copy_permit code address laid.first
