@@ -27,8 +27,6 @@ module _ (pages : Pages) where
     moment = λ thread state. handled pages state (Fault Breakpoint);
     serve = λ thread code state. Ends (Exit state);
     written = λ address. all_held;
-    kinds = λ address reference kind bytes. true;
-    bonus = λ address. 0;
   }
 
   abbrev setting : Setting

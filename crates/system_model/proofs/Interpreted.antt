@@ -41,8 +41,6 @@ module _ (pages : Pages) where
     moment = λ thread state. tree_at state.pc;
     serve = λ thread code state. Ends (Exit state);
     written = λ address. all_held;
-    kinds = λ address reference kind bytes. true;
-    bonus = λ address. 0;
   }
 
   -- 200 is mapped
