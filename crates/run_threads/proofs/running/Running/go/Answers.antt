@@ -18,7 +18,7 @@ use Rattle.run_threads.proofs.Closing.{lent_back, is_legal, all_ended}
 use Rattle.run_threads.proofs.running.Running.go.Goals as goal
 
 pub run_all-requires-clause-can_run : goal.run_all-requires-clause-can_run
-run_all-requires-clause-can_run g c =
+run_all-requires-clause-can_run g c κs within =
     let image = c.args.image.now in
     let memory = c.self.inside.memory in
     let same : (set_up_of memory).image ≡ image = ap (λ (r : RunningValue). r.set_up.image) c.self.view_is ∙ c.requires.image in
