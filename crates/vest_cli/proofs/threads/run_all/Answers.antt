@@ -13,7 +13,7 @@ use Rattle.vest_runs.proofs.Spent.{all_have_cause}
 use Rattle.vest_cli.proofs.threads.run_all.Goals as goal
 
 pub go-requires-clause-meets : goal.go-requires-clause-meets
-go-requires-clause-meets g c =
+go-requires-clause-meets g c κs within =
     let pages = c.args.image.now.pages in
     c.permits.ensures.meets (image_meaning pages) Original pages c.args.translation.now c.requires.meets
 
