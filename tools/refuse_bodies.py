@@ -1,5 +1,5 @@
 #!/usr/bin/env python3
-"""Says of each wrong body of tools/wrong_bodies/CRATE/ whether the prover refuses it, and ends with status 1 where it lets one through.
+"""Says of each wrong body of tools/wrong_bodies/CRATE/ whether the prover refuses it, and ends with status 1 where it doesn't.
 
 tools/refuse_bodies.py [CRATE ..]
 
@@ -26,7 +26,7 @@ FUNCTION = re.compile(r"\s*(?:pub(?:\(crate\))? )?(?:const )?fn (\w+)")
 OUTSIDE_OF_FUNCTIONS = re.compile(r"(?:pub )?(?:const|static|enum|struct|macro_rules)\b(?! fn)")
 TOLD = re.compile(r"^fn (\S+): (.*)$", re.M)
 PROVED, OF_A_CALLEE = "proved", "no proof: it calls "
-UNPROVED, BROKEN = re.compile(r"^logic=not-proved", re.M), re.compile(r"^error", re.M)
+ACCEPTED, UNPROVED, BROKEN = (re.compile(line, re.M) for line in (r"^logic=proved", r"^logic=not-proved", r"^error"))
 WIDTH = 110
 
 Body = collections.namedtuple("Body", "name file function changes")
@@ -111,24 +111,26 @@ def check(room, crate, bodies):
     return run.stdout + run.stderr
 
 
-def is_refused_alone(room, crate, body):
+def tried_alone(room, crate, body):
+    """Whether the prover refuses a body, and what is said of it: that it is refused or let through, or that there was no verdict."""
     text = check(room, crate, [body])
-    return bool(said_of(crate, body, text)) or bool(UNPROVED.search(text)) and not BROKEN.search(text)
+    if said_of(crate, body, text) or UNPROVED.search(text) and not BROKEN.search(text):
+        return True, "refused: alone"
+    return False, "LET THROUGH" if ACCEPTED.search(text) else "NO VERDICT"
 
 
-def let_through(room, crate):
-    """Tries the crate's wrong bodies and gives the names of those that the prover lets through."""
+def not_refused(room, crate):
+    """Tries the crate's wrong bodies and gives the names of those that the prover doesn't refuse."""
     begun, wrong = time.time(), []
     bodies = [body_of(crate, path) for path in sorted((BODIES / crate).glob("*.edit"))]
     for group in groups_of(bodies):
         text = check(room, crate, group) if group[0].function else ""
         for body in group:
             said = said_of(crate, body, text)
-            if not said:
-                said = "alone" if is_refused_alone(room, crate, body) else ""
-            if not said:
+            is_refused, verdict = (True, f"refused: {said[:WIDTH]}") if said else tried_alone(room, crate, body)
+            if not is_refused:
                 wrong.append(f"{crate}/{body.name}")
-            print(f"{crate}/{body.name} in {module_of(body.file)}::{body.function}: {'refused: ' if said else 'LET THROUGH'}{said[:WIDTH]}", flush=True)
+            print(f"{crate}/{body.name} in {module_of(body.file)}::{body.function}: {verdict}", flush=True)
     print(f"{crate}: {len(bodies)} bodies in {time.time() - begun:.0f} s", flush=True)
     return wrong
 
@@ -140,7 +142,7 @@ def main():
         for part in ("crates.txt", "HANDLES"):
             shutil.copy(TOP / part, room)
         shutil.copytree(TOP / "crates", room / "crates", ignore=shutil.ignore_patterns("out", "must-fail"))
-        wrong = [body for crate in crates for body in let_through(room, crate)]
+        wrong = [body for crate in crates for body in not_refused(room, crate)]
     for body in wrong:
         print(f"not refused: {body}")
     return 1 if wrong else 0

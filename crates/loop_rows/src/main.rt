@@ -113,7 +113,8 @@ fn with_length(alloc: Global, found: Length, length: u16, miss: u32) -> io::Resu
     Ok(memory)
 }
 
-/// Runs a block for a string of that length, and prints what it took.
+/// Runs a block for a string of that length, and prints what it took. Where other bytes are copied, or it ends otherwise, that
+/// is an error.
 fn copy(rt: &HostRuntime, alloc: Global, found: Length, length: u16, miss: u32) -> io::Result<()> {
     let mut cpu = Cpu { r: [0; 32], pc: 0 };
     cpu.r[1] = SOURCE;
@@ -131,17 +132,15 @@ fn copy(rt: &HostRuntime, alloc: Global, found: Length, length: u16, miss: u32) 
         .ok_or(ErrorKind::InvalidData)?;
     let long = u64::from(length);
     let ended = run.cpu.r[0] == 0 && run.cpu.r[1] == SOURCE + long && run.cpu.r[3] == TARGET + long;
-    let verdict = if ended && is_copied(&before, &memory, length) {
-        "copied"
-    } else {
-        "not copied"
-    };
+    if !(ended && is_copied(&before, &memory, length)) {
+        return Err(ErrorKind::InvalidData.into());
+    }
     let place = match found {
         Length::Held => "R0",
         Length::At(_) => "memory",
     };
     println!(rt;
-        "length {length} in {place}, each {miss}. store fails: {} steps, {} accesses, {verdict}",
+        "length {length} in {place}, each {miss}. store fails: {} steps, {} accesses, copied",
         run.steps, memory.counted
     )
 }
