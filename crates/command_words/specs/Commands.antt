@@ -3,7 +3,6 @@ use Rattle.std.specs.Prelude.{◌==◌, ◌&&◌, ◌||◌, ℕ, Bool, true, fal
 use Rattle.std.specs.Prelude.{if◌then◌else◌, codes, nat_le}
 use Rattle.std.specs.Str.{bytes_eq}
 use Rattle.command_words.specs.declared.commands.Limits.{Limits}
-use Rattle.command_words.specs.declared.commands.TheConstants.{BUDGET, EVENTS, MISS, MOST_BUDGET, MOST_EVENTS, MOST_MISS, MOST_GENERATED}
 use Rattle.command_words.specs.declared.numbers.Range.{Range}
 use Rattle.command_words.specs.Parts.{Choice, Part, Text, first_of, names_in, only_name, two_names, values_in}
 use Rattle.command_words.specs.Forms.{Form, line_of}
@@ -48,16 +47,20 @@ number_or default (Some text) = number_in text
 abbrev pub number_of : Text → ℕ → List Part → Option ℕ
 number_of label default parts = number_or default (first_of (values_in label parts))
 
--- 0, by which no store conditional misses, or from 2 to the greatest miss number
+-- 0, by which no store conditional misses, or from 2 to 1,000
 abbrev pub is_miss : ℕ → Bool
-is_miss n = n == 0 || (nat_le 2 n && nat_le n MOST_MISS)
+is_miss n = n == 0 || (nat_le 2 n && nat_le n 1000)
 
--- the limits of a run, by `--budget`, `--events` and `--miss`
+-- the limits of a run where no option gives others
+abbrev pub DEFAULT_LIMITS : Limits
+DEFAULT_LIMITS = record { budget = 100000000; events = 4194304; miss = 0 }
+
+-- the limits of a run, by `--budget`, up to 10^12, by `--events`, up to 4,194,304, and by `--miss`
 abbrev pub limits_of : List Part → Option Limits
 limits_of parts = do
-  budget ← within (λ n. nat_le n MOST_BUDGET) (number_of (codes "budget") BUDGET parts)
-  events ← within (λ n. nat_le n MOST_EVENTS) (number_of (codes "events") EVENTS parts)
-  miss ← within is_miss (number_of (codes "miss") MISS parts)
+  budget ← within (λ n. nat_le n 1000000000000) (number_of (codes "budget") DEFAULT_LIMITS.budget parts)
+  events ← within (λ n. nat_le n 4194304) (number_of (codes "events") DEFAULT_LIMITS.events parts)
+  miss ← within is_miss (number_of (codes "miss") DEFAULT_LIMITS.miss parts)
   Some (record { budget = budget; events = events; miss = miss })
 
 -- `run NAME`, with ranges by `--interpret`
@@ -84,7 +87,7 @@ list_of parts = do
 abbrev pub generate_of : List Part → Option CommandValue
 generate_of parts = do
   name ← only_name (names_in parts)
-  number ← within (λ n. nat_le 1 n && nat_le n MOST_GENERATED) (number_in name)
+  number ← within (λ n. nat_le 1 n && nat_le n 32000) (number_in name)
   Some (generate number)
 
 -- the command with the title, by its names and options

@@ -5,7 +5,6 @@ use Rattle.std.specs.List.{list_all, before_first, after_first, position_or_len}
 use Rattle.std.specs.Char.{digit_value}
 use Rattle.std.specs.Str.Parse.{digits_value, without_leading_plus}
 use Rattle.command_words.specs.declared.numbers.Range.{Range}
-use Rattle.command_words.specs.declared.numbers.TheConstants.{ADDRESS_DIGITS, MOST_RANGES, THREADS, THREAD_DIGITS}
 use Rattle.command_words.specs.Parts.{Text}
 
 -- the first, then what it goes on to
@@ -40,20 +39,20 @@ split_at mark text =
     if nat_lt (position_or_len (λ b. b == mark) text) (length text)
     then Some (before_first (λ b. b == mark) text, after_first (λ b. b == mark) text) else None
 
--- the range, where the thread and the addresses fit
+-- the range, where the thread is below 32 and the first address not above the last
 abbrev pub range_of : ℕ → ℕ → ℕ → Option Range
-range_of thread first last = if nat_lt thread THREADS && nat_le first last
+range_of thread first last = if nat_lt thread 32 && nat_le first last
     then Some (record { thread = thread; first = first; last = last }) else None
 
--- `T:A-B`: a thread in decimal digits, the first and the last address in hexadecimal ones; 58 is
+-- `T:A-B`: a thread in at most two decimal digits, the first and the last address in at most eight hexadecimal ones; 58 is
 -- `:` and 45 is `-`
 abbrev pub range_in : Text → Option Range
 range_in text = do
   parts ← split_at 58 text
   addresses ← split_at 45 parts.1
-  thread ← short_number 10 THREAD_DIGITS parts.0
-  first ← short_number 16 ADDRESS_DIGITS addresses.0
-  last ← short_number 16 ADDRESS_DIGITS addresses.1
+  thread ← short_number 10 2 parts.0
+  first ← short_number 16 8 addresses.0
+  last ← short_number 16 8 addresses.1
   range_of thread first last
 
 -- the ranges of all the texts
@@ -64,6 +63,6 @@ ranges_in (text ∷ rest) = do
   ranges ← ranges_in rest
   Some (range ∷ ranges)
 
--- the same, where there are at most so many
+-- the same, where there are at most 64
 abbrev pub few_ranges : List Text → Option (List Range)
-few_ranges texts = if nat_le (length texts) MOST_RANGES then ranges_in texts else None
+few_ranges texts = if nat_le (length texts) 64 then ranges_in texts else None

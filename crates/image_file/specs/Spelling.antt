@@ -1,5 +1,5 @@
 -- The bytes of an image file, of either version. All numbers are little-endian.
-use Rattle.std.specs.Prelude.{ℕ, ◌==◌, List, [], ◌++◌, length, map, codes, if◌then◌else◌}
+use Rattle.std.specs.Prelude.{◌≡◌, ℕ, ◌==◌, List, [], ◌++◌, length, map, take, codes, if◌then◌else◌}
 use Rattle.std.specs.List.{flat_map}
 use Rattle.std.specs.Int.{w16, w32, to_le_bytes}
 use Rattle.image_file.specs.declared.image.Start.{Start}
@@ -19,6 +19,11 @@ row_bytes r = to_le_bytes w32 r.start ++ to_le_bytes w32 r.size ++ to_le_bytes w
 -- a section's row in the section table; its flags are 0 for a read-only section and 1 for a writable one
 abbrev pub row_of : SectionValue → Row
 row_of s = record { start = s.start; size = s.size; stored = length s.stored; flags = if s.writable then 1 else 0 }
+
+-- behind what was there before, the bytes of the first of the words alone
+pub record HasFirstWords (before words after : List ℕ) : Type 0 where
+  pub count : ℕ
+  pub bytes : after ≡ before ++ flat_map (to_le_bytes w32) (take count words)
 
 -- magic number, version, and the numbers of threads, sections and entries
 abbrev pub header_bytes : ℕ → ℕ → ℕ → ℕ → List ℕ

@@ -1,16 +1,16 @@
 // Writes an image file.
-ghost use Rattle.std.specs.Prelude.{◌≡◌, ℕ, ◌<◌, ◌^◌, ◌++◌, length, true, map, IfOk, OnOk, Ok};
+ghost use Rattle.std.specs.Prelude.{◌≡◌, ℕ, ◌<◌, ◌^◌, ◌++◌, length, true, map, IfOk, OnErr, OnOk, Ok};
 ghost use Rattle.std.specs.List.{flat_map, list_all, AllByRecursion};
 ghost use Rattle.std.specs.Int.{w32, to_le_bytes};
 ghost use Rattle.image_file.specs.Values.{SectionValue};
 ghost use Rattle.image_file.specs.Rows.{is_sound};
-ghost use Rattle.image_file.specs.Spelling.{row_of, header_bytes, start_bytes, row_bytes, spelling};
+ghost use Rattle.image_file.specs.Spelling.{HasFirstWords, row_of, header_bytes, start_bytes, row_bytes, spelling};
 ghost use Rattle.image_file.specs.Whole.{IsWhole};
 ghost use Rattle.image_file.specs.Reading.{image_of};
 
 use crate::image::{Image, Section, Start};
 use crate::limits::*;
-use std::alloc::{AllocError, Global};
+use std::alloc::Global;
 use vax_form::WantOfMemory;
 
 fn put_header(
@@ -19,7 +19,7 @@ fn put_header(
     threads: u16,
     sections: u16,
     entries: u16,
-) -> Result<(), AllocError>
+) -> Result<(), WantOfMemory>
     ensures { OnOk result (out.new.items ≡ out.old.items ++ header_bytes version threads sections entries) }
 {
     out.extend_from_slice(&MAGIC.to_le_bytes())?;
@@ -30,10 +30,11 @@ fn put_header(
     Ok(())
 }
 
-/// Appends the bytes of each word, the lowest first.
-pub fn put_words(out: &mut Vec<u8>, words: &[u32]) -> Result<(), AllocError>
+/// Appends the bytes of each word, the lowest first. Where memory runs out, those of the first words are appended.
+pub fn put_words(out: &mut Vec<u8>, words: &[u32]) -> Result<(), WantOfMemory>
     ensures bytes { OnOk result (out.new.items ≡ out.old.items ++ flat_map (to_le_bytes w32) words.now) }
     ensures fit { OnOk result (AllByRecursion (λ (n : ℕ). n < 2 ^ 32) words.now) }
+    ensures refused { OnErr result (HasFirstWords out.old.items words.now out.new.items) }
 {
     for word in words {
         out.extend_from_slice(&word.to_le_bytes())?;
@@ -41,7 +42,7 @@ pub fn put_words(out: &mut Vec<u8>, words: &[u32]) -> Result<(), AllocError>
     Ok(())
 }
 
-fn put_start(out: &mut Vec<u8>, version: u16, start: &Start) -> Result<(), AllocError>
+fn put_start(out: &mut Vec<u8>, version: u16, start: &Start) -> Result<(), WantOfMemory>
     ensures { OnOk result (out.new.items ≡ out.old.items ++ start_bytes version start.now) }
 {
     out.extend_from_slice(&start.pc.to_le_bytes())?;
@@ -52,7 +53,7 @@ fn put_start(out: &mut Vec<u8>, version: u16, start: &Start) -> Result<(), Alloc
     Ok(())
 }
 
-fn put_threads(out: &mut Vec<u8>, version: u16, threads: &[Start]) -> Result<(), AllocError>
+fn put_threads(out: &mut Vec<u8>, version: u16, threads: &[Start]) -> Result<(), WantOfMemory>
     ensures { OnOk result (out.new.items ≡ out.old.items ++ flat_map (start_bytes version) threads.now) }
 {
     for start in threads {
@@ -61,7 +62,7 @@ fn put_threads(out: &mut Vec<u8>, version: u16, threads: &[Start]) -> Result<(),
     Ok(())
 }
 
-fn put_row(out: &mut Vec<u8>, section: &Section) -> Result<(), AllocError>
+fn put_row(out: &mut Vec<u8>, section: &Section) -> Result<(), WantOfMemory>
     requires { is_sound (row_of section.now) ≡ true }
     ensures { OnOk result (out.new.items ≡ out.old.items ++ row_bytes (row_of section.now)) }
 {
@@ -72,7 +73,7 @@ fn put_row(out: &mut Vec<u8>, section: &Section) -> Result<(), AllocError>
     Ok(())
 }
 
-fn put_rows(out: &mut Vec<u8>, sections: &[Section]) -> Result<(), AllocError>
+fn put_rows(out: &mut Vec<u8>, sections: &[Section]) -> Result<(), WantOfMemory>
     requires { list_all is_sound (map row_of sections.now) ≡ true }
     ensures { OnOk result (out.new.items ≡ out.old.items ++ flat_map row_bytes (map row_of sections.now)) }
 {
@@ -82,7 +83,7 @@ fn put_rows(out: &mut Vec<u8>, sections: &[Section]) -> Result<(), AllocError>
     Ok(())
 }
 
-fn put_stored(out: &mut Vec<u8>, sections: &[Section]) -> Result<(), AllocError>
+fn put_stored(out: &mut Vec<u8>, sections: &[Section]) -> Result<(), WantOfMemory>
     ensures { OnOk result (out.new.items ≡ out.old.items ++ flat_map (λ (s : SectionValue). s.stored) sections.now) }
 {
     for section in sections {

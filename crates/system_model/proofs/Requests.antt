@@ -24,125 +24,65 @@ use Rattle.system_model.specs.Steps.{Last, Comes, Fails, Place, Inside, Lands, L
 use Rattle.system_model.specs.Steps as step
 use Rattle.system_model.specs.Processors.{Mode, New, Runs, Interprets, Ended, Processor, moment_of, stepped, tied, left, placed, Turn, Went, Asks, Over, Stuck, alpha_turn, tie_turn, turn_in, mode_of, turn}
 
--- the request of a step is its thread's
-abbrev IsOfThread : ℕ → Next → Type 0
-IsOfThread thread (Moves place) = Unit {0}
-IsOfThread thread (Wants request on) = request.processor ≡ thread
-IsOfThread thread step.Stuck = Unit {0}
+-- the request of a step is its thread's, and tells the instructions that had retired
+abbrev IsOwn : (thread retired : ℕ) → Next → Type 0
+IsOwn thread retired (Moves place) = Unit {0}
+IsOwn thread retired (Wants request on) = (request.processor ≡ thread) × (request.retired ≡ retired)
+IsOwn thread retired step.Stuck = Unit {0}
 
--- and tells the instructions that had retired
-abbrev IsAfter : ℕ → Next → Type 0
-IsAfter retired (Moves place) = Unit {0}
-IsAfter retired (Wants request on) = request.retired ≡ retired
-IsAfter retired step.Stuck = Unit {0}
+own_access : (b : Bool) (setting : Setting) (m : Moment) (i : AlphaInstr) (a : AlphaAccess) (c : Alpha) → IsOwn m.thread m.retired (accesses b setting m i a c)
+own_access true setting m i a c = (refl, refl)
+own_access false setting m i a c = tt
 
-after_access : (b : Bool) (setting : Setting) (m : Moment) (i : AlphaInstr) (a : AlphaAccess) (c : Alpha) → IsAfter m.retired (accesses b setting m i a c)
-after_access true setting m i a c = refl
-after_access false setting m i a c = tt
+own_raised : (thread retired : ℕ) (o : Option Exception) → IsOwn thread retired (raised o)
+own_raised thread retired None = tt
+own_raised thread retired (Some x) = tt
 
-after_raised : (retired : ℕ) (o : Option Exception) → IsAfter retired (raised o)
-after_raised retired None = tt
-after_raised retired (Some x) = tt
+own_choices : (thread retired : ℕ) (one two three four five six : Bool) (exit : Place) (put get : Request) (stays : Place) (gets : ℕ → Bool → Place) (tells swaps resumes none : Place) → (put.processor ≡ thread) × (put.retired ≡ retired) → (get.processor ≡ thread) × (get.retired ≡ retired)
+    → IsOwn thread retired (if one then Moves exit else if two then Wants put (λ before success. stays) else if three then Wants get gets else if four then Moves tells else if five then Moves swaps else if six then Moves resumes else Moves none)
+own_choices thread retired true two three four five six exit put get stays gets tells swaps resumes none p g = tt
+own_choices thread retired false true three four five six exit put get stays gets tells swaps resumes none p g = p
+own_choices thread retired false false true four five six exit put get stays gets tells swaps resumes none p g = g
+own_choices thread retired false false false true five six exit put get stays gets tells swaps resumes none p g = tt
+own_choices thread retired false false false false true six exit put get stays gets tells swaps resumes none p g = tt
+own_choices thread retired false false false false false true exit put get stays gets tells swaps resumes none p g = tt
+own_choices thread retired false false false false false false exit put get stays gets tells swaps resumes none p g = tt
 
-after_choices : (retired : ℕ) (one two three four five six : Bool) (exit : Place) (put get : Request) (stays : Place) (gets : ℕ → Bool → Place) (tells swaps resumes none : Place) → put.retired ≡ retired → get.retired ≡ retired
-    → IsAfter retired (if one then Moves exit else if two then Wants put (λ before success. stays) else if three then Wants get gets else if four then Moves tells else if five then Moves swaps else if six then Moves resumes else Moves none)
-after_choices retired true two three four five six exit put get stays gets tells swaps resumes none p g = tt
-after_choices retired false true three four five six exit put get stays gets tells swaps resumes none p g = p
-after_choices retired false false true four five six exit put get stays gets tells swaps resumes none p g = g
-after_choices retired false false false true five six exit put get stays gets tells swaps resumes none p g = tt
-after_choices retired false false false false true six exit put get stays gets tells swaps resumes none p g = tt
-after_choices retired false false false false false true exit put get stays gets tells swaps resumes none p g = tt
-after_choices retired false false false false false false exit put get stays gets tells swaps resumes none p g = tt
-
-after_served : (setting : Setting) (m : Moment) (code : ℕ) (rules : Rules) (c : Alpha) → IsAfter m.retired (served setting m code rules c)
-after_served setting m code rules c =
-    after_choices m.retired (code == 1) (code == 2) (code == 3) (code == 4) (code == 5) (code == 6) (Leaves (Comes (Exit (state_at m.boundary c.regs (target c.regs) rules m.held))))
+own_served : (setting : Setting) (m : Moment) (code : ℕ) (rules : Rules) (c : Alpha) → IsOwn m.thread m.retired (served setting m code rules c)
+own_served setting m code rules c =
+    own_choices m.thread m.retired (code == 1) (code == 2) (code == 3) (code == 4) (code == 5) (code == 6) (Leaves (Comes (Exit (state_at m.boundary c.regs (target c.regs) rules m.held))))
     (record { processor = m.thread; retired = m.retired; kind = kinds.Put; quad = 0; change = Byte (c.regs 0 % 256) })
     (record { processor = m.thread; retired = m.retired; kind = kinds.Get; quad = 0; change = Nothing })
     (behind setting m c c.regs) (λ before success. behind setting m c (with_r0 c.regs before)) (behind setting m c (with_r0 c.regs m.thread))
     (Leaves (Comes (Finish (exchanged (state_at m.boundary c.regs (target c.regs) rules m.held)))))
     (Leaves (Comes (Finish (with_pending Resume (state_at m.boundary c.regs (target c.regs) rules m.held)))))
-    (behind setting m c (with_r0 c.regs 0)) refl refl
+    (behind setting m c (with_r0 c.regs 0)) (refl, refl) (refl, refl)
 
-after_called : (setting : Setting) (m : Moment) (call : Call) (point : Option Point) (c : Alpha) → IsAfter m.retired (called setting m call point c)
-after_called setting m Probe (Some point) c = tt
-after_called setting m Probe None c = tt
-after_called setting m Serve (Some point) c = after_served setting m (c.regs 21 % 2 ^ 16) point.rules c
-after_called setting m Serve None c = tt
-after_called setting m Raise (Some point) c = after_raised m.retired (raised_at point.raises)
-after_called setting m Raise None c = tt
-after_called setting m Arithmetic (Some point) c = tt
-after_called setting m Arithmetic None c = tt
-after_called setting m LookUp point c = tt
-after_called setting m Switch point c = tt
-after_called setting m Other point c = tt
+own_called : (setting : Setting) (m : Moment) (call : Call) (point : Option Point) (c : Alpha) → IsOwn m.thread m.retired (called setting m call point c)
+own_called setting m Probe (Some point) c = tt
+own_called setting m Probe None c = tt
+own_called setting m Serve (Some point) c = own_served setting m (c.regs 21 % 2 ^ 16) point.rules c
+own_called setting m Serve None c = tt
+own_called setting m Raise (Some point) c = own_raised m.thread m.retired (raised_at point.raises)
+own_called setting m Raise None c = tt
+own_called setting m Arithmetic (Some point) c = tt
+own_called setting m Arithmetic None c = tt
+own_called setting m LookUp point c = tt
+own_called setting m Switch point c = tt
+own_called setting m Other point c = tt
 
-after_does : (setting : Setting) (m : Moment) (i : AlphaInstr) (what : Does) (c : Alpha) → IsAfter m.retired (does setting m i what c)
-after_does setting m i (Goes d) c = tt
-after_does setting m i (AsksAccess a) c = after_access (is_defined setting a) setting m i a c
-after_does setting m i (Calls number) c = after_called setting m (call_of number) (point_at setting.code.points c.pc) c
+own_does : (setting : Setting) (m : Moment) (i : AlphaInstr) (what : Does) (c : Alpha) → IsOwn m.thread m.retired (does setting m i what c)
+own_does setting m i (Goes d) c = tt
+own_does setting m i (AsksAccess a) c = own_access (is_defined setting a) setting m i a c
+own_does setting m i (Calls number) c = own_called setting m (call_of number) (point_at setting.code.points c.pc) c
 
-after_next_by : (setting : Setting) (m : Moment) (o : Option AlphaInstr) (c : Alpha) → IsAfter m.retired (next_by setting m o c)
-after_next_by setting m None c = tt
-after_next_by setting m (Some i) c = after_does setting m i (act i c) c
+own_next_by : (setting : Setting) (m : Moment) (o : Option AlphaInstr) (c : Alpha) → IsOwn m.thread m.retired (next_by setting m o c)
+own_next_by setting m None c = tt
+own_next_by setting m (Some i) c = own_does setting m i (act i c) c
 
-after_next : (setting : Setting) (m : Moment) (c : Alpha) → IsAfter m.retired (next setting m c)
+own_next : (setting : Setting) (m : Moment) (c : Alpha) → IsOwn m.thread m.retired (next setting m c)
 unfolding next
-after_next setting m c = after_next_by setting m (fetch_of setting.code.words c.pc) c
-
-of_access : (b : Bool) (setting : Setting) (m : Moment) (i : AlphaInstr) (a : AlphaAccess) (c : Alpha) → IsOfThread m.thread (accesses b setting m i a c)
-of_access true setting m i a c = refl
-of_access false setting m i a c = tt
-
-of_raised : (thread : ℕ) (o : Option Exception) → IsOfThread thread (raised o)
-of_raised thread None = tt
-of_raised thread (Some x) = tt
-
-of_choices : (thread : ℕ) (one two three four five six : Bool) (exit : Place) (put get : Request) (stays : Place) (gets : ℕ → Bool → Place) (tells swaps resumes none : Place) → put.processor ≡ thread → get.processor ≡ thread
-    → IsOfThread thread (if one then Moves exit else if two then Wants put (λ before success. stays) else if three then Wants get gets else if four then Moves tells else if five then Moves swaps else if six then Moves resumes else Moves none)
-of_choices thread true two three four five six exit put get stays gets tells swaps resumes none p g = tt
-of_choices thread false true three four five six exit put get stays gets tells swaps resumes none p g = p
-of_choices thread false false true four five six exit put get stays gets tells swaps resumes none p g = g
-of_choices thread false false false true five six exit put get stays gets tells swaps resumes none p g = tt
-of_choices thread false false false false true six exit put get stays gets tells swaps resumes none p g = tt
-of_choices thread false false false false false true exit put get stays gets tells swaps resumes none p g = tt
-of_choices thread false false false false false false exit put get stays gets tells swaps resumes none p g = tt
-
-of_served : (setting : Setting) (m : Moment) (code : ℕ) (rules : Rules) (c : Alpha) → IsOfThread m.thread (served setting m code rules c)
-of_served setting m code rules c =
-    of_choices m.thread (code == 1) (code == 2) (code == 3) (code == 4) (code == 5) (code == 6) (Leaves (Comes (Exit (state_at m.boundary c.regs (target c.regs) rules m.held))))
-    (record { processor = m.thread; retired = m.retired; kind = kinds.Put; quad = 0; change = Byte (c.regs 0 % 256) })
-    (record { processor = m.thread; retired = m.retired; kind = kinds.Get; quad = 0; change = Nothing })
-    (behind setting m c c.regs) (λ before success. behind setting m c (with_r0 c.regs before)) (behind setting m c (with_r0 c.regs m.thread))
-    (Leaves (Comes (Finish (exchanged (state_at m.boundary c.regs (target c.regs) rules m.held)))))
-    (Leaves (Comes (Finish (with_pending Resume (state_at m.boundary c.regs (target c.regs) rules m.held)))))
-    (behind setting m c (with_r0 c.regs 0)) refl refl
-
-of_called : (setting : Setting) (m : Moment) (call : Call) (point : Option Point) (c : Alpha) → IsOfThread m.thread (called setting m call point c)
-of_called setting m Probe (Some point) c = tt
-of_called setting m Probe None c = tt
-of_called setting m Serve (Some point) c = of_served setting m (c.regs 21 % 2 ^ 16) point.rules c
-of_called setting m Serve None c = tt
-of_called setting m Raise (Some point) c = of_raised m.thread (raised_at point.raises)
-of_called setting m Raise None c = tt
-of_called setting m Arithmetic (Some point) c = tt
-of_called setting m Arithmetic None c = tt
-of_called setting m LookUp point c = tt
-of_called setting m Switch point c = tt
-of_called setting m Other point c = tt
-
-of_does : (setting : Setting) (m : Moment) (i : AlphaInstr) (what : Does) (c : Alpha) → IsOfThread m.thread (does setting m i what c)
-of_does setting m i (Goes d) c = tt
-of_does setting m i (AsksAccess a) c = of_access (is_defined setting a) setting m i a c
-of_does setting m i (Calls number) c = of_called setting m (call_of number) (point_at setting.code.points c.pc) c
-
-of_next_by : (setting : Setting) (m : Moment) (o : Option AlphaInstr) (c : Alpha) → IsOfThread m.thread (next_by setting m o c)
-of_next_by setting m None c = tt
-of_next_by setting m (Some i) c = of_does setting m i (act i c) c
-
-of_next : (setting : Setting) (m : Moment) (c : Alpha) → IsOfThread m.thread (next setting m c)
-unfolding next
-of_next setting m c = of_next_by setting m (fetch_of setting.code.words c.pc) c
+own_next setting m c = own_next_by setting m (fetch_of setting.code.words c.pc) c
 
 -- ---- one step of one thread
 pub record IsStep (p q : Processor) : Type 0 where
@@ -166,9 +106,9 @@ Makes p (Asks request on) = (request.processor ≡ p.thread) × ((before : ℕ) 
 Makes p Over = Unit {0}
 Makes p Stuck = Unit {0}
 
-alpha_makes : (setting : Setting) (p : Processor) (to : Next) → IsOfThread p.thread to → Makes p (alpha_turn setting p to)
+alpha_makes : (setting : Setting) (p : Processor) (to : Next) → IsOwn p.thread p.retired to → Makes p (alpha_turn setting p to)
 alpha_makes setting p (Moves to) h = placed_step setting p to
-alpha_makes setting p (Wants request on) h = (h, λ before success. placed_step setting p (on before success))
+alpha_makes setting p (Wants request on) h = (h.0, λ before success. placed_step setting p (on before success))
 alpha_makes setting p step.Stuck h = tt
 
 tie_makes : (setting : Setting) (p : Processor) (state : VaxState) (replies : List ℕ) (a : Answer) → Makes p (tie_turn setting p state replies a)
@@ -178,7 +118,7 @@ tie_makes setting p state replies (trees.Comes x rest) = left_step setting p (ti
 
 makes_in : (setting : Setting) (p : Processor) (mode : Mode) → Makes p (turn_in setting p mode)
 makes_in setting p New = tt
-makes_in setting p (Runs alpha) = alpha_makes setting p (next setting (moment_of p) alpha) (of_next setting (moment_of p) alpha)
+makes_in setting p (Runs alpha) = alpha_makes setting p (next setting (moment_of p) alpha) (own_next setting (moment_of p) alpha)
 makes_in setting p (Interprets state replies) = tie_makes setting p state replies (answer setting.meaning.pages (setting.meaning.moment p.thread state) replies)
 makes_in setting p (Ended end) = tt
 
@@ -213,9 +153,9 @@ Retires p (Asks request on) = (request.retired ≡ p.retired) × ((before : ℕ)
 Retires p Over = Unit {0}
 Retires p Stuck = Unit {0}
 
-alpha_retires : (setting : Setting) (p : Processor) (to : Next) → IsAfter p.retired to → Retires p (alpha_turn setting p to)
+alpha_retires : (setting : Setting) (p : Processor) (to : Next) → IsOwn p.thread p.retired to → Retires p (alpha_turn setting p to)
 alpha_retires setting p (Moves to) h = placed_retires setting p to
-alpha_retires setting p (Wants request on) h = (h, λ before success. placed_retires setting p (on before success))
+alpha_retires setting p (Wants request on) h = (h.1, λ before success. placed_retires setting p (on before success))
 alpha_retires setting p step.Stuck h = tt
 
 tie_retires : (setting : Setting) (p : Processor) (state : VaxState) (replies : List ℕ) (a : Answer) → Retires p (tie_turn setting p state replies a)
@@ -225,7 +165,7 @@ tie_retires setting p state replies (trees.Comes x rest) = left_retires setting 
 
 retires_in : (setting : Setting) (p : Processor) (mode : Mode) → Retires p (turn_in setting p mode)
 retires_in setting p New = tt
-retires_in setting p (Runs alpha) = alpha_retires setting p (next setting (moment_of p) alpha) (after_next setting (moment_of p) alpha)
+retires_in setting p (Runs alpha) = alpha_retires setting p (next setting (moment_of p) alpha) (own_next setting (moment_of p) alpha)
 retires_in setting p (Interprets state replies) = tie_retires setting p state replies (answer setting.meaning.pages (setting.meaning.moment p.thread state) replies)
 retires_in setting p (Ended end) = tt
 

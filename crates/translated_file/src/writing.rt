@@ -10,10 +10,10 @@ ghost use Rattle.translated_file.specs.Whole.{IsLong, Rise};
 use crate::limits::*;
 use address_map::AddressMap;
 use image_file::{Image, put_words, write_image};
-use std::alloc::{AllocError, Global};
+use std::alloc::Global;
 use vax_form::WantOfMemory;
 
-fn put_pairs(out: &mut Vec<u8>, pairs: &[(u32, u32)]) -> Result<(), AllocError>
+fn put_pairs(out: &mut Vec<u8>, pairs: &[(u32, u32)]) -> Result<(), WantOfMemory>
     ensures bytes { OnOk result (out.new.items ≡ out.old.items ++ word_bytes (flat_map pair_words pairs.now)) }
     ensures fit { OnOk result (AllByRecursion IsLong (flat_map pair_words pairs.now)) }
 {
@@ -28,13 +28,13 @@ fn put_header(
     version: u32,
     image_bytes: u32,
     hints: u32,
-) -> Result<(), AllocError>
+) -> Result<(), WantOfMemory>
     ensures { OnOk result (out.new.items ≡ out.old.items ++ header_bytes version image_bytes hints) }
 {
     put_words(out, &[MAGIC, version, image_bytes, hints])
 }
 
-fn put_tail(out: &mut Vec<u8>, words: &[u32], pairs: &[(u32, u32)]) -> Result<(), AllocError>
+fn put_tail(out: &mut Vec<u8>, words: &[u32], pairs: &[(u32, u32)]) -> Result<(), WantOfMemory>
     requires words { length words.now ≤ MOST_WORDS }
     requires pairs { length pairs.now ≤ MOST_PAIRS }
     ensures bytes { OnOk result (out.new.items ≡ out.old.items ++ word_bytes (tail_words words.now pairs.now)) }
@@ -54,7 +54,7 @@ fn spelled(
     hints: &[u32],
     words: &[u32],
     pairs: &[(u32, u32)],
-) -> Result<Vec<u8>, AllocError>
+) -> Result<Vec<u8>, WantOfMemory>
     requires image { length image.now < 2 ^ 32 }
     requires hints { length hints.now ≤ MOST_HINTS }
     requires words { length words.now ≤ MOST_WORDS }

@@ -1,6 +1,6 @@
 -- The command `generate`.
 use Rattle.std.specs.Prelude.{ℕ, []}
-use Rattle.command_words.specs.declared.commands.TheConstants.{DEFAULT_LIMITS}
+use Rattle.command_words.specs.Commands.{DEFAULT_LIMITS}
 use Rattle.vt_outside.specs.Sink.{SinkMeaning}
 use Rattle.image_file.specs.Whole.{IsWhole}
 use Rattle.block_law.specs.Translations.{Code}

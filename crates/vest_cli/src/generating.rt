@@ -1,6 +1,6 @@
 // The command `generate`.
 ghost use Rattle.std.specs.Prelude.{◌≡◌, ◌≤◌, IfOk, IfErr, []};
-ghost use Rattle.command_words.specs.declared.commands.TheConstants.{DEFAULT_LIMITS};
+ghost use Rattle.command_words.specs.Commands.{DEFAULT_LIMITS};
 ghost use Rattle.image_file.specs.Whole.{IsWhole};
 ghost use Rattle.report_text.specs.Generated.{generated_image};
 ghost use Rattle.translate.specs.Translated.{IsTranslated};
