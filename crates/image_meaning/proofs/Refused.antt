@@ -1,5 +1,5 @@
 -- What no instruction may do that stays in range, and what may not be said of the codes that instructions use.
-use Rattle.std.proofs.Common.{◌≡◌, ℕ, ◌%◌, true, false, [], ◌∷◌, replicate, refl, arith}
+use Rattle.std.proofs.Common.{◌≡◌, ℕ, ◌%◌, true, false, [], ◌∷◌, replicate, refl, sym, ap, ◌∙◌, arith}
 use Rattle.vax_form.specs.Pages.{is_allowed}
 use Rattle.vax_form.specs.Ranges.{IsInRange}
 use Rattle.vax_form.specs.Script.{Script, ◌>>=◌, ◌>>◌, pure}
@@ -7,7 +7,8 @@ use Rattle.vax_form.specs.Tree.{instruction_tree}
 use Rattle.vax_form.specs.declared.pages.Pages.{Pages}
 use Rattle.vax_form.specs.declared.script.End.{End}
 use Rattle.vax_form.specs.declared.script.End.TheVariants.{Done}
-use Rattle.vax_form.specs.declared.state.RefKind.TheVariants.{Add}
+use Rattle.vax_form.specs.declared.state.RefKind.TheVariants.{Add, Write}
+use Rattle.vax_form.specs.declared.state.Reference.{Reference}
 use Rattle.vax_form.specs.declared.state.VaxState.{VaxState}
 use Rattle.vax_form.specs.Operation.{operation_at, control_opcodes, mixed_opcodes, move_opcodes}
 use Rattle.vax_form.specs.declared.instr.Instr.{Instr}
@@ -30,6 +31,10 @@ use Rattle.vax_meaning.specs.Moves.{give}
 use Rattle.vax_meaning.specs.Branches.{branch_if, holds}
 use Rattle.vax_meaning.specs.Memory.{check, write_part, lock}
 use Rattle.vax_long.specs.Registers.{below}
+use Rattle.alpha_meaning.specs.declared.access.AlphaKind.TheVariants.{Store, StoreConditional}
+use Rattle.block_law.specs.Translations.{Permit}
+use Rattle.image_meaning.specs.Permits.{permit_of}
+use Rattle.image_meaning.specs.declared.target.Target.TheVariants.{ByteWord}
 
 -- page 1 is read-only and page 2 may be written
 abbrev two_pages : Pages
@@ -129,3 +134,19 @@ unfolding operation_at control_opcodes operands_of long_operation operation_scri
 read_carry said =
     let left = said two_pages 0 (short_form 0x1f (Target 600) Unused Unused) (operations.BranchIf CarrySet) (state_with 0) (state_with 1) refl carry_alone none_read in
     let pc : 516 ≡ 600 = left.same.pc in absurd (omega (arith, pc))
+
+-- ---- the byte-word extension
+-- MOVW at 512
+abbrev moves_word : Pages
+moves_word = record { ranges = record { first = 1; count = 1; writable = false; place = 0 } ∷ []; code = 0xb0 ∷ [] }
+
+abbrev word_written : (address : ℕ) → Reference
+word_written address = record { address = address; count = 2; kind = Write 0 }
+
+-- at an even address one store makes it
+even_word : (permit_of ByteWord moves_word).kinds 512 (word_written 1024) Store 2 ≡ true
+even_word = refl
+
+-- at an odd address a loop does: a permit that asks for a store there is another
+odd_word_stored : (permit : Permit) → permit.kinds 512 (word_written 1025) StoreConditional 8 ≡ false → permit ≡ permit_of ByteWord moves_word → ⊥
+odd_word_stored permit stored same = absurd (cc (sym stored ∙ ap (λ (p : Permit). p.kinds 512 (word_written 1025) StoreConditional 8) same))

@@ -4,6 +4,7 @@ ghost use Rattle.alpha_machine.specs.Step.{state_of};
 ghost use Rattle.alpha_meaning.specs.State.{regs_of};
 ghost use Rattle.system_model.specs.Processors.{mode_at, moment_of, stepped, left, placed, registers_of};
 ghost use Rattle.system_model.specs.Processors as model;
+ghost use Rattle.system_model.specs.Settings as settings;
 ghost use Rattle.system_model.specs.Legal.{spent};
 ghost use Rattle.system_model.specs.Steps.{Inside, place_of, settled_last};
 ghost use Rattle.tie_switch.specs.Processors.{IsMode};
@@ -138,14 +139,13 @@ impl Processor {
     }
 
     // Goes on inside a block with those registers, and counts the step.
-    fn go_inside(&mut self, setting: Setting<'_>, cpu: &Cpu)
+    fn go_inside(&mut self, cpu: &Cpu)
         requires { self.old.steps < self.old.budget }
-        ensures stands { (mode : model.Mode) → StandsFor setting.entry.pages.now self.new (placed (setting_of setting.entry) (stepped (in_mode self.old mode)) (Inside (state_of cpu.now))) }
+        ensures stands { (setting : settings.Setting) (mode : model.Mode) → StandsFor setting.meaning.pages self.new (placed setting (stepped (in_mode self.old mode)) (Inside (state_of cpu.now))) }
         ensures budget { self.new.budget ≡ self.old.budget }
         ensures thread { self.new.thread ≡ self.old.thread }
         ensures steps { self.new.steps ≡ self.old.steps + 1 }
     {
-        let _ = setting;
         self.steps += 1;
         self.mode.run(cpu);
     }
@@ -163,7 +163,7 @@ impl Processor {
             let place = self.place(setting, *cpu);
             self.go_to(setting, place);
         } else {
-            self.go_inside(setting, cpu);
+            self.go_inside(cpu);
         }
     }
 

@@ -6,11 +6,13 @@ ghost use Rattle.system_model.specs.Steps.{kind_of, change_of, is_defined, reque
 ghost use Rattle.tie_switch.specs.Accesses.{IsAccess, CanAsk};
 ghost use Rattle.tie_switch.specs.Seen.{setting_of};
 ghost use Rattle.memory_core.specs.Changes.{IsInRange};
+ghost use Rattle.vax_form.specs.PageTable.{IsPageTable};
 
 use crate::processor::Processor;
 use crate::setting::Setting;
 use alpha_meaning::{AlphaAccess, AlphaKind, stores};
 use memory_core::{Change, Kind, Request};
+use vax_form::Pages;
 
 fn kind_of(kind: AlphaKind) -> Kind
     ensures { result ≡ kind_of kind }
@@ -52,6 +54,13 @@ fn change_of(access: AlphaAccess) -> Change
     }
 }
 
+// It does nothing, and brings what every page table is.
+fn page_table_rises(pages: &Pages)
+    ensures { IsPageTable pages.now }
+{
+    let _ = &pages.ranges;
+}
+
 impl Processor {
     ghost use Rattle.tie_switch.specs.Processors.{processor_of};
 
@@ -62,8 +71,7 @@ impl Processor {
         ensures request { result ≡ request_for (moment_of (processor_of self.now)) access }
         ensures can { CanAsk setting.entry.pages.now result }
     {
-        let pages = setting.pages;
-        let _ = &pages.ranges;
+        page_table_rises(setting.pages);
         Request {
             processor: self.thread,
             retired: self.retired,

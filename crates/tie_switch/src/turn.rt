@@ -154,6 +154,17 @@ impl Processor {
         self.make_step(setting, memory);
     }
 
+    // What its last turn was.
+    fn turn_made(&self) -> Turn
+        ensures few_steps { self.now.steps ≤ self.now.budget }
+        ensures ended { (result ≡ Turn.Ended) ↔ (has_ended (processor_of self.now).mode ≡ true) }
+    {
+        match self.mode {
+            Mode::Ended(_) => Turn::Ended,
+            Mode::New | Mode::Runs(_) | Mode::Interprets(..) => Turn::Went,
+        }
+    }
+
     /// One turn of the processor: one step, in Alpha code or interpreted, with at most one access. One that has ended stays
     /// as it is. It ends as spent where its steps equal its budget, and where the history is full. Each processor of the
     /// model for which it stands makes that turn, and it stands for what that becomes.
@@ -185,12 +196,7 @@ impl Processor {
             ranges,
         };
         self.take_turn(setting, memory);
-        let _ = &self.steps;
-        if self.end().is_some() {
-            Turn::Ended
-        } else {
-            Turn::Went
-        }
+        self.turn_made()
     }
 
     /// The same turn, of a translation that was made ready: an access inside a block is made with the registers in place.

@@ -1,6 +1,7 @@
 //! A memory of one owner and the processors of all threads, turn by turn in any order.
 ghost use Rattle.std.specs.Prelude.{◌≡◌, ◌<◌, ◌≤◌, ℕ, length, slice_get, IfOk, IfErr, Some};
 ghost use Rattle.std.specs.List.{AllZip};
+ghost use Rattle.block_law.specs.Sound.{IsSound};
 ghost use Rattle.block_law.specs.Translations.{Meets};
 ghost use Rattle.image_file.specs.Whole.{IsWhole};
 ghost use Rattle.image_meaning.specs.Meant.{image_meaning};
@@ -73,9 +74,12 @@ impl World {
         requires { IsWhole image.now }
         ensures new { IfOk result (λ world. IsNew image.now input.items budget limit miss world) }
         ensures legal { IfOk result (λ world. (setting : Setting) → setting.meaning.pages ≡ image.now.pages → IsLegalWorld setting world) }
+        // So before the first turn, too, no processor is stuck, whatever runs and by whatever sound meaning.
+        ensures headline { IfOk result (λ world. (setting : Setting) → setting.meaning.pages ≡ image.now.pages → IsSound setting.meaning → IsExplained setting world) }
     {
         images_are_runs(image, &input);
         beginnings_are_legal();
+        legal_has_headline();
         let threads = image.threads.as_slice();
         let processors = begun(alloc, threads, budget)?;
         let memory = MemState::new(alloc, image, input, threads.len() as u8, limit, miss)?;

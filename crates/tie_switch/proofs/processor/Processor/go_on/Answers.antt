@@ -23,4 +23,4 @@ returns-else-is_some-clause-stands c = λ mode.
     let found : c.vax_of.result ≡ address_at setting.code.map cpu.pc = c.vax_of.ensures ∙ ap (λ (k : Code). address_at k.map cpu.pc) c.code.view_is in
     let none : address_at setting.code.map cpu.pc ≡ None = sym found ∙ none_of c.vax_of.result (sym c.is_some.ensures ∙ c.if-is_some.false) in
     subst (λ (x : model.Place). StandsFor c.args.setting.pages.now c.go_inside.new.self (placed setting (stepped (in_mode c.args.self.now mode)) x))
-    (sym (ap (λ (o : Option ℕ). place_by setting moment o (state_of cpu)) none)) (c.go_inside.ensures.stands mode)
+    (sym (ap (λ (o : Option ℕ). place_by setting moment o (state_of cpu)) none)) (c.go_inside.ensures.stands setting mode)
