@@ -3,7 +3,7 @@
 standard streams, each as often as is asked for (default 20). Prints for each the fastest from start to exit, the slowest first,
 and for each family their number and sum. Status, output and report have to be those of the row.
 
-tools/measure_rows.py PROGRAM [TIMES]
+tools/measure/rows.py PROGRAM [TIMES]
 
 Calls for which something of the outside fails are left out, and so is what rows say of what a call keeps. A gate holds no access
 here, which changes nothing that a row says."""
@@ -14,7 +14,7 @@ import sys
 import tempfile
 import time
 
-TABLE = pathlib.Path(__file__).resolve().parent.parent / "crates/vest_rows/data/calls.txt"
+TABLE = pathlib.Path(__file__).resolve().parents[2] / "crates/vest_rows/data/calls.txt"
 TIMES = 20
 ANY = "*"
 

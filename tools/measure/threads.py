@@ -2,7 +2,7 @@
 """Measures a loop on registers in the built program, round by round: by one thread, by four threads of one image, and, every third
 round, by four programs of one thread each beside one another. Prints the wall time of each, and the ratios of their medians.
 
-tools/measure_threads.py PROGRAM"""
+tools/measure/threads.py PROGRAM"""
 import os
 import pathlib
 import statistics

@@ -1,7 +1,7 @@
 #!/usr/bin/env bash
 # Measures a memory of one owner: as many accesses as it has room for; and a new memory of a small image, of one of 1 MB, and of a
 # small one that ends at address 80000000, each the fastest of 20.
-# Usage: tools/measure_memory.sh [ACCESSES], in the repository. It proves, builds and runs a program in a copy.
+# Usage: tools/measure/memory.sh [ACCESSES], in the repository. It proves, builds and runs a program in a copy.
 set -euo pipefail
 accesses=${1:-4194304}
 . "$(dirname "$0")/scratch.sh"

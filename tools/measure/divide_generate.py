@@ -3,7 +3,7 @@
 prints the share of each part. A function that was made part of its only caller counts with that: layout with translate, a run's
 threads with the library's.
 
-tools/divide_generate.py PROGRAM [N]"""
+tools/measure/divide_generate.py PROGRAM [N]"""
 import collections
 import os
 import re

@@ -1,6 +1,6 @@
 #!/usr/bin/env bash
 # Measures a million accesses by 1, 2, 4 and 16 threads over one memory: interlocked additions to one word, as the tests of
-# tools/measure_shared make them; and the same by one thread over a memory that it does not share. The time is from making the memory to
+# tools/measure/shared make them; and the same by one thread over a memory that it does not share. The time is from making the memory to
 # closing it.
 set -euo pipefail
 . "$(dirname "$0")/scratch.sh"

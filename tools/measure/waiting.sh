@@ -1,10 +1,10 @@
 #!/usr/bin/env bash
 # Measures accesses by 1, 2, 4 and 16 threads over one memory with local work between them, as real threads have it: so many
-# steps of a xorshift in front of each access. `measure_waiting.sh COMMIT..` measures shared_memory as it stands at each
+# steps of a xorshift in front of each access. `waiting.sh COMMIT..` measures shared_memory as it stands at each
 # commit, one beside the other in each round; without one, as it stands here. The time is from making the memory to closing
 # it.
 set -euo pipefail
-top=$(cd "$(dirname "$0")/.." && pwd)
+top=$(cd "$(dirname "$0")/../.." && pwd)
 program() {
     cat <<'PROGRAM'
 //! The time of accesses with local work between them.
@@ -64,7 +64,7 @@ PROGRAM
 # Builds the program over shared_memory as it stands at a commit, and leaves it under that name.
 build() {
     (
-        . "$top/tools/scratch.sh"
+        . "$top/tools/measure/scratch.sh"
         scratch "shared_memory memory_core vt_outside image_file vax_form" < <(program)
         workers
         if [ "$1" != here ]; then

@@ -3,7 +3,7 @@
 took the least time of processors, and its memory, beside those of half the number; the parts of the processors' time; and the
 time by the clock by 1, 2 and 4 processors.
 
-tools/measure_generate.py PROGRAM
+tools/measure/generate.py PROGRAM
 
 Each call has to end with status 0 and to write just the lines that the script works out for N. The parts are told by calls over
 the same image as a file: `translate` reads, finds, translates and writes, and `list` lists in the place of writing; `run` with a

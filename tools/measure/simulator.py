@@ -3,7 +3,7 @@
 median of five runs), their ratio, Alpha words and steps for each VAX instruction, and entries of the history for each.
 Processor time counts where one thread runs, so that other work on the machine weighs less, and wall time where several do.
 
-tools/measure_simulator.py PROGRAM
+tools/measure/simulator.py PROGRAM
 
 Without SIMH (Debian's package `simh`) the program's side alone is measured. Instructions are counted by what the loops do."""
 import dataclasses

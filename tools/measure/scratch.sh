@@ -3,7 +3,7 @@
 # Makes a temporary copy of the repository, and goes there.
 copy() {
     local top
-    top=$(cd "$(dirname "${BASH_SOURCE[0]}")/.." && pwd)
+    top=$(cd "$(dirname "${BASH_SOURCE[0]}")/../.." && pwd)
     room=$(mktemp -d)
     trap 'rm -rf "$room"' EXIT
     tar -C "$top" --exclude=.git --exclude=incremental -cf - . | tar -C "$room" -xf -
@@ -21,10 +21,10 @@ scratch() {
     cd crates/measure
 }
 
-# Copies the threads that share a memory, and what is proved of them, into the scratch crate: the files of tools/measure_shared without
+# Copies the threads that share a memory, and what is proved of them, into the scratch crate: the files of tools/measure/shared without
 # their last ending, since the gate wants each file of code in a crate.
 workers() {
-    local from=../../tools/measure_shared file
+    local from=../../tools/measure/shared file
     (cd "$from" && find . -name '*.txt') | while read -r file; do
         mkdir -p "$(dirname "$file")"
         cp "$from/$file" "${file%.txt}"
