@@ -3,3 +3,4 @@ pub mod ReadLaws
 pub mod WriteLaws
 pub mod LockLaws
 pub mod Encoded
+mod Refused
