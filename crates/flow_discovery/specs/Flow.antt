@@ -1,11 +1,10 @@
 -- The addresses to which control may go on from an instruction, as far as its code shows them.
 -- VAX Architecture Reference Manual, "Control Instructions" and "Procedure Call Instructions".
-use Rattle.std.specs.Prelude.{ℕ, ◌+◌, ◌*◌, Bool, true, false, List, [], ◌∷◌, ◌++◌, Option, option_map, option_and_then, nat_lt, if◌then◌else◌}
+use Rattle.std.specs.Prelude.{ℕ, ◌+◌, ◌*◌, Bool, true, false, List, [], ◌∷◌, ◌++◌, Option, option_map, nat_lt, if◌then◌else◌}
 use Rattle.std.specs.List.{filter_map, range_with_len}
 use Rattle.std.specs.Option.{option_map_or}
 use Rattle.vax_form.specs.Grammar.{extended, wrapped}
 use Rattle.vax_form.specs.Operation.{operation_at}
-use Rattle.vax_form.specs.Pages.{code_byte_at}
 use Rattle.vax_form.specs.Targets.{fixed_targets, operand_of}
 use Rattle.vax_form.specs.declared.instr.Instr.{Instr}
 use Rattle.vax_form.specs.declared.instr.Operand.{Operand}
@@ -15,6 +14,7 @@ use Rattle.vax_form.specs.declared.operation.LongOperation.TheVariants.{Return}
 use Rattle.vax_form.specs.declared.operation.Operation.{Operation}
 use Rattle.vax_form.specs.declared.operation.Operation.TheVariants.{Branch, Breakpoint, Case, Jump, Long, ReturnFromSubroutine}
 use Rattle.vax_form.specs.declared.pages.Pages.{Pages}
+use Rattle.vax_long.specs.CodeWord.{code_word_at}
 
 -- ---- the address behind the instruction
 
@@ -31,15 +31,10 @@ falls_through _ = true
 -- ---- the table of a CASE: words behind the instruction, numbered from 0 to the limit, each the displacement of its
 -- target from the table
 
--- the word at an address, where both its bytes can be fetched
-abbrev pub word_at : Pages → ℕ → Option ℕ
-word_at pages address =
-    option_and_then (λ low. option_map (λ high. low + 256 * high) (code_byte_at pages (wrapped (address + 1)))) (code_byte_at pages address)
-
 -- the target of a table's word
 abbrev pub table_target : Pages → (table number : ℕ) → Option ℕ
 table_target pages table number =
-    option_map (λ displacement. wrapped (table + extended Word displacement)) (word_at pages (wrapped (table + 2 * number)))
+    option_map (λ displacement. wrapped (table + extended Word displacement)) (code_word_at pages (wrapped (table + 2 * number)))
 
 -- the targets of a table's words, and the address behind the table
 abbrev pub table_addresses : Pages → (table count : ℕ) → List ℕ

@@ -4,13 +4,14 @@ ghost use Rattle.std.specs.List.{filter_map};
 ghost use Rattle.std.specs.Option.{option_to_list};
 ghost use Rattle.vax_form.specs.Grammar.{extended};
 ghost use Rattle.vax_form.specs.declared.instr.Size.TheVariants.{Word};
-ghost use Rattle.flow_discovery.specs.Flow.{case_addresses, falls_through, goes_on, table_addresses, table_limit, table_of, table_target, word_at};
+ghost use Rattle.flow_discovery.specs.Flow.{case_addresses, falls_through, goes_on, table_addresses, table_limit, table_of, table_target};
 ghost use Rattle.vax_form.specs.Targets.{branch_target, fixed_targets};
 
 use std::alloc::{AllocError, Global};
 use vax_form::{
     Instr, LongOperation, Operand, Operation, Pages, branch_target, call_of, jump_of, operation_of,
 };
+use vax_long::code_word;
 
 #[tactic(auto, unfolding(crate::specs::Flow::falls_through))]
 fn falls_through(operation: Operation) -> bool
@@ -36,14 +37,6 @@ fn push_some(address: Option<u32>, into: &mut Vec<u32>) -> Result<(), AllocError
     Ok(())
 }
 
-fn word_at(pages: &Pages, address: u32) -> Option<u16>
-    ensures { result ≡ word_at pages.now address }
-{
-    let low = pages.code_byte(address)?;
-    let high = pages.code_byte(address.wrapping_add(1))?;
-    Some(u16::from(low) + 256 * u16::from(high))
-}
-
 // A word, sign-extended.
 fn extended(word: u16) -> u32
     ensures { result ≡ extended Word word }
@@ -60,7 +53,7 @@ fn table_target(pages: &Pages, table: u32, number: u32) -> Option<u32>
     requires { number < table_limit }
     ensures { result ≡ table_target pages.now table number }
 {
-    let displacement = word_at(pages, table.wrapping_add(2 * number))?;
+    let displacement = code_word(pages, table.wrapping_add(2 * number))?;
     Some(table.wrapping_add(extended(displacement)))
 }
 

@@ -3,6 +3,7 @@ pub mod Calls
 pub mod Strings
 pub mod Index
 pub mod Instructions
+pub mod CodeWord
 pub mod LongForms
 pub mod TreeAt
 pub mod Pending

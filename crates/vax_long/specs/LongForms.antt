@@ -1,23 +1,19 @@
 -- The instructions of long form: long instructions that Alpha code can stand for, by what an image shows of them.
 -- VAX Architecture Reference Manual, "Procedure Call Instructions": the entry mask of a procedure.
-use Rattle.std.specs.Prelude.{ℕ, ◌+◌, ◌*◌, ◌%◌, ◌^◌, Bool, true, false, Option, option_map, option_and_then}
+use Rattle.std.specs.Prelude.{ℕ, Bool, true, false}
 use Rattle.std.specs.Option.{option_map_or}
-use Rattle.vax_form.specs.Pages.{code_byte_at}
 use Rattle.vax_form.specs.Targets.{fixed_address, operand_of}
 use Rattle.vax_form.specs.declared.instr.Instr.{Instr}
 use Rattle.vax_form.specs.declared.operation.LongOperation.{LongOperation}
 use Rattle.vax_form.specs.declared.operation.LongOperation.TheVariants.{CallGeneral, CallStack, MoveCharacters}
 use Rattle.vax_form.specs.declared.pages.Pages.{Pages}
 use Rattle.vax_long.specs.Calls.{is_entry_mask}
+use Rattle.vax_long.specs.CodeWord.{code_word_at}
 use Rattle.vax_long.specs.Instructions.{long_at}
 
--- the word at a procedure's address, where both of its bytes can be fetched
-abbrev pub mask_at : Pages → (destination : ℕ) → Option ℕ
-mask_at pages destination =
-    option_and_then (λ low. option_map (λ high. low + high * 256) (code_byte_at pages ((destination + 1) % 2 ^ 32))) (code_byte_at pages destination)
-
+-- an entry mask stands at a procedure's address, and can be fetched
 abbrev pub has_entry_mask : Pages → (destination : ℕ) → Bool
-has_entry_mask pages destination = option_map_or is_entry_mask (mask_at pages destination) false
+has_entry_mask pages destination = option_map_or is_entry_mask (code_word_at pages destination) false
 
 -- the code fixes the destination, the second operand of a call, and an entry mask stands there
 abbrev pub is_fixed_call : Instr → Pages → Bool

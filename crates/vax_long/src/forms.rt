@@ -1,25 +1,17 @@
 // The instructions of long form.
 ghost use Rattle.std.specs.Prelude.{◌≡◌};
-ghost use Rattle.vax_long.specs.LongForms.{mask_at, has_entry_mask, is_fixed_call, has_long_form, is_long_form};
+ghost use Rattle.vax_long.specs.LongForms.{has_entry_mask, is_fixed_call, has_long_form, is_long_form};
 
 use crate::calls::is_entry_mask;
 use crate::instructions::long_operation_of;
+use crate::words::code_word;
 use vax_form::{Instr, LongOperation, Pages, fixed_address};
-
-/// The word at a procedure's address, where both of its bytes can be fetched.
-fn mask_at(pages: &Pages, destination: u32) -> Option<u32>
-    ensures { result ≡ mask_at pages.now destination }
-{
-    let low = pages.code_byte(destination)?;
-    let high = pages.code_byte(destination.wrapping_add(1))?;
-    Some(low as u32 + high as u32 * 256)
-}
 
 fn has_entry_mask(pages: &Pages, destination: u32) -> bool
     ensures { result ≡ has_entry_mask pages.now destination }
 {
-    match mask_at(pages, destination) {
-        Some(mask) => is_entry_mask(mask),
+    match code_word(pages, destination) {
+        Some(mask) => is_entry_mask(u32::from(mask)),
         None => false,
     }
 }

@@ -14,6 +14,7 @@ mod pending;
 mod registers;
 mod searching;
 mod standing;
+mod words;
 
 pub use bytes::{beside, beyond, check_string, fetch_byte, first_bad, read_byte, write_byte};
 pub use calls::{call_general, call_stack, return_from_procedure};
@@ -26,3 +27,4 @@ pub use pending::{frame_is_allowed, next_pending, push_exception, resume, settle
 pub use registers::{pop_by_mask, push_by_mask};
 pub use searching::{compare_bytes, scan_bytes, stops_at};
 pub use standing::laws_of_tree_at;
+pub use words::code_word;
