@@ -1,0 +1,37 @@
+#!/usr/bin/env bash
+# Copies the proved program, its page, its completions and the examples below a folder, with a file that says what they were made of. Status 1
+# where the program is older than a file of the crates or the tree isn't that of a commit, and where the first example, run from the new
+# place, writes another text.
+#
+# tools/install.sh PREFIX        behind `rt run` in crates/vest
+set -euo pipefail
+prefix=${1:?"usage: tools/install.sh PREFIX"}
+top=$(cd "$(dirname "$0")/.." && pwd)
+program=$top/crates/vest/out/vest
+
+stop() {
+    echo "$1" >&2
+    exit 1
+}
+
+[ -x "$program" ] || stop "no program: rt run in crates/vest makes it"
+[ -z "$(git -C "$top" status --porcelain --untracked-files=no)" ] || stop "files are changed: commit them first"
+newer=$(find "$top/crates" "$top/crates.txt" -newer "$program" \( -name '*.rt' -o -name '*.antt' -o -name crates.txt \) -print -quit)
+[ -z "$newer" ] || stop "the program is older than ${newer#"$top/"}"
+
+install -D "$program" "$prefix/bin/vest"
+install -D -m 644 "$top/docs/man/vest.1" "$prefix/share/man/man1/vest.1"
+install -D -m 644 "$top/completions/vest.bash" "$prefix/share/bash-completion/completions/vest"
+install -D -m 644 "$top/completions/_vest" "$prefix/share/zsh/site-functions/_vest"
+install -D -m 644 "$top/completions/vest.fish" "$prefix/share/fish/vendor_completions.d/vest.fish"
+install -d "$prefix/share/doc/vest/examples"
+install -m 644 "$top"/examples/* "$prefix/share/doc/vest/examples"
+{
+    echo "commit $(git -C "$top" rev-parse HEAD)"
+    rt version
+} > "$prefix/share/doc/vest/BUILT"
+
+room=$(mktemp -d)
+trap 'rm -rf "$room"' EXIT
+sed 's/#.*//' "$prefix/share/doc/vest/examples/hello.hex" | xxd -r -p > "$room/hello.img"
+"$prefix/bin/vest" run "$room/hello.img" 2> /dev/null | cmp - "$prefix/share/doc/vest/examples/hello.out" || stop "hello writes another text"
