@@ -4,7 +4,7 @@
 #
 # tools/check_completions.sh
 set -uo pipefail
-cd "$(dirname "$0")/.."
+cd "$(dirname "$0")/.." || exit
 source completions/vest.bash
 status=0
 
@@ -25,7 +25,7 @@ room=$(mktemp -d)
 trap 'rm -rf "$room"' EXIT
 touch "$room/sample.img" "$room/second"
 # names of files are those of the folder that the shell stands in
-cd "$room"
+cd "$room" || exit
 answers "run translate list generate" vest ""
 answers "translate" vest tr
 answers "--budget" vest run --b
@@ -33,7 +33,7 @@ answers "" vest run x --miss ""
 answers "sample.img second" vest list -- s
 answers "" vest generate ""
 answers "sample.img" vest run sa
-cd - > /dev/null
+cd - > /dev/null || exit
 
 for word in $(grep -o 'codes "[a-z]*"' crates/command_words/specs/Commands.antt | cut -d '"' -f 2 | sort -u); do
     for file in completions/vest.bash completions/_vest completions/vest.fish; do
