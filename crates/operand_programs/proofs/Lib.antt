@@ -15,3 +15,4 @@ pub mod Walking
 pub mod OperandWalks
 pub mod Committing
 pub mod RowWalks
+pub mod Fronts

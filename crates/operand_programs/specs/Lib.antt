@@ -4,6 +4,7 @@ pub mod Operands
 pub mod InOrder
 pub mod Results
 pub mod Words
+pub mod Fronts
 pub mod Registers
 pub mod Knowing
 pub mod Behind

@@ -1,5 +1,6 @@
 // An operand, evaluated by the way in which its instruction uses it.
-ghost use Rattle.std.specs.Prelude.{◌≡◌, ◌++◌, OnOk};
+ghost use Rattle.std.specs.Prelude.{◌≡◌, ◌++◌, OnErr, OnOk};
+ghost use Rattle.operand_programs.specs.Fronts.{IsFrontOf};
 ghost use Rattle.operand_programs.specs.Specifiers.{locate_program, modify_program, steps_behind_operand};
 ghost use Rattle.operand_programs.specs.Operands.{modified_program, field_program, operand_program, steps_behind_specifier, IsPlaced, EvaluatesOne};
 
@@ -30,6 +31,7 @@ fn put_located(
 ) -> Result<(), AllocError>
     ensures program { OnOk result (program.new.items ≡ program.old.items ++ locate_program operand size steps.old place spare) }
     ensures steps { OnOk result (steps.new ≡ steps_behind_operand operand size steps.old) }
+    ensures refused { OnErr result (IsFrontOf program.old.items program.new.items) }
 {
     match operand {
         Operand::Place { base, index } => {
@@ -41,7 +43,8 @@ fn put_located(
 
 /// The operand at the place is checked with write intent and read.
 fn put_modify(program: &mut Vec<Micro>, size: Size, to: u8, place: u8) -> Result<(), AllocError>
-    ensures { OnOk result (program.new.items ≡ program.old.items ++ modify_program size to place) }
+    ensures program { OnOk result (program.new.items ≡ program.old.items ++ modify_program size to place) }
+    ensures refused { OnErr result (IsFrontOf program.old.items program.new.items) }
 {
     let count = size.bytes() as u8;
     program.push(Micro::Probe {
@@ -64,6 +67,7 @@ fn put_modified(
 ) -> Result<(), AllocError>
     ensures program { OnOk result (program.new.items ≡ program.old.items ++ modified_program operand size steps.old to place) }
     ensures steps { OnOk result (steps.new ≡ steps_behind_operand operand size steps.old) }
+    ensures refused { OnErr result (IsFrontOf program.old.items program.new.items) }
 {
     match operand {
         Operand::Register(number) => put_register(program, number, size, steps, to),
@@ -86,6 +90,7 @@ fn put_field(
 ) -> Result<(), AllocError>
     ensures program { OnOk result (program.new.items ≡ program.old.items ++ field_program operand size steps.old to place) }
     ensures steps { OnOk result (steps.new ≡ steps_behind_operand operand size steps.old) }
+    ensures refused { OnErr result (IsFrontOf program.old.items program.new.items) }
 {
     match operand {
         Operand::Register(number) => put_register(program, number, Size::Long, steps, to),
@@ -100,6 +105,7 @@ fn put_access(
 ) -> Result<(), AllocError>
     ensures program { OnOk result (program.new.items ≡ program.old.items ++ operand_program specifier steps.old) }
     ensures steps { OnOk result (steps.new ≡ steps_behind_specifier specifier steps.old) }
+    ensures refused { OnErr result (IsFrontOf program.old.items program.new.items) }
 {
     let Specifier {
         access,
@@ -119,7 +125,7 @@ fn put_access(
 }
 
 /// Evaluates an operand behind others that added the steps to the registers. Its value and its address go into its
-/// temporaries; temporary 4 changes too. Where memory is wanting, some of the words may have been added.
+/// temporaries; temporary 4 changes too. Where memory is wanting, some of its operations may have been added.
 pub fn put_operand(
     program: &mut Vec<Micro>,
     specifier: Specifier,
@@ -128,7 +134,11 @@ pub fn put_operand(
     ensures evaluates { IsPlaced specifier → EvaluatesOne specifier steps.old (operand_program specifier steps.old) }
     ensures program { OnOk result (program.new.items ≡ program.old.items ++ operand_program specifier steps.old) }
     ensures steps { OnOk result (steps.new ≡ steps_behind_specifier specifier steps.old) }
+    ensures refused { OnErr result (IsFrontOf program.old.items program.new.items) }
+    ensures kept { OnErr result (steps.new ≡ steps.old) }
 {
-    put_access(program, specifier, steps)?;
+    let mut behind = *steps;
+    put_access(program, specifier, &mut behind)?;
+    *steps = behind;
     Ok(())
 }

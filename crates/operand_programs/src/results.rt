@@ -1,5 +1,6 @@
 // A result goes to memory or to a register, and what the specifiers added goes into the registers.
-ghost use Rattle.std.specs.Prelude.{◌≡◌, ◌<◌, ◌==◌, false, ◌++◌, OnOk, slice_set};
+ghost use Rattle.std.specs.Prelude.{◌≡◌, ◌<◌, ◌==◌, false, ◌++◌, OnErr, OnOk, slice_set};
+ghost use Rattle.operand_programs.specs.Fronts.{IsFrontOf};
 ghost use Rattle.operand_programs.specs.Specifiers.{commit_one, commit_program, store_program};
 ghost use Rattle.operand_programs.specs.Results.{result_program, replacement_program, StoresResult, ReplacesOperand, steps_left, low_program, pair_program, give_program, IsGivable, finish_program, Finishes, CommitsSteps, steps_behind_push, push_program, Pushes};
 
@@ -17,7 +18,8 @@ const ABOVE_WORD: u32 = 0xFFFF_0000;
 
 /// The operand at the place is checked with write intent and written.
 fn put_store(program: &mut Vec<Micro>, size: Size, place: u8, from: u8) -> Result<(), AllocError>
-    ensures { OnOk result (program.new.items ≡ program.old.items ++ store_program size place from) }
+    ensures program { OnOk result (program.new.items ≡ program.old.items ++ store_program size place from) }
+    ensures refused { OnErr result (IsFrontOf program.old.items program.new.items) }
 {
     let count = size.bytes() as u8;
     program.push(Micro::Probe {
@@ -36,7 +38,8 @@ fn append_result(
     place: u8,
     from: u8,
 ) -> Result<(), AllocError>
-    ensures { OnOk result (program.new.items ≡ program.old.items ++ result_program operand size place from) }
+    ensures program { OnOk result (program.new.items ≡ program.old.items ++ result_program operand size place from) }
+    ensures refused { OnErr result (IsFrontOf program.old.items program.new.items) }
 {
     match operand {
         Operand::Place { .. } => put_store(program, size, place, from),
@@ -55,6 +58,7 @@ pub fn put_result(
 ) -> Result<(), WantOfMemory>
     ensures stores { StoresResult operand size place from (result_program operand size place from) }
     ensures program { OnOk result (program.new.items ≡ program.old.items ++ result_program operand size place from) }
+    ensures refused { OnErr result (IsFrontOf program.old.items program.new.items) }
 {
     append_result(program, operand, size, place, from)?;
     Ok(())
@@ -67,7 +71,8 @@ fn append_replacement(
     place: u8,
     from: u8,
 ) -> Result<(), AllocError>
-    ensures { OnOk result (program.new.items ≡ program.old.items ++ replacement_program operand size place from) }
+    ensures program { OnOk result (program.new.items ≡ program.old.items ++ replacement_program operand size place from) }
+    ensures refused { OnErr result (IsFrontOf program.old.items program.new.items) }
 {
     if let Operand::Place { .. } = operand {
         let count = size.bytes() as u8;
@@ -87,6 +92,7 @@ pub fn put_replacement(
 ) -> Result<(), WantOfMemory>
     ensures replaces { ReplacesOperand operand size place from (replacement_program operand size place from) }
     ensures program { OnOk result (program.new.items ≡ program.old.items ++ replacement_program operand size place from) }
+    ensures refused { OnErr result (IsFrontOf program.old.items program.new.items) }
 {
     append_replacement(program, operand, size, place, from)?;
     Ok(())
@@ -94,7 +100,8 @@ pub fn put_replacement(
 
 /// What was added to one register goes into it.
 fn put_commit(program: &mut Vec<Micro>, number: u8, addend: u32) -> Result<(), AllocError>
-    ensures { OnOk result (program.new.items ≡ program.old.items ++ commit_one number addend) }
+    ensures program { OnOk result (program.new.items ≡ program.old.items ++ commit_one number addend) }
+    ensures refused { OnErr result (IsFrontOf program.old.items program.new.items) }
 {
     if addend != 0 {
         let sum = Arg::Const(u64::from(addend));
@@ -108,8 +115,10 @@ fn put_commit(program: &mut Vec<Micro>, number: u8, addend: u32) -> Result<(), A
 }
 
 /// What the specifiers added goes into the registers.
+#[tactic(auto, using(crate::proofs::Fronts::fronts))]
 fn put_commits(program: &mut Vec<Micro>, steps: &Steps) -> Result<(), AllocError>
-    ensures { OnOk result (program.new.items ≡ program.old.items ++ commit_program 0 steps.now) }
+    ensures program { OnOk result (program.new.items ≡ program.old.items ++ commit_program 0 steps.now) }
+    ensures refused { OnErr result (IsFrontOf program.old.items program.new.items) }
 {
     for number in 0..15u8 {
         put_commit(program, number, steps[number as usize])?;
@@ -122,6 +131,7 @@ fn put_commits(program: &mut Vec<Micro>, steps: &Steps) -> Result<(), AllocError
 pub fn put_steps(program: &mut Vec<Micro>, steps: &Steps) -> Result<(), WantOfMemory>
     ensures commits { CommitsSteps steps.now (commit_program 0 steps.now) }
     ensures program { OnOk result (program.new.items ≡ program.old.items ++ commit_program 0 steps.now) }
+    ensures refused { OnErr result (IsFrontOf program.old.items program.new.items) }
 {
     put_commits(program, steps)?;
     Ok(())
@@ -135,7 +145,8 @@ fn put_low(
     upper: u32,
     from: u8,
 ) -> Result<(), AllocError>
-    ensures { OnOk result (program.new.items ≡ program.old.items ++ low_program number steps.now upper from) }
+    ensures program { OnOk result (program.new.items ≡ program.old.items ++ low_program number steps.now upper from) }
+    ensures refused { OnErr result (IsFrontOf program.old.items program.new.items) }
 {
     let (kept, value) = (Arg::Const(u64::from(upper)), Arg::Temp(from));
     program.push(sum_into(5, Some(number), step(steps, number)))?;
@@ -150,7 +161,8 @@ fn put_low(
 
 /// The halves of a quadword go into a register and the next one.
 fn put_pair(program: &mut Vec<Micro>, number: u8, from: u8) -> Result<(), AllocError>
-    ensures { OnOk result (program.new.items ≡ program.old.items ++ pair_program number from) }
+    ensures program { OnOk result (program.new.items ≡ program.old.items ++ pair_program number from) }
+    ensures refused { OnErr result (IsFrontOf program.old.items program.new.items) }
 {
     program.push(Micro::Commit {
         register: number,
@@ -178,7 +190,8 @@ fn put_give(
     steps: &Steps,
     from: u8,
 ) -> Result<(), AllocError>
-    ensures { OnOk result (program.new.items ≡ program.old.items ++ give_program operand size steps.now from) }
+    ensures program { OnOk result (program.new.items ≡ program.old.items ++ give_program operand size steps.now from) }
+    ensures refused { OnErr result (IsFrontOf program.old.items program.new.items) }
 {
     match (operand, size) {
         (Operand::Register(number), Size::Byte) => {
@@ -229,7 +242,8 @@ fn put_registers(
     steps: &Steps,
     from: u8,
 ) -> Result<(), AllocError>
-    ensures { OnOk result (program.new.items ≡ program.old.items ++ finish_program operand size steps.now from) }
+    ensures program { OnOk result (program.new.items ≡ program.old.items ++ finish_program operand size steps.now from) }
+    ensures refused { OnErr result (IsFrontOf program.old.items program.new.items) }
 {
     put_commits(program, &steps_left(operand, size, steps))?;
     put_give(program, operand, size, steps, from)
@@ -247,6 +261,7 @@ pub fn put_finish(
 ) -> Result<(), WantOfMemory>
     ensures finishes { from < 4 → IsGivable operand size → Finishes operand size steps.now from (finish_program operand size steps.now from) }
     ensures program { OnOk result (program.new.items ≡ program.old.items ++ finish_program operand size steps.now from) }
+    ensures refused { OnErr result (IsFrontOf program.old.items program.new.items) }
 {
     put_registers(program, operand, size, steps, from)?;
     Ok(())
@@ -260,10 +275,15 @@ fn put_below(
 ) -> Result<(), AllocError>
     ensures program { OnOk result (program.new.items ≡ program.old.items ++ push_program steps.old place from) }
     ensures steps { OnOk result (steps.new ≡ steps_behind_push steps.old) }
+    ensures refused { OnErr result (IsFrontOf program.old.items program.new.items) }
+    ensures kept { OnErr result (steps.new ≡ steps.old) }
 {
-    add_step(steps, SP, BELOW);
-    program.push(sum_into(place, Some(SP), step(steps, SP)))?;
-    put_store(program, Size::Long, place, from)
+    let mut behind = *steps;
+    add_step(&mut behind, SP, BELOW);
+    program.push(sum_into(place, Some(SP), step(&behind, SP)))?;
+    put_store(program, Size::Long, place, from)?;
+    *steps = behind;
+    Ok(())
 }
 
 /// Pushes the longword in a temporary. Its address goes into the place.
@@ -277,6 +297,8 @@ pub fn put_push(
     ensures pushes { (from == place) ≡ false → Pushes steps.old place from (push_program steps.old place from) }
     ensures program { OnOk result (program.new.items ≡ program.old.items ++ push_program steps.old place from) }
     ensures steps { OnOk result (steps.new ≡ steps_behind_push steps.old) }
+    ensures refused { OnErr result (IsFrontOf program.old.items program.new.items) }
+    ensures kept { OnErr result (steps.new ≡ steps.old) }
 {
     put_below(program, steps, place, from)?;
     Ok(())

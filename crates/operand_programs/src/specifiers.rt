@@ -1,6 +1,7 @@
 // Operand specifiers as micro operations, with the steps that they add to registers.
-ghost use Rattle.std.specs.Prelude.{◌≡◌, ◌≤◌, ◌++◌, [], IfOk, OnOk, ◌*◌, length, slice_index, All, ◌<◌};
+ghost use Rattle.std.specs.Prelude.{◌≡◌, ◌≤◌, ◌++◌, [], IfOk, OnErr, OnOk, ◌*◌, length, slice_index, All, ◌<◌};
 ghost use Rattle.vax_form.specs.Size.{bytes_of};
+ghost use Rattle.operand_programs.specs.Fronts.{IsFrontOf};
 ghost use Rattle.operand_programs.specs.Specifiers.{with_step, steps_behind, pointer_of, sum_into, address_program, scaled, index_program, place_program, steps_behind_operand, upper_half_program, register_program, read_program};
 
 use micro_ops::{Arg, Micro, MicroOp};
@@ -117,7 +118,8 @@ fn put_address(
     place: u8,
     spare: u8,
 ) -> Result<(), AllocError>
-    ensures { OnOk result (program.new.items ≡ program.old.items ++ address_program pointer place spare) }
+    ensures program { OnOk result (program.new.items ≡ program.old.items ++ address_program pointer place spare) }
+    ensures refused { OnErr result (IsFrontOf program.old.items program.new.items) }
 {
     if pointer.deferred {
         program.push(sum_into(spare, pointer.register, pointer.offset))?;
@@ -145,7 +147,8 @@ fn put_index(
     steps: &Steps,
     place: u8,
 ) -> Result<(), AllocError>
-    ensures { OnOk result (program.new.items ≡ program.old.items ++ index_program index size steps.now place) }
+    ensures program { OnOk result (program.new.items ≡ program.old.items ++ index_program index size steps.now place) }
+    ensures refused { OnErr result (IsFrontOf program.old.items program.new.items) }
 {
     if let Some(x) = index {
         program.push(sum_into(4, Some(x), step(steps, x)))?;
@@ -170,6 +173,7 @@ pub(crate) fn put_place(
 ) -> Result<(), AllocError>
     ensures program { OnOk result (program.new.items ≡ program.old.items ++ place_program base index size steps.old place spare) }
     ensures steps { OnOk result (steps.new ≡ steps_behind base (bytes_of size) steps.old) }
+    ensures refused { OnErr result (IsFrontOf program.old.items program.new.items) }
 {
     put_address(program, pointer_of(base, size.bytes(), steps), place, spare)?;
     pass(base, size.bytes(), steps);
@@ -184,7 +188,8 @@ pub(crate) fn put_register(
     steps: &Steps,
     to: u8,
 ) -> Result<(), AllocError>
-    ensures { OnOk result (program.new.items ≡ program.old.items ++ register_program number size steps.now to) }
+    ensures program { OnOk result (program.new.items ≡ program.old.items ++ register_program number size steps.now to) }
+    ensures refused { OnErr result (IsFrontOf program.old.items program.new.items) }
 {
     program.push(sum_into(to, Some(number), step(steps, number)))?;
     match size {
@@ -208,7 +213,8 @@ fn put_upper_half(
     steps: &Steps,
     to: u8,
 ) -> Result<(), AllocError>
-    ensures { OnOk result (program.new.items ≡ program.old.items ++ upper_half_program number steps.now to) }
+    ensures program { OnOk result (program.new.items ≡ program.old.items ++ upper_half_program number steps.now to) }
+    ensures refused { OnErr result (IsFrontOf program.old.items program.new.items) }
 {
     program.push(sum_into(4, Some(number), step(steps, number)))?;
     program.push(Micro::Compute {
@@ -239,6 +245,7 @@ pub(crate) fn put_read(
 ) -> Result<(), AllocError>
     ensures program { OnOk result (program.new.items ≡ program.old.items ++ read_program operand size steps.old to place) }
     ensures steps { OnOk result (steps.new ≡ steps_behind_operand operand size steps.old) }
+    ensures refused { OnErr result (IsFrontOf program.old.items program.new.items) }
 {
     match operand {
         Operand::Value(value) => program.push(Micro::Compute {
