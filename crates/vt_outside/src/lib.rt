@@ -5,14 +5,19 @@
 #![tactic(auto)]
 
 mod desk;
+mod disk;
+mod files;
 mod gate;
 mod memory;
+mod replacing;
 mod sink;
 mod source;
 mod system;
 mod whole;
 
 pub use desk::{Desk, DeskRead, DeskWrite};
+pub use disk::{Disk, Found, Made, Readers};
+pub use files::SystemDisk;
 pub use gate::{Gate, OpenGate};
 pub use memory::desk::MemoryDesk;
 pub use memory::sink::MemorySink;

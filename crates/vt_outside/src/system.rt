@@ -1,29 +1,44 @@
 // Files and streams of the system. They tell no contents of their own.
-ghost use Rattle.std.specs.Prelude.{◌≡◌, None};
+ghost use Rattle.std.specs.Prelude.{◌≡◌, ◌≤◌, ◌+◌, length, take, None, IfOk, IfSome};
+ghost use Rattle.vt_outside.specs.Causes.{Rose};
+ghost use Rattle.vt_outside.specs.Desk.{IfRead};
+ghost use Rattle.vt_outside.specs.Disk.{HasBytes, HasMoreBytes, StillTold, is_absence};
+ghost use Rattle.vt_outside.specs.Replacing.{Unwritten, Written};
 
 use crate::desk::{Desk, DeskRead, DeskWrite};
+use crate::disk::Disk;
+use crate::files::SystemDisk;
 use crate::memory::calls::count_up;
+use crate::replacing::put_file;
 use crate::sink::{Put, Sink};
 use crate::source::{Got, Source};
 use std::alloc::{AllocError, Global};
-use std::fs;
 use std::io::{self, ErrorKind, Read, Write};
 use std::rt::Files;
 
-/// The files of the system. It tells no contents.
+/// Files under names, by the calls of a disk. It tells no contents of its own: what is said of them is said of the disk's.
 #[derive(Drop)]
-pub struct FileDesk<'a, R: Files> {
-    rt: &'a R,
+pub struct FileDesk<D: Disk> {
+    disk: D,
     read_faults: u64,
     write_faults: u64,
 }
 
-impl<'a, R: Files> FileDesk<'a, R> {
+impl<'a, R: Files> FileDesk<SystemDisk<'a, R>> {
     pub fn new(rt: &'a R) -> Self
-        ensures { ⟦<FileDesk<'a, R> as Desk>⟧.meaning result ≡ record { files = None; read_faults = 0; write_faults = 0 } }
+        ensures { ⟦<FileDesk<SystemDisk<'a, R>> as Desk>⟧.meaning result ≡ record { files = None; read_faults = 0; write_faults = 0 } }
+    {
+        FileDesk::over(SystemDisk::new(rt))
+    }
+}
+
+impl<D: Disk> FileDesk<D> {
+    pub fn over(disk: D) -> Self
+        ensures meaning { ⟦<FileDesk<D> as Desk>⟧.meaning result ≡ record { files = None; read_faults = 0; write_faults = 0 } }
+        ensures disk { result.disk ≡ disk }
     {
         FileDesk {
-            rt,
+            disk,
             read_faults: 0,
             write_faults: 0,
         }
@@ -31,23 +46,48 @@ impl<'a, R: Files> FileDesk<'a, R> {
 }
 
 // The first bytes of a file, one more than `limit` where there are so many.
-fn first_bytes<F: Read + Drop>(file: F, alloc: Global, limit: usize) -> io::Result<Vec<u8>> {
+fn first_bytes<F: Read + Drop>(file: F, alloc: Global, limit: usize) -> io::Result<Vec<u8>>
+    ensures { IfOk result (λ bytes. IfSome (F.remaining file) (λ all. bytes.items ≡ take (limit + 1) all)) }
+{
     let mut bytes = Vec::new(alloc);
     file.take((limit as u64).saturating_add(1))
         .read_to_end(&mut bytes)?;
     Ok(bytes)
 }
 
-impl<'a, R: Files> Desk for FileDesk<'a, R> {
+// No file has the name, or none can have it: it is too long, or a file or a loop of links stands where a folder should.
+fn is_absence(kind: ErrorKind) -> bool
+    ensures { result ≡ is_absence kind }
+{
+    matches!(
+        kind,
+        ErrorKind::NotFound
+            | ErrorKind::NotADirectory
+            | ErrorKind::InvalidFilename
+            | ErrorKind::FilesystemLoop
+    )
+}
+
+impl<D: Disk> Desk for FileDesk<D> {
     ghost use Rattle.std.specs.Prelude.{None};
 
     ghost meaning = { λ d. record { files = None; read_faults = d.read_faults; write_faults = d.write_faults } };
 
     /// A file that is not there is `Absent` and no fault. Of a longer file `limit` and one bytes are read.
-    fn read(&mut self, alloc: Global, name: &str, limit: usize) -> DeskRead {
-        let read = match fs::open(self.rt, name) {
+    fn read(&mut self, alloc: Global, name: &str, limit: usize) -> DeskRead
+        ensures within_limit { IfRead result (λ bytes. length bytes ≤ limit) }
+        ensures contents { IfRead result (λ bytes. IfSome (D.meaning self.old.disk) (λ disk. HasBytes (disk.now name.now) bytes)) }
+        ensures absent { result ≡ DeskRead.Absent → IfSome (D.meaning self.old.disk) (λ disk. disk.now name.now ≡ None) }
+        ensures too_long { result ≡ DeskRead.TooLong → IfSome (D.meaning self.old.disk) (λ disk. HasMoreBytes (disk.now name.now) limit) }
+        ensures disk_stays { self.new.disk ≡ self.old.disk }
+
+        ensures failed_has_cause { result ≡ DeskRead.Failed → Rose self.old.read_faults self.new.read_faults }
+        ensures count_never_falls { self.old.read_faults ≤ self.new.read_faults }
+        ensures other_count_stays { self.new.write_faults ≡ self.old.write_faults }
+    {
+        let read = match self.disk.open(name) {
             Ok(file) => first_bytes(file, alloc, limit),
-            Err(error) if error.kind() == ErrorKind::NotFound => return DeskRead::Absent,
+            Err(error) if is_absence(error.kind()) => return DeskRead::Absent,
             Err(error) => Err(error),
         };
         match read {
@@ -61,9 +101,16 @@ impl<'a, R: Files> Desk for FileDesk<'a, R> {
         }
     }
 
-    /// Makes the file or cuts it to nothing, and writes all of the bytes.
-    fn write(&mut self, name: &str, bytes: &[u8]) -> DeskWrite {
-        match fs::write(self.rt, name, bytes) {
+    /// Writes the bytes into a new file beside it, which then takes its place: where that fails, a plain file has what it had.
+    fn write(&mut self, name: &str, bytes: &[u8]) -> DeskWrite
+        ensures done { result ≡ DeskWrite.Done → StillTold (D.meaning self.old.disk) (D.meaning self.new.disk) (Written name.now bytes.now) }
+        ensures failed { result ≡ DeskWrite.Failed → StillTold (D.meaning self.old.disk) (D.meaning self.new.disk) (Unwritten name.now bytes.now) }
+
+        ensures failed_has_cause { result ≡ DeskWrite.Failed → Rose self.old.write_faults self.new.write_faults }
+        ensures count_never_falls { self.old.write_faults ≤ self.new.write_faults }
+        ensures other_count_stays { self.new.read_faults ≡ self.old.read_faults }
+    {
+        match put_file(&mut self.disk, name, bytes) {
             Ok(()) => DeskWrite::Done,
             Err(_) => {
                 count_up(&mut self.write_faults);
