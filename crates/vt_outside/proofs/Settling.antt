@@ -1,11 +1,11 @@
 -- A new file beside another, on its way into the place of it.
-use Rattle.std.proofs.Common.{◌≡◌, ◌≢◌, ◌⊎◌, inl, inr, ◌∙◌, ◌∷◌, ◌++◌, ℕ, List, [], Option, None, Some, Result, Ok, Err, IsOk, IsErr, IfSome, Bool, bytes_eq, ap, sym, subst, refl, append_assoc, true, false, MatchResult}
+use Rattle.std.proofs.Common.{◌≡◌, ◌≢◌, ◌⊎◌, inl, inr, ◌∙◌, ◌∷◌, ◌++◌, ℕ, List, [], Option, None, Some, Result, Ok, Err, IsOk, IsErr, IfSome, Bool, bytes_eq, ap, sym, subst, refl, append_assoc, true, false}
 use Rattle.std.specs.List.{AllByRecursion}
 use Rattle.std.specs.Fs.{permissions_mode}
 use Rattle.std.proofs.lemmas.Slice.Eq.{bytes_eq-Decides}
 use Rattle.std.specs.declared.fs.permissions.Permissions.{Permissions}
-use Rattle.vt_outside.specs.Disk.{DiskMeaning, HasBytes, IsOther, IsPlain, KeepsPermissions, Makes, MakesPart, MakesWhole, Names, Node, OrNothing, OrTouches, OthersKept, Passes, Permits, Removes, Renames, StillTold, Touches, WritesOver}
-use Rattle.vt_outside.specs.Replacing.{AreOf, HasOldOrNew, Keeps, Leaves, Places, PlacesBytes, Replaces, Settles, SettlesBy, TakesPlace, WritesFile}
+use Rattle.vt_outside.specs.Disk.{DiskMeaning, HasBytes, IsOther, IsPlain, KeepsPermissions, MakesPart, MakesWhole, Names, Node, OrNothing, OrTouches, OthersKept, Passes, Permits, Removes, Renames, StillTold, Touches, WritesOver}
+use Rattle.vt_outside.specs.Replacing.{AreOf, HasOldOrNew, Keeps, Leaves, Places, PlacesBytes, Settles, SettlesBy, TakesPlace, WritesFile}
 
 -- ---- moments
 

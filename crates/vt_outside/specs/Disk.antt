@@ -1,5 +1,5 @@
 -- What a disk tells, and what its calls do to it.
-use Rattle.std.specs.Prelude.{◌≡◌, ◌≢◌, ◌<◌, length, ℕ, Bool, true, false, ◌∷◌, ◌++◌, List, [], Option, None, Some, Result, MatchResult, IsTrue}
+use Rattle.std.specs.Prelude.{◌≡◌, ◌≢◌, ◌<◌, length, ℕ, Bool, true, false, ◌∷◌, ◌++◌, List, Option, None, Some, Result, MatchResult, IsTrue}
 use Rattle.std.specs.List.{AllByRecursion}
 use Rattle.std.specs.Fs.{permissions_mode}
 use Rattle.std_io.specs.declared.io.kind.ErrorKind.{ErrorKind}

@@ -1,5 +1,7 @@
 // Files and streams of the system. They tell no contents of their own.
 ghost use Rattle.std.specs.Prelude.{◌≡◌, ◌≤◌, ◌+◌, length, take, None, IfOk, IfSome};
+ghost use Rattle.std.specs.Io.{ReadsAtMost, WritesAtMost};
+ghost use Rattle.std.specs.Io.KnownBytes.{ReadConsumes, WriteAppends};
 ghost use Rattle.vt_outside.specs.Causes.{Rose};
 ghost use Rattle.vt_outside.specs.Desk.{IfRead};
 ghost use Rattle.vt_outside.specs.Disk.{HasBytes, HasMoreBytes, StillTold, is_absence};
@@ -120,6 +122,35 @@ impl<D: Disk> Desk for FileDesk<D> {
     }
 }
 
+// A call that a signal cut off is made again.
+#[tactic(auto, using(crate::proofs::Known::kept_read, crate::proofs::Known::kept_again))]
+fn read_through<R: Read>(reader: &mut R, into: &mut [u8]) -> io::Result<usize>
+    ensures bound { ReadsAtMost result into.new }
+    ensures bytes { ReadConsumes (R.remaining reader.old) (R.remaining reader.new) result into.new }
+{
+    for _ in 0..u64::MAX {
+        match reader.read(into) {
+            Err(error) if error.kind() == ErrorKind::Interrupted => {}
+            read => return read,
+        }
+    }
+    Err(io::Error::from(ErrorKind::Interrupted))
+}
+
+#[tactic(auto, using(crate::proofs::Known::kept_written, crate::proofs::Known::kept_again))]
+fn write_through<W: Write>(writer: &mut W, bytes: &[u8]) -> io::Result<usize>
+    ensures bound { WritesAtMost result bytes.now }
+    ensures bytes { WriteAppends (W.contents writer.old) (W.contents writer.new) result bytes.now }
+{
+    for _ in 0..u64::MAX {
+        match writer.write(bytes) {
+            Err(error) if error.kind() == ErrorKind::Interrupted => {}
+            written => return written,
+        }
+    }
+    Err(io::Error::from(ErrorKind::Interrupted))
+}
+
 /// A reader of std. It tells what the reader tells: standard input tells nothing.
 #[derive(Drop)]
 pub struct InSource<R: Read + Drop> {
@@ -140,7 +171,7 @@ impl<R: Read + Drop> Source for InSource<R> {
 
     #[tactic(auto, using(crate::proofs::Known::consumes_none))]
     fn read(&mut self, into: &mut [u8]) -> Got {
-        match self.reader.read(into) {
+        match read_through(&mut self.reader, into) {
             Ok(0) => Got::End,
             Ok(count) => Got::Bytes(count),
             Err(_) => {
@@ -171,7 +202,7 @@ impl<W: Write + Drop> Sink for OutSink<W> {
 
     /// It failed also where the writer took nothing.
     fn write(&mut self, bytes: &[u8]) -> Put {
-        match self.writer.write(bytes) {
+        match write_through(&mut self.writer, bytes) {
             Ok(count) if count > 0 => Put::Took(count),
             _ => {
                 count_up(&mut self.faults);

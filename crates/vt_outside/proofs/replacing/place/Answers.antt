@@ -1,5 +1,5 @@
 -- The new file takes the name, or the name keeps what it has.
-use Rattle.std.proofs.Common.{◌≡◌, Option, Some, None, IsOk, IsErr, rules, subst, sym}
+use Rattle.std.proofs.Common.{Option, IsOk, IsErr, rules, subst, sym}
 use Rattle.std.specs.declared.fs.permissions.Permissions.{Permissions}
 use Rattle.vt_outside.specs.Disk.{StillTold}
 use Rattle.vt_outside.specs.Replacing.{PlacesBytes}

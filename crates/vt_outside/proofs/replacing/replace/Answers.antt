@@ -1,5 +1,5 @@
 -- What the calls for one new file come to.
-use Rattle.std.proofs.Common.{◌≡◌, ◌≢◌, IsErr, Err, rules, refl, sym, ◌∙◌}
+use Rattle.std.proofs.Common.{◌≢◌, Err, rules, refl}
 use Rattle.vt_outside.proofs.Settling.{settles_part, settles_whole}
 use Rattle.vt_outside.specs.Disk.{MakesPart, MakesWhole, StillTold}
 use Rattle.vt_outside.proofs.replacing.replace.Goals as goal

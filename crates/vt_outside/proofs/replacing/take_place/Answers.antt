@@ -1,5 +1,5 @@
 -- The new file is removed where it did not take the name.
-use Rattle.std.proofs.Common.{◌≡◌, IsErr, rules}
+use Rattle.std.proofs.Common.{IsErr, rules}
 use Rattle.vt_outside.proofs.Settling.{places_removed}
 use Rattle.vt_outside.proofs.replacing.take_place.Goals as goal
 

@@ -1,5 +1,5 @@
 -- No list of bytes is longer than what may be taken.
-use Rattle.std.proofs.Common.{◌≡◌, ◌<◌, ◌-◌, ◌+◌, ◌^◌, ◌++◌, min, length, take, arith, rules, IfSome, subst, ◌∙◌}
+use Rattle.std.proofs.Common.{◌≡◌, ◌<◌, ◌-◌, ◌+◌, ◌^◌, ◌++◌, min, length, take, rules, IfSome}
 use Rattle.std.specs.Option.{option_map}
 use Rattle.vt_outside.proofs.Known.{first_known}
 use Rattle.vt_outside.proofs.system.first_bytes.Goals as goal

@@ -1,0 +1,6 @@
+-- What was known is known.
+use Rattle.std.specs.Io.KnownBytes.{Keeps}
+use Rattle.vt_outside.proofs.system.write_through.Given as goal
+
+abbrev pub invariant-loop : goal.invariant-loop
+invariant-loop g l = Keeps (g.W.Write.contents l.initial.writer) (g.W.Write.contents l.writer)
