@@ -1,5 +1,5 @@
 -- What no instruction may do that stays in range, and what may not be said of the codes that instructions use.
-use Rattle.std.proofs.Common.{◌≡◌, ℕ, ◌%◌, true, false, [], ◌∷◌, replicate, refl, sym, ap, ◌∙◌, arith}
+use Rattle.std.proofs.Common.{◌≡◌, ℕ, ◌%◌, if◌then◌else◌, true, false, [], ◌∷◌, replicate, refl, sym, ap, ◌∙◌, arith}
 use Rattle.vax_form.specs.Pages.{is_allowed}
 use Rattle.vax_form.specs.Ranges.{IsInRange}
 use Rattle.vax_form.specs.Script.{Script, ◌>>=◌, ◌>>◌, pure}
@@ -10,7 +10,7 @@ use Rattle.vax_form.specs.declared.script.End.TheVariants.{Done}
 use Rattle.vax_form.specs.declared.state.RefKind.TheVariants.{Add, Write}
 use Rattle.vax_form.specs.declared.state.Reference.{Reference}
 use Rattle.vax_form.specs.declared.state.VaxState.{VaxState}
-use Rattle.vax_form.specs.Operation.{operation_at, control_opcodes, mixed_opcodes, move_opcodes}
+use Rattle.vax_form.specs.Operation.{bit_opcodes, control_opcodes, integer_opcodes, mixed_opcodes, move_opcodes, operation_at}
 use Rattle.vax_form.specs.declared.instr.Instr.{Instr}
 use Rattle.vax_form.specs.declared.instr.Operand.{Operand}
 use Rattle.vax_form.specs.declared.instr.Operand.TheVariants.{Unused, Value, Register, Target}
@@ -32,8 +32,10 @@ use Rattle.vax_meaning.specs.Branches.{branch_if, holds}
 use Rattle.vax_meaning.specs.Memory.{check, write_part, lock}
 use Rattle.vax_long.specs.Registers.{below}
 use Rattle.alpha_meaning.specs.declared.access.AlphaKind.TheVariants.{Store, StoreConditional}
+use Rattle.alpha_meaning.specs.Pieces.{Kinds}
 use Rattle.block_law.specs.Translations.{Permit}
-use Rattle.image_meaning.specs.Permits.{permit_of}
+use Rattle.image_meaning.specs.Permits.{any_kinds, by_store, bytes_written, is_whole, permit_of}
+use Rattle.vax_form.specs.Written.{written_bytes}
 use Rattle.image_meaning.specs.declared.target.Target.TheVariants.{ByteWord}
 
 -- page 1 is read-only and page 2 may be written
@@ -143,10 +145,21 @@ moves_word = record { ranges = record { first = 1; count = 1; writable = false; 
 abbrev word_written : (address : ℕ) → Reference
 word_written address = record { address = address; count = 2; kind = Write 0 }
 
+two_bytes : bytes_written moves_word 512 ≡ 2
+unfolding operation_at integer_opcodes control_opcodes mixed_opcodes move_opcodes bit_opcodes written_bytes
+two_bytes = refl
+
+-- how a word may be written by an instruction that writes so many bytes
+abbrev kinds_by : (bytes address : ℕ) → Kinds
+kinds_by bytes address = if is_whole bytes (word_written address) then by_store 2 else any_kinds 512 (word_written address)
+
 -- at an even address one store makes it
 even_word : (permit_of ByteWord moves_word).kinds 512 (word_written 1024) Store 2 ≡ true
-even_word = refl
+even_word = ap (λ bytes. kinds_by bytes 1024 Store 2) two_bytes
 
--- at an odd address a loop does: a permit that asks for a store there is another
+-- at an odd address a loop does, and a permit that asks for a store there is another
 odd_word_stored : (permit : Permit) → permit.kinds 512 (word_written 1025) StoreConditional 8 ≡ false → permit ≡ permit_of ByteWord moves_word → ⊥
-odd_word_stored permit stored same = absurd (cc (sym stored ∙ ap (λ (p : Permit). p.kinds 512 (word_written 1025) StoreConditional 8) same))
+odd_word_stored permit stored same = differ (sym stored ∙ ap (λ (p : Permit). p.kinds 512 (word_written 1025) StoreConditional 8) same ∙ ap (λ bytes. kinds_by bytes 1025 StoreConditional 8) two_bytes)
+  where
+    differ : false ≡ true → ⊥
+    differ e = absurd (cc e)
