@@ -24,7 +24,10 @@ pub mod CarryRows
 pub mod JumpsLower
 pub mod StatusRows
 pub mod PslRows
+pub mod Quiet
 pub mod Inner
+pub mod Bytes
+pub mod Written
 pub mod Keeping
 pub mod KeptRows
 pub mod Instructions

@@ -1,12 +1,14 @@
 -- What a lowered program has to meet: it does what the instruction does, the temporaries hold what its condition codes
--- come from where it leaves, it fits a block, and it reads no other code and goes nowhere else than the instruction.
+-- come from where it leaves, it fits a block, it reads no other code and goes nowhere else than the instruction, and it
+-- writes as many bytes as the operand has that the instruction writes.
 use Rattle.std.specs.Prelude.{◌≡◌, ◌↔◌, ◌⊎◌, ◌<◌, ◌==◌, ℕ, Bool, true, false, is_none, All, List, Some, nat_eq, if◌then◌else◌}
-use Rattle.std.specs.List.{list_any}
+use Rattle.std.specs.List.{list_all, list_any}
 use Rattle.vax_form.specs.Operation.{operation_at}
 use Rattle.vax_form.specs.Row.{class_at}
 use Rattle.vax_form.specs.State.{IsState}
 use Rattle.vax_form.specs.Targets.{fixed_targets, jump_target}
 use Rattle.vax_form.specs.Tree.{Same}
+use Rattle.vax_form.specs.Written.{written_bytes}
 use Rattle.vax_form.specs.declared.instr.Instr.{Instr}
 use Rattle.vax_form.specs.declared.instr.Operand.{Operand}
 use Rattle.vax_form.specs.declared.instr.Operand.TheVariants as operands
@@ -27,8 +29,9 @@ use Rattle.micro_ops.specs.Sources.{sources_of}
 use Rattle.micro_ops.specs.Uses.{reads_flag}
 use Rattle.micro_ops.specs.declared.codes.CodeSources.{CodeSources}
 use Rattle.micro_ops.specs.declared.program.Micro.{Micro}
+use Rattle.micro_ops.specs.declared.program.Micro.TheVariants.{Write}
 use Rattle.operand_programs.specs.Pieces.{service, IsLong}
-use Rattle.micro_lower.specs.Rows.{has_program}
+use Rattle.micro_lower.specs.Rows.{has_program, program_for}
 
 -- the program does what the instruction does, from every state
 abbrev pub Means : Instr → List Micro → Type 0
@@ -79,6 +82,20 @@ pub record KeepsTo (instr : Instr) (program : List Micro) : Type 0 where
   pub computed : list_any leaves_computed program ≡ true → (use_of instr).ends ≡ true
   -- and it does so just where only running the instruction tells where it goes
   pub computes : (operation : Operation) → operation_at instr.opcode ≡ Some operation → list_any leaves_computed program ≡ computes_address operation instr
+
+-- ---- what a program writes
+-- a write, not interlocked, has so many bytes
+abbrev pub has_bytes : (count : ℕ) → Micro → Bool
+has_bytes count (Write place bytes from) = bytes == count
+has_bytes count _ = true
+
+-- each has as many bytes as the one operand that the instruction's operation writes
+abbrev pub WritesOperand : Instr → List Micro → Type 0
+WritesOperand instr program = (operation : Operation) → operation_at instr.opcode ≡ Some operation → list_all (has_bytes (written_bytes operation)) program ≡ true
+
+-- so does the program of every instruction
+abbrev pub ProgramsWriteOperands : Type 0
+ProgramsWriteOperands = (instr : Instr) (program : List Micro) → program_for instr ≡ Some program → WritesOperand instr program
 
 -- ---- the program of an instruction
 pub record IsLowered (instr : Instr) (program : List Micro) : Type 0 where

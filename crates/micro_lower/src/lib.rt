@@ -18,5 +18,5 @@ mod rows;
 mod status;
 mod table;
 
-pub use laws::{ending_law, translated_law};
+pub use laws::{ending_law, translated_law, written_law};
 pub use lowering::{LowerFault, has_program, lower};

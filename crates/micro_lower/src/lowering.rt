@@ -1,7 +1,7 @@
 // The program of an instruction.
 ghost use Rattle.std.specs.Prelude.{◌≡◌, ◌↔◌, true, false, IfOk, IfErr, MatchOption, Some, None};
 ghost use Rattle.vax_form.specs.Grammar.{IsSpelled};
-ghost use Rattle.micro_lower.specs.Lowering.{IsLowered};
+ghost use Rattle.micro_lower.specs.Lowering.{IsLowered, WritesOperand};
 ghost use Rattle.micro_lower.specs.Rows.{has_program, program_of_operation, program_for};
 
 use crate::branches::lower_plain;
@@ -65,8 +65,8 @@ fn lower_operation(
 }
 
 /// The program of an instruction: the same checks and references, and the same end, from every state. Where it leaves, the
-/// temporaries hold what the condition codes come from. It reads no other codes than the instruction, and leaves only to
-/// where the instruction may go on.
+/// temporaries hold what the condition codes come from. It reads no other codes than the instruction, leaves only to where
+/// the instruction may go on, and writes as many bytes as the operand has that the instruction writes.
 ///
 /// # Errors
 ///
@@ -75,6 +75,7 @@ pub fn lower(alloc: Global, instr: &Instr) -> Result<Vec<Micro>, LowerFault>
     requires spelled { IsSpelled instr.now }
     ensures lowered { IfOk result (λ program. IsLowered instr.now program.items) }
     ensures program { IfOk result (λ program. program_for instr.now ≡ Some program.items) }
+    ensures written { IfOk result (λ program. WritesOperand instr.now program.items) }
     ensures translated { IfOk result (λ _. has_program instr.now ≡ true) }
     ensures refused { IfErr result (λ fault. (fault ≡ LowerFault.NotTranslated) ↔ (has_program instr.now ≡ false)) }
 {

@@ -2,9 +2,10 @@
 use Rattle.std.proofs.Common.{rules, ◌≡◌, true, List, Some, None}
 use Rattle.vax_form.specs.Operation.{operation_at}
 use Rattle.micro_ops.specs.declared.program.Micro.{Micro}
-use Rattle.micro_lower.specs.Lowering.{IsLowered}
+use Rattle.micro_lower.specs.Lowering.{IsLowered, WritesOperand}
 use Rattle.micro_lower.specs.Rows.{has_program, program_for, program_of_operation}
 use Rattle.micro_lower.proofs.Instructions.{is_lowered_by, program_is, has_it}
+use Rattle.micro_lower.proofs.Written.{writes_operand}
 use Rattle.micro_lower.proofs.lowering.lower.Goals as goal
 
 pub returns-in-Ok-Some-clause-lowered : goal.returns-in-Ok-Some-clause-lowered
@@ -23,6 +24,15 @@ returns-in-Ok-Some-clause-program c =
     let at : operation_at instr.opcode ≡ Some operation = cc (c.operation_of.ensures, c.in-Some.is) in
     let by : (program : List Micro) → program_of_operation operation instr ≡ Some program → program_for instr ≡ Some program =
     λ program made. program_is instr operation program at made in
+    search (rules, by)
+
+pub returns-in-Ok-Some-clause-written : goal.returns-in-Ok-Some-clause-written
+returns-in-Ok-Some-clause-written c =
+    let instr = c.args.instr.now in
+    let operation = c.in-Some.operation in
+    let at : operation_at instr.opcode ≡ Some operation = cc (c.operation_of.ensures, c.in-Some.is) in
+    let by : (program : List Micro) → program_of_operation operation instr ≡ Some program → WritesOperand instr program =
+    λ program made. writes_operand instr operation program at made in
     search (rules, by)
 
 pub returns-in-Ok-None-clause-refused : goal.returns-in-Ok-None-clause-refused
