@@ -1,5 +1,5 @@
 -- The instructions at the members.
-use Rattle.std.proofs.Common.{◌≡◌, ◌≢◌, ◌∙◌, ℕ, true, refl, sym, ap, ap₂, List, [], ◌∷◌, length, map, nat_eq, Option, Some, None, true≢false}
+use Rattle.std.proofs.Common.{◌≡◌, ◌≢◌, ◌<◌, ◌^◌, ◌∙◌, ℕ, suc, get_or, true, refl, sym, ap, ap₂, List, [], ◌∷◌, length, map, nat_eq, Option, Some, None, true≢false}
 use Rattle.std.specs.List.{All, cons_option, filter_map}
 use Rattle.std.specs.Option.{is_some}
 use Rattle.std.proofs.lemmas.Bool.{eq-eqb, or_right}
@@ -53,6 +53,15 @@ module _ (pages : Pages) where
   pub as_many : (starts addresses : List ℕ) (instrs : List Instr) → AreReached pages starts addresses → instrs ≡ read addresses → length instrs ≡ length addresses
   as_many starts addresses instrs reached is =
       sym (length-map instrs (λ (i : Instr). i.at)) ∙ ap length (same_addresses starts addresses instrs reached is)
+
+  -- a longword is the address of what stands there
+  pub all_low : (addresses : List ℕ) → ((k : ℕ) → get_or addresses k 0 < 2 ^ 32) → All (λ (i : Instr). i.at < 2 ^ 32) (read addresses)
+  all_low [] fit = All-nil (λ (i : Instr). i.at < 2 ^ 32)
+  all_low (x ∷ xs) fit = go (instruction_at pages x) refl (all_low xs (λ k. fit (suc k)))
+    where
+      go : (o : Option Instr) → instruction_at pages x ≡ o → All (λ (i : Instr). i.at < 2 ^ 32) (read xs) → All (λ (i : Instr). i.at < 2 ^ 32) (cons_option o (read xs))
+      go (Some i) e rest = All-cons (λ (j : Instr). j.at < 2 ^ 32) i (read xs) (rw (address_of pages x i e) (fit 0)) rest
+      go None e rest = rest
 
   all_listed : (addresses : List ℕ) → All (λ (i : Instr). class_at i.opcode ≢ Reserved) (read addresses)
   all_listed [] = All-nil (λ (i : Instr). class_at i.opcode ≢ Reserved)

@@ -5,7 +5,7 @@
 mod flow;
 mod members;
 
-ghost use Rattle.std.specs.Prelude.{◌≡◌, ◌≢◌, ◌≤◌, All, IfErr, IfOk, length, map};
+ghost use Rattle.std.specs.Prelude.{◌≡◌, ◌≢◌, ◌<◌, ◌≤◌, ◌^◌, All, IfErr, IfOk, length, map};
 ghost use Rattle.vax_form.specs.Row.{class_at};
 ghost use Rattle.vax_form.specs.Targets.{has};
 ghost use Rattle.flow_discovery.specs.Reach.{IsReach, most};
@@ -93,9 +93,10 @@ pub fn is_start(image: &Image, hints: &[u32], address: u32) -> bool
 
 ghost use Rattle.flow_discovery.specs.Refusal.{IsRefused};
 
-/// The instructions that can be reached, in rising order of address.
+/// The instructions that can be reached, in rising order of address. An address is a longword.
 pub fn reach(alloc: Global, image: &Image, hints: &[u32]) -> Result<Vec<Instr>, FlowRefusal>
     ensures reached { IfOk result (λ v. IsReach image.now.pages (starts image.now hints.now) v.items) }
+    ensures longwords { IfOk result (λ v. All (λ instr. instr.at < 2 ^ 32) v.items) }
     ensures classes { IfOk result (λ v. All (λ instr. class_at instr.opcode ≢ Class.Reserved) v.items) }
     ensures few { IfOk result (λ v. length v.items ≤ most) }
     ensures refused { IfErr result (IsRefused image.now.pages (starts image.now hints.now)) }

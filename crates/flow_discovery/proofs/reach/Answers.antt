@@ -15,19 +15,19 @@ returns-clause-reached c =
     let P : List ℕ → Type 0 = λ ss. AreReached pages ss keys in
     let Q : Pages → Type 0 = λ p. IsReach p from c.in_ok-instrs.instrs.items in
     let same : pages ≡ c.args.image.now.pages = rw (← c.image.view_is) refl in
-    let read = c.in_ok-instrs.ensures ∙ ap (λ (ks : List ℕ). filter_map (instruction_at pages) ks) c.as_slice-2.ensures.keys in
+    let read = c.in_ok-instrs.ensures.items ∙ ap (λ (ks : List ℕ). filter_map (instruction_at pages) ks) c.as_slice-2.ensures.keys in
     subst Q same (are_reach pages from keys c.in_ok-instrs.instrs.items (subst P given c.in_ok-found.ensures) read)
 
 pub returns-clause-few : goal.returns-clause-few
 returns-clause-few c =
     let pages = c.image.inside.pages in
     let keys = c.in_ok-found.found.keys in
-    let read = c.in_ok-instrs.ensures ∙ ap (λ (ks : List ℕ). filter_map (instruction_at pages) ks) c.as_slice-2.ensures.keys in
+    let read = c.in_ok-instrs.ensures.items ∙ ap (λ (ks : List ℕ). filter_map (instruction_at pages) ks) c.as_slice-2.ensures.keys in
     let many : length c.in_ok-instrs.instrs.items ≡ length keys = as_many pages c.as_slice.result.now keys c.in_ok-instrs.instrs.items c.in_ok-found.ensures read in
     omega (arith, c.len-count.ensures.len)
 
 pub returns-clause-classes : goal.returns-clause-classes
 returns-clause-classes c =
     let pages = c.image.inside.pages in
-    let read = c.in_ok-instrs.ensures ∙ ap (λ (ks : List ℕ). filter_map (instruction_at pages) ks) c.as_slice-2.ensures.keys in
+    let read = c.in_ok-instrs.ensures.items ∙ ap (λ (ks : List ℕ). filter_map (instruction_at pages) ks) c.as_slice-2.ensures.keys in
     are_listed pages c.in_ok-found.found.keys c.in_ok-instrs.instrs.items read
