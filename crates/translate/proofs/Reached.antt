@@ -1,5 +1,5 @@
 -- The reached instructions that have blocks, and their addresses.
-use Rattle.std.proofs.Common.{◌≡◌, ◌+◌, ◌≤◌, ◌&&◌, ◌||◌, ℕ, suc, Bool, true, false, cond, List, [], ◌∷◌, length, map, count_by, Some, get_or, nat_eq, refl, sym, ap, ◌∙◌, subst, arith}
+use Rattle.std.proofs.Common.{◌≡◌, ◌+◌, ◌<◌, ◌≤◌, ◌^◌, ◌&&◌, ◌||◌, ℕ, suc, Bool, true, false, cond, List, [], ◌∷◌, length, map, count_by, Some, get_or, nat_eq, refl, sym, ap, ◌∙◌, subst, arith}
 use Rattle.std.specs.Prelude.{All, find, ◌==◌}
 use Rattle.std.specs.List.{filter}
 use Rattle.std.specs.Option.{option_map, option_map_or, is_some}
@@ -96,6 +96,9 @@ module _ (pages : Pages) where
     pub kept_found : AreFound pages kept
     kept_found = subst (λ (xs : List Instr). AreFound pages xs) (sym is)
         (All-filter built (λ i. found pages i.at ≡ instruction i) instrs (λ k d lt. is_found (get_or instrs k d) (reach.decoded k d lt)))
+
+    pub kept_longwords : All (λ i. i.at < 2 ^ 32) instrs → All (λ i. i.at < 2 ^ 32) kept
+    kept_longwords all = subst (λ (xs : List Instr). All (λ i. i.at < 2 ^ 32) xs) (sym is) (All-filter built (λ i. i.at < 2 ^ 32) instrs all)
 
     pub kept_rise : InOrder kept
     kept_rise = in_order kept (subst (λ (xs : List ℕ). IsStrictlyIncreasing xs) (sym same_addresses)

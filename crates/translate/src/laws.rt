@@ -1,5 +1,8 @@
 // What holds of translations.
-ghost use Rattle.translate.specs.Compiled.{AreAlwaysReady, IsFunction};
+ghost use Rattle.translate.specs.Compiled.{AreAlwaysReady, ArePages, IsFunction};
+
+use image_meaning::laws::page_table_has_bytes;
+use vax_form::Pages;
 
 /// An image and its starts have one translation alone.
 pub fn translation_law()
@@ -11,3 +14,11 @@ pub fn translation_law()
 pub fn ready_law()
     ensures { AreAlwaysReady }
 {}
+
+/// The page table of an image is one, and its code has bytes.
+pub(crate) fn pages_law(pages: &Pages)
+    ensures { ArePages pages.now }
+{
+    let _ranges = &pages.ranges;
+    page_table_has_bytes(pages);
+}

@@ -18,7 +18,7 @@ ghost use Rattle.image_meaning.specs.Permits.{any_permit, permit_of};
 ghost use Rattle.image_meaning.specs.declared.target.Target.TheVariants.{Original};
 ghost use Rattle.branch_layout.specs.Layouts.{layout};
 ghost use Rattle.code_runs.specs.Runs.{AreInOrder};
-ghost use Rattle.translate.specs.Compiled.{AreCompiled, AreFound, AreLaidOut, ArePages, CanBeLaid, InOrder, IsLaidOut, IsTranslation, addresses};
+ghost use Rattle.translate.specs.Compiled.{AreCompiled, AreFound, AreLaidOut, CanBeLaid, InOrder, IsLaidOut, IsTranslation, addresses};
 ghost use Rattle.flow_discovery.specs.Mapped.{has_block};
 ghost use Rattle.translate.specs.Mapped.{HasMapped};
 ghost use Rattle.translate.specs.Refusal.{AreFew, IsRefused};
@@ -29,36 +29,13 @@ use exception_records::Block;
 use flow_discovery::reach;
 use image_file::Image;
 pub use image_meaning::Target;
-use image_meaning::laws::page_table_has_bytes;
+use laws::pages_law;
 pub use laws::{ready_law, translation_law};
 use micro_lower::has_program;
 pub use refusal::{Numbers, TranslateRefusal};
 use std::alloc::Global;
 use system_model::Translation;
 use vax_form::{Instr, Pages, WantOfMemory};
-
-// An address is a longword.
-fn address_fits(instr: &Instr)
-    ensures { instr.now.at < 2 ^ 32 }
-{
-    let _address = instr.at;
-}
-
-fn addresses_fit(instrs: &[Instr])
-    ensures { All (λ instr. instr.at < 2 ^ 32) instrs.now }
-{
-    for instr in instrs {
-        address_fits(instr);
-    }
-}
-
-// The page table of an image is one, and its code has bytes.
-fn pages_are(pages: &Pages)
-    ensures { ArePages pages.now }
-{
-    let _ranges = &pages.ranges;
-    page_table_has_bytes(pages);
-}
 
 /// The translation of blocks, in the order of their addresses.
 fn laid_out(alloc: Global, blocks: &[(u32, Block)]) -> Result<Translation, WantOfMemory>
@@ -83,6 +60,7 @@ fn translate_instrs(
     instrs: &[Instr],
 ) -> Result<Translation, WantOfMemory>
     requires few { length instrs.now ≤ 32768 }
+    requires longwords { All (λ instr. instr.at < 2 ^ 32) instrs.now }
     requires rising { InOrder instrs.now }
     requires found { AreFound pages.now instrs.now }
     requires built { All (λ instr. has_block instr pages.now ≡ true) instrs.now }
@@ -90,8 +68,7 @@ fn translate_instrs(
     ensures mapped { IfOk result (λ code. map (λ pair. pair.0) code.map ≡ addresses instrs.now) }
     ensures blocks { IfOk result (AreLaidOut instrs.now) }
 {
-    pages_are(pages);
-    addresses_fit(instrs);
+    pages_law(pages);
     let blocks = compiled(alloc, instrs)?;
     laid_out(alloc, &blocks)
 }

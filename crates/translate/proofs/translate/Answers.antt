@@ -13,12 +13,16 @@ use Rattle.image_meaning.specs.declared.target.Target.{Target}
 use Rattle.image_meaning.specs.declared.target.Target.TheVariants.{Original}
 use Rattle.image_meaning.proofs.Permits.{meets_any_permit}
 use Rattle.translate.specs.Compiled.{AreFound, addresses}
-use Rattle.translate.proofs.Reached.{reached_few, kept_few, kept_found, kept_rise, kept_built, kept_mapped, is_mapped}
+use Rattle.translate.proofs.Reached.{reached_few, kept_few, kept_found, kept_longwords, kept_rise, kept_built, kept_mapped, is_mapped}
 use Rattle.translate.proofs.translate.Goals as goal
 
 pub translate_instrs-requires-clause-few : goal.translate_instrs-requires-clause-few
 translate_instrs-requires-clause-few c =
     kept_few c.args.image.now.pages (starts c.args.image.now c.args.hints.now) c.in_ok-instrs.instrs.items c.deref.result.now c.in_ok-instrs.ensures.reached (c.deref.ensures.value ∙ c.keep_built.ensures) c.in_ok-instrs.ensures.few
+
+pub translate_instrs-requires-clause-longwords : goal.translate_instrs-requires-clause-longwords
+translate_instrs-requires-clause-longwords c =
+    kept_longwords c.args.image.now.pages (starts c.args.image.now c.args.hints.now) c.in_ok-instrs.instrs.items c.deref.result.now c.in_ok-instrs.ensures.reached (c.deref.ensures.value ∙ c.keep_built.ensures) c.in_ok-instrs.ensures.longwords
 
 pub translate_instrs-requires-clause-rising : goal.translate_instrs-requires-clause-rising
 translate_instrs-requires-clause-rising c =

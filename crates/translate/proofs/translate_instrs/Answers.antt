@@ -17,11 +17,11 @@ use Rattle.translate.proofs.translate_instrs.Goals as goal
 pub compiled-requires-clause-order : goal.compiled-requires-clause-order
 compiled-requires-clause-order c = record {
   rising = c.requires.rising;
-  onward = λ k d lt. goes_on_above c.args.pages.now (get_or c.args.instrs.now k d) c.pages_are.ensures (c.addresses_fit.ensures k d lt) (c.requires.found k d lt);
+  onward = λ k d lt. goes_on_above c.args.pages.now (get_or c.args.instrs.now k d) c.pages_law.ensures (c.requires.longwords k d lt) (c.requires.found k d lt);
 }
 
 pub compiled-requires-clause-spelled : goal.compiled-requires-clause-spelled
-compiled-requires-clause-spelled c = λ k d lt. is_spelled c.args.pages.now (get_or c.args.instrs.now k d) c.pages_are.ensures (c.requires.found k d lt)
+compiled-requires-clause-spelled c = λ k d lt. is_spelled c.args.pages.now (get_or c.args.instrs.now k d) c.pages_law.ensures (c.requires.found k d lt)
 
 pub compiled-requires-clause-translated : goal.compiled-requires-clause-translated
 compiled-requires-clause-translated c = are_translated c.args.pages.now c.args.instrs.now c.requires.built
@@ -30,7 +30,7 @@ pub laid_out-requires : goal.laid_out-requires
 laid_out-requires c =
     let order : AreInOrder c.args.instrs.now = record {
       rising = c.requires.rising;
-      onward = λ k d lt. goes_on_above c.args.pages.now (get_or c.args.instrs.now k d) c.pages_are.ensures (c.addresses_fit.ensures k d lt) (c.requires.found k d lt);
+      onward = λ k d lt. goes_on_above c.args.pages.now (get_or c.args.instrs.now k d) c.pages_law.ensures (c.requires.longwords k d lt) (c.requires.found k d lt);
     } in
     let are = c.in_ok-blocks.ensures in
     let blocks = c.in_ok-blocks.blocks.items in
@@ -44,11 +44,11 @@ returns-clause-meets c =
     let instrs = c.args.instrs.now in
     let order : AreInOrder instrs = record {
       rising = c.requires.rising;
-      onward = λ k d lt. goes_on_above c.args.pages.now (get_or instrs k d) c.pages_are.ensures (c.addresses_fit.ensures k d lt) (c.requires.found k d lt);
+      onward = λ k d lt. goes_on_above c.args.pages.now (get_or instrs k d) c.pages_law.ensures (c.requires.longwords k d lt) (c.requires.found k d lt);
     } in
     let blocks = c.in_ok-blocks.blocks.items in
     IfOk-weaker c.laid_out.result (IsLaidOut blocks) _
-    (λ code laid. meets c.args.pages.now instrs blocks code c.in_ok-blocks.ensures laid.laid c.requires.found c.pages_are.ensures (rules_always_meet instrs order (can_have_blocks instrs (are_translated c.args.pages.now instrs c.requires.built))))
+    (λ code laid. meets c.args.pages.now instrs blocks code c.in_ok-blocks.ensures laid.laid c.requires.found c.pages_law.ensures (rules_always_meet instrs order (can_have_blocks instrs (are_translated c.args.pages.now instrs c.requires.built))))
     (subst (λ (bs : List Placed). IfOk c.laid_out.result (IsLaidOut bs)) c.deref.ensures.value c.laid_out.ensures)
 
 pub returns-clause-mapped : goal.returns-clause-mapped
@@ -63,7 +63,7 @@ returns-clause-blocks c =
     let instrs = c.args.instrs.now in
     let order : AreInOrder instrs = record {
       rising = c.requires.rising;
-      onward = λ k d lt. goes_on_above c.args.pages.now (get_or instrs k d) c.pages_are.ensures (c.addresses_fit.ensures k d lt) (c.requires.found k d lt);
+      onward = λ k d lt. goes_on_above c.args.pages.now (get_or instrs k d) c.pages_law.ensures (c.requires.longwords k d lt) (c.requires.found k d lt);
     } in
     let blocks = c.in_ok-blocks.blocks.items in
     IfOk-weaker c.laid_out.result (IsLaidOut blocks) _
@@ -71,7 +71,7 @@ returns-clause-blocks c =
       order = order;
       codes = are_codes instrs order (instruction_codes instrs) refl;
       compiled = subst (AreCompiled instrs) (are_of instrs blocks c.in_ok-blocks.ensures) c.in_ok-blocks.ensures;
-      rules = its_rules c.args.pages.now instrs blocks code c.in_ok-blocks.ensures laid.laid c.requires.found c.pages_are.ensures (rules_always_meet instrs order (can_have_blocks instrs (are_translated c.args.pages.now instrs c.requires.built)));
+      rules = its_rules c.args.pages.now instrs blocks code c.in_ok-blocks.ensures laid.laid c.requires.found c.pages_law.ensures (rules_always_meet instrs order (can_have_blocks instrs (are_translated c.args.pages.now instrs c.requires.built)));
       laid = laid.value ∙ ap layout (are_of instrs blocks c.in_ok-blocks.ensures);
     })
     (subst (λ (bs : List Placed). IfOk c.laid_out.result (IsLaidOut bs)) c.deref.ensures.value c.laid_out.ensures)
