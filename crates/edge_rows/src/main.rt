@@ -5,7 +5,8 @@
 //! A row of a file is a question and behind a colon its answer; `said`, `listings`, `made` and `lines` answer the questions of the
 //! file of their name in text, which is compared, and `memory` those of data/histories.txt, whose accesses `accesses` reads. In a
 //! text of `texts` `|` is the end of a line. `desks`, `sources`, `sinks` and `streams` call files and streams, in memory and of the
-//! system, each through its trait: at the calls that are to fail, at ends and limits, and where the system refuses.
+//! system, each through its trait: at the calls that are to fail, at ends and limits, and where the system refuses; `replaced` writes
+//! over files of the system.
 #![tactic(auto)]
 
 mod accesses;
@@ -14,6 +15,7 @@ mod lines;
 mod listings;
 mod made;
 mod memory;
+mod replaced;
 mod said;
 mod sinks;
 mod sources;
@@ -39,6 +41,7 @@ fn main(rt: HostRuntime) -> Result<()> {
     let mut all = ask_all(&rt)?;
     all.add(desks::memory_desk(&rt)?);
     all.add(desks::file_desk(&rt)?);
+    all.add(replaced::replaced_files(&rt)?);
     all.add(sources::memory_source(&rt)?);
     all.add(sinks::memory_sinks(&rt)?);
     all.add(streams::files(&rt)?);
