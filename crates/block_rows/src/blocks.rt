@@ -1,4 +1,4 @@
-// The block of a micro program.
+// The block of a micro program, which is laid out beside others.
 ghost use Rattle.std.specs.Prelude.{◌≡◌, IfOk, false, true};
 ghost use Rattle.std.specs.List.{list_any};
 ghost use Rattle.exception_records.specs.Codes.{all_ready};
@@ -7,7 +7,6 @@ ghost use Rattle.micro_ops.specs.Sources.{is_written};
 ghost use Rattle.block_law.specs.Blocks.{IsBlockOf};
 ghost use Rattle.program_codegen.specs.Programs.{is_narrow};
 
-use crate::machine::encoded;
 use anyhow::{Result, bail, ensure};
 use exception_records::{Block, CodeRule, Rules};
 use flag_codegen::code_words;
@@ -21,13 +20,6 @@ use vax_form::{Flags, Instr, Operand, Size, operation_of};
 pub struct Site {
     pub at: u32,
     pub after: u32,
-}
-
-impl Site {
-    pub const HERE: Site = Site {
-        at: 0x200,
-        after: 0x204,
-    };
 }
 
 fn is_written(source: CodeSource) -> bool
@@ -73,15 +65,9 @@ fn are_ready(rules: Rules) -> bool
     )
 }
 
-/// The block of a program that fits, before which all codes are ready, and the rules behind it where these are live.
-pub fn made(
-    alloc: Global,
-    site: Site,
-    opcode: u8,
-    program: &[Micro],
-    live: Flags,
-) -> Result<(Block, Rules)>
-    ensures { IfOk result (λ made. IsBlockOf false site.at made.0) }
+/// The block of a program that fits, before which all codes are ready, where these are live behind it.
+pub fn made(alloc: Global, site: Site, opcode: u8, program: &[Micro], live: Flags) -> Result<Block>
+    ensures { IfOk result (IsBlockOf false site.at) }
 {
     let Some(operation) = operation_of(opcode) else {
         bail!("a reserved opcode");
@@ -116,32 +102,7 @@ pub fn made(
         Rules::READY,
         behind,
     ) {
-        Ok(block) => Ok((block, behind)),
+        Ok(block) => Ok(block),
         Err(_) => bail!("want of memory"),
     }
-}
-
-/// A block with its encoded words, and the rules of the codes behind it.
-#[derive(Drop)]
-pub struct BlockCode {
-    pub block: Block,
-    pub words: Vec<u32>,
-    pub behind: Rules,
-}
-
-/// The block of a program that fits, as `made` makes it, with its words.
-pub fn encoded_block(
-    alloc: Global,
-    site: Site,
-    opcode: u8,
-    program: &[Micro],
-    live: Flags,
-) -> Result<BlockCode> {
-    let (block, behind) = made(alloc, site, opcode, program, live)?;
-    let words = encoded(alloc, &block.words)?;
-    Ok(BlockCode {
-        block,
-        words,
-        behind,
-    })
 }

@@ -50,8 +50,7 @@ fn block_at(alloc: Global, at: u32, program: &[Micro]) -> Result<Block>
     ensures { IfOk result (IsBlockOf false at) }
 {
     let site = Site { at, after: at };
-    let (block, _) = made(alloc, site, NOP, program, Flags::NONE)?;
-    Ok(block)
+    made(alloc, site, NOP, program, Flags::NONE)
 }
 
 /// A word and an exit, an exit alone, and a word and an exit to where no block is.

@@ -1,22 +1,11 @@
 // Bytes in a question, and its words.
-use anyhow::{Context, Result, bail};
+use anyhow::{Context, Result};
 use row_tally::{bytes, longword, pieces};
 use std::alloc::Global;
-use vax_form::Size;
 
 /// The first word of a question, and what is behind it.
 pub fn cut(question: &str) -> Result<(&str, &str)> {
     question.split_once(' ').context("another word")
-}
-
-pub fn size_of(word: &str) -> Result<Size> {
-    Ok(match word {
-        "byte" => Size::Byte,
-        "word" => Size::Word,
-        "longword" => Size::Long,
-        "quadword" => Size::Quad,
-        _ => bail!("no size: {word}"),
-    })
 }
 
 /// The numbers beside the sign.

@@ -1,6 +1,6 @@
 // Questions about maps of addresses.
 use crate::lists::cut;
-use crate::texts::{no_question, number_text, refusal_text};
+use crate::texts::refusal_text;
 use address_map::{AddressMap, MapRefusal, build};
 use anyhow::{Result, bail};
 use row_tally::{Given, four_fields, longword, pairs};
@@ -20,52 +20,24 @@ fn pairs_text(alloc: Global, map: &AddressMap) -> Result<String> {
     Ok(text)
 }
 
-/// What stands at a place of a table.
-fn entry_text(alloc: Global, entry: Option<Option<u32>>) -> Result<String> {
-    match entry {
-        Some(entry) => number_text(alloc, entry),
-        None => Ok(String::from_str(alloc, "outside")?),
-    }
-}
-
-/// Answers `word PAIRS ADDRESS`, `address PAIRS WORD`, `upper PAIRS PLACE`, `lower PAIRS PLACE`, `pages PAIRS`, `all PAIRS`,
-/// `large START ADDRESSES WORDS COUNT` and `want of memory`.
+/// Answers `all PAIRS`, `large START ADDRESSES WORDS COUNT` and `want of memory`.
 pub fn answer(alloc: Global, _given: &Given<'_>, question: &str) -> Result<String> {
     if question == "want of memory" {
         return refused_text(alloc, MapRefusal::WantOfMemory);
     }
     let (kind, rest) = cut(question)?;
-    if kind == "large" {
-        return large_text(alloc, rest);
-    }
-    answer_about(alloc, kind, rest)
-}
-
-/// Answers PAIRS and a number, which is 0 where none stands.
-fn answer_about(alloc: Global, kind: &str, rest: &str) -> Result<String> {
-    let (list, number) = rest.split_once(' ').unwrap_or((rest, "0"));
-    let number = longword(number)?;
-    match build(alloc, pairs(alloc, list)?.as_slice()) {
-        Ok(map) => answer_by(alloc, &map, kind, number),
-        Err(refusal) => refused_text(alloc, refusal),
-    }
-}
-
-fn upper_entry(map: &AddressMap, place: usize) -> Option<Option<u32>> {
-    let word = map.upper().get(place)?;
-    Some(Some(*word))
-}
-
-fn answer_by(alloc: Global, map: &AddressMap, kind: &str, number: u32) -> Result<String> {
-    let place = number as usize;
     match kind {
-        "word" => number_text(alloc, map.look_up(number)),
-        "address" => number_text(alloc, map.vax_of(number)),
-        "upper" => entry_text(alloc, upper_entry(map, place)),
-        "lower" => entry_text(alloc, map.lower().get(place).copied()),
-        "pages" => Ok(pages_text(alloc, map)?),
-        "all" => pairs_text(alloc, map),
-        _ => no_question(kind),
+        "all" => all_text(alloc, rest),
+        "large" => large_text(alloc, rest),
+        _ => bail!("no question: {kind}"),
+    }
+}
+
+/// The pairs of the map that they make, or the refusal.
+fn all_text(alloc: Global, list: &str) -> Result<String> {
+    match build(alloc, pairs(alloc, list)?.as_slice()) {
+        Ok(map) => pairs_text(alloc, &map),
+        Err(refusal) => refused_text(alloc, refusal),
     }
 }
 

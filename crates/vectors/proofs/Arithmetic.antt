@@ -1,5 +1,5 @@
 -- What the VAX simulator SIMH answers to whole-number arithmetic.
-use Rattle.std.proofs.Common.{◌≡◌, ℕ, List, [], ◌∷◌, Bool, true, false, Option, Some, None, refl}
+use Rattle.std.proofs.Common.{◌≡◌, ℕ, Bool, true, false, refl}
 use Rattle.vt_words.specs.declared.arithmetic.Coded.{Coded}
 use Rattle.vt_words.specs.Arithmetic.{sum_of, difference_of, negation_of, product_of, quotient_of}
 

@@ -1,5 +1,6 @@
 mod Arithmetic
 mod Calls
+mod Liveness
 mod Opcodes
 mod Operates
 mod Words

@@ -1,5 +1,5 @@
 -- What the emulator QEMU answers to Alpha's operations on registers.
-use Rattle.std.proofs.Common.{◌≡◌, ℕ, List, [], ◌∷◌, Bool, true, false, Option, Some, None, refl}
+use Rattle.std.proofs.Common.{◌≡◌, refl}
 use Rattle.alpha_encode.specs.declared.instr.OperateOp.TheVariants as row
 use Rattle.alpha_meaning.specs.Result.{result_of}
 use Rattle.vt_words.specs.Quad.{spread}

@@ -1,7 +1,6 @@
 -- Words of the GNU assembler for Alpha, with the instructions that they spell.
-use Rattle.std.proofs.Common.{◌≡◌, ℕ, List, [], ◌∷◌, Bool, true, false, Option, Some, None, refl}
-use Rattle.std.specs.Prelude.{ℤ, pos, negsuc}
-use Rattle.alpha_encode.specs.declared.instr.AlphaInstr.{AlphaInstr}
+use Rattle.std.proofs.Common.{◌≡◌, Some, None, refl}
+use Rattle.std.specs.Prelude.{pos, negsuc}
 use Rattle.alpha_encode.specs.declared.instr.AlphaInstr.TheVariants.{Memory, Branch, Operate, Jump, Pal}
 use Rattle.alpha_encode.specs.declared.instr.Second.TheVariants.{Register, Literal}
 use Rattle.alpha_encode.specs.declared.instr.MemoryOp.TheVariants as memory

@@ -1,0 +1,7 @@
+mod Codes
+mod Computations
+mod Constants
+mod Forms
+mod Misfits
+mod Overflows
+mod Places

@@ -1,0 +1,1 @@
+"""The makers of lemmas, by what their tables are about."""
