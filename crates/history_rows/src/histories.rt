@@ -2,13 +2,12 @@
 ghost use Rattle.image_file.specs.Whole.{IsWhole};
 
 use crate::machine::Machine;
-use crate::runs::{Bytes, byte_at, print_by_order, run_by};
+use anyhow::{Result, bail, ensure};
 use image_file::Image;
 use memory_core::{Entry, Kind};
 use std::alloc::Global;
-use std::io;
 use vax_form::{Pick, Reference};
-use vax_run::DrivenRun;
+use vax_run::{DrivenRun, driven};
 
 // The threads before any instruction.
 const NONE_RETIRED: [u64; 2] = [0, 0];
@@ -19,11 +18,30 @@ fn run_behind(
     image: &Image,
     order: &[Pick],
     picks: usize,
-) -> io::Result<Option<DrivenRun>>
+) -> Result<Option<DrivenRun>>
     requires { IsWhole image.now }
 {
-    let counts = &NONE_RETIRED[..image.threads.len().min(2)];
-    run_by(alloc, image, &order[..picks.min(order.len())], counts)
+    ensure!(image.threads.len() == NONE_RETIRED.len(), "not two threads");
+    match driven(
+        alloc,
+        image,
+        &[],
+        &order[..picks.min(order.len())],
+        &NONE_RETIRED,
+    ) {
+        Ok(run) => Ok(run),
+        Err(_) => bail!("want of memory"),
+    }
+}
+
+// The byte at an address, where the image has it.
+fn byte_at(run: &DrivenRun, address: u32) -> Option<u8> {
+    for (place, byte) in &run.memory {
+        if *place == address {
+            return Some(*byte);
+        }
+    }
+    None
 }
 
 // The quadword at an address, where the image has it.
@@ -60,7 +78,7 @@ fn matches_at(
     order: &[Pick],
     place: usize,
     entry: &Entry,
-) -> io::Result<bool>
+) -> Result<bool>
     requires { IsWhole image.now }
 {
     let before = run_behind(alloc, image, order, place)?;
@@ -73,51 +91,19 @@ fn is_counted(entry: &Entry) -> bool {
     entry.kind != Kind::LoadLocked && entry.success
 }
 
-// Whether each counted entry is that of its reference.
-fn matches(alloc: Global, image: &Image, history: &[Entry], order: &[Pick]) -> io::Result<bool>
+/// Whether each counted entry of a machine's history is that of its reference.
+pub fn matches(alloc: Global, image: &Image, machine: &Machine) -> Result<bool>
     requires { IsWhole image.now }
 {
+    let order = machine.order(alloc)?;
     let mut place = 0usize;
-    for entry in history {
+    for entry in machine.history() {
         if is_counted(entry) {
-            if !matches_at(alloc, image, order, place, entry)? {
+            if !matches_at(alloc, image, &order, place, entry)? {
                 return Ok(false);
             }
             place = place.saturating_add(1);
         }
     }
     Ok(true)
-}
-
-fn verdict_of(
-    alloc: Global,
-    image: &Image,
-    history: &[Entry],
-    order: &[Pick],
-) -> io::Result<&'static str>
-    requires { IsWhole image.now }
-{
-    Ok(if matches(alloc, image, history, order)? {
-        "matches"
-    } else {
-        "doesn't match"
-    })
-}
-
-/// Prints whether the history of a machine matches the references of the threads that are driven by its order, the order,
-/// what the threads leave of these bytes, and the end of each.
-pub fn print_history(
-    rt: &impl Print,
-    alloc: Global,
-    image: &Image,
-    machine: &Machine,
-    counts: &[u64],
-    bytes: Bytes,
-) -> io::Result<()>
-    requires { IsWhole image.now }
-{
-    let order = machine.order(alloc)?;
-    let verdict = verdict_of(alloc, image, machine.history(), &order)?;
-    print!(rt; "{verdict} ")?;
-    print_by_order(rt, alloc, image, &order, counts, bytes)
 }

@@ -1,18 +1,15 @@
-// A case: an instruction with what stands before it and behind it.
+// A case: an instruction with the state and memory before it, and the state behind it.
 use crate::memory::Memory;
 use anyhow::{Context, Result, ensure};
 use row_tally::{five_fields, five_fields_and_rest, longword, pieces};
 use std::alloc::Global;
-use vax_form::{Exception, Pending, VaxState};
+use vax_form::{Pending, VaxState};
 
 #[derive(Drop)]
-pub struct Case<'a> {
-    pub name: &'a str,
+pub struct Case {
     pub before: VaxState,
     pub memory: Memory,
-    pub raised: Option<Exception>,
     pub behind: VaxState,
-    pub memory_behind: Memory,
 }
 
 /// The processor state with these registers.
@@ -61,37 +58,6 @@ fn with_changes(alloc: Global, registers: [u32; 15], changes: &str) -> Result<[u
     Ok(registers)
 }
 
-/// Whether a byte was to be written.
-fn is_write(intent: &str) -> Option<bool> {
-    match intent {
-        "read" => Some(false),
-        "write" => Some(true),
-        _ => None,
-    }
-}
-
-/// The access violation of an ending: how the byte at the address was to be used.
-fn violation(ending: &str) -> Result<Exception> {
-    let (intent, address) = ending.split_once('=').context("an ending")?;
-    Ok(Exception::AccessViolation {
-        address: longword(address)?,
-        write: is_write(intent).context("read or write")?,
-    })
-}
-
-/// The exception of an ending.
-fn raised_by(ending: &str) -> Result<Option<Exception>> {
-    Ok(match ending {
-        "done" => None,
-        "trap=1" => Some(Exception::Arithmetic(1)),
-        "trap=2" => Some(Exception::Arithmetic(2)),
-        "trap=7" => Some(Exception::Arithmetic(7)),
-        "fault=18" => Some(Exception::ReservedOperand),
-        "fault=2C" => Some(Exception::Breakpoint),
-        _ => Some(violation(ending)?),
-    })
-}
-
 /// The states before an instruction and behind it: of PC, PSW and REGISTERS, and of PC, PSW and CHANGES.
 fn states_of(
     alloc: Global,
@@ -106,30 +72,19 @@ fn states_of(
     ))
 }
 
-/// The memory before, of these areas, and the one behind, with others stored.
-fn memories_of(alloc: Global, areas: &str, stored: &str) -> Result<(Memory, Memory)> {
-    let memory = Memory::of(alloc, areas)?;
-    let mut behind = memory.copy()?;
-    behind.store_areas(alloc, stored)?;
-    Ok((memory, behind))
-}
-
-impl<'a> Case<'a> {
-    /// Reads a row.
-    pub fn read(alloc: Global, row: &'a str) -> Result<Case<'a>> {
-        let ([name, pc, psw, registers, ending], rest) = five_fields_and_rest(row)?;
+impl Case {
+    /// Reads a row, of an instruction that is done and changes no memory.
+    pub fn read(alloc: Global, row: &str) -> Result<Case> {
+        let ([_, pc, psw, registers, ending], rest) = five_fields_and_rest(row)?;
         let (pc_behind, psw_behind, changes, stored, areas) = five_fields(rest)?;
+        ensure!(ending == "done" && stored == "-", "another ending");
         let behind = (pc_behind, psw_behind, changes);
         let (before, behind) = states_of(alloc, (pc, psw, registers), behind)?;
-        let raised = raised_by(ending)?;
-        let (memory, memory_behind) = memories_of(alloc, areas, stored)?;
+        let memory = Memory::of(alloc, areas)?;
         Ok(Case {
-            name,
             before,
             memory,
-            raised,
             behind,
-            memory_behind,
         })
     }
 }

@@ -1,11 +1,13 @@
 // An instruction one reference at a time.
-use crate::ending::REFERENCES;
 use crate::memory::Memory;
 use anyhow::Result;
 use tie_interpreter::{Tie, TieStep};
 use tie_strings::LongTie;
 use vax_decode::Decoded;
-use vax_form::{Instr, Outcome, Pages, VaxState, is_long};
+use vax_form::{Instr, Pages, VaxState, is_long};
+
+/// More references than any instruction of the programs makes.
+const REFERENCES: u32 = 1000;
 
 #[derive(Clone, Copy)]
 pub enum Interpreted {
@@ -59,16 +61,5 @@ impl Interpreted {
             step = self.step(pages, Some(reply));
         }
         Ok(step)
-    }
-
-    /// Whether the next step comes to an outcome.
-    pub fn agrees(&mut self, pages: &Pages, reply: Option<u64>, outcome: Outcome) -> bool {
-        let wanted = match outcome {
-            Outcome::Wants(reference) => TieStep::Want(reference),
-            Outcome::Done(state) => TieStep::Retired(state),
-            Outcome::Exits(state) => TieStep::Exited(state),
-            Outcome::Raises(exception, state) => TieStep::Raised(exception, state),
-        };
-        self.step(pages, reply) == wanted
     }
 }

@@ -18,12 +18,6 @@ impl Memory {
         }
     }
 
-    pub fn copy(&self) -> Result<Memory, AllocError> {
-        Ok(Memory {
-            bytes: self.bytes.clone()?,
-        })
-    }
-
     pub fn byte(&self, address: u32) -> u8 {
         self.bytes.get(&address).copied().unwrap_or(0)
     }
@@ -59,14 +53,6 @@ impl Memory {
         let mut memory = Memory::new(alloc);
         memory.store_areas(alloc, areas)?;
         Ok(memory)
-    }
-
-    /// The first address whose byte here is another than there.
-    pub fn first_difference(&self, other: &Memory) -> Option<u32> {
-        self.bytes
-            .iter()
-            .find(|(address, byte)| other.byte(**address) != **byte)
-            .map(|(address, _)| *address)
     }
 
     /// The bytes below `N`.

@@ -152,31 +152,17 @@ fn writable_section(first: u32, stored: &[u8]) -> Section<'_> {
     }
 }
 
-/// The image of threads that start at a PC with an SP each, by the fields with the code and with the writable section.
-fn image_from(alloc: Global, starts: &[(u32, u32)], code: &str, writable: &str) -> Result<Image>
-    ensures { IfOk result IsWhole }
-{
-    let stored = stored_of(alloc, code, writable)?;
-    let sections = [
-        code_section(&stored.code, SIZE),
-        writable_section(stored.first, &stored.writable),
-    ];
-    image_with(alloc, starts, &sections)
-}
-
 /// The image of threads, by the fields with their starts, with the code and with the writable section.
 pub fn image_of(alloc: Global, starts: &str, code: &str, writable: &str) -> Result<Image>
     ensures { IfOk result IsWhole }
 {
     let starts = pairs(alloc, starts)?;
-    image_from(alloc, &starts, code, writable)
-}
-
-/// The same of one thread.
-pub fn plain_image(alloc: Global, code: &str, writable: &str) -> Result<Image>
-    ensures { IfOk result IsWhole }
-{
-    image_from(alloc, &[(CODE, STACK)], code, writable)
+    let stored = stored_of(alloc, code, writable)?;
+    let sections = [
+        code_section(&stored.code, SIZE),
+        writable_section(stored.first, &stored.writable),
+    ];
+    image_with(alloc, &starts, &sections)
 }
 
 /// The image of one thread, whose code fills its only section.

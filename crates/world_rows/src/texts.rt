@@ -7,9 +7,6 @@ use system_model::{End, order_of};
 use vax_form::{Exception, Pick, VaxState};
 use vest_core::World;
 
-/// The registers that a report tells.
-const REGISTERS: u8 = 15;
-
 fn put_exception(report: &mut Report, exception: Exception) {
     let parameter = exception.parameter();
     report.put("exception ");
@@ -50,14 +47,6 @@ pub fn put_place(report: &mut Report, state: &VaxState) {
     report.longword(state.psl());
 }
 
-pub fn put_registers(report: &mut Report, state: &VaxState) {
-    report.put(" registers");
-    for number in 0..REGISTERS {
-        report.put(" ");
-        report.digits(state.register(number));
-    }
-}
-
 /// The references of a world's history.
 pub fn order_in(alloc: Global, world: &World) -> Result<Vec<Pick>> {
     match order_of(alloc, world.memory().history()) {
@@ -77,10 +66,10 @@ pub fn put_order(report: &mut Report, order: &[Pick]) {
     }
 }
 
-/// The output, in pairs of digits, each behind this.
-pub fn put_output(report: &mut Report, output: &[u8], before: &str) {
+/// The output, in pairs of digits.
+pub fn put_output(report: &mut Report, output: &[u8]) {
+    report.put("; output ");
     for byte in output {
-        report.put(before);
         report.byte(*byte);
     }
 }

@@ -1,49 +1,19 @@
-// What translations have: the mapped addresses, and the rules of condition codes there.
+// What translations have: the rules of condition codes at the mapped addresses.
 use crate::images::code_alone;
 use crate::programs::translated;
 use crate::report::Report;
-use anyhow::{Result, bail};
+use anyhow::Result;
 use exception_records::{CodeRule, Points, Rules};
-use image_file::Image;
-use row_tally::{bytes, longword};
+use row_tally::{Given, bytes};
 use std::alloc::{AllocError, Global};
 use system_model::Translation;
-use translate::{Target, TranslateRefusal, translate};
 use vax_form::Size;
-
-/// The opcode of NOP.
-const NOP: u8 = 0x01;
 
 /// The translation of a code.
 fn translation_of(alloc: Global, question: &str) -> Result<Translation> {
     let code = bytes(alloc, question)?;
     let image = code_alone(alloc, &code)?;
     translated(alloc, &image)
-}
-
-fn addresses_text(alloc: Global, pairs: &[(u32, u32)]) -> Result<String, AllocError> {
-    let mut report = Report::new(alloc);
-    for (place, (address, _)) in pairs.iter().enumerate() {
-        if place > 0 {
-            report.put(" ");
-        }
-        report.digits(*address);
-    }
-    if pairs.is_empty() {
-        report.put("none");
-    }
-    report.end()
-}
-
-fn mapped_text(alloc: Global, translation: &Translation) -> Result<String> {
-    let map = &translation.map;
-    Ok(addresses_text(alloc, map.pairs())?)
-}
-
-/// The mapped addresses of a code, or that there are none.
-pub fn mapped(alloc: Global, question: &str) -> Result<String> {
-    let translation = translation_of(alloc, question)?;
-    mapped_text(alloc, &translation)
 }
 
 fn size_text(size: Size) -> &'static str {
@@ -105,42 +75,7 @@ fn rules_in(alloc: Global, translation: &Translation) -> Result<String> {
 }
 
 /// The rules of N, Z, V and C at each mapped address of a code.
-pub fn rules(alloc: Global, question: &str) -> Result<String> {
+pub fn rules(alloc: Global, _given: &Given<'_>, question: &str) -> Result<String> {
     let translation = translation_of(alloc, question)?;
     rules_in(alloc, &translation)
-}
-
-/// The image of so many NOPs.
-fn all_nops(alloc: Global, count: u32) -> Result<Image> {
-    let code = vec![in alloc; NOP; count as usize]?;
-    code_alone(alloc, &code)
-}
-
-/// How many addresses of an image are mapped.
-fn mapped_in(alloc: Global, image: &Image) -> Result<usize, TranslateRefusal> {
-    let translation = translate(alloc, image, &[], Target::Original)?;
-    let map = &translation.map;
-    Ok(map.pairs().len())
-}
-
-fn flow_text(alloc: Global, word: &str, count: u64) -> Result<String, AllocError> {
-    let mut report = Report::new(alloc);
-    report.put(word);
-    report.count(count);
-    report.end()
-}
-
-fn flow_of(alloc: Global, image: &Image) -> Result<String> {
-    match mapped_in(alloc, image) {
-        Ok(count) => Ok(flow_text(alloc, "mapped ", count as u64)?),
-        Err(TranslateRefusal::Flow { count }) => Ok(flow_text(alloc, "refused ", count)?),
-        Err(TranslateRefusal::WantOfMemory) => bail!("want of memory"),
-    }
-}
-
-/// How many instructions of a section of so many bytes, each a NOP, are mapped, or with which count they are refused.
-pub fn flow(alloc: Global, question: &str) -> Result<String> {
-    let count = longword(question)?;
-    let image = all_nops(alloc, count)?;
-    flow_of(alloc, &image)
 }

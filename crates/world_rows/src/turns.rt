@@ -8,7 +8,7 @@ ghost use Rattle.world_rows.specs.Ready.{CanRun, IsReady};
 
 use crate::driven::check_driven;
 use crate::images::image_of;
-use crate::left::{Told, left_text};
+use crate::left::left_text;
 use crate::nothing::nothing_translated;
 use crate::programs::{Limits, Program, made_ready, translated};
 use crate::worlds::{advance_often, pick_often, world_of};
@@ -101,7 +101,7 @@ fn left_of(
 {
     run(world, program, &case.picks, pace)?;
     check_driven(alloc, program.image, &case.input, world)?;
-    left_text(alloc, world, &case.shown, Told::Steps)
+    left_text(alloc, world, &case.shown)
 }
 
 fn left_at(alloc: Global, program: Program<'_>, case: &Case, pace: Pace) -> Result<String>

@@ -69,16 +69,3 @@ pub fn advance_often(world: &mut World, program: Program<'_>, thread: u8, turns:
     );
     Ok(())
 }
-
-/// Gives a thread turns until it has ended, but at most so many.
-pub fn pick_to_its_end(world: &mut World, program: Program<'_>, thread: u8, most: u32) -> Result<()>
-    requires { IsReady program world.old }
-    ensures { IsReady program.entry world.new }
-{
-    for _ in 0..most {
-        if let Turn::Ended = pick(world, program, thread)? {
-            return Ok(());
-        }
-    }
-    bail!("a thread without an end")
-}
