@@ -338,6 +338,10 @@ read : List ℕ → Result ImageValue ImageRefusal
 unfolding image_of counts_allowed counts_of first_in layout_of pages_of spelling
 read bytes = image_of bytes
 
+-- where a thread starts, and its stack pointer
+abbrev beginning : Start → ℕ × ℕ
+beginning start = (start.pc, start.sp)
+
 abbrev section : (start size : ℕ) (writable : Bool) → (stored : List ℕ) → SectionValue
 section start size writable stored = record {{ start = start; size = size; writable = writable; stored = stored }}
 
@@ -370,7 +374,7 @@ def image_answer(question, wanted, spelled):
     kind, _, at = question.partition(" ")
     if kind == "threads":
         threads = ["(0x{}, 0x{})".format(*thread.split("/")) for thread in wanted.split(" ")[1:]]
-        return "λ image. map (λ (t : Start). (t.pc, t.sp)) image.threads", list_of(threads)
+        return "λ image. map beginning image.threads", list_of(threads)
     if kind == "entries":
         return "λ image. image.entries", list_of(f"0x{entry}" for entry in wanted.split(" ")[1:])
     if kind == "sections":

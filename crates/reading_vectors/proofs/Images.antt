@@ -38,6 +38,10 @@ read : List ℕ → Result ImageValue ImageRefusal
 unfolding image_of counts_allowed counts_of first_in layout_of pages_of spelling
 read bytes = image_of bytes
 
+-- where a thread starts, and its stack pointer
+abbrev beginning : Start → ℕ × ℕ
+beginning start = (start.pc, start.sp)
+
 abbrev section : (start size : ℕ) (writable : Bool) → (stored : List ℕ) → SectionValue
 section start size writable stored = record { start = start; size = size; writable = writable; stored = stored }
 
@@ -45,7 +49,7 @@ abbrev state : (r : List ℕ) → (pc psw : ℕ) → VaxState
 state r pc psw = record { r = r; pc = pc; psw = psw; handler = 0; pending = pending.Nothing }
 
 -- ---- the sample image
-row3 : asked (λ image. map (λ (t : Start). (t.pc, t.sp)) image.threads) (read (bytes 59 0x1BC02BC5005D00000000100000000000002000000100000000000000000070000020000000200000012000000020000000002000100014D495856)) ≡ Some ((0x200, 0x1200) ∷ [])
+row3 : asked (λ image. map beginning image.threads) (read (bytes 59 0x1BC02BC5005D00000000100000000000002000000100000000000000000070000020000000200000012000000020000000002000100014D495856)) ≡ Some ((0x200, 0x1200) ∷ [])
 unfolding read
 row3 = refl
 
@@ -227,7 +231,7 @@ row51 : number_of WantOfMemory ≡ None
 row51 = refl
 
 -- ---- an image of version 2
-row54 : asked (λ image. map (λ (t : Start). (t.pc, t.sp)) image.threads) (read (bytes 112 0x1BC02BC00000001000000000000020000001000000000000000000400000200000002000000000000000000000000000000000000000000000000000000000000000000000000000000000000000000000000000000000000000041000012000000020000000002000100024D495856)) ≡ Some ((0x200, 0x1200) ∷ [])
+row54 : asked (λ image. map beginning image.threads) (read (bytes 112 0x1BC02BC00000001000000000000020000001000000000000000000400000200000002000000000000000000000000000000000000000000000000000000000000000000000000000000000000000000000000000000000000000041000012000000020000000002000100024D495856)) ≡ Some ((0x200, 0x1200) ∷ [])
 unfolding read
 row54 = refl
 
