@@ -1,10 +1,11 @@
 //! Code that is laid out, and prepared code that runs.
 //!
 //! `layouts` lays three blocks out, beside words that were worked out by hand, and `exits` has exits at the edge of a branch's
-//! reach. data/prepared.txt has runs of prepared code.
+//! reach; `constants` has the words of a constant. data/prepared.txt has runs of prepared code.
 #![tactic(auto)]
 
 mod blocks;
+mod constants;
 mod exits;
 mod layouts;
 mod prepared;
@@ -17,5 +18,6 @@ fn main(rt: HostRuntime) -> Result<()> {
     let mut all = ask_rows(&rt, "prepared.txt", prepared::answer)?;
     all.add(layouts::three_blocks(&rt)?);
     all.add(exits::reach(&rt)?);
+    all.add(constants::longword(&rt)?);
     all.verdict()
 }
