@@ -39,8 +39,8 @@ byte_stored_without_a_lock : WritesPlan stored_bytes 21 1 22 unlocked → ⊥
 unfolding Runs
 byte_stored_without_a_lock promise =
     let runs = promise (words_at unlocked) (plain_terms (λ store quad. true)) 0 zeros (lit≤ tt)
-      (record { within = lit≤ tt; pages = λ k part within. refl; readable = λ quad may. refl; stores = record { loads = refl; stores = refl } })
-      (refl, (refl, (refl, (refl, (refl, (refl, (refl, tt))))))) 2 in
+    (record { within = lit≤ tt; pages = λ k part within. refl; readable = λ quad may. refl; stores = record { loads = refl; stores = refl } })
+    (refl, (refl, (refl, (refl, (refl, (refl, (refl, tt))))))) 2 in
     let second = runs.3.2 in
     let same : 255 ≡ 0 = (second.3.3.1 255 (lit< tt) tt).0 in
     absurd (cc same)
@@ -64,8 +64,8 @@ longword_read_by_two_loads : ReadsPlan 21 4 22 loaded_twice → ⊥
 unfolding Runs
 longword_read_by_two_loads promise =
     let runs = promise (words_at loaded_twice) (plain_terms (λ store quad. true)) 0 zeros (lit≤ tt)
-      (record { within = lit≤ tt; pages = λ k part within. refl; loads = refl })
-      (refl, (refl, (refl, (refl, (refl, (refl, (refl, (refl, (refl, tt))))))))) 6 in
+    (record { within = lit≤ tt; pages = λ k part within. refl; loads = refl })
+    (refl, (refl, (refl, (refl, (refl, (refl, (refl, (refl, (refl, tt))))))))) 6 in
     let third = runs.3.2.3.2 in
     let fourth = (third.3.3.1 0 (lit< tt) tt).1 in
     let sixth = fourth.3.2.3.2 in
@@ -111,8 +111,8 @@ retry_behind_its_load : WritesPlan stored_bytes 21 1 22 retried_behind → ⊥
 unfolding Runs
 retry_behind_its_load promise =
     let runs = promise (words_at retried_behind) (plain_terms (λ store quad. true)) 0 zeros (lit≤ tt)
-      (record { within = lit≤ tt; pages = λ k part within. refl; readable = λ quad may. refl; stores = record { loads = refl; stores = refl } })
-      (refl, (refl, (refl, (refl, (refl, (refl, (refl, tt))))))) 11 in
+    (record { within = lit≤ tt; pages = λ k part within. refl; readable = λ quad may. refl; stores = record { loads = refl; stores = refl } })
+    (refl, (refl, (refl, (refl, (refl, (refl, (refl, tt))))))) 11 in
     let third = runs.3.2.3.3 0 (lit< tt) in
     let sixth = third.3.2.3.2.3.2 in
     failed_store behind_the_store 17 (write_plan (parts 0 1) 0) refl (sixth.3.3.2 0 (lit< tt))

@@ -22,7 +22,7 @@ pub fn image_of_two(alloc: Global) -> Result<Image>
     ensures { IfOk result IsWhole }
 {
     let mut file = HEAD.to_vec(alloc)?;
-    put_words(&mut file, &LAYOUT)?;
+    put_words(&mut file, &LAYOUT).map_err(|_| anyhow!("no memory"))?;
     file.extend_from_slice(&CODE)?;
     match read_image(alloc, &file) {
         Ok(image) => Ok(image),
