@@ -15,7 +15,7 @@ faults=0
 mode=640
 
 # the sample image: MOVL #5,R0, CHMK #2, CHMK #1
-printf 'VXIM\1\0\1\0\1\0\0\0\0\2\0\0\0\22\0\0\0\2\0\0\0\2\0\0\7\0\0\0\0\0\0\0\0\20\0\0\0\2\0\0\0\0\0\0\1\0\0\0\320\5P\274\2\274\1' > image
+printf '\x56\x58\x49\x4d\x01\x00\x01\x00\x02\x00\x00\x00\x00\x02\x00\x00\x00\x12\x00\x00\x00\x02\x00\x00\x00\x02\x00\x00\x07\x00\x00\x00\x00\x00\x00\x00\x00\x10\x00\x00\x00\x02\x00\x00\x00\x00\x00\x00\x01\x00\x00\x00\xd0\x05\x50\xbc\x02\xbc\x01' > image
 "$program" translate image translated || exit 1
 
 fresh() {
@@ -44,7 +44,8 @@ looked() {
     [ "$(stat -c %a a)" = $mode ] || wrong "$1: a has other permissions"
     case $2 in
     0) [ $has = translated ] || wrong "$1: status 0, and a is the image" ;;
-    2 | 6 | 7 | 9) [ $has = image ] || wrong "$1: status $2, and a is the translated file" ;;
+    # 127 is of the system's loader, which had a call fail before the program began
+    2 | 6 | 7 | 9 | 127) [ $has = image ] || wrong "$1: status $2, and a is the translated file" ;;
     137 | 153) return ;;
     *) wrong "$1: status $2" ;;
     esac
@@ -55,7 +56,7 @@ looked() {
 case_of() {
     local status
     fresh
-    strace -qq -f -o trace -e "inject=$2" "$program" translate a a > /dev/null 2>&1
+    { strace -qq -f -o trace -e "inject=$2" "$program" translate a a > /dev/null; } 2> /dev/null
     status=$?
     looked "$1" $status "$3"
 }
@@ -64,7 +65,7 @@ case_of() {
 ended() {
     local status
     fresh
-    strace -qq -f -o trace -e "inject=$2" "$program" translate a a > /dev/null 2>&1
+    { strace -qq -f -o trace -e "inject=$2" "$program" translate a a > /dev/null; } 2> /dev/null
     status=$?
     [ $status = "$3" ] || wrong "$1: status $status"
     looked "$1" $status removed
@@ -111,7 +112,7 @@ looked "a full disk, and a file that can't be removed" $? kept
 
 # a limit of file size ends the program by a signal
 fresh
-(ulimit -f 0; exec "$program" translate a a) 2> /dev/null
+{ (ulimit -f 0; exec "$program" translate a a); } 2> /dev/null
 looked "a limit of file size" $? kept
 
 echo "$tried calls cut off or failed, $faults wrong"

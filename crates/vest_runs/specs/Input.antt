@@ -8,7 +8,6 @@ use Rattle.vest_stops.specs.declared.status.Status.TheVariants as status
 use Rattle.vest_stops.specs.declared.stop.Stop.{Stop}
 use Rattle.vest_stops.specs.declared.stop.Stop.TheVariants.{ReadFault, TooLong, WantOfMemory}
 use Rattle.vest_runs.specs.Limits.{INPUT_LIMIT}
-use Rattle.vest_runs.specs.declared.input.TheConstants.{AT_ONCE}
 
 -- these bytes are all that the source had left, where it tells them, and nothing is left
 pub record ReadsAll (old new : SourceMeaning) (bytes : List ℕ) : Type 0 where
@@ -23,11 +22,11 @@ pub record HasGiven (least most : ℕ) (old new : SourceMeaning) : Type 0 where
   pub few : length bytes ≤ most
   pub read : Consumes old.left new.left bytes
 
--- why the input was not read to its end; behind the first byte too much nothing is read but what came with it
+-- why the input was not read to its end; behind the first byte too much nothing is read
 abbrev pub StopsAtInput : Stop → SourceMeaning → SourceMeaning → Type 0
-StopsAtInput TooLong old new = HasGiven (INPUT_LIMIT + 1) (INPUT_LIMIT + AT_ONCE) old new
+StopsAtInput TooLong old new = HasGiven (INPUT_LIMIT + 1) (INPUT_LIMIT + 1) old new
 StopsAtInput ReadFault old new = Rose old.faults new.faults × HasGiven 0 INPUT_LIMIT old new
-StopsAtInput WantOfMemory old new = Unit {0}
+StopsAtInput WantOfMemory old new = HasGiven 0 (INPUT_LIMIT + 1) old new
 StopsAtInput stop old new = ⊥
 
 -- what is not told decides nothing

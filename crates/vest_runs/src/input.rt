@@ -16,12 +16,12 @@ pub fn input_limit_is_as_stated()
 {}
 
 /// The most bytes of one call.
-pub const AT_ONCE: usize = 1024;
+const AT_ONCE: usize = 1024;
 
-// Each call takes a byte at least, so one more call than there may be bytes tells.
-const CALLS: usize = 65_537;
+/// The most bytes that are read: one more than there may be tells that there are too many.
+const MOST: usize = INPUT_LIMIT + 1;
 
-/// Reads the input to its end, by at most 65,537 calls.
+/// Reads the input to its end, or its first 65,537 bytes and no more.
 pub fn read_input<I: Source>(alloc: Global, input: &mut I) -> Result<Vec<u8>, Stop>
     ensures ok { IfOk result (λ bytes. ReadsAll (I.meaning input.old) (I.meaning input.new) bytes.items) }
     ensures err { IfErr result (λ stop. StopsAtInput stop (I.meaning input.old) (I.meaning input.new)) }
@@ -38,9 +38,12 @@ fn read_all<I: Source>(input: &mut I, bytes: &mut Vec<u8>) -> Result<(), Stop>
     ensures err { IfErr result (λ stop. StopsAtInput stop (I.meaning input.old) (I.meaning input.new)) }
 {
     let mut buffer = [0; AT_ONCE];
-    for turn in 0..CALLS {
-        match input.read(&mut buffer) {
-            Got::Bytes(count) => bytes.extend_from_slice(&buffer[..count])?,
+    // Each call takes a byte at least.
+    for turn in 0..MOST {
+        let room = (MOST - bytes.len()).min(AT_ONCE);
+        let into = &mut buffer[..room];
+        match input.read(into) {
+            Got::Bytes(count) => bytes.extend_from_slice(&into[..count])?,
             Got::End => return Ok(()),
             Got::Failed => return Err(Stop::ReadFault),
         }
