@@ -2,3 +2,4 @@ mod Lists
 mod ManyTurns
 mod Turns
 mod NewWorlds
+mod Rounds

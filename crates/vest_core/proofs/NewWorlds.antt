@@ -64,6 +64,10 @@ are_own threads budget ks same each n k at =
     let b = each n k there.0 at there.1 in
     record { thread = sym (ap (λ (p : Processor). p.thread) (b.stands no_pages).same) ∙ omega arith; budget = b.most }
 
+-- there is a processor for each thread
+pub are_counted : (threads : List Start) (ks : List ProcessorValue) → ((pages : Pages) → AllZip (StandsFor pages) ks (begun_from 0 threads)) → length ks ≡ length threads
+are_counted threads ks stand = sym (AllZip-long (StandsFor no_pages) ks (begun_from 0 threads) (stand no_pages)) ∙ begun_length 0 threads
+
 module _ (image : ImageValue) (input : List ℕ) (budget limit miss : ℕ) (threads : List Start) (its : threads ≡ image.threads)
     (memory : Contents) (is : memory ≡ fresh image input (length threads) limit miss) (ks : List ProcessorValue) where
   pub is_manned : ((pages : Pages) → AllZip (StandsFor pages) ks (begun_from 0 threads)) → ((n : ℕ) (k : ProcessorValue) → slice_get ks n ≡ Some k → IsOf n budget k)

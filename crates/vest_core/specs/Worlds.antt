@@ -1,5 +1,5 @@
 -- Worlds: a memory of one owner and its processors. Histories are oldest first.
-use Rattle.std.specs.Prelude.{◌≡◌, ℕ, ◌<◌, ◌+◌, ◌↔◌, false, true, List, [], Some, length, reverse, slice_get, slice_set}
+use Rattle.std.specs.Prelude.{◌≡◌, ℕ, ◌<◌, ◌+◌, ◌↔◌, Bool, false, true, List, [], ◌∷◌, Some, length, reverse, slice_get, slice_set}
 use Rattle.std.specs.List.{AllZip}
 use Rattle.block_law.specs.Sound.{AllowsFew}
 use Rattle.block_law.specs.Translations.{Meets, Permit}
@@ -53,6 +53,11 @@ abbrev pub IsExplained : Setting → WorldValue → Type 0
 IsExplained setting w =
     (permit : Permit) → AllowsFew permit → Meets setting.meaning permit setting.code
     → (legal : IsLegalWorld setting w) → HasHeadline setting permit w.memory.set_up (reverse w.memory.history) legal.processors
+
+-- whether the first processor has ended, if there is one
+abbrev pub first_has_ended : List ProcessorValue → Bool
+first_has_ended [] = true
+first_has_ended (k ∷ rest) = has_ended (processor_of k).mode
 
 -- what many turns of one processor, one after the other, do to a world, where so many were asked for
 pub record IsAdvanced (setting : Setting) (thread most turns : ℕ) (old new : WorldValue) : Type 0 where

@@ -1,9 +1,10 @@
 //! The pure world: a memory and its processors, of which one at a time is picked for a turn, in any order. Whatever is
 //! picked, the history is what the VAX threads do that are driven by its order.
 //!
-//! `world` has the world, and its turn, which takes no memory.
+//! `world` has the world, and its turn, which takes no memory; `alone` runs one of a single thread to its end.
 #![tactic(auto)]
 
+mod alone;
 mod world;
 
 pub use tie_switch::{Processor, Turn};

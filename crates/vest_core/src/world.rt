@@ -73,6 +73,7 @@ impl World {
     ) -> Result<World, WantOfMemory>
         requires { IsWhole image.now }
         ensures new { IfOk result (λ world. IsNew image.now input.items budget limit miss world) }
+        ensures count { IfOk result (λ world. length world.processors ≡ length image.now.threads) }
         ensures legal { IfOk result (λ world. (setting : Setting) → setting.meaning.pages ≡ image.now.pages → IsLegalWorld setting world) }
         // So before the first turn, too, no processor is stuck, whatever runs and by whatever sound meaning.
         ensures headline { IfOk result (λ world. (setting : Setting) → setting.meaning.pages ≡ image.now.pages → IsSound setting.meaning → IsExplained setting world) }

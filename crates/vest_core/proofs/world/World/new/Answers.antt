@@ -1,7 +1,7 @@
-use Rattle.std.proofs.Common.{reverse, sym, ap, ◌∙◌}
+use Rattle.std.proofs.Common.{length, reverse, sym, ap, ◌∙◌}
 use Rattle.image_file.specs.Values.{ImageValue}
 use Rattle.memory_core.specs.Contents.{Contents}
-use Rattle.vest_core.proofs.NewWorlds.{begins, is_manned}
+use Rattle.vest_core.proofs.NewWorlds.{are_counted, begins, is_manned}
 use Rattle.vest_core.proofs.world.World.new.Goals as goal
 
 pub invariant_of-result : goal.invariant_of-result
@@ -26,3 +26,8 @@ returns-clause-headline c = λ setting pages sound permit few meets legal.
     let is_input = ap (λ (m : Contents). m.set_up.input) c.in_ok-memory.ensures in
     c.legal_has_headline.ensures setting permit memory.set_up c.args.budget (reverse memory.history) legal.processors sound few meets
     (c.images_are_runs.ensures memory.set_up is_image (is_input ∙ sym c.deref.ensures.value)) legal.legal
+
+pub returns-clause-count : goal.returns-clause-count
+returns-clause-count c =
+    let threads = c.as_slice-threads.ensures.value ∙ ap (λ (i : ImageValue). i.threads) c.image.view_is in
+    are_counted c.as_slice-threads.result.now c.in_ok-processors.processors.items c.in_ok-processors.ensures.stand ∙ ap length threads
