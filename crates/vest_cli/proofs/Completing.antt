@@ -1,8 +1,8 @@
 -- Where no call of the outside failed, no fault is told.
-use Rattle.std.proofs.Common.{◌≡◌, ◌<◌, ◌≤◌, ◌∙◌, ℕ, Bool, true, false, List, Option, None, Some, refl, sym, arith, inl, inr}
+use Rattle.std.proofs.Common.{◌≡◌, ◌<◌, ◌≤◌, ◌∙◌, ℕ, Bool, true, false, List, Option, None, Some, Result, Ok, Err, IfOk, refl, sym, arith, inl, inr}
 use Rattle.std.specs.Prelude.{MatchBool}
 use Rattle.vt_outside.specs.Causes.{Rose, one_more}
-use Rattle.vt_outside.specs.Desk.{DeskMeaning}
+use Rattle.vt_outside.specs.Desk.{DeskMeaning, Files}
 use Rattle.memory_core.specs.Contents.{output_of}
 use Rattle.report_text.specs.Generated.{generated_image}
 use Rattle.system_model.specs.Processors.{Processor}
@@ -23,7 +23,8 @@ use Rattle.vest_runs.specs.Kept.{KeptValue}
 use Rattle.vest_cli.specs.Lent.{Lent}
 use Rattle.vest_runs.specs.Keeping.{processors_of, set_up_of}
 use Rattle.vest_cli.specs.Run.{StopsRun}
-use Rattle.vest_cli.specs.Decided.{IsOrFault, IsOrWant, NoneFailed, Stood}
+use Rattle.vest_cli.specs.Decided.{DecidesCall, IsOrFault, IsOrWant, NoneFailed, Stood}
+use Rattle.vest_cli.specs.declared.waiting.Waiting.{Waiting}
 use Rattle.vest_cli.specs.Vest.{Does, Ends, Stops, StopsAt, done, stopped, unspelled}
 
 below : (least n : ℕ) → least ≤ n → n < least → ⊥
@@ -136,3 +137,10 @@ module _ (old new : Lent) (kept : KeptValue) (none : NoneFailed old new) where
   complete command status.WriteFault d ends h = absurd (no_write_fault command status.WriteFault ends refl)
   complete command status.TooLong d ends h = h
   complete command status.WantOfMemory d ends h = h
+
+-- the same of a call that may wait
+pub complete_ok : (old new : Lent) (kept : KeptValue) (command : Option CommandValue) (files : Option Files) (left : Option (List ℕ)) (result : Result Status Waiting)
+    → IfOk result (λ s. Ends command s old new kept) → IfOk result (λ s. (d : Decision) → DecidesCall command files left d → IsOrFault command s d)
+    → IfOk result (λ s. (d : Decision) → DecidesCall command files left d → NoneFailed old new → IsOrWant command s d)
+complete_ok old new kept command files left (Ok s) ends decided = λ d on none. complete old new kept none command s d ends (decided d on)
+complete_ok old new kept command files left (Err waiting) ends decided = tt

@@ -4,4 +4,5 @@ mod Deciding
 mod Ending
 mod Obeying
 mod RunDecided
-mod RunStopping
+mod Halting
+mod Unread

@@ -2,37 +2,80 @@
 use Rattle.std.proofs.Common.{◌≡◌, List, Option, Result, Ok, Err, IfErr, IfOk, refl, sym, subst, arith}
 use Rattle.std.specs.Prelude.{ℕ}
 use Rattle.std.proofs.lemmas.Result.{IfErr-weaker, IfOk-weaker}
-use Rattle.command_words.specs.Commands.{CommandValue}
+use Rattle.command_words.specs.Commands.{CommandValue, generate, run}
+use Rattle.command_words.specs.declared.commands.Limits.{Limits}
+use Rattle.command_words.specs.declared.numbers.Range.{Range}
 use Rattle.vt_outside.specs.Desk.{DeskMeaning, Files}
 use Rattle.vt_outside.specs.Sink.{SinkMeaning}
 use Rattle.vt_outside.specs.Source.{SourceMeaning}
-use Rattle.vest_stops.specs.Decided.{Decision, goes_on, IsDecided, StopsAsDecided}
+use Rattle.vest_stops.specs.Decided.{Decision, IsDecided}
 use Rattle.vest_files.specs.List.{Lists}
 use Rattle.vest_stops.specs.Files.{SameFiles}
 use Rattle.vest_files.specs.Translate.{Translates}
 use Rattle.vest_stops.specs.declared.status.Done.{Done}
 use Rattle.vest_stops.specs.declared.stop.Stop.{Stop}
-use Rattle.vest_stops.specs.declared.stop.Stop.TheVariants.{WantOfMemory}
 use Rattle.vest_cli.specs.Generate.{Generates}
 use Rattle.vest_runs.specs.Kept.{KeptValue, nothing_kept}
 use Rattle.vest_cli.specs.Lent.{Lent, lent}
 use Rattle.vest_cli.specs.Leaving.{LeavesAll}
 use Rattle.vest_cli.specs.Decided.{DecidesOn}
-use Rattle.vest_cli.specs.Vest.{Does, OnlyGenerates, OnlyLists, OnlyTranslates, StopsAt, StopsGenerate}
+use Rattle.vest_cli.specs.Vest.{Does, OnlyGenerates, OnlyLists, OnlyTranslates, StopsAt}
+use Rattle.vest_cli.specs.Waiting.{HaltsAt, HaltsGenerate, HaltsRun, IsHaltDecided, WaitsReady, or_halt}
+use Rattle.vest_cli.specs.declared.halt.Halt.{Halt}
+use Rattle.vest_cli.specs.declared.halt.Halt.TheVariants.{Stops, Waits}
 
-module _ (r : Result Done Stop) where
-  -- ---- of a command that is this one
+-- ---- of a command that is this one
+module _ (r : Result Done Halt) where
   pub does_as : (command is : CommandValue) (old new : Lent) (kept : KeptValue) → command ≡ is → IfOk r (λ end. Does is end old new kept) → IfOk r (λ end. Does command end old new kept)
   does_as command is old new kept e h = subst (λ (c : CommandValue). IfOk r (λ end. Does c end old new kept)) (sym e) h
 
-  pub stops_as : (command is : CommandValue) (desk desk' : DeskMeaning) (input input' : SourceMeaning) → command ≡ is → IfErr r (λ stop. StopsAt is stop desk desk' input input')
-      → IfErr r (λ stop. StopsAt command stop desk desk' input input')
-  stops_as command is desk desk' input input' e h = subst (λ (c : CommandValue). IfErr r (λ stop. StopsAt c stop desk desk' input input')) (sym e) h
+  pub halts_as : (command is : CommandValue) (desk desk' : DeskMeaning) (input input' : SourceMeaning) → command ≡ is → IfErr r (λ halt. HaltsAt is halt desk desk' input input')
+      → IfErr r (λ halt. HaltsAt command halt desk desk' input input')
+  halts_as command is desk desk' input input' e h = subst (λ (c : CommandValue). IfErr r (λ halt. HaltsAt c halt desk desk' input input')) (sym e) h
 
-  pub decided_as : (command is : CommandValue) (files : Option Files) (left : Option (List ℕ)) → command ≡ is → ((d : Decision) → DecidesOn is files left d → IsDecided r d)
-      → (d : Decision) → DecidesOn command files left d → IsDecided r d
+  pub decided_as : (command is : CommandValue) (files : Option Files) (left : Option (List ℕ)) → command ≡ is → ((d : Decision) → DecidesOn is files left d → IsHaltDecided r d)
+      → (d : Decision) → DecidesOn command files left d → IsHaltDecided r d
   decided_as command is files left e h d on = h d (subst (λ (c : CommandValue). DecidesOn c files left d) e on)
 
+-- ---- of one that waits for no threads
+module _ (r : Result Done Stop) (result : Result Done Halt) (same : result ≡ or_halt r) where
+  pub ok_so : (P : Done → Type 0) → IfOk r P → IfOk result P
+  ok_so P h = subst (λ (x : Result Done Halt). IfOk x P) (sym same) (go r h)
+    where
+      go : (x : Result Done Stop) → IfOk x P → IfOk (or_halt x) P
+      go (Ok end) p = p
+      go (Err stop) p = tt
+
+  pub err_so : (L : Type 0) → IfErr r (λ _. L) → IfErr result (λ _. L)
+  err_so L h = subst (λ (x : Result Done Halt). IfErr x (λ _. L)) (sym same) (go r h)
+    where
+      go : (x : Result Done Stop) → IfErr x (λ _. L) → IfErr (or_halt x) (λ _. L)
+      go (Ok end) p = tt
+      go (Err stop) p = p
+
+  pub why_so : (command : CommandValue) (desk desk' : DeskMeaning) (input input' : SourceMeaning) → IfErr r (λ stop. StopsAt command stop desk desk' input input')
+      → IfErr result (λ halt. HaltsAt command halt desk desk' input input')
+  why_so command desk desk' input input' h = subst (λ (x : Result Done Halt). IfErr x (λ halt. HaltsAt command halt desk desk' input input')) (sym same) (go r h)
+    where
+      go : (x : Result Done Stop) → IfErr x (λ stop. StopsAt command stop desk desk' input input') → IfErr (or_halt x) (λ halt. HaltsAt command halt desk desk' input input')
+      go (Ok end) p = tt
+      go (Err stop) p = p
+
+  pub ready_so : IfErr result WaitsReady
+  ready_so = subst (λ (x : Result Done Halt). IfErr x WaitsReady) (sym same) (go r)
+    where
+      go : (x : Result Done Stop) → IfErr (or_halt x) WaitsReady
+      go (Ok end) = tt
+      go (Err stop) = tt
+
+  pub decided_so : (d : Decision) → IsDecided r d → IsHaltDecided result d
+  decided_so d h = subst (λ (x : Result Done Halt). IsHaltDecided x d) (sym same) (go r h)
+    where
+      go : (x : Result Done Stop) → IsDecided x d → IsHaltDecided (or_halt x) d
+      go (Ok end) p = p
+      go (Err stop) p = p
+
+module _ (r : Result Done Stop) where
   -- ---- nothing else is touched
   module _ (input : SourceMeaning) (report : SinkMeaning) (kept : KeptValue) (nothing : kept ≡ nothing_kept) where
     pub only_translates : (image to : List ℕ) (desk desk' : DeskMeaning) (out : SinkMeaning) → IfOk r (λ end. Translates end image to desk desk')
@@ -53,25 +96,31 @@ module _ (r : Result Done Stop) where
         → IfErr r (λ _. LeavesAll (lent desk input out report) (lent desk' input out' report) kept)
     list_leaves desk desk' out out' same h = IfErr-weaker r _ _ (λ stop unsent. record { desk = same; out = unsent; report = refl; kept_nothing = nothing }) h
 
-  pub only_generates : (number : ℕ) (desk : DeskMeaning) (input : SourceMeaning) (out out' report report' : SinkMeaning) (kept : KeptValue) → IfOk r (λ end. Generates end number out out' report report' kept)
-      → IfOk r (λ end. OnlyGenerates end number (lent desk input out report) (lent desk input out' report') kept)
-  only_generates number desk input out out' report report' kept h =
-      IfOk-weaker r _ _ (λ end generates. record { generates = generates; desk = refl; input = refl }) h
-
   pub input_stays : (StopsSo : Stop → Type 0) (input : SourceMeaning) → IfErr r StopsSo → IfErr r (λ stop. StopsSo stop × (input ≡ input))
   input_stays StopsSo input h = IfErr-weaker r _ _ (λ stop so. (so, refl)) h
 
-  pub generate_stops : (desk : DeskMeaning) (input : SourceMeaning) → IfErr r (λ stop. stop ≡ WantOfMemory) → IfErr r (λ stop. StopsGenerate stop desk desk input input)
-  generate_stops desk input h = IfErr-weaker r _ _ (λ stop want. (want, record { same_desk = refl; same_input = refl })) h
+-- ---- of `generate`
+pub only_generates : (r : Result Done Halt) (number : ℕ) (desk : DeskMeaning) (input : SourceMeaning) (out out' report report' : SinkMeaning) (kept : KeptValue) → IfOk r (λ end. Generates end number out out' report report' kept)
+    → IfOk r (λ end. OnlyGenerates end number (lent desk input out report) (lent desk input out' report') kept)
+only_generates r number desk input out out' report report' kept h =
+    IfOk-weaker r _ _ (λ end generates. record { generates = generates; desk = refl; input = refl }) h
 
--- it is only stopped for want of memory, which decides nothing
-pub generate_decided : (r : Result Done Stop) → IfErr r (λ stop. stop ≡ WantOfMemory) → (d : Decision) → d ≡ goes_on → IsDecided r d
-generate_decided (Ok end) why d on = on
-generate_decided (Err stop) why d on = subst (λ (s : Stop). StopsAsDecided s d) (sym why) tt
+pub generate_why : (r : Result Done Halt) (number : ℕ) (desk : DeskMeaning) (input : SourceMeaning) → IfErr r (λ halt. HaltsGenerate halt number)
+    → IfErr r (λ halt. HaltsAt (generate number) halt desk desk input input)
+generate_why (Ok end) number desk input h = tt
+generate_why (Err (Stops stop)) number desk input h = (h, record { same_desk = refl; same_input = refl })
+generate_why (Err (Waits waiting)) number desk input h = (h, record { same_desk = refl; same_input = refl })
 
-pub generate_leaves : (r : Result Done Stop) (desk : DeskMeaning) (input : SourceMeaning) (out out' report report' : SinkMeaning) (kept : KeptValue)
+pub generate_leaves : (r : Result Done Halt) (desk : DeskMeaning) (input : SourceMeaning) (out out' report report' : SinkMeaning) (kept : KeptValue)
     → IfErr r (λ _. out' ≡ out) → IfErr r (λ _. report' ≡ report) → IfErr r (λ _. kept ≡ nothing_kept)
     → IfErr r (λ _. LeavesAll (lent desk input out report) (lent desk input out' report') kept)
 generate_leaves (Ok end) desk input out out' report report' kept unsent unsaid unkept = tt
-generate_leaves (Err stop) desk input out out' report report' kept unsent unsaid unkept =
+generate_leaves (Err halt) desk input out out' report report' kept unsent unsaid unkept =
     record { desk = record { files = refl; write_faults = refl; read_faults = omega arith }; out = unsent; report = unsaid; kept_nothing = unkept }
+
+-- ---- of `run`
+pub run_why : (r : Result Done Halt) (name : List ℕ) (limits : Limits) (ranges : List Range) (desk desk' : DeskMeaning) (input input' : SourceMeaning)
+    → IfErr r (λ halt. HaltsRun halt name limits ranges desk desk' input input') → IfErr r (λ halt. HaltsAt (run name limits ranges) halt desk desk' input input')
+run_why (Ok end) name limits ranges desk desk' input input' h = tt
+run_why (Err (Stops stop)) name limits ranges desk desk' input input' h = h
+run_why (Err (Waits waiting)) name limits ranges desk desk' input input' h = h

@@ -7,3 +7,5 @@ pub mod Run
 pub mod Generate
 pub mod Vest
 pub mod Decided
+pub mod Waiting
+pub mod Program

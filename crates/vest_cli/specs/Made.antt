@@ -1,11 +1,19 @@
 -- A run that was made, before it is kept.
-use Rattle.std.specs.Prelude.{◌≡◌, ℕ, List, map}
+use Rattle.std.specs.Prelude.{◌≡◌, ℕ, true, List, map, reverse}
+use Rattle.std.specs.List.{AllByRecursion}
 use Rattle.command_words.specs.declared.commands.Limits.{Limits}
+use Rattle.block_law.specs.Translations.{Code}
 use Rattle.image_file.specs.Values.{ImageValue}
 use Rattle.image_meaning.specs.Permits.{permit_of}
 use Rattle.image_meaning.specs.declared.target.Target.TheVariants.{Original}
+use Rattle.memory_core.specs.declared.entry.Entry.{Entry}
+use Rattle.memory_core.specs.declared.entry.SetUp.{SetUp}
+use Rattle.system_model.specs.Legal.{IsLegal}
+use Rattle.system_model.specs.Processors.{Processor}
+use Rattle.system_model.specs.declared.translation.Range.{Range}
 use Rattle.tie_switch.specs.Processors.{processor_of}
 use Rattle.tie_switch.specs.Settings.{image_setting}
+use Rattle.tie_switch.specs.Turns.{has_ended}
 use Rattle.vest_cli.specs.declared.execute.Run.{Run}
 use Rattle.vest_cli.specs.declared.execute.Task.{Task}
 use Rattle.run_threads.specs.Runs.{RunningValue}
@@ -24,3 +32,10 @@ pub record HasMade (run : Run) : Type 0 where
   pub set_up : run.memory.set_up ≡ (started run.task).set_up
   pub ran : HasRun (image_setting run.task.loaded.image.pages run.task.loaded.translation run.task.ranges.items) (permit_of Original run.task.loaded.image.pages) (started run.task).set_up (started run.task).budget
       run.memory.history (map processor_of run.processors.items)
+
+-- whatever is legal for an image and its input and has ended is what the threads did
+abbrev pub EndedIsRun : ImageValue → (input : List ℕ) → Code → List Range → Type 0
+EndedIsRun image input code ranges = (of : SetUp) (budget : ℕ) (history : List Entry) (processors : List Processor) → of.image ≡ image → of.input ≡ input
+    → IsLegal (image_setting image.pages code ranges) of budget (reverse history) processors
+    → AllByRecursion (λ (p : Processor). has_ended p.mode ≡ true) processors
+    → HasRun (image_setting image.pages code ranges) (permit_of Original image.pages) of budget history processors

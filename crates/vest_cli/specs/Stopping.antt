@@ -1,5 +1,5 @@
 -- What a call says, and leaves, that stops before it has written anything, whatever its command.
-use Rattle.std.specs.Prelude.{◌≡◌, ◌⊎◌, ℕ, List, Result, Ok, Err, codes}
+use Rattle.std.specs.Prelude.{◌≡◌, ◌⊎◌, ℕ, List, codes}
 use Rattle.vt_outside.specs.Sink.{SinkMeaning}
 use Rattle.vt_outside.specs.Taking.{TookAll, TookSome}
 use Rattle.command_words.specs.declared.WordsFault.{WordsFault}
@@ -7,11 +7,8 @@ use Rattle.command_words.specs.declared.WordsFault.TheVariants.{Usage}
 use Rattle.command_words.specs.declared.WordsFault.TheVariants as faults
 use Rattle.vest_stops.specs.Line.{line_of}
 use Rattle.vest_stops.specs.Files.{SameFiles}
-use Rattle.vest_stops.specs.Status.{status_of, status_of_done}
-use Rattle.vest_stops.specs.declared.status.Done.{Done}
 use Rattle.vest_stops.specs.declared.status.Status.{Status}
 use Rattle.vest_stops.specs.declared.status.Status.TheVariants as status
-use Rattle.vest_stops.specs.declared.stop.Stop.{Stop}
 use Rattle.vest_stops.specs.declared.stop.Stop.TheVariants.{WantOfMemory}
 use Rattle.vest_runs.specs.Kept.{KeptValue, nothing_kept}
 use Rattle.vest_cli.specs.Lent.{Lent}
@@ -33,8 +30,3 @@ usage_line = codes "usage: vest COMMAND WORDS\n"
 abbrev pub RefusesWords : WordsFault → Status → (old new : SinkMeaning) → Type 0
 RefusesWords Usage result old new = (result ≡ status.Usage) × Says usage_line old new
 RefusesWords faults.WantOfMemory result old new = (result ≡ status.WantOfMemory) × Says (line_of WantOfMemory) old new
-
--- what a command comes to at last: nothing is said where it is done
-abbrev pub Concludes : Result Done Stop → Status → (old new : SinkMeaning) → Type 0
-Concludes (Ok end) result old new = (result ≡ status_of_done end) × (new ≡ old)
-Concludes (Err stop) result old new = (result ≡ status_of stop) × Says (line_of stop) old new

@@ -2,20 +2,27 @@
 ghost use Rattle.std.specs.Prelude.{◌≡◌};
 ghost use Rattle.vest_stops.specs.Line.{line_of};
 ghost use Rattle.vest_stops.specs.Status.{status_of};
-ghost use Rattle.vest_cli.specs.Stopping.{Concludes, RefusesWords, Says, usage_line};
+ghost use Rattle.vest_cli.specs.Stopping.{RefusesWords, Says, usage_line};
+ghost use Rattle.vest_cli.specs.Waiting.{Concludes};
 
+use crate::halt::Halt;
+use crate::waiting::Waiting;
 use command_words::WordsFault;
 use report_text::Line;
 use vest_stops::{Done, Status, Stop};
 use vt_outside::{Sink, write_all};
 
-/// The status, and where the command stopped, why.
-pub(crate) fn conclude<E: Sink>(ended: Result<Done, Stop>, report: &mut E) -> Status
+/// The status, and where the command stopped, why. A run that waits is given on.
+pub(crate) fn conclude<E: Sink>(
+    ended: Result<Done, Halt>,
+    report: &mut E,
+) -> Result<Status, Waiting>
     ensures { Concludes ended result (E.meaning report.old) (E.meaning report.new) }
 {
     match ended {
-        Ok(done) => done.status(),
-        Err(stop) => refuse(&stop, report),
+        Ok(done) => Ok(done.status()),
+        Err(Halt::Stops(stop)) => Ok(refuse(&stop, report)),
+        Err(Halt::Waits(waiting)) => Err(waiting),
     }
 }
 

@@ -1,27 +1,26 @@
 // The command `generate`.
 ghost use Rattle.std.specs.Prelude.{◌≡◌, ◌≤◌, IfOk, IfErr, []};
-ghost use Rattle.command_words.specs.Commands.{DEFAULT_LIMITS};
-ghost use Rattle.image_file.specs.Whole.{IsWhole};
 ghost use Rattle.report_text.specs.Generated.{generated_image};
 ghost use Rattle.translate.specs.Translated.{IsTranslated};
 ghost use Rattle.vest_cli.specs.Generate.{Generates};
+ghost use Rattle.vest_cli.specs.Waiting.{HaltsGenerate, IsGenerated, WaitsReady};
 ghost use Rattle.vest_runs.specs.Kept.{nothing_kept};
 
-use crate::execute::{Task, execute, keep_run};
+use crate::execute::Task;
+use crate::halt::Halt;
+use crate::waiting::{Puts, Waiting, run_or_wait};
 use command_words::DEFAULT_LIMITS;
 use generated_flow::reaches_few;
 use image_file::Image;
 use report_text::{MOST_GROUPS, generated};
 use std::alloc::Global;
-use std::sync::Wait;
-use std::thread::Threads;
 use system_model::Translation;
 use translate::{Target, TranslateRefusal, translate};
 use vax_form::WantOfMemory;
 use vest_files::Loaded;
-use vest_runs::{Kept, deliver, lines_of};
-use vest_stops::{Done, Stop};
-use vt_outside::{Gate, Sink};
+use vest_runs::Kept;
+use vest_stops::Done;
+use vt_outside::Sink;
 
 // The translation of the number's image, whose flow is never refused.
 fn translated(alloc: Global, number: u32, image: &Image) -> Result<Translation, WantOfMemory>
@@ -40,12 +39,7 @@ fn translated(alloc: Global, number: u32, image: &Image) -> Result<Translation, 
 // What `generate` runs: the number's image with its translation, without input, within the default limits.
 fn task_of(alloc: Global, number: u32) -> Result<Task, WantOfMemory>
     requires { number ≤ MOST_GROUPS }
-    ensures image { IfOk result (λ task. task.loaded.image ≡ generated_image number) }
-    ensures whole { IfOk result (λ task. IsWhole task.loaded.image) }
-    ensures translated { IfOk result (λ task. IsTranslated (generated_image number) [] task.loaded.translation) }
-    ensures taken { IfOk result (λ task. task.taken.items ≡ []) }
-    ensures limits { IfOk result (λ task. task.limits ≡ DEFAULT_LIMITS) }
-    ensures ranges { IfOk result (λ task. task.ranges.items ≡ []) }
+    ensures { IfOk result (IsGenerated number) }
 {
     let image = generated(alloc, number)?;
     let translation = translated(alloc, number, &image)?;
@@ -58,29 +52,28 @@ fn task_of(alloc: Global, number: u32) -> Result<Task, WantOfMemory>
 }
 
 /// Runs the image that is generated for a number, at most 32,000, without input, within the default limits; lines on the image
-/// and on what the run left go out in the place of its output. It stops only for want of memory: then the sinks are as they were,
-/// and nothing is kept. From the first step on it takes no memory.
-pub fn generate<R: Threads + Wait + Sync, K: Sink, E: Sink, G: Gate + Sync>(
-    rt: &R,
+/// and on what the run left go out in the place of its output. An image of several threads waits for them. It stops only for want of
+/// memory: then the sinks are as they were, and nothing is kept. From the first step on it takes no memory.
+pub(crate) fn generate<K: Sink, E: Sink>(
     alloc: Global,
     number: u32,
     out: &mut K,
     report: &mut E,
-    gate: &G,
     kept: &mut Kept,
-) -> Result<Done, Stop>
+) -> Result<Done, Halt>
     requires few { number ≤ MOST_GROUPS }
     requires nothing { kept.old ≡ nothing_kept }
     ensures does { IfOk result (λ done. Generates done number (K.meaning out.old) (K.meaning out.new) (E.meaning report.old) (E.meaning report.new) kept.new) }
-    ensures why { IfErr result (λ stop. stop ≡ Stop.WantOfMemory) }
+    ensures why { IfErr result (λ halt. HaltsGenerate halt number) }
+    ensures ready { IfErr result WaitsReady }
     ensures unsent { IfErr result (λ _. K.meaning out.new ≡ K.meaning out.old) }
     ensures unsaid { IfErr result (λ _. E.meaning report.new ≡ E.meaning report.old) }
     ensures unkept { IfErr result (λ _. kept.new ≡ nothing_kept) }
 {
     let task = task_of(alloc, number)?;
-    let run = execute(rt, alloc, task, gate)?;
-    let lines = lines_of(number, &run.task.loaded.translation, &run.memory);
-    let done = deliver(lines.as_slice(), &run.processors, out, report);
-    keep_run(run, kept);
-    Ok(done)
+    let waiting = Waiting {
+        task,
+        puts: Puts::Lines(number),
+    };
+    run_or_wait(alloc, waiting, out, report, kept)
 }

@@ -10,17 +10,22 @@
 //! `specs/Run.antt` and `specs/Generate.antt` that of the two commands.
 #![tactic(auto)]
 
+mod alone;
 mod conclude;
 mod execute;
+mod explained;
 mod generating;
+mod halt;
+mod programs;
 mod running;
 mod tasks;
 mod threads;
 mod top;
+mod waiting;
 
 pub use conclude::refuse;
-pub use generating::generate;
-pub use running::run;
-pub use top::vest;
+pub use programs::{answer, program, words_of};
+pub use top::{begin, vest};
 pub use vest_runs::Kept;
 pub use vest_stops::{Status, Stop};
+pub use waiting::Waiting;

@@ -1,5 +1,5 @@
 // All threads of an image, to their ends.
-ghost use Rattle.std.specs.Prelude.{◌≡◌, map};
+ghost use Rattle.std.specs.Prelude.{◌≡◌, IfOk, map};
 ghost use Rattle.image_file.specs.Whole.{IsWhole};
 ghost use Rattle.block_law.specs.Translations.{Meets};
 ghost use Rattle.image_meaning.specs.Meant.{image_meaning};
@@ -9,9 +9,9 @@ ghost use Rattle.tie_switch.specs.Processors.{processor_of};
 ghost use Rattle.tie_switch.specs.Settings.{image_setting};
 ghost use Rattle.vest_runs.specs.Threads.{HasRun};
 
+use crate::explained::ended_is_run;
 use image_file::Image;
-use image_meaning::laws::{page_table_has_bytes, permits, vax_meaning_is_sound};
-use legal_history::laws::{images_are_runs, legal_has_headline};
+use image_meaning::laws::permits;
 use memory_core::MemState;
 use prepared_code::Prepared;
 use run_threads::Running;
@@ -41,10 +41,7 @@ pub(crate) fn run_all<R: Threads + Wait + Sync, G: Gate + Sync>(
     ensures set_up { result.0.set_up ≡ running.set_up }
     ensures ran { HasRun (image_setting image.now.pages translation.now ranges.now) (permit_of Original image.now.pages) running.set_up running.budget result.0.history (map processor_of result.1.items) }
 {
-    page_table_has_bytes(&image.pages);
-    images_are_runs(image, input);
-    vax_meaning_is_sound();
+    ended_is_run(image, input, translation, ranges);
     permits();
-    legal_has_headline();
     running.go(rt, image, translation, prepared, ranges, gate)
 }

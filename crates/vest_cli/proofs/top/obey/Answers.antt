@@ -1,13 +1,17 @@
 -- The command is the one that was read.
-use Rattle.std.proofs.Common.{IfOk, List, ap, subst}
+use Rattle.std.proofs.Common.{IfErr, IfOk, List, ap, subst}
 use Rattle.command_words.specs.Answers.{command_value}
 use Rattle.command_words.specs.Commands.{generate, list, run, translate}
 use Rattle.command_words.specs.declared.numbers.Range.{Range}
 use Rattle.vest_files.specs.Loading.{StopsAtLoad}
 use Rattle.vest_files.specs.Translate.{StopsTranslate}
+use Rattle.vest_cli.specs.Leaving.{LeavesAll}
 use Rattle.vest_cli.specs.Lent.{lent}
 use Rattle.vest_cli.specs.Run.{Runs}
-use Rattle.vest_cli.proofs.Obeying.{decided_as, does_as, generate_decided, generate_leaves, generate_stops, input_stays, list_leaves, only_generates, only_lists, only_translates, stops_as, translate_leaves}
+use Rattle.vest_cli.specs.Vest.{Does}
+use Rattle.vest_cli.specs.Waiting.{HaltsRun}
+use Rattle.vest_cli.proofs.Obeying.{decided_as, decided_so, does_as, err_so, generate_leaves, generate_why, halts_as, input_stays, list_leaves, ok_so, only_generates, only_lists, only_translates, ready_so, run_why, translate_leaves, why_so}
+use Rattle.vest_cli.proofs.Halting.{generate_decided}
 use Rattle.vest_cli.proofs.top.obey.Goals as goal
 
 pub returns-in-Run-clause-does : goal.returns-in-Run-clause-does
@@ -20,8 +24,10 @@ returns-in-Run-clause-does g c =
 
 pub returns-in-Run-clause-why : goal.returns-in-Run-clause-why
 returns-in-Run-clause-why g c =
-    stops_as c.run.result (command_value c.args.command) (run c.in-Run.name.now c.in-Run.limits c.in-Run.ranges.items)
-    (g.D.Desk.meaning c.args.desk.now) (g.D.Desk.meaning c.run.new.desk) (g.I.Source.meaning c.args.input.now) (g.I.Source.meaning c.run.new.input) (ap command_value c.in-Run.is) c.run.ensures.why
+    halts_as c.run.result (command_value c.args.command) (run c.in-Run.name.now c.in-Run.limits c.in-Run.ranges.items)
+    (g.D.Desk.meaning c.args.desk.now) (g.D.Desk.meaning c.run.new.desk) (g.I.Source.meaning c.args.input.now) (g.I.Source.meaning c.run.new.input) (ap command_value c.in-Run.is)
+    (run_why c.run.result c.in-Run.name.now c.in-Run.limits c.in-Run.ranges.items (g.D.Desk.meaning c.args.desk.now) (g.D.Desk.meaning c.run.new.desk) (g.I.Source.meaning c.args.input.now) (g.I.Source.meaning c.run.new.input)
+    (subst (λ (ranges : List Range). IfErr c.run.result (λ halt. HaltsRun halt c.in-Run.name.now c.in-Run.limits ranges (g.D.Desk.meaning c.args.desk.now) (g.D.Desk.meaning c.run.new.desk) (g.I.Source.meaning c.args.input.now) (g.I.Source.meaning c.run.new.input))) c.deref.ensures.value c.run.ensures.why))
 
 pub returns-in-Run-clause-decided : goal.returns-in-Run-clause-decided
 returns-in-Run-clause-decided g c =
@@ -30,47 +36,65 @@ returns-in-Run-clause-decided g c =
 
 pub returns-in-Translate-clause-does : goal.returns-in-Translate-clause-does
 returns-in-Translate-clause-does g c =
-    does_as c.translate_file.result (command_value c.args.command) (translate c.in-Translate.image.now c.in-Translate.to.now)
+    does_as c.or_halt.result (command_value c.args.command) (translate c.in-Translate.image.now c.in-Translate.to.now)
     (lent (g.D.Desk.meaning c.args.desk.now) (g.I.Source.meaning c.args.input.now) (g.K.Sink.meaning c.args.out.now) (g.E.Sink.meaning c.args.report.now))
     (lent (g.D.Desk.meaning c.translate_file.new.desk) (g.I.Source.meaning c.args.input.now) (g.K.Sink.meaning c.args.out.now) (g.E.Sink.meaning c.args.report.now))
     c.args.kept.now (ap command_value c.in-Translate.is)
-    (only_translates c.translate_file.result (g.I.Source.meaning c.args.input.now) (g.E.Sink.meaning c.args.report.now) c.args.kept.now c.requires.nothing c.in-Translate.image.now c.in-Translate.to.now (g.D.Desk.meaning c.args.desk.now) (g.D.Desk.meaning c.translate_file.new.desk) (g.K.Sink.meaning c.args.out.now) c.translate_file.ensures.does)
+    (ok_so c.translate_file.result c.or_halt.result c.or_halt.ensures (λ end. Does (translate c.in-Translate.image.now c.in-Translate.to.now) end (lent (g.D.Desk.meaning c.args.desk.now) (g.I.Source.meaning c.args.input.now) (g.K.Sink.meaning c.args.out.now) (g.E.Sink.meaning c.args.report.now)) (lent (g.D.Desk.meaning c.translate_file.new.desk) (g.I.Source.meaning c.args.input.now) (g.K.Sink.meaning c.args.out.now) (g.E.Sink.meaning c.args.report.now)) c.args.kept.now)
+    (only_translates c.translate_file.result (g.I.Source.meaning c.args.input.now) (g.E.Sink.meaning c.args.report.now) c.args.kept.now c.requires.nothing c.in-Translate.image.now c.in-Translate.to.now (g.D.Desk.meaning c.args.desk.now) (g.D.Desk.meaning c.translate_file.new.desk) (g.K.Sink.meaning c.args.out.now) c.translate_file.ensures.does))
 
 pub returns-in-Translate-clause-why : goal.returns-in-Translate-clause-why
 returns-in-Translate-clause-why g c =
-    stops_as c.translate_file.result (command_value c.args.command) (translate c.in-Translate.image.now c.in-Translate.to.now)
+    halts_as c.or_halt.result (command_value c.args.command) (translate c.in-Translate.image.now c.in-Translate.to.now)
     (g.D.Desk.meaning c.args.desk.now) (g.D.Desk.meaning c.translate_file.new.desk) (g.I.Source.meaning c.args.input.now) (g.I.Source.meaning c.args.input.now) (ap command_value c.in-Translate.is)
-    (input_stays c.translate_file.result (λ stop. StopsTranslate stop c.in-Translate.image.now (g.D.Desk.meaning c.args.desk.now) (g.D.Desk.meaning c.translate_file.new.desk)) (g.I.Source.meaning c.args.input.now) c.translate_file.ensures.why)
+    (why_so c.translate_file.result c.or_halt.result c.or_halt.ensures (translate c.in-Translate.image.now c.in-Translate.to.now)
+    (g.D.Desk.meaning c.args.desk.now) (g.D.Desk.meaning c.translate_file.new.desk) (g.I.Source.meaning c.args.input.now) (g.I.Source.meaning c.args.input.now)
+    (input_stays c.translate_file.result (λ stop. StopsTranslate stop c.in-Translate.image.now (g.D.Desk.meaning c.args.desk.now) (g.D.Desk.meaning c.translate_file.new.desk)) (g.I.Source.meaning c.args.input.now) c.translate_file.ensures.why))
+
+pub returns-in-Translate-clause-ready : goal.returns-in-Translate-clause-ready
+returns-in-Translate-clause-ready g c = ready_so c.translate_file.result c.or_halt.result c.or_halt.ensures
 
 pub returns-in-Translate-clause-decided : goal.returns-in-Translate-clause-decided
 returns-in-Translate-clause-decided g c =
-    decided_as c.translate_file.result (command_value c.args.command) (translate c.in-Translate.image.now c.in-Translate.to.now)
-    (g.D.Desk.meaning c.args.desk.now).files (g.I.Source.meaning c.args.input.now).left (ap command_value c.in-Translate.is) c.translate_file.ensures.decided
+    decided_as c.or_halt.result (command_value c.args.command) (translate c.in-Translate.image.now c.in-Translate.to.now)
+    (g.D.Desk.meaning c.args.desk.now).files (g.I.Source.meaning c.args.input.now).left (ap command_value c.in-Translate.is) (λ d on. decided_so c.translate_file.result c.or_halt.result c.or_halt.ensures d (c.translate_file.ensures.decided d on))
 
 pub returns-in-Translate-clause-leaves : goal.returns-in-Translate-clause-leaves
-returns-in-Translate-clause-leaves g c = translate_leaves c.translate_file.result (g.I.Source.meaning c.args.input.now) (g.E.Sink.meaning c.args.report.now) c.args.kept.now c.requires.nothing (g.D.Desk.meaning c.args.desk.now) (g.D.Desk.meaning c.translate_file.new.desk) (g.K.Sink.meaning c.args.out.now) c.translate_file.ensures.stays
+returns-in-Translate-clause-leaves g c =
+    err_so c.translate_file.result c.or_halt.result c.or_halt.ensures
+    (LeavesAll (lent (g.D.Desk.meaning c.args.desk.now) (g.I.Source.meaning c.args.input.now) (g.K.Sink.meaning c.args.out.now) (g.E.Sink.meaning c.args.report.now)) (lent (g.D.Desk.meaning c.translate_file.new.desk) (g.I.Source.meaning c.args.input.now) (g.K.Sink.meaning c.args.out.now) (g.E.Sink.meaning c.args.report.now)) c.args.kept.now)
+    (translate_leaves c.translate_file.result (g.I.Source.meaning c.args.input.now) (g.E.Sink.meaning c.args.report.now) c.args.kept.now c.requires.nothing (g.D.Desk.meaning c.args.desk.now) (g.D.Desk.meaning c.translate_file.new.desk) (g.K.Sink.meaning c.args.out.now) c.translate_file.ensures.stays)
 
 pub returns-in-List-clause-does : goal.returns-in-List-clause-does
 returns-in-List-clause-does g c =
-    does_as c.list_file.result (command_value c.args.command) (list c.in-List.name.now)
+    does_as c.or_halt-in-List.result (command_value c.args.command) (list c.in-List.name.now)
     (lent (g.D.Desk.meaning c.args.desk.now) (g.I.Source.meaning c.args.input.now) (g.K.Sink.meaning c.args.out.now) (g.E.Sink.meaning c.args.report.now))
     (lent (g.D.Desk.meaning c.list_file.new.desk) (g.I.Source.meaning c.args.input.now) (g.K.Sink.meaning c.list_file.new.out) (g.E.Sink.meaning c.args.report.now))
     c.args.kept.now (ap command_value c.in-List.is)
-    (only_lists c.list_file.result (g.I.Source.meaning c.args.input.now) (g.E.Sink.meaning c.args.report.now) c.args.kept.now c.requires.nothing c.in-List.name.now (g.D.Desk.meaning c.args.desk.now) (g.D.Desk.meaning c.list_file.new.desk) (g.K.Sink.meaning c.args.out.now) (g.K.Sink.meaning c.list_file.new.out) c.list_file.ensures.stays c.list_file.ensures.does)
+    (ok_so c.list_file.result c.or_halt-in-List.result c.or_halt-in-List.ensures (λ end. Does (list c.in-List.name.now) end (lent (g.D.Desk.meaning c.args.desk.now) (g.I.Source.meaning c.args.input.now) (g.K.Sink.meaning c.args.out.now) (g.E.Sink.meaning c.args.report.now)) (lent (g.D.Desk.meaning c.list_file.new.desk) (g.I.Source.meaning c.args.input.now) (g.K.Sink.meaning c.list_file.new.out) (g.E.Sink.meaning c.args.report.now)) c.args.kept.now)
+    (only_lists c.list_file.result (g.I.Source.meaning c.args.input.now) (g.E.Sink.meaning c.args.report.now) c.args.kept.now c.requires.nothing c.in-List.name.now (g.D.Desk.meaning c.args.desk.now) (g.D.Desk.meaning c.list_file.new.desk) (g.K.Sink.meaning c.args.out.now) (g.K.Sink.meaning c.list_file.new.out) c.list_file.ensures.stays c.list_file.ensures.does))
 
 pub returns-in-List-clause-why : goal.returns-in-List-clause-why
 returns-in-List-clause-why g c =
-    stops_as c.list_file.result (command_value c.args.command) (list c.in-List.name.now)
+    halts_as c.or_halt-in-List.result (command_value c.args.command) (list c.in-List.name.now)
     (g.D.Desk.meaning c.args.desk.now) (g.D.Desk.meaning c.list_file.new.desk) (g.I.Source.meaning c.args.input.now) (g.I.Source.meaning c.args.input.now) (ap command_value c.in-List.is)
-    (input_stays c.list_file.result (λ stop. StopsAtLoad stop c.in-List.name.now (g.D.Desk.meaning c.args.desk.now) (g.D.Desk.meaning c.list_file.new.desk)) (g.I.Source.meaning c.args.input.now) c.list_file.ensures.why)
+    (why_so c.list_file.result c.or_halt-in-List.result c.or_halt-in-List.ensures (list c.in-List.name.now)
+    (g.D.Desk.meaning c.args.desk.now) (g.D.Desk.meaning c.list_file.new.desk) (g.I.Source.meaning c.args.input.now) (g.I.Source.meaning c.args.input.now)
+    (input_stays c.list_file.result (λ stop. StopsAtLoad stop c.in-List.name.now (g.D.Desk.meaning c.args.desk.now) (g.D.Desk.meaning c.list_file.new.desk)) (g.I.Source.meaning c.args.input.now) c.list_file.ensures.why))
+
+pub returns-in-List-clause-ready : goal.returns-in-List-clause-ready
+returns-in-List-clause-ready g c = ready_so c.list_file.result c.or_halt-in-List.result c.or_halt-in-List.ensures
 
 pub returns-in-List-clause-decided : goal.returns-in-List-clause-decided
 returns-in-List-clause-decided g c =
-    decided_as c.list_file.result (command_value c.args.command) (list c.in-List.name.now)
-    (g.D.Desk.meaning c.args.desk.now).files (g.I.Source.meaning c.args.input.now).left (ap command_value c.in-List.is) c.list_file.ensures.decided
+    decided_as c.or_halt-in-List.result (command_value c.args.command) (list c.in-List.name.now)
+    (g.D.Desk.meaning c.args.desk.now).files (g.I.Source.meaning c.args.input.now).left (ap command_value c.in-List.is) (λ d on. decided_so c.list_file.result c.or_halt-in-List.result c.or_halt-in-List.ensures d (c.list_file.ensures.decided d on))
 
 pub returns-in-List-clause-leaves : goal.returns-in-List-clause-leaves
-returns-in-List-clause-leaves g c = list_leaves c.list_file.result (g.I.Source.meaning c.args.input.now) (g.E.Sink.meaning c.args.report.now) c.args.kept.now c.requires.nothing (g.D.Desk.meaning c.args.desk.now) (g.D.Desk.meaning c.list_file.new.desk) (g.K.Sink.meaning c.args.out.now) (g.K.Sink.meaning c.list_file.new.out) c.list_file.ensures.stays c.list_file.ensures.unsent
+returns-in-List-clause-leaves g c =
+    err_so c.list_file.result c.or_halt-in-List.result c.or_halt-in-List.ensures
+    (LeavesAll (lent (g.D.Desk.meaning c.args.desk.now) (g.I.Source.meaning c.args.input.now) (g.K.Sink.meaning c.args.out.now) (g.E.Sink.meaning c.args.report.now)) (lent (g.D.Desk.meaning c.list_file.new.desk) (g.I.Source.meaning c.args.input.now) (g.K.Sink.meaning c.list_file.new.out) (g.E.Sink.meaning c.args.report.now)) c.args.kept.now)
+    (list_leaves c.list_file.result (g.I.Source.meaning c.args.input.now) (g.E.Sink.meaning c.args.report.now) c.args.kept.now c.requires.nothing (g.D.Desk.meaning c.args.desk.now) (g.D.Desk.meaning c.list_file.new.desk) (g.K.Sink.meaning c.args.out.now) (g.K.Sink.meaning c.list_file.new.out) c.list_file.ensures.stays c.list_file.ensures.unsent)
 
 pub returns-in-Generate-clause-does : goal.returns-in-Generate-clause-does
 returns-in-Generate-clause-does g c =
@@ -82,14 +106,14 @@ returns-in-Generate-clause-does g c =
 
 pub returns-in-Generate-clause-why : goal.returns-in-Generate-clause-why
 returns-in-Generate-clause-why g c =
-    stops_as c.generate.result (command_value c.args.command) (generate c.in-Generate.number)
+    halts_as c.generate.result (command_value c.args.command) (generate c.in-Generate.number)
     (g.D.Desk.meaning c.args.desk.now) (g.D.Desk.meaning c.args.desk.now) (g.I.Source.meaning c.args.input.now) (g.I.Source.meaning c.args.input.now) (ap command_value c.in-Generate.is)
-    (generate_stops c.generate.result (g.D.Desk.meaning c.args.desk.now) (g.I.Source.meaning c.args.input.now) c.generate.ensures.why)
+    (generate_why c.generate.result c.in-Generate.number (g.D.Desk.meaning c.args.desk.now) (g.I.Source.meaning c.args.input.now) c.generate.ensures.why)
 
 pub returns-in-Generate-clause-decided : goal.returns-in-Generate-clause-decided
 returns-in-Generate-clause-decided g c =
     decided_as c.generate.result (command_value c.args.command) (generate c.in-Generate.number)
-    (g.D.Desk.meaning c.args.desk.now).files (g.I.Source.meaning c.args.input.now).left (ap command_value c.in-Generate.is) (generate_decided c.generate.result c.generate.ensures.why)
+    (g.D.Desk.meaning c.args.desk.now).files (g.I.Source.meaning c.args.input.now).left (ap command_value c.in-Generate.is) (generate_decided c.generate.result c.in-Generate.number c.generate.ensures.why)
 
 pub returns-in-Generate-clause-leaves : goal.returns-in-Generate-clause-leaves
 returns-in-Generate-clause-leaves g c =
