@@ -52,7 +52,7 @@ def of_tables():
 
 def examples(program):
     """How the page's examples differ from what it says that they write."""
-    lines = [line for line in section(PAGE.read_text(), "EXAMPLES").splitlines() if not line.startswith(".")]
+    lines = re.search(r"\.nf\n(.*?)\.fi\n", section(PAGE.read_text(), "EXAMPLES"), re.S)[1].splitlines()
     with tempfile.TemporaryDirectory() as room:
         os.symlink(TOP / "examples", pathlib.Path(room, "examples"))
         os.symlink(program, pathlib.Path(room, "vest"))

@@ -17,7 +17,7 @@ FUNCTION = re.compile(r"^ *pub (?:const )?fn ")
 # Files whose names the toolchain gives; and files of lemmas that stand for themselves: worked rows, and what is refused.
 GOALS = {"Answers.antt", "Invariants.antt", "Proof.antt"}
 ROWS = {"Refused.antt", "Rows.antt", "Sizes.antt", "Worked.antt"}
-# The crate whose lemmas are answers from outside, and stand for themselves too.
+# The crates whose lemmas are answers from outside, and stand for themselves too: their names end so.
 OUTSIDE = "vectors"
 
 
@@ -67,7 +67,7 @@ def main():
             cited.update(set(NAME.findall(line)))
     dead = []
     for path, text in lines.items():
-        if path.suffix != ".antt" or path.name in GOALS | ROWS or OUTSIDE in path.parts:
+        if path.suffix != ".antt" or path.name in GOALS | ROWS or any(part.endswith(OUTSIDE) for part in path.parts):
             continue
         own = collections.Counter()
         heads = {}
@@ -88,7 +88,7 @@ def main():
                 dead.append(f"{path.relative_to(ROOT)}:{number}: {name}")
     unused = []
     for crate in crates:
-        if (crate / "src" / "main.rt").exists() or crate.name == OUTSIDE:
+        if (crate / "src" / "main.rt").exists() or crate.name.endswith((OUTSIDE, "_rows")):
             continue
         others = "\n".join("\n".join(t) for p, t in lines.items() if crate not in p.parents)
         words = set(NAME.findall(others))

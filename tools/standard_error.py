@@ -28,7 +28,7 @@ RUNS = {
 
 
 def main():
-    programs = sys.argv[1:] or [CRATES / name / "out" / name for name in RUNS]
+    programs = [pathlib.Path(word).resolve() for word in sys.argv[1:]] or [CRATES / name / "out" / name for name in RUNS]
     wrong = 0
     for program, name in zip(programs, RUNS):
         for words, given, *wanted in RUNS[name]:
