@@ -1,5 +1,5 @@
 -- From a word to its instruction and back.
-use Rattle.std.proofs.Common.{◌≡◌, ℕ, ◌+◌, ◌-◌, ◌/◌, ◌%◌, ◌^◌, ◌<◌, refl, sym, ap, ◌∙◌, subst, arith, inl, inr, ⊎_elim, Option, Some, None, Bool, true, false, cond, eqb, eqb-true, leb-true}
+use Rattle.std.proofs.Common.{◌≡◌, ℕ, ◌+◌, ◌-◌, ◌/◌, ◌%◌, ◌^◌, ◌<◌, refl, sym, ap, ◌∙◌, subst, arith, inl, inr, ⊎_elim, Option, Some, None, Bool, true, false, cond, eqb, eqb-true, leb-true, ltb-true}
 use Rattle.std.specs.Prelude.{◌⊎◌, ◌≢◌, pos, negsuc, ◌<ℤ◌, ◌≤ℤ◌, nat_lt, nat_le, ◌&&◌, IfSome, IfNone}
 use Rattle.std.specs.Int.{cast_unsigned, cast_signed, w16, w32}
 use Rattle.std.specs.Option.{option_or}
@@ -11,7 +11,9 @@ use Rattle.alpha_encode.specs.declared.instr.Second.TheVariants.{Register, Liter
 use Rattle.alpha_encode.specs.declared.instr.AlphaInstr.{AlphaInstr}
 use Rattle.alpha_encode.specs.declared.instr.AlphaInstr.TheVariants.{Memory, Branch, Operate, Jump, Pal}
 use Rattle.alpha_encode.specs.Rows.{memory_at, branch_at, operate_at}
-use Rattle.alpha_encode.specs.Words.{IsEncodable, IsSecond, Spells, word_of, instr_at, second_at, second_field, with_some, with_both, jump_at, pal_at, signed_21}
+use Rattle.alpha_encode.specs.declared.instr.OperateOp.{OperateOp}
+use Rattle.alpha_encode.specs.declared.instr.OperateOp.TheVariants as row
+use Rattle.alpha_encode.specs.Words.{IsFirst, is_first, if_first, IsEncodable, IsSecond, Spells, word_of, instr_at, second_at, second_field, with_some, with_both, jump_at, pal_at, signed_21}
 use Rattle.alpha_encode.proofs.Rows.{chosen, memory_of_found, branch_of_found, operate_of_found}
 use Rattle.alpha_encode.proofs.Reread.{again}
 
@@ -74,14 +76,28 @@ second_spells n h rb e =
     (chosen (eqb (n % 16) 0) (Register (n / 16)) rb None a.1))
     (chosen (eqb (n % 2) 1) (Literal (n / 2)) rb (cond (eqb (n % 16) 0) (Some (Register (n / 16))) None) e)
 
-operate_spells : (w : ℕ) (i : AlphaInstr) → w < 2 ^ 32 → with_both (operate_at (w / 2 ^ 26) (w / 2 ^ 5 % 128)) (second_at (w / 2 ^ 12 % 512)) (λ op rb. Operate op (w / 2 ^ 21 % 32) rb (w % 32)) ≡ Some i → Spells w i
+first_of : (op : OperateOp) (ra : ℕ) → is_first op ra ≡ true → IsFirst op ra
+first_of row.Sextb ra h = eqb-true ra 31 h
+first_of row.Sextw ra h = eqb-true ra 31 h
+first_of op ra h = ltb-true ra 32 h
+
+if_first_of : (ra : ℕ) (o : Option OperateOp) (op : OperateOp) → if_first ra o ≡ Some op → (o ≡ Some op) × IsFirst op ra
+if_first_of ra None op e = cc
+if_first_of ra (Some op') op e =
+    ⊎_elim
+    (λ (a : (is_first op' ra ≡ true) × (op' ≡ op)). (ap Some a.1, subst (λ o. IsFirst o ra) a.1 (first_of op' ra a.0)))
+    (λ (a : (is_first op' ra ≡ false) × (None ≡ Some op)). let no = a.1 in cc)
+    (chosen (is_first op' ra) op' op None e)
+
+operate_spells : (w : ℕ) (i : AlphaInstr) → w < 2 ^ 32 → with_both (if_first (w / 2 ^ 21 % 32) (operate_at (w / 2 ^ 26) (w / 2 ^ 5 % 128))) (second_at (w / 2 ^ 12 % 512)) (λ op rb. Operate op (w / 2 ^ 21 % 32) rb (w % 32)) ≡ Some i → Spells w i
 operate_spells w i h e =
-    let f = with_both_of (operate_at (w / 2 ^ 26) (w / 2 ^ 5 % 128)) (second_at (w / 2 ^ 12 % 512)) (λ op rb. Operate op (w / 2 ^ 21 % 32) rb (w % 32)) i e in
-    let key = operate_of_found (w / 2 ^ 26) (w / 2 ^ 5 % 128) f.0 f.2 in
+    let f = with_both_of (if_first (w / 2 ^ 21 % 32) (operate_at (w / 2 ^ 26) (w / 2 ^ 5 % 128))) (second_at (w / 2 ^ 12 % 512)) (λ op rb. Operate op (w / 2 ^ 21 % 32) rb (w % 32)) i e in
+    let first = if_first_of (w / 2 ^ 21 % 32) (operate_at (w / 2 ^ 26) (w / 2 ^ 5 % 128)) f.0 f.2 in
+    let key = operate_of_found (w / 2 ^ 26) (w / 2 ^ 5 % 128) f.0 first.0 in
     let opcode = key.0 in let function = key.1 in
     let second = second_spells (w / 2 ^ 12 % 512) (omega arith) f.1 f.3 in
     let field = second.1 in
-    subst (Spells w) f.4 ((omega arith, second.0, omega arith), omega arith)
+    subst (Spells w) f.4 ((first.1, second.0, omega arith), omega arith)
 
 jump_spells : (w : ℕ) (i : AlphaInstr) → w < 2 ^ 32 → jump_at w ≡ Some i → Spells w i
 jump_spells w i h e =

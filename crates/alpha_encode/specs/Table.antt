@@ -2,18 +2,22 @@
 -- Alpha Architecture Reference Manual, appendix "Instruction Summary".
 use Rattle.std.specs.Prelude.{ℕ, ◌+◌, ◌*◌, ◌^◌, List, [], ◌∷◌}
 use Rattle.alpha_encode.specs.declared.instr.MemoryOp.{MemoryOp}
-use Rattle.alpha_encode.specs.declared.instr.MemoryOp.TheVariants.{Lda, Ldah, LdqU, Ldl, Ldq, LdlL, LdqL, Stl, Stq, StlC, StqC}
+use Rattle.alpha_encode.specs.declared.instr.MemoryOp.TheVariants.{Lda, Ldah, Ldbu, LdqU, Ldwu, Stw, Stb, Ldl, Ldq, LdlL, LdqL, Stl, Stq, StlC, StqC}
 use Rattle.alpha_encode.specs.declared.instr.BranchOp.{BranchOp}
 use Rattle.alpha_encode.specs.declared.instr.BranchOp.TheVariants.{Br, Bsr, Blbc, Beq, Blt, Ble, Blbs, Bne, Bge, Bgt}
 use Rattle.alpha_encode.specs.declared.instr.OperateOp.{OperateOp}
-use Rattle.alpha_encode.specs.declared.instr.OperateOp.TheVariants.{Addl, Subl, Cmpult, Addq, S4addq, Subq, Cmpeq, S8addq, Cmpule, Cmplt, Cmple, And, Bic, Bis, Cmoveq, Cmovne, Ornot, Xor, Eqv, Mskbl, Extbl, Insbl, Mskwl, Extwl, Inswl, Mskll, Extll, Insll, Zap, Zapnot, Mskql, Srl, Extql, Sll, Insql, Sra, Mskwh, Inswh, Extwh, Msklh, Inslh, Extlh, Mskqh, Insqh, Extqh, Mull, Mulq, Umulh}
+use Rattle.alpha_encode.specs.declared.instr.OperateOp.TheVariants.{Addl, Subl, Cmpult, Addq, S4addq, Subq, Cmpeq, S8addq, Cmpule, Cmplt, Cmple, And, Bic, Bis, Cmoveq, Cmovne, Ornot, Xor, Eqv, Mskbl, Extbl, Insbl, Mskwl, Extwl, Inswl, Mskll, Extll, Insll, Zap, Zapnot, Mskql, Srl, Extql, Sll, Insql, Sra, Mskwh, Inswh, Extwh, Msklh, Inslh, Extlh, Mskqh, Insqh, Extqh, Mull, Mulq, Umulh, Sextb, Sextw}
 
 -- memory format: the opcode
 abbrev pub memory_rows : List (ℕ × MemoryOp)
 memory_rows =
     (0x08, Lda)
     ∷ (0x09, Ldah)
+    ∷ (0x0a, Ldbu)
     ∷ (0x0b, LdqU)
+    ∷ (0x0c, Ldwu)
+    ∷ (0x0d, Stw)
+    ∷ (0x0e, Stb)
     ∷ (0x28, Ldl)
     ∷ (0x29, Ldq)
     ∷ (0x2a, LdlL)
@@ -93,4 +97,6 @@ operate_rows =
     ∷ operate 0x13 0x00 Mull
     ∷ operate 0x13 0x20 Mulq
     ∷ operate 0x13 0x30 Umulh
+    ∷ operate 0x1c 0x00 Sextb
+    ∷ operate 0x1c 0x01 Sextw
     ∷ []

@@ -1,8 +1,10 @@
 -- The words of Alpha instructions.
 -- Alpha Architecture Reference Manual, chapter "Instruction Formats": bit 31 is the highest.
-use Rattle.std.specs.Prelude.{ℕ, ℤ, pos, negsuc, ◌≡◌, ◌+◌, ◌-◌, ◌*◌, ◌/◌, ◌%◌, ◌^◌, ◌<◌, ◌≤◌, ◌<ℤ◌, ◌≤ℤ◌, ◌==◌, nat_lt, nat_le, Option, Some, None, if◌then◌else◌, ◌&&◌, FitsSigned}
+use Rattle.std.specs.Prelude.{ℕ, ℤ, Bool, pos, negsuc, ◌≡◌, ◌+◌, ◌-◌, ◌*◌, ◌/◌, ◌%◌, ◌^◌, ◌<◌, ◌≤◌, ◌<ℤ◌, ◌≤ℤ◌, ◌==◌, nat_lt, nat_le, Option, Some, None, if◌then◌else◌, ◌&&◌, FitsSigned}
 use Rattle.std.specs.Int.{cast_unsigned, cast_signed, w16, w32}
 use Rattle.std.specs.Option.{option_or}
+use Rattle.alpha_encode.specs.declared.instr.OperateOp.{OperateOp}
+use Rattle.alpha_encode.specs.declared.instr.OperateOp.TheVariants as row
 use Rattle.alpha_encode.specs.declared.instr.Second.{Second}
 use Rattle.alpha_encode.specs.declared.instr.Second.TheVariants.{Register, Literal}
 use Rattle.alpha_encode.specs.declared.instr.AlphaInstr.{AlphaInstr}
@@ -35,12 +37,23 @@ abbrev pub IsSecond : Second → Type 0
 IsSecond (Register r) = r < 32
 IsSecond (Literal n) = n < 256
 
+-- Ra of the operate format: a register, and R31 where the instruction has one operand, Rb.
+abbrev pub is_first : OperateOp → ℕ → Bool
+is_first row.Sextb ra = ra == 31
+is_first row.Sextw ra = ra == 31
+is_first op ra = nat_lt ra 32
+
+abbrev pub IsFirst : OperateOp → ℕ → Type 0
+IsFirst row.Sextb ra = ra ≡ 31
+IsFirst row.Sextw ra = ra ≡ 31
+IsFirst op ra = ra < 32
+
 -- The instructions that have a word: numbers fit their fields, displacements are signed.
 -- The PALcode entries in use are 80 to 86.
 abbrev pub IsEncodable : AlphaInstr → Type 0
 IsEncodable (Memory op ra rb disp) = (ra < 32) × (rb < 32) × FitsSigned w16 disp
 IsEncodable (Branch op ra disp) = (ra < 32) × (negsuc (2 ^ 20 - 1) ≤ℤ disp) × (disp <ℤ pos (2 ^ 20))
-IsEncodable (Operate op ra rb rc) = (ra < 32) × IsSecond rb × (rc < 32)
+IsEncodable (Operate op ra rb rc) = IsFirst op ra × IsSecond rb × (rc < 32)
 IsEncodable (Jump ra rb) = (ra < 32) × (rb < 32)
 IsEncodable (Pal n) = (PROBE ≤ n) × (n ≤ SWITCH)
 
@@ -68,6 +81,11 @@ with_both None b f = None
 with_both (Some a) None f = None
 with_both (Some a) (Some b) f = Some (f a b)
 
+-- where Ra is one that the instruction may have
+abbrev pub if_first : (ra : ℕ) → Option OperateOp → Option OperateOp
+if_first ra None = None
+if_first ra (Some op) = if is_first op ra then Some op else None
+
 -- JMP, and the PALcode entries
 abbrev pub jump_at : ℕ → Option AlphaInstr
 jump_at word = if word / 2 ^ 26 == 0x1a && word % 2 ^ 16 == 0 then Some (Jump (word / 2 ^ 21 % 2 ^ 5) (word / 2 ^ 16 % 2 ^ 5)) else None
@@ -83,5 +101,5 @@ instr_at word =
     let rb = word / 2 ^ 16 % 2 ^ 5 in
     option_or (with_some (memory_at opcode) (λ op. Memory op ra rb (cast_signed w16 (word % 2 ^ 16))))
     (option_or (with_some (branch_at opcode) (λ op. Branch op ra (signed_21 (word % 2 ^ 21))))
-    (option_or (with_both (operate_at opcode (word / 2 ^ 5 % 2 ^ 7)) (second_at (word / 2 ^ 12 % 2 ^ 9)) (λ op rb. Operate op ra rb (word % 2 ^ 5)))
+    (option_or (with_both (if_first ra (operate_at opcode (word / 2 ^ 5 % 2 ^ 7))) (second_at (word / 2 ^ 12 % 2 ^ 9)) (λ op rb. Operate op ra rb (word % 2 ^ 5)))
     (option_or (jump_at word) (pal_at word))))

@@ -1,9 +1,11 @@
 // From a word to its instruction.
 ghost use Rattle.std.specs.Prelude.{◌≡◌, ◌^◌, ◌<◌, ◌≢◌, IfSome, IfNone};
-ghost use Rattle.alpha_encode.specs.Words.{second_at, instr_at, signed_21, IsEncodable, word_of, Spells};
+ghost use Rattle.alpha_encode.specs.Rows.{operate_at};
+ghost use Rattle.alpha_encode.specs.Words.{second_at, is_first, if_first, instr_at, signed_21, IsEncodable, word_of, Spells};
 
-use crate::instr::{AlphaInstr, Second};
+use crate::instr::{AlphaInstr, OperateOp, Second};
 use crate::pal;
+use crate::registers::ZERO;
 use crate::tables::{branch_op, memory_op, operate_op};
 
 fn second(field: u32) -> Option<Second>
@@ -16,6 +18,28 @@ fn second(field: u32) -> Option<Second>
         Some(Second::Register((field / (1 << 4)) as u8))
     } else {
         None
+    }
+}
+
+/// Whether Ra may be that register: an instruction with one operand has R31 there.
+fn is_first(op: OperateOp, ra: u8) -> bool
+    ensures { result ≡ is_first op ra }
+{
+    match op {
+        OperateOp::Sextb | OperateOp::Sextw => ra == ZERO,
+        _ => ra <= ZERO,
+    }
+}
+
+/// The operate instruction of the codes, where Ra may be that register.
+fn operate_with(ra: u8, opcode: u32, function: u32) -> Option<OperateOp>
+    requires opcode { opcode < 2 ^ 6 }
+    requires function { function < 2 ^ 7 }
+    ensures { result ≡ if_first ra (operate_at opcode function) }
+{
+    match operate_op(opcode, function) {
+        Some(op) if is_first(op, ra) => Some(op),
+        _ => None,
     }
 }
 
@@ -45,7 +69,7 @@ fn read(word: u32) -> Option<AlphaInstr>
         let disp = signed_21(word % (1 << 21));
         return Some(AlphaInstr::Branch { op, ra, disp });
     }
-    if let Some(op) = operate_op(opcode, word / (1 << 5) % (1 << 7)) {
+    if let Some(op) = operate_with(ra, opcode, word / (1 << 5) % (1 << 7)) {
         if let Some(rb) = second(word / (1 << 12) % (1 << 9)) {
             let rc = (word % (1 << 5)) as u8;
             return Some(AlphaInstr::Operate { op, ra, rb, rc });

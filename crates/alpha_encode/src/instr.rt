@@ -8,7 +8,11 @@
 pub enum MemoryOp {
     Lda = 0x08,
     Ldah = 0x09,
+    Ldbu = 0x0a,
     LdqU = 0x0b,
+    Ldwu = 0x0c,
+    Stw = 0x0d,
+    Stb = 0x0e,
     Ldl = 0x28,
     Ldq = 0x29,
     LdlL = 0x2a,
@@ -21,7 +25,7 @@ pub enum MemoryOp {
 
 macro_rules! memory_rows {
     ($($want:tt)*) => {
-        rows!($($want)*; MemoryOp; Lda Ldah LdqU Ldl Ldq LdlL LdqL Stl Stq StlC StqC)
+        rows!($($want)*; MemoryOp; Lda Ldah Ldbu LdqU Ldwu Stw Stb Ldl Ldq LdlL LdqL Stl Stq StlC StqC)
     };
 }
 
@@ -97,6 +101,8 @@ pub enum OperateOp {
     Mull = 0x1300,
     Mulq = 0x1320,
     Umulh = 0x1330,
+    Sextb = 0x1c00,
+    Sextw = 0x1c01,
 }
 
 macro_rules! operate_rows {
@@ -106,7 +112,8 @@ macro_rules! operate_rows {
             And Bic Bis Cmoveq Cmovne Ornot Xor Eqv
             Mskbl Extbl Insbl Mskwl Extwl Inswl Mskll Extll Insll Zap Zapnot Mskql Srl Extql Sll
             Insql Sra Mskwh Inswh Extwh Msklh Inslh Extlh Mskqh Insqh Extqh
-            Mull Mulq Umulh)
+            Mull Mulq Umulh
+            Sextb Sextw)
     };
 }
 

@@ -4,7 +4,7 @@ use Rattle.vt_words.specs.Quad.{IsCount, one, two, four, eight}
 use Rattle.alpha_encode.specs.declared.instr.AlphaInstr.{AlphaInstr}
 use Rattle.alpha_encode.specs.declared.instr.AlphaInstr.TheVariants.{Memory, Branch, Operate, Jump, Pal}
 use Rattle.alpha_encode.specs.declared.instr.MemoryOp.{MemoryOp}
-use Rattle.alpha_encode.specs.declared.instr.MemoryOp.TheVariants.{Lda, Ldah, Ldl, LdqU, Ldq, LdlL, LdqL, Stl, Stq, StlC, StqC}
+use Rattle.alpha_encode.specs.declared.instr.MemoryOp.TheVariants.{Lda, Ldah, Ldbu, Ldwu, Stb, Stw, Ldl, LdqU, Ldq, LdlL, LdqL, Stl, Stq, StlC, StqC}
 use Rattle.alpha_meaning.specs.declared.access.AlphaAccess.{AlphaAccess}
 use Rattle.alpha_meaning.specs.declared.access.AlphaKind.{AlphaKind}
 use Rattle.alpha_meaning.specs.Act.{Asks, act, memory_act_by}
@@ -13,6 +13,10 @@ use Rattle.alpha_meaning.specs.State.{Alpha}
 
 -- an access has 1, 2, 4 or 8 bytes
 pub bytes_count : (op : MemoryOp) → IsCount (bytes_of op)
+bytes_count Ldbu = one
+bytes_count Stb = one
+bytes_count Ldwu = two
+bytes_count Stw = two
 bytes_count Ldl = four
 bytes_count LdlL = four
 bytes_count Stl = four

@@ -16,11 +16,15 @@ use Rattle.alpha_meaning.specs.Result.{plus, times}
 abbrev pub kind_of : MemoryOp → Option AlphaKind
 kind_of row.Lda = None  -- Load Address
 kind_of row.Ldah = None
+kind_of row.Ldbu = Some Load  -- Load Zero-Extended Byte from Memory to Register
+kind_of row.Ldwu = Some Load
 kind_of row.LdqU = Some Load  -- Load Quadword Unaligned
 kind_of row.Ldl = Some Load  -- Load Memory Data into Integer Register
 kind_of row.Ldq = Some Load
 kind_of row.LdlL = Some LoadLocked  -- Load Memory Data into Integer Register Locked
 kind_of row.LdqL = Some LoadLocked
+kind_of row.Stb = Some Store  -- Store Low Byte from Register to Memory
+kind_of row.Stw = Some Store
 kind_of row.Stl = Some Store  -- Store Integer Register Data into Memory
 kind_of row.Stq = Some Store
 kind_of row.StlC = Some StoreConditional  -- Store Integer Register Data into Memory Conditional
@@ -28,6 +32,10 @@ kind_of row.StqC = Some StoreConditional
 
 -- the number of bytes of the access, and what its address is a multiple of: accesses are naturally aligned
 abbrev pub bytes_of : MemoryOp → ℕ
+bytes_of row.Ldbu = 1
+bytes_of row.Stb = 1
+bytes_of row.Ldwu = 2
+bytes_of row.Stw = 2
 bytes_of row.Ldl = 4
 bytes_of row.LdlL = 4
 bytes_of row.Stl = 4

@@ -98,3 +98,6 @@ result_of row.Mskqh a b held = msk_high 0xff a b
 -- 4.6 Zero Bytes
 result_of row.Zap a b held = cleared (b % 2 ^ 8) a
 result_of row.Zapnot a b held = kept (b % 2 ^ 8) a
+-- Sign Extend, of the byte-word extension
+result_of row.Sextb a b held = sign_extended b 8
+result_of row.Sextw a b held = sign_extended b 16

@@ -13,9 +13,11 @@ pub fn kind_of(op: MemoryOp) -> Option<AlphaKind>
 {
     match op {
         MemoryOp::Lda | MemoryOp::Ldah => None,
-        MemoryOp::LdqU | MemoryOp::Ldl | MemoryOp::Ldq => Some(AlphaKind::Load),
+        MemoryOp::Ldbu | MemoryOp::Ldwu | MemoryOp::LdqU | MemoryOp::Ldl | MemoryOp::Ldq => {
+            Some(AlphaKind::Load)
+        }
         MemoryOp::LdlL | MemoryOp::LdqL => Some(AlphaKind::LoadLocked),
-        MemoryOp::Stl | MemoryOp::Stq => Some(AlphaKind::Store),
+        MemoryOp::Stb | MemoryOp::Stw | MemoryOp::Stl | MemoryOp::Stq => Some(AlphaKind::Store),
         MemoryOp::StlC | MemoryOp::StqC => Some(AlphaKind::StoreConditional),
     }
 }
@@ -26,6 +28,8 @@ pub fn bytes_of(op: MemoryOp) -> u8
     ensures count { IsCount result }
 {
     match op {
+        MemoryOp::Ldbu | MemoryOp::Stb => 1,
+        MemoryOp::Ldwu | MemoryOp::Stw => 2,
         MemoryOp::Ldl | MemoryOp::LdlL | MemoryOp::Stl | MemoryOp::StlC => 4,
         MemoryOp::Lda
         | MemoryOp::Ldah

@@ -73,5 +73,7 @@ pub fn result(op: OperateOp, a: u64, b: u64, held: u64) -> u64
         OperateOp::Mskqh => mask_high(0xff, a, b),
         OperateOp::Zap => cleared((b % 256) as u8, a),
         OperateOp::Zapnot => kept((b % 256) as u8, a),
+        OperateOp::Sextb => sign_extend(b, 8),
+        OperateOp::Sextw => sign_extend(b, 16),
     }
 }

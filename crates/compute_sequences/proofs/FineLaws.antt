@@ -4,6 +4,7 @@ use Rattle.std.specs.Prelude.{◌||◌, nat_lt, if◌then◌else◌}
 use Rattle.alpha_meaning.proofs.Registers.{eqb_self}
 use Rattle.vax_form.specs.declared.instr.Size.{Size}
 use Rattle.vax_form.specs.declared.instr.Size.TheVariants.{Byte, Word, Long, Quad}
+use Rattle.alpha_encode.specs.Words.{IsFirst}
 use Rattle.alpha_encode.specs.declared.instr.OperateOp.{OperateOp}
 use Rattle.alpha_encode.specs.declared.instr.OperateOp.TheVariants as row
 use Rattle.alpha_encode.specs.declared.instr.Second.TheVariants.{Register, Literal}
@@ -20,10 +21,10 @@ use Rattle.compute_sequences.proofs.Straight.{Fine, Each, each_append}
 use Rattle.compute_sequences.proofs.ConstantLaws.{constant_fine, constant_length}
 
 module _ (may : ℕ → Bool) where
-  pub fine_two : (op : OperateOp) (ra rb rc : ℕ) → ra < 32 → rb < 32 → rc < 32 → may rc ≡ true → Fine may (Operate op ra (Register rb) rc)
+  pub fine_two : (op : OperateOp) (ra rb rc : ℕ) → IsFirst op ra → rb < 32 → rc < 32 → may rc ≡ true → Fine may (Operate op ra (Register rb) rc)
   fine_two op ra rb rc a b c m = record { local = refl; target = m; encodable = (a, b, c) }
 
-  pub fine_by : (op : OperateOp) (ra literal rc : ℕ) → ra < 32 → literal < 256 → rc < 32 → may rc ≡ true → Fine may (Operate op ra (Literal literal) rc)
+  pub fine_by : (op : OperateOp) (ra literal rc : ℕ) → IsFirst op ra → literal < 256 → rc < 32 → may rc ≡ true → Fine may (Operate op ra (Literal literal) rc)
   fine_by op ra literal rc a b c m = record { local = refl; target = m; encodable = (a, b, c) }
 
   pub fine_narrow : (size : Size) (from to : ℕ) → from < 32 → to < 32 → may to ≡ true → Fine may (narrow size from to)
@@ -60,13 +61,13 @@ module _ (may : ℕ → Bool) where
   load_fine size (arguments.Const value) to is c m = constant_fine may to c m value size
 
   module _ (x y free other to : ℕ) (x_fits : x < 32) (y_fits : y < 32) (free_fits : free < 32) (other_fits : other < 32) (to_fits : to < 32) (may_free : may free ≡ true) (may_other : may other ≡ true) (may_to : may to ≡ true) where
-    lowered_fine : (op : OperateOp) (size : Size) → Each (Fine may) (lowered op size x y to)
-    lowered_fine op Quad = (fine_two op x y to x_fits y_fits to_fits may_to, tt)
-    lowered_fine op size = (fine_two op x y to x_fits y_fits to_fits may_to, (fine_narrow size to to to_fits to_fits may_to, tt))
+    lowered_fine : (op : OperateOp) → IsFirst op x → (size : Size) → Each (Fine may) (lowered op size x y to)
+    lowered_fine op first Quad = (fine_two op x y to first y_fits to_fits may_to, tt)
+    lowered_fine op first size = (fine_two op x y to first y_fits to_fits may_to, (fine_narrow size to to to_fits to_fits may_to, tt))
 
-    compared_fine : (op : OperateOp) (size : Size) → Each (Fine may) (compared op size x y free other to)
-    compared_fine op Quad = (fine_two op x y to x_fits y_fits to_fits may_to, tt)
-    compared_fine op size = (fine_raise size x free x_fits free_fits may_free, (fine_raise size y other y_fits other_fits may_other, (fine_two op free other to free_fits other_fits to_fits may_to, tt)))
+    compared_fine : (op : OperateOp) → IsFirst op x → IsFirst op free → (size : Size) → Each (Fine may) (compared op size x y free other to)
+    compared_fine op first raised Quad = (fine_two op x y to first y_fits to_fits may_to, tt)
+    compared_fine op first raised size = (fine_raise size x free x_fits free_fits may_free, (fine_raise size y other y_fits other_fits may_other, (fine_two op free other to raised other_fits to_fits may_to, tt)))
 
     counted_fine : (size : Size) (bound : ℕ) → bound < 256 → Each (Fine may) (counted size bound y other)
     counted_fine Quad bound lt = (fine_by row.Cmpult y bound other y_fits lt other_fits may_other, tt)
@@ -164,19 +165,19 @@ module _ (to y : ℕ) (is : IsTarget to) where
       by false = to_fits
 
   pub binary_fine : (op : MicroOp) (size : Size) (x : ℕ) → x < 32 → y < 32 → Each (Fine (may_change to)) (binary_code op size x y to)
-  binary_fine Add size x a b = lowered_fine (may_change to) x y free other to a b free_fits other_fits to_fits free_may other_may to_may row.Addq size
-  binary_fine Sub size x a b = lowered_fine (may_change to) x y free other to a b free_fits other_fits to_fits free_may other_may to_may row.Subq size
-  binary_fine Mul size x a b = lowered_fine (may_change to) x y free other to a b free_fits other_fits to_fits free_may other_may to_may row.Mulq size
-  binary_fine And size x a b = lowered_fine (may_change to) x y free other to a b free_fits other_fits to_fits free_may other_may to_may row.And size
-  binary_fine Or size x a b = lowered_fine (may_change to) x y free other to a b free_fits other_fits to_fits free_may other_may to_may row.Bis size
-  binary_fine Xor size x a b = lowered_fine (may_change to) x y free other to a b free_fits other_fits to_fits free_may other_may to_may row.Xor size
-  binary_fine AndNot size x a b = lowered_fine (may_change to) x y free other to a b free_fits other_fits to_fits free_may other_may to_may row.Bic size
+  binary_fine Add size x a b = lowered_fine (may_change to) x y free other to a b free_fits other_fits to_fits free_may other_may to_may row.Addq a size
+  binary_fine Sub size x a b = lowered_fine (may_change to) x y free other to a b free_fits other_fits to_fits free_may other_may to_may row.Subq a size
+  binary_fine Mul size x a b = lowered_fine (may_change to) x y free other to a b free_fits other_fits to_fits free_may other_may to_may row.Mulq a size
+  binary_fine And size x a b = lowered_fine (may_change to) x y free other to a b free_fits other_fits to_fits free_may other_may to_may row.And a size
+  binary_fine Or size x a b = lowered_fine (may_change to) x y free other to a b free_fits other_fits to_fits free_may other_may to_may row.Bis a size
+  binary_fine Xor size x a b = lowered_fine (may_change to) x y free other to a b free_fits other_fits to_fits free_may other_may to_may row.Xor a size
+  binary_fine AndNot size x a b = lowered_fine (may_change to) x y free other to a b free_fits other_fits to_fits free_may other_may to_may row.Bic a size
   binary_fine ShiftLeft size x a b = left_fine (may_change to) x y free other to a b free_fits other_fits to_fits free_may other_may to_may size
   binary_fine ShiftRight size x a b = right_fine (may_change to) x y free other to a b free_fits other_fits to_fits free_may other_may to_may size
   binary_fine ShiftSigned size x a b = signed_fine (may_change to) x y free other to a b free_fits other_fits to_fits free_may other_may to_may size
-  binary_fine Equal size x a b = compared_fine (may_change to) x y free other to a b free_fits other_fits to_fits free_may other_may to_may row.Cmpeq size
-  binary_fine Less size x a b = compared_fine (may_change to) x y free other to a b free_fits other_fits to_fits free_may other_may to_may row.Cmplt size
-  binary_fine LessUnsigned size x a b = compared_fine (may_change to) x y free other to a b free_fits other_fits to_fits free_may other_may to_may row.Cmpult size
+  binary_fine Equal size x a b = compared_fine (may_change to) x y free other to a b free_fits other_fits to_fits free_may other_may to_may row.Cmpeq a free_fits size
+  binary_fine Less size x a b = compared_fine (may_change to) x y free other to a b free_fits other_fits to_fits free_may other_may to_may row.Cmplt a free_fits size
+  binary_fine LessUnsigned size x a b = compared_fine (may_change to) x y free other to a b free_fits other_fits to_fits free_may other_may to_may row.Cmpult a free_fits size
   binary_fine MulHigh size x a b = high_fine (may_change to) x y free other to a b free_fits other_fits to_fits free_may other_may to_may size
   binary_fine op size x a b = tt
 

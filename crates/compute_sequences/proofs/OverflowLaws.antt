@@ -8,6 +8,7 @@ use Rattle.vax_form.specs.declared.instr.Width.{Width}
 use Rattle.vax_form.specs.declared.instr.Width.TheVariants.{Byte, Word, Long}
 use Rattle.vt_words.specs.Values.{bit}
 use Rattle.vt_words.specs.Quad.{sign_extended}
+use Rattle.alpha_encode.specs.Words.{IsFirst}
 use Rattle.alpha_encode.specs.declared.instr.AlphaInstr.{AlphaInstr}
 use Rattle.alpha_encode.specs.declared.instr.AlphaInstr.TheVariants.{Operate}
 use Rattle.alpha_encode.specs.declared.instr.OperateOp.TheVariants as row
@@ -127,6 +128,10 @@ module _ (arithmetic : Arithmetic) (x y to : ℕ) (is : IsTarget to) (stays : eq
   pub overflow_left : (width : Width) → IsOverflow arithmetic width x y f (afters (overflow_code arithmetic width x y to) f to)
   overflow_left width = ap (λ (g : Regs). g to) (parts_are width) ∙ (whole_is width ∙ overflow_value width)
 
+scratch_first : (arithmetic : Arithmetic) → IsFirst (quad_operation arithmetic) 27
+scratch_first Sum = lit< tt
+scratch_first Difference = lit< tt
+
 pub overflow_fine : (arithmetic : Arithmetic) (width : Width) (x y to : ℕ) → IsTarget to → x < 32 → y < 32 → Each (Fine (may_change to)) (overflow_code arithmetic width x y to)
 overflow_fine arithmetic width x y to is x_fits y_fits =
     let size = size_of width in
@@ -136,7 +141,7 @@ overflow_fine arithmetic width x y to is x_fits y_fits =
     let scratch = scratch_may to 0 is in
     each_append (Fine may) (extend size x 27) _ (extend_fine may size x 27 x_fits (lit< tt) scratch)
     (each_append (Fine may) (extend size y to) _ (extend_fine may size y to y_fits fits to_may) (
-      fine_two may (quad_operation arithmetic) 27 to to (lit< tt) fits fits to_may,
+      fine_two may (quad_operation arithmetic) 27 to to (scratch_first arithmetic) fits fits to_may,
       each_append (Fine may) (extend size to 27) (Operate row.Cmpeq 27 (Register to) to ∷ Operate row.Xor to (Literal 1) to ∷ []) (extend_fine may size to 27 fits (lit< tt) scratch) (
         fine_two may row.Cmpeq 27 to to (lit< tt) fits fits to_may,
         (fine_by may row.Xor to 1 to fits (lit< tt) fits to_may, tt),
