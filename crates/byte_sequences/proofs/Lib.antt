@@ -1,6 +1,7 @@
 pub mod Operands
 pub mod ReadLaws
 pub mod WriteLaws
+pub mod ByteWordLaws
 pub mod LockLaws
 pub mod Encoded
 mod Refused

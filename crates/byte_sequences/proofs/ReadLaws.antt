@@ -25,7 +25,7 @@ use Rattle.alpha_meaning.proofs.Rows.{count_some}
 use Rattle.byte_sequences.specs.Instructions.{IsArgument, is_scratch, is_scratch_or}
 use Rattle.byte_sequences.specs.Words.{extract_low, extract_high, byte_read, read_test, tested_read, unaligned_read, read_code}
 use Rattle.byte_sequences.specs.Plans.{quad_of_part, read_plan}
-use Rattle.byte_sequences.specs.Promises.{Holds, ReadsPlan}
+use Rattle.byte_sequences.specs.Promises.{Holds, ReadsPlan, loaded_bytes}
 use Rattle.byte_sequences.proofs.Operands.{other, lies_within, next_of, parts_by, is_across, test_same, byte_within, disp_is, next_quad, of_parts, crossing_is}
 
 low_is : {c : ℕ} → IsCount c → (a b held : ℕ) → result_of (extract_low c) a b held ≡ ext_low (2 ^ c - 1) a b
@@ -63,16 +63,13 @@ module _ (fetch : Fetch) (terms : Terms) (pc : ℕ) (f : Regs) (place to : ℕ) 
       done p (Holds f to 1) most (at_place (byte_to (field_of b (plus (f place) 0 / 8 * 8 % 8) 8)) (pc + 1 + 1)) _ (omega arith)
       (record { holds = byte_value b x lt (loaded_whole b (plus (f place) 0 / 8 * 8) lt (omega arith)); fits = omega arith; only = byte_only x })))
 
--- ---- any size
-module _ (fetch : Fetch) (terms : Terms) (pc : ℕ) (f : Regs) (place c to : ℕ) (is_count : IsCount c) (a_place : IsArgument place) (a_to : IsArgument to) (low : pc + 9 ≤ 2 ^ 23) (fits : f place < 2 ^ 32) (within : f place + c ≤ 2 ^ 32)
-    (pages : All (λ part. terms.allowed false (quad_of_part part) ≡ true) (parts_by (lies_within (f place) c) (f place) c)) (kind : terms.kinds Load 8 ≡ true) (has : HasAt fetch pc (unaligned_read place c to)) where
-  abbrev whole : Piece
-  whole = piece fetch terms pc (pc + 9)
+-- ---- any size, in any piece that ends behind it
+module _ (whole : Piece) (pc : ℕ) (f : Regs) (place c to : ℕ) (is_count : IsCount c) (a_place : IsArgument place) (a_to : IsArgument to) (low : whole.to ≤ 2 ^ 23) (in_from : whole.from ≤ pc) (in_to : pc + 9 ≡ whole.to) (fits : f place < 2 ^ 32) (within : f place + c ≤ 2 ^ 32)
+    (pages : All (λ part. whole.terms.allowed false (quad_of_part part) ≡ true) (parts_by (lies_within (f place) c) (f place) c)) (kind : whole.terms.kinds Load 8 ≡ true) (has : HasAt whole.fetch pc (unaligned_read place c to)) where
+  pages_of : (b : Bool) → lies_within (f place) c ≡ b → All (λ part. whole.terms.allowed false (quad_of_part part) ≡ true) (parts_by b (f place) c)
+  pages_of b e = subst (λ b. All (λ part. whole.terms.allowed false (quad_of_part part) ≡ true) (parts_by b (f place) c)) e pages
 
-  pages_of : (b : Bool) → lies_within (f place) c ≡ b → All (λ part. terms.allowed false (quad_of_part part) ≡ true) (parts_by b (f place) c)
-  pages_of b e = subst (λ b. All (λ part. terms.allowed false (quad_of_part part) ≡ true) (parts_by b (f place) c)) e pages
-
-  may_first : (b : Bool) → lies_within (f place) c ≡ b → terms.allowed false (f place / 8 * 8) ≡ true
+  may_first : (b : Bool) → lies_within (f place) c ≡ b → whole.terms.allowed false (f place / 8 * 8) ≡ true
   may_first true e = pages_of true e 0 (0, 0) (lit< tt)
   may_first false e = pages_of false e 0 (0, 0) (lit< tt)
 
@@ -116,13 +113,13 @@ module _ (fetch : Fetch) (terms : Terms) (pc : ℕ) (f : Regs) (place c to : ℕ
   abbrev moved : Regs → Regs
   moved g = effects (Operate Bis 25 (Literal 0) to ∷ []) g
 
-  has_behind : HasAt fetch (pc + 2) (tested_read place c to)
-  has_behind = has_back fetch pc (read_test place c) (tested_read place c to) has
+  has_behind : HasAt whole.fetch (pc + 2) (tested_read place c to)
+  has_behind = has_back whole.fetch pc (read_test place c) (tested_read place c to) has
 
   leave : (most : ℕ) (g : Regs) (v : ℕ) → v < 2 ^ (8 * c) → Only (is_scratch_or to) f g → g 25 ≡ v → Always whole (Holds f to c) most 1 Plain (at_place g (pc + 8)) (Over v)
   leave most g v range o e =
       let at : pc + 2 + 1 + 1 + 1 + 1 + 1 + 1 ≡ pc + 8 = omega arith in
-      let last = subst (λ x. HasAt fetch x (Operate Bis 25 (Literal 0) to ∷ [])) at has_behind.1.1.1.1.1.1 in
+      let last = subst (λ x. HasAt whole.fetch x (Operate Bis 25 (Literal 0) to ∷ [])) at has_behind.1.1.1.1.1.1 in
       operates whole (Holds f to c) most 0 Plain (Operate Bis 25 (Literal 0) to ∷ []) g (pc + 8) (Over v) last refl (omega arith) (omega arith)
       (done whole (Holds f to c) most (at_place (moved g) (pc + 8 + 1)) v (omega arith)
       (record { holds = put_same g to _ (other to 31 a_to (lit< tt)) ∙ or_zero_r (g 25) ∙ e; fits = range; only = put_only (is_scratch_or to) f g to _ may_to o }))
@@ -196,26 +193,26 @@ module _ (fetch : Fetch) (terms : Terms) (pc : ℕ) (f : Regs) (place c to : ℕ
       operates whole (Holds f to c) most 5 Plain (Operate (extract_low c) 25 (Register place) 25 ∷ []) (got (field_of before (plus (tested place) 0 / 8 * 8 % 8) 8)) (pc + 2 + 1) (rest b before) (has_behind.1.0, tt) refl (omega arith) (omega arith)
       (branch most before (field_of before (plus (tested place) 0 / 8 * 8 % 8) 8) b e lt (loaded_whole before (plus (tested place) 0 / 8 * 8) lt (omega arith))))
 
-  unaligned_reads : (most : ℕ) → Always whole (Holds f to c) most 9 Plain (at_place f pc) (read_plan (parts_by (lies_within (f place) c) (f place) c))
+  pub unaligned_reads : (most : ℕ) → Always whole (Holds f to c) most 9 Plain (at_place f pc) (read_plan (parts_by (lies_within (f place) c) (f place) c))
   unaligned_reads most = by (lies_within (f place) c) refl
     where
       start : (t : Plan ℕ) → Always whole (Holds f to c) most 7 Plain (at_place tested (pc + 2)) t → Always whole (Holds f to c) most 9 Plain (at_place f pc) t
-      start t h = operates whole (Holds f to c) most 7 Plain (read_test place c) f pc t (has_front fetch pc (read_test place c) (tested_read place c to) has) refl (omega arith) (omega arith) h
+      start t h = operates whole (Holds f to c) most 7 Plain (read_test place c) f pc t (has_front whole.fetch pc (read_test place c) (tested_read place c to) has) refl (omega arith) (omega arith) h
 
       by : (b : Bool) → lies_within (f place) c ≡ b → Always whole (Holds f to c) most 9 Plain (at_place f pc) (read_plan (parts_by b (f place) c))
       by true e = start (read_plan (parts_by true (f place) c)) (loads most true e)
       by false e = start (read_plan (parts_by false (f place) c)) (loads most false e)
 
 -- ---- the whole
-pub reads : (place count to : ℕ) → IsCount count → IsArgument place → IsArgument to → ReadsPlan place count to (read_code place count to)
+pub reads : (place count to : ℕ) → IsCount count → IsArgument place → IsArgument to → ReadsPlan loaded_bytes place count to (read_code place count to)
 reads place count to c1 a_place a_to fetch terms pc f low may has n =
     let within = may.within in
     let pages = subst (λ b. All (λ part. terms.allowed false (quad_of_part part) ≡ true) (parts_by b (f place) 1)) (byte_within (f place)) may.pages in
     subst (λ b. Runs (piece fetch terms pc (pc + 2)) (Holds f to 1) n Plain 2 (at_place f pc) (read_plan (parts_by b (f place) 1))) (sym (byte_within (f place)))
     (byte_reads fetch terms pc f place to a_place a_to (omega arith) (pages 0 (0, 0) (lit< tt)) may.loads has n n 2 (omega arith) (lit≤ tt))
 reads place count to c2 a_place a_to fetch terms pc f low may has n =
-    unaligned_reads fetch terms pc f place 2 to c2 a_place a_to low (let within = may.within in omega arith) may.within may.pages may.loads has n n 9 (omega arith) (lit≤ tt)
+    unaligned_reads (piece fetch terms pc (pc + 9)) pc f place 2 to c2 a_place a_to low (omega arith) refl (let within = may.within in omega arith) may.within may.pages may.loads has n n 9 (omega arith) (lit≤ tt)
 reads place count to c4 a_place a_to fetch terms pc f low may has n =
-    unaligned_reads fetch terms pc f place 4 to c4 a_place a_to low (let within = may.within in omega arith) may.within may.pages may.loads has n n 9 (omega arith) (lit≤ tt)
+    unaligned_reads (piece fetch terms pc (pc + 9)) pc f place 4 to c4 a_place a_to low (omega arith) refl (let within = may.within in omega arith) may.within may.pages may.loads has n n 9 (omega arith) (lit≤ tt)
 reads place count to c8 a_place a_to fetch terms pc f low may has n =
-    unaligned_reads fetch terms pc f place 8 to c8 a_place a_to low (let within = may.within in omega arith) may.within may.pages may.loads has n n 9 (omega arith) (lit≤ tt)
+    unaligned_reads (piece fetch terms pc (pc + 9)) pc f place 8 to c8 a_place a_to low (omega arith) refl (let within = may.within in omega arith) may.within may.pages may.loads has n n 9 (omega arith) (lit≤ tt)

@@ -13,7 +13,7 @@ use Rattle.alpha_meaning.specs.State.{Regs, at_place, put}
 use Rattle.alpha_meaning.specs.Pieces.{Failed, Fetch, Piece, Plain, Plan, Runs, phase_after, piece, plain_terms}
 use Rattle.vax_form.specs.Parts.{parts}
 use Rattle.byte_sequences.specs.Plans.{write_plan}
-use Rattle.byte_sequences.specs.Promises.{Keeps, ReadsPlan, WritesPlan, stored_bytes}
+use Rattle.byte_sequences.specs.Promises.{Keeps, ReadsPlan, WritesPlan, loaded_bytes, stored_bytes}
 
 -- the words stand from place 0 on, all pages may be used, and all registers are 0
 abbrev words_at : List AlphaInstr → Fetch
@@ -60,7 +60,7 @@ loaded_twice =
     ∷ []
 
 -- nothing is wanted any more behind the first
-longword_read_by_two_loads : ReadsPlan 21 4 22 loaded_twice → ⊥
+longword_read_by_two_loads : ReadsPlan loaded_bytes 21 4 22 loaded_twice → ⊥
 unfolding Runs
 longword_read_by_two_loads promise =
     let runs = promise (words_at loaded_twice) (plain_terms (λ store quad. true)) 0 zeros (lit≤ tt)

@@ -240,7 +240,7 @@ module _ (p : Piece) (f : Regs) (place from : ℕ) (a_place : IsArgument place) 
           (λ x h lt r. operates p (Keeps f) most 8 Plain (write_test place c) h (L + 7) (write_rest b) (has_front p.fetch (L + 7) (write_test place c) (Branch Bne 25 (pos 7) ∷ second_write place c from) behind) refl (omega arith) (omega arith)
           (tail most (L + 7) h b e r (has_back p.fetch (L + 7) (write_test place c) (Branch Bne 25 (pos 7) ∷ second_write place c from) behind) (omega arith) (omega arith)))
 
-      any_is : (most L : ℕ) (g : Regs) → Only is_scratch f g → HasAt p.fetch L (unaligned_write place c from) → p.from ≤ L → L + 17 ≡ p.to → Always p (Keeps f) most 17 Plain (at_place g L) (write_plan (parts_by (lies_within (f place) c) (f place) c) (f from))
+      pub any_is : (most L : ℕ) (g : Regs) → Only is_scratch f g → HasAt p.fetch L (unaligned_write place c from) → p.from ≤ L → L + 17 ≡ p.to → Always p (Keeps f) most 17 Plain (at_place g L) (write_plan (parts_by (lies_within (f place) c) (f place) c) (f from))
       any_is most L g o has in_from in_to = by (lies_within (f place) c) refl
         where
           by : (b : Bool) → lies_within (f place) c ≡ b → Always p (Keeps f) most 17 Plain (at_place g L) (write_plan (parts_by b (f place) c) (f from))

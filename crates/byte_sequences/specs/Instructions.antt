@@ -1,7 +1,7 @@
 -- Which registers the sequences take and change.
 use Rattle.std.specs.Prelude.{ℕ, ◌<◌, ◌≤◌, ◌==◌, ◌||◌, not, Bool, true, false}
 use Rattle.alpha_encode.specs.declared.instr.MemoryOp.{MemoryOp}
-use Rattle.alpha_encode.specs.declared.instr.MemoryOp.TheVariants.{Stl, Stq}
+use Rattle.alpha_encode.specs.declared.instr.MemoryOp.TheVariants.{Stb, Stw, Stl, Stq}
 use Rattle.alpha_encode.specs.declared.instr.AlphaInstr.{AlphaInstr}
 use Rattle.alpha_encode.specs.declared.instr.AlphaInstr.TheVariants.{Memory, Branch, Operate, Jump, Pal}
 use Rattle.alpha_encode.specs.Registers.{TEMPORARIES, ZERO}
@@ -23,6 +23,8 @@ is_scratch_or to register = register == to || is_scratch register
 
 -- a store leaves its register as it is; a store conditional does not
 abbrev pub is_store : MemoryOp → Bool
+is_store Stb = true
+is_store Stw = true
 is_store Stl = true
 is_store Stq = true
 is_store op = false

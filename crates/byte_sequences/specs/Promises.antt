@@ -13,12 +13,21 @@ use Rattle.byte_sequences.specs.Words.{by_count}
 use Rattle.byte_sequences.specs.Plans.{quad_of_part, read_plan, write_plan, locked_plan}
 
 -- ---- what has to be allowed
-pub record MayRead (terms : Terms) (address count : ℕ) : Type 0 where
+-- `loaded` gives the number of bytes of each load
+pub record MayRead (loaded : (address count : ℕ) → ℕ) (terms : Terms) (address count : ℕ) : Type 0 where
   -- the operand ends within the address space
   pub within : address + count ≤ 2 ^ 32
   pub pages : All (λ part. terms.allowed false (quad_of_part part) ≡ true) (parts address count)
-  -- quadwords are loaded, aligned or not
-  pub loads : terms.kinds Load 8 ≡ true
+  pub loads : terms.kinds Load (loaded address count) ≡ true
+
+-- The number of bytes of each load of an operand: quadwords are loaded, whatever the operand's size and place.
+abbrev pub loaded_bytes : (address count : ℕ) → ℕ
+loaded_bytes address count = 8
+
+-- The same with the byte-word extension: a byte, and a word at an even address, are loaded as a whole.
+abbrev pub bw_loaded_bytes : (address count : ℕ) → ℕ
+bw_loaded_bytes address count =
+    if count == 1 then 1 else if count == 2 && address % 2 == 0 then 2 else loaded_bytes address count
 
 -- load-locked accesses and stores conditional of whole quadwords
 pub record MayRetry (terms : Terms) : Type 0 where
@@ -30,6 +39,11 @@ pub record MayRetry (terms : Terms) : Type 0 where
 abbrev pub stored_bytes : (address count : ℕ) → Option ℕ
 stored_bytes address count =
     if count == 8 && address % 8 == 0 then Some 8 else if nat_le 4 count && address % 4 == 0 then Some 4 else None
+
+-- The same with the byte-word extension: a byte, and a word at an even address, are stored as a whole.
+abbrev pub bw_stored_bytes : (address count : ℕ) → Option ℕ
+bw_stored_bytes address count =
+    if count == 1 then Some 1 else if count == 2 && address % 2 == 0 then Some 2 else stored_bytes address count
 
 abbrev pub MayStore : Terms → Option ℕ → Type 0
 MayStore terms (Some bytes) = terms.kinds Store bytes ≡ true
@@ -76,10 +90,10 @@ RunsAt fetch terms first words Ends regs plan =
     (n : ℕ) → Runs (piece fetch terms first (first + length words)) Ends n Plain (length words) (at_place regs first) plan
 
 -- reads the operand at the address in `place` into `to`
-abbrev pub ReadsPlan : (place count to : ℕ) → List AlphaInstr → Type 0
-ReadsPlan place count to words =
+abbrev pub ReadsPlan : (loaded : (address count : ℕ) → ℕ) → (place count to : ℕ) → List AlphaInstr → Type 0
+ReadsPlan loaded place count to words =
     (fetch : Fetch) (terms : Terms) (first : ℕ) (regs : Regs)
-    → first + length words ≤ most_words → MayRead terms (regs place) count → HasAt fetch first words
+    → first + length words ≤ most_words → MayRead loaded terms (regs place) count → HasAt fetch first words
     → RunsAt fetch terms first words (Holds regs to count) regs (read_plan (parts (regs place) count))
 
 -- writes the low bytes of `from` to the operand at the address in `place`

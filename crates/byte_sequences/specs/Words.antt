@@ -2,8 +2,8 @@
 -- Alpha Architecture Reference Manual, 4.6 "Byte Manipulation Instructions", has the sequences for unaligned operands,
 -- and 5.5 "Data Sharing (Multiprocessor)" the loops of a load-locked access and a store conditional.
 use Rattle.std.specs.Prelude.{ℕ, pos, ◌-◌, ◌==◌, List, [], ◌∷◌, ◌++◌, if◌then◌else◌}
-use Rattle.alpha_encode.specs.declared.instr.MemoryOp.TheVariants.{LdqU, Stl, Stq}
-use Rattle.alpha_encode.specs.declared.instr.BranchOp.TheVariants.{Br, Bne}
+use Rattle.alpha_encode.specs.declared.instr.MemoryOp.TheVariants.{LdqU, Ldbu, Ldwu, Stb, Stw, Stl, Stq}
+use Rattle.alpha_encode.specs.declared.instr.BranchOp.TheVariants.{Br, Blbs, Bne}
 use Rattle.alpha_encode.specs.declared.instr.OperateOp.{OperateOp}
 use Rattle.alpha_encode.specs.declared.instr.OperateOp.TheVariants.{Extbl, Extwl, Extll, Extql, Extwh, Extlh, Extqh, Mskbl, Mskwl, Mskll, Mskql, Mskwh, Msklh, Mskqh, Insbl, Inswl, Insll, Insql, Inswh, Inslh, Insqh, Bis, Bic, And, Cmpult, Cmpeq, Addq, Srl, Sll}
 use Rattle.alpha_encode.specs.declared.instr.Second.TheVariants.{Register, Literal}
@@ -63,6 +63,15 @@ unaligned_read place count to = read_test place count ++ tested_read place count
 abbrev pub read_code : (place count to : ℕ) → List AlphaInstr
 read_code place count to = if count == 1 then byte_read place to else unaligned_read place count to
 
+-- with the byte-word extension: a byte by LDBU, and a word at an even address by LDWU
+abbrev pub bw_word_read : (place to : ℕ) → List AlphaInstr
+bw_word_read place to =
+    Branch Blbs place (pos 2) ∷ Memory Ldwu to place (pos 0) ∷ Branch Br ZERO (pos 9) ∷ unaligned_read place 2 to
+
+abbrev pub bw_read_code : (place count to : ℕ) → List AlphaInstr
+bw_read_code place count to =
+    if count == 1 then Memory Ldbu to place (pos 0) ∷ [] else if count == 2 then bw_word_read place to else read_code place count to
+
 -- ---- writes
 -- the bytes of QUAD that the mask names are replaced by those of `from`
 abbrev pub replacing : (mask insert : OperateOp) (place from : ℕ) → List AlphaInstr
@@ -113,6 +122,15 @@ quadword_write place from =
 
 abbrev pub write_code : (place count from : ℕ) → List AlphaInstr
 write_code place count from = by_count count (first_write place 1 from) (unaligned_write place 2 from) (longword_write place from) (quadword_write place from)
+
+-- with the byte-word extension: a byte by STB, and a word at an even address by STW
+abbrev pub bw_word_write : (place from : ℕ) → List AlphaInstr
+bw_word_write place from =
+    Branch Blbs place (pos 2) ∷ Memory Stw from place (pos 0) ∷ Branch Br ZERO (pos 17) ∷ unaligned_write place 2 from
+
+abbrev pub bw_write_code : (place count from : ℕ) → List AlphaInstr
+bw_write_code place count from =
+    if count == 1 then Memory Stb from place (pos 0) ∷ [] else if count == 2 then bw_word_write place from else write_code place count from
 
 -- ---- interlocked changes
 -- `to` gets the word before, and its sum with `from` goes into QUAD

@@ -4,11 +4,11 @@ ghost use Rattle.std.specs.List.{list_all};
 ghost use Rattle.vt_words.specs.Quad.{IsCount};
 ghost use Rattle.alpha_encode.specs.Words.{IsEncodable};
 ghost use Rattle.byte_sequences.specs.Instructions.{IsArgument, is_scratch_or, writes_only};
-ghost use Rattle.byte_sequences.specs.Words.{byte_read, unaligned_read, read_code};
-ghost use Rattle.byte_sequences.specs.Promises.{ReadsPlan, most_read_words};
+ghost use Rattle.byte_sequences.specs.Words.{byte_read, unaligned_read, read_code, bw_word_read, bw_read_code};
+ghost use Rattle.byte_sequences.specs.Promises.{ReadsPlan, loaded_bytes, bw_loaded_bytes, most_read_words};
 
 use crate::operators::{extract_high, extract_low};
-use alpha_encode::registers::{BYTES, QUAD};
+use alpha_encode::registers::{BYTES, QUAD, ZERO};
 use alpha_encode::{
     AlphaInstr, BranchOp, MemoryOp, OperateOp, branch, memory, operate, operate_by,
 };
@@ -69,11 +69,55 @@ pub fn read_words(
     requires to { IsArgument to }
     requires count { IsCount count }
     // One load for each part, and the operand in the register, wherever the words stand.
-    ensures reads { IfOk result (λ words. ReadsPlan place count to words.items) }
+    ensures reads { IfOk result (λ words. ReadsPlan loaded_bytes place count to words.items) }
     ensures short { IfOk result (λ words. length words.items ≤ most_read_words count) }
     ensures encodable { IfOk result (λ words. All IsEncodable words.items) }
     ensures writes { IfOk result (λ words. list_all (writes_only (is_scratch_or to)) words.items ≡ true) }
     ensures words { IfOk result (λ words. words.items ≡ read_code place count to) }
 {
     Ok(read_code(alloc, place, count, to)?)
+}
+
+/// A word at an even address is loaded as a whole.
+fn bw_word_read(alloc: Global, place: u8, to: u8) -> Result<Vec<AlphaInstr>, AllocError>
+    ensures { IfOk result (λ words. words.items ≡ bw_word_read place to) }
+{
+    let mut words = vec![in alloc;
+        branch(BranchOp::Blbs, place, 2),
+        memory(MemoryOp::Ldwu, to, place, 0),
+        branch(BranchOp::Br, ZERO, 9),
+    ]?;
+    words.extend_from_slice(&unaligned_read(alloc, place, 2, to)?)?;
+    Ok(words)
+}
+
+fn bw_read_code(alloc: Global, place: u8, count: u8, to: u8) -> Result<Vec<AlphaInstr>, AllocError>
+    requires { IsCount count }
+    ensures { IfOk result (λ words. words.items ≡ bw_read_code place count to) }
+{
+    match count {
+        1 => Ok(vec![in alloc; memory(MemoryOp::Ldbu, to, place, 0)]?),
+        2 => bw_word_read(alloc, place, to),
+        _ => read_code(alloc, place, count, to),
+    }
+}
+
+/// The same with the byte-word extension: a byte is loaded by LDBU, a word at an even address by LDWU.
+pub fn bw_read_words(
+    alloc: Global,
+    place: u8,
+    count: u8,
+    to: u8,
+) -> Result<Vec<AlphaInstr>, WantOfMemory>
+    requires place { IsArgument place }
+    requires to { IsArgument to }
+    requires count { IsCount count }
+    // One load for each part, and the operand in the register, wherever the words stand.
+    ensures reads { IfOk result (λ words. ReadsPlan bw_loaded_bytes place count to words.items) }
+    ensures short { IfOk result (λ words. length words.items ≤ most_read_words count) }
+    ensures encodable { IfOk result (λ words. All IsEncodable words.items) }
+    ensures writes { IfOk result (λ words. list_all (writes_only (is_scratch_or to)) words.items ≡ true) }
+    ensures words { IfOk result (λ words. words.items ≡ bw_read_code place count to) }
+{
+    Ok(bw_read_code(alloc, place, count, to)?)
 }

@@ -5,8 +5,8 @@ ghost use Rattle.vt_words.specs.Quad.{IsCount};
 ghost use Rattle.alpha_encode.specs.Words.{IsEncodable};
 ghost use Rattle.alpha_meaning.specs.Loops.{retry};
 ghost use Rattle.byte_sequences.specs.Instructions.{IsArgument, is_scratch, writes_only};
-ghost use Rattle.byte_sequences.specs.Words.{replacing, first_write, second_write, tested_second_write, unaligned_write, longword_write, quadword_write, write_code};
-ghost use Rattle.byte_sequences.specs.Promises.{WritesPlan, stored_bytes, most_write_words};
+ghost use Rattle.byte_sequences.specs.Words.{replacing, first_write, second_write, tested_second_write, unaligned_write, longword_write, quadword_write, write_code, bw_word_write, bw_write_code};
+ghost use Rattle.byte_sequences.specs.Promises.{WritesPlan, stored_bytes, bw_stored_bytes, most_write_words};
 
 use crate::operators::{insert_high, insert_low, mask_high, mask_low};
 use alpha_encode::registers::{BYTES, QUAD, QUAD_ADDRESS, ZERO};
@@ -166,4 +166,53 @@ pub fn write_words(
     ensures words { IfOk result (λ words. words.items ≡ write_code place count from) }
 {
     Ok(write_code(alloc, place, count, from)?)
+}
+
+/// A word at an even address is stored as a whole.
+fn bw_word_write(alloc: Global, place: u8, from: u8) -> Result<Vec<AlphaInstr>, AllocError>
+    ensures { IfOk result (λ words. words.items ≡ bw_word_write place from) }
+{
+    let mut words = vec![in alloc;
+        branch(BranchOp::Blbs, place, 2),
+        memory(MemoryOp::Stw, from, place, 0),
+        branch(BranchOp::Br, ZERO, 17),
+    ]?;
+    push_unaligned(&mut words, place, 2, from)?;
+    Ok(words)
+}
+
+fn bw_write_code(
+    alloc: Global,
+    place: u8,
+    count: u8,
+    from: u8,
+) -> Result<Vec<AlphaInstr>, AllocError>
+    requires { IsCount count }
+    ensures { IfOk result (λ words. words.items ≡ bw_write_code place count from) }
+{
+    match count {
+        1 => Ok(vec![in alloc; memory(MemoryOp::Stb, from, place, 0)]?),
+        2 => bw_word_write(alloc, place, from),
+        _ => write_code(alloc, place, count, from),
+    }
+}
+
+/// The same with the byte-word extension: a byte is stored by STB, a word at an even address by STW.
+pub fn bw_write_words(
+    alloc: Global,
+    place: u8,
+    count: u8,
+    from: u8,
+) -> Result<Vec<AlphaInstr>, WantOfMemory>
+    requires place { IsArgument place }
+    requires from { IsArgument from }
+    requires count { IsCount count }
+    // Each part is written once, wherever the words stand and however often a store conditional fails.
+    ensures writes { IfOk result (λ words. WritesPlan bw_stored_bytes place count from words.items) }
+    ensures short { IfOk result (λ words. length words.items ≤ most_write_words count) }
+    ensures encodable { IfOk result (λ words. All IsEncodable words.items) }
+    ensures scratch { IfOk result (λ words. list_all (writes_only is_scratch) words.items ≡ true) }
+    ensures words { IfOk result (λ words. words.items ≡ bw_write_code place count from) }
+{
+    Ok(bw_write_code(alloc, place, count, from)?)
 }
