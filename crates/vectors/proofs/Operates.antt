@@ -2115,3 +2115,235 @@ row527 = refl
 row528 : result_of row.Umulh 14694872333790057018 1058672771349881359 7368602402920439390 ≡ 843349978515626916
 unfolding spread
 row528 = refl
+
+row529 : result_of row.Sextb 4256017647768743673 18364758544493064720 36735110736 ≡ 16
+unfolding spread
+row529 = refl
+
+row530 : result_of row.Sextb 13496084516793108056 3 1 ≡ 3
+unfolding spread
+row530 = refl
+
+row531 : result_of row.Sextb 2860156977183775151 18446744073709551614 4294967296 ≡ 18446744073709551614
+unfolding spread
+row531 = refl
+
+row532 : result_of row.Sextb 12750453411398777772 10768975653796057112 2210265259690382855 ≡ 24
+unfolding spread
+row532 = refl
+
+row533 : result_of row.Sextb 10842178074880561782 7980013777852089489 5198957413296545103 ≡ 18446744073709551505
+unfolding spread
+row533 = refl
+
+row534 : result_of row.Sextb 13555223381733722150 1341400482452328106 6644622088603351940 ≡ 18446744073709551530
+unfolding spread
+row534 = refl
+
+row535 : result_of row.Sextb 8765624733513983041 10242368700166569139 341962374112214678 ≡ 18446744073709551539
+unfolding spread
+row535 = refl
+
+row536 : result_of row.Sextb 1820486644163099504 2648741615912819716 16617329338489541261 ≡ 4
+unfolding spread
+row536 = refl
+
+row537 : result_of row.Sextb 3278774911239297638 4917198417104528397 4156373362762537735 ≡ 13
+unfolding spread
+row537 = refl
+
+row538 : result_of row.Sextb 481017399008674528 10658320047230646358 8022431703444060847 ≡ 86
+unfolding spread
+row538 = refl
+
+row539 : result_of row.Sextb 14694872333790057018 1058672771349881359 7368602402920439390 ≡ 15
+unfolding spread
+row539 = refl
+
+row540 : result_of row.Sextb 0 0 0 ≡ 0
+unfolding spread
+row540 = refl
+
+row541 : result_of row.Sextb 0 1 0 ≡ 1
+unfolding spread
+row541 = refl
+
+row542 : result_of row.Sextb 0 127 0 ≡ 127
+unfolding spread
+row542 = refl
+
+row543 : result_of row.Sextb 0 128 0 ≡ 18446744073709551488
+unfolding spread
+row543 = refl
+
+row544 : result_of row.Sextb 0 255 0 ≡ 18446744073709551615
+unfolding spread
+row544 = refl
+
+row545 : result_of row.Sextb 0 256 0 ≡ 0
+unfolding spread
+row545 = refl
+
+row546 : result_of row.Sextb 0 383 0 ≡ 127
+unfolding spread
+row546 = refl
+
+row547 : result_of row.Sextb 0 384 0 ≡ 18446744073709551488
+unfolding spread
+row547 = refl
+
+row548 : result_of row.Sextb 0 32767 0 ≡ 18446744073709551615
+unfolding spread
+row548 = refl
+
+row549 : result_of row.Sextb 0 32768 0 ≡ 0
+unfolding spread
+row549 = refl
+
+row550 : result_of row.Sextb 0 65535 0 ≡ 18446744073709551615
+unfolding spread
+row550 = refl
+
+row551 : result_of row.Sextb 0 65536 0 ≡ 0
+unfolding spread
+row551 = refl
+
+row552 : result_of row.Sextb 0 305430656 0 ≡ 18446744073709551488
+unfolding spread
+row552 = refl
+
+row553 : result_of row.Sextb 0 9223372036854775807 0 ≡ 18446744073709551615
+unfolding spread
+row553 = refl
+
+row554 : result_of row.Sextb 0 9223372036854775808 0 ≡ 0
+unfolding spread
+row554 = refl
+
+row555 : result_of row.Sextb 0 18446744073709518719 0 ≡ 127
+unfolding spread
+row555 = refl
+
+row556 : result_of row.Sextb 0 18446744073709551615 0 ≡ 18446744073709551615
+unfolding spread
+row556 = refl
+
+row557 : result_of row.Sextb 0 165 0 ≡ 18446744073709551525
+unfolding spread
+row557 = refl
+
+row558 : result_of row.Sextw 4256017647768743673 18364758544493064720 36735110736 ≡ 12816
+unfolding spread
+row558 = refl
+
+row559 : result_of row.Sextw 13496084516793108056 3 1 ≡ 3
+unfolding spread
+row559 = refl
+
+row560 : result_of row.Sextw 2860156977183775151 18446744073709551614 4294967296 ≡ 18446744073709551614
+unfolding spread
+row560 = refl
+
+row561 : result_of row.Sextw 12750453411398777772 10768975653796057112 2210265259690382855 ≡ 4120
+unfolding spread
+row561 = refl
+
+row562 : result_of row.Sextw 10842178074880561782 7980013777852089489 5198957413296545103 ≡ 18446744073709536401
+unfolding spread
+row562 = refl
+
+row563 : result_of row.Sextw 13555223381733722150 1341400482452328106 6644622088603351940 ≡ 18446744073709538986
+unfolding spread
+row563 = refl
+
+row564 : result_of row.Sextw 8765624733513983041 10242368700166569139 341962374112214678 ≡ 18446744073709550771
+unfolding spread
+row564 = refl
+
+row565 : result_of row.Sextw 1820486644163099504 2648741615912819716 16617329338489541261 ≡ 7172
+unfolding spread
+row565 = refl
+
+row566 : result_of row.Sextw 3278774911239297638 4917198417104528397 4156373362762537735 ≡ 18446744073709544461
+unfolding spread
+row566 = refl
+
+row567 : result_of row.Sextw 481017399008674528 10658320047230646358 8022431703444060847 ≡ 30806
+unfolding spread
+row567 = refl
+
+row568 : result_of row.Sextw 14694872333790057018 1058672771349881359 7368602402920439390 ≡ 8719
+unfolding spread
+row568 = refl
+
+row569 : result_of row.Sextw 0 0 0 ≡ 0
+unfolding spread
+row569 = refl
+
+row570 : result_of row.Sextw 0 1 0 ≡ 1
+unfolding spread
+row570 = refl
+
+row571 : result_of row.Sextw 0 127 0 ≡ 127
+unfolding spread
+row571 = refl
+
+row572 : result_of row.Sextw 0 128 0 ≡ 128
+unfolding spread
+row572 = refl
+
+row573 : result_of row.Sextw 0 255 0 ≡ 255
+unfolding spread
+row573 = refl
+
+row574 : result_of row.Sextw 0 256 0 ≡ 256
+unfolding spread
+row574 = refl
+
+row575 : result_of row.Sextw 0 383 0 ≡ 383
+unfolding spread
+row575 = refl
+
+row576 : result_of row.Sextw 0 384 0 ≡ 384
+unfolding spread
+row576 = refl
+
+row577 : result_of row.Sextw 0 32767 0 ≡ 32767
+unfolding spread
+row577 = refl
+
+row578 : result_of row.Sextw 0 32768 0 ≡ 18446744073709518848
+unfolding spread
+row578 = refl
+
+row579 : result_of row.Sextw 0 65535 0 ≡ 18446744073709551615
+unfolding spread
+row579 = refl
+
+row580 : result_of row.Sextw 0 65536 0 ≡ 0
+unfolding spread
+row580 = refl
+
+row581 : result_of row.Sextw 0 305430656 0 ≡ 18446744073709518976
+unfolding spread
+row581 = refl
+
+row582 : result_of row.Sextw 0 9223372036854775807 0 ≡ 18446744073709551615
+unfolding spread
+row582 = refl
+
+row583 : result_of row.Sextw 0 9223372036854775808 0 ≡ 0
+unfolding spread
+row583 = refl
+
+row584 : result_of row.Sextw 0 18446744073709518719 0 ≡ 32639
+unfolding spread
+row584 = refl
+
+row585 : result_of row.Sextw 0 18446744073709551615 0 ≡ 18446744073709551615
+unfolding spread
+row585 = refl
+
+row586 : result_of row.Sextw 0 165 0 ≡ 165
+unfolding spread
+row586 = refl
