@@ -5,7 +5,9 @@ use Rattle.alpha_encode.specs.Words.{IsEncodable}
 use Rattle.alpha_meaning.specs.Pieces.{most_words}
 use Rattle.block_law.specs.Translations.{fetch_of}
 use Rattle.prepared_code.specs.Sources.{Source, block_of}
+use Rattle.prepared_code.specs.Flats.{AreFlat}
 use Rattle.prepared_code.specs.declared.blocks.Block.{Block}
+use Rattle.prepared_code.specs.declared.flat.Flat.{Flat}
 use Rattle.prepared_code.specs.declared.prepared.Word.{Word}
 
 -- the pairs of a map whose words stand before that place are those before `next`
@@ -31,12 +33,17 @@ pub record AreReady (words : List ℕ) (pairs : List Pair) (ready : List Word) (
   pub counted : length ready ≡ n
   pub each : (k : ℕ) (w : Word) → k < n → slice_get ready k ≡ Some w → IsReady words pairs k w
 
+abbrev pub AreEncodable : List Word → Type 0
+AreEncodable ready = (k : ℕ) (w : Word) → slice_get ready k ≡ Some w → IfSome w.instr IsEncodable
+
 -- the block with that number
 abbrev pub begun : List Block → (number : ℕ) → Option Block
 begun blocks number = if number == 0 then None else slice_get blocks (number - 1)
 
-pub record IsPrepared (source : Source) (made : List Block) (ready : List Word) : Type 0 where
+pub record IsPrepared (source : Source) (made : List Block) (ready : List Word) (flats : List Flat) : Type 0 where
   pub few : length source.code.words ≤ most_words
   pub rise : AllRise source.code.map
   pub words : AreReady source.code.words source.code.map ready (length source.code.words)
   pub blocks : made ≡ map (block_of source.code.points source.pages) source.code.map
+  pub few_flats : length flats ≤ most_words
+  pub flat : AreFlat source.code flats

@@ -2,8 +2,8 @@
 ghost use Rattle.std.specs.Prelude.{◌≡◌, ◌<◌, ◌+◌, ◌^◌, option_map, slice_index, IfSome};
 ghost use Rattle.alpha_encode.specs.Words.{IsEncodable, IsSecond};
 ghost use Rattle.alpha_machine.specs.Step.{state_of};
-ghost use Rattle.alpha_meaning.specs.Act.{act, second_value, link_of};
-ghost use Rattle.alpha_meaning.specs.State.{regs_of};
+ghost use Rattle.alpha_meaning.specs.Act.{act, link_of, second_value, target_of};
+ghost use Rattle.alpha_meaning.specs.State.{at_place, put, regs_of};
 ghost use Rattle.prepared_code.specs.Effects.{behind, local};
 
 use alpha_encode::{AlphaInstr, BranchOp, MemoryOp, Second};
@@ -20,7 +20,7 @@ pub struct Effect {
 
 #[tactic(auto, unfolding(alpha_meaning::specs::State::regs_of))]
 #[inline(always)]
-fn register(cpu: &Cpu, n: u8) -> u64
+pub(crate) fn register(cpu: &Cpu, n: u8) -> u64
     requires within { n < 32 }
     requires zero { slice_index cpu.now.r 31 ≡ 0 }
     ensures { result ≡ regs_of cpu.now.r n }
@@ -67,6 +67,15 @@ fn memory_effect(cpu: &Cpu, op: MemoryOp, ra: u8, rb: u8, disp: i16) -> Option<E
     }
 }
 
+/// The word that a branch goes to, from its own.
+#[inline(always)]
+pub(crate) fn target_of(word: u32, disp: i32) -> u32
+    requires { word + 1 < 2 ^ 32 }
+    ensures { result ≡ target_of word disp }
+{
+    (word + 1).wrapping_add(disp.cast_unsigned())
+}
+
 #[inline(always)]
 fn branch_effect(cpu: &Cpu, op: BranchOp, ra: u8, disp: i32) -> Effect
     requires ra { ra < 32 }
@@ -75,14 +84,13 @@ fn branch_effect(cpu: &Cpu, op: BranchOp, ra: u8, disp: i32) -> Effect
     ensures effect { local (act (AlphaInstr.Branch op ra disp) (state_of cpu.now)) ≡ Some (behind (state_of cpu.now) result) }
     ensures register { result.register < 32 }
 {
-    let next = cpu.pc + 1;
     Effect {
         register: if links(op) { ra } else { 31 },
         value: link(cpu),
         next: if is_taken(op, register(cpu, ra)) {
-            next.wrapping_add(disp.cast_unsigned())
+            target_of(cpu.pc, disp)
         } else {
-            next
+            cpu.pc + 1
         },
     }
 }
@@ -126,15 +134,25 @@ pub(crate) fn clear_31(cpu: &mut Cpu)
     cpu.r[31] = 0;
 }
 
-/// Leaves what an effect says.
+/// Writes a register.
 #[tactic(auto, unfolding(alpha_meaning::specs::State::regs_of))]
+#[inline(always)]
+pub(crate) fn put(cpu: &mut Cpu, register: u8, value: u64)
+    requires { register < 32 }
+    ensures is { state_of cpu.new ≡ at_place (put (regs_of cpu.old.r) register value) cpu.old.pc }
+    ensures zero { slice_index cpu.new.r 31 ≡ 0 }
+{
+    cpu.r[register as usize] = value;
+    clear_31(cpu);
+}
+
+/// Leaves what an effect says.
 #[inline(always)]
 pub(crate) fn commit(cpu: &mut Cpu, effect: Effect)
     requires { effect.register < 32 }
     ensures is { state_of cpu.new ≡ behind (state_of cpu.old) effect }
     ensures zero { slice_index cpu.new.r 31 ≡ 0 }
 {
-    cpu.r[effect.register as usize] = effect.value;
+    put(cpu, effect.register, effect.value);
     cpu.pc = effect.next;
-    clear_31(cpu);
 }

@@ -3,13 +3,15 @@ ghost use Rattle.std.specs.Prelude.{◌≡◌, ◌<◌, slice_index, IfSome, opt
 ghost use Rattle.alpha_machine.specs.Step.{state_of};
 ghost use Rattle.alpha_meaning.specs.State.{Alpha};
 ghost use Rattle.prepared_code.specs.Effects.{behind};
-ghost use Rattle.prepared_code.specs.Inside.{landed, landing};
+ghost use Rattle.prepared_code.specs.Inside.{landed, landing, local_at};
 ghost use Rattle.prepared_code.specs.Landings.{landed_by};
 ghost use Rattle.prepared_code.specs.Sources.{block_at};
 
 use crate::blocks::Block;
 use crate::effect::{Effect, commit};
+use crate::flat::Way;
 use crate::prepared::Prepared;
+use alpha_encode::registers;
 use alpha_machine::Cpu;
 
 /// A local step that arrives at the first word of a block, still to be made.
@@ -32,13 +34,33 @@ impl Landing {
 }
 
 impl<'a> Prepared<'a> {
+    // What the next step does, where it is local; at once where it is known to land.
+    #[inline(always)]
+    fn effect_landing(&self, cpu: &Cpu) -> Option<Effect>
+        requires zero { slice_index cpu.now.r 31 ≡ 0 }
+        ensures is { option_map (behind (state_of cpu.now)) result ≡ local_at self.now.code (state_of cpu.now) }
+        ensures register { IfSome result (λ e. e.register < 32) }
+    {
+        let Some(flat) = self.flats().get(cpu.pc as usize) else {
+            return self.effect_at(cpu);
+        };
+        match flat.way {
+            Way::Lands => Some(Effect {
+                register: registers::ZERO,
+                value: 0,
+                next: flat.literal as u32,
+            }),
+            Way::Other | Way::Stops | Way::Branches(_) => self.effect_at(cpu),
+        }
+    }
+
     /// The step of the word there, where it is local and arrives at a block. Register 31 has to stand as it reads.
     pub fn landing(&self, cpu: &Cpu) -> Option<Landing>
         requires zero { slice_index cpu.now.r 31 ≡ 0 }
         ensures lands { landing self.now (state_of cpu.now) ≡ option_map (landed_by (state_of cpu.now)) result }
         ensures register { IfSome result (λ l. l.effect.register < 32) }
     {
-        match self.effect_at(cpu) {
+        match self.effect_landing(cpu) {
             Some(effect) => self.landing_by(effect),
             None => None,
         }

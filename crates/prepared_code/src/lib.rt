@@ -6,6 +6,7 @@
 mod asked;
 mod blocks;
 mod effect;
+mod flat;
 mod landing;
 mod prepared;
 mod probe;

@@ -4,11 +4,13 @@ ghost use Rattle.address_map.specs.Pairs.{AllRise, address_at};
 ghost use Rattle.alpha_encode.specs.Words.{IsEncodable};
 ghost use Rattle.alpha_meaning.specs.Pieces.{most_words};
 ghost use Rattle.block_law.specs.Translations.{fetch_of};
+ghost use Rattle.prepared_code.specs.Flats.{AreFlat};
 ghost use Rattle.prepared_code.specs.Prepared.{AreReady, IsNext, IsNumber, IsReady, begun};
 ghost use Rattle.prepared_code.specs.Sources.{block_at, source_of};
 ghost use Rattle.prepared_code.specs.declared.blocks.Block.{Block};
 
 use crate::blocks::{Block, block_by, blocks_of};
+use crate::flat::{Flat, flats_of};
 use address_map::AddressMap;
 use alpha_encode::{AlphaInstr, decode};
 use exception_records::Points;
@@ -32,6 +34,7 @@ pub struct Prepared<'a> {
     pages: &'a Pages,
     blocks: Vec<Block>,
     ready: Vec<Word>,
+    flats: Vec<Flat>,
 }
 
 impl<'a> Model for Prepared<'a> {
@@ -42,7 +45,7 @@ impl<'a> Model for Prepared<'a> {
 
     ghost view = { λ p. source_of p.words.now p.map.now p.points.now p.pages.now };
 
-    ghost invariant = { λ p. IsPrepared (source_of p.words.now p.map.now p.points.now p.pages.now) p.blocks.items p.ready.items };
+    ghost invariant = { λ p. IsPrepared (source_of p.words.now p.map.now p.points.now p.pages.now) p.blocks.items p.ready.items p.flats.items };
 }
 
 // The number of the block at a place, which is that of the next pair if of any.
@@ -102,13 +105,16 @@ pub fn prepare<'a>(
     ensures { IfOk result (λ p. p ≡ source_of words.now map.now points.now pages.now) }
 {
     let pairs = map.pairs();
+    let ready = words_of(alloc, words, pairs)?;
+    let flats = flats_of(alloc, &ready)?;
     Ok(Prepared {
         words,
         map,
         points,
         pages,
         blocks: blocks_of(alloc, pairs, points, pages)?,
-        ready: words_of(alloc, words, pairs)?,
+        ready,
+        flats,
     })
 }
 
@@ -153,6 +159,15 @@ impl<'a> Prepared<'a> {
         ensures { result.now ≡ self.now.code.points }
     {
         self.points
+    }
+
+    // The words ready to be run.
+    #[inline(always)]
+    pub(crate) fn flats(&self) -> &[Flat]
+        ensures few { length result.now ≤ most_words }
+        ensures flat { AreFlat self.now.code result.now }
+    {
+        &self.flats
     }
 
     #[inline(always)]

@@ -1,12 +1,82 @@
 // Many steps inside a block.
-ghost use Rattle.std.specs.Prelude.{◌≡◌, ◌<◌, ◌≤◌, slice_index, Some, None, IfSome, option_map};
+ghost use Rattle.std.specs.Prelude.{◌≡◌, ◌<◌, ◌≤◌, ◌+◌, ◌^◌, ℕ, if◌then◌else◌, length, slice_get, slice_index, Some, None, IfSome, option_map};
 ghost use Rattle.alpha_machine.specs.Step.{state_of};
+ghost use Rattle.alpha_meaning.specs.Act.{taken};
+ghost use Rattle.alpha_meaning.specs.Pieces.{most_words};
+ghost use Rattle.alpha_meaning.specs.State.{at_place, regs_of};
+ghost use Rattle.block_law.specs.Translations.{Code};
 ghost use Rattle.prepared_code.specs.Effects.{behind};
+ghost use Rattle.prepared_code.specs.Flats.{AreStraight, HasRegisters, effect, operand};
+ghost use Rattle.prepared_code.specs.declared.flat.Flat.{Flat};
 ghost use Rattle.prepared_code.specs.Inside.{local_at, step_in, steps_in};
 
-use crate::effect::{Effect, clear_31, commit, effect_of};
+use crate::effect::{Effect, clear_31, commit, effect_of, put, register};
+use crate::flat::{Flat, Way};
 use crate::prepared::Prepared;
+use alpha_encode::{BranchOp, registers};
 use alpha_machine::Cpu;
+use alpha_meaning::{is_taken, result};
+
+/// The second operand of a straight word.
+#[inline(always)]
+fn operand(cpu: &Cpu, flat: &Flat) -> u64
+    requires within { flat.now.b < 32 }
+    requires zero { slice_index cpu.now.r 31 ≡ 0 }
+    ensures { result ≡ operand flat.now (regs_of cpu.now.r) }
+{
+    if flat.b == registers::ZERO {
+        flat.literal
+    } else {
+        register(cpu, flat.b)
+    }
+}
+
+/// Makes the step of a straight word, but for the program counter.
+#[inline(always)]
+fn operate(cpu: &mut Cpu, flat: &Flat)
+    requires registers { HasRegisters flat.now }
+    requires zero { slice_index cpu.old.r 31 ≡ 0 }
+    ensures is { state_of cpu.new ≡ at_place (effect flat.now (regs_of cpu.old.r)) cpu.old.pc }
+    ensures zero { slice_index cpu.new.r 31 ≡ 0 }
+{
+    let (a, b) = (register(cpu, flat.a), operand(cpu, flat));
+    let value = result(flat.op, a, b, register(cpu, flat.c));
+    put(cpu, flat.c, value);
+}
+
+/// Makes the steps of so many straight words.
+#[inline(always)]
+fn go_straight(cpu: &mut Cpu, flats: &[Flat], count: usize)
+    requires zero { slice_index cpu.old.r 31 ≡ 0 }
+    requires few { length flats.now ≤ most_words }
+    requires within { cpu.old.pc + count ≤ length flats.now }
+    requires registers { (k : ℕ) (f : Flat) → k < count → slice_get flats.now (cpu.old.pc + k) ≡ Some f → HasRegisters f }
+    ensures zero { slice_index cpu.new.r 31 ≡ 0 }
+    ensures ran { (code : Code) → AreStraight code flats.now cpu.old.pc count → steps_in code (state_of cpu.old) count ≡ Some (state_of cpu.new) }
+{
+    let first = cpu.pc as usize;
+    for made in 0..count {
+        operate(cpu, &flats[first + made]);
+    }
+    cpu.pc += count as u32;
+}
+
+/// Makes the step of a branch that goes on inside its block.
+#[inline(always)]
+fn go_by_branch(cpu: &mut Cpu, flat: &Flat, op: BranchOp)
+    requires register { flat.now.a < 32 }
+    requires target { flat.now.literal < 2 ^ 32 }
+    requires more { cpu.old.pc + 1 < 2 ^ 32 }
+    requires zero { slice_index cpu.old.r 31 ≡ 0 }
+    ensures zero { slice_index cpu.new.r 31 ≡ 0 }
+    ensures is { state_of cpu.new ≡ at_place (regs_of cpu.old.r) (if taken op (regs_of cpu.old.r flat.now.a) then flat.now.literal else cpu.old.pc + 1) }
+{
+    cpu.pc = if is_taken(op, register(cpu, flat.a)) {
+        flat.literal as u32
+    } else {
+        cpu.pc + 1
+    };
+}
 
 impl<'a> Prepared<'a> {
     // What the next step does, where it is local.
@@ -41,6 +111,54 @@ impl<'a> Prepared<'a> {
         }
     }
 
+    // Makes the step of a word of which nothing is told, where it goes on inside a block.
+    #[inline(always)]
+    fn other_step(&self, cpu: &mut Cpu) -> u64
+        requires zero { slice_index cpu.old.r 31 ≡ 0 }
+        ensures zero { slice_index cpu.new.r 31 ≡ 0 }
+        ensures most { result ≤ 1 }
+        ensures ran { steps_in self.now.code (state_of cpu.old) result ≡ Some (state_of cpu.new) }
+        ensures stops { result ≡ 0 → step_in self.now.code (state_of cpu.new) ≡ None }
+    {
+        match self.effect_inside(cpu) {
+            Some(effect) => {
+                commit(cpu, effect);
+                1
+            }
+            None => 0,
+        }
+    }
+
+    // Makes some steps, at most so many. None is made only where the next step is none inside a block.
+    #[inline(always)]
+    fn stride(&self, cpu: &mut Cpu, most: u64) -> u64
+        requires some { 0 < most }
+        requires zero { slice_index cpu.old.r 31 ≡ 0 }
+        ensures zero { slice_index cpu.new.r 31 ≡ 0 }
+        ensures most { result ≤ most }
+        ensures ran { steps_in self.now.code (state_of cpu.old) result ≡ Some (state_of cpu.new) }
+        ensures stops { result ≡ 0 → step_in self.now.code (state_of cpu.new) ≡ None }
+    {
+        let flats = self.flats();
+        let Some(flat) = flats.get(cpu.pc as usize) else {
+            return self.other_step(cpu);
+        };
+        if flat.number > 0 {
+            let count = most.min(u64::from(flat.number));
+            go_straight(cpu, flats, count as usize);
+            return count;
+        }
+        match flat.way {
+            Way::Other => self.other_step(cpu),
+            Way::Stops => 0,
+            Way::Lands => 0,
+            Way::Branches(op) => {
+                go_by_branch(cpu, flat, op);
+                1
+            }
+        }
+    }
+
     fn steps_in(&self, cpu: &mut Cpu, most: u64) -> u64
         requires zero { slice_index cpu.old.r 31 ≡ 0 }
         ensures zero { slice_index cpu.new.r 31 ≡ 0 }
@@ -48,13 +166,15 @@ impl<'a> Prepared<'a> {
         ensures ran { steps_in self.now.code (state_of cpu.old) result ≡ Some (state_of cpu.new) }
         ensures stops { result < most → step_in self.now.code (state_of cpu.new) ≡ None }
     {
-        for made in 0..most {
-            match self.effect_inside(cpu) {
-                Some(effect) => commit(cpu, effect),
-                None => return made,
+        let mut made = 0;
+        while made < most {
+            let more = self.stride(cpu, most - made);
+            if more == 0 {
+                return made;
             }
+            made += more;
         }
-        most
+        made
     }
 
     /// Makes local steps, each of which goes on inside a block, but at most so many, and tells how many it made. Fewer are

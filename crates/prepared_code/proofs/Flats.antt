@@ -1,0 +1,236 @@
+-- Words ready to be run.
+use Rattle.std.proofs.Common.{◌≡◌, ◌≢◌, ℕ, zero, suc, ◌+◌, ◌-◌, ◌^◌, ◌<◌, ◌≤◌, if◌then◌else◌, Bool, true, false, nat_lt, ltb-true, ltb-false, List, length, get_or, Option, Some, None, refl, sym, ap, ◌∙◌, subst, inl, inr, ◌⊎◌, ⊎_elim, arith}
+use Rattle.std.specs.Int.{w32}
+use Rattle.std.specs.Prelude.{ℤ, ◌==◌, pos, negsuc, ◌≤ℤ◌, ◌<ℤ◌, FitsSigned, IfSome, is_some, not, option_and_then, slice_get}
+use Rattle.std.proofs.Math.ListN.{set}
+use Rattle.std.proofs.lemmas.Int.{ints}
+use Rattle.std.proofs.lemmas.List.{get_or-set_same, get_or-set_other, length-set}
+use Rattle.std.proofs.lemmas.Option.{slice_get-get_or, slice_get_read, slice_get_within}
+use Rattle.address_map.specs.Pairs.{Pair, address_at}
+use Rattle.alpha_encode.specs.declared.instr.AlphaInstr.{AlphaInstr}
+use Rattle.alpha_encode.specs.declared.instr.AlphaInstr.TheVariants.{Branch}
+use Rattle.alpha_encode.specs.declared.instr.BranchOp.{BranchOp}
+use Rattle.alpha_encode.specs.declared.instr.BranchOp.TheVariants as row
+use Rattle.alpha_meaning.specs.Act.{links, link_of, taken, target_of}
+use Rattle.alpha_meaning.specs.State.{Alpha, Regs, at_place, put, regs_of}
+use Rattle.block_law.specs.Translations.{Code, fetch_of}
+use Rattle.prepared_code.specs.Flats.{AreFlat, AreStraight, HasRegisters, IsAlone, IsFlat, IsFlatOf, IsItsWay, IsLanding, IsStraight, StaysBehind, effect}
+use Rattle.prepared_code.specs.Inside.{local_by, step_in, unless_begun}
+use Rattle.prepared_code.specs.Prepared.{AreEncodable, AreReady, IsNumber}
+use Rattle.prepared_code.specs.declared.flat.Flat.{Flat}
+use Rattle.prepared_code.specs.declared.flat.Way.{Way}
+use Rattle.prepared_code.specs.declared.flat.Way.TheVariants as way
+use Rattle.prepared_code.proofs.Words.{is_mark, ready_at}
+use Rattle.prepared_code.specs.declared.prepared.Word.{Word}
+
+-- no block begins at a word whose number is 0
+pub none_begins : (ready : List Word) (word : ℕ) (w : Word) → word < length ready → w ≡ get_or ready word w → w.block ≡ 0 → (code : Code) → AreReady code.words code.map ready (length code.words) → address_at code.map word ≡ None
+none_begins ready word w within found none code are =
+    subst (IsNumber code.map word) none (ready_at code.words code.map ready word w are within found).block
+
+-- ---- one word
+-- the next local step, where the word's instruction is known
+stays : (code : Code) (c d : Alpha) (i : AlphaInstr) → fetch_of code.words c.pc ≡ Some i → local_by (Some i) c ≡ Some d → address_at code.map d.pc ≡ None → step_in code c ≡ Some d
+stays code c d i fetched does inside =
+    ap (λ o. option_and_then (λ (e : Alpha). unless_begun (address_at code.map e.pc) e) (local_by o c)) fetched
+    ∙ ap (option_and_then (λ (e : Alpha). unless_begun (address_at code.map e.pc) e)) does
+    ∙ ap (λ o. unless_begun o d) inside
+
+pub is_straight : (code : Code) (place : ℕ) (i : AlphaInstr) (f : Flat) → fetch_of code.words place ≡ Some i → address_at code.map (place + 1) ≡ None → HasRegisters f → IsFlatOf i f → IsStraight code place f
+is_straight code place i f fetched inside has is = record {
+  registers = has;
+  step = λ r. stays code (at_place (regs_of r) place) (at_place (effect f (regs_of r)) (place + 1)) i fetched (is r place) inside;
+}
+
+-- where a branch writes R31 alone, it leaves the registers
+unwritten : (op : BranchOp) (a value : ℕ) (regs : Regs) → (links op ≡ false) ⊎ (a ≡ 31) → (if links op then put regs a value else regs) ≡ regs
+unwritten op a value regs (inl none) = ap (λ b. if b then put regs a value else regs) none
+unwritten op a value regs (inr r31) = by (links op)
+  where
+    by : (b : Bool) → (if b then put regs a value else regs) ≡ regs
+    by true = ap (λ n. put regs n value) r31
+    by false = refl
+
+always_taken : (op : BranchOp) (x : ℕ) → links op ≡ true → taken op x ≡ true
+always_taken row.Br x e = refl
+always_taken row.Bsr x e = refl
+always_taken op x e = cc e
+
+writes_nothing : (code : Code) (place : ℕ) (op : BranchOp) (a : ℕ) → StaysBehind code place op a → (links op ≡ false) ⊎ (a ≡ 31)
+writes_nothing code place op a (inl (writes, r31)) = inr r31
+writes_nothing code place op a (inr (none, next)) = inl none
+
+stays_at : (code : Code) (place : ℕ) (op : BranchOp) (a x target : ℕ) → address_at code.map target ≡ None → StaysBehind code place op a → (b : Bool) → taken op x ≡ b
+    → address_at code.map (if b then target else place + 1) ≡ None
+stays_at code place op a x target inside behind true e = inside
+stays_at code place op a x target inside (inl (writes, r31)) false e = let no = always_taken op x writes in cc
+stays_at code place op a x target inside (inr (none, next)) false e = next
+
+branches : (code : Code) (place : ℕ) (op : BranchOp) (a target : ℕ) (disp : ℤ) → fetch_of code.words place ≡ Some (Branch op a disp) → target ≡ target_of place disp
+    → address_at code.map target ≡ None → StaysBehind code place op a
+    → (r : List ℕ) → step_in code (at_place (regs_of r) place) ≡ Some (at_place (regs_of r) (if taken op (regs_of r a) then target else place + 1))
+branches code place op a target disp fetched there inside behind r =
+    let t = taken op (regs_of r a) in
+    stays code (at_place (regs_of r) place) (at_place (regs_of r) (if t then target else place + 1)) (Branch op a disp) fetched
+    (ap (λ regs. Some (at_place regs (if t then target_of place disp else place + 1))) (unwritten op a (link_of place) (regs_of r) (writes_nothing code place op a behind))
+    ∙ ap (λ n. Some (at_place (regs_of r) (if t then n else place + 1))) (sym there))
+    (stays_at code place op a (regs_of r a) target inside behind t refl)
+
+its_way : (code : Code) (place : ℕ) (f : Flat) (w : Way) → f.number ≡ 0 → f.way ≡ w → IsItsWay code place f w → IsAlone code place f
+its_way code place f w none it is = record {
+  few = omega (arith, none);
+  straight = λ e. absurd (omega (arith, none, e));
+  its_way = subst (IsItsWay code place f) (sym it) is;
+}
+
+pub is_branch : (code : Code) (place : ℕ) (op : BranchOp) (f : Flat) (disp : ℤ) → fetch_of code.words place ≡ Some (Branch op f.a disp) → f.number ≡ 0 → f.way ≡ way.Branches op → f.a < 32 → f.literal < 2 ^ 32
+    → f.literal ≡ target_of place disp → address_at code.map f.literal ≡ None → StaysBehind code place op f.a → IsAlone code place f
+is_branch code place op f disp fetched none it a target there inside behind =
+    its_way code place f (way.Branches op) none it (record {
+      register = a;
+      target = target;
+      step = branches code place op f.a f.literal disp fetched there inside behind;
+    })
+
+pub is_landing : (code : Code) (place a : ℕ) (f : Flat) (disp : ℤ) → fetch_of code.words place ≡ Some (Branch row.Br a disp) → a ≡ 31 → f.number ≡ 0 → f.way ≡ way.Lands → f.literal < 2 ^ 32 → f.literal ≡ target_of place disp
+    → is_some (address_at code.map f.literal) ≡ true → IsAlone code place f
+is_landing code place a f disp fetched r31 none it target there begins =
+    its_way code place f way.Lands none it (record {
+      target = target;
+      goes = λ regs.
+          ap (λ o. local_by o (at_place regs place)) (fetched ∙ ap (λ n. Some (Branch row.Br n disp)) r31)
+          ∙ ap (λ n. Some (at_place regs n)) (sym there);
+      begins = begins;
+    })
+
+-- an access and a PALcode call are no local steps
+pub is_stop : (code : Code) (place : ℕ) (i : AlphaInstr) (f : Flat) → fetch_of code.words place ≡ Some i → ((c : Alpha) → local_by (Some i) c ≡ None) → f.number ≡ 0 → f.way ≡ way.Stops → IsAlone code place f
+is_stop code place i f fetched local none it =
+    its_way code place f way.Stops none it (record {
+      stops = λ r.
+          ap (λ o. option_and_then (λ (e : Alpha). unless_begun (address_at code.map e.pc) e) (local_by o (at_place (regs_of r) place))) fetched
+          ∙ ap (option_and_then (λ (e : Alpha). unless_begun (address_at code.map e.pc) e)) (local (at_place (regs_of r) place));
+    })
+
+-- where a block begins at the next word, no step stays inside
+pub lands_outside : (code : Code) (place : ℕ) (f : Flat) → IsLanding code place f → (regs : Regs) → step_in code (at_place regs place) ≡ None
+lands_outside code place f is regs = ap (option_and_then (λ (e : Alpha). unless_begun (address_at code.map e.pc) e)) (is.goes regs) ∙ by (address_at code.map f.literal) is.begins
+  where
+    by : (o : Option ℕ) → is_some o ≡ true → unless_begun o (at_place regs f.literal) ≡ None
+    by None e = cc e
+    by (Some address) e = refl
+
+pub some_begins : (ready : List Word) (word : ℕ) (w : Word) → word < length ready → w ≡ get_or ready word w → not (w.block == 0) ≡ true → (code : Code) → AreReady code.words code.map ready (length code.words)
+    → is_some (address_at code.map word) ≡ true
+some_begins ready word w within found begun code are = sym (is_mark code.map word w.block (ready_at code.words code.map ready word w are within found).block) ∙ begun
+
+-- a word that computes, and behind which no block begins
+pub is_alone : (code : Code) (place : ℕ) (i : AlphaInstr) (f : Flat) → fetch_of code.words place ≡ Some i → address_at code.map (place + 1) ≡ None → HasRegisters f → IsFlatOf i f → f.number ≡ 1 → f.way ≡ way.Other
+    → IsAlone code place f
+is_alone code place i f fetched inside has is one none = record {
+  few = omega (arith, one);
+  straight = λ e. is_straight code place i f fetched inside has is;
+  its_way = subst (IsItsWay code place f) (sym none) tt;
+}
+
+pub is_alone_if : (code : Code) (place : ℕ) (i : AlphaInstr) (f : Option Flat) → fetch_of code.words place ≡ Some i → address_at code.map (place + 1) ≡ None → IfSome f HasRegisters → IfSome f (IsFlatOf i)
+    → IfSome f (λ g. g.number ≡ 1) → IfSome f (λ g. g.way ≡ way.Other) → IfSome f (IsAlone code place)
+is_alone_if code place i None fetched inside has is one none = tt
+is_alone_if code place i (Some f) fetched inside has is one none = is_alone code place i f fetched inside has is one none
+
+-- ---- one more word in front
+same : {X : Type 0} (x y : X) → Some x ≡ Some y → x ≡ y
+same x y e = cc e
+
+-- the word that was put in, and the others as they were
+put_in : (old : List Flat) (place : ℕ) (g f : Flat) → place < length old → slice_get (set old place g) place ≡ Some f → g ≡ f
+put_in old place g f within found =
+    same g f (sym (ap Some (get_or-set_same old place g g within)) ∙ sym (slice_get-get_or (set old place g) place g (omega (arith, within, length-set old place g))) ∙ found)
+
+others : (old : List Flat) (place k : ℕ) (g f : Flat) → k ≢ place → slice_get (set old place g) k ≡ Some f → slice_get old k ≡ Some f
+others old place k g f apart found =
+    let within = slice_get_within (set old place g) k f found in
+    slice_get-get_or old k f (omega (arith, within, length-set old place g))
+    ∙ ap Some (sym (get_or-set_other old place k g f apart))
+    ∙ sym (slice_get-get_or (set old place g) k f within)
+    ∙ found
+
+-- what is straight behind the word is so still
+pub straight_still : (code : Code) (old : List Flat) (place first count : ℕ) (g : Flat) → place < first → AreStraight code old first count → AreStraight code (set old place g) first count
+straight_still code old place first count g before are k f h found = are k f h (others old place (first + k) g f (λ e. omega (arith, before, e)) found)
+
+-- the number of a word does not say whether it is straight
+counted : (code : Code) (place number : ℕ) (f : Flat) → IsStraight code place f → IsStraight code place (record f { number = number })
+counted code place number f is = record {
+  registers = record { a = is.registers.a; b = is.registers.b; c = is.registers.c };
+  step = is.step;
+}
+
+-- nor what else it does
+counted_way : (code : Code) (place number : ℕ) (f : Flat) (w : Way) → IsItsWay code place f w → IsItsWay code place (record f { number = number }) w
+counted_way code place number f way.Other is = tt
+counted_way code place number f way.Stops is = is
+counted_way code place number f way.Lands is = record { target = is.target; goes = is.goes; begins = is.begins }
+counted_way code place number f (way.Branches op) is = record { register = is.register; target = is.target; step = is.step }
+
+pub one_more_straight : (code : Code) (old : List Flat) (place run number : ℕ) (f : Flat) → place < length old → IsAlone code place f → AreStraight code old (place + 1) run
+    → (number ≡ 0) ⊎ ((f.number ≢ 0) × (number ≤ run + 1)) → AreStraight code (set old place (record f { number = number })) place number
+one_more_straight code old place run number f within alone are (inl none) k h l found = absurd (omega (arith, l, none))
+one_more_straight code old place run number f within alone are (inr (some, few)) zero h l found =
+    let here : place + 0 ≡ place = omega arith in
+    subst (λ i. IsStraight code i h) (sym here)
+    (subst (IsStraight code place) (put_in old place (record f { number = number }) h within (ap (slice_get (set old place (record f { number = number }))) (sym here) ∙ found))
+    (counted code place number f (alone.straight (omega (arith, some, alone.few)))))
+one_more_straight code old place run number f within alone are (inr (some, few)) (suc k) h l found =
+    let there : place + suc k ≡ place + 1 + k = omega arith in
+    let g : Flat = record f { number = number } in
+    subst (λ i. IsStraight code i h) (sym there)
+    (are k h (omega (arith, l, few)) (others old place (place + 1 + k) g h (λ e. omega (arith, e)) (ap (slice_get (set old place g)) (sym there) ∙ found)))
+
+-- so many words from the end on
+pub record AreFlatFrom (code : Code) (flats : List Flat) (from straight : ℕ) : Type 0 where
+  pub run : AreStraight code flats from straight
+  pub each : (k : ℕ) (f : Flat) → from ≤ k → slice_get flats k ≡ Some f → IsFlat code flats k f
+
+pub one_more_flat : (code : Code) (old : List Flat) (place run number : ℕ) (f : Flat) → place < length old → place + 1 + run ≤ length old → IsAlone code place f → AreFlatFrom code old (place + 1) run
+    → (number ≡ 0) ⊎ ((f.number ≢ 0) × (number ≤ run + 1)) → AreFlatFrom code (set old place (record f { number = number })) place number
+one_more_flat code old place run number f here within alone are few =
+    let g : Flat = record f { number = number } in
+    let new = set old place g in
+    let straight = one_more_straight code old place run number f here alone are.run few in
+    let counted = length-set old place g in
+    let fits : place + number ≤ length new = (⊎_elim (λ e. omega (arith, e, here, counted)) (λ (p : (f.number ≢ 0) × (number ≤ run + 1)). omega (arith, p.1, within, counted)) few) in
+    let it : IsFlat code new place g = record { within = fits; straight = straight; its_way = counted_way code place number f f.way alone.its_way } in
+    record {
+      run = straight;
+      each = λ k h l found. by k h l found (nat_lt place k) refl it;
+    }
+  where
+    by : (k : ℕ) (h : Flat) → place ≤ k → slice_get (set old place (record f { number = number })) k ≡ Some h → (b : Bool) → nat_lt place k ≡ b
+        → IsFlat code (set old place (record f { number = number })) place (record f { number = number }) → IsFlat code (set old place (record f { number = number })) k h
+    by k h l found true e it =
+        let g : Flat = record f { number = number } in
+        let behind = ltb-true place k e in
+        let before = are.each k h (omega (arith, behind)) (others old place k g h (λ q. omega (arith, behind, q)) found) in
+        let counted = length-set old place g in
+        record { within = omega (arith, before.within, counted); straight = straight_still code old place k h.number g behind before.straight; its_way = before.its_way }
+    by k h l found false e it =
+        let at : place ≡ k = omega (arith, l, ltb-false place k e) in
+        subst (λ i. IsFlat code (set old place (record f { number = number })) i h) at
+        (subst (IsFlat code (set old place (record f { number = number })) place) (put_in old place (record f { number = number }) h here (ap (slice_get (set old place (record f { number = number }))) at ∙ found)) it)
+
+-- a word that is looked up
+pub flat_there : (code : Code) (flats : List Flat) (place : ℕ) (f : Flat) → AreFlat code flats → place < length flats → f ≡ get_or flats place f → IsFlat code flats place f
+flat_there code flats place f are within found = are place f (slice_get_read flats (length flats) place f refl within found)
+
+-- with its way
+pub way_there : (code : Code) (flats : List Flat) (place : ℕ) (f : Flat) (w : Way) → AreFlat code flats → place < length flats → f ≡ get_or flats place f → f.way ≡ w → IsItsWay code place f w
+way_there code flats place f w are within found it = subst (IsItsWay code place f) it (flat_there code flats place f are within found).its_way
+
+pub encodable : (words : List ℕ) (pairs : List Pair) (ready : List Word) → AreReady words pairs ready (length words) → AreEncodable ready
+encodable words pairs ready are k w found = (are.each k w (omega (arith, slice_get_within ready k w found, are.counted)) found).encodable
+
+-- a displacement of 21 bits is a number of 32
+pub fits_wider : (d : ℤ) → negsuc (2 ^ 20 - 1) ≤ℤ d → d <ℤ pos (2 ^ 20) → FitsSigned w32 d
+fits_wider (pos n) low high = record { sfits = grind (arith, ints) }
+fits_wider (negsuc n) low high = record { sfits = grind (arith, ints) }
