@@ -12,6 +12,7 @@ ghost use Rattle.flow_discovery.specs.Reach.{IsReach, most};
 ghost use Rattle.flow_discovery.specs.Starts.{starts};
 
 use exact_lists::list_of;
+pub use flow::goes_on;
 use image_file::{Image, Start};
 use std::alloc::{AllocError, Global};
 use vax_form::{Class, Instr};

@@ -1,0 +1,3 @@
+mod Ranges
+mod Appended
+pub mod Rows

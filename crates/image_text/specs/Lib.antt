@@ -1,0 +1,4 @@
+pub mod Names
+pub mod Instructions
+pub mod Lines
+pub mod Text

@@ -1,0 +1,172 @@
+// The lines of what a translation makes of an image, and the whole text.
+ghost use Rattle.std.specs.Prelude.{◌≡◌, ◌<◌, ◌≤◌, ◌++◌, IfOk, OnOk, filter, length};
+ghost use Rattle.std.specs.List.{flat_map};
+ghost use Rattle.image_file.specs.Whole.{IsWhole};
+ghost use Rattle.image_text.specs.Lines.{open_line, service_line, stop_lines};
+ghost use Rattle.image_text.specs.Text.{flow_text, has_opcode, interpreted_line, is_interpreted, opcode_line, opcode_text, opcodes, reached_line, show_text};
+
+use crate::instructions::{put_open, put_service, put_stops};
+use crate::names::name_of;
+use crate::put::put_counted;
+use crate::tables::put_tables;
+use image_file::Image;
+use std::alloc::{AllocError, Global};
+use vax_form::{Class, Instr, Pages, class_of};
+
+/// How many opcodes there are.
+const OPCODES: u32 = 256;
+
+fn is_interpreted(instr: &Instr) -> bool
+    ensures { result ≡ is_interpreted instr.now }
+{
+    class_of(instr.opcode) != Class::Translated
+}
+
+fn has_opcode(instr: &Instr, opcode: u8) -> bool
+    ensures { result ≡ has_opcode opcode instr.now }
+{
+    instr.opcode == opcode && is_interpreted(instr)
+}
+
+/// How many of the instructions have no block.
+fn interpreted(instrs: &[Instr]) -> u64
+    ensures value { result ≡ length (filter is_interpreted instrs.now) }
+    ensures most { result ≤ length instrs.now }
+{
+    let mut count = 0;
+    for instr in instrs {
+        if is_interpreted(instr) {
+            count += 1;
+        }
+    }
+    count
+}
+
+/// How many of those are of that opcode.
+fn of_opcode(instrs: &[Instr], opcode: u8) -> u64
+    ensures value { result ≡ length (filter (has_opcode opcode) instrs.now) }
+    ensures most { result ≤ length instrs.now }
+{
+    let mut count = 0;
+    for instr in instrs {
+        if has_opcode(instr, opcode) {
+            count += 1;
+        }
+    }
+    count
+}
+
+fn put_reached(
+    out: &mut Vec<u8>,
+    instrs: &[Instr],
+    mapped: u64,
+    words: u64,
+) -> Result<(), AllocError>
+    ensures { OnOk result (out.new.items ≡ out.old.items ++ reached_line instrs.now mapped words) }
+{
+    put_counted(out, b"reached", instrs.len() as u64)?;
+    put_counted(out, b" mapped", mapped)?;
+    put_counted(out, b" interpreted", interpreted(instrs))?;
+    put_counted(out, b" words", words)?;
+    out.push(b'\n')?;
+    Ok(())
+}
+
+fn put_opcode_line(out: &mut Vec<u8>, opcode: u8, count: u64) -> Result<(), AllocError>
+    ensures { OnOk result (out.new.items ≡ out.old.items ++ opcode_line opcode count) }
+{
+    out.extend_from_slice(b"interpreted ")?;
+    put_counted(out, name_of(opcode), count)?;
+    out.push(b'\n')?;
+    Ok(())
+}
+
+fn put_opcode(out: &mut Vec<u8>, opcode: u8, count: u64) -> Result<(), AllocError>
+    ensures { OnOk result (out.new.items ≡ out.old.items ++ opcode_text opcode count) }
+{
+    if count != 0 {
+        put_opcode_line(out, opcode, count)?;
+    }
+    Ok(())
+}
+
+fn put_opcodes(out: &mut Vec<u8>, instrs: &[Instr]) -> Result<(), AllocError>
+    ensures { OnOk result (out.new.items ≡ out.old.items ++ flat_map (interpreted_line instrs.now) opcodes) }
+{
+    for opcode in 0..OPCODES {
+        let opcode = opcode as u8;
+        put_opcode(out, opcode, of_opcode(instrs, opcode))?;
+    }
+    Ok(())
+}
+
+fn put_opens(out: &mut Vec<u8>, instrs: &[Instr]) -> Result<(), AllocError>
+    ensures { OnOk result (out.new.items ≡ out.old.items ++ flat_map open_line instrs.now) }
+{
+    for instr in instrs {
+        put_open(out, instr)?;
+    }
+    Ok(())
+}
+
+fn put_all_stops(
+    alloc: Global,
+    out: &mut Vec<u8>,
+    pages: &Pages,
+    instrs: &[Instr],
+) -> Result<(), AllocError>
+    ensures { OnOk result (out.new.items ≡ out.old.items ++ flat_map (stop_lines pages.now) instrs.now) }
+{
+    for instr in instrs {
+        put_stops(alloc, out, pages, instr)?;
+    }
+    Ok(())
+}
+
+fn put_services(out: &mut Vec<u8>, instrs: &[Instr]) -> Result<(), AllocError>
+    ensures { OnOk result (out.new.items ≡ out.old.items ++ flat_map service_line instrs.now) }
+{
+    for instr in instrs {
+        put_service(out, instr)?;
+    }
+    Ok(())
+}
+
+#[tactic(auto, unfolding(crate::specs::Text::flow_text))]
+fn put_flow(
+    alloc: Global,
+    out: &mut Vec<u8>,
+    image: &Image,
+    instrs: &[Instr],
+    mapped: u64,
+    words: u64,
+) -> Result<(), AllocError>
+    ensures { OnOk result (out.new.items ≡ out.old.items ++ flow_text image.now instrs.now mapped words) }
+{
+    put_reached(out, instrs, mapped, words)?;
+    put_opcodes(out, instrs)?;
+    put_opens(out, instrs)?;
+    put_all_stops(alloc, out, &image.pages, instrs)?;
+    put_services(out, instrs)?;
+    Ok(())
+}
+
+/// The text of a whole image, of the hints of its translation, of the instructions that can be reached, and of how many
+/// addresses are mapped and how many words the translation has.
+#[tactic(auto, unfolding(crate::specs::Text::show_text))]
+pub fn show_text(
+    alloc: Global,
+    image: &Image,
+    hints: &[u32],
+    instrs: &[Instr],
+    mapped: u64,
+    words: u64,
+) -> Result<Vec<u8>, AllocError>
+    requires { IsWhole image.now }
+    ensures { IfOk result (λ text. text.items ≡ show_text image.now hints.now instrs.now mapped words) }
+{
+    let mut out = Vec::new(alloc);
+    put_tables(&mut out, image, hints)?;
+    put_flow(alloc, &mut out, image, instrs, mapped, words)?;
+    Ok(out)
+}

@@ -1,0 +1,151 @@
+// The lines of an image's tables, and of hints.
+ghost use Rattle.std.specs.Prelude.{◌≡◌, ◌<◌, ◌^◌, ◌+◌, ◌++◌, All, OnOk};
+ghost use Rattle.image_file.specs.Whole.{IsWhole};
+ghost use Rattle.image_text.specs.Lines.{entry_line, hint_line, numbered, register_text, rights_text, section_line, thread_line};
+ghost use Rattle.image_text.specs.Text.{image_line, tables_text};
+
+use crate::put::{put_address, put_counted, put_digits, put_number};
+use image_file::{Image, Section, Start, image_length};
+use std::alloc::AllocError;
+
+fn put_image(out: &mut Vec<u8>, image: &Image) -> Result<(), AllocError>
+    requires { IsWhole image.now }
+    ensures { OnOk result (out.new.items ≡ out.old.items ++ image_line image.now) }
+{
+    out.extend_from_slice(b"image version")?;
+    put_number(out, u64::from(image.version))?;
+    out.extend_from_slice(b" bytes")?;
+    put_number(out, image_length(image) as u64)?;
+    out.push(b'\n')?;
+    Ok(())
+}
+
+fn put_register(out: &mut Vec<u8>, number: u64, value: u32) -> Result<(), AllocError>
+    ensures { OnOk result (out.new.items ≡ out.old.items ++ register_text number value) }
+{
+    if value != 0 {
+        out.extend_from_slice(b" R")?;
+        put_digits(out, number)?;
+        put_address(out, value)?;
+    }
+    Ok(())
+}
+
+fn put_registers(out: &mut Vec<u8>, values: &[u32]) -> Result<(), AllocError>
+    ensures { OnOk result (out.new.items ≡ out.old.items ++ numbered register_text 0 values.now) }
+{
+    for (number, value) in values.iter().enumerate() {
+        put_register(out, number as u64, *value)?;
+    }
+    Ok(())
+}
+
+fn put_thread(out: &mut Vec<u8>, number: u64, thread: &Start) -> Result<(), AllocError>
+    ensures { OnOk result (out.new.items ≡ out.old.items ++ thread_line number thread.now) }
+{
+    out.extend_from_slice(b"thread")?;
+    put_number(out, number)?;
+    out.extend_from_slice(b" pc")?;
+    put_address(out, thread.pc)?;
+    out.extend_from_slice(b" sp")?;
+    put_address(out, thread.sp)?;
+    put_registers(out, &thread.first)?;
+    out.push(b'\n')?;
+    Ok(())
+}
+
+fn put_rights(out: &mut Vec<u8>, writable: bool) -> Result<(), AllocError>
+    ensures { OnOk result (out.new.items ≡ out.old.items ++ rights_text writable) }
+{
+    if writable {
+        out.extend_from_slice(b" writable stored")
+    } else {
+        out.extend_from_slice(b" read-only stored")
+    }
+}
+
+fn put_section(out: &mut Vec<u8>, number: u64, section: &Section) -> Result<(), AllocError>
+    requires { section.now.start + section.now.size < 2 ^ 32 }
+    ensures { OnOk result (out.new.items ≡ out.old.items ++ section_line number section.now) }
+{
+    let last = (section.start + section.size).saturating_sub(1);
+    put_counted(out, b"section", number)?;
+    put_address(out, section.start)?;
+    out.extend_from_slice(b" to")?;
+    put_address(out, last)?;
+    put_rights(out, section.writable)?;
+    put_number(out, section.stored.len() as u64)?;
+    out.push(b'\n')?;
+    Ok(())
+}
+
+fn put_entry(out: &mut Vec<u8>, number: u64, address: u32) -> Result<(), AllocError>
+    ensures { OnOk result (out.new.items ≡ out.old.items ++ entry_line number address) }
+{
+    out.extend_from_slice(b"entry")?;
+    put_number(out, number)?;
+    put_address(out, address)?;
+    out.push(b'\n')?;
+    Ok(())
+}
+
+fn put_hint(out: &mut Vec<u8>, number: u64, address: u32) -> Result<(), AllocError>
+    ensures { OnOk result (out.new.items ≡ out.old.items ++ hint_line number address) }
+{
+    out.extend_from_slice(b"hint")?;
+    put_number(out, number)?;
+    put_address(out, address)?;
+    out.push(b'\n')?;
+    Ok(())
+}
+
+fn put_threads(out: &mut Vec<u8>, threads: &[Start]) -> Result<(), AllocError>
+    ensures { OnOk result (out.new.items ≡ out.old.items ++ numbered thread_line 0 threads.now) }
+{
+    for (number, thread) in threads.iter().enumerate() {
+        put_thread(out, number as u64, thread)?;
+    }
+    Ok(())
+}
+
+fn put_sections(out: &mut Vec<u8>, sections: &[Section]) -> Result<(), AllocError>
+    requires { All (λ s. s.start + s.size < 2 ^ 32) sections.now }
+    ensures { OnOk result (out.new.items ≡ out.old.items ++ numbered section_line 0 sections.now) }
+{
+    for (number, section) in sections.iter().enumerate() {
+        put_section(out, number as u64, section)?;
+    }
+    Ok(())
+}
+
+fn put_entries(out: &mut Vec<u8>, entries: &[u32]) -> Result<(), AllocError>
+    ensures { OnOk result (out.new.items ≡ out.old.items ++ numbered entry_line 0 entries.now) }
+{
+    for (number, address) in entries.iter().enumerate() {
+        put_entry(out, number as u64, *address)?;
+    }
+    Ok(())
+}
+
+fn put_hints(out: &mut Vec<u8>, hints: &[u32]) -> Result<(), AllocError>
+    ensures { OnOk result (out.new.items ≡ out.old.items ++ numbered hint_line 0 hints.now) }
+{
+    for (number, address) in hints.iter().enumerate() {
+        put_hint(out, number as u64, *address)?;
+    }
+    Ok(())
+}
+
+/// The lines of the image, of its tables, and of hints.
+#[tactic(auto, unfolding(crate::specs::Text::tables_text))]
+pub fn put_tables(out: &mut Vec<u8>, image: &Image, hints: &[u32]) -> Result<(), AllocError>
+    requires { IsWhole image.now }
+    ensures { OnOk result (out.new.items ≡ out.old.items ++ tables_text image.now hints.now) }
+{
+    put_image(out, image)?;
+    put_threads(out, &image.threads)?;
+    put_sections(out, &image.sections)?;
+    put_entries(out, &image.entries)?;
+    put_hints(out, hints)?;
+    Ok(())
+}

@@ -1,0 +1,6 @@
+pub mod Tables
+pub mod PartsLaws
+pub mod BothWays
+pub mod Prefixes
+pub mod WriteLaws
+pub mod Rows

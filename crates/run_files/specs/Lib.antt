@@ -1,0 +1,7 @@
+pub mod Fits
+pub mod Laws
+pub mod Limits
+pub mod Reading
+pub mod Refusal
+pub mod Spelling
+pub mod Values
