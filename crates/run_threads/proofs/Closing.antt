@@ -1,5 +1,5 @@
 -- The history behind the last pass that is joined is legal for the processors.
-use Rattle.std.proofs.Common.{◌≡◌, ℕ, ◌<◌, ◌≤◌, ◌==◌, ◌⊎◌, inl, inr, Bool, true, false, if◌then◌else◌, List, [], ◌∷◌, ◌++◌, Some, length, get_or, reverse, take, sym, ap, ◌∙◌, subst, arith, length-append}
+use Rattle.std.proofs.Common.{◌≡◌, ℕ, ◌<◌, ◌≤◌, ◌==◌, ◌⊎◌, inl, inr, Bool, true, false, if◌then◌else◌, List, [], ◌∷◌, ◌++◌, Some, length, get_or, reverse, sym, ap, ◌∙◌, subst, arith, length-append}
 use Rattle.std.specs.Prelude.{map, slice_get}
 use Rattle.std.specs.List.{AllByRecursion}
 use Rattle.std.proofs.lemmas.Bool.{cases_lt}
@@ -7,7 +7,6 @@ use Rattle.std.proofs.lemmas.Bool.Decides.{nat_tests}
 use Rattle.std.proofs.lemmas.List.{reverse-append, length-map, length-reverse, nil_from_length}
 use Rattle.std.proofs.lemmas.List.Elements.{filter-append}
 use Rattle.std.proofs.lemmas.Option.{same_Some}
-use Rattle.std.proofs.Math.Seq.{take-append_seam}
 use Rattle.memory_core.specs.Contents.{Contents}
 use Rattle.memory_core.specs.Order.{own}
 use Rattle.memory_core.specs.declared.entry.Entry.{Entry}
@@ -27,7 +26,8 @@ use Rattle.tie_switch.specs.Processors.{ProcessorValue, processor_of}
 use Rattle.tie_switch.specs.Turns.{has_ended}
 use Rattle.tie_switch.proofs.Turns.{own_reverse}
 use Rattle.run_threads.specs.declared.job.Job.{Job}
-use Rattle.run_threads.specs.Jobs.{IsDone, IsJoined, HasSplit, HasJoined}
+use Rattle.run_threads.specs.Jobs.{AllHavePasses, AllReady, IsDone, IsJoined, IsReady, HasSplit, HasJoined}
+use Rattle.run_threads.specs.Together.{HaveRan}
 use Rattle.run_threads.proofs.Places.{first_of, mapped_at, all_mapped}
 
 -- ---- entries of one thread
@@ -56,21 +56,18 @@ module _ (others_law : OthersKeepReached) (setting : Setting) (memory : SharedMe
   pub reached_by_all : (thread : ℕ) (job : Job) (k : ProcessorValue) → IsDone setting memory budget thread job → IsJoined v job k
       → (start : VaxState) → starts (set_up_of memory).image thread ≡ Some start → IsReached setting budget (set_up_of memory).limit (reverse v.seen) thread start (processor_of k)
   reached_by_all thread job k done joined start begins =
-      let same : done.pass ≡ joined.pass = same_Some done.pass joined.pass (sym done.has.there ∙ joined.there) in
-      let number : number_of joined.pass ≡ thread = ap number_of (sym same) ∙ done.has.of_it.is.number_is in
-      let fits = closed.ended joined.place (ended_as (view_of joined.pass)) joined.at in
+      let number : number_of job.pass ≡ thread = done.has.of_it.is.number_is in
+      let fits = closed.ended joined.place (ended_as (view_of job.pass)) joined.at in
       let later = fits.seen.0 in
-      let seen = seen_of joined.pass in
+      let seen = seen_of job.pass in
       let own_seen : own thread v.seen ≡ own thread seen = subst (λ (t : ℕ). own t v.seen ≡ own t seen) number (fits.own ∙ joined.own_is) in
       let none : own thread later ≡ [] = later_are_others thread seen later (ap (own thread) fits.seen.1 ∙ own_seen) in
       let turned : reverse v.seen ≡ reverse later ++ reverse seen = ap reverse (sym fits.seen.1) ∙ reverse-append seen later in
       let few : length (reverse later ++ reverse seen) ≤ (set_up_of memory).limit = omega (arith, closed.legal.room, ap length turned, length-reverse v.seen) in
       let ended = done.ended in
       let start_is : ended.start ≡ start = same_Some ended.start start (sym ended.starts_so ∙ (ap (starts (set_up_of memory).image) done.has.thread_is ∙ begins)) in
-      let by_seen : IsReached setting job.processor.budget (set_up_of memory).limit (reverse seen) job.processor.thread ended.start (processor_of job.processor) =
-      subst (λ (p : Pass). IsReached setting job.processor.budget (set_up_of memory).limit (reverse (seen_of p)) job.processor.thread ended.start (processor_of job.processor)) same ended.reached in
       let with_budget : IsReached setting budget (set_up_of memory).limit (reverse seen) job.processor.thread ended.start (processor_of job.processor) =
-      subst (λ (b : ℕ). IsReached setting b (set_up_of memory).limit (reverse seen) job.processor.thread ended.start (processor_of job.processor)) done.budget_is by_seen in
+      subst (λ (b : ℕ). IsReached setting b (set_up_of memory).limit (reverse seen) job.processor.thread ended.start (processor_of job.processor)) done.budget_is ended.reached in
       let with_thread : IsReached setting budget (set_up_of memory).limit (reverse seen) thread ended.start (processor_of job.processor) =
       subst (λ (t : ℕ). IsReached setting budget (set_up_of memory).limit (reverse seen) t ended.start (processor_of job.processor)) done.has.thread_is with_budget in
       let with_start : IsReached setting budget (set_up_of memory).limit (reverse seen) thread start (processor_of job.processor) =
@@ -121,6 +118,18 @@ module _ (others_law : OthersKeepReached) (legal_law : ReachedAreLegal) (setting
       let job = first_of jobs (omega (arith, inside)) in
       subst (λ (x : ProcessorValue). has_ended (processor_of x).mode ≡ true) (sym (joined.each j job k inside).processor) (done j job inside).ended.ended)
 
--- ---- a slice that was lent comes back whole
-pub lent_back : (n : ℕ) (new rest : List Job) → n ≡ length new → take n (new ++ rest) ≡ new
-lent_back n new rest is = ap (λ (k : ℕ). take k (new ++ rest)) is ∙ take-append_seam new rest
+-- ---- jobs that are to run, by their own threads' numbers
+pub runs_by_thread : (memory : SharedMemory) (jobs : List Job) → AllReady memory jobs
+    → (j : ℕ) (d : Job) → j < length jobs → IsReady memory (get_or jobs j d).processor.thread (get_or jobs j d)
+runs_by_thread memory jobs ready j d inside =
+    subst (λ (t : ℕ). IsReady memory t (get_or jobs j d)) (sym (ready j d inside).has.thread_is) (ready j d inside)
+
+-- ---- jobs that ran, by their places, which are their threads' numbers
+module _ (setting : Setting) (memory : SharedMemory) (before after : List Job) (ready : AllReady memory before)
+    (ran : HaveRan (λ (was job : Job). IsDone setting memory was.processor.budget was.processor.thread job) before after (length before)) where
+  pub done_each : (j : ℕ) (d : Job) → j < length before → IsDone setting memory (get_or before j d).processor.budget j (get_or after j d)
+  done_each j d inside =
+      subst (λ (t : ℕ). IsDone setting memory (get_or before j d).processor.budget t (get_or after j d)) (ready j d inside).has.thread_is (ran.each j d inside)
+
+  pub all_have : AllHavePasses memory after
+  all_have j d inside = (done_each j d (omega (arith, inside, ran.many))).has

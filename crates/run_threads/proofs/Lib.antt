@@ -4,3 +4,4 @@ pub mod Places
 pub mod Splitting
 pub mod Joining
 pub mod Closing
+mod Starting

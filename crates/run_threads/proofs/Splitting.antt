@@ -21,12 +21,11 @@ use Rattle.run_threads.proofs.Places.{each-snoc}
 -- a new processor beside its new pass
 pub new_ready : (memory : SharedMemory) (image : ImageValue) (pass : Pass) (k : ProcessorValue) (start : Start) (n : ℕ) → (set_up_of memory).image ≡ image
     → slice_get image.threads n ≡ Some start → ((pages : Pages) → StandsFor pages k (begun n (start_state start))) → IsPassOf memory n pass → seen_of pass ≡ []
-    → IsReady memory n (record { processor = k; pass = Some pass })
+    → IsReady memory n (record { processor = k; pass = pass })
 new_ready memory image pass k start n is at stands of_it unseen =
     let thread : n ≡ k.thread = ap (λ (p : Processor). p.thread) (stands image.pages).same in
     record {
-      pass = pass;
-      has = record { thread_is = sym thread; there = refl; of_it = of_it };
+      has = record { thread_is = sym thread; of_it = of_it };
       unseen = unseen;
       begun = record {
         start = start_state start;

@@ -1,5 +1,5 @@
 -- Processors beside their passes.
-use Rattle.std.specs.Prelude.{◌≡◌, ℕ, ◌<◌, ◌≤◌, List, [], Some, length, slice_index_or}
+use Rattle.std.specs.Prelude.{◌≡◌, ℕ, ◌<◌, ◌≤◌, List, [], length, slice_index_or}
 use mathlib.Core.Option.{some}
 use lib.ListN.{get_elem?}
 use Rattle.memory_core.specs.Order.{own}
@@ -14,32 +14,29 @@ use Rattle.tie_switch.specs.Processors.{ProcessorValue}
 use Rattle.run_threads.specs.declared.job.Job.{Job}
 use Rattle.run_threads.specs.Processors.{IsBegun, HasEnded}
 
--- it is of that thread, and has its pass, which is of this memory
-pub record HasPass (memory : SharedMemory) (thread : ℕ) (job : Job) (pass : Pass) : Type 0 where
+-- it is of that thread, and its pass is of this memory
+pub record HasPass (memory : SharedMemory) (thread : ℕ) (job : Job) : Type 0 where
   pub thread_is : job.processor.thread ≡ thread
-  pub there : job.pass ≡ Some pass
-  pub of_it : IsPassOf memory thread pass
+  pub of_it : IsPassOf memory thread job.pass
 
 -- the pass has seen nothing, and the processor is before its first turn
 pub record IsReady (memory : SharedMemory) (thread : ℕ) (job : Job) : Type 0 where
-  pub pass : Pass
-  pub has : HasPass memory thread job pass
-  pub unseen : seen_of pass ≡ []
+  pub has : HasPass memory thread job
+  pub unseen : seen_of job.pass ≡ []
   pub begun : IsBegun (set_up_of memory).image job.processor
 
 -- the processor has ended by what the pass has seen
 pub record IsDone (setting : Setting) (memory : SharedMemory) (budget thread : ℕ) (job : Job) : Type 0 where
-  pub pass : Pass
-  pub has : HasPass memory thread job pass
+  pub has : HasPass memory thread job
   pub budget_is : job.processor.budget ≡ budget
-  pub ended : HasEnded setting (set_up_of memory) (seen_of pass) job.processor
+  pub ended : HasEnded setting (set_up_of memory) (seen_of job.pass) job.processor
 
 -- ---- of each job, by its place, which is its thread's number
 abbrev pub AllReady : SharedMemory → List Job → Type 0
 AllReady memory jobs = (j : ℕ) (d : Job) → j < length jobs → IsReady memory j (slice_index_or jobs j d)
 
 abbrev pub AllHavePasses : SharedMemory → List Job → Type 0
-AllHavePasses memory jobs = (j : ℕ) (d : Job) → j < length jobs → (pass : Pass) × HasPass memory j (slice_index_or jobs j d) pass
+AllHavePasses memory jobs = (j : ℕ) (d : Job) → j < length jobs → HasPass memory j (slice_index_or jobs j d)
 
 abbrev pub AllHaveBudget : (budget : ℕ) → List Job → Type 0
 AllHaveBudget budget jobs = (j : ℕ) (d : Job) → j < length jobs → (slice_index_or jobs j d).processor.budget ≡ budget
@@ -60,11 +57,9 @@ pub record HasSplit (memory : SharedMemory) (keeper : Pass) (budget : ℕ) (jobs
 -- the keeper has taken in the job's pass, whose own list has its entries, and this is the job's processor
 pub record IsJoined (v : View) (job : Job) (k : ProcessorValue) : Type 0 where
   pub processor : k ≡ job.processor
-  pub pass : Pass
-  pub there : job.pass ≡ Some pass
   pub place : ℕ
-  pub at : get_elem? v.ended place ≡ some (ended_as (view_of pass))
-  pub own_is : own_of pass ≡ own (number_of pass) (seen_of pass)
+  pub at : get_elem? v.ended place ≡ some (ended_as (view_of job.pass))
+  pub own_is : own_of job.pass ≡ own (number_of job.pass) (seen_of job.pass)
 
 -- the jobs below that number were joined
 pub record HasJoined (memory : SharedMemory) (given : List ℕ) (keeper : Pass) (jobs : List Job) (ended : List ProcessorValue) (number : ℕ) : Type 0 where

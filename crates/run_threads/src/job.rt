@@ -2,9 +2,9 @@
 use shared_memory::Pass;
 use tie_switch::Processor;
 
-/// The pass is away while the processor runs.
+/// A processor, and its way to the shared memory.
 #[derive(Drop)]
 pub(crate) struct Job {
     pub processor: Processor,
-    pub pass: Option<Pass>,
+    pub pass: Pass,
 }

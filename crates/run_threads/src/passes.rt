@@ -27,7 +27,7 @@ pub(crate) fn split_all(
 {
     for number in 0..count {
         let processor = Processor::new(number, &image.threads[usize::from(number)], budget);
-        let pass = Some(memory.split(keeper, number));
+        let pass = memory.split(keeper, number);
         jobs.push_reserved(Job { processor, pass });
     }
     jobs
@@ -48,7 +48,7 @@ pub(crate) fn join_all(
 {
     for job in jobs {
         let Job { processor, pass } = job;
-        memory.join(keeper, pass.unwrap());
+        memory.join(keeper, pass);
         ended.push_reserved(processor);
     }
 }

@@ -13,7 +13,8 @@ ghost use Rattle.tie_switch.specs.Turns.{has_ended};
 use crate::job::Job;
 use crate::passes::{join_all, split_all};
 use crate::program::Program;
-use crate::turns::run_all;
+use crate::together::run_all;
+use crate::turns::Turner;
 use image_file::Image;
 use image_meaning::laws::{page_table_has_bytes, vax_meaning_is_sound};
 use legal_history::laws::images_are_runs;
@@ -82,30 +83,32 @@ impl Running {
         })
     }
 
-    /// Runs every processor to its end, in a thread of its own, by the translation that was made ready. It may wait, and takes no memory. The processors stand in
-    /// the order of the threads.
+    /// Runs every processor to its end, in a thread of its own, by the translation that was made ready. It may wait. All threads stand
+    /// before any makes a step, and from then on it takes no memory; an error is want of memory, or a thread that the system does not
+    /// make, and then no processor has made a step. The processors stand in the order of the threads.
     pub fn go<R: Threads + Wait + Sync, G: Gate + Sync>(
         self,
         rt: &R,
+        alloc: Global,
         image: &Image,
         translation: &Translation,
         prepared: &Prepared<'_>,
         ranges: &[Range],
         gate: &G,
-    ) -> (MemState, Vec<Processor>)
+    ) -> Result<(MemState, Vec<Processor>), WantOfMemory>
         requires image { self.set_up.image ≡ image.now }
         requires code { prepared.now.code ≡ translation.now }
         requires pages { prepared.now.pages ≡ image.now.pages }
         requires meets { Meets (image_meaning image.now.pages) (any_permit image.now.pages) translation.now }
-        ensures set_up { result.0.set_up ≡ self.set_up }
-        ensures legal { IsLegal (image_setting image.now.pages translation.now ranges.now) self.set_up self.budget (reverse result.0.history) (map processor_of result.1.items) }
-        ensures ended { AllByRecursion (λ p. has_ended p.mode ≡ true) (map processor_of result.1.items) }
+        ensures set_up { IfOk result (λ r. r.0.set_up ≡ self.set_up) }
+        ensures legal { IfOk result (λ r. IsLegal (image_setting image.now.pages translation.now ranges.now) self.set_up self.budget (reverse r.0.history) (map processor_of r.1.items)) }
+        ensures ended { IfOk result (λ r. AllByRecursion (λ p. has_ended p.mode ≡ true) (map processor_of r.1.items)) }
     {
         let Running {
             memory,
             mut keeper,
             budget: _,
-            mut jobs,
+            jobs,
             mut ended,
         } = self;
         vax_meaning_is_sound();
@@ -116,10 +119,16 @@ impl Running {
             prepared,
             ranges,
         };
-        run_all(rt, &memory, gate, program, jobs.as_mut_slice());
+        let turner = Turner {
+            rt,
+            memory: &memory,
+            gate,
+            program,
+        };
+        let jobs = run_all(rt, alloc, &turner, jobs)?;
         join_all(&memory, &mut keeper, jobs, &mut ended);
         others_keep_reached();
         reached_are_legal();
-        (memory.close(keeper), ended)
+        Ok((memory.close(keeper), ended))
     }
 }

@@ -1,22 +1,18 @@
-// The turns of processors, each in a thread of its own.
-ghost use Rattle.std.specs.Prelude.{◌≡◌, ◌<◌, ◌+◌, ◌≤◌, ℕ, List, true, length, slice_index_or};
-ghost use Rattle.memory_core.specs.declared.entry.Entry.{Entry};
-ghost use Rattle.memory_core.specs.declared.entry.SetUp.{SetUp};
+// The turns of processors.
+ghost use Rattle.std.specs.Prelude.{◌≡◌};
 ghost use Rattle.shared_memory.specs.Passes.{set_up_of, number_of, seen_of, IsPassOf};
 ghost use Rattle.tie_switch.specs.Processors.{processor_of};
 ghost use Rattle.tie_switch.specs.Turns.{has_ended};
-ghost use Rattle.run_threads.specs.declared.job.Job.{Job};
-ghost use Rattle.run_threads.specs.Jobs.{IsReady, IsDone, AllReady};
+ghost use Rattle.run_threads.specs.Jobs.{IsReady, IsDone};
 ghost use Rattle.run_threads.specs.Processors.{IsUnderWay, HasEnded};
 ghost use Rattle.run_threads.specs.Programs.{setting_of, CanRun, HasPrepared};
 
 use crate::job::Job;
 use crate::program::Program;
+use crate::together::Runner;
 use legal_history::laws::reached_is_steady;
 use shared_memory::{Pass, Port, SharedMemory};
 use std::sync::Wait;
-use std::thread;
-use std::thread::Threads;
 use tie_switch::Processor;
 use tie_switch::laws::many_turns_keep_reached;
 use vt_outside::Gate;
@@ -61,46 +57,33 @@ fn turn_all<R: Wait, G: Gate>(
     pass
 }
 
-// Runs the processor of a job, and puts its pass back.
-fn run_job<R: Wait, G: Gate>(
-    rt: &R,
-    memory: &SharedMemory,
-    gate: &G,
-    program: Program<'_>,
-    job: &mut Job,
-)
-    requires prepared { HasPrepared program }
-    requires can_run { CanRun (setting_of program) (set_up_of memory.now) }
-    requires ready { IsReady memory.now job.old.processor.thread job.old }
-    ensures { IsDone (setting_of program.entry) memory.now job.old.processor.budget job.old.processor.thread job.new }
-{
-    let pass = job.pass.take().unwrap();
-    job.pass = Some(turn_all(rt, memory, gate, program, &mut job.processor, pass));
+/// Turns the processors of jobs over one memory.
+#[derive(Clone, Copy)]
+pub(crate) struct Turner<'a, R, G> {
+    pub rt: &'a R,
+    pub memory: &'a SharedMemory,
+    pub gate: &'a G,
+    pub program: Program<'a>,
 }
 
-/// Runs all jobs at the same time.
-pub(crate) fn run_all<R: Threads + Wait + Sync, G: Gate + Sync>(
-    rt: &R,
-    memory: &SharedMemory,
-    gate: &G,
-    program: Program<'_>,
-    jobs: &mut [Job],
-)
-    requires prepared { HasPrepared program }
-    requires can_run { CanRun (setting_of program) (set_up_of memory.now) }
-    requires some { 0 < length jobs.old }
-    requires ready { AllReady memory.now jobs.old }
-    ensures { (j : ℕ) (d : Job) → j < length jobs.old
-        → IsDone (setting_of program.entry) memory.now (slice_index_or jobs.old j d).processor.budget j (slice_index_or jobs.new j d) }
-{
-    let threads = jobs.len();
-    thread::for_each_mut(
-        rt,
-        jobs,
-        threads,
-        &|i, job|
-            requires { HasPrepared program × CanRun (setting_of program) (set_up_of memory.now) × IsReady memory.now i job.now }
-            ensures { IsDone (setting_of program.entry) memory.entry.now job.entry.now.processor.budget i job.exit.now }
-        { run_job(rt, memory, gate, program, job) },
-    );
+impl<R: Wait, G: Gate> Runner<Job> for Turner<'_, R, G> {
+    ghost can_run = { λ t job. HasPrepared t.program × CanRun (setting_of t.program) (set_up_of t.memory.now) × IsReady t.memory.now job.processor.thread job };
+
+    ghost run_gives = { λ t job ran. IsDone (setting_of t.program) t.memory.now job.processor.budget job.processor.thread ran };
+
+    fn run(&self, job: Job) -> Job {
+        let Job {
+            mut processor,
+            pass,
+        } = job;
+        let pass = turn_all(
+            self.rt,
+            self.memory,
+            self.gate,
+            self.program,
+            &mut processor,
+            pass,
+        );
+        Job { processor, pass }
+    }
 }

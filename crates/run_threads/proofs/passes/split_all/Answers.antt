@@ -15,10 +15,10 @@ loop-number-preserved c =
     c.index.ensures ∙ ap (λ (i : ImageValue). get_or i.threads c.from.result start) c.image.view_is
     ∙ ap (λ (place : ℕ). get_or c.args.image.now.threads place start) c.from.ensures in
     let at : slice_get c.args.image.now.threads n ≡ Some start = slice_get-get_or c.args.image.now.threads n start inside ∙ ap Some (sym read) in
-    let ready = new_ready c.args.memory.now c.args.image.now c.split.result c.new-processor.result start n c.requires.image at c.new-processor.ensures.stands
-    c.split.ensures.pass (c.split.ensures.seen ∙ split.unseen) in
+    let ready = new_ready c.args.memory.now c.args.image.now c.split-pass.result c.new-processor.result start n c.requires.image at c.new-processor.ensures.stands
+    c.split-pass.ensures.pass (c.split-pass.ensures.seen ∙ split.unseen) in
     record {
-      split = splits_one c.args.memory.now c.loop-number.keeper c.split.new.keeper c.args.budget c.loop-number.jobs.items c.push_reserved.new.self.items _ n split
-          c.split.ensures.keeper c.split.ensures.given c.push_reserved.ensures.items ready c.new-processor.ensures.budget;
+      split = splits_one c.args.memory.now c.loop-number.keeper c.split-pass.new.keeper c.args.budget c.loop-number.jobs.items c.push_reserved.new.self.items _ n split
+          c.split-pass.ensures.keeper c.split-pass.ensures.given c.push_reserved.ensures.items ready c.new-processor.ensures.budget;
       room = omega (arith, c.push_reserved.ensures.capacity, c.loop-number.invariant.room);
     }
