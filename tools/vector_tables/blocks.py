@@ -38,8 +38,8 @@ abbrev instr : Instr
 instr = record {{ at = 0x200; opcode = 0; count = 0; operands = []; after = 0x204 }}
 
 -- the block of a program behind which these codes are live; before it all are ready
-abbrev block : CodeSources → List Micro → (live : Flags) → BlockValue
-block sources program live = program_block instr sources program (code_words sources live) all_ready (rules_behind sources live all_ready)
+abbrev block : (byte_word : Bool) → CodeSources → List Micro → (live : Flags) → BlockValue
+block byte_word sources program live = program_block instr sources program (code_words sources live) all_ready (rules_behind sources live all_ready) byte_word
 """
 LENGTHS_HEAD = f"""-- How many words the longest block of a micro program has, whichever codes are live behind its instruction.
 {HEAD}
@@ -48,7 +48,7 @@ sets = {list_of("codes " + " ".join(truth(number >> bit & 1) for bit in (3, 2, 1
 
 longest : CodeSources → List Micro → ℕ
 unfolding sources_of
-longest sources program = fold max 0 (map (λ live. length (block sources program live).words) sets)
+longest sources program = fold max 0 (map (λ live. length (block false sources program live).words) sets)
 """
 BLOCKS_HEAD = f"""-- Blocks that were worked out by hand, word by word.
 {HEAD}
@@ -79,14 +79,15 @@ def point_of(text, behind):
 
 
 def blocks_lemma(place, line):
-    opcode, live, words, exits, points, program = line.split(" ", 5)
+    target, opcode, live, words, exits, points, program = line.split(" ", 6)
+    byte_word = truth({"original": 0, "byteword": 1}[target])
     sources = f"(sources_of {operation_of(NAMES[int(opcode, 16)])})"
     live = "(codes " + " ".join(truth(code in live) for code in "NZVC") + ")"
     behind = f"(rules_behind {sources} {live} all_ready)"
     wanted = [list_of(f"0x{word}" for word in words.split(",")),
               list_of("(0x{}, 0x{})".format(*pair.split("=")) for pair in exits.split(",")),
               list_of(point_of(point, behind) for point in points.split(","))]
-    return lemma(f"row{place}", f"spelled (block {sources} {program_of(program)} {live})", f"({', '.join(wanted)})", "sources_of")
+    return lemma(f"row{place}", f"spelled (block {byte_word} {sources} {program_of(program)} {live})", f"({', '.join(wanted)})", "sources_of")
 
 
 TABLES = {

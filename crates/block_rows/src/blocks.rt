@@ -101,6 +101,7 @@ pub fn made(alloc: Global, site: Site, opcode: u8, program: &[Micro], live: Flag
         &words,
         Rules::READY,
         behind,
+        false,
     ) {
         Ok(block) => Ok(block),
         Err(_) => bail!("want of memory"),

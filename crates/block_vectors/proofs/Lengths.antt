@@ -1,5 +1,5 @@
 -- How many words the longest block of a micro program has, whichever codes are live behind its instruction.
-use Rattle.std.proofs.Common.{◌≡◌, ℕ, List, [], ◌∷◌, true, false, Some, None, refl}
+use Rattle.std.proofs.Common.{◌≡◌, ℕ, List, [], ◌∷◌, Bool, true, false, Some, None, refl}
 use Rattle.std.specs.Prelude.{map, length, fold, max}
 use Rattle.vax_form.specs.Codes.{codes}
 use Rattle.vax_form.specs.declared.instr.Instr.{Instr}
@@ -29,15 +29,15 @@ abbrev instr : Instr
 instr = record { at = 0x200; opcode = 0; count = 0; operands = []; after = 0x204 }
 
 -- the block of a program behind which these codes are live; before it all are ready
-abbrev block : CodeSources → List Micro → (live : Flags) → BlockValue
-block sources program live = program_block instr sources program (code_words sources live) all_ready (rules_behind sources live all_ready)
+abbrev block : (byte_word : Bool) → CodeSources → List Micro → (live : Flags) → BlockValue
+block byte_word sources program live = program_block instr sources program (code_words sources live) all_ready (rules_behind sources live all_ready) byte_word
 
 abbrev sets : List Flags
 sets = codes false false false false ∷ codes false false false true ∷ codes false false true false ∷ codes false false true true ∷ codes false true false false ∷ codes false true false true ∷ codes false true true false ∷ codes false true true true ∷ codes true false false false ∷ codes true false false true ∷ codes true false true false ∷ codes true false true true ∷ codes true true false false ∷ codes true true false true ∷ codes true true true false ∷ codes true true true true ∷ []
 
 longest : CodeSources → List Micro → ℕ
 unfolding sources_of
-longest sources program = fold max 0 (map (λ live. length (block sources program live).words) sets)
+longest sources program = fold max 0 (map (λ live. length (block false sources program live).words) sets)
 
 row1 : longest (sources_of (op.Move sizes.Long)) ((Compute 0 compute.Move sizes.Long (Register 1) (Const 0)) ∷ (Probe 0 4 false) ∷ (Read 1 0 4) ∷ (Compute 4 compute.Add sizes.Long (Register 2) (Register 2)) ∷ (Compute 4 compute.Add sizes.Long (Temp 4) (Temp 4)) ∷ (Compute 1 compute.Add sizes.Long (Temp 1) (Temp 4)) ∷ (Probe 1 4 false) ∷ (Read 0 1 4) ∷ (Compute 2 compute.Move sizes.Long (Register 2) (Const 0)) ∷ (Probe 2 4 false) ∷ (Read 3 2 4) ∷ (Compute 4 compute.Add sizes.Long (Register 1) (Const 4)) ∷ (Compute 4 compute.Add sizes.Long (Temp 4) (Temp 4)) ∷ (Compute 4 compute.Add sizes.Long (Temp 4) (Temp 4)) ∷ (Compute 3 compute.Add sizes.Long (Temp 3) (Temp 4)) ∷ (Probe 3 4 true) ∷ (Write 3 4 0) ∷ (Compute 2 compute.Move sizes.Long (Temp 0) (Const 0)) ∷ (Compute 5 compute.Add sizes.Long (Register 1) (Const 4)) ∷ (Commit 1 5) ∷ (Compute 5 compute.Add sizes.Long (Register 2) (Const 4)) ∷ (Commit 2 5) ∷ (Compute 6 compute.ShiftRight sizes.Long (Temp 2) (Const 31)) ∷ (Compute 7 compute.Equal sizes.Long (Temp 2) (Const 0)) ∷ (Compute 8 compute.Move sizes.Byte (Const 0) (Const 0)) ∷ (Codes 6 7 8 None) ∷ (Leave Next) ∷ []) ≡ 0x58
 unfolding longest

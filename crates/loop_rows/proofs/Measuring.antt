@@ -22,7 +22,7 @@ use Rattle.alpha_meaning.specs.State.{Regs, at_place}
 use Rattle.alpha_meaning.specs.Loops.{effect}
 use Rattle.alpha_meaning.specs.Pieces.{HasAt, Only, Plain}
 use Rattle.byte_sequences.specs.Plans.{read_plan}
-use Rattle.byte_sequences.specs.Promises.{Holds, MayRead}
+use Rattle.byte_sequences.specs.Promises.{Holds, MayRead, loaded_bytes}
 use Rattle.byte_sequences.specs.Words.{read_code}
 use Rattle.byte_sequences.proofs.ReadLaws.{reads}
 use Rattle.micro_ops.specs.declared.known.Checked.TheVariants.{At}
@@ -123,7 +123,7 @@ module _ (pages : Pages) (table : IsPageTable pages) (after : ℕ) (code : Code)
         (omega arith) (omega arith) (λ q gt le. let there : q ≡ first + (q - first) = omega arith in ap p.stops there ∙ front.inside (q - first) (omega arith) (omega arith))
         (subst (λ a. Begins by_loads p.kinds strings None (read_plan (parts a 2)) (word_read length_at strings) None) (sym in_22) begins)
         (λ n. reads 22 2 21 c2 (record { low = lit≤ tt; high = lit≤ tt }) (record { low = lit≤ tt; high = lit≤ tt }) p.fetch (piece_terms p by_loads) (first + 3) f (omega arith)
-        (subst (λ a. MayRead (piece_terms p by_loads) a 2) (sym in_22) (may_read p table length_at 2 c2 usage)) read_has n)
+        (subst (λ a. MayRead loaded_bytes (piece_terms p by_loads) a 2) (sym in_22) (may_read p table false length_at 2 c2 usage)) read_has n)
         (λ count g h. subst (λ pc. Always p None 21 (at_place g pc) (strings count)) (sym end)
         (copies_string (measured_tree after) pages after code first (first + 12) thread state held address start here form shows None count g h.fits (word_fits count (g 21) h.holds h.fits) (word_is count (g 21) h.holds h.fits)
         (λ n out. h.only n (free_scratch 21 refl n out) ∙ only n out)))

@@ -58,7 +58,7 @@ copy_tree after state = string_tree after (register 0 state % 2 ^ 16) state
 -- references are made as those of a program, and each access that counts allows as many steps more as a block may take
 abbrev pub copy_permit : Permit
 copy_permit = record {
-  kinds = λ address. needed;
+  kinds = λ address. needed false 1;
   bonus = λ address. block_steps;
 }
 

@@ -31,10 +31,8 @@ use Rattle.byte_sequences.specs.Instructions as bytes
 use Rattle.byte_sequences.specs.Instructions.{is_scratch, is_scratch_or}
 use Rattle.byte_sequences.specs.Plans.{read_plan, write_plan, locked_plan}
 use Rattle.byte_sequences.specs.Promises as sequences
-use Rattle.byte_sequences.specs.Words.{read_code, write_code, locked_code}
+use Rattle.byte_sequences.specs.Words.{locked_code}
 use Rattle.byte_sequences.proofs.LockLaws.{locks}
-use Rattle.byte_sequences.proofs.ReadLaws.{reads}
-use Rattle.byte_sequences.proofs.WriteLaws.{writes}
 use Rattle.block_law.specs.Follows.{probe_count}
 use Rattle.block_law.specs.Laws.{MoreKinds}
 use Rattle.block_law.specs.Placements.{Placement}
@@ -43,13 +41,14 @@ use Rattle.block_law.proofs.Blocks.{Begins, piece_terms}
 use Rattle.block_law.proofs.Rules.{Always, roomy, goes, passes, skips, probes, raises, runs}
 use Rattle.program_codegen.specs.declared.lines.Line.{Line}
 use Rattle.program_codegen.specs.declared.points.Site.{Site}
-use Rattle.program_codegen.specs.Accesses.{by_loads, by_locks, by_stores, needed}
-use Rattle.program_codegen.specs.Words.{plain, marked, holder, copy, probing, raising}
+use Rattle.program_codegen.specs.Accesses.{by_locks, needed}
+use Rattle.program_codegen.specs.Words.{plain, marked, holder, copy, probing, raising, read_by, write_by}
 use Rattle.program_codegen.proofs.Numbers.{all_three, all_four, all_five, copied}
 use Rattle.program_codegen.proofs.Knowing.{SameChanges, write_changes, access_changes}
 use Rattle.program_codegen.proofs.Walk.{Within, next, stands, row_words, row_length, is_inside}
 use Rattle.program_codegen.proofs.Holding.{Holds, HoldsAs, tree}
 use Rattle.program_codegen.proofs.Computing.{held_value, held_still, unchanged, checks_written, value_written}
+use Rattle.program_codegen.proofs.Stores.{loads_of, loaded_of, stores_of, stored_of, reads_by, writes_by, write_kinds}
 use Rattle.program_codegen.proofs.Operands.{count_some, IsUsable, usable, may_read, may_write, may_lock, begins_read, begins_write, begins_locked}
 
 -- ---- registers
@@ -181,13 +180,13 @@ locked_holds SetBit value r e lt = (e, omega arith)
 locked_holds ClearBit value r e lt = (e, omega arith)
 
 -- ---- a read
-module _ (p : Placement) (site : Site) (table : IsPageTable p.pages) (kinds : MoreKinds needed p.kinds) where
+module _ (p : Placement) (site : Site) (table : IsPageTable p.pages) (bytes_written : ℕ) (kinds : MoreKinds (needed site.byte_word bytes_written) p.kinds) where
   pub reads_operand : (need pc to place count : ℕ) (rest : List Line) (known : Known) (standing : Standing) (regs : Regs) (on : ℕ → Course Left)
-      → Within p site.behind pc (map plain (read_code (holder place) count (holder to)) ++ rest) → 1 ≤ length rest
+      → Within p site.behind pc (map plain (read_by site.byte_word (holder place) count (holder to)) ++ rest) → 1 ≤ length rest
       → read_fits known to place count ≡ true → bytes.IsArgument (holder place) → bytes.IsArgument (holder to) → IsCount count → Holds p site known standing regs
       → ((value : ℕ) (g : Regs) → value < 2 ^ (8 * count) → Holds p site (behind_access (behind_write to (holding_of (nat_le count 4)) known)) (with_value to value standing) g
-      → Always p None need (at_place g (pc + length (read_code (holder place) count (holder to)))) (tree p (on value)))
-      → Always p None (length (read_code (holder place) count (holder to)) + need) (at_place regs pc) (tree p (read_parts (parts (standing.temps place) count) on))
+      → Always p None need (at_place g (pc + length (read_by site.byte_word (holder place) count (holder to)))) (tree p (on value)))
+      → Always p None (length (read_by site.byte_word (holder place) count (holder to)) + need) (at_place regs pc) (tree p (read_parts (parts (standing.temps place) count) on))
   reads_operand need pc to place count rest known standing regs on w some fits a_place a_to is h behind =
       let x = all_three (is_count count) (are_apart to place) (reference_fits known place count false) fits in
       let low = a_to.low in
@@ -197,14 +196,15 @@ module _ (p : Placement) (site : Site) (table : IsPageTable p.pages) (kinds : Mo
       let to_lt : to < 6 = omega arith in
       let v = place_usable p site known standing regs place count false (omega arith) x.2 h in
       let size = count_some is in
-      let count_is = row_length p site.behind (read_code (21 + place) count (21 + to)) rest in
+      let count_is = row_length p site.behind (read_by site.byte_word (21 + place) count (21 + to)) rest in
       let end = w.high in
       let near = w.near in
-      let may : sequences.MayRead (piece_terms p by_loads) (regs (21 + place)) count = subst (λ a. sequences.MayRead (piece_terms p by_loads) a count) (sym v.1) (may_read p table (standing.temps place) count is v.0) in
-      runs p None need pc (length (read_code (21 + place) count (21 + to))) (sequences.Holds regs (21 + to) count) by_loads (λ value. tree p (on value)) None regs (read_plan (parts (regs (21 + place)) count)) _
-      w.low (omega arith) (λ q gt le. is_inside p site.behind pc q (map plain (read_code (21 + place) count (21 + to)) ++ rest) w gt (omega arith))
-      (subst (λ a. Begins by_loads p.kinds (λ value. tree p (on value)) None (read_plan (parts a count)) (tree p (read_parts (parts (standing.temps place) count) on)) None) (sym v.1) (begins_read p kinds (standing.temps place) count on size.0))
-      (λ n. reads (21 + place) count (21 + to) is a_place a_to p.fetch (piece_terms p by_loads) pc regs (omega arith) may (row_words p site.behind pc (read_code (21 + place) count (21 + to)) rest w) n)
+      let may : sequences.MayRead (loaded_of site.byte_word) (piece_terms p (loads_of site.byte_word)) (regs (21 + place)) count =
+      subst (λ a. sequences.MayRead (loaded_of site.byte_word) (piece_terms p (loads_of site.byte_word)) a count) (sym v.1) (may_read p table site.byte_word (standing.temps place) count is v.0) in
+      runs p None need pc (length (read_by site.byte_word (21 + place) count (21 + to))) (sequences.Holds regs (21 + to) count) (loads_of site.byte_word) (λ value. tree p (on value)) None regs (read_plan (parts (regs (21 + place)) count)) _
+      w.low (omega arith) (λ q gt le. is_inside p site.behind pc q (map plain (read_by site.byte_word (21 + place) count (21 + to)) ++ rest) w gt (omega arith))
+      (subst (λ a. Begins (loads_of site.byte_word) p.kinds (λ value. tree p (on value)) None (read_plan (parts a count)) (tree p (read_parts (parts (standing.temps place) count) on)) None) (sym v.1) (begins_read p site.byte_word bytes_written kinds (standing.temps place) count on size.0))
+      (λ n. reads_by site.byte_word (21 + place) count (21 + to) is a_place a_to p.fetch (piece_terms p (loads_of site.byte_word)) pc regs (omega arith) may (row_words p site.behind pc (read_by site.byte_word (21 + place) count (21 + to)) rest w) n)
       (λ value g l. behind value g l.fits
       (unchanged p site known (behind_access (behind_write to (holding_of (nat_le count 4)) known)) standing (with_temp to value standing.temps) regs g
       (written_changes known to (holding_of (nat_le count 4)))
@@ -216,26 +216,29 @@ module _ (p : Placement) (site : Site) (table : IsPageTable p.pages) (kinds : Mo
 
   -- ---- a write
   pub writes_operand : (need pc place count source : ℕ) (rest : List Line) (known : Known) (standing : Standing) (regs : Regs) (on : Course Left)
-      → Within p site.behind pc (map plain (write_code (holder place) count (holder source)) ++ rest) → 1 ≤ length rest
-      → write_fits known place count source ≡ true → bytes.IsArgument (holder place) → bytes.IsArgument (holder source) → IsCount count → Holds p site known standing regs
-      → ((g : Regs) → Holds p site (behind_access known) standing g → Always p None need (at_place g (pc + length (write_code (holder place) count (holder source)))) (tree p on))
-      → Always p None (length (write_code (holder place) count (holder source)) + need) (at_place regs pc) (tree p (write_parts (parts (standing.temps place) count) (standing.temps source) on))
-  writes_operand need pc place count source rest known standing regs on w some fits a_place a_source is h behind =
+      → Within p site.behind pc (map plain (write_by site.byte_word (holder place) count (holder source)) ++ rest) → 1 ≤ length rest
+      → write_fits known place count source ≡ true → bytes.IsArgument (holder place) → bytes.IsArgument (holder source) → IsCount count → count ≡ bytes_written → Holds p site known standing regs
+      → ((g : Regs) → Holds p site (behind_access known) standing g → Always p None need (at_place g (pc + length (write_by site.byte_word (holder place) count (holder source)))) (tree p on))
+      → Always p None (length (write_by site.byte_word (holder place) count (holder source)) + need) (at_place regs pc) (tree p (write_parts (parts (standing.temps place) count) (standing.temps source) on))
+  writes_operand need pc place count source rest known standing regs on w some fits a_place a_source is all_bytes h behind =
       let x = all_four (is_count count) (are_apart place source) (holds known source) (reference_fits known place count true) fits in
       let place_high = a_place.high in
       let source_high = a_source.high in
       let v = place_usable p site known standing regs place count true (omega arith) x.3 h in
       let u = held_value (held known source) (standing.temps source) (regs (21 + source)) x.2 (h.temps source (omega arith)) in
-      let count_is = row_length p site.behind (write_code (21 + place) count (21 + source)) rest in
+      let count_is = row_length p site.behind (write_by site.byte_word (21 + place) count (21 + source)) rest in
       let end = w.high in
       let near = w.near in
-      let may : sequences.MayWrite sequences.stored_bytes (piece_terms p by_stores) (regs (21 + place)) count = subst (λ a. sequences.MayWrite sequences.stored_bytes (piece_terms p by_stores) a count) (sym v.1) (may_write p table (standing.temps place) count is v.0) in
-      runs p None need pc (length (write_code (21 + place) count (21 + source))) (sequences.Keeps regs) by_stores (λ done. tree p on) None regs (write_plan (parts (regs (21 + place)) count) (regs (21 + source))) _
-      w.low (omega arith) (λ q gt le. is_inside p site.behind pc q (map plain (write_code (21 + place) count (21 + source)) ++ rest) w gt (omega arith))
-      (subst (λ a. Begins by_stores p.kinds (λ (done : Unit {0}). tree p on) None (write_plan (parts a count) (regs (21 + source))) (tree p (write_parts (parts (standing.temps place) count) (standing.temps source) on)) None) (sym v.1)
-      (subst (λ value. Begins by_stores p.kinds (λ (done : Unit {0}). tree p on) None (write_plan (parts (standing.temps place) count) value) (tree p (write_parts (parts (standing.temps place) count) (standing.temps source) on)) None) (sym u.0)
-      (begins_write p kinds (parts (standing.temps place) count) (standing.temps source) on)))
-      (λ n. writes (21 + place) count (21 + source) is a_place a_source p.fetch (piece_terms p by_stores) pc regs (omega arith) may (row_words p site.behind pc (write_code (21 + place) count (21 + source)) rest w) n)
+      let stores = stores_of site.byte_word (standing.temps place) count in
+      let may : sequences.MayWrite (stored_of site.byte_word) (piece_terms p (stores_of site.byte_word (standing.temps place) count)) (regs (21 + place)) count =
+      subst (λ a. sequences.MayWrite (stored_of site.byte_word) (piece_terms p (stores_of site.byte_word (standing.temps place) count)) a count) (sym v.1) (may_write p table site.byte_word (standing.temps place) count is v.0) in
+      let each = write_kinds count p.kinds site.byte_word (subst (λ n. MoreKinds (needed site.byte_word n) p.kinds) (sym all_bytes) kinds) (standing.temps place) is in
+      runs p None need pc (length (write_by site.byte_word (21 + place) count (21 + source))) (sequences.Keeps regs) stores (λ done. tree p on) None regs (write_plan (parts (regs (21 + place)) count) (regs (21 + source))) _
+      w.low (omega arith) (λ q gt le. is_inside p site.behind pc q (map plain (write_by site.byte_word (21 + place) count (21 + source)) ++ rest) w gt (omega arith))
+      (subst (λ a. Begins stores p.kinds (λ (done : Unit {0}). tree p on) None (write_plan (parts a count) (regs (21 + source))) (tree p (write_parts (parts (standing.temps place) count) (standing.temps source) on)) None) (sym v.1)
+      (subst (λ value. Begins stores p.kinds (λ (done : Unit {0}). tree p on) None (write_plan (parts (standing.temps place) count) value) (tree p (write_parts (parts (standing.temps place) count) (standing.temps source) on)) None) (sym u.0)
+      (begins_write p site.byte_word bytes_written kinds stores (parts (standing.temps place) count) (standing.temps source) on each)))
+      (λ n. writes_by site.byte_word (21 + place) count (21 + source) is a_place a_source p.fetch (piece_terms p stores) pc regs (omega arith) may (row_words p site.behind pc (write_by site.byte_word (21 + place) count (21 + source)) rest w) n)
       (λ done g l. behind g
       (unchanged p site known (behind_access known) standing standing.temps regs g (access_changes known)
       (λ n kept. l.only n (kept_not_scratch n kept)) (l.only 31 refl)
@@ -271,7 +274,7 @@ module _ (p : Placement) (site : Site) (table : IsPageTable p.pages) (kinds : Mo
       w.low (omega arith) (λ q gt le. is_inside p site.behind pc q (map plain (locked_code kind (21 + place) (21 + source) (21 + to)) ++ rest) w gt (omega arith))
       (subst (λ a. Begins by_locks p.kinds (λ value. tree p (on value)) None (locked_plan kind a (regs (21 + source))) (tree p (asked kind on)) None) (sym v.1)
       (subst (λ n. Begins by_locks p.kinds (λ value. tree p (on value)) None (locked_plan kind (standing.temps place) n) (tree p (asked kind on)) None) (sym u.0)
-      (begins_locked p kinds kind (standing.temps place) (standing.temps source) on lock.operand)))
+      (begins_locked p site.byte_word bytes_written kinds kind (standing.temps place) (standing.temps source) on lock.operand)))
       (λ n. locks kind (21 + place) (21 + source) (21 + to) a_place a_source a_to (apart_of _ _ (shifted place to place_apart)) (apart_of _ _ (shifted source to source_apart)) p.fetch (piece_terms p by_locks) pc regs (omega arith) may
       (row_words p site.behind pc (locked_code kind (21 + place) (21 + source) (21 + to)) rest w) n)
       (λ value g l. behind value g l.fits

@@ -9,11 +9,11 @@ use Rattle.micro_ops.specs.declared.program.Exit.{Exit}
 use Rattle.micro_ops.specs.declared.program.Exit.TheVariants.{Next, Fixed, Computed, Choice, Service, Breakpoint}
 use Rattle.micro_ops.specs.declared.program.Micro.{Micro}
 use Rattle.micro_ops.specs.declared.program.Micro.TheVariants.{Compute, Probe, Refuse, Read, Write, Locked, Commit, Codes, SetPsw, Leave}
-use Rattle.byte_sequences.specs.Words.{read_code, write_code, locked_code}
+use Rattle.byte_sequences.specs.Words.{locked_code}
 use Rattle.compute_sequences.specs.Words.{compute_code}
 use Rattle.program_codegen.specs.declared.lines.Line.{Line}
 use Rattle.program_codegen.specs.declared.points.Site.{Site}
-use Rattle.program_codegen.specs.Words.{block_lines, block_of, departing, holder, lines_of, may_trap, overflow_lines, overflow_made, plain, point_of, program_lines, tested_lines, trap_lines, with_first}
+use Rattle.program_codegen.specs.Words.{block_lines, block_of, departing, holder, lines_of, may_trap, overflow_lines, overflow_made, plain, point_of, program_lines, tested_lines, trap_lines, with_first, read_by, write_by}
 use Rattle.program_codegen.specs.Promises.{BeginsBy}
 
 module _ (site : Site) where
@@ -53,8 +53,8 @@ module _ (site : Site) where
       by false = row (compute_code op size a b (holder to))
   operation_starts codes (Probe place count write) program = refl
   operation_starts codes (Refuse when) program = refl
-  operation_starts codes (Read to place count) program = row (read_code (holder place) count (holder to))
-  operation_starts codes (Write place count source) program = row (write_code (holder place) count (holder source))
+  operation_starts codes (Read to place count) program = row (read_by site.byte_word (holder place) count (holder to))
+  operation_starts codes (Write place count source) program = row (write_by site.byte_word (holder place) count (holder source))
   operation_starts codes (Locked to place kind source) program = row (locked_code kind (holder place) (holder source) (holder to))
   operation_starts codes (Commit register source) program = refl
   operation_starts codes (Codes n z v c) program = tt

@@ -1,5 +1,5 @@
 -- Wherever the block of a program stands, it follows the program's tree.
-use Rattle.std.proofs.Common.{◌≡◌, ℕ, zero, suc, ◌+◌, ◌-◌, ◌^◌, ◌<◌, ◌≤◌, refl, sym, ap, ◌∙◌, subst, arith, List, [], ◌∷◌, length, Option, Some, None, true, false, eq-eqb, ne_eqb, zero-add}
+use Rattle.std.proofs.Common.{◌≡◌, ℕ, zero, suc, ◌+◌, ◌-◌, ◌^◌, ◌<◌, ◌≤◌, refl, sym, ap, ◌∙◌, subst, arith, List, [], ◌∷◌, length, Option, Some, None, Bool, true, false, eq-eqb, ne_eqb, zero-add}
 use Rattle.std.specs.Prelude.{◌==◌, ◌||◌, nat_lt, slice_get, unwrap_or}
 use Rattle.std.proofs.lemmas.Bool.Decides.{nat_tests}
 use Rattle.std.proofs.lemmas.Option.{slice_get_within, same_Some}
@@ -24,7 +24,7 @@ use Rattle.alpha_meaning.specs.Pieces.{most_words}
 use Rattle.block_law.specs.Translations.{Meaning, Permit, Code, placed, fetch_of}
 use Rattle.program_codegen.specs.declared.lines.Line.{Line}
 use Rattle.program_codegen.specs.declared.points.Site.{Site}
-use Rattle.program_codegen.specs.Words.{point_of, with_first, words_of, with_entry, points_from, exits_from, block_of, block_lines, program_lines}
+use Rattle.program_codegen.specs.Words.{point_of, with_first, words_of, with_entry, points_from, exits_from, block_of, block_lines, program_lines, site_of}
 use Rattle.program_codegen.specs.Programs.{AllHaveWords, ReadsReady, LeavesReady, KeepsTogether, is_narrow}
 use Rattle.program_codegen.specs.Accesses.{needed}
 use Rattle.program_codegen.specs.Promises.{CompilesProgram}
@@ -134,21 +134,22 @@ module _ (meaning : Meaning) (permit : Permit) (code : Code) (thread : ℕ) (sta
       }
 
 -- ---- whole blocks
-module _ (instr : Instr) (sources : CodeSources) (program : List Micro) (codes : List AlphaInstr) (before behind : Rules) where
+module _ (instr : Instr) (sources : CodeSources) (program : List Micro) (codes : List AlphaInstr) (before behind : Rules) (byte_word : Bool) where
   abbrev site : Site
-  site = record { at = instr.at; after = instr.after; sources = sources; before = before; behind = behind }
+  site = site_of instr sources before behind byte_word
 
   pub compiles : LeavesCodes sources before behind codes → KeepsTogether sources → is_narrow behind.v ≡ true → instr.after < 2 ^ 32
       → AllHaveWords sources program → ReadsReady before program → LeavesReady behind program → is_ended (walk sources at_start program) ≡ true
       → IsWhole 0 (block_lines site codes program) → length (program_lines site codes program) ≤ 256
       → ((p : Placement) → Setting p site codes → LeavingFollows p site codes)
-      → CompilesProgram instr sources program before behind (block_of (block_lines site codes program))
-  compiles leaves together narrow after words reads ready ended whole short leaving meaning permit writes code first thread n state held regs few stands at form shows leads range agree =
+      → CompilesProgram instr sources program before behind byte_word (block_of (block_lines site codes program))
+  compiles leaves together narrow after words reads ready ended whole short leaving bytes sized meaning permit writes code first thread n state held regs few stands at form shows leads range agree =
       let p = placed meaning permit code thread state held first in
       let setting : Setting p site codes = record {
         pages = writes.pages;
         written = ap meaning.written at ∙ writes.written;
-        kinds = subst (λ (address : ℕ). MoreKinds needed (permit.kinds address)) (sym at) writes.kinds;
+        bytes = bytes;
+        kinds = subst (λ (address : ℕ). MoreKinds (needed byte_word bytes) (permit.kinds address)) (sym at) writes.kinds;
         leaves = leaves;
         together = together;
         narrow = narrow;
@@ -156,4 +157,4 @@ module _ (instr : Instr) (sources : CodeSources) (program : List Micro) (codes :
       } in
       follows p site codes setting (leaving p setting) program at_start (started state) regs first
       (within_block meaning permit code thread state held first behind (point_of site) (program_lines site codes program) few whole stands leads)
-      words reads ready refl ended (holds_at_start p site instr.at regs form shows) range agree n block_steps new_round short
+      sized words reads ready refl ended (holds_at_start p site instr.at regs form shows) range agree n block_steps new_round short

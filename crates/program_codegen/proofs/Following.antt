@@ -1,9 +1,9 @@
 -- The words of a program follow its tree.
 use Rattle.std.proofs.Common.{◌≡◌, ℕ, ◌+◌, ◌<◌, ◌≤◌, refl, sym, ◌∙◌, subst, arith, List, [], ◌∷◌, ◌++◌, length, map, Option, Some, None, Bool, true, false, lit≤, length-append}
 use Rattle.std.specs.Prelude.{pos, ◌==◌, ◌&&◌, not, nat_le, option_and_then, if◌then◌else◌}
-use Rattle.std.specs.List.{list_any}
+use Rattle.std.specs.List.{list_any, list_all}
 use Rattle.std.proofs.lemmas.Bool.Decides.{nat_tests}
-use Rattle.std.proofs.lemmas.Bool.{and_parts, or_left, or_right, eqb-false}
+use Rattle.std.proofs.lemmas.Bool.{and_parts, or_left, or_right, eqb-false, eqb-true}
 use Rattle.std.proofs.lemmas.List.{append-nil}
 use Rattle.vax_form.specs.Parts.{parts}
 use Rattle.vax_form.specs.Ranges.{IsInRange}
@@ -38,14 +38,14 @@ use Rattle.micro_ops.specs.Meaning.{Standing, Left, with_temp, with_value, with_
 use Rattle.micro_ops.specs.Uses.{leaves_longword, takes, reads_flag, is_flag}
 use Rattle.micro_ops.specs.Values.{computed}
 use Rattle.micro_ops.proofs.Held.{held_other}
-use Rattle.byte_sequences.specs.Words.{read_code, write_code, locked_code}
+use Rattle.byte_sequences.specs.Words.{locked_code}
 use Rattle.compute_sequences.specs.Words.{compute_code}
 use Rattle.block_law.specs.Placements.{Placement}
 use Rattle.block_law.proofs.Rules.{Always, roomy}
 use Rattle.program_codegen.specs.declared.lines.Line.{Line}
 use Rattle.program_codegen.specs.declared.points.Site.{Site}
-use Rattle.program_codegen.specs.Words.{plain, marked, holder, copy, probing, raising, leaving, departing, trap_lines, lines_of, program_lines}
-use Rattle.program_codegen.specs.Programs.{HasWords, IsExit, ReadsReady, LeavesReady, rule_of}
+use Rattle.program_codegen.specs.Words.{plain, marked, holder, copy, probing, raising, leaving, departing, trap_lines, lines_of, program_lines, read_by, write_by}
+use Rattle.program_codegen.specs.Programs.{HasWords, IsExit, ReadsReady, LeavesReady, has_bytes, rule_of}
 use Rattle.program_codegen.proofs.Knowing.{walk_fits, nothing_behind, write_changes}
 use Rattle.program_codegen.proofs.Walk.{Within, next, row_rest, row_length}
 use Rattle.program_codegen.proofs.Holding.{Setting, Holds, HoldsAs, LeavingFollows, ProgramFollows, found, tree}
@@ -196,20 +196,23 @@ module _ (p : Placement) (site : Site) (codes : List AlphaInstr) (setting : Sett
   two_words : (pc : ℕ) → pc + 1 + 1 ≡ pc + 2
   two_words pc = omega arith
 
+  later_sized : (operation : Micro) (program : List Micro) → list_all (has_bytes setting.bytes) (operation ∷ program) ≡ true → list_all (has_bytes setting.bytes) program ≡ true
+  later_sized operation program sized = (and_parts (has_bytes setting.bytes operation) (list_all (has_bytes setting.bytes) program) sized).1
+
   later_flags : (operation : Micro) (program : List Micro) → ReadsReady site.before (operation ∷ program) → ReadsReady site.before program
   later_flags operation program reads flag lt is = reads flag lt (or_right (reads_flag flag operation) (list_any (reads_flag flag) program) is)
 
-  pub follows : ProgramFollows p site codes
+  pub follows : ProgramFollows p site codes setting.bytes
   unfolding step
-  follows [] known standing regs pc w words reads ready off e h range agree = absurd (cc (sym off ∙ e))
-  follows (Compute to op size a b ∷ program) known standing regs pc w words reads ready off e h range agree =
+  follows [] known standing regs pc w sized words reads ready off e h range agree = absurd (cc (sym off ∙ e))
+  follows (Compute to op size a b ∷ program) known standing regs pc w sized words reads ready off e h range agree =
       let behind = behind_write to (holding_of (leaves_longword (Compute to op size a b))) known in
       let x = walk_fits (computation_fits known to op a b) behind (λ behind. walk site.sources behind program) (opened site.sources known (Compute to op size a b) program off e) in
       let off' = (write_changes to (holding_of (leaves_longword (Compute to op size a b))) known).ended ∙ off in
       computing_follows to op size a b program known standing regs pc (tree p (Course_of (Compute to op size a b ∷ program) standing)) w (lines_some site codes program behind off' x.1) x.0 words.0
       (λ flag lt is. reads flag lt (or_left (reads_flag flag (Compute to op size a b)) (list_any (reads_flag flag) program) is)) h
-      (λ regs' pc' w' h'. follows program behind _ regs' pc' w' words.1 (later_flags (Compute to op size a b) program reads) ready off' x.1 h' range agree)
-  follows (Probe place count write ∷ program) known standing regs pc w words reads ready off e h range agree =
+      (λ regs' pc' w' h'. follows program behind _ regs' pc' w' (later_sized (Compute to op size a b) program sized) words.1 (later_flags (Compute to op size a b) program reads) ready off' x.1 h' range agree)
+  follows (Probe place count write ∷ program) known standing regs pc w sized words reads ready off e h range agree =
       let behind = behind_access (record known { checked = At place count write }) in
       let x = walk_fits (check_fits known place count) behind (λ behind. walk site.sources behind program) (opened site.sources known (Probe place count write) program off e) in
       let lines = program_lines site codes program in
@@ -217,64 +220,64 @@ module _ (p : Placement) (site : Site) (codes : List AlphaInstr) (setting : Sett
       let w2 = subst (λ q. Within p site.behind q lines) (two_words pc) (next p site.behind (pc + 1) (Pal 0x80) (Some (probing site count write)) lines w1) in
       roomy p None (2 + length lines) (length (lines_of site codes (Probe place count write) program ++ lines)) (at_place regs pc) _ (omega arith)
       (checks p site (length lines) pc place count write lines known standing regs (Course_of program standing) w (lines_some site codes program behind off x.1) x.0 words.0.0 words.0.1 h
-      (λ g ok h'. follows program behind standing g (pc + 2) w2 words.1 (later_flags (Probe place count write) program reads) ready off x.1 h' (range ok) agree))
-  follows (Refuse when ∷ program) known standing regs pc w words reads ready off e h range agree =
+      (λ g ok h'. follows program behind standing g (pc + 2) w2 (later_sized (Probe place count write) program sized) words.1 (later_flags (Probe place count write) program reads) ready off x.1 h' (range ok) agree))
+  follows (Refuse when ∷ program) known standing regs pc w sized words reads ready off e h range agree =
       let x = walk_fits (not known.changed && holds known when) known (λ behind. walk site.sources behind program) (opened site.sources known (Refuse when) program off e) in
       let lines = program_lines site codes program in
       let w1 = next p site.behind pc (Branch Beq (holder when) (pos 1)) None (marked (Pal 0x83) (raising site 0x18) ∷ lines) w in
       let w2 = subst (λ q. Within p site.behind q lines) (two_words pc) (next p site.behind (pc + 1) (Pal 0x83) (Some (raising site 0x18)) lines w1) in
       roomy p None (2 + length lines) (length (lines_of site codes (Refuse when) program ++ lines)) (at_place regs pc) _ (omega arith)
       (refuses p site (length lines) pc when lines known standing regs (Course_of program standing) w (lines_some site codes program known off x.1) x.0 words.0 h
-      (λ zero_is. follows program known standing regs (pc + 2) w2 words.1 (later_flags (Refuse when) program reads) ready off x.1 h
+      (λ zero_is. follows program known standing regs (pc + 2) w2 (later_sized (Refuse when) program sized) words.1 (later_flags (Refuse when) program reads) ready off x.1 h
       (passed_range standing when program zero_is range) (passed_agree standing when program zero_is agree)))
-  follows (Read to place count ∷ program) known standing regs pc w words reads ready off e h range agree =
+  follows (Read to place count ∷ program) known standing regs pc w sized words reads ready off e h range agree =
       let behind = behind_access (behind_write to (holding_of (nat_le count 4)) known) in
       let x = walk_fits (read_fits known to place count) behind (λ behind. walk site.sources behind program) (opened site.sources known (Read to place count) program off e) in
       let off' = (write_changes to (holding_of (nat_le count 4)) known).ended ∙ off in
       let lines = program_lines site codes program in
       let size = count_some words.0.2 in
-      let length_is = row_length p site.behind (read_code (21 + place) count (21 + to)) lines in
-      roomy p None (length (read_code (21 + place) count (21 + to)) + length lines) (length (map plain (read_code (21 + place) count (21 + to)) ++ lines)) (at_place regs pc) _ (omega arith)
-      (reads_operand p site setting.pages setting.kinds (length lines) pc to place count lines known standing regs (λ value. Course_of program (with_value to value standing)) w (lines_some site codes program behind off' x.1) x.0 words.0.0 words.0.1 words.0.2 h
+      let length_is = row_length p site.behind (read_by site.byte_word (21 + place) count (21 + to)) lines in
+      roomy p None (length (read_by site.byte_word (21 + place) count (21 + to)) + length lines) (length (map plain (read_by site.byte_word (21 + place) count (21 + to)) ++ lines)) (at_place regs pc) _ (omega arith)
+      (reads_operand p site setting.pages setting.bytes setting.kinds (length lines) pc to place count lines known standing regs (λ value. Course_of program (with_value to value standing)) w (lines_some site codes program behind off' x.1) x.0 words.0.0 words.0.1 words.0.2 h
       (λ value g fits h'.
       let good = read_value Good opens (standing.temps place) count value (λ value. Course_of program (with_value to value standing)) size.0 size.1 fits (range, agree) in
-      follows program behind (with_value to value standing) g (pc + length (read_code (21 + place) count (21 + to))) (row_rest p site.behind pc (read_code (21 + place) count (21 + to)) lines w) words.1 (later_flags (Read to place count) program reads) ready off' x.1 h' good.0 good.1))
-  follows (Write place count source ∷ program) known standing regs pc w words reads ready off e h range agree =
+      follows program behind (with_value to value standing) g (pc + length (read_by site.byte_word (21 + place) count (21 + to))) (row_rest p site.behind pc (read_by site.byte_word (21 + place) count (21 + to)) lines w) (later_sized (Read to place count) program sized) words.1 (later_flags (Read to place count) program reads) ready off' x.1 h' good.0 good.1))
+  follows (Write place count source ∷ program) known standing regs pc w sized words reads ready off e h range agree =
       let x = walk_fits (write_fits known place count source) (behind_access known) (λ behind. walk site.sources behind program) (opened site.sources known (Write place count source) program off e) in
       let lines = program_lines site codes program in
-      let length_is = row_length p site.behind (write_code (21 + place) count (21 + source)) lines in
+      let length_is = row_length p site.behind (write_by site.byte_word (21 + place) count (21 + source)) lines in
       let good = write_done Good opens (parts (standing.temps place) count) (standing.temps source) (Course_of program standing) (range, agree) in
-      roomy p None (length (write_code (21 + place) count (21 + source)) + length lines) (length (map plain (write_code (21 + place) count (21 + source)) ++ lines)) (at_place regs pc) _ (omega arith)
-      (writes_operand p site setting.pages setting.kinds (length lines) pc place count source lines known standing regs (Course_of program standing) w (lines_some site codes program (behind_access known) off x.1) x.0 words.0.0 words.0.1 words.0.2 h
-      (λ g h'. follows program (behind_access known) standing g (pc + length (write_code (21 + place) count (21 + source))) (row_rest p site.behind pc (write_code (21 + place) count (21 + source)) lines w) words.1 (later_flags (Write place count source) program reads) ready off x.1 h' good.0 good.1))
-  follows (Locked to place kind source ∷ program) known standing regs pc w words reads ready off e h range agree =
+      roomy p None (length (write_by site.byte_word (21 + place) count (21 + source)) + length lines) (length (map plain (write_by site.byte_word (21 + place) count (21 + source)) ++ lines)) (at_place regs pc) _ (omega arith)
+      (writes_operand p site setting.pages setting.bytes setting.kinds (length lines) pc place count source lines known standing regs (Course_of program standing) w (lines_some site codes program (behind_access known) off x.1) x.0 words.0.0 words.0.1 words.0.2 (eqb-true count setting.bytes (and_parts (count == setting.bytes) (list_all (has_bytes setting.bytes) program) sized).0) h
+      (λ g h'. follows program (behind_access known) standing g (pc + length (write_by site.byte_word (21 + place) count (21 + source))) (row_rest p site.behind pc (write_by site.byte_word (21 + place) count (21 + source)) lines w) (later_sized (Write place count source) program sized) words.1 (later_flags (Write place count source) program reads) ready off x.1 h' good.0 good.1))
+  follows (Locked to place kind source ∷ program) known standing regs pc w sized words reads ready off e h range agree =
       let behind = behind_access (behind_write to Wide known) in
       let x = walk_fits (locked_fits known to place (locked_count kind) source) behind (λ behind. walk site.sources behind program) (opened site.sources known (Locked to place kind source) program off e) in
       let off' = (write_changes to Wide known).ended ∙ off in
       let lines = program_lines site codes program in
       let length_is = row_length p site.behind (locked_code kind (21 + place) (21 + source) (21 + to)) lines in
       roomy p None (length (locked_code kind (21 + place) (21 + source) (21 + to)) + length lines) (length (map plain (locked_code kind (21 + place) (21 + source) (21 + to)) ++ lines)) (at_place regs pc) _ (omega arith)
-      (locks_operand p site setting.pages setting.kinds (length lines) pc to place kind source lines known standing regs (λ value. Course_of program (with_value to value standing)) w (lines_some site codes program behind off' x.1) x.0
+      (locks_operand p site setting.pages setting.bytes setting.kinds (length lines) pc to place kind source lines known standing regs (λ value. Course_of program (with_value to value standing)) w (lines_some site codes program behind off' x.1) x.0
       words.0.0 words.0.1 words.0.2 words.0.3 words.0.4 range.0 h
       (λ value g fits h'.
       let good = locked_value Good opens kind (standing.temps place) (standing.temps source) value (λ value. Course_of program (with_value to value standing)) fits (range, agree) in
-      follows program behind (with_value to value standing) g (pc + length (locked_code kind (21 + place) (21 + source) (21 + to))) (row_rest p site.behind pc (locked_code kind (21 + place) (21 + source) (21 + to)) lines w) words.1 (later_flags (Locked to place kind source) program reads) ready off' x.1 h' good.0 good.1))
-  follows (Commit number source ∷ program) known standing regs pc w words reads ready off e h range agree =
+      follows program behind (with_value to value standing) g (pc + length (locked_code kind (21 + place) (21 + source) (21 + to))) (row_rest p site.behind pc (locked_code kind (21 + place) (21 + source) (21 + to)) lines w) (later_sized (Locked to place kind source) program sized) words.1 (later_flags (Locked to place kind source) program reads) ready off' x.1 h' good.0 good.1))
+  follows (Commit number source ∷ program) known standing regs pc w sized words reads ready off e h range agree =
       let x = walk_fits (commit_fits known number source) (behind_commit number known) (λ behind. walk site.sources behind program) (opened site.sources known (Commit number source) program off e) in
       let lines = program_lines site codes program in
       roomy p None (1 + length lines) (length (lines_of site codes (Commit number source) program ++ lines)) (at_place regs pc) _ (omega arith)
       (commits p site (length lines) pc number source lines known standing regs (tree p (Course_of (Commit number source ∷ program) standing)) w (lines_some site codes program (behind_commit number known) off x.1) x.0 words.0.0 words.0.1 h
-      (λ g h'. follows program (behind_commit number known) _ g (pc + 1) (next p site.behind pc (Operate row.Addl (holder source) (Literal 0) number) None lines w) words.1 (later_flags (Commit number source) program reads) ready off x.1 h' range agree))
-  follows (Codes n z v c ∷ program) known standing regs pc w words reads ready off e h range agree =
+      (λ g h'. follows program (behind_commit number known) _ g (pc + 1) (next p site.behind pc (Operate row.Addl (holder source) (Literal 0) number) None lines w) (later_sized (Commit number source) program sized) words.1 (later_flags (Commit number source) program reads) ready off x.1 h' range agree))
+  follows (Codes n z v c ∷ program) known standing regs pc w sized words reads ready off e h range agree =
       let x = walk_fits (codes_fit known n z v c) (record known { codes = true; changed = true }) (λ behind. walk site.sources behind program) (opened site.sources known (Codes n z v c) program off e) in
-      follows program (record known { codes = true; changed = true }) (with_codes n z v c standing) regs pc w words.1 (later_flags (Codes n z v c) program reads) ready off x.1 (sets_codes p site n z v c known standing regs h) range agree
-  follows (SetPsw source ∷ program) known standing regs pc w words reads ready off e h range agree =
+      follows program (record known { codes = true; changed = true }) (with_codes n z v c standing) regs pc w (later_sized (Codes n z v c) program sized) words.1 (later_flags (Codes n z v c) program reads) ready off x.1 (sets_codes p site n z v c known standing regs h) range agree
+  follows (SetPsw source ∷ program) known standing regs pc w sized words reads ready off e h range agree =
       let x = walk_fits (not known.psw && holds known source) (record known { psw = true; changed = true }) (λ behind. walk site.sources behind program) (opened site.sources known (SetPsw source) program off e) in
       let lines = program_lines site codes program in
       roomy p None (1 + length lines) (length (lines_of site codes (SetPsw source) program ++ lines)) (at_place regs pc) _ (omega arith)
       (sets_psw p site (length lines) pc source lines known standing regs (tree p (Course_of (SetPsw source ∷ program) standing)) w (lines_some site codes program (record known { psw = true; changed = true }) off x.1) (and_parts (not known.psw) (holds known source) x.0).1 words.0 h
-      (λ g h'. follows program (record known { psw = true; changed = true }) _ g (pc + 1) (next p site.behind pc (Operate row.And (holder source) (Literal 0xF0) 20) None lines w) words.1 (later_flags (SetPsw source) program reads) ready off x.1 h' range agree))
-  follows (Leave exit ∷ program) known standing regs pc w words reads ready off e h range agree =
+      (λ g h'. follows program (record known { psw = true; changed = true }) _ g (pc + 1) (next p site.behind pc (Operate row.And (holder source) (Literal 0xF0) 20) None lines w) (later_sized (SetPsw source) program sized) words.1 (later_flags (SetPsw source) program reads) ready off x.1 h' range agree))
+  follows (Leave exit ∷ program) known standing regs pc w sized words reads ready off e h range agree =
       let x = walk_fits (exit_fits known exit && sources_fit site.sources known) (record known { ended = true }) (λ behind. walk site.sources behind program) (opened site.sources known (Leave exit) program off e) in
       let fits = and_parts (exit_fits known exit) (sources_fit site.sources known) x.0 in
       ending_follows exit program known standing regs pc (nothing_behind site.sources (record known { ended = true }) program refl x.1) w words.0 fits.0 fits.1 ready h agree

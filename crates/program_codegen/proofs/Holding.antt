@@ -1,4 +1,5 @@
 -- What the registers of a block hold between two operations of its program.
+use Rattle.std.specs.List.{list_all}
 use Rattle.std.proofs.Common.{◌≡◌, ℕ, ◌+◌, ◌/◌, ◌%◌, ◌^◌, ◌<◌, List, [], ◌∷◌, length, None, true, false}
 use Rattle.vt_words.specs.Values.{bit}
 use Rattle.vax_form.specs.PageTable.{IsPageTable}
@@ -31,7 +32,7 @@ use Rattle.block_law.proofs.Rules.{Always}
 use Rattle.program_codegen.specs.declared.points.Site.{Site}
 use Rattle.program_codegen.specs.Accesses.{needed}
 use Rattle.program_codegen.specs.Words.{leaving, program_lines}
-use Rattle.program_codegen.specs.Programs.{KeepsTogether, ReadsReady, LeavesReady, AllHaveWords, IsExit, is_narrow}
+use Rattle.program_codegen.specs.Programs.{KeepsTogether, ReadsReady, LeavesReady, AllHaveWords, IsExit, has_bytes, is_narrow}
 use Rattle.program_codegen.proofs.Walk.{Within}
 
 -- ---- the block
@@ -39,7 +40,9 @@ use Rattle.program_codegen.proofs.Walk.{Within}
 pub record Setting (p : Placement) (site : Site) (codes : List AlphaInstr) : Type 0 where
   pub pages : IsPageTable p.pages
   pub written : p.written ≡ codes_written_by site.sources
-  pub kinds : MoreKinds needed p.kinds
+  -- the operand that is written has so many bytes
+  pub bytes : ℕ
+  pub kinds : MoreKinds (needed site.byte_word bytes) p.kinds
   pub leaves : LeavesCodes site.sources site.before site.behind codes
   pub together : KeepsTogether site.sources
   pub narrow : is_narrow site.behind.v ≡ true
@@ -84,11 +87,11 @@ pub record Holds (p : Placement) (site : Site) (known : Known) (standing : Stand
 
 -- ---- what is to be proved
 -- from the start of a program, or from one of its operations on, the words follow the tree of the rest
-abbrev pub ProgramFollows : Placement → Site → List AlphaInstr → Type 0
-ProgramFollows p site codes =
+abbrev pub ProgramFollows : Placement → Site → List AlphaInstr → (bytes : ℕ) → Type 0
+ProgramFollows p site codes bytes =
     (program : List Micro) (known : Known) (standing : Standing) (regs : Regs) (pc : ℕ)
     → Within p site.behind pc (program_lines site codes program)
-    → AllHaveWords site.sources program → ReadsReady site.before program → LeavesReady site.behind program
+    → list_all (has_bytes bytes) program ≡ true → AllHaveWords site.sources program → ReadsReady site.before program → LeavesReady site.behind program
     → known.ended ≡ false → is_ended (walk site.sources known program) ≡ true
     → Holds p site known standing regs
     → IsInRange p.pages (tree p (course_of program (found p site) standing))

@@ -3,6 +3,7 @@ pub mod Knowing
 pub mod Walk
 pub mod Holding
 pub mod Computing
+pub mod Stores
 pub mod Operands
 pub mod Accessing
 pub mod Committing

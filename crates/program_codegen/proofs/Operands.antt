@@ -1,5 +1,5 @@
 -- Operands in memory: their pages, their parts, and the accesses that are made for them.
-use Rattle.std.proofs.Common.{◌≡◌, ℕ, zero, suc, ◌+◌, ◌-◌, ◌*◌, ◌/◌, ◌%◌, ◌^◌, ◌<◌, ◌≤◌, refl, sym, ap, ◌∙◌, subst, arith, List, [], ◌∷◌, All, Some, None, Bool, true, false, inl, inr, lit<, lit≤}
+use Rattle.std.proofs.Common.{◌≡◌, ℕ, zero, suc, ◌+◌, ◌-◌, ◌*◌, ◌/◌, ◌%◌, ◌^◌, ◌<◌, ◌≤◌, refl, sym, ap, ◌∙◌, subst, arith, List, [], ◌∷◌, All, Option, Some, None, Bool, true, false, inl, inr, lit<, lit≤}
 use Rattle.std.specs.Prelude.{◌==◌, ◌&&◌, ◌||◌, ◌⊎◌, not, nat_le, nat_lt, bit_and, if◌then◌else◌}
 use Rattle.std.specs.List.{list_any}
 use Rattle.std.proofs.Math.Nat.{mod-eq_of_lt, mod-mod}
@@ -19,6 +19,7 @@ use Rattle.vax_form.specs.declared.pages.PageRange.{PageRange}
 use Rattle.vax_form.specs.declared.pages.Pages.{Pages}
 use Rattle.vax_form.specs.declared.state.Reference.{Reference}
 use Rattle.vax_form.specs.declared.state.RefKind.TheVariants as references
+use Rattle.alpha_meaning.specs.Pieces.{Kinds}
 use Rattle.alpha_meaning.specs.Result.{inverse}
 use Rattle.alpha_meaning.proofs.Rules.{changed_low}
 use Rattle.micro_ops.specs.declared.known.Checked.{Checked}
@@ -29,11 +30,12 @@ use Rattle.micro_ops.specs.Course.{Course, Ask, read_parts, write_parts}
 use Rattle.micro_ops.specs.Known.{is_checked}
 use Rattle.micro_ops.specs.Meaning.{Temps, Left, locked_count, locked_kind}
 use Rattle.byte_sequences.specs.Plans.{quad_of_part, read_plan, write_plan, locked_plan}
-use Rattle.byte_sequences.specs.Promises.{MayRead, MayWrite, MayLock, MayStore, IsLockable, stored_bytes}
+use Rattle.byte_sequences.specs.Promises.{MayRead, MayWrite, MayLock, MayStore, IsLockable}
 use Rattle.block_law.specs.Laws.{MoreKinds}
 use Rattle.block_law.specs.Placements.{Placement}
 use Rattle.block_law.proofs.Blocks.{Begins, piece_terms}
-use Rattle.program_codegen.specs.Accesses.{by_loads, by_locks, by_stores, needed}
+use Rattle.program_codegen.specs.Accesses.{by_locks, needed}
+use Rattle.program_codegen.proofs.Stores.{loads_of, loaded_of, load_kinds, stores_of, stored_of, SomeStore, store_kinds, Each, read_kinds, lock_kinds}
 use Rattle.program_codegen.proofs.Numbers.{all_three}
 use Rattle.program_codegen.proofs.Holding.{IsChecked, tree}
 
@@ -150,47 +152,46 @@ module _ (pages : Pages) (table : IsPageTable pages) where
 
 -- what is asked of each sequence
 module _ (p : Placement) (table : IsPageTable p.pages) where
-  pub may_read : (address count : ℕ) → IsCount count → IsUsable p.pages false address count → MayRead (piece_terms p by_loads) address count
-  may_read address count is usage =
+  pub may_read : (byte_word : Bool) (address count : ℕ) → IsCount count → IsUsable p.pages false address count → MayRead (loaded_of byte_word) (piece_terms p (loads_of byte_word)) address count
+  may_read byte_word address count is usage =
       let x = count_some is in
-      record { within = within_space p.pages table false address count x.0 x.1 usage; pages = parts_usable p.pages table false address count x.0 x.1 usage; loads = refl }
+      record { within = within_space p.pages table false address count x.0 x.1 usage; pages = parts_usable p.pages table false address count x.0 x.1 usage; loads = load_kinds byte_word address is }
 
-  may_store : (longs whole : Bool) → MayStore (piece_terms p by_stores) (if whole then Some 8 else if longs then Some 4 else None)
-  may_store longs true = refl
-  may_store true false = refl
-  may_store false false = record { loads = refl; stores = refl }
+  may_store : (kinds : Kinds) (stored : Option ℕ) → SomeStore kinds stored → MayStore (piece_terms p kinds) stored
+  may_store kinds (Some bytes) e = e
+  may_store kinds None e = record { loads = e.0; stores = e.1 }
 
-  pub may_write : (address count : ℕ) → IsCount count → IsUsable p.pages true address count → MayWrite stored_bytes (piece_terms p by_stores) address count
-  may_write address count is usage =
+  pub may_write : (byte_word : Bool) (address count : ℕ) → IsCount count → IsUsable p.pages true address count → MayWrite (stored_of byte_word) (piece_terms p (stores_of byte_word address count)) address count
+  may_write byte_word address count is usage =
       let x = count_some is in
-      record { within = within_space p.pages table true address count x.0 x.1 usage; pages = parts_usable p.pages table true address count x.0 x.1 usage; readable = λ quad e. readable p.pages quad e; stores = may_store (nat_le 4 count && address % 4 == 0) (count == 8 && address % 8 == 0) }
+      record { within = within_space p.pages table true address count x.0 x.1 usage; pages = parts_usable p.pages table true address count x.0 x.1 usage; readable = λ quad e. readable p.pages quad e; stores = may_store (stores_of byte_word address count) (stored_of byte_word address count) (store_kinds byte_word address count) }
 
 -- ---- references by the plans of accesses
-module _ (p : Placement) (kinds : MoreKinds needed p.kinds) where
+module _ (p : Placement) (byte_word : Bool) (bytes : ℕ) (kinds : MoreKinds (needed byte_word bytes) p.kinds) where
   abbrev onto : (ℕ → Course Left) → ℕ → Tree
   onto on value = tree p (on value)
 
-  pub begins_read : (address count : ℕ) (on : ℕ → Course Left) → 0 < count → Begins by_loads p.kinds (onto on) None (read_plan (parts address count)) (tree p (read_parts (parts address count) on)) None
+  pub begins_read : (address count : ℕ) (on : ℕ → Course Left) → 0 < count → Begins (loads_of byte_word) p.kinds (onto on) None (read_plan (parts address count)) (tree p (read_parts (parts address count) on)) None
   begins_read address count on some = by (count == 0) (nat_le count (8 - address % 8)) refl
     where
       by : (none in_one : Bool) → (count == 0) ≡ none
-          → Begins by_loads p.kinds (onto on) None (read_plan (if none then [] else if in_one then (address, count) ∷ [] else (address, 8 - address % 8) ∷ ((address + (8 - address % 8)) % 2 ^ 32, count - (8 - address % 8)) ∷ []))
+          → Begins (loads_of byte_word) p.kinds (onto on) None (read_plan (if none then [] else if in_one then (address, count) ∷ [] else (address, 8 - address % 8) ∷ ((address + (8 - address % 8)) % 2 ^ 32, count - (8 - address % 8)) ∷ []))
           (tree p (read_parts (if none then [] else if in_one then (address, count) ∷ [] else (address, 8 - address % 8) ∷ ((address + (8 - address % 8)) % 2 ^ 32, count - (8 - address % 8)) ∷ []) on)) None
       by true in_one e = absurd (zero_not count some e)
         where
           zero_not : (n : ℕ) → 0 < n → (n == 0) ≡ true → ⊥
           zero_not n lt e = let is = eqb-true n 0 e in omega arith
-      by false true e = (refl, kinds _, λ before lt. (refl, (ap (λ v. tree p (on v)) (mod-mod (before / 2 ^ (8 * (address % 8))) (2 ^ (8 * count))), refl)))
+      by false true e = (refl, read_kinds byte_word bytes p.kinds kinds _ _, λ before lt. (refl, (ap (λ v. tree p (on v)) (mod-mod (before / 2 ^ (8 * (address % 8))) (2 ^ (8 * count))), refl)))
       by false false e =
           let c = 8 - address % 8 in
           let next = (address + (8 - address % 8)) % 2 ^ 32 in (
             refl,
-            kinds _,
+            read_kinds byte_word bytes p.kinds kinds _ _,
             λ before lt. (
               refl,
               (
                 refl,
-                kinds _,
+                read_kinds byte_word bytes p.kinds kinds _ _,
                 λ before' lt'. (
                   refl,
                   (
@@ -203,10 +204,10 @@ module _ (p : Placement) (kinds : MoreKinds needed p.kinds) where
             ),
           )
 
-  pub begins_write : (xs : List (ℕ × ℕ)) (value : ℕ) (on : Course Left) → Begins by_stores p.kinds (λ (done : Unit {0}). tree p on) None (write_plan xs value) (tree p (write_parts xs value on)) None
-  begins_write [] value on = (refl, refl)
-  begins_write (part ∷ xs) value on =
-      (refl, kinds _, λ before lt. (sym (changed_low before (part.0 % 8) part.1 value), begins_write xs (value / 2 ^ (8 * part.1)) on))
+  pub begins_write : (stores : Kinds) (xs : List (ℕ × ℕ)) (value : ℕ) (on : Course Left) → Each stores p.kinds xs → Begins stores p.kinds (λ (done : Unit {0}). tree p on) None (write_plan xs value) (tree p (write_parts xs value on)) None
+  begins_write stores [] value on each = (refl, refl)
+  begins_write stores (part ∷ xs) value on each =
+      (refl, each.0 _, λ before lt. (sym (changed_low before (part.0 % 8) part.1 value), begins_write stores xs (value / 2 ^ (8 * part.1)) on each.1))
 
   abbrev locked_ask : LockedOp → (address from : ℕ) → (ℕ → Course Left) → Course Left
   locked_ask kind address from on = Ask (record { address = address; count = locked_count kind; kind = locked_kind kind from }) (λ reply. on (reply % 2 ^ (8 * locked_count kind)))
@@ -214,7 +215,7 @@ module _ (p : Placement) (kinds : MoreKinds needed p.kinds) where
   pub begins_locked : (kind : LockedOp) (address from : ℕ) (on : ℕ → Course Left) → IsLockable kind address from → Begins by_locks p.kinds (onto on) None (locked_plan kind address from) (tree p (locked_ask kind address from on)) None
   begins_locked AddWord address from on is = (
     refl,
-    kinds _,
+    lock_kinds byte_word bytes p.kinds kinds AddWord address from,
     λ before lt. (
       let same : (field_of before (address % 8) 2 + from) % 2 ^ 16 ≡ (field_of before (address % 8) 2 + from % 2 ^ 16) % 2 ^ 16 = sums (field_of before (address % 8) 2) from in
           sym (changed_low before (address % 8) 2 (field_of before (address % 8) 2 + from)) ∙ ap (with_field_of before (address % 8) 2) same,
@@ -225,9 +226,9 @@ module _ (p : Placement) (kinds : MoreKinds needed p.kinds) where
       sums : (a b : ℕ) → (a + b) % 2 ^ 16 ≡ (a + b % 2 ^ 16) % 2 ^ 16
       sums a b = omega arith
   begins_locked SetBit address from on is =
-      (refl, kinds _, λ before lt. (refl, (ap (λ v. tree p (on v)) (mod-mod (before / 2 ^ (8 * (address % 8))) (2 ^ 8)), refl)))
+      (refl, lock_kinds byte_word bytes p.kinds kinds SetBit address from, λ before lt. (refl, (ap (λ v. tree p (on v)) (mod-mod (before / 2 ^ (8 * (address % 8))) (2 ^ 8)), refl)))
   begins_locked ClearBit address from on is =
-      (refl, kinds _, λ before lt. (ap (with_field_of before (address % 8) 1) (clears (before / 2 ^ (8 * (address % 8))) from is), (ap (λ v. tree p (on v)) (mod-mod (before / 2 ^ (8 * (address % 8))) (2 ^ 8)), refl)))
+      (refl, lock_kinds byte_word bytes p.kinds kinds ClearBit address from, λ before lt. (ap (with_field_of before (address % 8) 1) (clears (before / 2 ^ (8 * (address % 8))) from is), (ap (λ v. tree p (on v)) (mod-mod (before / 2 ^ (8 * (address % 8))) (2 ^ 8)), refl)))
     where
       by_mask : (y k k' : ℕ) → bit_and 255 k ≡ bit_and 255 k' → bit_and (y % 2 ^ 8) k ≡ bit_and (y % 2 ^ 8) k'
       by_mask y k k' e =

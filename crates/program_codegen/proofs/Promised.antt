@@ -1,5 +1,5 @@
 -- What the block of a program that fits promises.
-use Rattle.std.proofs.Common.{◌≡◌, ℕ, ◌+◌, ◌^◌, ◌<◌, ◌≤◌, refl, ap, ◌∙◌, arith, List, [], ◌∷◌, length, map, true, false, lit<, lit≤, Result, Ok, Err}
+use Rattle.std.proofs.Common.{◌≡◌, ℕ, ◌+◌, ◌^◌, ◌<◌, ◌≤◌, refl, ap, ◌∙◌, arith, List, [], ◌∷◌, length, map, Bool, true, false, lit<, lit≤, Result, Ok, Err}
 use Rattle.std.specs.Prelude.{All, IfOk, nat_le}
 use Rattle.std.proofs.lemmas.Bool.Decides.{nat_tests}
 use Rattle.vax_form.specs.declared.instr.Instr.{Instr}
@@ -17,7 +17,7 @@ use Rattle.block_law.specs.Tidy.{codes_written}
 use Rattle.micro_ops.specs.Exits.{addresses_of}
 use Rattle.program_codegen.specs.declared.lines.Line.{Line}
 use Rattle.program_codegen.specs.declared.points.Site.{Site}
-use Rattle.program_codegen.specs.Words.{point_of, with_first, words_of, block_of, block_lines, program_lines}
+use Rattle.program_codegen.specs.Words.{point_of, with_first, words_of, block_of, block_lines, program_lines, site_of, program_block}
 use Rattle.program_codegen.specs.Programs.{AllRanged, AllFitWords, AllHaveWords, ReadsReady, LeavesReady, KeepsTogether, is_narrow}
 use Rattle.program_codegen.specs.Promises.{HasRules, CompilesProgram}
 use Rattle.program_codegen.proofs.Numbers.{all_three}
@@ -88,11 +88,11 @@ module _ (site : Site) (program : List Micro) (codes : List AlphaInstr) (fit : f
       ∙ flags_same (codes_written (words_of (program_lines site codes program))) (codes_written codes)
       (shape.writes 16 (lit≤ tt) (lit< tt)) (shape.writes 17 (lit≤ tt) (lit< tt)) (shape.writes 18 (lit≤ tt) (lit< tt)) (shape.writes 19 (lit≤ tt) (lit< tt))
 
-pub compiles_program : (instr : Instr) (sources : CodeSources) (program : List Micro) (codes : List AlphaInstr) (before behind : Rules) → fits sources program ≡ true → LeavesCodes sources before behind codes → All IsEncodable codes
+pub compiles_program : (instr : Instr) (sources : CodeSources) (program : List Micro) (codes : List AlphaInstr) (before behind : Rules) (byte_word : Bool) → fits sources program ≡ true → LeavesCodes sources before behind codes → All IsEncodable codes
     → ReadsReady before program → LeavesReady behind program → KeepsTogether sources → is_narrow behind.v ≡ true → instr.after < 2 ^ 32 → AllRanged program
-    → CompilesProgram instr sources program before behind (block_of (block_lines (record { at = instr.at; after = instr.after; sources = sources; before = before; behind = behind }) codes program))
-compiles_program instr sources program codes before behind fit leaves encodable reads ready together narrow after ranged =
-    let site : Site = record { at = instr.at; after = instr.after; sources = sources; before = before; behind = behind } in
-    compiles instr sources program codes before behind leaves together narrow after (all_have site program codes fit leaves encodable together after ranged) reads ready
+    → CompilesProgram instr sources program before behind byte_word (program_block instr sources program codes before behind byte_word)
+compiles_program instr sources program codes before behind byte_word fit leaves encodable reads ready together narrow after ranged =
+    let site : Site = site_of instr sources before behind byte_word in
+    compiles instr sources program codes before behind byte_word leaves together narrow after (all_have site program codes fit leaves encodable together after ranged) reads ready
     (ended site program codes fit leaves encodable together after ranged) (each_whole site 0 (block_lines site codes program) (all_each site program codes fit leaves encodable together after ranged))
     (short site program codes fit leaves encodable together after ranged) (λ p setting. leaving_follows p site codes setting)

@@ -20,8 +20,9 @@ use Rattle.exception_records.specs.declared.rules.CodeRule.TheVariants as code_r
 use Rattle.micro_ops.specs.declared.program.LockedOp.{LockedOp}
 use Rattle.micro_ops.specs.declared.program.LockedOp.TheVariants.{AddWord, SetBit, ClearBit}
 use Rattle.micro_ops.specs.WordCounts.{by_count}
-use Rattle.byte_sequences.specs.Words.{read_code, write_code, locked_code}
-use Rattle.byte_sequences.proofs.Encoded.{EachEncodable, all_encodable}
+use Rattle.byte_sequences.specs.Instructions as bytes
+use Rattle.byte_sequences.specs.Words.{locked_code}
+use Rattle.byte_sequences.proofs.Encoded.{EachEncodable, all_encodable, encoded, bw_written}
 use Rattle.compute_sequences.specs.Promises.{changes_only}
 use Rattle.compute_sequences.specs.Registers.{IsTarget, may_change}
 use Rattle.compute_sequences.specs.declared.overflow.Arithmetic.TheVariants.{Sum, Difference}
@@ -29,7 +30,7 @@ use Rattle.compute_sequences.proofs.OverflowLaws.{overflow_fine}
 use Rattle.compute_sequences.proofs.Straight.{all_of, each_encodable}
 use Rattle.block_law.specs.Tidy.{is_kept, register_written, may_fault}
 use Rattle.alpha_encode.specs.Halves.{load_longword}
-use Rattle.program_codegen.specs.Words.{width_of, overflow_made}
+use Rattle.program_codegen.specs.Words.{width_of, overflow_made, read_by, write_by}
 use Rattle.program_codegen.proofs.Shapes.{is_local}
 
 -- ---- what is asked of words
@@ -105,19 +106,27 @@ changes_silent to is (Pal number) e = absurd (cc e)
 
 -- ---- operands in memory
 module _ (place to : ℕ) (place_fits : place < 32) (to_fits : to < 32) where
-  read_each : (count : ℕ) → IsCount count → EachEncodable (read_code place count to)
-  read_each count c1 = search rules
-  read_each count c2 = search rules
-  read_each count c4 = search rules
-  read_each count c8 = search rules
+  read_each : (byte_word : Bool) (count : ℕ) → IsCount count → EachEncodable (read_by byte_word place count to)
+  read_each false count c1 = search rules
+  read_each false count c2 = search rules
+  read_each false count c4 = search rules
+  read_each false count c8 = search rules
+  read_each true count c1 = search rules
+  read_each true count c2 = search rules
+  read_each true count c4 = search rules
+  read_each true count c8 = search rules
 
   locked_each : (source : ℕ) → source < 32 → (kind : LockedOp) → EachEncodable (locked_code kind place source to)
   locked_each source source_fits AddWord = search rules
   locked_each source source_fits SetBit = search rules
   locked_each source source_fits ClearBit = search rules
 
-pub read_encodable : (place count to : ℕ) → IsCount count → place < 32 → to < 32 → All IsEncodable (read_code place count to)
-read_encodable place count to is place_fits to_fits = all_encodable (read_code place count to) (read_each place to place_fits to_fits count is)
+pub read_encodable : (byte_word : Bool) (place count to : ℕ) → IsCount count → place < 32 → to < 32 → All IsEncodable (read_by byte_word place count to)
+read_encodable byte_word place count to is place_fits to_fits = all_encodable (read_by byte_word place count to) (read_each place to place_fits to_fits byte_word count is)
+
+pub write_encodable : (byte_word : Bool) (place count source : ℕ) → IsCount count → bytes.IsArgument place → bytes.IsArgument source → All IsEncodable (write_by byte_word place count source)
+write_encodable false = encoded
+write_encodable true = bw_written
 
 pub locked_encodable : (kind : LockedOp) (place source to : ℕ) → place < 32 → source < 32 → to < 32 → All IsEncodable (locked_code kind place source to)
 locked_encodable kind place source to place_fits source_fits to_fits = all_encodable (locked_code kind place source to) (locked_each place to place_fits to_fits source source_fits kind)
@@ -129,34 +138,50 @@ module _ (to : ℕ) (low : 21 ≤ to) (high : to ≤ 24) where
   not_above : nat_le 28 to ≡ false
   not_above = grind (arith, nat_tests)
 
-  pub read_own : (place count : ℕ) → IsCount count → list_all is_own (read_code place count to) ≡ true
-  read_own place count c1 = rw (not_below, not_above) refl
-  read_own place count c2 = rw (not_below, not_above) refl
-  read_own place count c4 = rw (not_below, not_above) refl
-  read_own place count c8 = rw (not_below, not_above) refl
+  pub read_own : (byte_word : Bool) (place count : ℕ) → IsCount count → list_all is_own (read_by byte_word place count to) ≡ true
+  read_own false place count c1 = rw (not_below, not_above) refl
+  read_own false place count c2 = rw (not_below, not_above) refl
+  read_own false place count c4 = rw (not_below, not_above) refl
+  read_own false place count c8 = rw (not_below, not_above) refl
+  read_own true place count c1 = rw (not_below, not_above) refl
+  read_own true place count c2 = rw (not_below, not_above) refl
+  read_own true place count c4 = rw (not_below, not_above) refl
+  read_own true place count c8 = rw (not_below, not_above) refl
 
   pub locked_own : (place source : ℕ) (kind : LockedOp) → list_all is_own (locked_code kind place source to) ≡ true
   locked_own place source AddWord = rw (not_below, not_above) refl
   locked_own place source SetBit = rw (not_below, not_above) refl
   locked_own place source ClearBit = rw (not_below, not_above) refl
 
-pub write_own : (place count source : ℕ) → IsCount count → list_all is_own (write_code place count source) ≡ true
-write_own place count source c1 = refl
-write_own place count source c2 = refl
-write_own place count source c4 = refl
-write_own place count source c8 = refl
+pub write_own : (byte_word : Bool) (place count source : ℕ) → IsCount count → list_all is_own (write_by byte_word place count source) ≡ true
+write_own false place count source c1 = refl
+write_own false place count source c2 = refl
+write_own false place count source c4 = refl
+write_own false place count source c8 = refl
+write_own true place count source c1 = refl
+write_own true place count source c2 = refl
+write_own true place count source c4 = refl
+write_own true place count source c8 = refl
 
-pub read_short : (place count to : ℕ) → IsCount count → length (read_code place count to) ≤ by_count count 4 12 10
-read_short place count to c1 = lit≤ tt
-read_short place count to c2 = lit≤ tt
-read_short place count to c4 = lit≤ tt
-read_short place count to c8 = lit≤ tt
+pub read_short : (byte_word : Bool) (place count to : ℕ) → IsCount count → length (read_by byte_word place count to) ≤ by_count count 4 12 10
+read_short false place count to c1 = lit≤ tt
+read_short false place count to c2 = lit≤ tt
+read_short false place count to c4 = lit≤ tt
+read_short false place count to c8 = lit≤ tt
+read_short true place count to c1 = lit≤ tt
+read_short true place count to c2 = lit≤ tt
+read_short true place count to c4 = lit≤ tt
+read_short true place count to c8 = lit≤ tt
 
-pub write_short : (place count source : ℕ) → IsCount count → length (write_code place count source) ≤ by_count count 8 20 24
-write_short place count source c1 = lit≤ tt
-write_short place count source c2 = lit≤ tt
-write_short place count source c4 = lit≤ tt
-write_short place count source c8 = lit≤ tt
+pub write_short : (byte_word : Bool) (place count source : ℕ) → IsCount count → length (write_by byte_word place count source) ≤ by_count count 8 20 24
+write_short false place count source c1 = lit≤ tt
+write_short false place count source c2 = lit≤ tt
+write_short false place count source c4 = lit≤ tt
+write_short false place count source c8 = lit≤ tt
+write_short true place count source c1 = lit≤ tt
+write_short true place count source c2 = lit≤ tt
+write_short true place count source c4 = lit≤ tt
+write_short true place count source c8 = lit≤ tt
 
 pub locked_short : (kind : LockedOp) (place source to : ℕ) → length (locked_code kind place source to) ≤ 12
 locked_short AddWord place source to = lit≤ tt

@@ -26,8 +26,7 @@ use Rattle.micro_ops.specs.LeftOut.{is_left_out}
 use Rattle.micro_ops.specs.Meaning.{locked_count}
 use Rattle.micro_ops.specs.Uses.{leaves_longword}
 use Rattle.micro_ops.specs.WordCounts.{words_of as count_of, program_words}
-use Rattle.byte_sequences.specs.Words.{read_code, write_code, locked_code}
-use Rattle.byte_sequences.proofs.Encoded.{encoded}
+use Rattle.byte_sequences.specs.Words.{locked_code}
 use Rattle.compute_sequences.specs.Words.{compute_code}
 use Rattle.compute_sequences.specs.Promises.{changes_only}
 use Rattle.compute_sequences.specs.Registers.{may_change}
@@ -37,14 +36,14 @@ use Rattle.block_law.specs.Tidy.{may_fault}
 use Rattle.micro_ops.specs.Exits.{addresses_of, exit_addresses}
 use Rattle.program_codegen.specs.declared.lines.Line.{Line}
 use Rattle.program_codegen.specs.declared.points.Site.{Site}
-use Rattle.program_codegen.specs.Words.{plain, marked, holder, copy, probing, raising, leaving, program_lines, words_of}
+use Rattle.program_codegen.specs.Words.{plain, marked, holder, copy, probing, raising, leaving, program_lines, words_of, read_by, write_by}
 use Rattle.program_codegen.specs.Programs.{HasWords, AllHaveWords, KeepsTogether, IsExit}
 use Rattle.program_codegen.proofs.Numbers.{all_three, all_four, all_five}
 use Rattle.program_codegen.proofs.Knowing.{walk_fits, nothing_behind, write_changes}
 use Rattle.program_codegen.proofs.Walk.{plain_length}
 use Rattle.program_codegen.proofs.Shapes.{plain_fits, call_fits}
 use Rattle.program_codegen.proofs.Following.{opened}
-use Rattle.program_codegen.proofs.Rows.{is_free, is_own, is_silent, list_all_of, own_free, changes_silent, read_encodable, locked_encodable, read_own, write_own, locked_own, read_short, write_short, locked_short, branch_encodable}
+use Rattle.program_codegen.proofs.Rows.{is_free, is_own, is_silent, list_all_of, own_free, changes_silent, read_encodable, write_encodable, locked_encodable, read_own, write_own, locked_own, read_short, write_short, locked_short, branch_encodable}
 use Rattle.program_codegen.proofs.Fronts.{row_words_are, Front, row_front, line_front, front_append, Shape, silent_front, free_front, change_front}
 use Rattle.program_codegen.proofs.Endings.{leave_shape, above_codes, below_codes}
 
@@ -156,14 +155,14 @@ module _ (site : Site) (codes : List AlphaInstr) (after_fits : site.after < 2 ^ 
       let place_high = words.0.0.high in
       let to_high = words.0.1.high in
       let to_below : 21 + to ≤ 24 = omega arith in
-      let front = faulting_row site (count_of (Read to place count)) (read_code (21 + place) count (21 + to)) (read_encodable (21 + place) count (21 + to) words.0.2 (omega arith) (omega arith)) (read_own (21 + to) words.0.1.low to_below (21 + place) count words.0.2) (read_short (21 + place) count (21 + to) words.0.2) in
+      let front = faulting_row site (count_of (Read to place count)) (read_by site.byte_word (21 + place) count (21 + to)) (read_encodable site.byte_word (21 + place) count (21 + to) words.0.2 (omega arith) (omega arith)) (read_own (21 + to) words.0.1.low to_below site.byte_word (21 + place) count words.0.2) (read_short site.byte_word (21 + place) count (21 + to) words.0.2) in
       free_front site codes (addresses_of site.after program) known.changed (count_of (Read to place count)) (program_words site.sources program + 59) _ _ (program_lines site codes program) (not-true known.changed z.0) front.0 front.1 front.2 (omega arith)
       (subst (λ changed. ShapeOf changed program) same.changed (program_shape program behind (same.ended ∙ off) x.1 words.1 (λ c. let y = quiet (sym same.changed ∙ c) in (same.codes ∙ y.0, same.psw ∙ y.1))))
   program_shape (Write place count source ∷ program) known off e words quiet =
       let x = walk_fits (write_fits known place count source) (behind_access known) (λ behind. walk site.sources behind program) (opened site.sources known (Write place count source) program off e) in
       let y = all_four (is_count count) (are_apart place source) (holds known source) (reference_fits known place count true) x.0 in
       let z = and_parts (not known.changed) (holds_longword known place) (and_parts (place_fits known place) (is_checked known.checked place count true) y.3).0 in
-      let front = faulting_row site (count_of (Write place count source)) (write_code (21 + place) count (21 + source)) (encoded (21 + place) count (21 + source) words.0.2 words.0.0 words.0.1) (write_own (21 + place) count (21 + source) words.0.2) (write_short (21 + place) count (21 + source) words.0.2) in
+      let front = faulting_row site (count_of (Write place count source)) (write_by site.byte_word (21 + place) count (21 + source)) (write_encodable site.byte_word (21 + place) count (21 + source) words.0.2 words.0.0 words.0.1) (write_own site.byte_word (21 + place) count (21 + source) words.0.2) (write_short site.byte_word (21 + place) count (21 + source) words.0.2) in
       free_front site codes (addresses_of site.after program) known.changed (count_of (Write place count source)) (program_words site.sources program + 59) _ _ (program_lines site codes program) (not-true known.changed z.0) front.0 front.1 front.2 (omega arith)
       (program_shape program (behind_access known) off x.1 words.1 quiet)
   program_shape (Locked to place kind source ∷ program) known off e words quiet =

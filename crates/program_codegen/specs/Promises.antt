@@ -1,5 +1,6 @@
 -- What a block promises wherever it comes to stand.
-use Rattle.std.specs.Prelude.{◌≡◌, ℕ, ◌≤◌, ◌==◌, List, Some, length, if◌then◌else◌}
+use Rattle.std.specs.Prelude.{◌≡◌, ℕ, ◌≤◌, ◌==◌, Bool, true, List, Some, length, if◌then◌else◌}
+use Rattle.std.specs.List.{list_all}
 use Rattle.vax_form.specs.PageTable.{IsPageTable}
 use Rattle.vax_form.specs.Ranges.{IsInRange}
 use Rattle.vax_form.specs.Tree.{Tree}
@@ -25,6 +26,7 @@ use Rattle.block_law.specs.Placements.{InForm}
 use Rattle.block_law.specs.Rounds.{block_steps, new_round}
 use Rattle.block_law.specs.Translations.{Meaning, Permit, Code, placed}
 use Rattle.program_codegen.specs.Accesses.{needed}
+use Rattle.program_codegen.specs.Programs.{has_bytes}
 
 -- a point has the rules before the instruction, and where it is done, at a trap, those behind it
 abbrev pub HasRules : (before behind : Rules) → Entry → Type 0
@@ -35,11 +37,11 @@ abbrev pub BeginsBy : Rules → BlockValue → Type 0
 BeginsBy before block = (point : Point) → point_at block.points 0 ≡ Some point → point.rules ≡ before
 
 -- the instruction at the address writes the codes of these sources, its block may make the accesses that its words need
--- for each reference, and the pages are those of an image
-pub record Writes (sources : CodeSources) (address : ℕ) (meaning : Meaning) (permit : Permit) : Type 0 where
+-- for each reference where it writes an operand of so many bytes, and the pages are those of an image
+pub record Writes (sources : CodeSources) (byte_word : Bool) (bytes address : ℕ) (meaning : Meaning) (permit : Permit) : Type 0 where
   pub pages : IsPageTable meaning.pages
   pub written : meaning.written address ≡ codes_written_by sources
-  pub kinds : MoreKinds needed (permit.kinds address)
+  pub kinds : MoreKinds (needed byte_word bytes) (permit.kinds address)
 
 -- what the program means from a state on, with the services of a thread
 abbrev pub meant : Meaning → (thread : ℕ) → Instr → List Micro → VaxState → Tree
@@ -47,10 +49,12 @@ meant meaning thread instr program state = program_tree (meaning.serve thread) p
 
 -- Wherever the block stands, it follows the program's tree: from registers in form that show the state by the rules
 -- before the instruction, where its exits lead to their addresses by those behind it. The tree keeps its references in
--- range, and where it leaves, the codes come from the sources.
-abbrev pub CompilesProgram : Instr → CodeSources → List Micro → (before behind : Rules) → BlockValue → Type 0
-CompilesProgram instr sources program before behind block =
-    (meaning : Meaning) (permit : Permit) → Writes sources instr.at meaning permit
+-- range, and where it leaves, the codes come from the sources. Each write of the program has all the bytes of the operand
+-- that is written.
+abbrev pub CompilesProgram : Instr → CodeSources → List Micro → (before behind : Rules) → (byte_word : Bool) → BlockValue → Type 0
+CompilesProgram instr sources program before behind byte_word block =
+    (bytes : ℕ) → list_all (has_bytes bytes) program ≡ true
+    → (meaning : Meaning) (permit : Permit) → Writes sources byte_word bytes instr.at meaning permit
     → (code : Code) (first thread n : ℕ) (state : VaxState) (held : Flags) (regs : Regs)
     → length code.words ≤ most_words → Stands code block first → state.pc ≡ instr.at
     → InForm regs → Shows regs instr.at before held state

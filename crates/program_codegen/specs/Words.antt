@@ -31,7 +31,7 @@ use Rattle.micro_ops.specs.declared.program.Exit.{Exit}
 use Rattle.micro_ops.specs.declared.program.Exit.TheVariants.{Next, Fixed, Computed, Choice, Service, Breakpoint}
 use Rattle.micro_ops.specs.declared.program.Micro.{Micro}
 use Rattle.micro_ops.specs.declared.program.Micro.TheVariants.{Compute, Probe, Refuse, Read, Write, Locked, Commit, Codes, SetPsw, Leave}
-use Rattle.byte_sequences.specs.Words.{read_code, write_code, locked_code}
+use Rattle.byte_sequences.specs.Words.{read_code, bw_read_code, write_code, bw_write_code, locked_code}
 use Rattle.compute_sequences.specs.Words.{compute_code}
 use Rattle.compute_sequences.specs.Overflow.{overflow_code}
 use Rattle.compute_sequences.specs.declared.overflow.Arithmetic.TheVariants.{Sum, Difference}
@@ -148,6 +148,15 @@ abbrev pub leaving : Site → (codes : List AlphaInstr) → Exit → List Line
 leaving site codes exit = map plain codes ++ (trap_lines site exit ++ departing site exit)
 
 -- ---- operations
+-- the words of a read and of a write, without the byte-word extension and with it
+abbrev pub read_by : (byte_word : Bool) → (place count to : ℕ) → List AlphaInstr
+read_by false place count to = read_code place count to
+read_by true place count to = bw_read_code place count to
+
+abbrev pub write_by : (byte_word : Bool) → (place count from : ℕ) → List AlphaInstr
+write_by false place count from = write_code place count from
+write_by true place count from = bw_write_code place count from
+
 abbrev pub computing : Site → Micro → (behind : List Micro) → List AlphaInstr → List Line
 computing site operation behind words = if is_left_out site.sources operation behind then [] else map plain words
 
@@ -157,8 +166,8 @@ lines_of site codes (Compute to op size a b) behind =
 lines_of site codes (Probe place count write) behind =
     plain (copy (holder place) ADDRESS) ∷ marked (Pal PROBE) (probing site count write) ∷ []
 lines_of site codes (Refuse when) behind = plain (Branch Beq (holder when) (pos 1)) ∷ marked (Pal RAISE) (raising site 0x18) ∷ []
-lines_of site codes (Read to place count) behind = map plain (read_code (holder place) count (holder to))
-lines_of site codes (Write place count from) behind = map plain (write_code (holder place) count (holder from))
+lines_of site codes (Read to place count) behind = map plain (read_by site.byte_word (holder place) count (holder to))
+lines_of site codes (Write place count from) behind = map plain (write_by site.byte_word (holder place) count (holder from))
 lines_of site codes (Locked to place kind from) behind = map plain (locked_code kind (holder place) (holder from) (holder to))
 lines_of site codes (Commit register from) behind = plain (Operate Addl (holder from) (Literal 0) register) ∷ []
 lines_of site codes (Codes n z v c) behind = []
@@ -197,7 +206,11 @@ block_of lines = record { words = words_of lines; exits = exits_from 0 lines; po
 abbrev pub block_lines : Site → (codes : List AlphaInstr) → List Micro → List Line
 block_lines site codes program = with_first (point_of site) (program_lines site codes program)
 
+abbrev pub site_of : Instr → CodeSources → (before behind : Rules) → (byte_word : Bool) → Site
+site_of instr sources before behind byte_word =
+    record { at = instr.at; after = instr.after; sources = sources; before = before; behind = behind; byte_word = byte_word }
+
 -- the block of an instruction's program
-abbrev pub program_block : Instr → CodeSources → List Micro → (codes : List AlphaInstr) → (before behind : Rules) → BlockValue
-program_block instr sources program codes before behind =
-    block_of (block_lines (record { at = instr.at; after = instr.after; sources = sources; before = before; behind = behind }) codes program)
+abbrev pub program_block : Instr → CodeSources → List Micro → (codes : List AlphaInstr) → (before behind : Rules) → (byte_word : Bool) → BlockValue
+program_block instr sources program codes before behind byte_word =
+    block_of (block_lines (site_of instr sources before behind byte_word) codes program)

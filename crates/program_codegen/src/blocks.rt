@@ -39,6 +39,8 @@ fn block_in(
 
 /// The block of an instruction that does what its program means. `codes` are the words that leave its condition codes, as
 /// `sources` say where they come from; `before` are the rules of the codes before the instruction, `behind` those behind it.
+/// With `byte_word` the processor has the byte-word extension: a byte, and a word at an even address, are loaded and stored
+/// as a whole.
 pub fn block(
     alloc: Global,
     instr: &Instr,
@@ -47,6 +49,7 @@ pub fn block(
     codes: &[AlphaInstr],
     before: Rules,
     behind: Rules,
+    byte_word: bool,
 ) -> Result<Block, WantOfMemory>
     requires fits { fits sources program.now ≡ true }
     requires codes { LeavesCodes sources before behind codes.now }
@@ -66,9 +69,9 @@ pub fn block(
     // Of the registers of the codes it writes those that the words for the codes write.
     ensures written { IfOk result (λ block. codes_written block.words ≡ codes_written codes.now) }
     // Wherever it stands, it does what the program means.
-    ensures means { IfOk result (CompilesProgram instr.now sources program.now before behind) }
+    ensures means { IfOk result (CompilesProgram instr.now sources program.now before behind byte_word) }
     // It is a function of the arguments.
-    ensures words { IfOk result (λ block. block ≡ program_block instr.now sources program.now codes.now before behind) }
+    ensures words { IfOk result (λ block. block ≡ program_block instr.now sources program.now codes.now before behind byte_word) }
 {
     let site = Site {
         at: instr.at,
@@ -76,6 +79,7 @@ pub fn block(
         sources,
         before,
         behind,
+        byte_word,
     };
     block_in(alloc, site, program, codes)
 }

@@ -1,6 +1,8 @@
 // The words of each operation of a program.
 ghost use Rattle.std.specs.Prelude.{◌≡◌, ◌++◌, ◌∷◌, [], OnOk, IfOk, map, true};
-ghost use Rattle.program_codegen.specs.Words.{plain, lines_of, program_lines};
+ghost use Rattle.vt_words.specs.Quad.{IsCount};
+ghost use Rattle.byte_sequences.specs.Instructions.{IsArgument};
+ghost use Rattle.program_codegen.specs.Words.{plain, read_by, write_by, lines_of, program_lines};
 ghost use Rattle.program_codegen.specs.Programs.{IsRanged, AllRanged, HasWords, AllFitWords, is_narrow};
 
 use crate::leaving::push_leaving;
@@ -8,7 +10,7 @@ use crate::lines::{Line, RAISE, copy, holder, marked, plain, push_words};
 use crate::points::{RESERVED_OPERAND, Site, probing, raising};
 use alpha_encode::registers::{ADDRESS, STATUS};
 use alpha_encode::{AlphaInstr, BranchOp, OperateOp, branch, operate_by, pal};
-use byte_sequences::{locked_words, read_words, write_words};
+use byte_sequences::{bw_read_words, bw_write_words, locked_words, read_words, write_words};
 use compute_sequences::compute_words;
 use micro_ops::{Micro, is_left_out};
 use std::alloc::Global;
@@ -31,6 +33,44 @@ fn push_two(lines: &mut Vec<Line>, first: Line, second: Line) -> Result<(), Want
 {
     lines.extend_from_slice(&[first, second])?;
     Ok(())
+}
+
+fn read_by(
+    alloc: Global,
+    byte_word: bool,
+    place: u8,
+    count: u8,
+    to: u8,
+) -> Result<Vec<AlphaInstr>, WantOfMemory>
+    requires place { IsArgument place }
+    requires to { IsArgument to }
+    requires count { IsCount count }
+    ensures { IfOk result (λ words. words.items ≡ read_by byte_word place count to) }
+{
+    if byte_word {
+        bw_read_words(alloc, place, count, to)
+    } else {
+        read_words(alloc, place, count, to)
+    }
+}
+
+fn write_by(
+    alloc: Global,
+    byte_word: bool,
+    place: u8,
+    count: u8,
+    from: u8,
+) -> Result<Vec<AlphaInstr>, WantOfMemory>
+    requires place { IsArgument place }
+    requires from { IsArgument from }
+    requires count { IsCount count }
+    ensures { IfOk result (λ words. words.items ≡ write_by byte_word place count from) }
+{
+    if byte_word {
+        bw_write_words(alloc, place, count, from)
+    } else {
+        write_words(alloc, place, count, from)
+    }
 }
 
 /// The words of an operation, before those behind it. A computation that is left out has none: those that leave the codes
@@ -71,12 +111,12 @@ fn push_operation(
             marked(RAISE, raising(site, RESERVED_OPERAND)),
         ),
         Micro::Read { to, place, count } => {
-            let words = read_words(alloc, holder(place), count, holder(to))?;
+            let words = read_by(alloc, site.byte_word, holder(place), count, holder(to))?;
             push_words(lines, &words)?;
             Ok(())
         }
         Micro::Write { place, count, from } => {
-            let words = write_words(alloc, holder(place), count, holder(from))?;
+            let words = write_by(alloc, site.byte_word, holder(place), count, holder(from))?;
             push_words(lines, &words)?;
             Ok(())
         }

@@ -10,7 +10,8 @@ pub(crate) const RESERVED_OPERAND: u8 = 0x18;
 /// The vector of the breakpoint fault.
 pub(crate) const BREAKPOINT: u8 = 0x2C;
 
-/// The address of an instruction and the one behind it, where its codes come from, and their rules before and behind it.
+/// The address of an instruction and the one behind it, where its codes come from, their rules before and behind it, and
+/// whether the processor has the byte-word extension.
 #[derive(Clone, Copy)]
 pub(crate) struct Site {
     pub(crate) at: u32,
@@ -18,6 +19,7 @@ pub(crate) struct Site {
     pub(crate) sources: CodeSources,
     pub(crate) before: Rules,
     pub(crate) behind: Rules,
+    pub(crate) byte_word: bool,
 }
 
 /// The point of a word at which the instruction is not done.

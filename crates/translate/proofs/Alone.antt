@@ -9,7 +9,7 @@ use Rattle.vax_form.specs.declared.pages.Pages.{Pages}
 use Rattle.branch_layout.specs.Layouts.{layout}
 use Rattle.vax_form.specs.Targets.{has}
 use Rattle.code_runs.specs.Runs.{AreInOrder}
-use Rattle.translate.specs.Compiled.{AreFound, IsFunction, addresses, blocks_of}
+use Rattle.translate.specs.Compiled.{AreFound, AreMappedAlike, IsFunction, addresses, blocks_of}
 
 -- ---- rising lists
 -- from that number on
@@ -95,10 +95,13 @@ same_instrs pages xs ys found_x found_y same =
     same_instr (get_or xs k d) (get_or ys k d) (sym (found_x k d lt) ∙ ap (found pages) at ∙ found_y k d (omega arith)))
 
 -- ---- translations
-pub is_function : IsFunction
-is_function pages starts a b is is' =
+pub same_mapped : AreMappedAlike
+same_mapped target other pages starts a b is is' =
     let agree : Agree (addresses is.instrs) (addresses is'.instrs) =
     λ address. (λ h. (is'.mapped address).1 ((is.mapped address).0 h), λ h. (is.mapped address).1 ((is'.mapped address).0 h)) in
-    let same = same_instrs pages is.instrs is'.instrs is.found is'.found
-    (same_rising 0 0 (addresses is.instrs) (addresses is'.instrs) (rises_by is.instrs is.made.order) (rises_by is'.instrs is'.made.order) agree) in
-    is.made.laid ∙ ap (λ (instrs : List Instr). layout (blocks_of instrs)) same ∙ sym is'.made.laid
+    same_instrs pages is.instrs is'.instrs is.found is'.found
+    (same_rising 0 0 (addresses is.instrs) (addresses is'.instrs) (rises_by is.instrs is.made.order) (rises_by is'.instrs is'.made.order) agree)
+
+pub is_function : IsFunction
+is_function target pages starts a b is is' =
+    is.made.laid ∙ ap (λ (instrs : List Instr). layout (blocks_of target instrs)) (same_mapped target target pages starts a b is is') ∙ sym is'.made.laid

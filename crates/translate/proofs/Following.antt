@@ -1,6 +1,5 @@
 -- A block that follows the program of an instruction follows what the instruction means.
-use Rattle.std.proofs.Common.{◌≡◌, ℕ, ◌<◌, ◌^◌, refl, sym, ap, ◌∙◌, subst, Bool, true, false, Option, Some, None, List}
-use Rattle.std.specs.Prelude.{◌==◌, ◌||◌}
+use Rattle.std.proofs.Common.{◌≡◌, ◌<◌, ◌^◌, refl, sym, ap, ◌∙◌, subst, Option, Some, None, List}
 use Rattle.std.specs.Option.{option_map_or}
 use Rattle.vax_form.specs.Grammar.{instruction}
 use Rattle.vax_form.specs.GrammarFound.{found}
@@ -8,13 +7,12 @@ use Rattle.vax_form.specs.Operation.{operation_at}
 use Rattle.vax_form.specs.Ranges.{IsInRange}
 use Rattle.vax_form.specs.Row.{class_at, class_of_operation, class_where}
 use Rattle.vax_form.specs.Tree.{Tree}
+use Rattle.vax_form.specs.Written.{written_bytes}
 use Rattle.vax_form.specs.declared.instr.Instr.{Instr}
 use Rattle.vax_form.specs.declared.operation.Operation.{Operation}
 use Rattle.vax_form.specs.declared.operation.Operation.TheVariants as operations
 use Rattle.vax_form.specs.declared.pages.Pages.{Pages}
 use Rattle.vax_form.specs.declared.row.Class.TheVariants.{Translated}
-use Rattle.vax_form.specs.declared.state.RefKind.{RefKind}
-use Rattle.vax_form.specs.declared.state.RefKind.TheVariants.{Read, Write, Add, SetBit, ClearBit, Put, Get}
 use Rattle.vax_meaning.specs.Instructions.{tree_for}
 use Rattle.vax_long.specs.Instructions.{long_at, long_operation, tree_at}
 use Rattle.vax_long.proofs.TreesAt.{short_stands}
@@ -28,22 +26,20 @@ use Rattle.block_law.specs.Rounds.{block_steps, new_round}
 use Rattle.block_law.specs.Translations.{placed}
 use Rattle.block_law.proofs.Blocks.{follows_same}
 use Rattle.alpha_meaning.specs.Pieces.{Plain}
-use Rattle.alpha_meaning.specs.declared.access.AlphaKind.{AlphaKind}
-use Rattle.alpha_meaning.specs.declared.access.AlphaKind.TheVariants.{Load, LoadLocked, Store, StoreConditional}
 use Rattle.alpha_meaning.specs.State.{at_place}
 use Rattle.exception_records.specs.Blocks.{BlockValue}
 use Rattle.exception_records.specs.declared.rules.Rules.{Rules}
 use Rattle.image_meaning.specs.Meant.{codes_by, codes_of, image_meaning}
-use Rattle.image_meaning.specs.Permits.{permit_of}
-use Rattle.image_meaning.specs.declared.target.Target.TheVariants.{Original}
+use Rattle.image_meaning.specs.Permits.{bytes_by, bytes_of_operation, bytes_written, permit_of}
+use Rattle.image_meaning.specs.declared.target.Target.{Target}
 use Rattle.image_meaning.proofs.TreesAt.{tree_at_stays_in_range}
-use Rattle.micro_lower.specs.Lowering.{IsLowered}
+use Rattle.micro_lower.specs.Lowering.{IsLowered, WritesOperand}
 use Rattle.code_runs.proofs.Ready.{sources_are_written, translated_can}
 use Rattle.code_runs.specs.Codes.{code_sources}
-use Rattle.program_codegen.specs.Accesses.{accesses_of, by_loads, by_locks, by_stores}
 use Rattle.program_codegen.specs.Promises.{CompilesProgram, Writes, meant}
-use Rattle.translate.specs.Compiled.{ArePages, Compiles}
+use Rattle.translate.specs.Compiled.{ArePages, Compiles, has_byte_word}
 use Rattle.translate.proofs.Above.{opcode_at}
+use Rattle.translate.proofs.Permitted.{permitted}
 use Rattle.translate.proofs.Trees.{same_back, same_range}
 
 -- the operation of a translated instruction
@@ -75,38 +71,13 @@ pub written_agrees : (pages : Pages) (instr : Instr) (operation : Operation) →
 written_agrees pages instr operation are fits stands e class =
     ap codes_by (opcode_at pages instr are fits stands) ∙ ap (λ (o : Option Operation). codes_of o) e ∙ sym (sources_are_written operation (translated_can operation class))
 
--- ---- the accesses that a program needs have 4 or 8 bytes
-eight : (four eight : Bool) → eight ≡ true → (four || eight) ≡ true
-eight true b e = refl
-eight false b e = e
-
-loads_are_whole : (kind : AlphaKind) (bytes : ℕ) → by_loads kind bytes ≡ true → (bytes == 4 || bytes == 8) ≡ true
-loads_are_whole Load bytes e = eight (bytes == 4) (bytes == 8) e
-loads_are_whole kind bytes e = absurd (cc e)
-
-stores_are_whole : (kind : AlphaKind) (bytes : ℕ) → by_stores kind bytes ≡ true → (bytes == 4 || bytes == 8) ≡ true
-stores_are_whole Load bytes e = absurd (cc e)
-stores_are_whole Store bytes e = e
-stores_are_whole LoadLocked bytes e = eight (bytes == 4) (bytes == 8) e
-stores_are_whole StoreConditional bytes e = eight (bytes == 4) (bytes == 8) e
-
-locks_are_whole : (kind : AlphaKind) (bytes : ℕ) → by_locks kind bytes ≡ true → (bytes == 4 || bytes == 8) ≡ true
-locks_are_whole LoadLocked bytes e = eight (bytes == 4) (bytes == 8) e
-locks_are_whole StoreConditional bytes e = eight (bytes == 4) (bytes == 8) e
-locks_are_whole kind bytes e = absurd (cc e)
-
-are_whole : (of : RefKind) (kind : AlphaKind) (bytes : ℕ) → accesses_of of kind bytes ≡ true → (bytes == 4 || bytes == 8) ≡ true
-are_whole Read kind bytes e = loads_are_whole kind bytes e
-are_whole (Write value) kind bytes e = stores_are_whole kind bytes e
-are_whole (Add value) kind bytes e = locks_are_whole kind bytes e
-are_whole (SetBit n) kind bytes e = locks_are_whole kind bytes e
-are_whole (ClearBit n) kind bytes e = locks_are_whole kind bytes e
-are_whole (Put byte) kind bytes e = absurd (cc e)
-are_whole Get kind bytes e = absurd (cc e)
+-- how many bytes the operand has that the instruction writes
+bytes_agree : (pages : Pages) (instr : Instr) (operation : Operation) → ArePages pages → instr.at < 2 ^ 32 → found pages instr.at ≡ instruction instr → operation_at instr.opcode ≡ Some operation → bytes_written pages instr.at ≡ written_bytes operation
+bytes_agree pages instr operation are fits stands e = ap bytes_by (opcode_at pages instr are fits stands) ∙ ap bytes_of_operation e
 
 -- ---- from the program to the instruction
-module _ (instr : Instr) (program : List Micro) (before behind : Rules) (block : BlockValue) (lowered : IsLowered instr program) (translated : class_at instr.opcode ≡ Translated) where
-  pub compiles : CompilesProgram instr (code_sources instr) program before behind block → Compiles instr before behind block
+module _ (target : Target) (instr : Instr) (program : List Micro) (before behind : Rules) (block : BlockValue) (lowered : IsLowered instr program) (written : WritesOperand instr program) (translated : class_at instr.opcode ≡ Translated) where
+  pub compiles : CompilesProgram instr (code_sources instr) program before behind (has_byte_word target) block → Compiles target instr before behind block
   compiles follows pages are stands code first thread n state held regs few in_place lt is_state pc form shows lead =
       let of = has_operation instr translated in
       let fits : instr.at < 2 ^ 32 = subst (λ a. a < 2 ^ 32) pc is_state.pc in
@@ -118,14 +89,15 @@ module _ (instr : Instr) (program : List Micro) (before behind : Rules) (block :
       let tree : tree_at pages thread state ≡ tree_for state instr pages thread = short_stands pages thread state instr found_there short in
       let means = lowers.means state pages thread is_state in
       let range : IsInRange pages (tree_for state instr pages thread) = subst (IsInRange pages) tree (tree_at_stays_in_range pages thread are.bytes lt state is_state) in
-      let permit = permit_of Original pages in
-      let writes : Writes (code_sources instr) instr.at meaning permit = record {
+      let permit = permit_of target pages in
+      let bytes = written_bytes of.operation in
+      let writes : Writes (code_sources instr) (has_byte_word target) (written_bytes of.operation) instr.at meaning permit = record {
         pages = are.table;
         written = written_agrees pages instr of.operation are fits stands of.is of.class ∙ ap codes_written_by (sym same);
-        kinds = λ reference kind bytes may. are_whole reference.kind kind bytes may;
+        kinds = permitted target pages instr.at (written_bytes of.operation) (bytes_agree pages instr of.operation are fits stands of.is);
       } in
       let agree : CodesAgree (code_sources instr) program state instr.after = subst (λ (s : CodeSources). CodesAgree s program state instr.after) (sym same) (lowers.holds state is_state) in
-      let followed = follows meaning permit writes code first thread n state held regs few in_place pc form shows lead (same_range pages (meant meaning thread instr program state) (tree_for state instr pages thread) means range) agree in
+      let followed = follows bytes (written of.operation of.is) meaning permit writes code first thread n state held regs few in_place pc form shows lead (same_range pages (meant meaning thread instr program state) (tree_for state instr pages thread) means range) agree in
       subst (λ (t : Tree). Follows (placed meaning permit code thread state held first) n Plain block_steps new_round (at_place regs first) t) (sym tree)
       (follows_same (placed meaning permit code thread state held first) n Plain block_steps new_round (at_place regs first) (meant meaning thread instr program state) (tree_for state instr pages thread)
       (same_back (meant meaning thread instr program state) (tree_for state instr pages thread) means) followed)

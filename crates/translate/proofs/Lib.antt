@@ -1,5 +1,6 @@
 pub mod Trees
 pub mod Above
+pub mod Permitted
 pub mod Following
 pub mod Asked
 pub mod Placing

@@ -15,7 +15,7 @@ use Rattle.block_law.specs.Translations.{Code, IsBlock, Meets}
 use Rattle.block_law.proofs.Laid.{first_point, is_block}
 use Rattle.image_meaning.specs.Meant.{image_meaning}
 use Rattle.image_meaning.specs.Permits.{permit_of}
-use Rattle.image_meaning.specs.declared.target.Target.TheVariants.{Original}
+use Rattle.image_meaning.specs.declared.target.Target.{Target}
 use Rattle.branch_layout.specs.Layouts.{Placed, IsLayout}
 use Rattle.branch_layout.proofs.Filling.{All_at, some_same}
 use Rattle.branch_layout.proofs.Places.{placed_of}
@@ -39,14 +39,14 @@ target_begins : (instrs : List Instr) (address place : ℕ) → place < length i
 unfolding joined_at
 target_begins instrs address place lt e = ap (λ b. cond b None (only (ending_at address 0 instrs))) (any_at instrs address place lt e)
 
-module _ (pages : Pages) (instrs : List Instr) (blocks : List Placed) (code : Code) (are : AreCompiled instrs blocks) (layout : IsLayout blocks code) (stand : AreFound pages instrs) (pages_are : ArePages pages) (meet : runs.RulesMeet instrs) where
+module _ (target : Target) (pages : Pages) (instrs : List Instr) (blocks : List Placed) (code : Code) (are : AreCompiled target instrs blocks) (layout : IsLayout blocks code) (stand : AreFound pages instrs) (pages_are : ArePages pages) (meet : runs.RulesMeet instrs) where
   -- the instruction of a mapped address
   pub record IsOf (address first : ℕ) : Type 0 where
     pub place : ℕ
     pub block : Placed
     pub within : place < length instrs
     pub its : (instr_at instrs place).at ≡ address
-    pub compiled : IsCompiled (instr_at instrs place) (codes_at instrs place) block
+    pub compiled : IsCompiled target (instr_at instrs place) (codes_at instrs place) block
     pub laid : IsLaid code (instr_at instrs place).at block.1
     pub first_is : laid.first ≡ first
 
@@ -85,7 +85,7 @@ module _ (pages : Pages) (instrs : List Instr) (blocks : List Placed) (code : Co
   begins_by : (address first : ℕ) (of : IsOf address first) (point : Point) → point_at code.points first ≡ Some point → point.rules ≡ (codes_at instrs of.place).before
   begins_by address first of point has_point =
       let shape = of.compiled.shape in
-      let there = first_point (image_meaning pages) (permit_of Original pages) code (instr_at instrs of.place).at of.block.1 shape of.laid in
+      let there = first_point (image_meaning pages) (permit_of target pages) code (instr_at instrs of.place).at of.block.1 shape of.laid in
       let here : point_at code.points of.laid.first ≡ Some point = subst (λ w. point_at code.points w ≡ Some point) (sym of.first_is) has_point in
       let same : shape.first ≡ point = some_same (sym there ∙ here) in
       subst (λ (p : Point). p.rules ≡ (codes_at instrs of.place).before) same (of.compiled.first shape.first shape.has_first)
@@ -133,30 +133,30 @@ module _ (pages : Pages) (instrs : List Instr) (blocks : List Placed) (code : Co
       let compiled = are.each place block at in
       λ number exit has_exit. rules_at place (omega arith) exit.1 (All_at (λ (e : Exit). GoesTo (instr_at instrs place) e.1) block.1.exits number exit compiled.exits has_exit)
 
-  pub its_rules : HasItsRules instrs code
+  pub its_rules : HasItsRules target instrs code
   its_rules = record {
     first = λ place lt. rules_first place lt (word_at code.map (instr_at instrs place).at) refl;
-    onward = λ place block at. rules_onward place block (subst (λ (bs : List Placed). slice_get bs place ≡ Some block) (sym (are_of instrs blocks are)) at);
+    onward = λ place block at. rules_onward place block (subst (λ (bs : List Placed). slice_get bs place ≡ Some block) (sym (are_of target instrs blocks are)) at);
   }
 
-  block_at : (address first : ℕ) (of : IsOf address first) → IsBlock (image_meaning pages) (permit_of Original pages) code (instr_at instrs of.place).at of.laid.first
+  block_at : (address first : ℕ) (of : IsOf address first) → IsBlock (image_meaning pages) (permit_of target pages) code (instr_at instrs of.place).at of.laid.first
   block_at address first of =
       let shape = of.compiled.shape in
       let at = (instr_at instrs of.place).at in
-      is_block (image_meaning pages) (permit_of Original pages) code at of.block.1 shape of.laid
+      is_block (image_meaning pages) (permit_of target pages) code at of.block.1 shape of.laid
       (λ thread n state held regs lt is_state pc form shows.
       of.compiled.means pages pages_are (stand of.place no_instr of.within) code of.laid.first thread n state held regs
       layout.few of.laid.stands lt is_state pc form
       (subst (λ (rules : Rules). Shows regs at rules held state) (of.compiled.first shape.first shape.has_first) shows)
-      (of.laid.leads (image_meaning pages) (permit_of Original pages) thread state held (codes_at instrs of.place).behind
+      (of.laid.leads (image_meaning pages) (permit_of target pages) thread state held (codes_at instrs of.place).behind
       (λ number exit has_exit. rules_at of.place of.within exit.1 (All_at (λ (e : Exit). GoesTo (instr_at instrs of.place) e.1) of.block.1.exits number exit of.compiled.exits has_exit))))
 
-  pub meets : Meets (image_meaning pages) (permit_of Original pages) code
+  pub meets : Meets (image_meaning pages) (permit_of target pages) code
   meets = record {
     few = layout.few;
     map_rises = layout.map_rises;
     points_rise = layout.points_rise;
     blocks = λ address first e.
         let of = is_of address first e in
-        subst (λ a. IsBlock (image_meaning pages) (permit_of Original pages) code a first) of.its (subst (λ w. IsBlock (image_meaning pages) (permit_of Original pages) code (instr_at instrs of.place).at w) of.first_is (block_at address first of));
+        subst (λ a. IsBlock (image_meaning pages) (permit_of target pages) code a first) of.its (subst (λ w. IsBlock (image_meaning pages) (permit_of target pages) code (instr_at instrs of.place).at w) of.first_is (block_at address first of));
   }

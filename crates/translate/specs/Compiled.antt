@@ -1,5 +1,5 @@
 -- The blocks of a list of instructions.
-use Rattle.std.specs.Prelude.{◌≡◌, ℕ, ◌<◌, ◌≤◌, ◌↔◌, true, false, All, IsTrue, List, [], Some, length, map, slice_get, unwrap_or}
+use Rattle.std.specs.Prelude.{◌≡◌, ℕ, ◌<◌, ◌≤◌, ◌↔◌, Bool, true, false, All, IsTrue, List, [], Some, length, map, slice_get, unwrap_or}
 use Rattle.std.specs.List.{AllAdjacentBelow, range_with_len}
 use Rattle.vax_form.specs.Grammar.{instruction}
 use Rattle.vax_form.specs.GrammarFound.{found}
@@ -26,7 +26,8 @@ use Rattle.address_map.specs.Pairs.{word_at}
 use Rattle.micro_ops.specs.Sources.{sources_of}
 use Rattle.image_meaning.specs.Meant.{image_meaning}
 use Rattle.image_meaning.specs.Permits.{permit_of}
-use Rattle.image_meaning.specs.declared.target.Target.TheVariants.{Original}
+use Rattle.image_meaning.specs.declared.target.Target.{Target}
+use Rattle.image_meaning.specs.declared.target.Target.TheVariants.{Original, ByteWord}
 use Rattle.branch_layout.specs.Layouts.{AddressesRise, AreBlocks, IsLayout, Placed, layout}
 use Rattle.vax_form.specs.Targets.{has}
 use Rattle.code_runs.specs.Promises.{CanHaveBlocks}
@@ -58,28 +59,33 @@ pub record ArePages (pages : Pages) : Type 0 where
   pub table : IsPageTable pages
   pub bytes : AreBytes pages.code
 
+-- whether they have the byte-word extension
+abbrev pub has_byte_word : Target → Bool
+has_byte_word Original = false
+has_byte_word ByteWord = true
+
 -- Wherever the block stands in the code of an image that has the instruction, it follows what that means, by accesses that
--- the first Alpha processors have: from registers in form that show the state by the rules before it, where its exits lead to
+-- code for the processors may make: from registers in form that show the state by the rules before it, where its exits lead to
 -- their addresses by those behind it.
-abbrev pub Compiles : Instr → (before behind : Rules) → BlockValue → Type 0
-Compiles instr before behind block =
+abbrev pub Compiles : Target → Instr → (before behind : Rules) → BlockValue → Type 0
+Compiles target instr before behind block =
     (pages : Pages) → ArePages pages → found pages instr.at ≡ instruction instr
     → (code : Code) (first thread n : ℕ) (state : VaxState) (held : Flags) (regs : Regs)
     → length code.words ≤ most_words → Stands code block first → thread < 256 → IsState state → state.pc ≡ instr.at
     → InForm regs → Shows regs instr.at before held state
-    → ExitsLead (placed (image_meaning pages) (permit_of Original pages) code thread state held first) block.exits first behind
-    → Follows (placed (image_meaning pages) (permit_of Original pages) code thread state held first) n Plain block_steps new_round (at_place regs first) ((image_meaning pages).tree thread state)
+    → ExitsLead (placed (image_meaning pages) (permit_of target pages) code thread state held first) block.exits first behind
+    → Follows (placed (image_meaning pages) (permit_of target pages) code thread state held first) n Plain block_steps new_round (at_place regs first) ((image_meaning pages).tree thread state)
 
 -- the block of an instruction that has these codes along its run, with its address
-unfoldable pub block_of : Instr → InstrCodes → Placed
-block_of instr codes = (
+unfoldable pub block_of : Target → Instr → InstrCodes → Placed
+block_of target instr codes = (
   instr.at,
-  program_block instr (code_sources instr) (unwrap_or (program_for instr) []) (code_words (code_sources instr) codes.live) codes.before codes.behind,
+  program_block instr (code_sources instr) (unwrap_or (program_for instr) []) (code_words (code_sources instr) codes.live) codes.before codes.behind (has_byte_word target),
 )
 
 -- an instruction with its block, which has these codes along its run
-pub record IsCompiled (instr : Instr) (codes : InstrCodes) (block : Placed) : Type 0 where
-  pub value : block ≡ block_of instr codes
+pub record IsCompiled (target : Target) (instr : Instr) (codes : InstrCodes) (block : Placed) : Type 0 where
+  pub value : block ≡ block_of target instr codes
   pub address : block.0 ≡ instr.at
   pub shape : IsBlockOf false instr.at block.1
   pub exits : All (λ exit. GoesTo instr exit.1) block.1.exits
@@ -87,15 +93,15 @@ pub record IsCompiled (instr : Instr) (codes : InstrCodes) (block : Placed) : Ty
   pub rules : All (HasRules codes.before codes.behind) block.1.points
   -- it writes the register of a code just where the instruction writes the code, and that is live or has no rule
   pub written : codes_written block.1.words ≡ codes_made (code_sources instr) codes.live
-  pub means : Compiles instr codes.before codes.behind block.1
+  pub means : Compiles target instr codes.before codes.behind block.1
 
 -- so many instructions are compiled, each with its codes
-pub record AreCompiledTo (instrs : List Instr) (count : ℕ) (blocks : List Placed) : Type 0 where
+pub record AreCompiledTo (target : Target) (instrs : List Instr) (count : ℕ) (blocks : List Placed) : Type 0 where
   pub many : length blocks ≡ count
-  pub each : (place : ℕ) (block : Placed) → slice_get blocks place ≡ Some block → IsCompiled (instr_at instrs place) (codes_at instrs place) block
+  pub each : (place : ℕ) (block : Placed) → slice_get blocks place ≡ Some block → IsCompiled target (instr_at instrs place) (codes_at instrs place) block
 
-abbrev pub AreCompiled : List Instr → List Placed → Type 0
-AreCompiled instrs blocks = AreCompiledTo instrs (length instrs) blocks
+abbrev pub AreCompiled : Target → List Instr → List Placed → Type 0
+AreCompiled target instrs blocks = AreCompiledTo target instrs (length instrs) blocks
 
 -- along its run the instruction has codes of which a block can be made: those that it reads are ready before it, all are
 -- where it ends, and V is not that of a sum or difference of quadwords
@@ -128,31 +134,35 @@ pub record IsLaidOut (blocks : List Placed) (code : Code) : Type 0 where
   pub value : code ≡ layout blocks
 
 -- the block of each instruction
-abbrev pub blocks_of : List Instr → List Placed
-blocks_of instrs = map (λ place. block_of (instr_at instrs place) (codes_at instrs place)) (range_with_len 0 (length instrs))
+abbrev pub blocks_of : Target → List Instr → List Placed
+blocks_of target instrs = map (λ place. block_of target (instr_at instrs place) (codes_at instrs place)) (range_with_len 0 (length instrs))
 
 -- The rules at the first word of each instruction's block are those before it in its run. Those behind it are the rules at
 -- each address to which its block leads.
-pub record HasItsRules (instrs : List Instr) (code : Code) : Type 0 where
+pub record HasItsRules (target : Target) (instrs : List Instr) (code : Code) : Type 0 where
   pub first : (place : ℕ) → place < length instrs → RulesAt code (word_at code.map (instr_at instrs place).at) (codes_at instrs place).before
-  pub onward : (place : ℕ) (block : Placed) → slice_get (blocks_of instrs) place ≡ Some block → RulesMeet code block.1.exits (codes_at instrs place).behind
+  pub onward : (place : ℕ) (block : Placed) → slice_get (blocks_of target instrs) place ≡ Some block → RulesMeet code block.1.exits (codes_at instrs place).behind
 
 -- the code is that of the blocks of the instructions
-pub record AreLaidOut (instrs : List Instr) (code : Code) : Type 0 where
+pub record AreLaidOut (target : Target) (instrs : List Instr) (code : Code) : Type 0 where
   pub order : AreInOrder instrs
   -- along each run its codes
   pub codes : AreCodes instrs (instruction_codes instrs)
-  pub compiled : AreCompiled instrs (blocks_of instrs)
-  pub rules : HasItsRules instrs code
-  pub laid : code ≡ layout (blocks_of instrs)
+  pub compiled : AreCompiled target instrs (blocks_of target instrs)
+  pub rules : HasItsRules target instrs code
+  pub laid : code ≡ layout (blocks_of target instrs)
 
 -- the mapped instructions of an image in their order, and their blocks one behind the other
-pub record IsTranslation (pages : Pages) (starts : List ℕ) (code : Code) : Type 0 where
+pub record IsTranslation (target : Target) (pages : Pages) (starts : List ℕ) (code : Code) : Type 0 where
   pub instrs : List Instr
   pub found : AreFound pages instrs
   pub mapped : (address : ℕ) → IsTrue (has (addresses instrs) address) ↔ Mapped pages starts address
-  pub made : AreLaidOut instrs code
+  pub made : AreLaidOut target instrs code
 
--- the translation of an image is a function of its pages and the starts
+-- the translation of an image is a function of the target, its pages and the starts
 abbrev pub IsFunction : Type 0
-IsFunction = (pages : Pages) (starts : List ℕ) (a b : Code) → IsTranslation pages starts a → IsTranslation pages starts b → a ≡ b
+IsFunction = (target : Target) (pages : Pages) (starts : List ℕ) (a b : Code) → IsTranslation target pages starts a → IsTranslation target pages starts b → a ≡ b
+
+-- which instructions are mapped, and so what codes they have along their runs, does not depend on the target
+abbrev pub AreMappedAlike : Type 0
+AreMappedAlike = (target other : Target) (pages : Pages) (starts : List ℕ) (a b : Code) (is : IsTranslation target pages starts a) (is' : IsTranslation other pages starts b) → is.instrs ≡ is'.instrs

@@ -5,13 +5,14 @@ ghost use Rattle.vax_form.specs.Row.{class_at};
 ghost use Rattle.vax_form.specs.declared.row.Class.TheVariants.{Translated};
 ghost use Rattle.code_runs.specs.Codes.{instruction_codes};
 ghost use Rattle.code_runs.specs.Runs.{AreInOrder};
-ghost use Rattle.micro_lower.specs.Lowering.{IsLowered};
+ghost use Rattle.micro_lower.specs.Lowering.{IsLowered, WritesOperand};
 ghost use Rattle.micro_lower.specs.Rows.{program_for};
-ghost use Rattle.translate.specs.Compiled.{AreCompiled, AreReadyFor, IsCompiled};
+ghost use Rattle.translate.specs.Compiled.{AreCompiled, AreReadyFor, IsCompiled, has_byte_word};
 
 use code_runs::{InstrCodes, instruction_codes};
 use exception_records::Block;
 use flag_codegen::code_words;
+use image_meaning::Target;
 use micro_lower::lower;
 use micro_ops::{Micro, sources_of};
 use program_codegen::block;
@@ -23,8 +24,19 @@ fn program(alloc: Global, instr: &Instr) -> Result<Vec<Micro>, WantOfMemory>
     requires { IsSpelled instr.now }
     ensures lowered { IfOk result (λ program. IsLowered instr.now program.items) }
     ensures value { IfOk result (λ program. program_for instr.now ≡ Some program.items) }
+    ensures written { IfOk result (λ program. WritesOperand instr.now program.items) }
 {
     lower(alloc, instr).map_err(|_| WantOfMemory)
+}
+
+/// Whether the processors have the byte-word extension.
+fn has_byte_word(target: Target) -> bool
+    ensures { result ≡ has_byte_word target }
+{
+    match target {
+        Target::Original => false,
+        Target::ByteWord => true,
+    }
 }
 
 /// The block of an instruction, with its address, by the codes that it has along its run.
@@ -32,11 +44,12 @@ fn compiled_instr(
     alloc: Global,
     instr: &Instr,
     codes: &InstrCodes,
+    target: Target,
 ) -> Result<(u32, Block), WantOfMemory>
     requires spelled { IsSpelled instr.now }
     requires translated { class_at instr.now.opcode ≡ Translated }
     requires ready { AreReadyFor instr.now codes.now }
-    ensures { IfOk result (IsCompiled instr.now codes.now) }
+    ensures { IfOk result (IsCompiled target instr.now codes.now) }
 {
     let Some(operation) = operation_of(instr.opcode) else {
         unreachable!()
@@ -52,6 +65,7 @@ fn compiled_instr(
         &words,
         codes.before,
         codes.behind,
+        has_byte_word(target),
     )?;
     Ok((instr.at, block))
 }
@@ -60,28 +74,33 @@ fn compiled_all(
     alloc: Global,
     instrs: &[Instr],
     codes: &[InstrCodes],
+    target: Target,
 ) -> Result<Vec<(u32, Block)>, WantOfMemory>
     requires order { AreInOrder instrs.now }
     requires spelled { All IsSpelled instrs.now }
     requires translated { All (λ instr. class_at instr.opcode ≡ Translated) instrs.now }
     requires codes { codes.now ≡ instruction_codes instrs.now }
-    ensures { IfOk result (λ blocks. AreCompiled instrs.now blocks.items) }
+    ensures { IfOk result (λ blocks. AreCompiled target instrs.now blocks.items) }
 {
     let mut blocks = Vec::new(alloc);
     for (place, instr) in instrs.iter().enumerate() {
-        let block = compiled_instr(alloc, instr, &codes[place])?;
+        let block = compiled_instr(alloc, instr, &codes[place], target)?;
         blocks.push(block).map_err(|_| WantOfMemory)?;
     }
     Ok(blocks)
 }
 
 /// The block of each instruction, with its address.
-pub(crate) fn compiled(alloc: Global, instrs: &[Instr]) -> Result<Vec<(u32, Block)>, WantOfMemory>
+pub(crate) fn compiled(
+    alloc: Global,
+    instrs: &[Instr],
+    target: Target,
+) -> Result<Vec<(u32, Block)>, WantOfMemory>
     requires order { AreInOrder instrs.now }
     requires spelled { All IsSpelled instrs.now }
     requires translated { All (λ instr. class_at instr.opcode ≡ Translated) instrs.now }
-    ensures { IfOk result (λ blocks. AreCompiled instrs.now blocks.items) }
+    ensures { IfOk result (λ blocks. AreCompiled target instrs.now blocks.items) }
 {
     let codes = instruction_codes(alloc, instrs)?;
-    compiled_all(alloc, instrs, &codes)
+    compiled_all(alloc, instrs, &codes, target)
 }

@@ -1,5 +1,5 @@
 // What holds of translations.
-ghost use Rattle.translate.specs.Compiled.{AreAlwaysReady, ArePages, IsFunction};
+ghost use Rattle.translate.specs.Compiled.{AreAlwaysReady, AreMappedAlike, ArePages, IsFunction};
 
 use image_meaning::laws::page_table_has_bytes;
 use vax_form::Pages;
@@ -7,6 +7,11 @@ use vax_form::Pages;
 /// An image and its starts have one translation alone.
 pub fn translation_law()
     ensures { IsFunction }
+{}
+
+/// An image and its starts have the same mapped instructions for every target, and so the same codes along runs.
+pub fn targets_law()
+    ensures { AreMappedAlike }
 {}
 
 /// What `block` of program_codegen asks of sources and rules holds of every operation, and of the codes along every run of

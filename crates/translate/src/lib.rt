@@ -15,7 +15,6 @@ ghost use Rattle.flow_discovery.specs.Starts.{starts};
 ghost use Rattle.block_law.specs.Translations.{Meets};
 ghost use Rattle.image_meaning.specs.Meant.{image_meaning};
 ghost use Rattle.image_meaning.specs.Permits.{any_permit, permit_of};
-ghost use Rattle.image_meaning.specs.declared.target.Target.TheVariants.{Original};
 ghost use Rattle.branch_layout.specs.Layouts.{layout};
 ghost use Rattle.code_runs.specs.Runs.{AreInOrder};
 ghost use Rattle.translate.specs.Compiled.{AreCompiled, AreFound, AreLaidOut, CanBeLaid, InOrder, IsLaidOut, IsTranslation, addresses};
@@ -58,18 +57,19 @@ fn translate_instrs(
     alloc: Global,
     pages: &Pages,
     instrs: &[Instr],
+    target: Target,
 ) -> Result<Translation, WantOfMemory>
     requires few { length instrs.now ≤ 32768 }
     requires longwords { All (λ instr. instr.at < 2 ^ 32) instrs.now }
     requires rising { InOrder instrs.now }
     requires found { AreFound pages.now instrs.now }
     requires built { All (λ instr. has_block instr pages.now ≡ true) instrs.now }
-    ensures meets { IfOk result (Meets (image_meaning pages.now) (permit_of Original pages.now)) }
+    ensures meets { IfOk result (Meets (image_meaning pages.now) (permit_of target pages.now)) }
     ensures mapped { IfOk result (λ code. map (λ pair. pair.0) code.map ≡ addresses instrs.now) }
-    ensures blocks { IfOk result (AreLaidOut instrs.now) }
+    ensures blocks { IfOk result (AreLaidOut target instrs.now) }
 {
     pages_law(pages);
-    let blocks = compiled(alloc, instrs)?;
+    let blocks = compiled(alloc, instrs, target)?;
     laid_out(alloc, &blocks)
 }
 
@@ -88,16 +88,14 @@ fn keep_built(instrs: &mut Vec<Instr>, pages: &Pages)
     instrs.retain(|instr| has_block(instr, pages));
 }
 
-/// The translation of an image, as far as its instructions can be reached from its threads, its entries and these hints,
-/// and have blocks.
+/// The translation of an image for the processors of a target, as far as its instructions can be reached from its threads,
+/// its entries and these hints, and have blocks.
 pub fn translate(
     alloc: Global,
     image: &Image,
     hints: &[u32],
     target: Target,
 ) -> Result<Translation, TranslateRefusal>
-    // Code is made for the first processors alone.
-    requires { target ≡ Original }
     // Each mapped instruction has its block, which does what the instruction means, by accesses that these processors have.
     ensures meets { IfOk result (Meets (image_meaning image.now.pages) (permit_of target image.now.pages)) }
     // So it does what it may on any.
@@ -105,15 +103,12 @@ pub fn translate(
     // Mapped are just those of the reached instructions that have a block.
     ensures mapped { IfOk result (HasMapped image.now.pages (starts image.now hints.now)) }
     // Each block is the instruction's, by the codes along its run.
-    ensures blocks { IfOk result (IsTranslation image.now.pages (starts image.now hints.now)) }
+    ensures blocks { IfOk result (IsTranslation target image.now.pages (starts image.now hints.now)) }
     // An image is refused exactly where too many instructions can be reached.
     ensures few { IfOk result (λ _. AreFew image.now.pages (starts image.now hints.now)) }
     ensures refused { IfErr result (IsRefused image.now.pages (starts image.now hints.now)) }
 {
-    let Target::Original = target else {
-        unreachable!()
-    };
     let mut instrs = reach(alloc, image, hints)?;
     keep_built(&mut instrs, &image.pages);
-    Ok(translate_instrs(alloc, &image.pages, &instrs)?)
+    Ok(translate_instrs(alloc, &image.pages, &instrs, target)?)
 }

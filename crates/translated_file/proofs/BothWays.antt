@@ -1,9 +1,9 @@
 -- What is written reads as it was written, and what reads was so written.
-use Rattle.std.proofs.Common.{◌≡◌, ℕ, ◌+◌, ◌*◌, ◌/◌, ◌^◌, ◌<◌, true, false, cond, List, [], ◌∷◌, ◌++◌, length, take, drop, refl, sym, ap, subst, ◌∙◌, arith, append_assoc, Some, None, Result, Ok, Err, nat_lt}
-use Rattle.std.specs.Prelude.{◌==◌, codes, IfOk}
+use Rattle.std.proofs.Common.{◌≡◌, ℕ, ◌+◌, ◌*◌, ◌/◌, ◌^◌, ◌<◌, true, false, cond, List, [], ◌∷◌, ◌++◌, length, take, drop, refl, sym, ap, subst, ◌∙◌, arith, append_assoc, Some, None, Result, Ok, Err, nat_lt, inl, inr}
+use Rattle.std.specs.Prelude.{◌==◌, ◌⊎◌, codes, IfOk}
 use Rattle.std.specs.List.{flat_map, AllByRecursion}
 use Rattle.std.specs.Int.{w32, to_le_bytes}
-use Rattle.std.proofs.lemmas.Bool.{eqb-true, eq-eqb, le-ltb, ltb-false}
+use Rattle.std.proofs.lemmas.Bool.{eqb-true, or_cases, eq-eqb, le-ltb, ltb-false}
 use Rattle.std.proofs.lemmas.List.{length-append, length-take, length-drop, take_at, drop_at, take_all, append-nil, take-append-drop}
 use Rattle.std.proofs.lemmas.Nat.{from_le_bytes-to_le_bytes_4}
 use Rattle.address_map.specs.Pairs.{Pair}
@@ -17,6 +17,7 @@ use Rattle.image_file.proofs.Found as ImageFound
 use Rattle.image_file.proofs.LengthLaws.{whole_length, whole_small}
 use Rattle.image_file.proofs.StepLaws.{bind_ok, passed, passed_at, done}
 use Rattle.translated_file.specs.declared.header.Header.{Header}
+use Rattle.translated_file.specs.Limits.{is_version}
 use Rattle.translated_file.specs.Values.{PartsValue}
 use Rattle.translated_file.specs.Spelling.{word_bytes, header_bytes, front_bytes, parts_bytes, pair_words, tail_words, written_parts}
 use Rattle.translated_file.specs.Reading.{Gives, hints_at, tail_at, header_in, header_of, image_bytes_in, hints_in, first_fall, parts_in, parts_of}
@@ -34,6 +35,14 @@ use Rattle.translated_file.proofs.PartsLaws.{IsHeader, header_ok, header_pass, p
 regroup : (a b c d : List ℕ) → a ++ b ++ c ++ d ≡ a ++ (b ++ (c ++ d))
 regroup a b c d = simp append_assoc
 
+-- a version is a longword
+version_fits : (version : ℕ) → is_version version ≡ true → version < 2 ^ 32
+version_fits version e = by (or_cases (version == 1) (version == 2) e)
+  where
+    by : ((version == 1) ≡ true) ⊎ ((version == 2) ≡ true) → version < 2 ^ 32
+    by (inl one) = let is : version ≡ 1 = eqb-true version 1 one in omega arith
+    by (inr two) = let is : version ≡ 2 = eqb-true version 2 two in omega arith
+
 pub read_again : (parts : PartsValue) → AreWhole parts → parts_of (parts_bytes parts) ≡ Ok parts
 unfolding front_bytes
 read_again parts whole =
@@ -45,7 +54,7 @@ read_again parts whole =
     let d : List ℕ = parts.tail in
     let bytes : List ℕ = a ++ (b ++ (c ++ d)) in
     let header : Header = record { version = parts.version; image_bytes = n; hints = h } in
-    let version : parts.version ≡ 1 = eqb-true _ _ whole.version in
+    let version = version_fits parts.version whole.version in
     let small : n < 2 ^ 31 = omega (arith, whole_length parts.image whole.image, whole_small parts.image whole.image) in
     let c_long : length c ≡ 4 * h = length-written IsLong 4 (to_le_bytes w32) (λ x fit. refl) parts.hints whole.hints.fit in
     let long : length bytes ≡ 16 + n + 4 * h + length d = omega (arith, length-append a (b ++ (c ++ d)), length-append b (c ++ d), length-append c d, c_long) in

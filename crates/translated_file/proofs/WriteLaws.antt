@@ -1,5 +1,5 @@
 -- What was written is the spelling, and its numbers are longwords.
-use Rattle.std.proofs.Common.{◌≡◌, ℕ, ◌+◌, ◌^◌, ◌<◌, List, [], ◌∷◌, ◌++◌, length, take, refl, sym, ap, subst, ◌∙◌, arith, Ok}
+use Rattle.std.proofs.Common.{◌≡◌, ℕ, ◌+◌, ◌^◌, ◌<◌, List, [], ◌∷◌, ◌++◌, length, take, sym, ap, subst, ◌∙◌, arith, true, Ok}
 use Rattle.std.specs.List.{flat_map, AllByRecursion}
 use Rattle.std.proofs.lemmas.List.{take_more}
 use Rattle.std.proofs.lemmas.List.Concat.{flat_map-append}
@@ -8,6 +8,7 @@ use Rattle.image_file.specs.Values.{ImageValue}
 use Rattle.image_file.specs.Spelling as Image
 use Rattle.image_file.specs.Whole.{IsWhole}
 use Rattle.image_file.proofs.LengthLaws.{whole_length, whole_small}
+use Rattle.translated_file.specs.Limits.{is_version}
 use Rattle.translated_file.specs.Spelling.{word_bytes, header_bytes, front_bytes, pair_words, tail_words, written_parts, spelling}
 use Rattle.translated_file.specs.Reading.{parts_of}
 use Rattle.translated_file.specs.Comparing.{tail_place, accepted}
@@ -30,8 +31,8 @@ pub raw_is : (version : ℕ) (image : ImageValue) (bytes hints words : List ℕ)
 unfolding front_bytes
 raw_is version image bytes hints words pairs found is same = λ i. raw version (is i) hints words (same i)
 
-pub written_reads : (bytes : List ℕ) (image : ImageValue) (hints words : List ℕ) (pairs : List Pair) → IsWhole image → AreHints hints → bytes ≡ spelling 1 image hints words pairs → parts_of bytes ≡ Ok (written_parts 1 image hints words pairs)
-written_reads bytes image hints words pairs whole are spelled = ap parts_of spelled ∙ read_again (written_parts 1 image hints words pairs) (record { version = refl; image = whole; hints = are })
+pub written_reads : (version : ℕ) (bytes : List ℕ) (image : ImageValue) (hints words : List ℕ) (pairs : List Pair) → is_version version ≡ true → IsWhole image → AreHints hints → bytes ≡ spelling version image hints words pairs → parts_of bytes ≡ Ok (written_parts version image hints words pairs)
+written_reads version bytes image hints words pairs is whole are spelled = ap parts_of spelled ∙ read_again (written_parts version image hints words pairs) (record { version = is; image = whole; hints = are })
 
-pub written_compares : (bytes : List ℕ) (image : ImageValue) (hints words : List ℕ) (pairs : List Pair) → parts_of bytes ≡ Ok (written_parts 1 image hints words pairs) → AllByRecursion IsLong (tail_words words pairs) → accepted bytes words pairs ≡ Ok tt
-written_compares bytes image hints words pairs read fit = rw read (tail_agrees (tail_place (written_parts 1 image hints words pairs)) (tail_words words pairs) fit)
+pub written_compares : (version : ℕ) (bytes : List ℕ) (image : ImageValue) (hints words : List ℕ) (pairs : List Pair) → parts_of bytes ≡ Ok (written_parts version image hints words pairs) → AllByRecursion IsLong (tail_words words pairs) → accepted bytes words pairs ≡ Ok tt
+written_compares version bytes image hints words pairs read fit = rw read (tail_agrees (tail_place (written_parts version image hints words pairs)) (tail_words words pairs) fit)

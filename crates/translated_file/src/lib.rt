@@ -11,7 +11,7 @@ mod refusal;
 mod writing;
 
 pub use comparing::compare;
-pub use limits::{MOST_PAIRS, MOST_WORDS, VERSION, limits_are_as_stated};
+pub use limits::{MOST_PAIRS, MOST_WORDS, VERSION_1, VERSION_2, limits_are_as_stated};
 pub use parts::Parts;
 pub use reading::read_parts;
 pub use refusal::{Numbers, TranslatedRefusal};

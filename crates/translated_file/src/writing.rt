@@ -1,7 +1,8 @@
 //! The bytes of a translated file from its parts.
-ghost use Rattle.std.specs.Prelude.{◌≡◌, ◌≤◌, ◌<◌, ◌^◌, ◌++◌, length, IfOk, OnOk, Ok};
+ghost use Rattle.std.specs.Prelude.{◌≡◌, ◌≤◌, ◌<◌, ◌^◌, ◌++◌, length, IfOk, OnOk, Ok, true};
 ghost use Rattle.std.specs.List.{flat_map, AllByRecursion};
 ghost use Rattle.image_file.specs.Whole.{IsWhole};
+ghost use Rattle.translated_file.specs.Limits.{is_version};
 ghost use Rattle.translated_file.specs.Spelling.{word_bytes, header_bytes, pair_words, tail_words, written_parts, spelling};
 ghost use Rattle.translated_file.specs.Reading.{parts_of};
 ghost use Rattle.translated_file.specs.Comparing.{accepted};
@@ -70,23 +71,26 @@ fn spelled(
     Ok(out)
 }
 
-/// The bytes of the file that holds a whole image, hints, and the translation of both, whose words and map these are.
+/// The bytes of the file of that version that holds a whole image, hints, and the translation of both, whose words and map
+/// these are.
 pub fn write_translated(
     alloc: Global,
     image: &Image,
     hints: &[u32],
     words: &[u32],
     map: &AddressMap,
+    version: u32,
 ) -> Result<Vec<u8>, WantOfMemory>
+    requires version { is_version version ≡ true }
     requires image { IsWhole image.now }
     requires few { length hints.now ≤ MOST_HINTS }
     requires rise { Rise hints.now }
     requires words { length words.now ≤ MOST_WORDS }
     requires pairs { length map.now ≤ MOST_PAIRS }
-    ensures spelled { IfOk result (λ v. v.items ≡ spelling VERSION image.now hints.now words.now map.now) }
-    ensures read_again { IfOk result (λ v. parts_of v.items ≡ Ok (written_parts VERSION image.now hints.now words.now map.now)) }
+    ensures spelled { IfOk result (λ v. v.items ≡ spelling version image.now hints.now words.now map.now) }
+    ensures read_again { IfOk result (λ v. parts_of v.items ≡ Ok (written_parts version image.now hints.now words.now map.now)) }
     ensures accepted { IfOk result (λ v. accepted v.items words.now map.now ≡ Ok tt) }
 {
     let bytes = write_image(alloc, image)?;
-    Ok(spelled(alloc, VERSION, &bytes, hints, words, map.pairs())?)
+    Ok(spelled(alloc, version, &bytes, hints, words, map.pairs())?)
 }

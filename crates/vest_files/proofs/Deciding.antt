@@ -21,6 +21,8 @@ use Rattle.vest_files.specs.Stages.{HasParts, IsFile, IsImage, RefusesFlow, Refu
 use Rattle.translate.specs.Translated.{IsTranslated}
 use Rattle.vest_files.specs.Translate.{DecidesTranslate, StopsTranslate}
 use Rattle.vest_files.specs.Limits.{FILE_LIMIT}
+use Rattle.vest_files.specs.Versions.{target_of}
+use Rattle.image_meaning.specs.declared.target.Target.{Target}
 use Rattle.vest_stops.specs.declared.status.Status.TheVariants as status
 use Rattle.vest_stops.specs.declared.stop.Stop.{Stop}
 use Rattle.vest_stops.specs.declared.stop.Stop.TheVariants.{Absent, Refused, ReadFault, TooLong, WantOfMemory}
@@ -59,8 +61,8 @@ too_many image hints Then d r h e =
     let decides = e.decides in
     rw (lt-ltb most (length e.addresses) (as_many image.pages (starts image hints) e.addresses h.count e.reached h.many)) at decides
 
-few_enough : (image : ImageValue) (hints : List ℕ) (Then : Type 0) (d : Decision) (code : Code) → IsTranslated image hints code → DecidesFlow image hints Then d → Then
-few_enough image hints Then d code h e =
+few_enough : (target : Target) (image : ImageValue) (hints : List ℕ) (Then : Type 0) (d : Decision) (code : Code) → IsTranslated target image hints code → DecidesFlow image hints Then d → Then
+few_enough target image hints Then d code h e =
     let decides = e.decides in
     rw (le-ltb most (length e.addresses) (as_few image.pages (starts image hints) e.addresses e.reached h.few)) at decides
 
@@ -76,8 +78,8 @@ image_stops stop bytes d (inl h) e = stage (RefusesImage bytes) stop d h (λ r r
 image_stops stop bytes d (inr (image, meant, h)) e =
     stage (RefusesFlow image []) stop d h (λ r many. too_many image [] (d ≡ goes_on) d r many (image_flow bytes image d meant e))
 
-pub image_goes : (bytes : List ℕ) (image : ImageValue) (code : Code) (d : Decision) → IsOfImage bytes image code → DecidesImage (image_of bytes) d → d ≡ goes_on
-image_goes bytes image code d h e = few_enough image [] (d ≡ goes_on) d code h.translated (image_flow bytes image d h.meant e)
+pub image_goes : (bytes : List ℕ) (image : ImageValue) (target : Target) (code : Code) (d : Decision) → IsOfImage bytes image target code → DecidesImage (image_of bytes) d → d ≡ goes_on
+image_goes bytes image target code d h e = few_enough target image [] (d ≡ goes_on) d code h.translated (image_flow bytes image d h.meant e)
 
 -- ---- a translated file
 parts_refused : (bytes : List ℕ) (d : Decision) (r : RefusalValue) → RefusesParts bytes r → DecidesParts (parts_of bytes) d → d ≡ stops status.Refused
@@ -90,7 +92,7 @@ parts_flow bytes parts d h e = subst (λ (o : Result PartsValue TranslatedRefusa
 abbrev Tail : Decision → Result (Unit {0}) TranslatedRefusal → Type 0
 Tail d o = MatchResult o (λ _. d ≡ goes_on) (λ _. d ≡ stops status.Refused)
 
-tail_refused : (parts : PartsValue) (code : Code) (d : Decision) (r : RefusalValue) → IsTranslated parts.image parts.hints code → RefusesTail parts code r
+tail_refused : (parts : PartsValue) (code : Code) (d : Decision) (r : RefusalValue) → IsTranslated (target_of parts.version) parts.image parts.hints code → RefusesTail parts code r
     → DecidesTail parts d → d ≡ stops status.Refused
 tail_refused parts code d r is h e = subst (Tail d) h.refused (e code is)
 
@@ -100,11 +102,12 @@ translated_stops stop bytes d (inr (parts, meant, inl h)) e =
     stage (RefusesFlow parts.image parts.hints) stop d h (λ r many. too_many parts.image parts.hints (DecidesTail parts d) d r many (parts_flow bytes parts d meant e))
 translated_stops stop bytes d (inr (parts, meant, inr (code, is, h))) e =
     stage (RefusesTail parts code) stop d h
-    (λ r refused. tail_refused parts code d r is refused (few_enough parts.image parts.hints (DecidesTail parts d) d code is (parts_flow bytes parts d meant e)))
+    (λ r refused. tail_refused parts code d r is refused (few_enough (target_of parts.version) parts.image parts.hints (DecidesTail parts d) d code is (parts_flow bytes parts d meant e)))
 
-pub translated_goes : (bytes : List ℕ) (image : ImageValue) (code : Code) (d : Decision) → IsOfTranslated bytes image code → DecidesParts (parts_of bytes) d → d ≡ goes_on
-translated_goes bytes image code d h e =
-    subst (Tail d) h.equal (few_enough h.parts.image h.parts.hints (DecidesTail h.parts d) d code h.translated (parts_flow bytes h.parts d h.meant e) code h.translated)
+pub translated_goes : (bytes : List ℕ) (image : ImageValue) (target : Target) (code : Code) (d : Decision) → IsOfTranslated bytes image target code → DecidesParts (parts_of bytes) d → d ≡ goes_on
+translated_goes bytes image target code d h e =
+    let is = subst (λ (t : Target). IsTranslated t h.parts.image h.parts.hints code) h.version h.translated in
+    subst (Tail d) h.equal (few_enough target h.parts.image h.parts.hints (DecidesTail h.parts d) d code h.translated (parts_flow bytes h.parts d h.meant e) code is)
 
 -- ---- either
 bytes_stops : (b : Bool) (stop : Stop) (bytes : List ℕ) (d : Decision) → MatchBool b (StopsAtTranslatedFile stop bytes) (StopsAtImageFile stop bytes)
@@ -112,10 +115,10 @@ bytes_stops : (b : Bool) (stop : Stop) (bytes : List ℕ) (d : Decision) → Mat
 bytes_stops true stop bytes d h e = translated_stops stop bytes d h e
 bytes_stops false stop bytes d h e = image_stops stop bytes d h e
 
-bytes_go : (b : Bool) (bytes : List ℕ) (image : ImageValue) (code : Code) (d : Decision) → MatchBool b (IsOfTranslated bytes image code) (IsOfImage bytes image code)
+bytes_go : (b : Bool) (bytes : List ℕ) (asked : Target) (image : ImageValue) (target : Target) (code : Code) (d : Decision) → MatchBool b (IsOfTranslated bytes image target code) ((target ≡ asked) × IsOfImage bytes image target code)
     → MatchBool b (DecidesParts (parts_of bytes) d) (DecidesImage (image_of bytes) d) → d ≡ goes_on
-bytes_go true bytes image code d h e = translated_goes bytes image code d h e
-bytes_go false bytes image code d h e = image_goes bytes image code d h e
+bytes_go true bytes asked image target code d h e = translated_goes bytes image target code d h e
+bytes_go false bytes asked image target code d h e = image_goes bytes image target code d h.1 e
 
 load_stops_at : (files : Option Files) (r w : ℕ) (stop : Stop) (name : List ℕ) (new : DeskMeaning) (d : Decision)
     → StopsAtLoad stop name (record { files = files; read_faults = r; write_faults = w }) new → DecidesLoad files name d → StopsAsDecided stop d
@@ -127,10 +130,10 @@ load_stops_at (Some f) r w stop name new d (inr (bytes, file, h)) e =
 pub load_stops : (stop : Stop) (name : List ℕ) (old new : DeskMeaning) (d : Decision) → StopsAtLoad stop name old new → DecidesLoad old.files name d → StopsAsDecided stop d
 load_stops stop name old new d h e = load_stops_at old.files old.read_faults old.write_faults stop name new d h e
 
-pub load_goes : (files : Option Files) (name : List ℕ) (image : ImageValue) (code : Code) (d : Decision) → Loads files name image code → DecidesLoad files name d → d ≡ goes_on
-load_goes None name image code d h e = absurd e
-load_goes (Some f) name image code d h e =
-    bytes_go (is_translated h.bytes) h.bytes image code d h.loaded (file_read f name h.bytes (DecidesBytes d) d h.file e)
+pub load_goes : (asked : Target) (files : Option Files) (name : List ℕ) (image : ImageValue) (target : Target) (code : Code) (d : Decision) → Loads asked files name image target code → DecidesLoad files name d → d ≡ goes_on
+load_goes asked None name image target code d h e = absurd e
+load_goes asked (Some f) name image target code d h e =
+    bytes_go (is_translated h.bytes) h.bytes asked image target code d h.loaded (file_read f name h.bytes (DecidesBytes d) d h.file e)
 
 -- ---- `translate`
 translate_stops_at : (files : Option Files) (r w : ℕ) (stop : Stop) (name : List ℕ) (new : DeskMeaning) (d : Decision)
@@ -144,11 +147,11 @@ pub translate_stops : (stop : Stop) (name : List ℕ) (old new : DeskMeaning) (d
     → StopsAsDecided stop d
 translate_stops stop name old new d h e = translate_stops_at old.files old.read_faults old.write_faults stop name new d h e
 
-pub translate_goes : (files : Option Files) (name bytes : List ℕ) (image : ImageValue) (code : Code) (d : Decision) → IsFile files name bytes → IsOfImage bytes image code
+pub translate_goes : (files : Option Files) (name bytes : List ℕ) (image : ImageValue) (target : Target) (code : Code) (d : Decision) → IsFile files name bytes → IsOfImage bytes image target code
     → DecidesTranslate files name d → d ≡ goes_on
-translate_goes None name bytes image code d file h e = absurd e
-translate_goes (Some f) name bytes image code d file h e =
-    image_goes bytes image code d h (file_read f name bytes (λ b. DecidesImage (image_of b) d) d file e)
+translate_goes None name bytes image target code d file h e = absurd e
+translate_goes (Some f) name bytes image target code d file h e =
+    image_goes bytes image target code d h (file_read f name bytes (λ b. DecidesImage (image_of b) d) d file e)
 
 -- ---- what a call answers
 module _ {X : Type 0} (r : Result X Stop) (d : Decision) where
@@ -156,22 +159,22 @@ module _ {X : Type 0} (r : Result X Stop) (d : Decision) where
   decided_by (Ok x) goes stop = goes
   decided_by (Err e) goes stop = stop
 
-  pub translated_file_decided : (image : X → ImageValue) (code : X → Code) (files : Option Files) (name bytes : List ℕ) → IsFile files name bytes → is_translated bytes ≡ true
-      → IfOk r (λ x. IsOfTranslated bytes (image x) (code x)) → IfErr r (λ stop. StopsAtTranslatedFile stop bytes) → DecidesLoad files name d → IsDecided r d
-  translated_file_decided image code None name bytes file is ok err e = absurd e
-  translated_file_decided image code (Some f) name bytes file is ok err e =
+  pub translated_file_decided : (image : X → ImageValue) (target : X → Target) (code : X → Code) (files : Option Files) (name bytes : List ℕ) → IsFile files name bytes → is_translated bytes ≡ true
+      → IfOk r (λ x. IsOfTranslated bytes (image x) (target x) (code x)) → IfErr r (λ stop. StopsAtTranslatedFile stop bytes) → DecidesLoad files name d → IsDecided r d
+  translated_file_decided image target code None name bytes file is ok err e = absurd e
+  translated_file_decided image target code (Some f) name bytes file is ok err e =
       let at_bytes : DecidesBytes d bytes = file_read f name bytes (DecidesBytes d) d file e in
       let at_parts : DecidesParts (parts_of bytes) d = subst (λ (b : Bool). MatchBool b (DecidesParts (parts_of bytes) d) (DecidesImage (image_of bytes) d)) is at_bytes in
-      decided_by r (IfOk-weaker r _ _ (λ x h. translated_goes bytes (image x) (code x) d h at_parts) ok)
+      decided_by r (IfOk-weaker r _ _ (λ x h. translated_goes bytes (image x) (target x) (code x) d h at_parts) ok)
       (IfErr-weaker r _ _ (λ stop h. translated_stops stop bytes d h at_parts) err)
 
-  pub image_file_decided : (image : X → ImageValue) (code : X → Code) (files : Option Files) (name bytes : List ℕ) → IsFile files name bytes → is_translated bytes ≡ false
-      → IfOk r (λ x. IsOfImage bytes (image x) (code x)) → IfErr r (λ stop. StopsAtImageFile stop bytes) → DecidesLoad files name d → IsDecided r d
-  image_file_decided image code None name bytes file is ok err e = absurd e
-  image_file_decided image code (Some f) name bytes file is ok err e =
+  pub image_file_decided : (image : X → ImageValue) (target : X → Target) (code : X → Code) (files : Option Files) (name bytes : List ℕ) → IsFile files name bytes → is_translated bytes ≡ false
+      → IfOk r (λ x. IsOfImage bytes (image x) (target x) (code x)) → IfErr r (λ stop. StopsAtImageFile stop bytes) → DecidesLoad files name d → IsDecided r d
+  image_file_decided image target code None name bytes file is ok err e = absurd e
+  image_file_decided image target code (Some f) name bytes file is ok err e =
       let at_bytes : DecidesBytes d bytes = file_read f name bytes (DecidesBytes d) d file e in
       let at_image : DecidesImage (image_of bytes) d = subst (λ (b : Bool). MatchBool b (DecidesParts (parts_of bytes) d) (DecidesImage (image_of bytes) d)) is at_bytes in
-      decided_by r (IfOk-weaker r _ _ (λ x h. image_goes bytes (image x) (code x) d h at_image) ok)
+      decided_by r (IfOk-weaker r _ _ (λ x h. image_goes bytes (image x) (target x) (code x) d h at_image) ok)
       (IfErr-weaker r _ _ (λ stop h. image_stops stop bytes d h at_image) err)
 
   pub translate_decided : (name : List ℕ) (old new : DeskMeaning) → IfErr r (λ stop. StopsTranslate stop name old new) → IfOk r (λ _. d ≡ goes_on)

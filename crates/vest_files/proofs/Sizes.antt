@@ -6,6 +6,7 @@ use Rattle.std.proofs.lemmas.List.Elements.{recursion_from_All}
 use Rattle.address_map.specs.Pairs.{AllRise, Pair}
 use Rattle.address_map.proofs.Lookups.{word_at-pair}
 use Rattle.block_law.specs.Translations.{Code, Meaning, Meets, Permit}
+use Rattle.image_meaning.specs.declared.target.Target.{Target}
 use Rattle.image_file.specs.Values.{ImageValue}
 use Rattle.report_text.specs.Listing.{AreWithin}
 use Rattle.translate.proofs.Reached.{is_mapped}
@@ -20,8 +21,8 @@ addresses_rise pairs rise k lt =
     rw (get_or-map (λ (p : Pair). p.0) pairs k (0, 0) 0 (omega arith), get_or-map (λ (p : Pair). p.0) pairs (k + 1) (0, 0) 0 within) up
 
 -- as many addresses are mapped as can be reached at most
-pub few_pairs : (image : ImageValue) (hints : List ℕ) (code : Code) → IsTranslated image hints code → length code.map ≤ 32768
-few_pairs image hints code is =
+pub few_pairs : (target : Target) (image : ImageValue) (hints : List ℕ) (code : Code) → IsTranslated target image hints code → length code.map ≤ 32768
+few_pairs target image hints code is =
     let few = is.few.few in
     let count = length-map code.map (λ (p : Pair). p.0) in
     let fewer : length (map (λ (p : Pair). p.0) code.map) ≤ length is.few.addresses =

@@ -1,4 +1,5 @@
 pub mod Limits
+pub mod Versions
 pub mod Stages
 pub mod Loading
 pub mod Translate

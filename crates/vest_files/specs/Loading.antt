@@ -16,6 +16,8 @@ use Rattle.vest_stops.specs.Decided.{Decision, stops, goes_on}
 use Rattle.vest_files.specs.Stages.{HasParts, IsFile, IsImage, StopsAtFile, StopsAtImage, StopsAtParts, StopsAtTail, StopsAtTranslation}
 use Rattle.translate.specs.Translated.{IsTranslated}
 use Rattle.vest_files.specs.Limits.{FILE_LIMIT}
+use Rattle.vest_files.specs.Versions.{target_of}
+use Rattle.image_meaning.specs.declared.target.Target.{Target}
 use Rattle.vest_stops.specs.declared.status.Status.TheVariants as status
 use Rattle.vest_stops.specs.declared.stop.Stop.{Stop}
 
@@ -25,23 +27,26 @@ is_translated bytes = starts_with nat_eq bytes (codes "VXTR")
 
 -- ---- what was loaded
 
--- the image that the bytes mean, and its translation without hints
-pub record IsOfImage (bytes : List ℕ) (image : ImageValue) (code : Code) : Type 0 where
+-- the image that the bytes mean, and its translation for a target, without hints
+pub record IsOfImage (bytes : List ℕ) (image : ImageValue) (target : Target) (code : Code) : Type 0 where
   pub meant : IsImage bytes image
-  pub translated : IsTranslated image [] code
+  pub translated : IsTranslated target image [] code
 
--- the VAX part of the bytes, and its translation with their hints, to which their tail is equal
-pub record IsOfTranslated (bytes : List ℕ) (image : ImageValue) (code : Code) : Type 0 where
+-- the VAX part of the bytes, and its translation for the target of their version, with their hints, to which their tail is
+-- equal
+pub record IsOfTranslated (bytes : List ℕ) (image : ImageValue) (target : Target) (code : Code) : Type 0 where
   pub parts : PartsValue
   pub meant : HasParts bytes parts
   pub part : image ≡ parts.image
-  pub translated : IsTranslated parts.image parts.hints code
+  pub version : target ≡ target_of parts.version
+  pub translated : IsTranslated target parts.image parts.hints code
   pub equal : compared parts code.words code.map ≡ Ok tt
 
-pub record Loads (files : Option Files) (name : List ℕ) (image : ImageValue) (code : Code) : Type 0 where
+-- a VAX image is translated for the target that is asked for
+pub record Loads (asked : Target) (files : Option Files) (name : List ℕ) (image : ImageValue) (target : Target) (code : Code) : Type 0 where
   pub bytes : List ℕ
   pub file : IsFile files name bytes
-  pub loaded : MatchBool (is_translated bytes) (IsOfTranslated bytes image code) (IsOfImage bytes image code)
+  pub loaded : MatchBool (is_translated bytes) (IsOfTranslated bytes image target code) ((target ≡ asked) × IsOfImage bytes image target code)
 
 -- ---- why nothing was
 
@@ -57,7 +62,7 @@ StopsAtTranslatedFile stop bytes =
     StopsAtParts stop bytes
     ⊎ ((parts : PartsValue) × HasParts bytes parts
     × (StopsAtTranslation stop parts.image parts.hints
-    ⊎ ((code : Code) × IsTranslated parts.image parts.hints code × StopsAtTail stop parts code)))
+    ⊎ ((code : Code) × IsTranslated (target_of parts.version) parts.image parts.hints code × StopsAtTail stop parts code)))
 
 -- the file, and then what it is
 abbrev pub StopsAtLoad : Stop → (name : List ℕ) → (old new : DeskMeaning) → Type 0
@@ -74,9 +79,9 @@ pub record DecidesFlow (image : ImageValue) (hints : List ℕ) (Then : Type 0) (
   pub reached : AreReached image.pages (starts image hints) addresses
   pub decides : MatchBool (nat_lt most (length addresses)) (decision ≡ stops status.Refused) Then
 
--- the tail beside any translation of the image with the hints
+-- the tail beside any translation of the image with the hints, for the target of the version
 abbrev pub DecidesTail : PartsValue → Decision → Type 0
-DecidesTail parts decision = (code : Code) → IsTranslated parts.image parts.hints code
+DecidesTail parts decision = (code : Code) → IsTranslated (target_of parts.version) parts.image parts.hints code
     → MatchResult (compared parts code.words code.map) (λ _. decision ≡ goes_on) (λ _. decision ≡ stops status.Refused)
 
 abbrev pub DecidesImage : Result ImageValue ImageRefusal → Decision → Type 0

@@ -17,7 +17,6 @@ use Rattle.flow_discovery.specs.Reach.{AreTooMany}
 use Rattle.flow_discovery.specs.Starts.{starts}
 use Rattle.block_law.specs.Translations.{Code}
 use Rattle.translate.specs.Refusal.{numbers_of as flow_numbers}
-use Rattle.translate.specs.Translated.{IsTranslated}
 use Rattle.translate.specs.declared.refusal.TranslateRefusal.TheVariants.{Flow as TooMuch}
 use Rattle.report_text.specs.declared.refused.Subject.TheVariants as subjects
 use Rattle.vest_stops.specs.Refusal.{RefusalValue, told}

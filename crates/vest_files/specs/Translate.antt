@@ -5,11 +5,12 @@ use Rattle.vt_outside.specs.Desk.{BothTold, DeskMeaning, Files, Puts, PutsPart}
 use Rattle.image_file.specs.Values.{ImageValue}
 use Rattle.image_file.specs.Reading.{image_of}
 use Rattle.translated_file.specs.Spelling.{spelling}
-use Rattle.translated_file.specs.Limits.{VERSION}
 use Rattle.block_law.specs.Translations.{Code}
 use Rattle.vest_stops.specs.Decided.{Decision}
 use Rattle.vest_files.specs.Loading.{DecidesFile, DecidesImage, IsOfImage, StopsAtImageFile}
 use Rattle.vest_files.specs.Stages.{IsFile, StopsAtFile}
+use Rattle.vest_files.specs.Versions.{version_of}
+use Rattle.image_meaning.specs.declared.target.Target.{Target}
 use Rattle.vest_stops.specs.declared.status.Done.{Done}
 use Rattle.vest_stops.specs.declared.status.Done.TheVariants as done
 use Rattle.vest_stops.specs.declared.stop.Stop.{Stop}
@@ -22,14 +23,14 @@ Writes done.WriteFault name bytes old new =
     Rose old.write_faults new.write_faults × BothTold old.files new.files (λ f g. PutsPart f g name bytes)
 Writes result name bytes old new = ⊥
 
--- the file of the image that was read and of its translation without hints
-pub record Translates (result : Done) (name to : List ℕ) (old new : DeskMeaning) : Type 0 where
+-- the file of the image that was read and of its translation for the target, without hints
+pub record Translates (target : Target) (result : Done) (name to : List ℕ) (old new : DeskMeaning) : Type 0 where
   pub bytes : List ℕ
   pub file : IsFile old.files name bytes
   pub image : ImageValue
   pub code : Code
-  pub loaded : IsOfImage bytes image code
-  pub written : Writes result to (spelling VERSION image [] code.words code.map) old new
+  pub loaded : IsOfImage bytes image target code
+  pub written : Writes result to (spelling (version_of target) image [] code.words code.map) old new
 
 -- the file, and then its image
 abbrev pub StopsTranslate : Stop → (name : List ℕ) → (old new : DeskMeaning) → Type 0

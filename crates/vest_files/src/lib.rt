@@ -8,6 +8,7 @@ mod listing;
 mod loading;
 mod stages;
 mod translating;
+mod versions;
 
 pub use listing::list_file;
 pub use loading::{Loaded, load};

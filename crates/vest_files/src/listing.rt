@@ -10,11 +10,12 @@ use crate::loading::load;
 use report_text::listing;
 use std::alloc::Global;
 use system_model::Translation;
+use translate::Target;
 use vax_form::WantOfMemory;
 use vest_stops::{Done, Stop};
 use vt_outside::{Desk, Sink, write_all};
 
-/// Writes the listing of a file's translation: of a VAX image, or of a translated file.
+/// Writes the listing of a file's translation: of a VAX image for the first Alpha processors, or of a translated file.
 pub fn list_file<D: Desk, K: Sink>(
     alloc: Global,
     name: &str,
@@ -27,7 +28,7 @@ pub fn list_file<D: Desk, K: Sink>(
     ensures unsent { IfErr result (λ _. K.meaning out.new ≡ K.meaning out.old) }
     ensures decided { (decision : Decision) → DecidesLoad (D.meaning desk.old).files name.now decision → IsDecided result decision }
 {
-    let loaded = load(alloc, desk, name)?;
+    let loaded = load(alloc, desk, name, Target::Original)?;
     let text = listing_of(alloc, &loaded.translation)?;
     Ok(send(out, &text))
 }

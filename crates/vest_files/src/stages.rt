@@ -6,6 +6,7 @@ ghost use Rattle.vest_files.specs.Limits as stated;
 ghost use Rattle.vest_files.specs.Stages.{HasParts, IsFile, IsImage};
 ghost use Rattle.translate.specs.Translated.{IsTranslated};
 ghost use Rattle.vest_stops.specs.Files.{SameFiles};
+ghost use Rattle.vest_files.specs.Versions.{target_of};
 ghost use Rattle.vest_files.specs.Stages.{StopsAtFile, StopsAtImage, StopsAtParts, StopsAtTail, StopsAtTranslation};
 
 use image_file::{Image, ImageRefusal, read_image};
@@ -68,11 +69,16 @@ pub fn parts_of(alloc: Global, bytes: &[u8]) -> Result<Parts, Stop>
 }
 
 /// The translation of an image, as far as its threads, its entries and these hints show what can be reached.
-pub fn translated(alloc: Global, image: &Image, hints: &[u32]) -> Result<Translation, Stop>
-    ensures ok { IfOk result (IsTranslated image.now hints.now) }
+pub fn translated(
+    alloc: Global,
+    image: &Image,
+    hints: &[u32],
+    target: Target,
+) -> Result<Translation, Stop>
+    ensures ok { IfOk result (IsTranslated target image.now hints.now) }
     ensures err { IfErr result (λ stop. StopsAtTranslation stop image.now hints.now) }
 {
-    match translate(alloc, image, hints, Target::Original) {
+    match translate(alloc, image, hints, target) {
         Ok(translation) => Ok(translation),
         Err(TranslateRefusal::WantOfMemory) => Err(Stop::WantOfMemory),
         Err(cause) => Err(Stop::Refused(Refusal::new(Subject::Flow, cause.numbers().as_slice()))),
@@ -82,7 +88,7 @@ pub fn translated(alloc: Global, image: &Image, hints: &[u32]) -> Result<Transla
 /// Compares the tail of a translated file with the translation of its image and hints.
 pub fn check_tail(parts: &Parts, translation: &Translation) -> Result<(), Stop>
     requires whole { AreWhole parts.now }
-    requires translated { IsTranslated parts.now.image parts.now.hints translation.now }
+    requires translated { IsTranslated (target_of parts.now.version) parts.now.image parts.now.hints translation.now }
     ensures ok { OnOk result (compared parts.now translation.now.words translation.now.map ≡ Ok tt) }
     ensures err { IfErr result (λ stop. StopsAtTail stop parts.now translation.now) }
 {

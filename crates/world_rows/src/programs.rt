@@ -30,11 +30,11 @@ pub struct Program<'a> {
     pub miss: u16,
 }
 
-/// The translation of an image.
-pub fn translated(alloc: Global, image: &Image) -> Result<Translation>
+/// The translation of an image for a target.
+pub fn translated(alloc: Global, image: &Image, target: Target) -> Result<Translation>
     ensures { IfOk result (Meets (image_meaning image.now.pages) (any_permit image.now.pages)) }
 {
-    match translate(alloc, image, &[], Target::Original) {
+    match translate(alloc, image, &[], target) {
         Ok(translation) => Ok(translation),
         Err(refusal) => bail!("no translation: {refusal:?}"),
     }

@@ -2,18 +2,19 @@
 use crate::images::code_alone;
 use crate::programs::translated;
 use crate::report::Report;
-use anyhow::Result;
+use anyhow::{Result, bail};
 use exception_records::{CodeRule, Points, Rules};
 use row_tally::{Given, bytes};
 use std::alloc::{AllocError, Global};
 use system_model::Translation;
+use translate::Target;
 use vax_form::Size;
 
-/// The translation of a code.
-fn translation_of(alloc: Global, question: &str) -> Result<Translation> {
+/// The translation of a code for a target.
+fn translation_of(alloc: Global, question: &str, target: Target) -> Result<Translation> {
     let code = bytes(alloc, question)?;
     let image = code_alone(alloc, &code)?;
-    translated(alloc, &image)
+    translated(alloc, &image, target)
 }
 
 fn size_text(size: Size) -> &'static str {
@@ -69,13 +70,18 @@ fn rules_text(alloc: Global, points: &Points, pairs: &[(u32, u32)]) -> Result<St
     report.end()
 }
 
-fn rules_in(alloc: Global, translation: &Translation) -> Result<String> {
+fn rules_for(alloc: Global, question: &str, target: Target) -> Result<String> {
+    let translation = translation_of(alloc, question, target)?;
     let (map, points) = (&translation.map, &translation.points);
     Ok(rules_text(alloc, points, map.pairs())?)
 }
 
-/// The rules of N, Z, V and C at each mapped address of a code.
+/// The rules of N, Z, V and C at each mapped address of a code, which are the same for both targets.
 pub fn rules(alloc: Global, _given: &Given<'_>, question: &str) -> Result<String> {
-    let translation = translation_of(alloc, question)?;
-    rules_in(alloc, &translation)
+    let rules = rules_for(alloc, question, Target::Original)?;
+    let other = rules_for(alloc, question, Target::ByteWord)?;
+    if other.as_str() != rules.as_str() {
+        bail!("{other} for the byte-word extension");
+    }
+    Ok(rules)
 }

@@ -1,5 +1,4 @@
 // One world a row: processors are picked as the row says.
-ghost use Rattle.std.specs.Prelude.{IfOk};
 ghost use Rattle.block_law.specs.Translations.{Meets};
 ghost use Rattle.image_file.specs.Whole.{IsWhole};
 ghost use Rattle.image_meaning.specs.Meant.{image_meaning};
@@ -17,6 +16,7 @@ use image_file::Image;
 use row_tally::{Given, RowFault, bytes_or_none, five_fields, longword, number, pairs, pieces};
 use std::alloc::Global;
 use system_model::{Range, Translation};
+use translate::Target;
 use vest_core::World;
 
 /// Whether turns are made one at a time, or many at once.
@@ -189,20 +189,28 @@ fn left_in(alloc: Global, asked: Asked<'_>, translation: &Translation) -> Result
     left_by(alloc, program, asked.case, asked.way)
 }
 
-fn translation_in(alloc: Global, asked: Asked<'_>) -> Result<Translation>
-    ensures { IfOk result (Meets (image_meaning asked.entry.image.now.pages) (any_permit asked.entry.image.now.pages)) }
+/// The same with its translation for a target.
+fn left_for(alloc: Global, asked: Asked<'_>, target: Target) -> Result<String>
+    requires { IsWhole asked.image.now }
 {
-    match asked.way {
-        Way::Interpreted => nothing_translated(alloc, asked.image),
-        Way::Translated => translated(alloc, asked.image),
-    }
+    let translation = translated(alloc, asked.image, target)?;
+    left_in(alloc, asked, &translation)
 }
 
 fn left_as_asked(alloc: Global, asked: Asked<'_>) -> Result<String>
     requires { IsWhole asked.image.now }
 {
-    let translation = translation_in(alloc, asked)?;
-    left_in(alloc, asked, &translation)
+    match asked.way {
+        Way::Interpreted => {
+            let nothing = nothing_translated(alloc, asked.image)?;
+            left_in(alloc, asked, &nothing)
+        }
+        // code for the byte-word extension has other steps: what it leaves has to be what the driven threads leave
+        Way::Translated => {
+            left_for(alloc, asked, Target::ByteWord)?;
+            left_for(alloc, asked, Target::Original)
+        }
+    }
 }
 
 /// What is left of the world of a row: STARTS CODE STORED INPUT BUDGET LIMIT PICKS SHOWN.

@@ -9,8 +9,6 @@ use Rattle.flow_discovery.specs.Starts.{starts}
 use Rattle.block_law.specs.Translations.{Meets}
 use Rattle.image_meaning.specs.Meant.{image_meaning}
 use Rattle.image_meaning.specs.Permits.{permit_of}
-use Rattle.image_meaning.specs.declared.target.Target.{Target}
-use Rattle.image_meaning.specs.declared.target.Target.TheVariants.{Original}
 use Rattle.image_meaning.proofs.Permits.{meets_any_permit}
 use Rattle.translate.specs.Compiled.{AreFound, addresses}
 use Rattle.translate.proofs.Reached.{reached_few, kept_few, kept_found, kept_longwords, kept_rise, kept_built, kept_mapped, is_mapped}
@@ -63,17 +61,13 @@ returns-clause-blocks c =
       made = made;
     }
 
--- what was made meets what code for the first processors may do
 pub returns-clause-meets : goal.returns-clause-meets
 returns-clause-meets c =
-    let pages = c.args.image.now.pages in
-    let code = c.in_ok-translate_instrs.field-0 in
-    let made : Meets (image_meaning pages) (permit_of Original pages) code = subst (λ (p : Pages). Meets (image_meaning p) (permit_of Original p) code) (ap (λ i. i.pages) c.image.view_is) c.in_ok-translate_instrs.ensures.meets in
-    subst (λ (target : Target). Meets (image_meaning pages) (permit_of target pages) code) (sym c.requires) made
+    subst (λ (p : Pages). Meets (image_meaning p) (permit_of c.args.target p) c.in_ok-translate_instrs.field-0) (ap (λ i. i.pages) c.image.view_is) c.in_ok-translate_instrs.ensures.meets
 
 pub returns-clause-any : goal.returns-clause-any
 returns-clause-any c =
     let pages = c.args.image.now.pages in
     let code = c.in_ok-translate_instrs.field-0 in
-    meets_any_permit (image_meaning pages) Original pages code
-    (subst (λ (p : Pages). Meets (image_meaning p) (permit_of Original p) code) (ap (λ i. i.pages) c.image.view_is) c.in_ok-translate_instrs.ensures.meets)
+    meets_any_permit (image_meaning pages) c.args.target pages code
+    (subst (λ (p : Pages). Meets (image_meaning p) (permit_of c.args.target p) code) (ap (λ i. i.pages) c.image.view_is) c.in_ok-translate_instrs.ensures.meets)

@@ -37,7 +37,7 @@ laid_out-requires c =
     let many = are.many in
     let few = c.requires.few in
     subst CanBeLaid (sym c.deref.ensures.value)
-    (record { few = omega arith; rising = blocks_rise c.args.instrs.now blocks are order; are_blocks = are_blocks c.args.instrs.now blocks are })
+    (record { few = omega arith; rising = blocks_rise c.args.target c.args.instrs.now blocks are order; are_blocks = are_blocks c.args.target c.args.instrs.now blocks are })
 
 pub returns-clause-meets : goal.returns-clause-meets
 returns-clause-meets c =
@@ -48,14 +48,14 @@ returns-clause-meets c =
     } in
     let blocks = c.in_ok-blocks.blocks.items in
     IfOk-weaker c.laid_out.result (IsLaidOut blocks) _
-    (λ code laid. meets c.args.pages.now instrs blocks code c.in_ok-blocks.ensures laid.laid c.requires.found c.pages_law.ensures (rules_always_meet instrs order (can_have_blocks instrs (are_translated c.args.pages.now instrs c.requires.built))))
+    (λ code laid. meets c.args.target c.args.pages.now instrs blocks code c.in_ok-blocks.ensures laid.laid c.requires.found c.pages_law.ensures (rules_always_meet instrs order (can_have_blocks instrs (are_translated c.args.pages.now instrs c.requires.built))))
     (subst (λ (bs : List Placed). IfOk c.laid_out.result (IsLaidOut bs)) c.deref.ensures.value c.laid_out.ensures)
 
 pub returns-clause-mapped : goal.returns-clause-mapped
 returns-clause-mapped c =
     let blocks = c.in_ok-blocks.blocks.items in
     IfOk-weaker c.laid_out.result (IsLaidOut blocks) _
-    (λ code laid. ap (map (λ (pair : Pair). pair.0)) laid.laid.places ∙ map_addresses c.args.instrs.now blocks c.in_ok-blocks.ensures)
+    (λ code laid. ap (map (λ (pair : Pair). pair.0)) laid.laid.places ∙ map_addresses c.args.target c.args.instrs.now blocks c.in_ok-blocks.ensures)
     (subst (λ (bs : List Placed). IfOk c.laid_out.result (IsLaidOut bs)) c.deref.ensures.value c.laid_out.ensures)
 
 pub returns-clause-blocks : goal.returns-clause-blocks
@@ -70,8 +70,8 @@ returns-clause-blocks c =
     (λ code laid. record {
       order = order;
       codes = are_codes instrs order (instruction_codes instrs) refl;
-      compiled = subst (AreCompiled instrs) (are_of instrs blocks c.in_ok-blocks.ensures) c.in_ok-blocks.ensures;
-      rules = its_rules c.args.pages.now instrs blocks code c.in_ok-blocks.ensures laid.laid c.requires.found c.pages_law.ensures (rules_always_meet instrs order (can_have_blocks instrs (are_translated c.args.pages.now instrs c.requires.built)));
-      laid = laid.value ∙ ap layout (are_of instrs blocks c.in_ok-blocks.ensures);
+      compiled = subst (AreCompiled c.args.target instrs) (are_of c.args.target instrs blocks c.in_ok-blocks.ensures) c.in_ok-blocks.ensures;
+      rules = its_rules c.args.target c.args.pages.now instrs blocks code c.in_ok-blocks.ensures laid.laid c.requires.found c.pages_law.ensures (rules_always_meet instrs order (can_have_blocks instrs (are_translated c.args.pages.now instrs c.requires.built)));
+      laid = laid.value ∙ ap layout (are_of c.args.target instrs blocks c.in_ok-blocks.ensures);
     })
     (subst (λ (bs : List Placed). IfOk c.laid_out.result (IsLaidOut bs)) c.deref.ensures.value c.laid_out.ensures)

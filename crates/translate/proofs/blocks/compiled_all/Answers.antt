@@ -29,5 +29,5 @@ loop-place-preserved c =
     let place = c.loop-place.place in
     let found = codes_found instrs c.requires.order c.args.codes.now c.requires.codes place c.loop-place-test.true in
     let grown = rw (← c.in_ok-map_err.ensures.variant) at c.push.ensures.items in
-    compiled_more instrs place c.loop-place.blocks.items c.push.new.self.items c.in_ok-block.block grown c.loop-place.invariant
-    (subst (λ (codes : InstrCodes). IsCompiled (instr_at instrs place) codes c.in_ok-block.block) found c.in_ok-block.ensures)
+    compiled_more c.args.target instrs place c.loop-place.blocks.items c.push.new.self.items c.in_ok-block.block grown c.loop-place.invariant
+    (subst (λ (codes : InstrCodes). IsCompiled c.args.target (instr_at instrs place) codes c.in_ok-block.block) found c.in_ok-block.ensures)

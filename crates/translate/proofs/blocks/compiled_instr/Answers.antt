@@ -1,4 +1,4 @@
-use Rattle.std.proofs.Common.{◌≡◌, ◌∙◌, ℕ, List, [], Option, Some, map, refl, sym, ap, subst, All}
+use Rattle.std.proofs.Common.{◌≡◌, ◌∙◌, ℕ, Bool, List, [], Option, Some, map, refl, sym, ap, subst, All}
 use Rattle.std.specs.Prelude.{unwrap_or}
 use Rattle.vax_form.specs.Operation.{operation_at}
 use Rattle.micro_ops.specs.declared.codes.CodeSources.{CodeSources}
@@ -15,7 +15,7 @@ use Rattle.micro_ops.specs.Exits.{addresses_of}
 use Rattle.program_codegen.specs.Programs.{KeepsTogether, LeavesReady, ReadsReady}
 use Rattle.program_codegen.specs.Promises.{CompilesProgram}
 use Rattle.program_codegen.specs.Words.{program_block}
-use Rattle.translate.specs.Compiled.{block_of}
+use Rattle.translate.specs.Compiled.{block_of, has_byte_word}
 use Rattle.micro_lower.specs.Rows.{program_for}
 use Rattle.micro_lower.specs.Lowering.{GoesTo}
 use Rattle.translate.proofs.Asked.{all_of_map, keeps_together, reads_ready}
@@ -58,15 +58,18 @@ returns c =
     let is : operation_at instr.opcode ≡ Some operation = sym c.operation_of.ensures ∙ c.in-Some.is in
     let same : c.sources_of-sources.result ≡ code_sources instr = c.sources_of-sources.ensures ∙ sym (sources_are instr operation is) in
     let left : addresses_of instr.after program ≡ map (λ (exit : Exit). exit.1) block.exits = sym (made.exits ∙ ap (addresses_of instr.after) c.deref.ensures.value) in
-    let means : CompilesProgram instr (code_sources instr) program codes.before codes.behind block =
-    subst (λ (s : CodeSources). CompilesProgram instr s program codes.before codes.behind block) same
-    (subst (λ (p : List Micro). CompilesProgram instr c.sources_of-sources.result p codes.before codes.behind block) c.deref.ensures.value made.means) in
-    let value : block ≡ program_block instr (code_sources instr) (unwrap_or (program_for instr) []) (code_words (code_sources instr) codes.live) codes.before codes.behind =
+    let target = c.args.target in
+    let means : CompilesProgram instr (code_sources instr) program codes.before codes.behind (has_byte_word target) block =
+    subst (λ (has : Bool). CompilesProgram instr (code_sources instr) program codes.before codes.behind has block) c.has_byte_word.ensures
+    (subst (λ (s : CodeSources). CompilesProgram instr s program codes.before codes.behind c.has_byte_word.result block) same
+    (subst (λ (p : List Micro). CompilesProgram instr c.sources_of-sources.result p codes.before codes.behind c.has_byte_word.result block) c.deref.ensures.value made.means)) in
+    let value : block ≡ program_block instr (code_sources instr) (unwrap_or (program_for instr) []) (code_words (code_sources instr) codes.live) codes.before codes.behind (has_byte_word target) =
     made.words
-    ∙ ap (λ (p : List Micro). program_block instr c.sources_of-sources.result p c.deref-2.result.now codes.before codes.behind) c.deref.ensures.value
-    ∙ ap (λ (words : List AlphaInstr). program_block instr c.sources_of-sources.result program words codes.before codes.behind) (c.deref-2.ensures.value ∙ c.in_ok-words.ensures.words)
-    ∙ ap (λ (s : CodeSources). program_block instr s program (code_words (code_sources instr) codes.live) codes.before codes.behind) same
-    ∙ ap (λ (o : Option (List Micro)). program_block instr (code_sources instr) (unwrap_or o []) (code_words (code_sources instr) codes.live) codes.before codes.behind) (sym c.in_ok-program.ensures.value) in
+    ∙ ap (λ (p : List Micro). program_block instr c.sources_of-sources.result p c.deref-2.result.now codes.before codes.behind c.has_byte_word.result) c.deref.ensures.value
+    ∙ ap (λ (words : List AlphaInstr). program_block instr c.sources_of-sources.result program words codes.before codes.behind c.has_byte_word.result) (c.deref-2.ensures.value ∙ c.in_ok-words.ensures.words)
+    ∙ ap (λ (s : CodeSources). program_block instr s program (code_words (code_sources instr) codes.live) codes.before codes.behind c.has_byte_word.result) same
+    ∙ ap (λ (o : Option (List Micro)). program_block instr (code_sources instr) (unwrap_or o []) (code_words (code_sources instr) codes.live) codes.before codes.behind c.has_byte_word.result) (sym c.in_ok-program.ensures.value)
+    ∙ ap (λ (has : Bool). program_block instr (code_sources instr) (unwrap_or (program_for instr) []) (code_words (code_sources instr) codes.live) codes.before codes.behind has) c.has_byte_word.ensures in
     record {
       value = ap (λ (b : BlockValue). (instr.at, b)) value;
       address = refl;
@@ -78,5 +81,5 @@ returns c =
           made.written
           ∙ ap codes_written c.deref-2.ensures.value
           ∙ c.in_ok-words.ensures.writes;
-      means = compiles instr program codes.before codes.behind block c.in_ok-program.ensures.lowered c.requires.translated means;
+      means = compiles target instr program codes.before codes.behind block c.in_ok-program.ensures.lowered c.in_ok-program.ensures.written c.requires.translated means;
     }

@@ -12,14 +12,14 @@ spelled-requires-clause-image c = image_small c.args.image.now c.deref.result.no
 pub returns-clause-spelled : goal.returns-clause-spelled
 returns-clause-spelled c =
     c.in_ok-spelled.ensures.bytes
-    ∙ raw_is 1 c.args.image.now c.deref.result.now c.args.hints.now c.args.words.now c.args.map.now c.pairs.result.now (c.deref.ensures.value ∙ c.in_ok-bytes.ensures.spelled) c.pairs.ensures.pairs
+    ∙ raw_is c.args.version c.args.image.now c.deref.result.now c.args.hints.now c.args.words.now c.args.map.now c.pairs.result.now (c.deref.ensures.value ∙ c.in_ok-bytes.ensures.spelled) c.pairs.ensures.pairs
 
 pub returns-clause-read_again : goal.returns-clause-read_again
 returns-clause-read_again c =
     let hints : AreHints c.args.hints.now = record { few = c.requires.few; fit = all_long c.args.hints.now (λ k. omega (arith, c.type_inv.hints k)); rise = c.requires.rise } in
-    written_reads c.in_ok-spelled.field-0.items c.args.image.now c.args.hints.now c.args.words.now c.args.map.now c.requires.image hints (returns-clause-spelled c)
+    written_reads c.args.version c.in_ok-spelled.field-0.items c.args.image.now c.args.hints.now c.args.words.now c.args.map.now c.requires.version c.requires.image hints (returns-clause-spelled c)
 
 pub returns-clause-accepted : goal.returns-clause-accepted
 returns-clause-accepted c =
     let fit : AllByRecursion IsLong (tail_words c.args.words.now c.args.map.now) = rw (← c.pairs.ensures.pairs) c.in_ok-spelled.ensures.fit in
-    written_compares c.in_ok-spelled.field-0.items c.args.image.now c.args.hints.now c.args.words.now c.args.map.now (returns-clause-read_again c) fit
+    written_compares c.args.version c.in_ok-spelled.field-0.items c.args.image.now c.args.hints.now c.args.words.now c.args.map.now (returns-clause-read_again c) fit

@@ -7,4 +7,4 @@ use Rattle.vest_files.proofs.translating.spelled.Goals as goal
 pub write_translated-requires-clause-pairs : goal.write_translated-requires-clause-pairs
 write_translated-requires-clause-pairs c =
     subst (λ (code : Code). length code.map ≤ 32768) (sym c.translation.view_is)
-    (few_pairs c.args.image.now [] c.args.translation.now c.requires.translated)
+    (few_pairs c.args.target c.args.image.now [] c.args.translation.now c.requires.translated)

@@ -14,6 +14,6 @@ returns-in_err-loaded-clause-decided g c = λ d e.
 
 pub returns-clause-decided : goal.returns-clause-decided
 returns-clause-decided g c = λ d e.
-    translate_goes (g.D.Desk.meaning c.args.desk.now).files c.args.name.now c.deref.result.now _ _ d
+    translate_goes (g.D.Desk.meaning c.args.desk.now).files c.args.name.now c.deref.result.now _ _ _ d
     (subst (λ (bytes : List ℕ). IsFile (g.D.Desk.meaning c.args.desk.now).files c.args.name.now bytes) (sym c.deref.ensures.value) c.in_ok-bytes.ensures.ok)
     c.in_ok-loaded.ensures.ok e
