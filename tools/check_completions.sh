@@ -30,6 +30,11 @@ answers "run translate list generate" vest ""
 answers "translate" vest tr
 answers "--budget" vest run --b
 answers "" vest run x --miss ""
+answers "--target" vest translate --
+answers "byteword" vest translate x --target b
+answers "original byteword" vest run --target ""
+answers "--order" vest run --o
+answers "sample.img" vest run x --order sa
 answers "sample.img second" vest list -- s
 answers "" vest generate ""
 answers "sample.img" vest run sa

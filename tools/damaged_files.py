@@ -1,6 +1,6 @@
 #!/usr/bin/env python3
 """Runs the built program on damaged files: COUNT files from a seed (default 1,000,000), each an accepted image of either version or
-a translated file, with hints or without, with bytes changed, cut, joined to another, its header at its limits, or words exchanged.
+a translated file of either version, with hints or without, with bytes changed, cut, joined to another, its header at its limits, or words exchanged.
 Each run has a budget of 10,000 steps. It has to end with the refusal, and the line, that a reading of the format expects that is written
 here apart from the program; a file that this reading accepts has to run, and nothing else may write to standard output. Where the
 hints or the image of a translated file are others than those whose tail is known, what its tail is compared with isn't told.
@@ -20,6 +20,7 @@ import tempfile
 RAN = {0, 4, 5}
 REFUSED = 3
 IMAGE, TRANSLATED = b"VXIM", b"VXTR"
+TARGETS = {1: "original", 2: "byteword"}
 MOST_THREADS = {1: 16, 2: 32}
 MOST_BYTES = {1: 1 << 20, 2: 1 << 22}
 START_BYTES = {1: 8, 2: 64}
@@ -59,19 +60,20 @@ def accepted():
             yield image(version, [(0x200, 0x1200), (0x200, 0x1100)], [(0x200, PAGE, 0, code), stack], [0x200])
 
 
-def with_hints(data, tail, hints):
-    return TRANSLATED + struct.pack("<III", 1, len(data), len(hints)) + data + b"".join(struct.pack("<I", hint) for hint in hints) + tail
+def with_hints(version, data, tail, hints):
+    return TRANSLATED + struct.pack("<III", version, len(data), len(hints)) + data + b"".join(struct.pack("<I", hint) for hint in hints) + tail
 
 
 def tails(program, images):
-    """The tail of the translated file of each image."""
+    """The tail of the translated file of each version and image."""
     found = {}
     with tempfile.TemporaryDirectory() as room:
         source, target = pathlib.Path(room, "image"), pathlib.Path(room, "translated")
         for data in images:
             source.write_bytes(data)
-            subprocess.run([program, "translate", source, target], check=True)
-            found[data] = target.read_bytes()[16 + len(data):]
+            for version, name in TARGETS.items():
+                subprocess.run([program, "translate", source, target, "--target", name], check=True)
+                found[version, data] = target.read_bytes()[16 + len(data):]
     return found
 
 
@@ -162,11 +164,11 @@ UNTOLD = "untold"
 
 
 def refusal_of_translated(data, known):
-    """The numbers of a translated file's refusal, none where it is accepted, or that it isn't told. `known` has tails by images."""
+    """The numbers of a translated file's refusal, none where it is accepted, or that it isn't told. `known` has tails by versions and images."""
     if len(data) < 16:
         return [1, len(data)]
     version, length, hints = longwords(data, 4, 3)
-    if version != 1:
+    if version not in TARGETS:
         return [3, version]
     if hints > MOST_HINTS:
         return [7, MOST_HINTS]
@@ -181,9 +183,9 @@ def refusal_of_translated(data, known):
     for place in range(1, len(hints)):
         if hints[place - 1] >= hints[place]:
             return [7, place]
-    if inner not in known or any(hint != 0x200 for hint in hints):
+    if (version, inner) not in known or any(hint != 0x200 for hint in hints):
         return UNTOLD
-    return refusal_of_tail(tail, data[tail:], known[inner])
+    return refusal_of_tail(tail, data[tail:], known[version, inner])
 
 
 def expected(data, known):
@@ -277,7 +279,8 @@ def main():
     count = int(sys.argv[2]) if len(sys.argv) > 2 else 1_000_000
     seed = int(sys.argv[3]) if len(sys.argv) > 3 else 1
     known = tails(program, list(accepted()))
-    files = [*known, *(with_hints(data, tail, hints) for data, tail in known.items() for hints in ([], [0x200]))]
+    files = [*(data for version, data in known),
+             *(with_hints(version, data, tail, hints) for (version, data), tail in known.items() for hints in ([], [0x200]))]
     statuses, wrong = collections.Counter(), []
     with concurrent.futures.ProcessPoolExecutor() as pool:
         chunks = [(f"{seed} {first}", min(CHUNK, count - first)) for first in range(0, count, CHUNK)]

@@ -1,10 +1,9 @@
 #!/usr/bin/env python3
-"""Refuses each growth of the built program's memory in turn: for a run of the sample image, a run of an image with 32 threads,
-`translate` and `list`. Each such call has to end with status 9, `no memory` on standard error and nothing on standard output or
-under the second name. What a new thread was to do is done by the thread at hand where none can be made, so the growths of new
-threads alone change nothing of what a call leaves. Then, that a run takes no memory once its processors step: it takes as many
-growths as one whose budget is one step, and succeeds where every growth behind those would be refused. The status is 1 where a growth isn't
-answered so, and where none is counted.
+"""Refuses each growth of the built program's memory in turn: for a run of the sample image, a run of an image with 32 threads, both
+with `--order` too, `translate` and `list`. Each such call has to end with status 9, `no memory` on standard error and nothing on standard
+output or under the second name; a thread that can't be made for want of memory is no exception. Then, that a run takes no memory once its
+processors step: it takes as many growths as one whose budget is one step, and succeeds where every growth behind those would be
+refused. The status is 1 where a growth isn't answered so, and where none is counted.
 
 tools/refused_growth.py PROGRAM
 
@@ -118,24 +117,20 @@ def is_refused(bench, call):
     return call[:3] == (WANT_OF_MEMORY, b"", LINE) and not (bench.room / "out").exists()
 
 
-def refuse_each(bench, name, words, threads):
-    """How many growths a call takes; each is refused in turn. The image has so many threads to be run."""
-    whole = bench.call(words)
-    status, _, report, growths = whole
+def refuse_each(bench, name, words):
+    """How many answers differ where each growth that a call takes is refused in turn."""
+    status, _, report, growths = bench.call(words)
     if status != 0:
         sys.exit(f"{name}: status {status}: {report}")
-    refused, threadless, wrong = 0, 0, 0
+    refused, wrong = 0, 0
     for number in range(growths):
         found = bench.call(words, number)
         if is_refused(bench, found):
             refused += 1
-        elif found[:3] == whole[:3] and threadless < threads - 1:
-            threadless += 1
         else:
             print(f"{name}: growth {number} refused: {found[:3]}")
             wrong += 1
-    print(f"{name}: {growths} growths: {refused} calls in which one is refused end with status 9 and leave nothing; {threadless} are "
-          "new threads")
+    print(f"{name}: {growths} growths: {refused} calls in which one is refused end with status 9 and leave nothing")
     return wrong + (refused == 0)
 
 
@@ -153,11 +148,15 @@ def main():
     with tempfile.TemporaryDirectory() as room:
         bench = Bench(sys.argv[1], room)
         wrong = 0
-        for name, words, threads in [("run", ["run", "sample"], 1), ("run of 32 threads", ["run", "threads"], THREADS),
-                                     ("translate", ["translate", "sample", "out"], 1), ("list", ["list", "sample"], 1)]:
-            wrong += refuse_each(bench, name, words, threads)
+        for name, words in [("run", ["run", "sample"]), ("run of 32 threads", ["run", "threads"]),
+                            ("run --order", ["run", "sample", "--order", "out"]),
+                            ("run --order of 32 threads", ["run", "threads", "--order", "out"]),
+                            ("translate", ["translate", "sample", "out"]), ("list", ["list", "sample"])]:
+            wrong += refuse_each(bench, name, words)
         wrong += takes_none_later(bench, "run", ["run", "sample"])
         wrong += takes_none_later(bench, "run of 32 threads", ["run", "threads"])
+        wrong += takes_none_later(bench, "run --order", ["run", "sample", "--order", "out"])
+        wrong += takes_none_later(bench, "run --order of 32 threads", ["run", "threads", "--order", "out"])
     return 1 if wrong else 0
 
 

@@ -2,13 +2,14 @@
 use Rattle.std.proofs.Common.{◌≡◌, refl, codes, [], ◌∷◌, Some, None}
 use Rattle.std.specs.Str.{chars}
 use Rattle.command_words.specs.Parts.{parts_of}
+use Rattle.command_words.specs.declared.commands.Target.TheVariants.{Original, ByteWord}
 use Rattle.command_words.specs.Commands.{forms, list, run, spells, translate}
 
-pub run_alone : spells forms (codes "run" ∷ codes "a" ∷ []) ≡ Some (run (codes "a") (record { budget = 100000000; events = 4194304; miss = 0 }) [])
+pub run_alone : spells forms (codes "run" ∷ codes "a" ∷ []) ≡ Some (run (codes "a") (record { limits = record { budget = 100000000; events = 4194304; miss = 0 }; ranges = []; target = Original; order = None }))
 unfolding parts_of chars
 run_alone = refl
 
-pub options_around : spells forms (codes "run" ∷ codes "--miss=2" ∷ codes "a" ∷ codes "--budget" ∷ codes "+07" ∷ codes "--interpret" ∷ codes "31:200-2fF" ∷ []) ≡ Some (run (codes "a") (record { budget = 7; events = 4194304; miss = 2 }) (record { thread = 31; first = 512; last = 767 } ∷ []))
+pub options_around : spells forms (codes "run" ∷ codes "--miss=2" ∷ codes "a" ∷ codes "--budget" ∷ codes "+07" ∷ codes "--interpret" ∷ codes "31:200-2fF" ∷ []) ≡ Some (run (codes "a") (record { limits = record { budget = 7; events = 4194304; miss = 2 }; ranges = record { thread = 31; first = 512; last = 767 } ∷ []; target = Original; order = None }))
 unfolding parts_of chars
 options_around = refl
 
@@ -16,7 +17,7 @@ pub one_hyphen : spells forms (codes "list" ∷ codes "-" ∷ []) ≡ Some (list
 unfolding parts_of chars
 one_hyphen = refl
 
-pub behind_hyphens : spells forms (codes "translate" ∷ codes "a" ∷ codes "--" ∷ codes "--b" ∷ []) ≡ Some (translate (codes "a") (codes "--b"))
+pub behind_hyphens : spells forms (codes "translate" ∷ codes "a" ∷ codes "--" ∷ codes "--b" ∷ []) ≡ Some (translate (codes "a") (codes "--b") Original)
 unfolding parts_of chars
 behind_hyphens = refl
 
@@ -35,3 +36,43 @@ not_rising = refl
 pub help : spells forms (codes "run" ∷ codes "--help" ∷ []) ≡ None
 unfolding parts_of chars
 help = refl
+
+pub for_byte_word : spells forms (codes "run" ∷ codes "x" ∷ codes "--target" ∷ codes "byteword" ∷ []) ≡ Some (run (codes "x") (record { limits = record { budget = 100000000; events = 4194304; miss = 0 }; ranges = []; target = ByteWord; order = None }))
+unfolding parts_of chars
+for_byte_word = refl
+
+pub translated_for_byte_word : spells forms (codes "translate" ∷ codes "--target=byteword" ∷ codes "a" ∷ codes "b" ∷ []) ≡ Some (translate (codes "a") (codes "b") ByteWord)
+unfolding parts_of chars
+translated_for_byte_word = refl
+
+pub target_twice : spells forms (codes "run" ∷ codes "x" ∷ codes "--target=original" ∷ codes "--target=original" ∷ []) ≡ None
+unfolding parts_of chars
+target_twice = refl
+
+pub target_misspelt : spells forms (codes "run" ∷ codes "x" ∷ codes "--target" ∷ codes "Byteword" ∷ []) ≡ None
+unfolding parts_of chars
+target_misspelt = refl
+
+pub target_empty : spells forms (codes "translate" ∷ codes "a" ∷ codes "b" ∷ codes "--target=" ∷ []) ≡ None
+unfolding parts_of chars
+target_empty = refl
+
+pub list_without_target : spells forms (codes "list" ∷ codes "x" ∷ codes "--target" ∷ codes "original" ∷ []) ≡ None
+unfolding parts_of chars
+list_without_target = refl
+
+pub with_order : spells forms (codes "run" ∷ codes "x" ∷ codes "--order" ∷ codes "o" ∷ []) ≡ Some (run (codes "x") (record { limits = record { budget = 100000000; events = 4194304; miss = 0 }; ranges = []; target = Original; order = Some (codes "o") }))
+unfolding parts_of chars
+with_order = refl
+
+pub empty_order : spells forms (codes "run" ∷ codes "--order=" ∷ codes "x" ∷ []) ≡ Some (run (codes "x") (record { limits = record { budget = 100000000; events = 4194304; miss = 0 }; ranges = []; target = Original; order = Some [] }))
+unfolding parts_of chars
+empty_order = refl
+
+pub order_twice : spells forms (codes "run" ∷ codes "x" ∷ codes "--order=o" ∷ codes "--order=o" ∷ []) ≡ None
+unfolding parts_of chars
+order_twice = refl
+
+pub order_of_another_command : spells forms (codes "list" ∷ codes "x" ∷ codes "--order=o" ∷ []) ≡ None
+unfolding parts_of chars
+order_of_another_command = refl

@@ -1,15 +1,19 @@
 -- An answer beside what the words spell.
-use Rattle.std.specs.Prelude.{◌≡◌, Option, Some, None, Result, MatchResult}
-use Rattle.command_words.specs.Commands.{CommandValue, generate, list, run, translate}
+use Rattle.std.specs.Prelude.{◌≡◌, Option, Some, None, Result, MatchResult, option_map}
+use Rattle.command_words.specs.Commands.{CommandValue, OptionsValue, generate, list, run, translate}
+use Rattle.command_words.specs.declared.commands.RunOptions.{RunOptions}
 use Rattle.command_words.specs.declared.commands.Command.{Command}
 use Rattle.command_words.specs.declared.commands.Command.TheVariants as command
 use Rattle.command_words.specs.declared.WordsFault.{WordsFault}
 use Rattle.command_words.specs.declared.WordsFault.TheVariants.{Usage}
 
+abbrev pub options_value : RunOptions → OptionsValue
+options_value options = record { limits = options.limits; ranges = options.ranges.items; target = options.target; order = option_map (λ s. s.now) options.order }
+
 -- the command with its names as texts
 abbrev pub command_value : Command → CommandValue
-command_value (command.Run name limits ranges) = run name.now limits ranges.items
-command_value (command.Translate image out) = translate image.now out.now
+command_value (command.Run name options) = run name.now (options_value options)
+command_value (command.Translate image out target) = translate image.now out.now target
 command_value (command.List name) = list name.now
 command_value (command.Generate number) = generate number
 

@@ -31,14 +31,26 @@ repeated_arg label = record (option_arg label) { action = Some Append }
 abbrev pub plain_app : Text → App
 plain_app title = with_rule (new_app title) names_arg
 
--- `run` with the options that stand at most once
+-- `run` with the limits
 abbrev pub limited_app : App
 limited_app = with_rule (with_rule (with_rule (plain_app (codes "run"))
     (option_arg (codes "budget"))) (option_arg (codes "events"))) (option_arg (codes "miss"))
 
+-- and with the target
+abbrev pub targeted_app : App
+targeted_app = with_rule limited_app (option_arg (codes "target"))
+
+-- and with the file of its order
+abbrev pub ordered_app : App
+ordered_app = with_rule targeted_app (option_arg (codes "order"))
+
 -- `run` with all its options
 abbrev pub run_app : App
-run_app = with_rule limited_app (repeated_arg (codes "interpret"))
+run_app = with_rule ordered_app (repeated_arg (codes "interpret"))
+
+-- `translate` with its option
+abbrev pub translate_app : App
+translate_app = with_rule (plain_app (codes "translate")) (option_arg (codes "target"))
 
 -- a command is wanted first, and nothing is told of help
 abbrev pub top_app : App
@@ -52,7 +64,7 @@ top_app = on_top (λ s. record s {
 -- all commands
 abbrev pub vest_app : App
 vest_app = with_subcommand (with_subcommand (with_subcommand
-    (with_subcommand top_app run_app.top) (plain_app (codes "translate")).top)
+    (with_subcommand top_app run_app.top) translate_app.top)
     (plain_app (codes "list")).top) (plain_app (codes "generate")).top
 
 -- some values, or none

@@ -3,15 +3,24 @@ use Rattle.std.specs.Prelude.{◌==◌, ◌&&◌, ◌||◌, ℕ, Bool, true, fal
 use Rattle.std.specs.Prelude.{if◌then◌else◌, codes, nat_le}
 use Rattle.std.specs.Str.{bytes_eq}
 use Rattle.command_words.specs.declared.commands.Limits.{Limits}
+use Rattle.command_words.specs.declared.commands.Target.{Target}
+use Rattle.command_words.specs.declared.commands.Target.TheVariants.{Original, ByteWord}
 use Rattle.command_words.specs.declared.numbers.Range.{Range}
 use Rattle.command_words.specs.Parts.{Choice, Part, Text, first_of, names_in, only_name, two_names, values_in}
 use Rattle.command_words.specs.Forms.{Form, line_of}
 use Rattle.command_words.specs.Numbers.{◌>>=◌, few_ranges, number_in, within}
 
+-- what the options of `run` say; the order of its references goes into a file where one is named
+pub record OptionsValue : Type 0 where
+  pub limits : Limits
+  pub ranges : List Range
+  pub target : Target
+  pub order : Option Text
+
 -- a command with what is behind it
 pub data CommandValue : Type 0 where
-  run : (name : Text) → Limits → List Range → CommandValue
-  translate : (image out : Text) → CommandValue
+  run : (name : Text) → OptionsValue → CommandValue
+  translate : (image out : Text) → Target → CommandValue
   list : (name : Text) → CommandValue
   generate : (number : ℕ) → CommandValue
 
@@ -31,12 +40,16 @@ plain_form title = record { title = title; choices = [] }
 abbrev pub run_form : Form
 run_form = record {
   title = codes "run";
-  choices = once (codes "budget") ∷ once (codes "events") ∷ once (codes "miss") ∷ often (codes "interpret") ∷ [];
+  choices = once (codes "budget") ∷ once (codes "events") ∷ once (codes "miss") ∷ once (codes "target") ∷ once (codes "order") ∷ often (codes "interpret") ∷ [];
 }
+
+-- `translate`
+abbrev pub translate_form : Form
+translate_form = record { title = codes "translate"; choices = once (codes "target") ∷ [] }
 
 -- a row for each command
 abbrev pub forms : List Form
-forms = run_form ∷ plain_form (codes "translate") ∷ plain_form (codes "list") ∷ plain_form (codes "generate") ∷ []
+forms = run_form ∷ translate_form ∷ plain_form (codes "list") ∷ plain_form (codes "generate") ∷ []
 
 -- the number that a value writes, or the default where there is none
 abbrev pub number_or : ℕ → Option Text → Option ℕ
@@ -63,19 +76,42 @@ limits_of parts = do
   miss ← within is_miss (number_of (codes "miss") DEFAULT_LIMITS.miss parts)
   Some (record { budget = budget; events = events; miss = miss })
 
--- `run NAME`, with ranges by `--interpret`
+-- the target that a value names, in just these letters
+abbrev pub target_in : Text → Option Target
+target_in text =
+    if bytes_eq text (codes "original") then Some Original
+    else (if bytes_eq text (codes "byteword") then Some ByteWord else None)
+
+-- that of the value, or the original where there is none
+abbrev pub target_or : Option Text → Option Target
+target_or None = Some Original
+target_or (Some text) = target_in text
+
+-- the target by `--target`
+abbrev pub target_of : List Part → Option Target
+target_of parts = target_or (first_of (values_in (codes "target") parts))
+
+-- the options of `run`, with ranges by `--interpret`, and a file by `--order`
+abbrev pub options_of : List Part → Option OptionsValue
+options_of parts = do
+  limits ← limits_of parts
+  target ← target_of parts
+  ranges ← few_ranges (values_in (codes "interpret") parts)
+  Some (record { limits = limits; ranges = ranges; target = target; order = first_of (values_in (codes "order") parts) })
+
+-- `run NAME`
 abbrev pub run_of : List Part → Option CommandValue
 run_of parts = do
   name ← only_name (names_in parts)
-  limits ← limits_of parts
-  ranges ← few_ranges (values_in (codes "interpret") parts)
-  Some (run name limits ranges)
+  options ← options_of parts
+  Some (run name options)
 
 -- `translate IMAGE OUT`
 abbrev pub translate_of : List Part → Option CommandValue
 translate_of parts = do
   names ← two_names (names_in parts)
-  Some (translate names.0 names.1)
+  target ← target_of parts
+  Some (translate names.0 names.1 target)
 
 -- `list NAME`
 abbrev pub list_of : List Part → Option CommandValue

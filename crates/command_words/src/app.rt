@@ -38,7 +38,7 @@ fn plain_app<'a>(alloc: Global, title: &'a str) -> Result<Command<'a>, AllocErro
     Command::new(alloc, title).arg(names_arg(alloc))
 }
 
-// `run` with the options that stand at most once.
+// `run` with the limits.
 fn limited_app<'a>(alloc: Global) -> Result<Command<'a>, AllocError>
     ensures app { IfOk result (λ c. app_of c ≡ spec.limited_app) }
     ensures local { IfOk result (λ c. (fields_of c).has_globals ≡ false) }
@@ -49,11 +49,34 @@ fn limited_app<'a>(alloc: Global) -> Result<Command<'a>, AllocError>
         .arg(option_arg(alloc, "miss"))
 }
 
+// And with the target.
+fn targeted_app<'a>(alloc: Global) -> Result<Command<'a>, AllocError>
+    ensures app { IfOk result (λ c. app_of c ≡ spec.targeted_app) }
+    ensures local { IfOk result (λ c. (fields_of c).has_globals ≡ false) }
+{
+    limited_app(alloc)?.arg(option_arg(alloc, "target"))
+}
+
+// And with the file of its order.
+fn ordered_app<'a>(alloc: Global) -> Result<Command<'a>, AllocError>
+    ensures app { IfOk result (λ c. app_of c ≡ spec.ordered_app) }
+    ensures local { IfOk result (λ c. (fields_of c).has_globals ≡ false) }
+{
+    targeted_app(alloc)?.arg(option_arg(alloc, "order"))
+}
+
 fn run_app<'a>(alloc: Global) -> Result<Command<'a>, AllocError>
     ensures app { IfOk result (λ c. app_of c ≡ spec.run_app) }
     ensures local { IfOk result (λ c. (fields_of c).has_globals ≡ false) }
 {
-    limited_app(alloc)?.arg(repeated_arg(alloc, "interpret"))
+    ordered_app(alloc)?.arg(repeated_arg(alloc, "interpret"))
+}
+
+fn translate_app<'a>(alloc: Global) -> Result<Command<'a>, AllocError>
+    ensures app { IfOk result (λ c. app_of c ≡ spec.translate_app) }
+    ensures local { IfOk result (λ c. (fields_of c).has_globals ≡ false) }
+{
+    plain_app(alloc, "translate")?.arg(option_arg(alloc, "target"))
 }
 
 // The words begin with a command, and nothing is told of help.
@@ -72,7 +95,7 @@ pub fn vest_app<'a>(alloc: Global) -> Result<Command<'a>, AllocError>
     ensures { IfOk result (λ c. app_of c ≡ spec.vest_app) }
 {
     let run = run_app(alloc)?;
-    let translate = plain_app(alloc, "translate")?;
+    let translate = translate_app(alloc)?;
     let list = plain_app(alloc, "list")?;
     let generate = plain_app(alloc, "generate")?;
     let with_run = top_app(alloc).subcommand(run)?;

@@ -50,20 +50,39 @@ pub const DEFAULT_LIMITS: Limits = Limits {
     miss: MISS as u16,
 };
 
+/// The processors for which code is made.
+#[derive(Clone, Copy, Debug, PartialEq, Eq)]
+pub enum Target {
+    /// `original`: the first Alpha processors.
+    Original,
+    /// `byteword`: those with the byte-word extension.
+    ByteWord,
+}
+
+/// What the options of `run` say.
+#[derive(Debug, Drop)]
+pub struct RunOptions<'a> {
+    pub limits: Limits,
+    /// At most 64.
+    pub ranges: Vec<Range>,
+    pub target: Target,
+    /// The name of the file for the order of its references. It is a word of the line, and may be empty.
+    pub order: Option<&'a str>,
+}
+
 /// What a command line asks for. The names are words of the line.
 #[derive(Debug, Drop)]
 pub enum Command<'a> {
-    /// `run NAME`, with `--budget`, `--events`, `--miss` and `--interpret` behind it: runs an image.
+    /// `run NAME`, with `--budget`, `--events`, `--miss`, `--target`, `--order` and `--interpret` behind it: runs an image.
     Run {
         name: &'a str,
-        limits: Limits,
-        /// At most 64.
-        ranges: Vec<Range>,
+        options: RunOptions<'a>,
     },
-    /// `translate IMAGE OUT`: writes the translated file.
+    /// `translate IMAGE OUT`, with `--target` behind it: writes the translated file.
     Translate {
         image: &'a str,
         out: &'a str,
+        target: Target,
     },
     /// `list NAME`: writes the listing.
     List {
@@ -123,6 +142,26 @@ fn limits_of(matches: &ArgMatches<'_>) -> Option<Limits>
     })
 }
 
+fn target_in(text: &str) -> Option<Target>
+    ensures { result ≡ spec.target_in text.now }
+{
+    match text {
+        "original" => Some(Target::Original),
+        "byteword" => Some(Target::ByteWord),
+        _ => None,
+    }
+}
+
+fn target_of(matches: &ArgMatches<'_>) -> Option<Target>
+    ensures { (parts : List Part) → HoldsParts parts (rows_of (found_of matches.now))
+        → result ≡ spec.target_of parts }
+{
+    match value_of(matches, "target") {
+        Some(text) => target_in(text),
+        None => Some(Target::Original),
+    }
+}
+
 fn ranges_of(alloc: Global, matches: &ArgMatches<'_>) -> Result<Option<Vec<Range>>, AllocError>
     ensures { (parts : List Part) → HoldsParts parts (rows_of (found_of matches.now))
         → IfOk result (λ o. option_map (λ v. v.items) o
@@ -140,11 +179,17 @@ pub fn read_run<'a>(alloc: Global, matches: &ArgMatches<'a>) -> Result<Command<'
 {
     let name = only_name(matches).ok_or(WordsFault::Usage)?;
     let limits = limits_of(matches).ok_or(WordsFault::Usage)?;
+    let target = target_of(matches).ok_or(WordsFault::Usage)?;
+    let order = value_of(matches, "order");
     match ranges_of(alloc, matches) {
         Ok(Some(ranges)) => Ok(Command::Run {
             name,
-            limits,
-            ranges,
+            options: RunOptions {
+                limits,
+                ranges,
+                target,
+                order,
+            },
         }),
         Ok(None) => Err(WordsFault::Usage),
         Err(_) => Err(WordsFault::WantOfMemory),
@@ -156,7 +201,8 @@ pub fn read_translate<'a>(matches: &ArgMatches<'a>) -> Option<Command<'a>>
         → Reads (spec.translate_of parts) result }
 {
     let (image, out) = two_names(matches)?;
-    Some(Command::Translate { image, out })
+    let target = target_of(matches)?;
+    Some(Command::Translate { image, out, target })
 }
 
 pub fn read_list<'a>(matches: &ArgMatches<'a>) -> Option<Command<'a>>

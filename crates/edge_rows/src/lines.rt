@@ -1,6 +1,6 @@
 // Questions about command lines, in which `''` is the empty word, and `N*WORD` is N times the word.
 use anyhow::Result;
-use command_words::{Command, Limits, Range, WordsFault, read_words};
+use command_words::{Command, Limits, RunOptions, Target, WordsFault, read_words};
 use row_tally::Given;
 use std::alloc::{AllocError, Global};
 use std::fmt::Write;
@@ -26,33 +26,45 @@ fn words_of(alloc: Global, line: &str) -> Result<Vec<String>> {
     Ok(words)
 }
 
-fn run_text(
-    alloc: Global,
-    name: &str,
-    limits: Limits,
-    ranges: &[Range],
-) -> Result<String, AllocError> {
+/// What stands behind a command for a target.
+fn target_text(target: Target) -> &'static str {
+    match target {
+        Target::Original => "",
+        Target::ByteWord => " for byteword",
+    }
+}
+
+/// A name, also the empty one.
+fn name_text(name: &str) -> &str {
+    if name.is_empty() { "''" } else { name }
+}
+
+fn run_text(alloc: Global, name: &str, options: &RunOptions<'_>) -> Result<String, AllocError> {
     let Limits {
         budget,
         events,
         miss,
-    } = limits;
-    let name = if name.is_empty() { "''" } else { name };
+    } = options.limits;
+    let name = name_text(name);
     let mut text = format!(in alloc; "run {name} budget {budget} events {events} miss {miss}")?;
-    for range in ranges {
+    for range in &options.ranges {
         write!(text, " {}:{:X}-{:X}", range.thread, range.first, range.last)?;
+    }
+    text.push_str(target_text(options.target))?;
+    if let Some(order) = options.order {
+        let order = name_text(order);
+        write!(text, " order {order}")?;
     }
     Ok(text)
 }
 
 fn command_text(alloc: Global, command: &Command<'_>) -> Result<String, AllocError> {
     match command {
-        Command::Run {
-            name,
-            limits,
-            ranges,
-        } => run_text(alloc, name, *limits, ranges.as_slice()),
-        Command::Translate { image, out } => format!(in alloc; "translate {image} to {out}"),
+        Command::Run { name, options } => run_text(alloc, name, options),
+        Command::Translate { image, out, target } => {
+            let target = target_text(*target);
+            format!(in alloc; "translate {image} to {out}{target}")
+        }
         Command::List { name } => format!(in alloc; "list {name}"),
         Command::Generate { number } => format!(in alloc; "generate {number}"),
     }

@@ -1,35 +1,80 @@
--- A number that the words of `generate` spell is one for which an image can be generated.
+-- Words spell bounded limits of a run, and a number for which an image can be generated.
 use Rattle.std.proofs.Common.{◌≡◌, ◌≤◌, ◌&&◌, ℕ, Bool, true, false, cond, codes, nat_le, List, Option, Some, None, refl, subst, arith}
 use Rattle.std.proofs.lemmas.Bool.Decides.{nat_tests}
 use Rattle.std.specs.Prelude.{IfSome, option_and_then}
 use Rattle.std.specs.Str.{bytes_eq}
 use Rattle.command_words.specs.declared.commands.Limits.{Limits}
+use Rattle.command_words.specs.declared.commands.Target.{Target}
 use Rattle.command_words.specs.declared.numbers.Range.{Range}
-use Rattle.command_words.specs.Parts.{Part, Text, names_in, only_name, two_names, values_in}
+use Rattle.command_words.specs.Parts.{Part, Text, first_of, names_in, only_name, two_names, values_in}
 use Rattle.command_words.specs.Forms.{Form, line_of}
 use Rattle.command_words.specs.Numbers.{few_ranges, number_in, within}
-use Rattle.command_words.specs.Commands.{CommandValue, command_of, forms, generate, generate_of, limits_of, list, list_of, run, run_of, spells, translate, translate_of}
-use Rattle.vest_cli.specs.Words.{CanBeObeyed}
+use Rattle.command_words.specs.Commands.{CommandValue, DEFAULT_LIMITS, command_of, forms, generate, generate_of, is_miss, limits_of, list, list_of, number_of, run, run_of, spells, target_of, translate, translate_of}
+use Rattle.vest_cli.specs.Words.{AreBounded, CanBeObeyed}
 
 abbrev Obeyable : Option CommandValue → Type 0
 Obeyable o = IfSome o CanBeObeyed
 
-run_can : (parts : List Part) → Obeyable (run_of parts)
-run_can parts = go (only_name (names_in parts)) (limits_of parts) (few_ranges (values_in (codes "interpret") parts))
+abbrev few_steps : ℕ → Bool
+few_steps n = nat_le n 1000000000000
+
+abbrev few_entries : ℕ → Bool
+few_entries n = nat_le n 4194304
+
+steps_bound : (n : ℕ) → few_steps n ≡ true → n ≤ 1000000000000
+steps_bound n e = grind (arith, nat_tests)
+
+entries_bound : (n : ℕ) → few_entries n ≡ true → n ≤ 4194304
+entries_bound n e = grind (arith, nat_tests)
+
+abbrev limits_by : (budget events miss : Option ℕ) → Option Limits
+limits_by budget events miss = option_and_then (λ b. option_and_then (λ e. option_and_then (λ m. Some (record { budget = b; events = e; miss = m })) miss) (within few_entries events)) (within few_steps budget)
+
+limits_bounded : (budget events miss : Option ℕ) → IfSome (limits_by budget events miss) AreBounded
+limits_bounded None events miss = tt
+limits_bounded (Some b) events miss = by_budget (few_steps b) refl
   where
-    go : (name : Option Text) (limits : Option Limits) (ranges : Option (List Range))
-        → Obeyable (option_and_then (λ n. option_and_then (λ l. option_and_then (λ r. Some (run n l r)) ranges) limits) name)
-    go None limits ranges = tt
-    go (Some n) None ranges = tt
-    go (Some n) (Some l) None = tt
-    go (Some n) (Some l) (Some r) = tt
+    missed : (e : ℕ) (miss : Option ℕ) → b ≤ 1000000000000 → e ≤ 4194304
+        → IfSome (option_and_then (λ m. Some (record { budget = b; events = e; miss = m })) miss) AreBounded
+    missed e None steps entries = tt
+    missed e (Some m) steps entries = record { budget = steps; events = entries }
+
+    by_events : (e : ℕ) (t : Bool) → few_entries e ≡ t → b ≤ 1000000000000
+        → IfSome (option_and_then (λ e. option_and_then (λ m. Some (record { budget = b; events = e; miss = m })) miss) (cond t (Some e) None)) AreBounded
+    by_events e true is steps = missed e miss steps (entries_bound e is)
+    by_events e false is steps = tt
+
+    entered : (events : Option ℕ) → b ≤ 1000000000000
+        → IfSome (option_and_then (λ e. option_and_then (λ m. Some (record { budget = b; events = e; miss = m })) miss) (within few_entries events)) AreBounded
+    entered None steps = tt
+    entered (Some e) steps = by_events e (few_entries e) refl steps
+
+    by_budget : (t : Bool) → few_steps b ≡ t
+        → IfSome (option_and_then (λ b. option_and_then (λ e. option_and_then (λ m. Some (record { budget = b; events = e; miss = m })) miss) (within few_entries events)) (cond t (Some b) None)) AreBounded
+    by_budget true is = entered events (steps_bound b is)
+    by_budget false is = tt
+
+run_can : (parts : List Part) → Obeyable (run_of parts)
+run_can parts =
+    go (only_name (names_in parts)) (limits_of parts) (target_of parts) (few_ranges (values_in (codes "interpret") parts))
+    (limits_bounded (number_of (codes "budget") DEFAULT_LIMITS.budget parts) (number_of (codes "events") DEFAULT_LIMITS.events parts) (within is_miss (number_of (codes "miss") DEFAULT_LIMITS.miss parts)))
+  where
+    go : (name : Option Text) (limits : Option Limits) (target : Option Target) (ranges : Option (List Range)) → IfSome limits AreBounded
+        → Obeyable (option_and_then (λ n. option_and_then (λ o. Some (run n o)) (option_and_then (λ l. option_and_then (λ t. option_and_then (λ r. Some (record { limits = l; ranges = r; target = t; order = first_of (values_in (codes "order") parts) })) ranges) target) limits)) name)
+    go None limits target ranges bounded = tt
+    go (Some n) None target ranges bounded = tt
+    go (Some n) (Some l) None ranges bounded = tt
+    go (Some n) (Some l) (Some t) None bounded = tt
+    go (Some n) (Some l) (Some t) (Some r) bounded = bounded
 
 translate_can : (parts : List Part) → Obeyable (translate_of parts)
-translate_can parts = go (two_names (names_in parts))
+translate_can parts = go (two_names (names_in parts)) (target_of parts)
   where
-    go : (names : Option (Text × Text)) → Obeyable (option_and_then (λ p. Some (translate p.0 p.1)) names)
-    go None = tt
-    go (Some p) = tt
+    go : (names : Option (Text × Text)) (target : Option Target)
+        → Obeyable (option_and_then (λ p. option_and_then (λ t. Some (translate p.0 p.1 t)) target) names)
+    go None target = tt
+    go (Some p) None = tt
+    go (Some p) (Some t) = tt
 
 list_can : (parts : List Part) → Obeyable (list_of parts)
 list_can parts = go (only_name (names_in parts))

@@ -1,5 +1,5 @@
 -- Where no call of the outside failed, no fault is told.
-use Rattle.std.proofs.Common.{◌≡◌, ◌<◌, ◌≤◌, ◌∙◌, ℕ, Bool, true, false, List, Option, None, Some, Result, Ok, Err, IfOk, refl, sym, arith, inl, inr}
+use Rattle.std.proofs.Common.{◌≡◌, ◌<◌, ◌≤◌, ◌∙◌, ℕ, Bool, true, false, List, Option, None, Some, Result, Ok, Err, IfOk, refl, sym, subst, arith, inl, inr}
 use Rattle.std.specs.Prelude.{MatchBool}
 use Rattle.vt_outside.specs.Causes.{Rose, one_more}
 use Rattle.vt_outside.specs.Desk.{DeskMeaning, Files}
@@ -22,7 +22,12 @@ use Rattle.vest_runs.specs.Generate.{lines_of}
 use Rattle.vest_runs.specs.Kept.{KeptValue}
 use Rattle.vest_cli.specs.Lent.{Lent}
 use Rattle.vest_runs.specs.Keeping.{processors_of, set_up_of}
-use Rattle.vest_cli.specs.Run.{StopsRun}
+use Rattle.run_files.specs.Spelling.{order_bytes}
+use Rattle.vest_runs.specs.Order.{order_kept}
+use Rattle.vest_cli.specs.Run.{StopsRun, target_of}
+use Rattle.vest_cli.specs.Storing as storing
+use Rattle.vest_cli.specs.Storing.{Stores}
+use Rattle.image_meaning.specs.declared.target.Target.{Target}
 use Rattle.vest_cli.specs.Decided.{DecidesCall, IsOrFault, IsOrWant, NoneFailed, Stood}
 use Rattle.vest_cli.specs.declared.waiting.Waiting.{Waiting}
 use Rattle.vest_cli.specs.Vest.{Does, Ends, Stops, StopsAt, done, stopped, unspelled}
@@ -60,13 +65,13 @@ module _ (old new : Lent) (kept : KeptValue) (none : NoneFailed old new) where
   no_desk_read : Rose old.desk.read_faults new.desk.read_faults → ⊥
   no_desk_read h = stood old.desk.read_faults new.desk.read_faults none.desk_reads h
 
-  run_reads : (name : List ℕ) → StopsRun ReadFault name old.desk new.desk old.input new.input → ⊥
-  run_reads name (inl h) = no_desk_read (load_rose name old.desk new.desk h.0)
-  run_reads name (inr (image, code, loads, h)) = stood old.input.faults new.input.faults none.input h.0
+  run_reads : (asked : Target) (name : List ℕ) → StopsRun ReadFault asked name old.desk new.desk old.input new.input → ⊥
+  run_reads asked name (inl h) = no_desk_read (load_rose name old.desk new.desk h.0)
+  run_reads asked name (inr (image, target, code, loads, h)) = stood old.input.faults new.input.faults none.input h.0
 
   command_reads : (command : CommandValue) → StopsAt command ReadFault old.desk new.desk old.input new.input → ⊥
-  command_reads (run name limits ranges) h = run_reads name h
-  command_reads (translate image to) h = no_desk_read (translate_rose image old.desk new.desk h.0)
+  command_reads (run name options) h = run_reads (target_of options.target) name h
+  command_reads (translate image to target) h = no_desk_read (translate_rose image old.desk new.desk h.0)
   command_reads (list name) h = no_desk_read (load_rose name old.desk new.desk h.0)
   command_reads (generate number) h = let same : ReadFault ≡ WantOfMemory = h.0 in cc same
 
@@ -100,9 +105,17 @@ module _ (old new : Lent) (kept : KeptValue) (none : NoneFailed old new) where
   delivery_writes output processors (inl h) = no_out h.0.failed
   delivery_writes output processors (inr h) = stood old.report.faults new.report.faults none.report h.1.failed
 
+  -- its order was not stored in vain: that is the fault of a sink, or of the write
+  order_writes : (made : Done) (to : Option (List ℕ)) (bytes output : List ℕ) (processors : List Processor) → Stores dones.WriteFault made to bytes old.desk new.desk
+      → Delivers made output processors old.out new.out old.report new.report → ⊥
+  order_writes made to bytes output processors (storing.left why is same) h =
+      delivery_writes output processors (subst (λ (d : Done). Delivers d output processors old.out new.out old.report new.report) (sym is) h)
+  order_writes made to bytes output processors (storing.stored name asked sent is writes) h = sent (sym is)
+  order_writes made to bytes output processors (storing.failed name asked sent is writes) h = stood old.desk.write_faults new.desk.write_faults none.desk_writes writes.0
+
   command_writes : (command : CommandValue) → Does command dones.WriteFault old new kept → ⊥
-  command_writes (run name limits ranges) h = delivery_writes (output_of kept.history) (processors_of kept) h.delivered
-  command_writes (translate image to) h = stood old.desk.write_faults new.desk.write_faults none.desk_writes h.translates.written.0
+  command_writes (run name options) h = order_writes h.run options.order (order_bytes (order_kept kept)) (output_of kept.history) (processors_of kept) h.stored h.delivered
+  command_writes (translate image to target) h = stood old.desk.write_faults new.desk.write_faults none.desk_writes h.translates.written.0
   command_writes (list name) h = no_out h.lists.sent.failed
   command_writes (generate number) h =
       delivery_writes (lines_of number h.generates.code (set_up_of (generated_image number) kept) kept.history) (processors_of kept) h.generates.delivered

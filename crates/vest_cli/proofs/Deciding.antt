@@ -22,14 +22,14 @@ stopped_as command WantOfMemory d h = tt
 
 ends_well : (command : CommandValue) (end : Done) (old new : Lent) (kept : KeptValue) → Does command end old new kept
     → IsOrFault (Some command) (status_of_done end) goes_on
-ends_well (run name limits ranges) dones.Ok old new kept h = tt
-ends_well (run name limits ranges) dones.Exception old new kept h = tt
-ends_well (run name limits ranges) dones.Spent old new kept h = tt
-ends_well (run name limits ranges) dones.WriteFault old new kept h = tt
-ends_well (translate image to) dones.Ok old new kept h = refl
-ends_well (translate image to) dones.Exception old new kept h = absurd h.translates.written
-ends_well (translate image to) dones.Spent old new kept h = absurd h.translates.written
-ends_well (translate image to) dones.WriteFault old new kept h = tt
+ends_well (run name options) dones.Ok old new kept h = tt
+ends_well (run name options) dones.Exception old new kept h = tt
+ends_well (run name options) dones.Spent old new kept h = tt
+ends_well (run name options) dones.WriteFault old new kept h = tt
+ends_well (translate image to target) dones.Ok old new kept h = refl
+ends_well (translate image to target) dones.Exception old new kept h = absurd h.translates.written
+ends_well (translate image to target) dones.Spent old new kept h = absurd h.translates.written
+ends_well (translate image to target) dones.WriteFault old new kept h = tt
 ends_well (list name) dones.Ok old new kept h = refl
 ends_well (list name) dones.Exception old new kept h = absurd h.lists.sent
 ends_well (list name) dones.Spent old new kept h = absurd h.lists.sent

@@ -13,7 +13,6 @@ use Rattle.vest_stops.specs.Line.{line_of}
 use Rattle.vest_stops.specs.declared.status.Done.{Done}
 use Rattle.vest_stops.specs.declared.status.Status.{Status}
 use Rattle.vest_stops.specs.declared.status.Status.TheVariants as status
-use Rattle.vest_stops.specs.declared.stop.Stop.{Stop}
 use Rattle.vest_stops.specs.declared.stop.Stop.TheVariants.{WantOfMemory}
 use Rattle.vest_runs.specs.Kept.{KeptValue, nothing_kept}
 use Rattle.vest_cli.specs.Lent.{Lent, lent}
@@ -112,8 +111,8 @@ module _ (spelled : Option CommandValue) where
     where
       stops_short : (c : Option CommandValue) → vest.Stops c WantOfMemory desk desk input input
       stops_short None = record { same_desk = refl; same_input = refl }
-      stops_short (Some (run name limits ranges)) = inl (inl tt, refl)
-      stops_short (Some (translate image to)) = (inl tt, refl)
+      stops_short (Some (run name options)) = inl (inl tt, refl)
+      stops_short (Some (translate image to target)) = (inl tt, refl)
       stops_short (Some (list name)) = (inl tt, refl)
       stops_short (Some (generate number)) = (refl, record { same_desk = refl; same_input = refl })
 

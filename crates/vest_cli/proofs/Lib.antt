@@ -6,3 +6,4 @@ mod Obeying
 mod RunDecided
 mod Halting
 mod Unread
+mod OrderFiles

@@ -1,10 +1,9 @@
 -- What each command does and why it stops, as the top call says it.
-use Rattle.std.proofs.Common.{◌≡◌, List, Option, Result, Ok, Err, IfErr, IfOk, refl, sym, subst, arith}
+use Rattle.std.proofs.Common.{◌≡◌, List, Option, Result, Ok, Err, IfErr, IfOk, refl, sym, ap, subst, arith}
 use Rattle.std.specs.Prelude.{ℕ}
 use Rattle.std.proofs.lemmas.Result.{IfErr-weaker, IfOk-weaker}
-use Rattle.command_words.specs.Commands.{CommandValue, generate, run}
-use Rattle.command_words.specs.declared.commands.Limits.{Limits}
-use Rattle.command_words.specs.declared.numbers.Range.{Range}
+use Rattle.command_words.specs.Commands.{CommandValue, OptionsValue, generate, run}
+use Rattle.image_meaning.specs.declared.target.Target.{Target}
 use Rattle.vt_outside.specs.Desk.{DeskMeaning, Files}
 use Rattle.vt_outside.specs.Sink.{SinkMeaning}
 use Rattle.vt_outside.specs.Source.{SourceMeaning}
@@ -78,9 +77,9 @@ module _ (r : Result Done Stop) (result : Result Done Halt) (same : result ≡ o
 module _ (r : Result Done Stop) where
   -- ---- nothing else is touched
   module _ (input : SourceMeaning) (report : SinkMeaning) (kept : KeptValue) (nothing : kept ≡ nothing_kept) where
-    pub only_translates : (image to : List ℕ) (desk desk' : DeskMeaning) (out : SinkMeaning) → IfOk r (λ end. Translates end image to desk desk')
-        → IfOk r (λ end. OnlyTranslates end image to (lent desk input out report) (lent desk' input out report) kept)
-    only_translates image to desk desk' out h =
+    pub only_translates : (target : Target) (image to : List ℕ) (desk desk' : DeskMeaning) (out : SinkMeaning) → IfOk r (λ end. Translates target end image to desk desk')
+        → IfOk r (λ end. OnlyTranslates target end image to (lent desk input out report) (lent desk' input out report) kept)
+    only_translates target image to desk desk' out h =
         IfOk-weaker r _ _ (λ end translates. record { translates = translates; out = refl; report = refl; input = refl; kept_nothing = nothing }) h
 
     pub only_lists : (name : List ℕ) (desk desk' : DeskMeaning) (out out' : SinkMeaning) → SameFiles desk desk' → IfOk r (λ end. Lists end name desk out out')
@@ -99,28 +98,33 @@ module _ (r : Result Done Stop) where
   pub input_stays : (StopsSo : Stop → Type 0) (input : SourceMeaning) → IfErr r StopsSo → IfErr r (λ stop. StopsSo stop × (input ≡ input))
   input_stays StopsSo input h = IfErr-weaker r _ _ (λ stop so. (so, refl)) h
 
--- ---- of `generate`
-pub only_generates : (r : Result Done Halt) (number : ℕ) (desk : DeskMeaning) (input : SourceMeaning) (out out' report report' : SinkMeaning) (kept : KeptValue) → IfOk r (λ end. Generates end number out out' report report' kept)
-    → IfOk r (λ end. OnlyGenerates end number (lent desk input out report) (lent desk input out' report') kept)
-only_generates r number desk input out out' report report' kept h =
-    IfOk-weaker r _ _ (λ end generates. record { generates = generates; desk = refl; input = refl }) h
+-- ---- of `generate`, which touches no desk
+same_files : (desk desk' : DeskMeaning) → desk' ≡ desk → SameFiles desk desk'
+same_files desk desk' same =
+    let reads : desk'.read_faults ≡ desk.read_faults = ap (λ (d : DeskMeaning). d.read_faults) same in
+    record { files = ap (λ (d : DeskMeaning). d.files) same; write_faults = ap (λ (d : DeskMeaning). d.write_faults) same; read_faults = omega (arith, reads) }
 
-pub generate_why : (r : Result Done Halt) (number : ℕ) (desk : DeskMeaning) (input : SourceMeaning) → IfErr r (λ halt. HaltsGenerate halt number)
-    → IfErr r (λ halt. HaltsAt (generate number) halt desk desk input input)
-generate_why (Ok end) number desk input h = tt
-generate_why (Err (Stops stop)) number desk input h = (h, record { same_desk = refl; same_input = refl })
-generate_why (Err (Waits waiting)) number desk input h = (h, record { same_desk = refl; same_input = refl })
+pub only_generates : (r : Result Done Halt) (number : ℕ) (desk desk' : DeskMeaning) (input : SourceMeaning) (out out' report report' : SinkMeaning) (kept : KeptValue) → desk' ≡ desk → IfOk r (λ end. Generates end number out out' report report' kept)
+    → IfOk r (λ end. OnlyGenerates end number (lent desk input out report) (lent desk' input out' report') kept)
+only_generates r number desk desk' input out out' report report' kept same h =
+    IfOk-weaker r _ _ (λ end generates. record { generates = generates; desk = same; input = refl }) h
 
-pub generate_leaves : (r : Result Done Halt) (desk : DeskMeaning) (input : SourceMeaning) (out out' report report' : SinkMeaning) (kept : KeptValue)
-    → IfErr r (λ _. out' ≡ out) → IfErr r (λ _. report' ≡ report) → IfErr r (λ _. kept ≡ nothing_kept)
-    → IfErr r (λ _. LeavesAll (lent desk input out report) (lent desk input out' report') kept)
-generate_leaves (Ok end) desk input out out' report report' kept unsent unsaid unkept = tt
-generate_leaves (Err halt) desk input out out' report report' kept unsent unsaid unkept =
-    record { desk = record { files = refl; write_faults = refl; read_faults = omega arith }; out = unsent; report = unsaid; kept_nothing = unkept }
+pub generate_why : (r : Result Done Halt) (number : ℕ) (desk desk' : DeskMeaning) (input : SourceMeaning) → desk' ≡ desk → IfErr r (λ halt. HaltsGenerate halt number)
+    → IfErr r (λ halt. HaltsAt (generate number) halt desk desk' input input)
+generate_why (Ok end) number desk desk' input same h = tt
+generate_why (Err (Stops stop)) number desk desk' input same h = (h, record { same_desk = same; same_input = refl })
+generate_why (Err (Waits waiting)) number desk desk' input same h = (h, record { same_desk = same; same_input = refl })
+
+pub generate_leaves : (r : Result Done Halt) (desk desk' : DeskMeaning) (input : SourceMeaning) (out out' report report' : SinkMeaning) (kept : KeptValue)
+    → desk' ≡ desk → IfErr r (λ _. out' ≡ out) → IfErr r (λ _. report' ≡ report) → IfErr r (λ _. kept ≡ nothing_kept)
+    → IfErr r (λ _. LeavesAll (lent desk input out report) (lent desk' input out' report') kept)
+generate_leaves (Ok end) desk desk' input out out' report report' kept same unsent unsaid unkept = tt
+generate_leaves (Err halt) desk desk' input out out' report report' kept same unsent unsaid unkept =
+    record { desk = same_files desk desk' same; out = unsent; report = unsaid; kept_nothing = unkept }
 
 -- ---- of `run`
-pub run_why : (r : Result Done Halt) (name : List ℕ) (limits : Limits) (ranges : List Range) (desk desk' : DeskMeaning) (input input' : SourceMeaning)
-    → IfErr r (λ halt. HaltsRun halt name limits ranges desk desk' input input') → IfErr r (λ halt. HaltsAt (run name limits ranges) halt desk desk' input input')
-run_why (Ok end) name limits ranges desk desk' input input' h = tt
-run_why (Err (Stops stop)) name limits ranges desk desk' input input' h = h
-run_why (Err (Waits waiting)) name limits ranges desk desk' input input' h = h
+pub run_why : (r : Result Done Halt) (name : List ℕ) (options : OptionsValue) (desk desk' : DeskMeaning) (input input' : SourceMeaning)
+    → IfErr r (λ halt. HaltsRun halt name options desk desk' input input') → IfErr r (λ halt. HaltsAt (run name options) halt desk desk' input input')
+run_why (Ok end) name options desk desk' input input' h = tt
+run_why (Err (Stops stop)) name options desk desk' input input' h = h
+run_why (Err (Waits waiting)) name options desk desk' input input' h = h

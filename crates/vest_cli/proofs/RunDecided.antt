@@ -4,6 +4,7 @@ use Rattle.std.specs.Io.KnownBytes.{Consumes, IsAtEnd}
 use Rattle.std.proofs.lemmas.Bool.{lt-ltb, le-ltb}
 use Rattle.vt_outside.specs.Desk.{DeskMeaning, Files}
 use Rattle.vt_outside.specs.Source.{SourceMeaning}
+use Rattle.image_meaning.specs.declared.target.Target.{Target}
 use Rattle.image_file.specs.Values.{ImageValue}
 use Rattle.block_law.specs.Translations.{Code}
 use Rattle.vest_stops.specs.Decided.{Decision, goes_on, IsDecided, StopsAsDecided}
@@ -61,19 +62,19 @@ goes_by (Some input) n new bytes d read e =
 run_goes : (old new : SourceMeaning) (bytes : List ℕ) (at d : Decision) → at ≡ goes_on → ReadsAll old new bytes → DecidesBehind at old.left d → d ≡ goes_on
 run_goes old new bytes at d goes read e = goes_by old.left old.faults new bytes d read (decides_input at d old.left goes e)
 
-run_stops : (stop : Stop) (name : List ℕ) (desk desk' : DeskMeaning) (input input' : SourceMeaning) (d : Decision) → StopsRun stop name desk desk' input input'
+run_stops : (stop : Stop) (asked : Target) (name : List ℕ) (desk desk' : DeskMeaning) (input input' : SourceMeaning) (d : Decision) → StopsRun stop asked name desk desk' input input'
     → DecidesRun desk.files name input.left d → StopsAsDecided stop d
-run_stops stop name desk desk' input input' d (inl h) e =
+run_stops stop asked name desk desk' input input' d (inl h) e =
     stops_at_load stop e.at_load d input.left (load_stops stop name desk desk' e.at_load h.0 e.load) e.behind
-run_stops stop name desk desk' input input' d (inr (image, code, loaded, h)) e =
-    stops_at_input stop input input' e.at_load d (load_goes desk.files name image code e.at_load loaded e.load) h e.behind
+run_stops stop asked name desk desk' input input' d (inr (image, target, code, loaded, h)) e =
+    stops_at_input stop input input' e.at_load d (load_goes asked desk.files name image target code e.at_load loaded e.load) h e.behind
 
-pub run_decided : {X : Type 0} (r : Result X Stop) (d : Decision) (name : List ℕ) (desk desk' : DeskMeaning) (input input' : SourceMeaning)
-    → IfErr r (λ stop. StopsRun stop name desk desk' input input') → IfOk r (λ _. d ≡ goes_on) → DecidesRun desk.files name input.left d → IsDecided r d
-run_decided (Ok x) d name desk desk' input input' err ok e = ok
-run_decided (Err stop) d name desk desk' input input' err ok e = run_stops stop name desk desk' input input' d err e
+pub run_decided : {X : Type 0} (r : Result X Stop) (d : Decision) (asked : Target) (name : List ℕ) (desk desk' : DeskMeaning) (input input' : SourceMeaning)
+    → IfErr r (λ stop. StopsRun stop asked name desk desk' input input') → IfOk r (λ _. d ≡ goes_on) → DecidesRun desk.files name input.left d → IsDecided r d
+run_decided (Ok x) d asked name desk desk' input input' err ok e = ok
+run_decided (Err stop) d asked name desk desk' input input' err ok e = run_stops stop asked name desk desk' input input' d err e
 
-pub runs_on : (files : Option Files) (name : List ℕ) (image : ImageValue) (code : Code) (input input' : SourceMeaning) (bytes : List ℕ) (d : Decision)
-    → Loads files name image code → ReadsAll input input' bytes → DecidesRun files name input.left d → d ≡ goes_on
-runs_on files name image code input input' bytes d loaded read e =
-    run_goes input input' bytes e.at_load d (load_goes files name image code e.at_load loaded e.load) read e.behind
+pub runs_on : (asked : Target) (files : Option Files) (name : List ℕ) (image : ImageValue) (target : Target) (code : Code) (input input' : SourceMeaning) (bytes : List ℕ) (d : Decision)
+    → Loads asked files name image target code → ReadsAll input input' bytes → DecidesRun files name input.left d → d ≡ goes_on
+runs_on asked files name image target code input input' bytes d loaded read e =
+    run_goes input input' bytes e.at_load d (load_goes asked files name image target code e.at_load loaded e.load) read e.behind

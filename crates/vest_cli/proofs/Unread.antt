@@ -9,7 +9,7 @@ use Rattle.vest_stops.specs.declared.status.Status.TheVariants as status
 use Rattle.vest_stops.specs.declared.stop.Stop.TheVariants.{WantOfMemory}
 use Rattle.vest_stops.specs.Decided.{Decision}
 use Rattle.vest_runs.specs.Kept.{KeptValue, nothing_kept}
-use Rattle.vest_cli.specs.Decided.{DecidesCall, IsOrFault}
+use Rattle.vest_cli.specs.Decided.{IsOrFault}
 use Rattle.vest_cli.specs.Lent.{lent}
 use Rattle.vest_cli.specs.Program.{IsCalled}
 use Rattle.vest_cli.specs.Stopping.{Says}

@@ -13,8 +13,8 @@ use Rattle.vest_cli.specs.Run.{DecidesRun}
 
 -- what a command comes to; what is not told decides nothing, and on `generate` nothing has to be told
 abbrev pub DecidesOn : CommandValue → Option Files → (input : Option (List ℕ)) → Decision → Type 0
-DecidesOn (run name limits ranges) files input decision = DecidesRun files name input decision
-DecidesOn (translate image to) files input decision = DecidesTranslate files image decision
+DecidesOn (run name options) files input decision = DecidesRun files name input decision
+DecidesOn (translate image to target) files input decision = DecidesTranslate files image decision
 DecidesOn (list name) files input decision = DecidesLoad files name decision
 DecidesOn (generate number) files input decision = decision ≡ goes_on
 
@@ -32,7 +32,7 @@ EndsARun result = ⊥
 -- how a command ends that goes on
 abbrev pub EndsWell : Option CommandValue → Status → Type 0
 EndsWell None result = ⊥
-EndsWell (Some (run name limits ranges)) result = EndsARun result
+EndsWell (Some (run name options)) result = EndsARun result
 EndsWell (Some (generate number)) result = EndsARun result
 EndsWell (Some command) result = result ≡ status.Ok
 

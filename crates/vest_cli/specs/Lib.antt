@@ -3,6 +3,7 @@ pub mod Lent
 pub mod Leaving
 pub mod Stopping
 pub mod Made
+pub mod Storing
 pub mod Run
 pub mod Generate
 pub mod Vest

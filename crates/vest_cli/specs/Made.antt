@@ -5,7 +5,7 @@ use Rattle.command_words.specs.declared.commands.Limits.{Limits}
 use Rattle.block_law.specs.Translations.{Code}
 use Rattle.image_file.specs.Values.{ImageValue}
 use Rattle.image_meaning.specs.Permits.{permit_of}
-use Rattle.image_meaning.specs.declared.target.Target.TheVariants.{Original}
+use Rattle.image_meaning.specs.declared.target.Target.{Target}
 use Rattle.memory_core.specs.declared.entry.Entry.{Entry}
 use Rattle.memory_core.specs.declared.entry.SetUp.{SetUp}
 use Rattle.system_model.specs.Legal.{IsLegal}
@@ -30,12 +30,13 @@ started task = running_of task.loaded.image task.taken.items task.limits
 -- its memory is that of the task, and its history and its processors are what the threads did
 pub record HasMade (run : Run) : Type 0 where
   pub set_up : run.memory.set_up ≡ (started run.task).set_up
-  pub ran : HasRun (image_setting run.task.loaded.image.pages run.task.loaded.translation run.task.ranges.items) (permit_of Original run.task.loaded.image.pages) (started run.task).set_up (started run.task).budget
+  pub ran : HasRun (image_setting run.task.loaded.image.pages run.task.loaded.translation run.task.ranges.items) (permit_of run.task.loaded.target run.task.loaded.image.pages) (started run.task).set_up (started run.task).budget
       run.memory.history (map processor_of run.processors.items)
 
--- whatever is legal for an image and its input and has ended is what the threads did
-abbrev pub EndedIsRun : ImageValue → (input : List ℕ) → Code → List Range → Type 0
-EndedIsRun image input code ranges = (of : SetUp) (budget : ℕ) (history : List Entry) (processors : List Processor) → of.image ≡ image → of.input ≡ input
+-- whatever is legal for an image and its input and has ended is what the threads did, by accesses that code for the target may
+-- make
+abbrev pub EndedIsRun : ImageValue → Target → (input : List ℕ) → Code → List Range → Type 0
+EndedIsRun image target input code ranges = (of : SetUp) (budget : ℕ) (history : List Entry) (processors : List Processor) → of.image ≡ image → of.input ≡ input
     → IsLegal (image_setting image.pages code ranges) of budget (reverse history) processors
     → AllByRecursion (λ (p : Processor). has_ended p.mode ≡ true) processors
-    → HasRun (image_setting image.pages code ranges) (permit_of Original image.pages) of budget history processors
+    → HasRun (image_setting image.pages code ranges) (permit_of target image.pages) of budget history processors

@@ -1,8 +1,10 @@
 -- What the program does.
-use Rattle.std.specs.Prelude.{◌≡◌, ◌⊎◌, ℕ, List, Option, None, Some, Result, Ok, Err, String, Vec}
+use Rattle.std.specs.Prelude.{◌≡◌, ◌⊎◌, ℕ, List, Option, None, Result, Ok, Err, String, Vec, drop}
 use Rattle.std.specs.Process.{exit_status}
+use Rattle.std.specs.Vec.Iter.{into_iter_items}
 use Rattle.std.specs.declared.alloc.Global.{Global}
 use Rattle.std.specs.declared.process.ExitCode.{ExitCode}
+use Rattle.std.specs.declared.vec.IntoIter.{IntoIter}
 use Rattle.vt_outside.specs.Desk.{DeskMeaning}
 use Rattle.vt_outside.specs.Sink.{SinkMeaning}
 use Rattle.vt_outside.specs.Source.{SourceMeaning}
@@ -16,6 +18,13 @@ use Rattle.vest_cli.specs.Decided.{DecidesCall, IsOrFault, IsOrWant, NoneFailed}
 use Rattle.vest_cli.specs.Lent.{Lent}
 use Rattle.vest_cli.specs.Vest.{Ends}
 use Rattle.vest_cli.specs.Words.{spelled}
+
+-- all arguments but the first, which is the program's name; a fault of reading them is told as it is
+abbrev pub AreBehindName : {E : Type 0} → (arguments : Result (IntoIter (String Global) Global) E) → (words : Result (Vec (String Global) Global) E) → Type 0
+AreBehindName (Ok arguments) (Ok words) = words.items ≡ drop 1 (into_iter_items arguments)
+AreBehindName (Ok arguments) (Err fault) = Unit {0}
+AreBehindName (Err fault) (Ok words) = ⊥
+AreBehindName (Err fault) (Err told) = told ≡ fault
 
 -- the command that the words of the program spell; words that could not be read spell none
 abbrev pub spelled_in : {E : Type 0} → Result (Vec (String Global) Global) E → Option CommandValue

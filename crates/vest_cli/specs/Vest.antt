@@ -1,6 +1,7 @@
 -- What one call of `vest` does.
 use Rattle.std.specs.Prelude.{◌≡◌, ℕ, List, Option, None, Some}
 use Rattle.command_words.specs.Commands.{CommandValue, generate, list, run, translate}
+use Rattle.image_meaning.specs.declared.target.Target.{Target}
 use Rattle.vt_outside.specs.Desk.{DeskMeaning}
 use Rattle.vt_outside.specs.Source.{SourceMeaning}
 use Rattle.vest_stops.specs.Line.{line_of}
@@ -17,7 +18,7 @@ use Rattle.vest_stops.specs.declared.stop.Stop.TheVariants.{WantOfMemory}
 use Rattle.vest_cli.specs.Generate.{Generates}
 use Rattle.vest_runs.specs.Kept.{KeptValue, nothing_kept}
 use Rattle.vest_cli.specs.Lent.{Lent}
-use Rattle.vest_cli.specs.Run.{Runs, StopsRun}
+use Rattle.vest_cli.specs.Run.{Runs, StopsRun, target_of}
 use Rattle.vest_cli.specs.Stopping.{Stopped, usage_line}
 
 -- neither desk nor input was touched
@@ -31,8 +32,8 @@ StopsGenerate stop desk desk' input input' = (stop ≡ WantOfMemory) × Untouche
 
 -- why a command stops; `translate` and `list` leave the input
 abbrev pub StopsAt : CommandValue → Stop → DeskMeaning → DeskMeaning → SourceMeaning → SourceMeaning → Type 0
-StopsAt (run name limits ranges) stop desk desk' input input' = StopsRun stop name desk desk' input input'
-StopsAt (translate image to) stop desk desk' input input' = StopsTranslate stop image desk desk' × (input' ≡ input)
+StopsAt (run name options) stop desk desk' input input' = StopsRun stop (target_of options.target) name desk desk' input input'
+StopsAt (translate image to target) stop desk desk' input input' = StopsTranslate stop image desk desk' × (input' ≡ input)
 StopsAt (list name) stop desk desk' input input' = StopsAtLoad stop name desk desk' × (input' ≡ input)
 StopsAt (generate number) stop desk desk' input input' = StopsGenerate stop desk desk' input input'
 
@@ -43,8 +44,8 @@ Stops None stop desk desk' input input' = ⊥
 Stops (Some command) stop desk desk' input input' = StopsAt command stop desk desk' input input'
 
 -- `translate` writes the desk alone
-pub record OnlyTranslates (result : Done) (image to : List ℕ) (old new : Lent) (kept : KeptValue) : Type 0 where
-  pub translates : Translates result image to old.desk new.desk
+pub record OnlyTranslates (target : Target) (result : Done) (image to : List ℕ) (old new : Lent) (kept : KeptValue) : Type 0 where
+  pub translates : Translates target result image to old.desk new.desk
   pub out : new.out ≡ old.out
   pub report : new.report ≡ old.report
   pub input : new.input ≡ old.input
@@ -66,8 +67,8 @@ pub record OnlyGenerates (result : Done) (number : ℕ) (old new : Lent) (kept :
 
 -- what a command does
 abbrev pub Does : CommandValue → Done → Lent → Lent → KeptValue → Type 0
-Does (run name limits ranges) result old new kept = Runs result name limits ranges old new kept
-Does (translate image to) result old new kept = OnlyTranslates result image to old new kept
+Does (run name options) result old new kept = Runs result name options old new kept
+Does (translate image to target) result old new kept = OnlyTranslates (target_of target) result image to old new kept
 Does (list name) result old new kept = OnlyLists result name old new kept
 Does (generate number) result old new kept = OnlyGenerates result number old new kept
 

@@ -1,9 +1,7 @@
 -- Runs that are yet to be made, and what they come to.
-use Rattle.std.specs.Prelude.{◌≡◌, ◌≤◌, ◌<◌, ℕ, List, [], Option, Some, Result, Ok, Err, length}
-use Rattle.command_words.specs.Commands.{CommandValue, generate, list, run, translate}
-use Rattle.command_words.specs.declared.commands.Limits.{Limits}
+use Rattle.std.specs.Prelude.{◌≡◌, ◌≤◌, ◌<◌, ℕ, List, [], Option, None, Some, Result, Ok, Err, length}
+use Rattle.command_words.specs.Commands.{CommandValue, OptionsValue, generate, list, run, translate}
 use Rattle.command_words.specs.Commands.{DEFAULT_LIMITS}
-use Rattle.command_words.specs.declared.numbers.Range.{Range as WordRange}
 use Rattle.vt_outside.specs.Desk.{DeskMeaning, Files}
 use Rattle.vt_outside.specs.Sink.{SinkMeaning}
 use Rattle.vt_outside.specs.Source.{SourceMeaning}
@@ -26,15 +24,18 @@ use Rattle.vest_stops.specs.declared.status.Status.{Status}
 use Rattle.vest_stops.specs.declared.status.Status.TheVariants as status
 use Rattle.vest_stops.specs.declared.stop.Stop.{Stop}
 use Rattle.vest_stops.specs.declared.stop.Stop.TheVariants as stops
+use Rattle.run_files.specs.Spelling.{order_bytes}
 use Rattle.vest_runs.specs.Delivery.{Delivers}
 use Rattle.vest_runs.specs.Generate.{lines_of}
 use Rattle.vest_runs.specs.Keeping.{HasKept, processors_of, set_up_of}
 use Rattle.vest_runs.specs.Kept.{KeptValue, nothing_kept}
+use Rattle.vest_runs.specs.Order.{order_kept}
 use Rattle.vest_cli.specs.Decided.{DecidesCall}
 use Rattle.vest_cli.specs.Leaving.{LeavesAll}
 use Rattle.vest_cli.specs.Lent.{Lent}
-use Rattle.vest_cli.specs.Run.{IsTask, StopsRun}
+use Rattle.vest_cli.specs.Run.{IsTask, StopsRun, target_of}
 use Rattle.vest_cli.specs.Stopping.{Says}
+use Rattle.vest_cli.specs.Storing.{HasRoomFor, Stores, name_of}
 use Rattle.vest_cli.specs.Vest.{StopsAt, Untouched}
 use Rattle.vest_cli.specs.declared.execute.Task.{Task}
 use Rattle.vest_cli.specs.declared.halt.Halt.{Halt}
@@ -52,27 +53,32 @@ abbrev pub CanPut : Puts → Type 0
 CanPut Output = Unit {0}
 CanPut (Lines number) = number ≤ MOST_GROUPS
 
--- its image is whole, and its code meets the meaning of the image's instructions
+-- its image is whole, its code meets the meaning of the image's instructions, and there is room for the file of its order
 pub record IsReady (waiting : Waiting) : Type 0 where
   pub whole : IsWhole waiting.task.loaded.image
-  pub meets : Meets (image_meaning waiting.task.loaded.image.pages) (permit_of Original waiting.task.loaded.image.pages) waiting.task.loaded.translation
+  pub meets : Meets (image_meaning waiting.task.loaded.image.pages) (permit_of waiting.task.loaded.target waiting.task.loaded.image.pages) waiting.task.loaded.translation
   pub puts : CanPut waiting.puts
+  pub room : HasRoomFor waiting.task waiting.order
 
 -- its image has more than one thread
 abbrev pub HasSeveral : Waiting → Type 0
 HasSeveral waiting = 1 < length waiting.task.loaded.image.threads
 
--- the task was run, the run is kept, and what goes out behind it was delivered
-pub record Gives (result : Done) (task : Task) (puts : Puts) (out out' report report' : SinkMeaning) (kept : KeptValue) : Type 0 where
-  pub has_kept : HasKept task.loaded.image task.loaded.translation task.taken.items task.limits task.ranges.items kept
-  pub delivered : Delivers result (put_out puts task.loaded.translation (set_up_of task.loaded.image kept) kept.history) (processors_of kept) out out' report report'
+-- the task was run, the run is kept, what goes out behind it was delivered, by which it came to `run`, and then its order was
+-- stored; where no file is asked for the desk isn't touched
+pub record Gives (result : Done) (task : Task) (puts : Puts) (to : Option (List ℕ)) (desk desk' : DeskMeaning) (out out' report report' : SinkMeaning) (kept : KeptValue) : Type 0 where
+  pub has_kept : HasKept task.loaded.image task.loaded.target task.loaded.translation task.taken.items task.limits task.ranges.items kept
+  pub run : Done
+  pub delivered : Delivers run (put_out puts task.loaded.translation (set_up_of task.loaded.image kept) kept.history) (processors_of kept) out out' report report'
+  pub stored : Stores result run to (order_bytes (order_kept kept)) desk desk'
+  pub unasked : to ≡ None → desk' ≡ desk
 
 -- memory ran out before the run, or it was made
-pub data Finishes (waiting : Waiting) (result : Status) (out out' report report' : SinkMeaning) (kept : KeptValue) : Type 0 where
-  short : result ≡ status.WantOfMemory → out' ≡ out → kept ≡ nothing_kept → Says (line_of stops.WantOfMemory) report report'
-      → Finishes waiting result out out' report report' kept
-  given : (end : Done) → result ≡ status_of_done end → Gives end waiting.task waiting.puts out out' report report' kept
-      → Finishes waiting result out out' report report' kept
+pub data Finishes (waiting : Waiting) (result : Status) (desk desk' : DeskMeaning) (out out' report report' : SinkMeaning) (kept : KeptValue) : Type 0 where
+  short : result ≡ status.WantOfMemory → desk' ≡ desk → out' ≡ out → kept ≡ nothing_kept → Says (line_of stops.WantOfMemory) report report'
+      → Finishes waiting result desk desk' out out' report report' kept
+  given : (end : Done) → result ≡ status_of_done end → Gives end waiting.task waiting.puts (name_of waiting.order) desk desk' out out' report report' kept
+      → Finishes waiting result desk desk' out out' report report' kept
 
 -- ---- why a run is not made without waiting
 -- memory ran out, or it is the same run, of several threads
@@ -84,21 +90,28 @@ abbrev pub WaitsReady : Halt → Type 0
 WaitsReady (Stops stop) = Unit {0}
 WaitsReady (Waits waiting) = IsReady waiting
 
--- `run` has its task, of several threads, and its output is to go out
-pub record WaitsToRun (waiting : Waiting) (name : List ℕ) (limits : Limits) (ranges : List WordRange) (files : Option Files) (input input' : SourceMeaning) : Type 0 where
-  pub task : IsTask name limits ranges files input input' waiting.task
+-- `run` has its task, its output is to go out, and its order into the file that its words name
+pub record IsToRun (name : List ℕ) (options : OptionsValue) (files : Option Files) (input input' : SourceMeaning) (waiting : Waiting) : Type 0 where
+  pub task : IsTask name options files input input' waiting.task
   pub puts : waiting.puts ≡ Output
+  pub order : name_of waiting.order ≡ options.order
+  pub room : HasRoomFor waiting.task waiting.order
+
+-- and its image has several threads
+pub record WaitsToRun (waiting : Waiting) (name : List ℕ) (options : OptionsValue) (files : Option Files) (input input' : SourceMeaning) : Type 0 where
+  pub is : IsToRun name options files input input' waiting
   pub several : HasSeveral waiting
 
-abbrev pub HaltsRun : Halt → (name : List ℕ) → Limits → List WordRange → DeskMeaning → DeskMeaning → SourceMeaning → SourceMeaning → Type 0
-HaltsRun (Stops stop) name limits ranges desk desk' input input' = StopsRun stop name desk desk' input input'
-HaltsRun (Waits waiting) name limits ranges desk desk' input input' = WaitsToRun waiting name limits ranges desk.files input input'
+abbrev pub HaltsRun : Halt → (name : List ℕ) → OptionsValue → DeskMeaning → DeskMeaning → SourceMeaning → SourceMeaning → Type 0
+HaltsRun (Stops stop) name options desk desk' input input' = StopsRun stop (target_of options.target) name desk desk' input input'
+HaltsRun (Waits waiting) name options desk desk' input input' = WaitsToRun waiting name options desk.files input input'
 
--- what `generate` runs: the number's image and its translation without hints, on no input, by the default limits
+-- what `generate` runs: the number's image and its translation for the first Alpha processors without hints, on no input, by the default limits
 pub record IsGenerated (number : ℕ) (task : Task) : Type 0 where
   pub image : task.loaded.image ≡ generated_image number
   pub whole : IsWhole task.loaded.image
-  pub translated : IsTranslated (generated_image number) [] task.loaded.translation
+  pub target : task.loaded.target ≡ Original
+  pub translated : IsTranslated Original (generated_image number) [] task.loaded.translation
   pub taken : task.taken.items ≡ []
   pub limits : task.limits ≡ DEFAULT_LIMITS
   pub ranges : task.ranges.items ≡ []
@@ -107,6 +120,7 @@ pub record IsGenerated (number : ℕ) (task : Task) : Type 0 where
 pub record WaitsToGenerate (waiting : Waiting) (number : ℕ) : Type 0 where
   pub task : IsGenerated number waiting.task
   pub puts : waiting.puts ≡ Lines number
+  pub order : name_of waiting.order ≡ None
   pub several : HasSeveral waiting
 
 abbrev pub HaltsGenerate : Halt → (number : ℕ) → Type 0
@@ -115,8 +129,8 @@ HaltsGenerate (Waits waiting) number = WaitsToGenerate waiting number
 
 -- ---- of each command; `translate` and `list` never wait
 abbrev pub WaitsAt : CommandValue → Waiting → DeskMeaning → DeskMeaning → SourceMeaning → SourceMeaning → Type 0
-WaitsAt (run name limits ranges) waiting desk desk' input input' = WaitsToRun waiting name limits ranges desk.files input input'
-WaitsAt (translate image to) waiting desk desk' input input' = ⊥
+WaitsAt (run name options) waiting desk desk' input input' = WaitsToRun waiting name options desk.files input input'
+WaitsAt (translate image to target) waiting desk desk' input input' = ⊥
 WaitsAt (list name) waiting desk desk' input input' = ⊥
 WaitsAt (generate number) waiting desk desk' input input' = WaitsToGenerate waiting number × Untouched desk desk' input input'
 

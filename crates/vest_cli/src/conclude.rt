@@ -27,7 +27,7 @@ pub(crate) fn conclude<E: Sink>(
 }
 
 /// Says why a call stops. A fault of the report changes no status.
-pub fn refuse<E: Sink>(stop: &Stop, report: &mut E) -> Status
+pub(crate) fn refuse<E: Sink>(stop: &Stop, report: &mut E) -> Status
     ensures status { result ≡ status_of stop.now }
     ensures line { Says (line_of stop.now) (E.meaning report.old) (E.meaning report.new) }
 {

@@ -4,7 +4,6 @@ ghost use Rattle.image_file.specs.Whole.{IsWhole};
 ghost use Rattle.block_law.specs.Translations.{Meets};
 ghost use Rattle.image_meaning.specs.Meant.{image_meaning};
 ghost use Rattle.image_meaning.specs.Permits.{permit_of};
-ghost use Rattle.image_meaning.specs.declared.target.Target.TheVariants.{Original};
 ghost use Rattle.system_model.specs.Settings.{Setting};
 ghost use Rattle.tie_switch.specs.Processors.{processor_of};
 ghost use Rattle.tie_switch.specs.Settings.{image_setting};
@@ -14,9 +13,10 @@ ghost use Rattle.vest_runs.specs.Threads.{HasRun};
 ghost use Rattle.vest_cli.specs.Made.{HasMade, running_of};
 
 use crate::alone::run_alone;
-use crate::threads::run_all;
+use crate::explained::ended_is_run;
 use command_words::Limits;
 use image_file::Image;
+use image_meaning::laws::permits;
 use memory_core::MemState;
 use run_threads::Running;
 use std::alloc::Global;
@@ -68,7 +68,8 @@ fn set_up(
     )
 }
 
-// The memory and the processors that a run by threads leaves.
+// The memory and the processors that a run leaves, each thread in a thread of its own, over one memory. Where one can't be made, none
+// runs.
 fn run_task<R: Threads + Wait + Sync, G: Gate + Sync>(
     rt: &R,
     alloc: Global,
@@ -76,24 +77,21 @@ fn run_task<R: Threads + Wait + Sync, G: Gate + Sync>(
     gate: &G,
 ) -> Result<(MemState, Vec<Processor>), WantOfMemory>
     requires whole { IsWhole task.now.loaded.image }
-    requires meets { Meets (image_meaning task.now.loaded.image.pages) (permit_of Original task.now.loaded.image.pages) task.now.loaded.translation }
+    requires meets { Meets (image_meaning task.now.loaded.image.pages) (permit_of task.now.loaded.target task.now.loaded.image.pages) task.now.loaded.translation }
     ensures set_up { IfOk result (λ r. r.0.set_up ≡ (running_of task.now.loaded.image task.now.taken.items task.now.limits).set_up) }
-    ensures ran { IfOk result (λ r. HasRun (image_setting task.now.loaded.image.pages task.now.loaded.translation task.now.ranges.items) (permit_of Original task.now.loaded.image.pages)
+    ensures ran { IfOk result (λ r. HasRun (image_setting task.now.loaded.image.pages task.now.loaded.translation task.now.ranges.items) (permit_of task.now.loaded.target task.now.loaded.image.pages)
         (running_of task.now.loaded.image task.now.taken.items task.now.limits).set_up task.now.limits.budget r.0.history (map processor_of r.1.items)) }
 {
-    let Loaded { image, translation } = &task.loaded;
+    let Loaded {
+        image,
+        target,
+        translation,
+    } = &task.loaded;
     let prepared = made_ready(alloc, image, translation)?;
     let running = set_up(alloc, image, &task.taken, task.limits)?;
-    Ok(run_all(
-        rt,
-        running,
-        image,
-        &task.taken,
-        translation,
-        &prepared,
-        &task.ranges,
-        gate,
-    ))
+    ended_is_run(image, *target, &task.taken, translation, &task.ranges);
+    permits();
+    running.go(rt, alloc, image, translation, &prepared, &task.ranges, gate)
 }
 
 // A memory and its only processor, before the first step.
@@ -122,17 +120,22 @@ fn set_up_alone(
 fn run_task_alone(alloc: Global, task: &Task) -> Result<(MemState, Vec<Processor>), WantOfMemory>
     requires alone { length task.now.loaded.image.threads ≡ 1 }
     requires whole { IsWhole task.now.loaded.image }
-    requires meets { Meets (image_meaning task.now.loaded.image.pages) (permit_of Original task.now.loaded.image.pages) task.now.loaded.translation }
+    requires meets { Meets (image_meaning task.now.loaded.image.pages) (permit_of task.now.loaded.target task.now.loaded.image.pages) task.now.loaded.translation }
     ensures set_up { IfOk result (λ r. r.0.set_up ≡ (running_of task.now.loaded.image task.now.taken.items task.now.limits).set_up) }
-    ensures ran { IfOk result (λ r. HasRun (image_setting task.now.loaded.image.pages task.now.loaded.translation task.now.ranges.items) (permit_of Original task.now.loaded.image.pages)
+    ensures ran { IfOk result (λ r. HasRun (image_setting task.now.loaded.image.pages task.now.loaded.translation task.now.ranges.items) (permit_of task.now.loaded.target task.now.loaded.image.pages)
         (running_of task.now.loaded.image task.now.taken.items task.now.limits).set_up task.now.limits.budget r.0.history (map processor_of r.1.items)) }
 {
-    let Loaded { image, translation } = &task.loaded;
+    let Loaded {
+        image,
+        target,
+        translation,
+    } = &task.loaded;
     let prepared = made_ready(alloc, image, translation)?;
     let world = set_up_alone(alloc, image, &task.taken, task.limits)?;
     Ok(run_alone(
         world,
         image,
+        *target,
         &task.taken,
         translation,
         &prepared,
@@ -144,7 +147,7 @@ fn run_task_alone(alloc: Global, task: &Task) -> Result<(MemState, Vec<Processor
 pub(crate) fn execute_alone(alloc: Global, task: Task) -> Result<Run, WantOfMemory>
     requires alone { length task.loaded.image.threads ≡ 1 }
     requires whole { IsWhole task.loaded.image }
-    requires meets { Meets (image_meaning task.loaded.image.pages) (permit_of Original task.loaded.image.pages) task.loaded.translation }
+    requires meets { Meets (image_meaning task.loaded.image.pages) (permit_of task.loaded.target task.loaded.image.pages) task.loaded.translation }
     ensures task { IfOk result (λ run. run.task ≡ task) }
     ensures ran { IfOk result HasMade }
 {
@@ -156,7 +159,7 @@ pub(crate) fn execute_alone(alloc: Global, task: Task) -> Result<Run, WantOfMemo
     })
 }
 
-/// Takes all that a run needs, and makes it by its threads: from its first step on it takes no memory.
+/// Takes all that a run needs, its threads too, and makes it: from its first step on it takes no memory.
 pub(crate) fn execute<R: Threads + Wait + Sync, G: Gate + Sync>(
     rt: &R,
     alloc: Global,
@@ -164,7 +167,7 @@ pub(crate) fn execute<R: Threads + Wait + Sync, G: Gate + Sync>(
     gate: &G,
 ) -> Result<Run, WantOfMemory>
     requires whole { IsWhole task.loaded.image }
-    requires meets { Meets (image_meaning task.loaded.image.pages) (permit_of Original task.loaded.image.pages) task.loaded.translation }
+    requires meets { Meets (image_meaning task.loaded.image.pages) (permit_of task.loaded.target task.loaded.image.pages) task.loaded.translation }
     ensures task { IfOk result (λ run. run.task ≡ task) }
     ensures ran { IfOk result HasMade }
 {
@@ -179,7 +182,7 @@ pub(crate) fn execute<R: Threads + Wait + Sync, G: Gate + Sync>(
 /// Keeps a run. It takes no memory.
 pub(crate) fn keep_run(run: Run, kept: &mut Kept)
     requires { HasMade run }
-    ensures kept { HasKept run.task.loaded.image run.task.loaded.translation run.task.taken.items run.task.limits run.task.ranges.items kept.new }
+    ensures kept { HasKept run.task.loaded.image run.task.loaded.target run.task.loaded.translation run.task.taken.items run.task.limits run.task.ranges.items kept.new }
     ensures history { kept.new.history ≡ run.memory.history }
     ensures processors { kept.new.processors ≡ run.processors.items }
 {
@@ -196,6 +199,7 @@ pub(crate) fn keep_run(run: Run, kept: &mut Kept)
     } = task;
     keep(
         loaded.image,
+        loaded.target,
         loaded.translation,
         taken,
         limits,

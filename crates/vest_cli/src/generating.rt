@@ -1,6 +1,7 @@
 // The command `generate`.
 ghost use Rattle.std.specs.Prelude.{◌≡◌, ◌≤◌, IfOk, IfErr, []};
 ghost use Rattle.report_text.specs.Generated.{generated_image};
+ghost use Rattle.image_meaning.specs.declared.target.Target.TheVariants.{Original};
 ghost use Rattle.translate.specs.Translated.{IsTranslated};
 ghost use Rattle.vest_cli.specs.Generate.{Generates};
 ghost use Rattle.vest_cli.specs.Waiting.{HaltsGenerate, IsGenerated, WaitsReady};
@@ -20,13 +21,13 @@ use vax_form::WantOfMemory;
 use vest_files::Loaded;
 use vest_runs::Kept;
 use vest_stops::Done;
-use vt_outside::Sink;
+use vt_outside::{Desk, Sink};
 
 // The translation of the number's image, whose flow is never refused.
 fn translated(alloc: Global, number: u32, image: &Image) -> Result<Translation, WantOfMemory>
     requires few { number ≤ MOST_GROUPS }
     requires image { image.now ≡ generated_image number }
-    ensures { IfOk result (IsTranslated image.now []) }
+    ensures { IfOk result (IsTranslated Original image.now []) }
 {
     reaches_few();
     match translate(alloc, image, &[], Target::Original) {
@@ -44,7 +45,11 @@ fn task_of(alloc: Global, number: u32) -> Result<Task, WantOfMemory>
     let image = generated(alloc, number)?;
     let translation = translated(alloc, number, &image)?;
     Ok(Task {
-        loaded: Loaded { image, translation },
+        loaded: Loaded {
+            image,
+            target: Target::Original,
+            translation,
+        },
         taken: Vec::new(alloc),
         limits: DEFAULT_LIMITS,
         ranges: Vec::new(alloc),
@@ -53,10 +58,11 @@ fn task_of(alloc: Global, number: u32) -> Result<Task, WantOfMemory>
 
 /// Runs the image that is generated for a number, at most 32,000, without input, within the default limits; lines on the image
 /// and on what the run left go out in the place of its output. An image of several threads waits for them. It stops only for want of
-/// memory: then the sinks are as they were, and nothing is kept. From the first step on it takes no memory.
-pub(crate) fn generate<K: Sink, E: Sink>(
+/// memory: then the sinks are as they were, and nothing is kept. From the first step on it takes no memory. The desk is never touched.
+pub(crate) fn generate<D: Desk, K: Sink, E: Sink>(
     alloc: Global,
     number: u32,
+    desk: &mut D,
     out: &mut K,
     report: &mut E,
     kept: &mut Kept,
@@ -68,12 +74,14 @@ pub(crate) fn generate<K: Sink, E: Sink>(
     ensures ready { IfErr result WaitsReady }
     ensures unsent { IfErr result (λ _. K.meaning out.new ≡ K.meaning out.old) }
     ensures unsaid { IfErr result (λ _. E.meaning report.new ≡ E.meaning report.old) }
+    ensures desk { D.meaning desk.new ≡ D.meaning desk.old }
     ensures unkept { IfErr result (λ _. kept.new ≡ nothing_kept) }
 {
     let task = task_of(alloc, number)?;
     let waiting = Waiting {
         task,
         puts: Puts::Lines(number),
+        order: None,
     };
-    run_or_wait(alloc, waiting, out, report, kept)
+    run_or_wait(alloc, waiting, desk, out, report, kept)
 }

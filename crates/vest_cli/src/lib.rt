@@ -5,8 +5,9 @@
 //! run something, and `vest_files` those that run nothing.
 //!
 //! Those that run something take all that they need first (`tasks`, `execute`): the image with its translation, the input, the
-//! memory, the code made ready. Then the image's threads run at once over one memory (`threads`), each in Alpha code where that is
-//! mapped and interpreted where not; output and report go out, and the run is kept. `specs/Vest.antt` has the whole meaning,
+//! memory, the code made ready. Then the image's threads run at once over one memory (`run_threads`), each in Alpha code where that is
+//! mapped and interpreted where not; output and report go out, then the order into the file that the words name (`storing`), and the
+//! run is kept. `specs/Vest.antt` has the whole meaning,
 //! `specs/Run.antt` and `specs/Generate.antt` that of the two commands.
 #![tactic(auto)]
 
@@ -18,14 +19,13 @@ mod generating;
 mod halt;
 mod programs;
 mod running;
+mod storing;
 mod tasks;
-mod threads;
 mod top;
 mod waiting;
 
-pub use conclude::refuse;
 pub use programs::{answer, program, words_of};
 pub use top::{begin, vest};
 pub use vest_runs::Kept;
-pub use vest_stops::{Status, Stop};
+pub use vest_stops::Status;
 pub use waiting::Waiting;

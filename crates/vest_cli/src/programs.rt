@@ -1,15 +1,15 @@
 // The program: what `main` does with the objects that it makes.
 ghost use Rattle.vest_cli.specs.Lent.{lent};
-ghost use Rattle.vest_cli.specs.Program.{Answers, AnswersSomehow, IsCalled, no_files, spelled_in, untaken, unread};
+ghost use Rattle.vest_cli.specs.Program.{Answers, AnswersSomehow, AreBehindName, IsCalled, no_files, spelled_in, untaken, unread};
 
 use crate::conclude::refuse;
 use crate::top::vest;
 use exact_lists::list_of;
 use std::alloc::Global;
-use std::env;
+use std::env::Args;
 use std::io::{self, ErrorKind, Read, Write};
 use std::process::ExitCode;
-use std::rt::{Env, Files};
+use std::rt::Files;
 use std::sync::Wait;
 use std::thread::Threads;
 use vest_runs::Kept;
@@ -64,10 +64,12 @@ pub fn answer<R: Threads + Wait + Sync, D: Desk, I: Source, K: Sink, E: Sink, G:
     ExitCode::from(status.number())
 }
 
-/// The words after the program's name.
-pub fn words_of<R: Env + AllocGlobal>(rt: &R) -> io::Result<Vec<String>> {
-    let words = env::args(rt)?;
-    Ok(list_of(rt.alloc(), words.len(), words.skip(1))?)
+/// The words behind the program's name, of the arguments that the system gave. An error is that of reading them, or want of memory.
+pub fn words_of(alloc: Global, arguments: io::Result<Args>) -> io::Result<Vec<String>>
+    ensures { AreBehindName arguments result }
+{
+    let arguments = arguments?;
+    Ok(list_of(alloc, arguments.len(), arguments.skip(1))?)
 }
 
 /// Calls `vest` with the words that were read, with the files of the system and with these streams: the whole program.

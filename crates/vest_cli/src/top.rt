@@ -14,6 +14,7 @@ use crate::conclude::{conclude, refuse_words};
 use crate::generating::generate;
 use crate::halt::{Halt, or_halt};
 use crate::running::run;
+use crate::tasks::target_of;
 use crate::waiting::Waiting;
 use command_words::{Command, read_words};
 use std::alloc::Global;
@@ -93,7 +94,7 @@ pub fn vest<R: Threads + Wait + Sync, D: Desk, I: Source, K: Sink, E: Sink, G: G
 {
     match begin(alloc, words, desk, input, out, report, kept) {
         Ok(status) => status,
-        Err(waiting) => waiting.run(rt, alloc, out, report, gate, kept),
+        Err(waiting) => waiting.run(rt, alloc, desk, out, report, gate, kept),
     }
 }
 
@@ -124,13 +125,15 @@ fn obey<D: Desk, I: Source, K: Sink, E: Sink>(
         → IsHaltDecided result decision }
 {
     match command {
-        Command::Run {
-            name,
-            limits,
-            ranges,
-        } => run(alloc, name, limits, &ranges, desk, input, out, report, kept),
-        Command::Translate { image, out: to } => or_halt(translate_file(alloc, image, to, desk)),
+        Command::Run { name, options } => {
+            run(alloc, name, &options, desk, input, out, report, kept)
+        }
+        Command::Translate {
+            image,
+            out: to,
+            target,
+        } => or_halt(translate_file(alloc, image, to, target_of(target), desk)),
         Command::List { name } => or_halt(list_file(alloc, name, desk, out)),
-        Command::Generate { number } => generate(alloc, number, out, report, kept),
+        Command::Generate { number } => generate(alloc, number, desk, out, report, kept),
     }
 }

@@ -136,11 +136,22 @@ impl Bench {
         Ok(agrees)
     }
 
-    // NAME PIECES: whether the name has these bytes.
+    // NAME PIECES: whether the name has these bytes, or one of those that have " or " between.
     fn has(&self, alloc: Global, rest: &str) -> Result<bool> {
-        let (name, pieces) = first_word(rest);
-        let wanted = spelled(alloc, &self.files, pieces)?;
-        Ok(self.files.get(name)? == wanted.as_slice())
+        let (name, all) = first_word(rest);
+        for pieces in all.split(" or ") {
+            let wanted = spelled(alloc, &self.files, pieces)?;
+            if self.files.get(name)? == wanted.as_slice() {
+                return Ok(true);
+            }
+        }
+        Ok(false)
+    }
+
+    // NAME COUNT: whether the name has so many bytes.
+    fn has_size(&self, rest: &str) -> Result<bool> {
+        let (name, count) = first_word(rest);
+        Ok(self.files.get(name)?.len() == place_of(count)?)
     }
 
     fn left(&self) -> Result<&Left> {
@@ -164,6 +175,7 @@ impl Bench {
     fn stands<R: Print>(&self, rt: &R, alloc: Global, verb: &str, rest: &str) -> Result<bool> {
         match verb {
             "has" => self.has(alloc, rest),
+            "size" => self.has_size(rest),
             "absent" => Ok(self.files.find(rest).is_none()),
             "left" => self.left()?.agrees(rt, alloc, rest),
             "history" => self.left()?.has_history(alloc, rest),

@@ -30,17 +30,18 @@ fn first(bytes: &[u8], count: u64) -> &[u8] {
 }
 
 /// What a failing call of an object leaves of a call that left `whole`, where sinks take one byte a call: what `out` took
-/// before, and then nothing of the report; or all of it, and what the report took before; or nothing, and why.
+/// before, and then nothing of the report; or all of it, and what the report took before; or all of both, where the write of a file
+/// failed behind them; or nothing, and why.
 fn is_cut(object: Object, number: u64, whole: &Left, left: &Left) -> bool {
     match object {
         Object::Out => left.has(WRITE_FAULT, first(&whole.out, number), &[]),
         Object::Report => left.has(WRITE_FAULT, &whole.out, first(&whole.report, number)),
-        Object::Desk if number > 0 => left.has(WRITE_FAULT, &[], &[]),
+        Object::Desk if number > 0 => left.has(WRITE_FAULT, &whole.out, &whole.report),
         Object::Desk | Object::Input => left.has(READ_FAULT, &[], b"read fault\n"),
     }
 }
 
-/// Whether a run is kept of it where that is due: a run that was made, and whose output or report failed.
+/// Whether a run is kept of it where that is due: a run that was made, and of which a write failed.
 fn is_kept(whole: &Left, left: &Left) -> bool {
     left.run.is_kept() == (whole.run.is_kept() && left.run.status == WRITE_FAULT)
 }

@@ -1,5 +1,7 @@
 mod Delivering
+mod Ordering
 pub mod Outputs
 mod Progress
 pub mod Spent
+pub mod Stored
 mod Summing

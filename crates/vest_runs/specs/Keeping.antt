@@ -5,7 +5,7 @@ use Rattle.image_file.specs.Values.{ImageValue}
 use Rattle.memory_core.specs.declared.entry.SetUp.{SetUp}
 use Rattle.block_law.specs.Translations.{Code}
 use Rattle.image_meaning.specs.Permits.{permit_of}
-use Rattle.image_meaning.specs.declared.target.Target.TheVariants.{Original}
+use Rattle.image_meaning.specs.declared.target.Target.{Target}
 use Rattle.system_model.specs.Processors.{Processor}
 use Rattle.system_model.specs.Settings.{Setting}
 use Rattle.system_model.specs.declared.translation.Range.{Range}
@@ -26,8 +26,8 @@ processors_of kept = map processor_of kept.processors
 abbrev pub setting_of : ImageValue → Code → KeptValue → Setting
 setting_of image code kept = image_setting image.pages code kept.ranges
 
--- a run of the image on that input, by these limits, over that code, in which a thread interprets these addresses too
-pub record HasKept (image : ImageValue) (code : Code) (taken : List ℕ) (limits : Limits) (interpreted : List Range) (kept : KeptValue) : Type 0 where
+-- a run of the image on that input, by these limits, over that code for a target, in which a thread interprets these addresses too
+pub record HasKept (image : ImageValue) (target : Target) (code : Code) (taken : List ℕ) (limits : Limits) (interpreted : List Range) (kept : KeptValue) : Type 0 where
   pub kept_image : kept.image ≡ Some image
   pub kept_code : kept.translation ≡ Some code
   pub ranges : kept.ranges ≡ interpreted
@@ -36,5 +36,5 @@ pub record HasKept (image : ImageValue) (code : Code) (taken : List ℕ) (limits
   pub limit : kept.limit ≡ limits.events
   pub miss : kept.miss ≡ limits.miss
   -- the history and the processors are a legal run, in which all threads have ended, and so what the VAX threads do, by
-  -- the accesses of the first Alpha processors
-  pub has_run : HasRun (setting_of image code kept) (permit_of Original image.pages) (set_up_of image kept) kept.budget kept.history (processors_of kept)
+  -- accesses that code for the target may make
+  pub has_run : HasRun (setting_of image code kept) (permit_of target image.pages) (set_up_of image kept) kept.budget kept.history (processors_of kept)

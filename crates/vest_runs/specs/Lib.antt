@@ -5,4 +5,6 @@ pub mod Input
 pub mod Report
 pub mod Delivery
 pub mod Keeping
+pub mod Stored
 pub mod Generate
+pub mod Order

@@ -81,7 +81,7 @@ fn has_raised(processor: &Processor) -> bool
     matches!(processor.end(), Some(End::Raised(_)))
 }
 
-fn is_spent(processor: &Processor) -> bool
+pub(crate) fn is_spent(processor: &Processor) -> bool
     ensures { result ≡ is_spent (processor_of processor.now).mode }
 {
     matches!(processor.end(), Some(End::Spent))

@@ -1,14 +1,13 @@
 -- The history and the processor are a legal run, and so what the thread did.
 use Rattle.std.proofs.Common.{map}
 use Rattle.image_meaning.specs.Meant.{image_meaning}
-use Rattle.image_meaning.specs.declared.target.Target.TheVariants.{Original}
 use Rattle.tie_switch.specs.Processors.{processor_of}
 use Rattle.vest_cli.proofs.alone.run_alone.Goals as goal
 
 pub run_alone-requires-clause-meets : goal.run_alone-requires-clause-meets
 run_alone-requires-clause-meets c =
     let pages = c.args.image.now.pages in
-    c.permits.ensures.meets (image_meaning pages) Original pages c.args.translation.now c.requires.meets
+    c.permits.ensures.meets (image_meaning pages) c.args._target pages c.args.translation.now c.requires.meets
 
 pub returns-clause-ran : goal.returns-clause-ran
 returns-clause-ran c =

@@ -5,7 +5,6 @@ use Rattle.vax_form.specs.GrammarLaws.{AreBytes}
 use Rattle.block_law.specs.Sound.{IsSound}
 use Rattle.image_meaning.specs.Meant.{codes_written, image_meaning}
 use Rattle.image_meaning.specs.Permits.{permit_of}
-use Rattle.image_meaning.specs.declared.target.Target.TheVariants.{Original}
 use Rattle.tie_switch.specs.Settings.{image_setting}
 use Rattle.vest_runs.proofs.Outputs.{put_out}
 use Rattle.vest_runs.proofs.Spent.{all_have_cause}
@@ -17,8 +16,8 @@ returns c = λ of budget history processors same_image same_input legal ended.
     let setting = image_setting image.pages c.args.translation.now c.args.ranges.now in
     let bytes = subst (λ (i : ImageValue). AreBytes i.pages.code) c.image.view_is c.page_table_has_bytes.ensures in
     let sound : IsSound (image_meaning image.pages) = c.vax_meaning_is_sound.ensures image.pages (codes_written image.pages) bytes in
-    let permit = permit_of Original image.pages in
-    let headline = c.legal_has_headline.ensures setting permit of budget (reverse history) processors sound (c.permits.ensures.few Original image.pages) c.requires.meets
+    let permit = permit_of c.args._target image.pages in
+    let headline = c.legal_has_headline.ensures setting permit of budget (reverse history) processors sound (c.permits.ensures.few c.args._target image.pages) c.requires.meets
     (c.images_are_runs.ensures of same_image same_input) legal in
     record {
       legal = legal;

@@ -1,53 +1,55 @@
 -- The command is the one that was read.
-use Rattle.std.proofs.Common.{IfErr, IfOk, List, ap, subst}
-use Rattle.command_words.specs.Answers.{command_value}
+use Rattle.std.proofs.Common.{IfOk, ap, subst}
+use Rattle.command_words.specs.Answers.{command_value, options_value}
 use Rattle.command_words.specs.Commands.{generate, list, run, translate}
-use Rattle.command_words.specs.declared.numbers.Range.{Range}
+use Rattle.image_meaning.specs.declared.target.Target.{Target}
 use Rattle.vest_files.specs.Loading.{StopsAtLoad}
-use Rattle.vest_files.specs.Translate.{StopsTranslate}
+use Rattle.vest_files.specs.Translate.{StopsTranslate, Translates}
 use Rattle.vest_cli.specs.Leaving.{LeavesAll}
 use Rattle.vest_cli.specs.Lent.{lent}
-use Rattle.vest_cli.specs.Run.{Runs}
+use Rattle.vest_cli.specs.Run.{target_of}
 use Rattle.vest_cli.specs.Vest.{Does}
-use Rattle.vest_cli.specs.Waiting.{HaltsRun}
+use Rattle.vest_cli.specs.Words.{CanBeObeyed}
 use Rattle.vest_cli.proofs.Obeying.{decided_as, decided_so, does_as, err_so, generate_leaves, generate_why, halts_as, input_stays, list_leaves, ok_so, only_generates, only_lists, only_translates, ready_so, run_why, translate_leaves, why_so}
 use Rattle.vest_cli.proofs.Halting.{generate_decided}
 use Rattle.vest_cli.proofs.top.obey.Goals as goal
 
+pub run-requires-clause-few : goal.run-requires-clause-few
+run-requires-clause-few g c = subst CanBeObeyed (ap command_value c.in-Run.is) c.requires.few
+
 pub returns-in-Run-clause-does : goal.returns-in-Run-clause-does
 returns-in-Run-clause-does g c =
-    does_as c.run.result (command_value c.args.command) (run c.in-Run.name.now c.in-Run.limits c.in-Run.ranges.items)
+    does_as c.run.result (command_value c.args.command) (run c.in-Run.name.now (options_value c.in-Run.options))
     (lent (g.D.Desk.meaning c.args.desk.now) (g.I.Source.meaning c.args.input.now) (g.K.Sink.meaning c.args.out.now) (g.E.Sink.meaning c.args.report.now))
     (lent (g.D.Desk.meaning c.run.new.desk) (g.I.Source.meaning c.run.new.input) (g.K.Sink.meaning c.run.new.out) (g.E.Sink.meaning c.run.new.report))
-    c.run.new.kept (ap command_value c.in-Run.is)
-    (subst (λ (ranges : List Range). IfOk c.run.result (λ end. Runs end c.in-Run.name.now c.in-Run.limits ranges (lent (g.D.Desk.meaning c.args.desk.now) (g.I.Source.meaning c.args.input.now) (g.K.Sink.meaning c.args.out.now) (g.E.Sink.meaning c.args.report.now)) (lent (g.D.Desk.meaning c.run.new.desk) (g.I.Source.meaning c.run.new.input) (g.K.Sink.meaning c.run.new.out) (g.E.Sink.meaning c.run.new.report)) c.run.new.kept)) c.deref.ensures.value c.run.ensures.runs)
+    c.run.new.kept (ap command_value c.in-Run.is) c.run.ensures.runs
 
 pub returns-in-Run-clause-why : goal.returns-in-Run-clause-why
 returns-in-Run-clause-why g c =
-    halts_as c.run.result (command_value c.args.command) (run c.in-Run.name.now c.in-Run.limits c.in-Run.ranges.items)
+    halts_as c.run.result (command_value c.args.command) (run c.in-Run.name.now (options_value c.in-Run.options))
     (g.D.Desk.meaning c.args.desk.now) (g.D.Desk.meaning c.run.new.desk) (g.I.Source.meaning c.args.input.now) (g.I.Source.meaning c.run.new.input) (ap command_value c.in-Run.is)
-    (run_why c.run.result c.in-Run.name.now c.in-Run.limits c.in-Run.ranges.items (g.D.Desk.meaning c.args.desk.now) (g.D.Desk.meaning c.run.new.desk) (g.I.Source.meaning c.args.input.now) (g.I.Source.meaning c.run.new.input)
-    (subst (λ (ranges : List Range). IfErr c.run.result (λ halt. HaltsRun halt c.in-Run.name.now c.in-Run.limits ranges (g.D.Desk.meaning c.args.desk.now) (g.D.Desk.meaning c.run.new.desk) (g.I.Source.meaning c.args.input.now) (g.I.Source.meaning c.run.new.input))) c.deref.ensures.value c.run.ensures.why))
+    (run_why c.run.result c.in-Run.name.now (options_value c.in-Run.options) (g.D.Desk.meaning c.args.desk.now) (g.D.Desk.meaning c.run.new.desk) (g.I.Source.meaning c.args.input.now) (g.I.Source.meaning c.run.new.input)
+    c.run.ensures.why)
 
 pub returns-in-Run-clause-decided : goal.returns-in-Run-clause-decided
 returns-in-Run-clause-decided g c =
-    decided_as c.run.result (command_value c.args.command) (run c.in-Run.name.now c.in-Run.limits c.in-Run.ranges.items)
+    decided_as c.run.result (command_value c.args.command) (run c.in-Run.name.now (options_value c.in-Run.options))
     (g.D.Desk.meaning c.args.desk.now).files (g.I.Source.meaning c.args.input.now).left (ap command_value c.in-Run.is) c.run.ensures.decided
 
 pub returns-in-Translate-clause-does : goal.returns-in-Translate-clause-does
 returns-in-Translate-clause-does g c =
-    does_as c.or_halt.result (command_value c.args.command) (translate c.in-Translate.image.now c.in-Translate.to.now)
+    does_as c.or_halt.result (command_value c.args.command) (translate c.in-Translate.image.now c.in-Translate.to.now c.in-Translate.target)
     (lent (g.D.Desk.meaning c.args.desk.now) (g.I.Source.meaning c.args.input.now) (g.K.Sink.meaning c.args.out.now) (g.E.Sink.meaning c.args.report.now))
     (lent (g.D.Desk.meaning c.translate_file.new.desk) (g.I.Source.meaning c.args.input.now) (g.K.Sink.meaning c.args.out.now) (g.E.Sink.meaning c.args.report.now))
     c.args.kept.now (ap command_value c.in-Translate.is)
-    (ok_so c.translate_file.result c.or_halt.result c.or_halt.ensures (λ end. Does (translate c.in-Translate.image.now c.in-Translate.to.now) end (lent (g.D.Desk.meaning c.args.desk.now) (g.I.Source.meaning c.args.input.now) (g.K.Sink.meaning c.args.out.now) (g.E.Sink.meaning c.args.report.now)) (lent (g.D.Desk.meaning c.translate_file.new.desk) (g.I.Source.meaning c.args.input.now) (g.K.Sink.meaning c.args.out.now) (g.E.Sink.meaning c.args.report.now)) c.args.kept.now)
-    (only_translates c.translate_file.result (g.I.Source.meaning c.args.input.now) (g.E.Sink.meaning c.args.report.now) c.args.kept.now c.requires.nothing c.in-Translate.image.now c.in-Translate.to.now (g.D.Desk.meaning c.args.desk.now) (g.D.Desk.meaning c.translate_file.new.desk) (g.K.Sink.meaning c.args.out.now) c.translate_file.ensures.does))
+    (ok_so c.translate_file.result c.or_halt.result c.or_halt.ensures (λ end. Does (translate c.in-Translate.image.now c.in-Translate.to.now c.in-Translate.target) end (lent (g.D.Desk.meaning c.args.desk.now) (g.I.Source.meaning c.args.input.now) (g.K.Sink.meaning c.args.out.now) (g.E.Sink.meaning c.args.report.now)) (lent (g.D.Desk.meaning c.translate_file.new.desk) (g.I.Source.meaning c.args.input.now) (g.K.Sink.meaning c.args.out.now) (g.E.Sink.meaning c.args.report.now)) c.args.kept.now)
+    (only_translates c.translate_file.result (g.I.Source.meaning c.args.input.now) (g.E.Sink.meaning c.args.report.now) c.args.kept.now c.requires.nothing (target_of c.in-Translate.target) c.in-Translate.image.now c.in-Translate.to.now (g.D.Desk.meaning c.args.desk.now) (g.D.Desk.meaning c.translate_file.new.desk) (g.K.Sink.meaning c.args.out.now) (subst (λ (t : Target). IfOk c.translate_file.result (λ end. Translates t end c.in-Translate.image.now c.in-Translate.to.now (g.D.Desk.meaning c.args.desk.now) (g.D.Desk.meaning c.translate_file.new.desk))) c.target_of.ensures c.translate_file.ensures.does)))
 
 pub returns-in-Translate-clause-why : goal.returns-in-Translate-clause-why
 returns-in-Translate-clause-why g c =
-    halts_as c.or_halt.result (command_value c.args.command) (translate c.in-Translate.image.now c.in-Translate.to.now)
+    halts_as c.or_halt.result (command_value c.args.command) (translate c.in-Translate.image.now c.in-Translate.to.now c.in-Translate.target)
     (g.D.Desk.meaning c.args.desk.now) (g.D.Desk.meaning c.translate_file.new.desk) (g.I.Source.meaning c.args.input.now) (g.I.Source.meaning c.args.input.now) (ap command_value c.in-Translate.is)
-    (why_so c.translate_file.result c.or_halt.result c.or_halt.ensures (translate c.in-Translate.image.now c.in-Translate.to.now)
+    (why_so c.translate_file.result c.or_halt.result c.or_halt.ensures (translate c.in-Translate.image.now c.in-Translate.to.now c.in-Translate.target)
     (g.D.Desk.meaning c.args.desk.now) (g.D.Desk.meaning c.translate_file.new.desk) (g.I.Source.meaning c.args.input.now) (g.I.Source.meaning c.args.input.now)
     (input_stays c.translate_file.result (λ stop. StopsTranslate stop c.in-Translate.image.now (g.D.Desk.meaning c.args.desk.now) (g.D.Desk.meaning c.translate_file.new.desk)) (g.I.Source.meaning c.args.input.now) c.translate_file.ensures.why))
 
@@ -56,7 +58,7 @@ returns-in-Translate-clause-ready g c = ready_so c.translate_file.result c.or_ha
 
 pub returns-in-Translate-clause-decided : goal.returns-in-Translate-clause-decided
 returns-in-Translate-clause-decided g c =
-    decided_as c.or_halt.result (command_value c.args.command) (translate c.in-Translate.image.now c.in-Translate.to.now)
+    decided_as c.or_halt.result (command_value c.args.command) (translate c.in-Translate.image.now c.in-Translate.to.now c.in-Translate.target)
     (g.D.Desk.meaning c.args.desk.now).files (g.I.Source.meaning c.args.input.now).left (ap command_value c.in-Translate.is) (λ d on. decided_so c.translate_file.result c.or_halt.result c.or_halt.ensures d (c.translate_file.ensures.decided d on))
 
 pub returns-in-Translate-clause-leaves : goal.returns-in-Translate-clause-leaves
@@ -100,15 +102,15 @@ pub returns-in-Generate-clause-does : goal.returns-in-Generate-clause-does
 returns-in-Generate-clause-does g c =
     does_as c.generate.result (command_value c.args.command) (generate c.in-Generate.number)
     (lent (g.D.Desk.meaning c.args.desk.now) (g.I.Source.meaning c.args.input.now) (g.K.Sink.meaning c.args.out.now) (g.E.Sink.meaning c.args.report.now))
-    (lent (g.D.Desk.meaning c.args.desk.now) (g.I.Source.meaning c.args.input.now) (g.K.Sink.meaning c.generate.new.out) (g.E.Sink.meaning c.generate.new.report))
+    (lent (g.D.Desk.meaning c.generate.new.desk) (g.I.Source.meaning c.args.input.now) (g.K.Sink.meaning c.generate.new.out) (g.E.Sink.meaning c.generate.new.report))
     c.generate.new.kept (ap command_value c.in-Generate.is)
-    (only_generates c.generate.result c.in-Generate.number (g.D.Desk.meaning c.args.desk.now) (g.I.Source.meaning c.args.input.now) (g.K.Sink.meaning c.args.out.now) (g.K.Sink.meaning c.generate.new.out) (g.E.Sink.meaning c.args.report.now) (g.E.Sink.meaning c.generate.new.report) c.generate.new.kept c.generate.ensures.does)
+    (only_generates c.generate.result c.in-Generate.number (g.D.Desk.meaning c.args.desk.now) (g.D.Desk.meaning c.generate.new.desk) (g.I.Source.meaning c.args.input.now) (g.K.Sink.meaning c.args.out.now) (g.K.Sink.meaning c.generate.new.out) (g.E.Sink.meaning c.args.report.now) (g.E.Sink.meaning c.generate.new.report) c.generate.new.kept c.generate.ensures.desk c.generate.ensures.does)
 
 pub returns-in-Generate-clause-why : goal.returns-in-Generate-clause-why
 returns-in-Generate-clause-why g c =
     halts_as c.generate.result (command_value c.args.command) (generate c.in-Generate.number)
-    (g.D.Desk.meaning c.args.desk.now) (g.D.Desk.meaning c.args.desk.now) (g.I.Source.meaning c.args.input.now) (g.I.Source.meaning c.args.input.now) (ap command_value c.in-Generate.is)
-    (generate_why c.generate.result c.in-Generate.number (g.D.Desk.meaning c.args.desk.now) (g.I.Source.meaning c.args.input.now) c.generate.ensures.why)
+    (g.D.Desk.meaning c.args.desk.now) (g.D.Desk.meaning c.generate.new.desk) (g.I.Source.meaning c.args.input.now) (g.I.Source.meaning c.args.input.now) (ap command_value c.in-Generate.is)
+    (generate_why c.generate.result c.in-Generate.number (g.D.Desk.meaning c.args.desk.now) (g.D.Desk.meaning c.generate.new.desk) (g.I.Source.meaning c.args.input.now) c.generate.ensures.desk c.generate.ensures.why)
 
 pub returns-in-Generate-clause-decided : goal.returns-in-Generate-clause-decided
 returns-in-Generate-clause-decided g c =
@@ -117,5 +119,5 @@ returns-in-Generate-clause-decided g c =
 
 pub returns-in-Generate-clause-leaves : goal.returns-in-Generate-clause-leaves
 returns-in-Generate-clause-leaves g c =
-    generate_leaves c.generate.result (g.D.Desk.meaning c.args.desk.now) (g.I.Source.meaning c.args.input.now) (g.K.Sink.meaning c.args.out.now) (g.K.Sink.meaning c.generate.new.out) (g.E.Sink.meaning c.args.report.now) (g.E.Sink.meaning c.generate.new.report) c.generate.new.kept
-    c.generate.ensures.unsent c.generate.ensures.unsaid c.generate.ensures.unkept
+    generate_leaves c.generate.result (g.D.Desk.meaning c.args.desk.now) (g.D.Desk.meaning c.generate.new.desk) (g.I.Source.meaning c.args.input.now) (g.K.Sink.meaning c.args.out.now) (g.K.Sink.meaning c.generate.new.out) (g.E.Sink.meaning c.args.report.now) (g.E.Sink.meaning c.generate.new.report) c.generate.new.kept
+    c.generate.ensures.desk c.generate.ensures.unsent c.generate.ensures.unsaid c.generate.ensures.unkept
