@@ -9,6 +9,7 @@ use vt_words::{
 };
 
 /// A shift to the right that copies the sign.
+#[inline(always)]
 fn shift_right_arithmetic(a: u64, count: u64) -> u64
     requires { count < 64 }
     ensures { result ≡ arithmetic_right a count }
@@ -21,6 +22,7 @@ fn shift_right_arithmetic(a: u64, count: u64) -> u64
 }
 
 /// What an operate instruction gives to Rc, for the values of Ra, of Rb or the literal, and of Rc before.
+#[inline(always)]
 pub fn result(op: OperateOp, a: u64, b: u64, held: u64) -> u64
     ensures { result ≡ result_of op a b held }
 {

@@ -1,4 +1,4 @@
--- Bytes replaced one after the other.
+-- Bytes copied one after the other.
 use Rattle.std.proofs.Common.{◌≡◌, ◌≢◌, ℕ, ◌<◌, ◌≤◌, ◌+◌, ◌==◌, List, length, if◌then◌else◌, slice_index, slice_set, ◌∙◌, arith}
 use Rattle.std.proofs.lemmas.Bool.Decides.{nat_tests}
 use Rattle.std.proofs.lemmas.Grind.{elements}
@@ -6,41 +6,8 @@ use Rattle.std.proofs.lemmas.List.{length-set}
 use Rattle.std.specs.Int.{bit_at}
 use Rattle.memory_core.specs.Bytes.{quad_of}
 
-abbrev pub choice : (mask : ℕ) (new old : List ℕ) → ℕ → ℕ
-choice mask new old k = if bit_at mask k == 1 then slice_index new k else slice_index old k
-
--- those below `at` are chosen by the mask, the others are the old ones
-pub record Filled (mask : ℕ) (new old bytes : List ℕ) (at : ℕ) : Type 0 where
-  pub long : length bytes ≡ 8
-  pub done : (k : ℕ) → k < at → slice_index bytes k ≡ choice mask new old k
-  pub rest : (k : ℕ) → at ≤ k → slice_index bytes k ≡ slice_index old k
-
 set_at : (bytes : List ℕ) (at k v : ℕ) → at < length bytes → slice_index (slice_set bytes at v) k ≡ (if k == at then v else slice_index bytes k)
 set_at bytes at k v h = grind (arith, elements, nat_tests)
-
-chosen : (mask : ℕ) (new old : List ℕ) (k : ℕ) → bit_at mask k ≡ 1 → choice mask new old k ≡ slice_index new k
-chosen mask new old k h = grind (arith, nat_tests)
-
-unchosen : (mask : ℕ) (new old : List ℕ) (k : ℕ) → bit_at mask k ≢ 1 → choice mask new old k ≡ slice_index old k
-unchosen mask new old k h = grind (arith, nat_tests)
-
-module _ (mask : ℕ) (new old bytes : List ℕ) (at : ℕ) (f : Filled mask new old bytes at) where
-  done_set : bit_at mask at ≡ 1 → at < length bytes → (k : ℕ) → k < at + 1 → slice_index (slice_set bytes at (slice_index new at)) k ≡ choice mask new old k
-  done_set b h k l = grind (arith, nat_tests, set_at bytes at k (slice_index new at) h, f.done k, chosen mask new old at b)
-
-  rest_set : at < length bytes → (k : ℕ) → at + 1 ≤ k → slice_index (slice_set bytes at (slice_index new at)) k ≡ slice_index old k
-  rest_set h k l = grind (arith, nat_tests, set_at bytes at k (slice_index new at) h, f.rest k)
-
-  pub filled_set : bit_at mask at ≡ 1 → at < 8 → Filled mask new old (slice_set bytes at (slice_index new at)) (at + 1)
-  filled_set b h =
-      let within : at < length bytes = omega (arith, f.long) in
-      record { long = length-set bytes at (slice_index new at) ∙ f.long; done = done_set b within; rest = rest_set within }
-
-  done_same : bit_at mask at ≢ 1 → (k : ℕ) → k < at + 1 → slice_index bytes k ≡ choice mask new old k
-  done_same b k l = grind (arith, nat_tests, f.done k, f.rest at, unchosen mask new old at b)
-
-  pub filled_same : bit_at mask at ≢ 1 → Filled mask new old bytes (at + 1)
-  filled_same b = record { long = f.long; done = done_same b; rest = λ k l. f.rest k (omega arith) }
 
 pub same_quad : (f g : ℕ → ℕ) → ((k : ℕ) → k < 8 → f k ≡ g k) → quad_of f ≡ quad_of g
 same_quad f g h =
@@ -53,9 +20,6 @@ same_quad f g h =
     let a6 : f 6 ≡ g 6 = h 6 (omega arith) in
     let a7 : f 7 ≡ g 7 = h 7 (omega arith) in
     cc
-
-pub filled_all : (mask : ℕ) (new old bytes : List ℕ) → Filled mask new old bytes 8 → quad_of (λ k. slice_index bytes k) ≡ quad_of (choice mask new old)
-filled_all mask new old bytes f = same_quad (λ k. slice_index bytes k) (choice mask new old) f.done
 
 -- the bytes below `at` are those of the list from `offset` on
 pub record Copied (list : List ℕ) (offset : ℕ) (bytes : List ℕ) (at : ℕ) : Type 0 where

@@ -9,3 +9,4 @@ pub mod Sections
 pub mod Making
 pub mod LookingBack
 pub mod Neighbours
+pub mod Masked

@@ -4,18 +4,12 @@ ghost use Rattle.memory_core.specs.Bytes.{with_bytes};
 ghost use Rattle.memory_core.specs.Changes.{changed, leaves, IsInRange};
 
 use crate::entry::{Change, Kind};
+use vt_words::{cleared, kept};
 
 fn with_bytes(mask: u8, value: u64, before: u64) -> u64
     ensures { result ≡ with_bytes mask value before }
 {
-    let new = value.to_le_bytes();
-    let mut bytes = before.to_le_bytes();
-    for at in 0..8 {
-        if (mask >> at) % 2 == 1 {
-            bytes[at] = new[at];
-        }
-    }
-    u64::from_le_bytes(bytes)
+    kept(mask, value) | cleared(mask, before)
 }
 
 fn with_word_added(at: u8, value: u16, before: u64) -> u64

@@ -55,6 +55,11 @@ reads temp (Codes n z v c) = (n == temp) || (z == temp) || (v == temp) || is_cod
 reads temp (SetPsw from) = from == temp
 reads temp (Leave exit) = leaves_through temp exit
 
+-- a write, not interlocked, has so many bytes
+abbrev pub has_bytes : (count : ℕ) → Micro → Bool
+has_bytes count (Write place bytes from) = bytes == count
+has_bytes count operation = true
+
 abbrev pub writes : (temp : ℕ) → Micro → Bool
 writes temp (Compute to op size a b) = to == temp
 writes temp (Read to place count) = to == temp

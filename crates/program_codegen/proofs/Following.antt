@@ -35,7 +35,7 @@ use Rattle.micro_ops.specs.Known.{holds, held, behind_write, behind_access, behi
 use Rattle.micro_ops.specs.LeftOut.{is_left_out, is_low, is_used}
 use Rattle.micro_ops.specs.Leaving.{CodesComeFrom}
 use Rattle.micro_ops.specs.Meaning.{Standing, Left, with_temp, with_value, with_codes, value_of_arg, locked_count, course_of, leaves_by}
-use Rattle.micro_ops.specs.Uses.{leaves_longword, takes, reads_flag, is_flag}
+use Rattle.micro_ops.specs.Uses.{has_bytes, leaves_longword, takes, reads_flag, is_flag}
 use Rattle.micro_ops.specs.Values.{computed}
 use Rattle.micro_ops.proofs.Held.{held_other}
 use Rattle.byte_sequences.specs.Words.{locked_code}
@@ -45,7 +45,7 @@ use Rattle.block_law.proofs.Rules.{Always, roomy}
 use Rattle.program_codegen.specs.declared.lines.Line.{Line}
 use Rattle.program_codegen.specs.declared.points.Site.{Site}
 use Rattle.program_codegen.specs.Words.{plain, marked, holder, copy, probing, raising, leaving, departing, trap_lines, lines_of, program_lines, read_by, write_by}
-use Rattle.program_codegen.specs.Programs.{HasWords, IsExit, ReadsReady, LeavesReady, has_bytes, rule_of}
+use Rattle.program_codegen.specs.Programs.{HasWords, IsExit, ReadsReady, LeavesReady, rule_of}
 use Rattle.program_codegen.proofs.Knowing.{walk_fits, nothing_behind, write_changes}
 use Rattle.program_codegen.proofs.Walk.{Within, next, row_rest, row_length}
 use Rattle.program_codegen.proofs.Holding.{Setting, Holds, HoldsAs, LeavingFollows, ProgramFollows, found, tree}

@@ -21,6 +21,7 @@ use Rattle.micro_ops.specs.declared.program.Micro.{Micro}
 use Rattle.micro_ops.specs.declared.program.Micro.TheVariants.{Leave}
 use Rattle.micro_ops.specs.Course.{Course, AtLeaves, continued}
 use Rattle.micro_ops.specs.Fits.{exit_fits, sources_fit, walk, is_ended}
+use Rattle.micro_ops.specs.Uses.{has_bytes}
 use Rattle.micro_ops.specs.Known.{held, is_committed}
 use Rattle.micro_ops.specs.Leaving.{CodesComeFrom}
 use Rattle.micro_ops.specs.Meaning.{Temps, Found, Standing, Left, departed, flag_of, leaves_by, course_of}
@@ -32,7 +33,7 @@ use Rattle.block_law.proofs.Rules.{Always}
 use Rattle.program_codegen.specs.declared.points.Site.{Site}
 use Rattle.program_codegen.specs.Accesses.{needed}
 use Rattle.program_codegen.specs.Words.{leaving, program_lines}
-use Rattle.program_codegen.specs.Programs.{KeepsTogether, ReadsReady, LeavesReady, AllHaveWords, IsExit, has_bytes, is_narrow}
+use Rattle.program_codegen.specs.Programs.{KeepsTogether, ReadsReady, LeavesReady, AllHaveWords, IsExit, is_narrow}
 use Rattle.program_codegen.proofs.Walk.{Within}
 
 -- ---- the block

@@ -44,12 +44,6 @@ is_narrow (rules.Sub size) = not (is_quad size)
 is_narrow rule = true
 
 -- ---- exits
--- ---- writes
--- a write of so many bytes; interlocked changes aside
-abbrev pub has_bytes : (count : ℕ) → Micro → Bool
-has_bytes count (Write place bytes from) = bytes == count
-has_bytes count _ = true
-
 -- ---- each operation
 -- its temporary has a register, and its addresses are longwords
 abbrev pub IsExit : Exit → Type 0

@@ -26,7 +26,7 @@ use Rattle.block_law.specs.Placements.{InForm}
 use Rattle.block_law.specs.Rounds.{block_steps, new_round}
 use Rattle.block_law.specs.Translations.{Meaning, Permit, Code, placed}
 use Rattle.program_codegen.specs.Accesses.{needed}
-use Rattle.program_codegen.specs.Programs.{has_bytes}
+use Rattle.micro_ops.specs.Uses.{has_bytes}
 
 -- a point has the rules before the instruction, and where it is done, at a trap, those behind it
 abbrev pub HasRules : (before behind : Rules) → Entry → Type 0

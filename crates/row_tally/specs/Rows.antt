@@ -1,16 +1,12 @@
 -- How tables of rows are written.
-use Rattle.std.specs.Prelude.{◌≡◌, ℕ, ◌==◌, ◌&&◌, ◌||◌, Bool, false, not, if◌then◌else◌, List, [], ◌∷◌, ◌++◌, length, filter, slice_index}
-use Rattle.std.specs.List.{list_all, list_any, slice_split}
+use Rattle.std.specs.Prelude.{◌≡◌, ℕ, ◌==◌, ◌&&◌, Bool, false, not, if◌then◌else◌, List, [], ◌∷◌, ◌++◌, length, filter, slice_index}
+use Rattle.std.specs.List.{slice_split}
 use Rattle.std.specs.Str.Lines.{lines}
 use Rattle.std.specs.Str.Parse.{digits_value, without_leading_plus}
 
 -- whether a line is a row: it is not empty, and no comment, which begins with #
 abbrev pub is_row : List ℕ → Bool
 is_row line = if length line == 0 then false else not (slice_index line 0 == 35)
-
--- a byte is one of the bytes
-abbrev pub is_among : List ℕ → ℕ → Bool
-is_among bytes byte = list_any (λ b. b == byte) bytes
 
 -- the rows of a table, in order
 abbrev pub rows_of : List ℕ → List (List ℕ)
@@ -23,14 +19,6 @@ fields_of row = slice_split (λ b. b == 32) row
 -- whether a field is - alone
 abbrev pub is_none : List ℕ → Bool
 is_none field = length field == 1 && slice_index field 0 == 45
-
--- the letters of the condition codes: N, Z, V and C
-abbrev pub code_letters : List ℕ
-code_letters = 78 ∷ 90 ∷ 86 ∷ 67 ∷ []
-
--- a field names condition codes: it is - alone, or has their letters only
-abbrev pub names_codes : List ℕ → Bool
-names_codes field = is_none field || list_all (is_among code_letters) field
 
 -- the pieces of a field, which have one comma between; a lone - is none
 abbrev pub pieces_of : List ℕ → List (List ℕ)

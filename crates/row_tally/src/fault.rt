@@ -14,9 +14,6 @@ pub enum RowFault {
     /// Bytes have an odd number of digits, or a digit that is none.
     #[error("no bytes")]
     NoBytes,
-    /// Condition codes have a letter that is none.
-    #[error("no condition codes")]
-    NoCodes,
     #[error(transparent)]
     Memory(#[from(alloc)] AllocError),
 }

@@ -15,7 +15,7 @@ pub use columns::{five_fields, five_fields_and_rest, four_fields, three_fields, 
 pub use families::Families;
 pub use fault::RowFault;
 pub use lists::{bytes_or_none, longwords, pair, pairs};
-pub use reading::{bytes, condition_codes, fields, longword, number, pieces, rows, words};
+pub use reading::{bytes, fields, longword, number, pieces, rows, words};
 use std::fmt::Debug;
 pub use tables::{Given, ask_rows, check_cases, check_rows};
 

@@ -1,18 +1,15 @@
 // Reads tables of rows: lines with fields that are words, hexadecimal numbers, bytes, or lists of these.
-ghost use Rattle.std.specs.Prelude.{◌≡◌, ◌≢◌, ◌↔◌, true, Ok, map, length, IfOk, IfErr, IsOk};
-ghost use Rattle.std.specs.List.{list_all};
+ghost use Rattle.std.specs.Prelude.{◌≡◌, ◌≢◌, Ok, map, length, IfOk, IfErr};
 ghost use Rattle.std.specs.Str.Parse.{ParsesUnsigned};
 ghost use Rattle.hex.specs.Hex.{decode_of};
 ghost use Rattle.row_tally.specs.declared.fault.RowFault.TheVariants.{OtherCount};
-ghost use Rattle.row_tally.specs.Rows.{is_among, is_row, rows_of, fields_of, is_none, code_letters, names_codes, pieces_of};
+ghost use Rattle.row_tally.specs.Rows.{is_row, rows_of, fields_of, is_none, pieces_of};
 
 use crate::fault::RowFault;
 use hex::FromHexError;
 use std::alloc::{AllocError, Global};
 
 const RADIX: u32 = 16;
-
-const CODE_LETTERS: [u8; 4] = [b'N', b'Z', b'V', b'C'];
 
 /// Whether a line of a table is a row: it is not empty, and no comment, which begins with `#`.
 pub(crate) fn is_row(line: &str) -> bool
@@ -60,36 +57,6 @@ pub(crate) fn is_none(field: &str) -> bool
 {
     let bytes = field.as_bytes();
     bytes.len() == 1 && bytes[0] == b'-'
-}
-
-fn has(field: &str, letter: u8) -> bool
-    ensures { result ≡ is_among field.now letter }
-{
-    field.as_bytes().contains(&letter)
-}
-
-fn are_codes(letters: &[u8]) -> bool
-    ensures { result ≡ list_all (is_among code_letters) letters.now }
-{
-    letters.iter().all(|letter| CODE_LETTERS.contains(letter))
-}
-
-fn names_codes(field: &str) -> bool
-    ensures { result ≡ names_codes field.now }
-{
-    is_none(field) || are_codes(field.as_bytes())
-}
-
-/// Which of N, Z, V and C a field names; `-` alone is none.
-pub fn condition_codes(field: &str) -> Result<[bool; 4], RowFault>
-    ensures codes { IfOk result (λ codes. codes ≡ map (is_among field.now) code_letters) }
-    ensures refused { IsOk result ↔ names_codes field.now ≡ true }
-{
-    if !names_codes(field) {
-        return Err(RowFault::NoCodes);
-    }
-    let [n, z, v, c] = CODE_LETTERS;
-    Ok([has(field, n), has(field, z), has(field, v), has(field, c)])
 }
 
 /// The pieces of a field, which have one comma between; `-` alone is none.

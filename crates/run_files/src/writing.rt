@@ -7,7 +7,8 @@ ghost use Rattle.run_files.specs.Fits.{AreFew};
 ghost use Rattle.run_files.specs.Spelling.{header_bytes, end_bytes, pick_bytes, order_bytes, order_room, stored_order};
 
 use crate::limits::*;
-use memory_core::{Entry, Kind};
+use memory_core::Entry;
+use system_model::is_counted;
 
 /// The room of a file with so many threads, bytes of input, and entries of a history.
 pub fn order_room(threads: usize, input: usize, entries: usize) -> usize
@@ -15,16 +16,6 @@ pub fn order_room(threads: usize, input: usize, entries: usize) -> usize
     ensures { result ≡ order_room threads input entries }
 {
     HEADER + THREAD_BYTES * threads + input + PICK_BYTES * entries
-}
-
-fn is_counted(entry: &Entry) -> bool
-    ensures { result ≡ is_counted entry.now }
-{
-    match entry.kind {
-        Kind::LoadLocked => false,
-        Kind::StoreConditional => entry.success,
-        _ => true,
-    }
 }
 
 /// How many picks the order of a history has.

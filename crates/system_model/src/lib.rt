@@ -12,6 +12,6 @@ mod order;
 mod translation;
 
 pub use boundary::shown;
-pub use order::order_of;
+pub use order::{is_counted, order_of, pick_of};
 pub use translation::{Range, Translation, word_for};
 pub use vax_driven::End;

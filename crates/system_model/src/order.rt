@@ -19,7 +19,8 @@ pub fn order_of(alloc: Global, history: &[Entry]) -> Result<Vec<Pick>, WantOfMem
     Ok(picks)
 }
 
-fn is_counted(entry: &Entry) -> bool
+/// Whether an entry has a pick: it is no load-locked access, and no store conditional that failed.
+pub fn is_counted(entry: &Entry) -> bool
     ensures { result ≡ is_counted entry.now }
 {
     match entry.kind {
@@ -29,7 +30,8 @@ fn is_counted(entry: &Entry) -> bool
     }
 }
 
-fn pick_of(entry: &Entry) -> Pick
+/// The pick of an entry: its thread, and how many instructions that had retired.
+pub fn pick_of(entry: &Entry) -> Pick
     ensures { result ≡ pick_of entry.now }
 {
     Pick {

@@ -55,11 +55,3 @@ pub stops_for_want : {X : Type 0} (r : Result X Stop) (old new : SourceMeaning) 
     → IfErr r (λ stop. StopsAtInput stop old new)
 stops_for_want (Ok x) old new want given = tt
 stops_for_want (Err stop) old new want given = subst (λ (s : Stop). StopsAtInput s old new) (sym want) given
-
--- or a call failed
-pub fails_after : (old mid new : SourceMeaning) (bytes : List ℕ) (turn : ℕ) → HasRead old mid bytes turn → Keeps mid.left new.left → Rose mid.faults new.faults
-    → Rose old.faults new.faults × HasGiven 0 65536 old new
-fails_after old mid new bytes turn before keeps rose = (
-  omega (arith, before.later, rose),
-  record { bytes = bytes; enough = zero-le; few = before.short; read = Consumes-kept old.left mid.left new.left bytes before.read keeps },
-)

@@ -201,24 +201,6 @@ places_removed r gone name beside permissions (Some old) (Some mid) (Some new) f
 abbrev pub Still : Option DiskMeaning → Option DiskMeaning → Type 0
 Still old new = StillTold old new (λ x y. y ≡ x)
 
-pub still_at_first : (old : Option DiskMeaning) → Still old old
-still_at_first None = tt
-still_at_first (Some old) = refl
-
-pub still_more : (old mid new : Option DiskMeaning) → Still old mid → Still mid new → Still old new
-still_more None mid new first second = tt
-still_more (Some old) None new first second = absurd first
-still_more (Some old) (Some mid) None first second = absurd second
-still_more (Some old) (Some mid) (Some new) first second = second ∙ first
-
--- nothing has changed, and the call failed
-pub settles_unchanged : {T E : Type 0} (r : Result T E) (name bytes : List ℕ) (permissions : Option Permissions) (old new : Option DiskMeaning) → IsErr r
-    → Still old new → StillTold old new (SettlesBy r name bytes permissions)
-settles_unchanged r name bytes permissions None new failed still = tt
-settles_unchanged r name bytes permissions (Some old) None failed still = absurd still
-settles_unchanged r name bytes permissions (Some old) (Some new) failed still = λ is.
-    failed_leaves r name bytes old new failed (subst (λ d. Leaves name bytes old d) (sym still) (leaves_all name bytes old))
-
 -- a new file has some of the bytes, and is removed, or not
 part_removed : {S F : Type 0} (r : Result S F) (name bytes beside : List ℕ) (old mid new : DiskMeaning) → beside ≢ name → MakesPart beside old mid
     → OrNothing r (Removes beside) mid new → Leaves name bytes old new

@@ -1,6 +1,8 @@
 -- Laws of bytes.
-use Rattle.std.proofs.Common.{◌≡◌, ℕ, zero, suc, ◌+◌, ◌*◌, ◌%◌, ◌^◌, ◌<◌, refl, ap, ◌∙◌, arith, inl, inr, ⊎_elim, add-one}
-use Rattle.std.specs.Prelude.{◌⊎◌, ◌≢◌}
+use Rattle.std.proofs.Common.{◌≡◌, ℕ, zero, suc, ◌+◌, ◌*◌, ◌%◌, ◌^◌, ◌<◌, refl, ap, ◌∙◌, sym, subst, arith, inl, inr, ⊎_elim}
+use Rattle.std.proofs.Math.Nat.{eq-or-lt_of_le}
+use Rattle.std.proofs.lemmas.Bool.{and_parts, eqb-true}
+use Rattle.std.specs.Prelude.{◌⊎◌, ◌==◌, ◌&&◌, ◌/◌, Bool, true, bit_and}
 use Rattle.std.specs.Int.{bit_at}
 use Rattle.std.proofs.lemmas.Nat.{pow-add}
 use Rattle.std.proofs.lemmas.Nat.Bits.{bit_at-lt}
@@ -36,15 +38,24 @@ spread_lt zero mask = omega arith
 spread_lt (suc at) mask =
     rw (pow_byte at) (spread_step_lt (bit_at mask at) (2 ^ (8 * at)) (spread_below at mask) (bit_at-lt mask at) (spread_lt at mask))
 
--- the loop's step
-pub top_whole : (at : ℕ) → at < 8 → 255 * 2 ^ (8 * at) % 2 ^ 64 ≡ 255 * 2 ^ (8 * at)
-top_whole = below_8 (λ at. 255 * 2 ^ (8 * at) % 2 ^ 64 ≡ 255 * 2 ^ (8 * at)) refl refl refl refl refl refl refl refl
+-- ---- by a product
+-- what is so of each number below another
+abbrev all_below : (n : ℕ) → (ℕ → Bool) → Bool
+all_below zero p = true
+all_below (suc n) p = p n && all_below n p
 
-pub top_fits : (at s : ℕ) → at < 8 → s < 2 ^ (8 * at) → s + 255 * 2 ^ (8 * at) < 2 ^ 64
-top_fits at s = below_8 (λ at. s < 2 ^ (8 * at) → s + 255 * 2 ^ (8 * at) < 2 ^ 64) (λ h. omega arith) (λ h. omega arith) (λ h. omega arith) (λ h. omega arith) (λ h. omega arith) (λ h. omega arith) (λ h. omega arith) (λ h. omega arith) at
+below_all : (n : ℕ) (p : ℕ → Bool) → all_below n p ≡ true → (k : ℕ) → k < n → p k ≡ true
+below_all zero p all k l = absurd (omega (arith, l))
+below_all (suc n) p all k l =
+    let parts = and_parts (p n) (all_below n p) all in
+    ⊎_elim (λ (is : k ≡ n). subst (λ j. p j ≡ true) (sym is) parts.0) (λ (below : k < n). below_all n p parts.1 k below) (eq-or-lt_of_le (omega (arith, l)))
 
-pub spread_none : (at mask : ℕ) → bit_at mask at ≢ 1 → spread_below (at + 1) mask ≡ spread_below at mask
-spread_none at mask h = ⊎_elim (λ (e : bit_at mask at ≡ 0). rw (add-one, e) (omega arith)) (λ (e : bit_at mask at ≡ 1). absurd (h e)) (bit_cases (bit_at mask at) (bit_at-lt mask at))
+abbrev pub product : (mask : ℕ) → ℕ
+product mask = (bit_and (mask % 128 * 0x2040810204081) 0x101010101010101 + mask / 128 * 2 ^ 56 % 2 ^ 64) * 255
 
-pub spread_one : (at mask : ℕ) → bit_at mask at ≡ 1 → spread_below (at + 1) mask ≡ spread_below at mask + 255 * 2 ^ (8 * at)
-spread_one at mask e = rw (add-one, e) (omega arith)
+pub product_spreads : (mask : ℕ) → mask < 256 → product mask ≡ spread_below 8 mask
+product_spreads mask below =
+    eqb-true (product mask) (spread_below 8 mask) (below_all 256 (λ m. product m == spread_below 8 m) refl mask below)
+
+pub product_fits : (mask : ℕ) → mask < 256 → product mask < 2 ^ 64
+product_fits mask below = rw (product_spreads mask below) (spread_lt 8 mask)

@@ -2,20 +2,24 @@
 ghost use Rattle.std.specs.Prelude.{◌≡◌, ◌+◌, ◌*◌, ◌/◌, ◌%◌, ◌^◌, ◌<◌, ◌≤◌};
 ghost use Rattle.vt_words.specs.Quad.{spread, kept, cleared, ext_low, ext_high, ins_low, ins_high, msk_low, msk_high, field_of, sign_extended};
 
+// The sum of 2^(7 k) for k below 8: a product with it has bit k of a number below 128 at bit 8 k.
+const STEPS_OF_SEVEN: u64 = 0x0002_0408_1020_4081;
+
+// Bit 0 of each byte.
+const LOWEST_BITS: u64 = 0x0101_0101_0101_0101;
+
 /// All the bits of each byte that a bit of the mask names.
+#[inline(always)]
 pub fn spread(mask: u8) -> u64
     ensures { result ≡ spread mask }
 {
-    let mut bits: u64 = 0;
-    for at in 0..8u32 {
-        if (mask >> at) % 2 == 1 {
-            bits += 0xff << (8 * at);
-        }
-    }
-    bits
+    let low = u64::from(mask % 128) * STEPS_OF_SEVEN & LOWEST_BITS;
+    let high = u64::from(mask / 128) << 56;
+    (low + high) * 0xff
 }
 
 /// The bytes that a bit of the mask names, the others 0: ZAPNOT.
+#[inline(always)]
 pub fn kept(mask: u8, quad: u64) -> u64
     ensures { result ≡ kept mask quad }
 {
@@ -23,6 +27,7 @@ pub fn kept(mask: u8, quad: u64) -> u64
 }
 
 /// The bytes that no bit of the mask names, the others 0: ZAP.
+#[inline(always)]
 pub fn cleared(mask: u8, quad: u64) -> u64
     ensures { result ≡ cleared mask quad }
 {
@@ -31,6 +36,7 @@ pub fn cleared(mask: u8, quad: u64) -> u64
 
 /// EXTxL. The mask is 0x01, 0x03, 0x0f or 0xff for a byte, word, longword or quadword; the low three
 /// bits of b name the byte offset.
+#[inline(always)]
 pub fn extract_low(mask: u8, a: u64, b: u64) -> u64
     ensures { result ≡ ext_low mask a b }
 {
@@ -39,6 +45,7 @@ pub fn extract_low(mask: u8, a: u64, b: u64) -> u64
 }
 
 /// EXTxH, with a mask as for EXTxL.
+#[inline(always)]
 pub fn extract_high(mask: u8, a: u64, b: u64) -> u64
     ensures { result ≡ ext_high mask a b }
 {
@@ -47,6 +54,7 @@ pub fn extract_high(mask: u8, a: u64, b: u64) -> u64
 }
 
 /// INSxL, with a mask as for EXTxL.
+#[inline(always)]
 pub fn insert_low(mask: u8, a: u64, b: u64) -> u64
     ensures { result ≡ ins_low mask a b }
 {
@@ -55,6 +63,7 @@ pub fn insert_low(mask: u8, a: u64, b: u64) -> u64
 }
 
 /// INSxH, with a mask as for EXTxL.
+#[inline(always)]
 pub fn insert_high(mask: u8, a: u64, b: u64) -> u64
     ensures { result ≡ ins_high mask a b }
 {
@@ -64,6 +73,7 @@ pub fn insert_high(mask: u8, a: u64, b: u64) -> u64
 }
 
 /// MSKxL, with a mask as for EXTxL.
+#[inline(always)]
 pub fn mask_low(mask: u8, a: u64, b: u64) -> u64
     ensures { result ≡ msk_low mask a b }
 {
@@ -72,6 +82,7 @@ pub fn mask_low(mask: u8, a: u64, b: u64) -> u64
 }
 
 /// MSKxH, with a mask as for EXTxL.
+#[inline(always)]
 pub fn mask_high(mask: u8, a: u64, b: u64) -> u64
     ensures { result ≡ msk_high mask a b }
 {
