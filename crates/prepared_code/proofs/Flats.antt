@@ -159,31 +159,31 @@ others old place k g f apart found =
 pub straight_still : (code : Code) (old : List Flat) (place first count : ℕ) (g : Flat) → place < first → AreStraight code old first count → AreStraight code (set old place g) first count
 straight_still code old place first count g before are k f h found = are k f h (others old place (first + k) g f (λ e. omega (arith, before, e)) found)
 
--- the number of a word does not say whether it is straight
-counted : (code : Code) (place number : ℕ) (f : Flat) → IsStraight code place f → IsStraight code place (record f { number = number })
-counted code place number f is = record {
+-- neither its number nor a guess says whether a word is straight
+counted : (code : Code) (place number within : ℕ) (f : Flat) → IsStraight code place f → IsStraight code place (record f { number = number; within = within })
+counted code place number within f is = record {
   registers = record { a = is.registers.a; b = is.registers.b; c = is.registers.c };
   step = is.step;
 }
 
 -- nor what else it does
-counted_way : (code : Code) (place number : ℕ) (f : Flat) (w : Way) → IsItsWay code place f w → IsItsWay code place (record f { number = number }) w
-counted_way code place number f way.Other is = tt
-counted_way code place number f way.Stops is = is
-counted_way code place number f way.Lands is = record { target = is.target; goes = is.goes; begins = is.begins }
-counted_way code place number f (way.Branches op) is = record { register = is.register; target = is.target; step = is.step }
+counted_way : (code : Code) (place number within : ℕ) (f : Flat) (w : Way) → IsItsWay code place f w → IsItsWay code place (record f { number = number; within = within }) w
+counted_way code place number within f way.Other is = tt
+counted_way code place number within f way.Stops is = is
+counted_way code place number within f way.Lands is = record { target = is.target; goes = is.goes; begins = is.begins }
+counted_way code place number within f (way.Branches op) is = record { register = is.register; target = is.target; step = is.step }
 
-pub one_more_straight : (code : Code) (old : List Flat) (place run number : ℕ) (f : Flat) → place < length old → IsAlone code place f → AreStraight code old (place + 1) run
-    → (number ≡ 0) ⊎ ((f.number ≢ 0) × (number ≤ run + 1)) → AreStraight code (set old place (record f { number = number })) place number
-one_more_straight code old place run number f within alone are (inl none) k h l found = absurd (omega (arith, l, none))
-one_more_straight code old place run number f within alone are (inr (some, few)) zero h l found =
-    let here : place + 0 ≡ place = omega arith in
-    subst (λ i. IsStraight code i h) (sym here)
-    (subst (IsStraight code place) (put_in old place (record f { number = number }) h within (ap (slice_get (set old place (record f { number = number }))) (sym here) ∙ found))
-    (counted code place number f (alone.straight (omega (arith, some, alone.few)))))
-one_more_straight code old place run number f within alone are (inr (some, few)) (suc k) h l found =
+pub one_more_straight : (code : Code) (old : List Flat) (place run number within : ℕ) (f : Flat) → place < length old → IsAlone code place f → AreStraight code old (place + 1) run
+    → (number ≡ 0) ⊎ ((f.number ≢ 0) × (number ≤ run + 1)) → AreStraight code (set old place (record f { number = number; within = within })) place number
+one_more_straight code old place run number within f here alone are (inl none) k h l found = absurd (omega (arith, l, none))
+one_more_straight code old place run number within f here alone are (inr (some, few)) zero h l found =
+    let same : place + 0 ≡ place = omega arith in
+    subst (λ i. IsStraight code i h) (sym same)
+    (subst (IsStraight code place) (put_in old place (record f { number = number; within = within }) h here (ap (slice_get (set old place (record f { number = number; within = within }))) (sym same) ∙ found))
+    (counted code place number within f (alone.straight (omega (arith, some, alone.few)))))
+one_more_straight code old place run number within f here alone are (inr (some, few)) (suc k) h l found =
     let there : place + suc k ≡ place + 1 + k = omega arith in
-    let g : Flat = record f { number = number } in
+    let g : Flat = record f { number = number; within = within } in
     subst (λ i. IsStraight code i h) (sym there)
     (are k h (omega (arith, l, few)) (others old place (place + 1 + k) g h (λ e. omega (arith, e)) (ap (slice_get (set old place g)) (sym there) ∙ found)))
 
@@ -192,32 +192,32 @@ pub record AreFlatFrom (code : Code) (flats : List Flat) (from straight : ℕ) :
   pub run : AreStraight code flats from straight
   pub each : (k : ℕ) (f : Flat) → from ≤ k → slice_get flats k ≡ Some f → IsFlat code flats k f
 
-pub one_more_flat : (code : Code) (old : List Flat) (place run number : ℕ) (f : Flat) → place < length old → place + 1 + run ≤ length old → IsAlone code place f → AreFlatFrom code old (place + 1) run
-    → (number ≡ 0) ⊎ ((f.number ≢ 0) × (number ≤ run + 1)) → AreFlatFrom code (set old place (record f { number = number })) place number
-one_more_flat code old place run number f here within alone are few =
-    let g : Flat = record f { number = number } in
+pub one_more_flat : (code : Code) (old : List Flat) (place run number within : ℕ) (f : Flat) → place < length old → place + 1 + run ≤ length old → IsAlone code place f → AreFlatFrom code old (place + 1) run
+    → (number ≡ 0) ⊎ ((f.number ≢ 0) × (number ≤ run + 1)) → AreFlatFrom code (set old place (record f { number = number; within = within })) place number
+one_more_flat code old place run number within f here fits alone are few =
+    let g : Flat = record f { number = number; within = within } in
     let new = set old place g in
-    let straight = one_more_straight code old place run number f here alone are.run few in
+    let straight = one_more_straight code old place run number within f here alone are.run few in
     let counted = length-set old place g in
-    let fits : place + number ≤ length new = (⊎_elim (λ e. omega (arith, e, here, counted)) (λ (p : (f.number ≢ 0) × (number ≤ run + 1)). omega (arith, p.1, within, counted)) few) in
-    let it : IsFlat code new place g = record { within = fits; straight = straight; its_way = counted_way code place number f f.way alone.its_way } in
+    let inside : place + number ≤ length new = (⊎_elim (λ e. omega (arith, e, here, counted)) (λ (p : (f.number ≢ 0) × (number ≤ run + 1)). omega (arith, p.1, fits, counted)) few) in
+    let it : IsFlat code new place g = record { within = inside; straight = straight; its_way = counted_way code place number within f f.way alone.its_way } in
     record {
       run = straight;
       each = λ k h l found. by k h l found (nat_lt place k) refl it;
     }
   where
-    by : (k : ℕ) (h : Flat) → place ≤ k → slice_get (set old place (record f { number = number })) k ≡ Some h → (b : Bool) → nat_lt place k ≡ b
-        → IsFlat code (set old place (record f { number = number })) place (record f { number = number }) → IsFlat code (set old place (record f { number = number })) k h
+    by : (k : ℕ) (h : Flat) → place ≤ k → slice_get (set old place (record f { number = number; within = within })) k ≡ Some h → (b : Bool) → nat_lt place k ≡ b
+        → IsFlat code (set old place (record f { number = number; within = within })) place (record f { number = number; within = within }) → IsFlat code (set old place (record f { number = number; within = within })) k h
     by k h l found true e it =
-        let g : Flat = record f { number = number } in
+        let g : Flat = record f { number = number; within = within } in
         let behind = ltb-true place k e in
         let before = are.each k h (omega (arith, behind)) (others old place k g h (λ q. omega (arith, behind, q)) found) in
         let counted = length-set old place g in
         record { within = omega (arith, before.within, counted); straight = straight_still code old place k h.number g behind before.straight; its_way = before.its_way }
     by k h l found false e it =
         let at : place ≡ k = omega (arith, l, ltb-false place k e) in
-        subst (λ i. IsFlat code (set old place (record f { number = number })) i h) at
-        (subst (IsFlat code (set old place (record f { number = number })) place) (put_in old place (record f { number = number }) h here (ap (slice_get (set old place (record f { number = number }))) at ∙ found)) it)
+        subst (λ i. IsFlat code (set old place (record f { number = number; within = within })) i h) at
+        (subst (IsFlat code (set old place (record f { number = number; within = within })) place) (put_in old place (record f { number = number; within = within }) h here (ap (slice_get (set old place (record f { number = number; within = within }))) at ∙ found)) it)
 
 -- a word that is looked up
 pub flat_there : (code : Code) (flats : List Flat) (place : ℕ) (f : Flat) → AreFlat code flats → place < length flats → f ≡ get_or flats place f → IsFlat code flats place f

@@ -26,7 +26,7 @@ effect f regs = put regs f.c (result_of f.op (regs f.a) (operand f regs) (regs f
 
 -- an operation whose second operand the code fixes
 abbrev pub by_literal : OperateOp → (a literal c : ℕ) → Flat
-by_literal op a literal c = record { op = op; a = a; b = 31; c = c; way = way.Other; number = 1; literal = literal }
+by_literal op a literal c = record { op = op; a = a; b = 31; c = c; way = way.Other; number = 1; within = 0; literal = literal }
 
 pub record HasRegisters (f : Flat) : Type 0 where
   pub a : f.a < 32

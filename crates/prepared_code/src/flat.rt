@@ -45,6 +45,9 @@ pub(crate) struct Flat {
     pub way: Way,
     /// How many words are straight from it on; 0 where it isn't.
     pub number: u16,
+    /// A guess, of which nothing rests but speed: within how many steps, all local, it comes to another block; 0 where it
+    /// comes to none without an access or a PALcode call.
+    pub within: u16,
     pub literal: u64,
 }
 
@@ -56,6 +59,7 @@ const OTHER: Flat = Flat {
     c: registers::ZERO,
     way: Way::Other,
     number: 0,
+    within: 0,
     literal: 0,
 };
 
@@ -309,6 +313,31 @@ fn straight_from(alone: u16, behind: u16) -> u16
     }
 }
 
+/// Within how many steps a word is guessed to come to another block; 0 behind the words.
+fn guess_at(flats: &[Flat], place: usize) -> u16 {
+    match flats.get(place) {
+        Some(flat) => flat.within,
+        None => 0,
+    }
+}
+
+/// The same of a word before those that are known: by the next one, or by the ways of a branch to a later word.
+fn guess_of(flats: &[Flat], place: usize, flat: &Flat) -> u16
+    requires { place < length flats.now }
+{
+    let behind = match flat.way {
+        Way::Lands => return 1,
+        Way::Branches(_) => guess_at(flats, flat.literal as usize).max(guess_at(flats, place + 1)),
+        Way::Other if flat.number > 0 => guess_at(flats, place + 1),
+        Way::Other | Way::Stops => 0,
+    };
+    if behind == 0 {
+        0
+    } else {
+        behind.wrapping_add(1)
+    }
+}
+
 /// The words ready to be run.
 pub(crate) fn flats_of(alloc: Global, ready: &[Word]) -> Result<Vec<Flat>, AllocError>
     requires few { length ready.now ≤ most_words }
@@ -324,6 +353,7 @@ pub(crate) fn flats_of(alloc: Global, ready: &[Word]) -> Result<Vec<Flat>, Alloc
         straight = straight_from(flat.number, straight);
         flats[place] = Flat {
             number: straight,
+            within: guess_of(&flats, place, &flat),
             ..flat
         };
     }

@@ -34,7 +34,7 @@ pub struct Prepared<'a> {
     pages: &'a Pages,
     blocks: Vec<Block>,
     ready: Vec<Word>,
-    flats: Vec<Flat>,
+    pub(crate) flats: Vec<Flat>,
 }
 
 impl<'a> Model for Prepared<'a> {

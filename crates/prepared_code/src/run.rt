@@ -1,5 +1,5 @@
 // Many steps inside a block.
-ghost use Rattle.std.specs.Prelude.{◌≡◌, ◌<◌, ◌≤◌, ◌+◌, ◌^◌, ℕ, if◌then◌else◌, length, slice_get, slice_index, Some, None, IfSome, option_map};
+ghost use Rattle.std.specs.Prelude.{◌≡◌, ◌<◌, ◌≤◌, ◌+◌, ◌^◌, ℕ, if◌then◌else◌, length, slice_get, slice_index, true, Some, None, IfSome, option_map};
 ghost use Rattle.alpha_machine.specs.Step.{state_of};
 ghost use Rattle.alpha_meaning.specs.Act.{taken};
 ghost use Rattle.alpha_meaning.specs.Pieces.{most_words};
@@ -8,7 +8,7 @@ ghost use Rattle.block_law.specs.Translations.{Code};
 ghost use Rattle.prepared_code.specs.Effects.{behind};
 ghost use Rattle.prepared_code.specs.Flats.{AreStraight, HasRegisters, effect, operand};
 ghost use Rattle.prepared_code.specs.declared.flat.Flat.{Flat};
-ghost use Rattle.prepared_code.specs.Inside.{local_at, step_in, steps_in};
+ghost use Rattle.prepared_code.specs.Inside.{Crosses, Lands, local_at, step_in, steps_in};
 
 use crate::effect::{Effect, clear_31, commit, effect_of, put, register};
 use crate::flat::{Flat, Way};
@@ -159,6 +159,7 @@ impl<'a> Prepared<'a> {
         }
     }
 
+    #[inline(always)]
     fn steps_in(&self, cpu: &mut Cpu, most: u64) -> u64
         requires zero { slice_index cpu.old.r 31 ≡ 0 }
         ensures zero { slice_index cpu.new.r 31 ≡ 0 }
@@ -179,6 +180,7 @@ impl<'a> Prepared<'a> {
 
     /// Makes local steps, each of which goes on inside a block, but at most so many, and tells how many it made. Fewer are
     /// made only where the next is none. Register 31 stands as it reads then.
+    #[inline(always)]
     pub fn run_inside(&self, cpu: &mut Cpu, most: u64) -> u64
         ensures zero { slice_index cpu.new.r 31 ≡ 0 }
         ensures most { result ≤ most }
@@ -187,5 +189,45 @@ impl<'a> Prepared<'a> {
     {
         clear_31(cpu);
         self.steps_in(cpu, most)
+    }
+
+    /// A guess: within how many steps, all local, the word comes to another block; 0 where none is made.
+    #[inline(always)]
+    pub fn guess(&self, word: u32) -> u64 {
+        match self.flats().get(word as usize) {
+            Some(flat) => u64::from(flat.within),
+            None => 0,
+        }
+    }
+
+    // Goes to the block to which the word there leads, where it is known that it does nothing else.
+    #[inline(always)]
+    fn lands(&self, cpu: &mut Cpu) -> bool
+        ensures { result ≡ true → Lands self.now.code (state_of cpu.old) (state_of cpu.new) }
+    {
+        match self.flats.get(cpu.pc as usize) {
+            Some(flat) => match flat.way {
+                Way::Lands => {
+                    cpu.pc = flat.literal as u32;
+                    true
+                }
+                Way::Other | Way::Stops | Way::Branches(_) => false,
+            },
+            None => false,
+        }
+    }
+
+    /// Goes through the block there and arrives at another, by local steps alone, at most so many, and tells how many. None:
+    /// it stands anywhere.
+    #[inline(always)]
+    pub fn cross(&self, cpu: &mut Cpu, most: u64) -> Option<u64>
+        ensures { IfSome result (λ steps. (steps ≤ most) × Crosses self.now.code cpu.old cpu.new steps) }
+    {
+        let inside = self.run_inside(cpu, most);
+        if inside < most && self.lands(cpu) {
+            Some(inside + 1)
+        } else {
+            None
+        }
     }
 }
