@@ -1,6 +1,6 @@
 -- Local steps of a processor whose boundary is not worked out.
-use Rattle.std.proofs.Common.{◌≡◌, ℕ, zero, suc, ◌<◌, ◌+◌, Option, Some, None, refl, sym, ap, ◌∙◌, arith}
-use Rattle.std.specs.Prelude.{option_and_then}
+use Rattle.std.proofs.Common.{◌≡◌, ℕ, zero, suc, ◌<◌, ◌+◌, ◌⊎◌, inl, inr, ◌&&◌, Bool, true, false, [], Option, Some, None, refl, sym, subst, ap, ◌∙◌, arith}
+use Rattle.std.specs.Prelude.{not, option_and_then, option_map}
 use Rattle.alpha_machine.specs.Step.{state_of}
 use Rattle.alpha_machine.specs.declared.cpu.Cpu.{Cpu}
 use Rattle.alpha_meaning.specs.State.{Alpha, at_place}
@@ -10,7 +10,8 @@ use Rattle.vax_form.specs.declared.state.Flags.{Flags}
 use Rattle.vax_form.specs.declared.state.Pending.{Pending}
 use Rattle.vax_form.specs.declared.state.Pending.TheVariants.{Nothing}
 use Rattle.vax_form.specs.declared.state.VaxState.{VaxState}
-use Rattle.prepared_code.specs.Inside.{steps_in, landing, landed}
+use Rattle.prepared_code.specs.Inside.{Crosses, steps_in, landing, landed}
+use Rattle.prepared_code.specs.Sources.{Source, block_at, block_by}
 use Rattle.prepared_code.specs.Probes.{Passes}
 use Rattle.prepared_code.specs.declared.blocks.Block.{Block}
 use Rattle.system_model.specs.Processors.{Mode, Runs, Processor, mode_at, mode_by, mode_of, moment_of, stepped, placed, left, alpha_turn, turn, turn_in}
@@ -18,7 +19,7 @@ use Rattle.system_model.specs.Ranges.{word_for}
 use Rattle.system_model.specs.Settings.{Setting, unless_pending}
 use Rattle.system_model.specs.Steps.{Last, Comes, Fails, Place, Inside, Lands, Leaves, Next, Moves, Wants, Stuck, next, settled_last}
 use Rattle.vax_form.specs.Tree.{Finish, Exit, Trap}
-use Rattle.tie_switch.specs.Courses.{Begins, boundary_by, course_of, Goes}
+use Rattle.tie_switch.specs.Courses.{Begins, boundary_by, course_of, Goes, HoldsNone}
 use Rattle.tie_switch.specs.Inside.{went, went_by, state_there, source_in, StepsAreTurns, LandingsAreTurns, ProbesAreTurns}
 use Rattle.tie_switch.specs.declared.course.Course.{Course}
 use Rattle.tie_switch.specs.declared.course.Landed.{Landed}
@@ -120,6 +121,70 @@ goes_there s thread before old new pages d block word law nothing there goes cpu
     ∙ ap (λ n. made thread interpreted (Runs (state_of new.cpu)) (state_there before (state_of new.cpu) block new.held) new.held n (suc steps)) one_more
     ∙ ap (λ n. made thread interpreted (Runs (state_of new.cpu)) (state_there before (state_of new.cpu) block new.held) new.held new.retired n) next
     ∙ ap (λ (l : Option Landed). made thread interpreted (Runs (state_of new.cpu)) (boundary_by before new.held l) new.held new.retired (steps + 1)) (sym at))
+
+-- ---- through blocks of local steps
+-- no code is held behind an instruction either
+still_none : (held written : Bool) → held ≡ false → held ≡ (held && not written)
+still_none false written e = refl
+still_none true written e = absurd (cc e)
+
+flags : (n z v c : Bool) → Flags
+flags n z v c = record { n = n; z = z; v = v; c = c }
+
+none_still : (held written : Flags) → HoldsNone held → held ≡ still_held held written
+unfolding flags
+none_still held written none =
+    ap (λ n. flags n held.z held.v held.c) (still_none held.n written.n none.0)
+    ∙ ap (λ z. flags (held.n && not written.n) z held.v held.c) (still_none held.z written.z none.1)
+    ∙ ap (λ v. flags (held.n && not written.n) (held.z && not written.z) v held.c) (still_none held.v written.v none.2)
+    ∙ ap (λ c. flags (held.n && not written.n) (held.z && not written.z) (held.v && not written.v) c) (still_none held.c written.c none.3)
+
+-- the block that begins where it stands is where it landed, if it made a step
+abbrev pub LandedThere : Source → Cpu → Option Landed → Type 0
+LandedThere source cpu landed = (block : Block) × (block_at source cpu.pc ≡ Some block) × (landed ≡ Some (record { cpu = cpu; block = block }))
+
+-- it goes so many steps through so many blocks
+pub record Glides (s : Setting) (source : Source) (old : Course) (cpu : Cpu) (steps blocks : ℕ) : Type 0 where
+  pub landed : Option Landed
+  pub there : ((steps ≡ 0) × (landed ≡ old.landed)) ⊎ LandedThere source cpu landed
+  pub goes : (thread : ℕ) (before : VaxState) → before.pending ≡ Nothing
+      → Goes s thread before old (record old { cpu = cpu; landed = landed; retired = old.retired + blocks }) steps
+
+pub glides_nowhere : (s : Setting) (source : Source) (old : Course) → Glides s source old old.cpu 0 0
+glides_nowhere s source old = record {
+  landed = old.landed;
+  there = inl (refl, refl);
+  goes = λ thread before nothing. subst (λ n. Goes s thread before old (record old { retired = n }) 0) (none old.retired) (goes_nowhere s thread before old);
+}
+  where
+    none : (n : ℕ) → n ≡ n + 0
+    none n = omega arith
+
+pub glides_on : (s : Setting) (pages : Pages) (old : Course) (cpu new : Cpu) (steps blocks more : ℕ) → StepsAreTurns → LandingsAreTurns → s.ranges ≡ [] → HoldsNone old.held
+    → Glides s (source_in s pages) old cpu steps blocks → Crosses s.code cpu new more → Glides s (source_in s pages) old new (steps + more) (blocks + 1)
+glides_on s pages old cpu new steps blocks more inside_law landing_law none_ranges none was crosses =
+    let source = source_in s pages in
+    let lands = crosses.lands in
+    let block = block_by s.code.points pages lands.address new.pc in
+    let begins : block_at source new.pc ≡ Some block = ap (option_map (λ address. block_by s.code.points pages address new.pc)) lands.there in
+    let mid : Course = record old { cpu = cpu; landed = was.landed; retired = old.retired + blocks } in
+    let last : Course = record mid { cpu = crosses.last } in
+    let came : Option Landed = Some (record { cpu = new; block = block }) in
+    let there : Course = record old { cpu = new; landed = came; retired = old.retired + (blocks + 1) } in
+    record {
+      landed = came;
+      there = inr (block, begins, refl);
+      goes = λ thread before nothing.
+          let word : word_for s.code.map s.ranges thread lands.address ≡ Some new.pc = ap (λ r. word_for s.code.map r thread lands.address) none_ranges ∙ lands.back in
+          let inside = goes_inside s thread before mid crosses.last crosses.inside inside_law crosses.ran in
+          let to : landing source (state_of crosses.last) ≡ Some (landed (state_of new) block) =
+          ap (option_and_then (λ d. option_map (landed d) (block_at source d.pc))) lands.leads ∙ ap (option_map (landed (state_of new))) begins in
+          let over = goes_there s thread before last there pages (state_of new) block new.pc landing_law nothing to word refl refl
+          (none_still old.held (s.meaning.written (boundary_by before old.held was.landed).pc) none) (omega arith) in
+          let count : steps + (crosses.inside + 1) ≡ steps + more = omega (arith, crosses.counted) in
+          subst (Goes s thread before old there) count
+          (goes_more s thread before old mid there steps (crosses.inside + 1) (was.goes thread before nothing) (goes_more s thread before mid last there crosses.inside 1 inside over));
+    }
 
 -- ---- the first turn of a new processor
 same_left : (s : Setting) (p : Processor) (m : Mode) (last : Last) → left s (record p { mode = m }) last ≡ left s p last

@@ -1,6 +1,9 @@
 -- What contracts see of a processor in Alpha code whose boundary is not worked out.
-use Rattle.std.specs.Prelude.{◌≡◌, ℕ, suc, ◌+◌, Option, Some, None, IfSome}
+use Rattle.std.specs.Prelude.{◌≡◌, ℕ, suc, ◌+◌, false, Option, Some, None, IfSome, option_map}
+use Rattle.std.specs.Option.{option_or}
 use Rattle.alpha_machine.specs.Step.{state_of}
+use Rattle.alpha_machine.specs.declared.cpu.Cpu.{Cpu}
+use Rattle.prepared_code.specs.Sources.{Source, block_at}
 use Rattle.vax_form.specs.Pages.{code_byte_at}
 use Rattle.vax_form.specs.declared.pages.Pages.{Pages}
 use Rattle.vax_form.specs.declared.state.Flags.{Flags}
@@ -40,3 +43,11 @@ Goes setting thread before old new n =
 -- the turns of the one are those of the other
 abbrev pub Begins : Setting → (p q : Processor) → Type 0
 Begins setting p q = (n : ℕ) → went setting p (suc n) ≡ went setting q (suc n)
+
+-- it holds no code
+abbrev pub HoldsNone : Flags → Type 0
+HoldsNone held = (held.n ≡ false) × (held.z ≡ false) × (held.v ≡ false) × (held.c ≡ false)
+
+-- the block that begins where it stands is where it landed
+abbrev pub landed_there : Source → Cpu → Option Landed → Option Landed
+landed_there source cpu before = option_or (option_map (λ block. record { cpu = cpu; block = block }) (block_at source cpu.pc)) before

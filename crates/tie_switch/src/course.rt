@@ -1,16 +1,17 @@
 // Local steps, one after the other.
-ghost use Rattle.std.specs.Prelude.{◌≡◌, ◌<◌, ◌≤◌, ◌+◌, ◌^◌, slice_index, true, false, Some, None};
+ghost use Rattle.std.specs.Prelude.{◌≡◌, ◌<◌, ◌≤◌, ◌+◌, ◌^◌, ℕ, slice_index, true, false, [], Some, None, IfErr, IfOk, IsErr};
 ghost use Rattle.alpha_machine.specs.Step.{state_of};
 ghost use Rattle.alpha_meaning.specs.State.{at_place};
 ghost use Rattle.prepared_code.specs.Effects.{behind};
 ghost use Rattle.prepared_code.specs.Inside.{step_in};
 ghost use Rattle.exception_records.specs.Shown.{still_held};
 ghost use Rattle.image_meaning.specs.Meant.{codes_written};
-ghost use Rattle.tie_switch.specs.Courses.{Goes, HasOpcode, boundary_by};
+ghost use Rattle.tie_switch.specs.Courses.{Goes, HasOpcode, HoldsNone, boundary_by, landed_there};
 ghost use Rattle.tie_switch.specs.Inside.{block_rules, goes_on_locally};
 ghost use Rattle.tie_switch.specs.Settings.{image_setting};
 ghost use Rattle.vax_form.specs.Pages.{code_byte_at};
 ghost use Rattle.vax_form.specs.declared.state.Pending.TheVariants.{Nothing};
+ghost use Rattle.vax_form.specs.declared.state.VaxState.{VaxState};
 
 use crate::laws::{landings_are_turns, probes_are_turns, steps_are_turns};
 use crate::setting::codes_by;
@@ -89,6 +90,25 @@ impl Course {
         }
     }
 
+    // It landed at that block.
+    #[inline(always)]
+    fn note(&mut self, block: Block)
+        ensures { self.new ≡ record self.old { landed = Some (record { cpu = self.old.cpu; block = block }) } }
+    {
+        match &mut self.landed {
+            Some(landed) => {
+                landed.cpu = self.cpu;
+                landed.block = block;
+            }
+            None => {
+                self.landed = Some(Landed {
+                    cpu: self.cpu,
+                    block,
+                });
+            }
+        }
+    }
+
     // Makes that step, which goes on in Alpha code at that word.
     fn arrive(&mut self, landing: &Landing, word: u32, held: Flags)
         requires register { landing.now.effect.register < 32 }
@@ -100,18 +120,7 @@ impl Course {
     {
         landing.make(&mut self.cpu);
         self.cpu.pc = word;
-        match &mut self.landed {
-            Some(landed) => {
-                landed.cpu = self.cpu;
-                landed.block = landing.block;
-            }
-            None => {
-                self.landed = Some(Landed {
-                    cpu: self.cpu,
-                    block: landing.block,
-                });
-            }
-        }
+        self.note(landing.block);
         self.held = held;
         self.retired += 1;
     }
@@ -222,6 +231,87 @@ impl Course {
         }
     }
 
+    // It holds no code, and no address of any thread is interpreted.
+    #[inline(always)]
+    fn is_plain(&self, ranges: &[Range]) -> bool
+        ensures { result ≡ true → (ranges.now ≡ []) × HoldsNone self.now.held }
+    {
+        let held = self.held;
+        ranges.is_empty() && !(held.n || held.z || held.v || held.c)
+    }
+
+    // It landed at the block that begins there.
+    #[inline(always)]
+    fn note_there(&mut self, prepared: &Prepared<'_>)
+        ensures { self.new ≡ record self.old { landed = landed_there prepared.now self.old.cpu self.old.landed } }
+    {
+        if let Some(block) = prepared.block_at(self.cpu.pc) {
+            self.note(block);
+        }
+    }
+
+    // Goes through blocks that are guessed to have local steps alone, and looks where it landed at their end. Where one has
+    // others it stands where it stood, and tells how many steps led to that block.
+    fn glide(&mut self, prepared: &Prepared<'_>, most: u64) -> Result<u64, u64>
+        requires plain { HoldsNone self.old.held }
+        requires room { self.old.retired + most < 2 ^ 64 }
+        requires opcode { HasOpcode prepared.now.pages self.old.landed }
+        ensures opcode { HasOpcode prepared.now.pages self.new.landed }
+        ensures most { IfOk result (λ steps. steps ≤ most) }
+        ensures goes { IfOk result (λ steps. (thread : ℕ) (before : VaxState) → before.pending ≡ Nothing
+            → Goes (image_setting prepared.now.pages prepared.now.code []) thread before self.old self.new steps) }
+        ensures retired { IfOk result (λ steps. self.new.retired ≤ self.old.retired + steps) }
+        ensures stays { IsErr result → self.new ≡ self.old }
+        ensures few { IfErr result (λ steps. steps < most) }
+    {
+        steps_are_turns();
+        landings_are_turns();
+        let start = self.cpu;
+        let (mut made, mut crossed) = (0, 0);
+        while made < most {
+            let within = prepared.guess(self.cpu.pc);
+            if within == 0 || within > most - made {
+                break;
+            }
+            let Some(steps) = prepared.cross(&mut self.cpu, within) else {
+                self.cpu = start;
+                return Err(made);
+            };
+            made += steps;
+            crossed += 1;
+        }
+        if made > 0 {
+            self.note_there(prepared);
+        }
+        self.retired += crossed;
+        Ok(made)
+    }
+
+    // Makes steps as `glide` does, where it is plain and not watched. Tells how many, and for how many it is to be watched then.
+    fn glide_on(
+        &mut self,
+        prepared: &Prepared<'_>,
+        ranges: &[Range],
+        most: u64,
+        is_watched: bool,
+    ) -> (u64, u64)
+        requires room { self.old.retired + most < 2 ^ 64 }
+        requires opcode { HasOpcode prepared.now.pages self.old.landed }
+        ensures opcode { HasOpcode prepared.now.pages self.new.landed }
+        ensures most { result.0 ≤ most }
+        ensures goes { (thread : ℕ) (before : VaxState) → before.pending ≡ Nothing
+            → Goes (image_setting prepared.now.pages prepared.now.code ranges.now) thread before self.old self.new result.0 }
+        ensures retired { self.new.retired ≤ self.old.retired + result.0 }
+    {
+        if is_watched || !self.is_plain(ranges) || prepared.guess(self.cpu.pc) == 0 {
+            return (0, 0);
+        }
+        match self.glide(prepared, most) {
+            Ok(steps) => (steps, 0),
+            Err(steps) => (0, steps + 1),
+        }
+    }
+
     /// Makes local steps and probes, inside blocks and from block to block, and tells how many: at most so many, and only
     /// those behind which the thread goes on in Alpha code. Fewer are made only where the next is no such local step.
     pub(crate) fn run(
@@ -240,8 +330,11 @@ impl Course {
         ensures retired { self.new.retired ≤ self.old.retired + result }
         ensures stops { result < most → goes_on_locally (image_setting prepared.now.pages prepared.now.code ranges.now) thread (state_of self.new.cpu) ≡ false }
     {
-        let mut made = 0;
+        let (mut made, mut watched) = (0, 0);
         while made < most {
+            let (steps, more) = self.glide_on(prepared, ranges, most - made, made < watched);
+            made += steps;
+            watched = watched.max(made.saturating_add(more));
             let (steps, goes_on) = self.cross(prepared, ranges, thread, before, most - made);
             made += steps;
             if !goes_on {

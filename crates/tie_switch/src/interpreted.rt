@@ -17,7 +17,7 @@ use vax_form::{Exception, Pages, Pending, Reference, VaxState, is_long};
 
 /// What a step comes to.
 #[derive(Clone, Copy)]
-pub(crate) enum Step {
+pub enum Step {
     /// It wants the reply to this reference.
     Wants(Reference),
     /// It is done, and its handler took its exceptions.
@@ -61,7 +61,7 @@ impl Step {
 
 /// An instruction whose exceptions the thread's handler takes, or what is pending.
 #[derive(Clone, Copy, Debug)]
-pub(crate) enum Interpreted {
+pub enum Interpreted {
     Short(Tie),
     Long(LongTie),
     /// A delivery or a resumption.
@@ -91,7 +91,7 @@ impl Interpreted {
     }
 
     /// Begins what the thread does at a state.
-    pub(crate) fn begin(state: &VaxState, pages: &Pages, thread: u8) -> Interpreted
+    pub fn begin(state: &VaxState, pages: &Pages, thread: u8) -> Interpreted
         ensures { Stands pages.now thread result state.now [] }
     {
         match state.pending {
@@ -101,7 +101,7 @@ impl Interpreted {
     }
 
     /// Goes on to the next reference or to the end. The reply is that of the last reference wanted, and none at first.
-    pub(crate) fn step(&mut self, pages: &Pages, reply: Option<u64>) -> Step
+    pub fn step(&mut self, pages: &Pages, reply: Option<u64>) -> Step
         ensures answers { (thread : ℕ) (state : VaxState) (replies : List ℕ) → Stands pages.now thread self.old state replies
             → result ≡ step_of (answer pages.now (moment_at pages.now thread state) (replies ++ list_of reply)) }
         ensures stands { (thread : ℕ) (state : VaxState) (replies : List ℕ) → Stands pages.now thread self.old state replies

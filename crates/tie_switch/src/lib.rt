@@ -25,6 +25,8 @@ mod setting;
 mod tie;
 mod turn;
 
+pub use interpreted::{Interpreted, Step};
+pub use place::Last;
 pub use processor::Processor;
 pub use ready::made_ready;
 pub use system_model::Range;

@@ -14,7 +14,7 @@ const REPLIES_OF_PENDING: usize = 10;
 
 /// A delivery or a resumption, with the state before it and the replies so far.
 #[derive(Clone, Copy, Debug)]
-pub(crate) struct PendingTie {
+pub struct PendingTie {
     pub(crate) before: VaxState,
     pub(crate) kept: Replies<REPLIES_OF_PENDING>,
     ghost pending: { before.pending ≢ Nothing },

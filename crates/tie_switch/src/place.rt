@@ -6,7 +6,7 @@ use vax_form::{Exception, Flags, VaxState};
 
 /// How an instruction ended.
 #[derive(Clone, Copy)]
-pub(crate) enum Last {
+pub enum Last {
     Finish(VaxState),
     Exit(VaxState),
     /// An arithmetic trap of that type.

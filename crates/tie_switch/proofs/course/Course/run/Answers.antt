@@ -1,5 +1,5 @@
 -- One round behind the others.
-use Rattle.std.proofs.Common.{arith}
+use Rattle.std.proofs.Common.{◌+◌, arith}
 use Rattle.tie_switch.specs.Settings.{image_setting}
 use Rattle.tie_switch.proofs.Courses.{goes_more, goes_nowhere}
 use Rattle.tie_switch.proofs.course.Course.run.Goals as goal
@@ -12,16 +12,22 @@ loop-made-init c =
 pub returns-then-not-goes_on-clause-goes : goal.returns-then-not-goes_on-clause-goes
 returns-then-not-goes_on-clause-goes c =
     let p = c.args.prepared.now in
-    goes_more (image_setting p.pages p.code c.args.ranges.now) c.args.thread c.args.before.now c.args.self.now c.loop-made.self c.cross-steps.new.self c.loop-made.made c.cross-steps.result.0
-    c.loop-made.invariant.goes c.cross-steps.ensures.goes
+    let s = image_setting p.pages p.code c.args.ranges.now in
+    goes_more s c.args.thread c.args.before.now c.args.self.now c.glide_on-steps.new.self c.cross-steps.new.self (c.loop-made.made + c.glide_on-steps.result.0) c.cross-steps.result.0
+    (goes_more s c.args.thread c.args.before.now c.args.self.now c.loop-made.self c.glide_on-steps.new.self c.loop-made.made c.glide_on-steps.result.0
+    c.loop-made.invariant.goes (c.glide_on-steps.ensures.goes c.args.thread c.args.before.now c.requires.nothing))
+    c.cross-steps.ensures.goes
 
 pub loop-made-preserved : goal.loop-made-preserved
 loop-made-preserved c =
     let p = c.args.prepared.now in
+    let s = image_setting p.pages p.code c.args.ranges.now in
     record {
-      most = omega (arith, c.loop-made.invariant.most, c.cross-steps.ensures.most);
+      most = omega (arith, c.loop-made.invariant.most, c.glide_on-steps.ensures.most, c.cross-steps.ensures.most);
       opcode = c.cross-steps.ensures.opcode;
-      retired = omega (arith, c.loop-made.invariant.retired, c.cross-steps.ensures.retired);
-      goes = goes_more (image_setting p.pages p.code c.args.ranges.now) c.args.thread c.args.before.now c.args.self.now c.loop-made.self c.cross-steps.new.self c.loop-made.made c.cross-steps.result.0
-          c.loop-made.invariant.goes c.cross-steps.ensures.goes;
+      retired = omega (arith, c.loop-made.invariant.retired, c.glide_on-steps.ensures.retired, c.cross-steps.ensures.retired);
+      goes = goes_more s c.args.thread c.args.before.now c.args.self.now c.glide_on-steps.new.self c.cross-steps.new.self (c.loop-made.made + c.glide_on-steps.result.0) c.cross-steps.result.0
+          (goes_more s c.args.thread c.args.before.now c.args.self.now c.loop-made.self c.glide_on-steps.new.self c.loop-made.made c.glide_on-steps.result.0
+          c.loop-made.invariant.goes (c.glide_on-steps.ensures.goes c.args.thread c.args.before.now c.requires.nothing))
+          c.cross-steps.ensures.goes;
     }
