@@ -19,11 +19,11 @@ use Rattle.micro_ops.specs.declared.program.MicroOp.TheVariants as ops
 use Rattle.micro_ops.proofs.Held.{flag_other, held_other}
 use Rattle.operand_programs.specs.Specifiers.{sum_into, store_program, commit_program}
 use Rattle.operand_programs.specs.InOrder.{no_steps}
-use Rattle.operand_programs.specs.Results.{steps_behind_push, low_program, pair_program, finish_program}
+use Rattle.operand_programs.specs.Results.{steps_behind_push, cleared_program, low_program, pair_program, finish_program}
 use Rattle.operand_programs.specs.Knowing.{KnowsMore, FitsBetween}
 use Rattle.operand_programs.specs.Behind.{are_clear, is_uncommitted, behind_commits, stepping, finishing, PushFits, CommitsFit, FinishFits}
 use Rattle.operand_programs.proofs.More.{no_more, knows_itself, covers_write, fits_joined, knowing_less}
-use Rattle.operand_programs.proofs.Walking.{clear_flag, nothing_fits, computes, register_fits, sums_register, commits}
+use Rattle.operand_programs.proofs.Walking.{clear_flag, nothing_fits, computes, register_fits, commits}
 
 -- ---- the stack
 sums_alike : (codes : CodeSources) (known : Known) (to n offset : ℕ) → step codes known (sum_into to (Some n) offset) ≡ step codes known (sum_into to (Some n) 0)
@@ -117,20 +117,31 @@ module _ (codes : CodeSources) (known : Known) (on : known.ended ≡ false) (reg
   abbrev with_registers : List Bool → Known
   with_registers flags = behind_commits flags known
 
-  low_fits : (n : ℕ) (steps : List ℕ) (upper from : ℕ) → n < 15 → from < 4 → holds known from ≡ true → has_flag registers n ≡ false
-      → FitsBetween codes (with_registers registers) (low_program n steps upper from) (with_registers (set registers n true))
-  low_fits n steps upper from low f holding free =
+  cleared_fits : (n step mask : ℕ) → n < 15 → has_flag registers n ≡ false
+      → FitsBetween codes (with_registers registers) (cleared_program n step mask) (behind_write 5 Longword (with_registers registers))
+  cleared_fits n step mask low free =
+      let k = with_registers registers in
+      let fifth = behind_write 5 Longword k in
+      let found = register_fits k n low free in
+      elim (eqb_tells step 0) [
+        | inl is ↦ rw is.0 (computes codes k 5 ops.AndNot Long (args.Register n) (Const mask) on (lit< tt) found refl refl)
+        | inr not ↦ rw not.0 (fits_joined codes (Compute 5 ops.Add Long (args.Register n) (Const step) ∷ []) (Compute 5 ops.AndNot Long (Temp 5) (Const mask) ∷ []) k fifth fifth
+            (computes codes k 5 ops.Add Long (args.Register n) (Const step) on (lit< tt) found refl refl)
+            (computes codes fifth 5 ops.AndNot Long (Temp 5) (Const mask) on (lit< tt) refl refl refl))
+      ]
+
+  low_fits : (n : ℕ) (steps : List ℕ) (mask from : ℕ) → n < 15 → from < 4 → holds known from ≡ true → has_flag registers n ≡ false
+      → FitsBetween codes (with_registers registers) (low_program n steps mask from) (with_registers (set registers n true))
+  low_fits n steps mask from low f holding free =
       let k = with_registers registers in
       let fifth = behind_write 5 Longword k in
       let behind = behind_write 5 Longword (with_registers (set registers n true)) in
-      knowing_less codes (low_program n steps upper from) k behind (with_registers (set registers n true)) (behind_fifth (set registers n true) known)
-      (fits_joined codes (sum_into 5 (Some n) (get_or steps n 0) ∷ []) (Compute 5 ops.And Long (Temp 5) (Const upper) ∷ Compute 5 ops.Add Long (Temp 5) (Temp from) ∷ Commit n 5 ∷ []) k fifth behind
-      (sums_register codes k 5 n (get_or steps n 0) on (lit< tt) (register_fits k n low free))
-      (fits_joined codes (Compute 5 ops.And Long (Temp 5) (Const upper) ∷ []) (Compute 5 ops.Add Long (Temp 5) (Temp from) ∷ Commit n 5 ∷ []) fifth fifth behind
-      (computes codes fifth 5 ops.And Long (Temp 5) (Const upper) on (lit< tt) refl refl refl)
-      (fits_joined codes (Compute 5 ops.Add Long (Temp 5) (Temp from) ∷ []) (Commit n 5 ∷ []) fifth fifth behind
-      (computes codes fifth 5 ops.Add Long (Temp 5) (Temp from) on (lit< tt) refl (ap is_something (held_other Longword k 5 from (λ e. omega (arith, e, f))) ∙ holds_still registers known from f holding) refl)
-      (commits codes fifth n 5 on low refl free))))
+      knowing_less codes (low_program n steps mask from) k behind (with_registers (set registers n true)) (behind_fifth (set registers n true) known)
+      (fits_joined codes (cleared_program n (get_or steps n 0) mask) (Compute 5 ops.Or Long (Temp 5) (Temp from) ∷ Commit n 5 ∷ []) k fifth behind
+      (cleared_fits n (get_or steps n 0) mask low free)
+      (fits_joined codes (Compute 5 ops.Or Long (Temp 5) (Temp from) ∷ []) (Commit n 5 ∷ []) fifth fifth behind
+      (computes codes fifth 5 ops.Or Long (Temp 5) (Temp from) on (lit< tt) refl (ap is_something (held_other Longword k 5 from (λ e. omega (arith, e, f))) ∙ holds_still registers known from f holding) refl)
+      (commits codes fifth n 5 on low refl free)))
 
   pair_fits : (n from : ℕ) → n < 14 → from < 4 → holds known from ≡ true → has_flag registers n ≡ false → has_flag registers (min (n + 1) 255) ≡ false
       → FitsBetween codes (with_registers registers) (pair_program n from) (with_registers (set (set registers n true) (min (n + 1) 255) true))
@@ -203,9 +214,9 @@ no_result codes steps known whole is =
 
 pub finish_fits : FinishFits
 finish_fits codes (Register n) Byte steps from known named whole f holding is =
-    one_result codes n steps known (low_program n steps 0xFFFF_FF00 from) whole is (λ registers free. low_fits codes known (uncommitted_parts known is).0 registers n steps 0xFFFF_FF00 from named f holding free)
+    one_result codes n steps known (low_program n steps 0xFF from) whole is (λ registers free. low_fits codes known (uncommitted_parts known is).0 registers n steps 0xFF from named f holding free)
 finish_fits codes (Register n) Word steps from known named whole f holding is =
-    one_result codes n steps known (low_program n steps 0xFFFF_0000 from) whole is (λ registers free. low_fits codes known (uncommitted_parts known is).0 registers n steps 0xFFFF_0000 from named f holding free)
+    one_result codes n steps known (low_program n steps 0xFFFF from) whole is (λ registers free. low_fits codes known (uncommitted_parts known is).0 registers n steps 0xFFFF from named f holding free)
 finish_fits codes (Register n) Long steps from known named whole f holding is =
     one_result codes n steps known (Commit n from ∷ []) whole is (λ registers free. commits codes (behind_commits registers known) n from (uncommitted_parts known is).0 named (holds_still registers known from f holding) free)
 finish_fits codes (Register n) Quad steps from known named whole f holding is = two_results codes n steps from known named whole f holding is

@@ -52,7 +52,7 @@ module _ (P : Left → Type 0) (end : Left → Tree) (pages : Pages) (program : 
   pub reads : (operand : Operand) → IsFor accesses.Read operand → Goes accesses.Read operand → Does accesses.Read operand
   reads operand readable goes =
       read_agrees P end pages program found standing to place operand size steps rest same readable place_apart to_apart
-      (λ value temps below is kept. goes _ temps (rw is (refl, below)) (λ temp a b c. kept temp b a c))
+      (λ value temps below known is kept. goes _ temps (rw is (refl, below, known)) (λ temp a b c. kept temp b a c))
 
   pub locates : (operand : Operand) → IsLocated operand → Goes accesses.Write operand → Does accesses.Write operand
   unfolding find obtain locate

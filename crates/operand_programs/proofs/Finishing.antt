@@ -1,12 +1,13 @@
 -- At the end each register has what the specifiers added, or the result.
-use Rattle.std.proofs.Common.{◌≡◌, ℕ, ◌+◌, ◌*◌, ◌/◌, ◌%◌, ◌^◌, ◌<◌, eqb, false, List, [], ◌++◌, length, get_or, set, refl, sym, ap, ◌∙◌, subst, append_assoc, arith, inl, inr, lit<, Some, zero-add}
+use Rattle.std.proofs.Common.{◌≡◌, ℕ, ◌+◌, ◌*◌, ◌/◌, ◌%◌, ◌^◌, ◌<◌, eqb, false, List, [], ◌++◌, length, get_or, set, refl, sym, ap, ◌∙◌, subst, append_assoc, arith, inl, inr, lit<, zero-add}
 use Rattle.std.specs.Prelude.{◌≢◌, min}
-use Rattle.std.specs.Int.RustNames.{bit_and}
-use Rattle.std.proofs.Math.Nat.{mod-eq_of_lt, min-eq_left}
+use Rattle.std.specs.Int.RustNames.{bit_and, bit_or}
+use Rattle.std.specs.Int.Bits.{or_zero_r}
+use Rattle.std.proofs.Math.Nat.{min-eq_left}
 use Rattle.std.proofs.lemmas.Bool.Decides.{eqb_tells}
 use Rattle.std.proofs.lemmas.Grind.{and_high_numeral}
 use Rattle.std.proofs.lemmas.List.{length-set}
-use Rattle.std.proofs.lemmas.Nat.{mod_below}
+use Rattle.std.proofs.lemmas.Nat.{mod_below, or_block, pow_pos}
 use Rattle.vax_form.specs.State.{register}
 use Rattle.vax_form.specs.Tree.{Tree}
 use Rattle.vax_form.specs.declared.instr.Operand.{Operand}
@@ -26,7 +27,6 @@ use Rattle.operand_programs.specs.Pieces.{Agrees, leaving}
 use Rattle.operand_programs.specs.Results.{given, give_program, finish_program, with_registers_of, KeptBut5, AreLongwords, IsGivable, Finishes, CommitsSteps}
 use Rattle.operand_programs.specs.Operands.{IsOfSize}
 use Rattle.operand_programs.proofs.Commits.{with_r, commits_agree}
-use Rattle.operand_programs.proofs.Places.{sum_course}
 use Rattle.operand_programs.proofs.Stepped.{register_stepped, stepped_set, stepped_set_two}
 
 pub commits_steps : (steps : List ℕ) → CommitsSteps steps (commit_program 0 steps)
@@ -39,11 +39,39 @@ upper_of_byte x lt = let kept : bit_and x 4294967040 + x % 256 ≡ x = and_high_
 upper_of_word : (x : ℕ) → x < 4294967296 → bit_and x 4294901760 ≡ x / 65536 * 65536
 upper_of_word x lt = let kept : bit_and x 4294901760 + x % 65536 ≡ x = and_high_numeral x 4294901759 refl lt in omega (arith, kept)
 
-byte_joined : (x v : ℕ) → v < 256 → (x % 4294967296 / 256 * 256 % 4294967296 + v % 4294967296) % 4294967296 % 4294967296 ≡ x % 4294967296 / 256 * 256 + v % 256
-byte_joined x v lt = omega (arith, lt)
+joined_bits : (k h v : ℕ) → v < 2 ^ k → bit_or (h * 2 ^ k) v ≡ h * 2 ^ k + v
+joined_bits k h v lt =
+    let below : h * 2 ^ k ≡ h * 2 ^ k + 0 = omega arith in
+    let above : v ≡ 0 * 2 ^ k + v = omega arith in
+    ap (λ n. bit_or n v) below
+    ∙ ap (λ n. bit_or (h * 2 ^ k + 0) n) above
+    ∙ or_block k h 0 0 v (pow_pos k) lt
+    ∙ ap (λ n. n * 2 ^ k + v) (or_zero_r h)
 
-word_joined : (x v : ℕ) → v < 65536 → (x % 4294967296 / 65536 * 65536 % 4294967296 + v % 4294967296) % 4294967296 % 4294967296 ≡ x % 4294967296 / 65536 * 65536 + v % 65536
-word_joined x v lt = omega (arith, lt)
+byte_joined : (y whole v : ℕ) → y ≡ whole % 4294967296 → v < 256 → bit_or (bit_and y 4294967040 % 4294967296) (v % 4294967296) % 4294967296 ≡ whole % 4294967296 / 256 * 256 + v % 256
+byte_joined y whole v is lt =
+    let x = whole % 4294967296 in
+    let longword : x < 4294967296 = mod_below whole 4294967296 (lit< tt) in
+    let upper : x / 256 * 256 % 4294967296 ≡ x / 256 * 256 = omega (arith, longword) in
+    let value : v % 4294967296 ≡ v = omega (arith, lt) in
+    let sum : (x / 256 * 256 + v) % 4294967296 ≡ x / 256 * 256 + v % 256 = omega (arith, longword, lt) in
+    rw (is, upper_of_byte x longword, upper, value, joined_bits 8 (x / 256) v lt) sum
+
+word_joined : (y whole v : ℕ) → y ≡ whole % 4294967296 → v < 65536 → bit_or (bit_and y 4294901760 % 4294967296) (v % 4294967296) % 4294967296 ≡ whole % 4294967296 / 65536 * 65536 + v % 65536
+word_joined y whole v is lt =
+    let x = whole % 4294967296 in
+    let longword : x < 4294967296 = mod_below whole 4294967296 (lit< tt) in
+    let upper : x / 65536 * 65536 % 4294967296 ≡ x / 65536 * 65536 = omega (arith, longword) in
+    let value : v % 4294967296 ≡ v = omega (arith, lt) in
+    let sum : (x / 65536 * 65536 + v) % 4294967296 ≡ x / 65536 * 65536 + v % 65536 = omega (arith, longword, lt) in
+    rw (is, upper_of_word x longword, upper, value, joined_bits 16 (x / 65536) v lt) sum
+
+-- a register with its step, and one that has none
+unstepped : (x step : ℕ) → step ≡ 0 → x % 4294967296 ≡ (x + step) % 4294967296
+unstepped x step is = omega (arith, is)
+
+with_its_step : (x step : ℕ) → (x % 4294967296 + step % 4294967296) % 4294967296 % 4294967296 ≡ (x + step) % 4294967296
+with_its_step x step = omega arith
 
 upper_half : (v : ℕ) → v < 18446744073709551616 → v % 18446744073709551616 / 4294967296 % 4294967296 ≡ v / 4294967296
 upper_half v lt = omega (arith, lt)
@@ -91,6 +119,9 @@ module _ (P : Left → Type 0) (end : Left → Tree) (program : List Micro) (fou
       (stepped_set_two found.state.r steps n m (v % 2 ^ 32) (v / 2 ^ 32) other) (λ temp a. rw a (kept temp a)) goes))
 
   -- the result outlasts what goes through temporary 5
+  through_one : (first : ℕ) (temps : Temps) → KeptBut5 standing.temps temps → with_temp 5 first temps from ≡ standing.temps from
+  through_one first temps kept = rw (not_5 from low) (kept from (not_5 from low))
+
   through : (first second : ℕ) (temps : Temps) → KeptBut5 standing.temps temps → with_temp 5 second (with_temp 5 first temps) from ≡ standing.temps from
   through first second temps kept = rw (not_5 from low) (kept from (not_5 from low))
 
@@ -98,39 +129,39 @@ module _ (P : Left → Type 0) (end : Left → Tree) (program : List Micro) (fou
       → Agrees P end (course_of (finish_program (Register n) Byte steps from ++ program) found standing) tree
   unfolding value_from
   gives_byte n fits goes =
-      let x = register n found.state + get_or steps n 0 in
+      let x = register n found.state in
+      let step = get_or steps n 0 in
       let v = standing.temps from in
-      let longword : x % 2 ^ 32 < 2 ^ 32 = mod_below x (2 ^ 32) (lit< tt) in
-      let word : (bit_and (x % 2 ^ 32 % 2 ^ 32) 4294967040 % 2 ^ 32 + v % 2 ^ 32) % 2 ^ 32 % 2 ^ 32 ≡ with_low Byte (register n (stepped steps found.state)) v =
-      ap (λ y. (bit_and y 4294967040 % 2 ^ 32 + v % 2 ^ 32) % 2 ^ 32 % 2 ^ 32) (mod-eq_of_lt longword)
-      ∙ ap (λ y. (y % 2 ^ 32 + v % 2 ^ 32) % 2 ^ 32 % 2 ^ 32) (upper_of_byte (x % 2 ^ 32) longword)
-      ∙ byte_joined x v fits
-      ∙ ap (λ old. old / 256 * 256 + v % 256) (sym (register_stepped found.state steps n same)) in
+      let state = given (InRegister n) Byte v (stepped steps found.state) in
+      let left = stepped_registers found.state.r (set steps n 0) in
+      let made : (y : ℕ) → y ≡ (x + step) % 2 ^ 32 → bit_or (bit_and y 4294967040 % 2 ^ 32) (v % 2 ^ 32) % 2 ^ 32 ≡ with_low Byte (register n (stepped steps found.state)) v =
+      λ y is. byte_joined y (x + step) v is fits ∙ ap (λ old. old / 256 * 256 + v % 256) (sym (register_stepped found.state steps n same)) in
+      let ended : (y w : ℕ) → y ≡ (x + step) % 2 ^ 32 → w ≡ v → set left n (bit_or (bit_and y 4294967040 % 2 ^ 32) (w % 2 ^ 32) % 2 ^ 32) ≡ state.r =
+      λ y w is same_value. ap (λ w. set left n (bit_or (bit_and y 4294967040 % 2 ^ 32) (w % 2 ^ 32) % 2 ^ 32)) same_value ∙ ap (λ word. set left n word) (made y is) ∙ stepped_set found.state.r steps n 0 _ in
       behind (set steps n 0) (give_program (Register n) Byte steps from) (length-set steps n 0 ∙ same)
-      (λ temps kept. rw (sum_course 5 (Some n) (get_or steps n 0) _ found (with_r temps (stepped_registers found.state.r (set steps n 0)) standing))
-      (ends_as (given (InRegister n) Byte v (stepped steps found.state)) _ _
-      (ap (λ w. set (stepped_registers found.state.r (set steps n 0)) n ((bit_and (x % 2 ^ 32 % 2 ^ 32) 4294967040 % 2 ^ 32 + w % 2 ^ 32) % 2 ^ 32 % 2 ^ 32))
-      (through (x % 2 ^ 32) (bit_and (x % 2 ^ 32 % 2 ^ 32) 4294967040) temps kept)
-      ∙ ap (λ w. set (stepped_registers found.state.r (set steps n 0)) n w) word ∙ stepped_set found.state.r steps n 0 _) (λ temp a. rw a (kept temp a)) goes))
+      (λ temps kept. elim (eqb_tells step 0) [
+        | inl is ↦ rw is.0 (ends_as state _ _ (ended (x % 2 ^ 32) _ (unstepped x step is.1) (through_one _ temps kept)) (λ temp a. rw a (kept temp a)) goes)
+        | inr not ↦ rw not.0 (ends_as state _ _ (ended ((x % 2 ^ 32 + step % 2 ^ 32) % 2 ^ 32 % 2 ^ 32) _ (with_its_step x step) (through _ _ temps kept)) (λ temp a. rw a (kept temp a)) goes)
+      ])
 
   pub gives_word : (n : ℕ) → IsOfSize Word (standing.temps from) → GoesOnFrom (given (InRegister n) Word (standing.temps from) (stepped steps found.state))
       → Agrees P end (course_of (finish_program (Register n) Word steps from ++ program) found standing) tree
   unfolding value_from
   gives_word n fits goes =
-      let x = register n found.state + get_or steps n 0 in
+      let x = register n found.state in
+      let step = get_or steps n 0 in
       let v = standing.temps from in
-      let longword : x % 2 ^ 32 < 2 ^ 32 = mod_below x (2 ^ 32) (lit< tt) in
-      let word : (bit_and (x % 2 ^ 32 % 2 ^ 32) 4294901760 % 2 ^ 32 + v % 2 ^ 32) % 2 ^ 32 % 2 ^ 32 ≡ with_low Word (register n (stepped steps found.state)) v =
-      ap (λ y. (bit_and y 4294901760 % 2 ^ 32 + v % 2 ^ 32) % 2 ^ 32 % 2 ^ 32) (mod-eq_of_lt longword)
-      ∙ ap (λ y. (y % 2 ^ 32 + v % 2 ^ 32) % 2 ^ 32 % 2 ^ 32) (upper_of_word (x % 2 ^ 32) longword)
-      ∙ word_joined x v fits
-      ∙ ap (λ old. old / 65536 * 65536 + v % 65536) (sym (register_stepped found.state steps n same)) in
+      let state = given (InRegister n) Word v (stepped steps found.state) in
+      let left = stepped_registers found.state.r (set steps n 0) in
+      let made : (y : ℕ) → y ≡ (x + step) % 2 ^ 32 → bit_or (bit_and y 4294901760 % 2 ^ 32) (v % 2 ^ 32) % 2 ^ 32 ≡ with_low Word (register n (stepped steps found.state)) v =
+      λ y is. word_joined y (x + step) v is fits ∙ ap (λ old. old / 65536 * 65536 + v % 65536) (sym (register_stepped found.state steps n same)) in
+      let ended : (y w : ℕ) → y ≡ (x + step) % 2 ^ 32 → w ≡ v → set left n (bit_or (bit_and y 4294901760 % 2 ^ 32) (w % 2 ^ 32) % 2 ^ 32) ≡ state.r =
+      λ y w is same_value. ap (λ w. set left n (bit_or (bit_and y 4294901760 % 2 ^ 32) (w % 2 ^ 32) % 2 ^ 32)) same_value ∙ ap (λ word. set left n word) (made y is) ∙ stepped_set found.state.r steps n 0 _ in
       behind (set steps n 0) (give_program (Register n) Word steps from) (length-set steps n 0 ∙ same)
-      (λ temps kept. rw (sum_course 5 (Some n) (get_or steps n 0) _ found (with_r temps (stepped_registers found.state.r (set steps n 0)) standing))
-      (ends_as (given (InRegister n) Word v (stepped steps found.state)) _ _
-      (ap (λ w. set (stepped_registers found.state.r (set steps n 0)) n ((bit_and (x % 2 ^ 32 % 2 ^ 32) 4294901760 % 2 ^ 32 + w % 2 ^ 32) % 2 ^ 32 % 2 ^ 32))
-      (through (x % 2 ^ 32) (bit_and (x % 2 ^ 32 % 2 ^ 32) 4294901760) temps kept)
-      ∙ ap (λ w. set (stepped_registers found.state.r (set steps n 0)) n w) word ∙ stepped_set found.state.r steps n 0 _) (λ temp a. rw a (kept temp a)) goes))
+      (λ temps kept. elim (eqb_tells step 0) [
+        | inl is ↦ rw is.0 (ends_as state _ _ (ended (x % 2 ^ 32) _ (unstepped x step is.1) (through_one _ temps kept)) (λ temp a. rw a (kept temp a)) goes)
+        | inr not ↦ rw not.0 (ends_as state _ _ (ended ((x % 2 ^ 32 + step % 2 ^ 32) % 2 ^ 32 % 2 ^ 32) _ (with_its_step x step) (through _ _ temps kept)) (λ temp a. rw a (kept temp a)) goes)
+      ])
 
   pub gives : (n : ℕ) (size : Size) → IsGivable (Register n) size → IsOfSize size (standing.temps from) → GoesOnFrom (given (InRegister n) size (standing.temps from) (stepped steps found.state))
       → Agrees P end (course_of (finish_program (Register n) size steps from ++ program) found standing) tree

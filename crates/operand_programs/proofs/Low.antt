@@ -19,7 +19,7 @@ use Rattle.micro_ops.specs.declared.program.Micro.{Micro}
 use Rattle.micro_ops.specs.declared.program.Micro.TheVariants.{Probe, Read}
 use Rattle.operand_programs.specs.Specifiers.{sum_into, address_program, index_program, place_program, pointer_of, steps_behind, register_program, commit_one, commit_program}
 use Rattle.operand_programs.specs.Operands.{access_program}
-use Rattle.operand_programs.specs.Results.{steps_left, give_program, steps_behind_push}
+use Rattle.operand_programs.specs.Results.{steps_left, cleared_program, give_program, steps_behind_push}
 use Rattle.operand_programs.specs.Words.{OperandIsLow, ResultIsLow, ReplacementIsLow, PushIsLow, FinishIsLow, CommitsAreLow}
 use Rattle.operand_programs.specs.declared.specifiers.Pointer.{Pointer}
 
@@ -100,9 +100,12 @@ commits_low : (number : ℕ) (steps : List ℕ) → IsLowPiece (commit_program n
 commits_low number [] = refl
 commits_low number (step ∷ steps) = joined_low (commit_one number step) (commit_program (number + 1) steps) (one_low number step) (commits_low (number + 1) steps)
 
+cleared_low : (n step mask : ℕ) → IsLowPiece (cleared_program n step mask)
+cleared_low n step mask = elim (eqb_tells step 0) [ inl is ↦ rw is.0 refl | inr not ↦ rw not.0 refl ]
+
 give_low : (operand : Operand) (size : Size) (steps : List ℕ) (from : ℕ) → is_low from ≡ true → IsLowPiece (give_program operand size steps from)
-give_low (Register n) Byte steps from f = rw (sum_low 5 (Some n) (get_or steps n 0) refl, f) refl
-give_low (Register n) Word steps from f = rw (sum_low 5 (Some n) (get_or steps n 0) refl, f) refl
+give_low (Register n) Byte steps from f = joined_low (cleared_program n (get_or steps n 0) 0xFF) _ (cleared_low n (get_or steps n 0) 0xFF) (rw f refl)
+give_low (Register n) Word steps from f = joined_low (cleared_program n (get_or steps n 0) 0xFFFF) _ (cleared_low n (get_or steps n 0) 0xFFFF) (rw f refl)
 give_low (Register n) Long steps from f = rw f refl
 give_low (Register n) Quad steps from f = rw f refl
 give_low (Place base index) size steps from f = refl

@@ -79,15 +79,15 @@ register_agrees P end program found standing to place n Quad steps tree same oth
 pub read_agrees : (P : Left → Type 0) (end : Left → Tree) (pages : Pages) (program : List Micro) (found : Found) (standing : Standing) (to place : ℕ)
     (operand : Operand) (size : Size) (steps : List ℕ) (rest : Evaluated → VaxState → Tree)
     → length steps ≡ length found.state.r → IsReadable operand → eqb place 4 ≡ false → eqb to 4 ≡ false
-    → GoesOnWith P end program found standing size to place (λ evaluated. rest evaluated (stepped (steps_behind_operand operand size steps) found.state))
+    → GoesOnWith P end program found standing operand size to place (λ evaluated. rest evaluated (stepped (steps_behind_operand operand size steps) found.state))
     → Agrees P end (course_of (read_program operand size steps to place ++ program) found standing)
     (tree_of pages (evaluate accesses.Read size operand) (stepped steps found.state) rest)
 unfolding find obtain read_found locate value_from
 read_agrees P end pages program found standing to place (Value value) size steps rest same readable apart other goes =
-    goes (value % 2 ^ (8 * bytes_of size)) (with_temp to (value % 2 ^ (8 * bytes_of size)) standing.temps) (mod_below value _ (pow_pos (8 * bytes_of size))) (rw (eqb_same to) refl) (λ temp a b c. rw a refl)
+    goes (value % 2 ^ (8 * bytes_of size)) (with_temp to (value % 2 ^ (8 * bytes_of size)) standing.temps) (mod_below value _ (pow_pos (8 * bytes_of size))) refl (rw (eqb_same to) refl) (λ temp a b c. rw a refl)
 read_agrees P end pages program found standing to place (Register n) size steps rest same readable apart other goes =
     register_agrees P end program found standing to place n size steps _ same other
-    (λ temps at kept. goes (value_in n size steps found.state) temps (value_in_below n size steps found.state) at kept)
+    (λ temps at kept. goes (value_in n size steps found.state) temps (value_in_below n size steps found.state) tt at kept)
 read_agrees P end pages program found standing to place (Place base index) size steps rest same readable apart other goes =
     rw append_assoc (place_agrees P end pages (Probe place (bytes_of size) false ∷ Read to place (bytes_of size) ∷ program) found standing place to base index size steps _ same readable apart
     (λ address temps below is kept. rw is (
@@ -95,7 +95,7 @@ read_agrees P end pages program found standing to place (Place base index) size 
       refl,
       refl,
       reads_agree P end pages address (bytes_of size) _ (λ value. course_of program found (with_value to value (with_temps temps standing))) _ (some_bytes size)
-          (λ value fits. rw (mod-eq_of_lt fits) (goes value (with_temp to value temps) fits (rw (eqb_same to) refl) (λ temp a b c. rw a (kept temp b a c)))),
+          (λ value fits. rw (mod-eq_of_lt fits) (goes value (with_temp to value temps) fits tt (rw (eqb_same to) refl) (λ temp a b c. rw a (kept temp b a c)))),
     )))
 read_agrees P end pages program found standing to place Unused size steps rest same readable apart other goes = absurd readable
 read_agrees P end pages program found standing to place (Target address) size steps rest same readable apart other goes = absurd readable

@@ -14,13 +14,13 @@ use Rattle.vax_form.specs.declared.instr.Size.{Size}
 use Rattle.vax_form.specs.declared.instr.Size.TheVariants.{Byte, Word, Long, Quad}
 use Rattle.micro_ops.specs.Laws.{piece_words}
 use Rattle.micro_ops.specs.WordCounts.{words_of}
-use Rattle.micro_ops.specs.declared.program.Arg.TheVariants.{Const}
+use Rattle.micro_ops.specs.declared.program.Arg.TheVariants.{Const, Temp}
 use Rattle.micro_ops.specs.declared.program.Micro.{Micro}
-use Rattle.micro_ops.specs.declared.program.Micro.TheVariants.{Compute, Probe, Read}
+use Rattle.micro_ops.specs.declared.program.Micro.TheVariants.{Compute, Probe, Read, Commit}
 use Rattle.micro_ops.specs.declared.program.MicroOp.TheVariants as ops
 use Rattle.operand_programs.specs.Specifiers.{sum_into, address_program, index_program, place_program, pointer_of, steps_behind, register_program, commit_one, commit_program}
 use Rattle.operand_programs.specs.Operands.{access_program, steps_behind_access, IsFor}
-use Rattle.operand_programs.specs.Results.{steps_left, give_program, steps_behind_push}
+use Rattle.operand_programs.specs.Results.{steps_left, cleared_program, give_program, steps_behind_push}
 use Rattle.operand_programs.specs.Words.{words_of_steps, place_most, access_most, operand_most, finish_most, OperandIsShort, ResultIsShort, ReplacementIsShort, PushIsShort, FinishIsShort}
 use Rattle.operand_programs.specs.declared.specifiers.Pointer.{Pointer}
 
@@ -172,9 +172,16 @@ left_most Unused size steps = omega arith
 left_most (Value value) size steps = omega arith
 left_most (Target address) size steps = omega arith
 
+-- the low bits are joined
+abbrev joined_with : (n from : ℕ) → List Micro
+joined_with n from = Compute 5 ops.Or Long (Temp 5) (Temp from) ∷ Commit n 5 ∷ []
+
+cleared_most : (n step mask : ℕ) → piece_words (cleared_program n step mask) ≤ 8
+cleared_most n step mask = elim (eqb_tells step 0) [ inl is ↦ rw is.0 (lit≤ tt) | inr not ↦ rw not.0 (lit≤ tt) ]
+
 give_most : (operand : Operand) (size : Size) (steps : List ℕ) (from : ℕ) → piece_words (give_program operand size steps from) ≤ finish_most operand
-give_most (Register n) Byte steps from = omega (arith, sum_most 5 (Some n) (get_or steps n 0))
-give_most (Register n) Word steps from = omega (arith, sum_most 5 (Some n) (get_or steps n 0))
+give_most (Register n) Byte steps from = omega (arith, joined (cleared_program n (get_or steps n 0) 0xFF) (joined_with n from), cleared_most n (get_or steps n 0) 0xFF)
+give_most (Register n) Word steps from = omega (arith, joined (cleared_program n (get_or steps n 0) 0xFFFF) (joined_with n from), cleared_most n (get_or steps n 0) 0xFFFF)
 give_most (Register n) Long steps from = lit≤ tt
 give_most (Register n) Quad steps from = lit≤ tt
 give_most (Place base index) size steps from = lit≤ tt

@@ -20,7 +20,7 @@ use Rattle.micro_ops.specs.Meaning.{Left, Temps, Found, Standing, course_of}
 use Rattle.micro_ops.specs.declared.codes.CodeSources.{CodeSources}
 use Rattle.micro_ops.specs.declared.program.Micro.{Micro}
 use Rattle.operand_programs.specs.Specifiers.{stepped, steps_behind_operand, place_program, register_program, read_program, locate_program, modify_program}
-use Rattle.operand_programs.specs.Pieces.{Agrees, Kept, with_temps, leaving, IsLong, IsReadable}
+use Rattle.operand_programs.specs.Pieces.{Agrees, Kept, with_temps, leaving, IsLong, IsReadable, IsKnownValue}
 use Rattle.operand_programs.specs.declared.operands.Specifier.{Specifier}
 
 -- ---- the programs
@@ -105,7 +105,7 @@ IsBase operand evaluated value address = IsAt operand evaluated.location address
 
 -- the temporaries hold the value and the address of what was evaluated
 abbrev pub IsLeftAs : Access → Operand → Size → Evaluated → (value address : ℕ) → Type 0
-IsLeftAs accesses.Read operand size evaluated value address = (evaluated ≡ record { location = InMemory 0; value = value }) × IsOfSize size value
+IsLeftAs accesses.Read operand size evaluated value address = (evaluated ≡ record { location = InMemory 0; value = value }) × IsOfSize size value × IsKnownValue operand size value
 IsLeftAs accesses.Write operand size evaluated value address = (evaluated.value ≡ 0) × IsAt operand evaluated.location address
 IsLeftAs accesses.Modify operand size evaluated value address = (evaluated.value ≡ value) × IsOfSize size value × IsAt operand evaluated.location address
 IsLeftAs accesses.Address operand size evaluated value address = (evaluated ≡ record { location = InMemory value; value = value }) × (value < 2 ^ 32)

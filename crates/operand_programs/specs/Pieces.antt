@@ -1,5 +1,5 @@
 -- What a piece of a program does: with whatever comes behind it, the course is that of the instruction's script.
-use Rattle.std.specs.Prelude.{◌≡◌, ℕ, ◌*◌, ◌^◌, ◌<◌, ◌==◌, false, List}
+use Rattle.std.specs.Prelude.{◌≡◌, ℕ, ◌*◌, ◌%◌, ◌^◌, ◌<◌, ◌==◌, false, List}
 use Rattle.vax_form.specs.Size.{bytes_of}
 use Rattle.vax_form.specs.State.{Answers}
 use Rattle.vax_form.specs.Tree.{Tree, Same, instruction_tree, tree_of}
@@ -47,9 +47,15 @@ IsReadable (operands.Register n) = Unit {0}
 IsReadable operands.Unused = ⊥
 IsReadable (operands.Target address) = ⊥
 
+-- a literal is known: its low bytes
+abbrev pub IsKnownValue : Operand → Size → (value : ℕ) → Type 0
+IsKnownValue (operands.Value number) size value = value ≡ number % 2 ^ (8 * bytes_of size)
+IsKnownValue operand size value = Unit {0}
+
 -- what comes behind agrees for each value that the operand may have
-abbrev pub GoesOnWith : (Left → Type 0) → (Left → Tree) → List Micro → Found → Standing → Size → (to place : ℕ) → (Evaluated → Tree) → Type 0
-GoesOnWith P end program found standing size to place rest = (value : ℕ) (temps : Temps) → value < 2 ^ (8 * bytes_of size) → temps to ≡ value → Kept to place standing.temps temps
+abbrev pub GoesOnWith : (Left → Type 0) → (Left → Tree) → List Micro → Found → Standing → Operand → Size → (to place : ℕ) → (Evaluated → Tree) → Type 0
+GoesOnWith P end program found standing operand size to place rest = (value : ℕ) (temps : Temps) → value < 2 ^ (8 * bytes_of size) → IsKnownValue operand size value
+    → temps to ≡ value → Kept to place standing.temps temps
     → Agrees P end (course_of program found (with_temps temps standing)) (rest (record { location = InMemory 0; value = value }))
 
 -- what a service does

@@ -1,6 +1,6 @@
 -- A result goes to memory or to a register, and what the specifiers added goes into the registers.
 -- VAX Architecture Reference Manual, "Operand Specifier Formats": a byte or a word keeps the upper bits of its register.
-use Rattle.std.specs.Prelude.{◌≡◌, ℕ, ◌+◌, ◌-◌, ◌^◌, ◌<◌, ◌==◌, false, Some, List, [], ◌∷◌, ◌++◌, length, min, slice_index, slice_set}
+use Rattle.std.specs.Prelude.{◌≡◌, ℕ, ◌+◌, ◌-◌, ◌^◌, ◌<◌, ◌==◌, false, Some, List, [], ◌∷◌, ◌++◌, length, min, slice_index, slice_set, if◌then◌else◌}
 use Rattle.vax_form.specs.Size.{bytes_of}
 use Rattle.vax_form.specs.Script.{Script}
 use Rattle.vax_form.specs.State.{with_core, SP}
@@ -18,7 +18,7 @@ use Rattle.vax_meaning.specs.declared.operands.Location.TheVariants.{InMemory, I
 use Rattle.micro_ops.specs.Leaving.{CodesComeFrom}
 use Rattle.micro_ops.specs.Meaning.{Temps, Found, Standing, course_of}
 use Rattle.micro_ops.specs.declared.codes.CodeSources.{CodeSources}
-use Rattle.micro_ops.specs.declared.program.Arg.TheVariants.{Temp, Const}
+use Rattle.micro_ops.specs.declared.program.Arg.TheVariants.{Temp, Register, Const}
 use Rattle.micro_ops.specs.declared.program.Micro.{Micro}
 use Rattle.micro_ops.specs.declared.program.Micro.TheVariants.{Compute, Write, Commit}
 use Rattle.micro_ops.specs.declared.program.MicroOp.TheVariants as ops
@@ -66,14 +66,16 @@ steps_left (operands.Register n) Quad steps = slice_set (slice_set steps n 0) (m
 steps_left (operands.Register n) size steps = slice_set steps n 0
 steps_left operand size steps = steps
 
--- the low bits are replaced
-abbrev pub low_program : (number : ℕ) → (steps : List ℕ) → (upper from : ℕ) → List Micro
-low_program n steps upper from =
-    sum_into 5 (Some n) (slice_index steps n)
-    ∷ Compute 5 ops.And Long (Temp 5) (Const upper)
-    ∷ Compute 5 ops.Add Long (Temp 5) (Temp from)
-    ∷ Commit n 5
-    ∷ []
+-- a register without the bits of a mask; one to which something was added is taken with that
+abbrev pub cleared_program : (number step mask : ℕ) → List Micro
+cleared_program n step mask =
+    if step == 0
+    then Compute 5 ops.AndNot Long (Register n) (Const mask) ∷ []
+    else Compute 5 ops.Add Long (Register n) (Const step) ∷ Compute 5 ops.AndNot Long (Temp 5) (Const mask) ∷ []
+
+-- the low bits, those of the mask, are replaced
+abbrev pub low_program : (number : ℕ) → (steps : List ℕ) → (mask from : ℕ) → List Micro
+low_program n steps mask from = cleared_program n (slice_index steps n) mask ++ Compute 5 ops.Or Long (Temp 5) (Temp from) ∷ Commit n 5 ∷ []
 
 -- the halves of a quadword go into a register and the next one
 abbrev pub pair_program : (number from : ℕ) → List Micro
@@ -86,8 +88,8 @@ IsGivable operand size = Unit {0}
 
 -- the result goes into its register
 abbrev pub give_program : Operand → Size → (steps : List ℕ) → (from : ℕ) → List Micro
-give_program (operands.Register n) Byte steps from = low_program n steps 0xFFFF_FF00 from
-give_program (operands.Register n) Word steps from = low_program n steps 0xFFFF_0000 from
+give_program (operands.Register n) Byte steps from = low_program n steps 0xFF from
+give_program (operands.Register n) Word steps from = low_program n steps 0xFFFF from
 give_program (operands.Register n) Long steps from = Commit n from ∷ []
 give_program (operands.Register n) Quad steps from = pair_program n from
 give_program operand size steps from = []

@@ -2,7 +2,7 @@
 ghost use Rattle.std.specs.Prelude.{◌≡◌, ◌<◌, ◌==◌, false, ◌++◌, OnErr, OnOk, slice_set};
 ghost use Rattle.operand_programs.specs.Fronts.{IsFrontOf};
 ghost use Rattle.operand_programs.specs.Specifiers.{commit_one, commit_program, store_program};
-ghost use Rattle.operand_programs.specs.Results.{result_program, replacement_program, StoresResult, ReplacesOperand, steps_left, low_program, pair_program, give_program, IsGivable, finish_program, Finishes, CommitsSteps, steps_behind_push, push_program, Pushes};
+ghost use Rattle.operand_programs.specs.Results.{result_program, replacement_program, StoresResult, ReplacesOperand, steps_left, cleared_program, low_program, pair_program, give_program, IsGivable, finish_program, Finishes, CommitsSteps, steps_behind_push, push_program, Pushes};
 
 use crate::specifiers::{Steps, add_step, long, step, sum_into};
 use micro_ops::{Arg, Micro, MicroOp};
@@ -11,10 +11,10 @@ use vax_form::{Operand, SP, Size, WantOfMemory};
 
 /// What a push adds to SP.
 const BELOW: u32 = 0xFFFF_FFFC;
-/// The bits above a byte, and above a word.
-const ABOVE_BYTE: u32 = 0xFFFF_FF00;
+/// The bits of a byte, and of a word.
+const BYTE: u64 = 0xFF;
 
-const ABOVE_WORD: u32 = 0xFFFF_0000;
+const WORD: u64 = 0xFFFF;
 
 /// The operand at the place is checked with write intent and written.
 fn put_store(program: &mut Vec<Micro>, size: Size, place: u8, from: u8) -> Result<(), AllocError>
@@ -137,21 +137,35 @@ pub fn put_steps(program: &mut Vec<Micro>, steps: &Steps) -> Result<(), WantOfMe
     Ok(())
 }
 
-/// The low bits of a register are replaced.
+/// A register without the bits of a mask goes into temporary 5; one to which something was added is taken with that.
+fn put_cleared(program: &mut Vec<Micro>, number: u8, step: u32, mask: u64) -> Result<(), AllocError>
+    ensures program { OnOk result (program.new.items ≡ program.old.items ++ cleared_program number step mask) }
+    ensures refused { OnErr result (IsFrontOf program.old.items program.new.items) }
+{
+    let (found, mask) = (Arg::Register(number), Arg::Const(mask));
+    if step == 0 {
+        program.push(long(5, MicroOp::AndNot, found, mask))?;
+    } else {
+        let added = Arg::Const(u64::from(step));
+        program.push(long(5, MicroOp::Add, found, added))?;
+        program.push(long(5, MicroOp::AndNot, Arg::Temp(5), mask))?;
+    }
+    Ok(())
+}
+
+/// The low bits of a register, those of the mask, are replaced.
 fn put_low(
     program: &mut Vec<Micro>,
     number: u8,
     steps: &Steps,
-    upper: u32,
+    mask: u64,
     from: u8,
 ) -> Result<(), AllocError>
-    ensures program { OnOk result (program.new.items ≡ program.old.items ++ low_program number steps.now upper from) }
+    ensures program { OnOk result (program.new.items ≡ program.old.items ++ low_program number steps.now mask from) }
     ensures refused { OnErr result (IsFrontOf program.old.items program.new.items) }
 {
-    let (kept, value) = (Arg::Const(u64::from(upper)), Arg::Temp(from));
-    program.push(sum_into(5, Some(number), step(steps, number)))?;
-    program.push(long(5, MicroOp::And, Arg::Temp(5), kept))?;
-    program.push(long(5, MicroOp::Add, Arg::Temp(5), value))?;
+    put_cleared(program, number, step(steps, number), mask)?;
+    program.push(long(5, MicroOp::Or, Arg::Temp(5), Arg::Temp(from)))?;
     program.push(Micro::Commit {
         register: number,
         from: 5,
@@ -194,12 +208,8 @@ fn put_give(
     ensures refused { OnErr result (IsFrontOf program.old.items program.new.items) }
 {
     match (operand, size) {
-        (Operand::Register(number), Size::Byte) => {
-            put_low(program, number, steps, ABOVE_BYTE, from)
-        }
-        (Operand::Register(number), Size::Word) => {
-            put_low(program, number, steps, ABOVE_WORD, from)
-        }
+        (Operand::Register(number), Size::Byte) => { put_low(program, number, steps, BYTE, from) }
+        (Operand::Register(number), Size::Word) => { put_low(program, number, steps, WORD, from) }
         (Operand::Register(number), Size::Long) => {
             program.push(Micro::Commit {
                 register: number,
