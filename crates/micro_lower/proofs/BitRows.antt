@@ -1,5 +1,5 @@
 -- Branches on a bit do what their instructions do.
-use Rattle.std.proofs.Common.{◌≡◌, ℕ, ◌+◌, ◌-◌, ◌*◌, ◌/◌, ◌%◌, ◌^◌, ◌<◌, ◌==◌, Bool, true, false, List, [], ◌∷◌, ◌++◌, length, Option, refl, sym, ap, ◌∙◌, subst, arith, inl, inr, lit<, ltb-false}
+use Rattle.std.proofs.Common.{◌≡◌, ℕ, ◌+◌, ◌-◌, ◌*◌, ◌/◌, ◌%◌, ◌^◌, ◌<◌, ◌==◌, Bool, true, false, List, [], ◌∷◌, ◌++◌, length, Option, None, refl, sym, ap, ◌∙◌, subst, arith, inl, inr, lit<, ltb-false}
 use Rattle.std.specs.Prelude.{◌&&◌, ◌||◌, nat_lt, bit_and, bit_or, if◌then◌else◌}
 use Rattle.std.specs.List.{list_all}
 use Rattle.std.proofs.Math.Nat.{mod-eq_of_lt}
@@ -19,7 +19,6 @@ use Rattle.vax_form.specs.declared.instr.Operand.{Operand}
 use Rattle.vax_form.specs.declared.instr.Operand.TheVariants as operands
 use Rattle.vax_form.specs.declared.instr.Size.{Size}
 use Rattle.vax_form.specs.declared.instr.Size.TheVariants.{Byte, Long}
-use Rattle.vax_form.specs.declared.operation.BitBranch.{BitBranch}
 use Rattle.vax_form.specs.declared.operation.BitStore.{BitStore}
 use Rattle.vax_form.specs.declared.operation.BitStore.TheVariants.{Nothing, Plain, Interlocked}
 use Rattle.vax_form.specs.declared.operation.Operation.TheVariants as operations
@@ -34,7 +33,6 @@ use Rattle.vax_meaning.specs.Instructions.{body}
 use Rattle.vax_meaning.specs.Memory.{low_bytes, read, write}
 use Rattle.vax_meaning.specs.Operands.{put}
 use Rattle.vax_meaning.specs.declared.evaluation.Evaluated.{Evaluated}
-use Rattle.vax_meaning.specs.declared.operands.Location.{Location}
 use Rattle.vax_meaning.specs.declared.operands.Location.TheVariants.{InMemory, InRegister}
 use Rattle.vt_words.specs.Shifts.{right_shift_of}
 use Rattle.vt_words.specs.Values.{bit}
@@ -56,11 +54,11 @@ use Rattle.operand_programs.specs.Specifiers.{stepped, commit_program}
 use Rattle.operand_programs.specs.declared.operands.Specifier.{Specifier}
 use Rattle.operand_programs.proofs.Accesses.{reads_agree, writes_agree}
 use Rattle.micro_lower.specs.Plans.{steps_of}
-use Rattle.micro_lower.specs.Rows.{branch_exit, bit_tested, storing, with_bit_into, byte_program, bit_plan_for, bit_branch_plan}
+use Rattle.micro_lower.specs.Rows.{branch_exit, bit_tested, storing, with_bit_into, byte_program, bit_plan_for}
 use Rattle.micro_lower.proofs.BitValues.{bit_set, bit_cleared, last_bit}
 use Rattle.micro_lower.proofs.Endings.{found_at, with, DoesSo, computes, is_computation, nowhere, replaces, closes_kept}
 use Rattle.micro_lower.proofs.JumpRows.{go_end, set_test, clear_test}
-use Rattle.micro_lower.proofs.Planned.{AllDo, BodyDoes, after_read, after_branch, after_all, specifier, value}
+use Rattle.micro_lower.proofs.Planned.{BodyDoes, after_read, after_branch, after_all, specifier, value}
 use Rattle.micro_lower.proofs.PswRows.{refuses}
 use Rattle.micro_lower.proofs.Ready.{effect}
 
@@ -70,7 +68,7 @@ after_field : (size : Size) (operand : Operand) (to place : ℕ) (later : List S
     → ((others : List Evaluated) → AreLeft later others temps → (first : Evaluated) → IsBase operand first (temps to) (temps place) → P (first ∷ others)) → P values
 after_field size operand to place later values temps P left goes = subst P (sym left.2) (goes left.1 left.4 left.0 left.3)
 
-read_field_branch : (values : List Evaluated) (temps : Temps) (P : List Evaluated → Type 0) (a b c : Operand)
+pub read_field_branch : (values : List Evaluated) (temps : Temps) (P : List Evaluated → Type 0) (a b c : Operand)
     → AreLeft (specifier Read Long a 0 1 ∷ specifier Field Byte b 1 2 ∷ specifier Branch Byte c 0 1 ∷ []) values temps
     → ((first : Evaluated) → IsOfSize Long (temps 0) → IsBase b first (temps 1) (temps 2) → P (value (temps 0) ∷ first ∷ nothing ∷ [])) → P values
 read_field_branch values temps P a b c left goes =
@@ -95,7 +93,7 @@ test_keeps true size found temps = refl
 test_keeps false size found temps = refl
 
 -- ---- a bit of a register
-outside_is : (n position : ℕ) → (nat_lt 31 position || (n == 14 && nat_lt 32 (position + 1))) ≡ nat_lt 31 position
+pub outside_is : (n position : ℕ) → (nat_lt 31 position || (n == 14 && nat_lt 32 (position + 1))) ≡ nat_lt 31 position
 outside_is n position = elim (cases_lt 31 position) [
   | inl above ↦ (let t : nat_lt 31 position ≡ true = lt-ltb 31 position above in rw t refl)
   | inr below ↦ (let t : nat_lt 31 position ≡ false = grind (arith, nat_tests) in
@@ -107,13 +105,13 @@ outside_is n position = elim (cases_lt 31 position) [
     never true = refl
     never false = refl
 
-inside : (position : ℕ) → nat_lt 31 position ≡ false → position < 32
+pub inside : (position : ℕ) → nat_lt 31 position ≡ false → position < 32
 inside position fine = let le = ltb-false 31 position fine in omega (arith, le)
 
 told : (n k : ℕ) → n / 2 ^ k % 2 ≡ bit_and (n / 2 ^ k) 1
 told n k = sym (and_mask (n / 2 ^ k) 1)
 
-low_told : (whole k : ℕ) → k < 32 → whole % 2 ^ 32 / 2 ^ k % 2 ≡ whole / 2 ^ k % 2
+pub low_told : (whole k : ℕ) → k < 32 → whole % 2 ^ 32 / 2 ^ k % 2 ≡ whole / 2 ^ k % 2
 low_told whole k lt =
     told (whole % 2 ^ 32) k ∙ shr_and_one (whole % 2 ^ 32) k
     ∙ sym (bit_at_cat_low (whole / 2 ^ 32) 32 (whole % 2 ^ 32) k lt)
@@ -132,13 +130,13 @@ one_at k lt =
 rest_of_all : (unit : ℕ) → unit < 2 ^ 32 → (2 ^ 64 - 1 - unit) % 2 ^ 32 ≡ 2 ^ 32 - 1 - unit
 rest_of_all unit lt = omega (arith, lt)
 
-set_register : (whole k : ℕ) → k < 32 → bit_or (whole % 2 ^ 32) (2 ^ k) ≡ with_bits whole k 1 1 % 2 ^ 32
+pub set_register : (whole k : ℕ) → k < 32 → bit_or (whole % 2 ^ 32) (2 ^ k) ≡ with_bits whole k 1 1 % 2 ^ 32
 set_register whole k lt =
     ap (λ n. bit_or (whole % 2 ^ 32) n) (sym (mod-eq_of_lt (pow-lt lt)))
     ∙ sym (or_mod whole (2 ^ k) 32)
     ∙ ap (λ n. n % 2 ^ 32) (bit_set whole k)
 
-cleared_register : (whole k : ℕ) → k < 32 → whole < 2 ^ 64 → bit_and (whole % 2 ^ 32) (2 ^ 32 - 1 - 2 ^ k) ≡ with_bits whole k 1 0 % 2 ^ 32
+pub cleared_register : (whole k : ℕ) → k < 32 → whole < 2 ^ 64 → bit_and (whole % 2 ^ 32) (2 ^ 32 - 1 - 2 ^ k) ≡ with_bits whole k 1 0 % 2 ^ 32
 cleared_register whole k lt fits =
     let room : 64 ≡ 63 - k + 1 + k = omega (arith, lt) in
     ap (λ n. bit_and (whole % 2 ^ 32) n) (sym (rest_of_all (2 ^ k) (pow-lt lt)))
@@ -163,7 +161,7 @@ told_long temps k x zero one lt fits =
     let t : nat_lt k 32 ≡ true = lt-ltb k 32 lt in
     rw (zero, one, same, t, mod-eq_of_lt fits) refl
 
-again : (x : ℕ) → x % 2 ^ 32 % 2 ^ 32 ≡ x % 2 ^ 32
+pub again : (x : ℕ) → x % 2 ^ 32 % 2 ^ 32 ≡ x % 2 ^ 32
 again x = omega arith
 
 module _ (s : Bool) (instr : Instr) (state : VaxState) (pages : Pages) (thread : ℕ) (temps : Temps) (ok : IsState state) (zero_fits : temps 0 < 2 ^ 32) where
@@ -226,18 +224,18 @@ module _ (s : Bool) (instr : Instr) (state : VaxState) (pages : Pages) (thread :
         let number : temps 0 ≡ position % 32 = omega (arith, is, fine) in
         stored v whole (temps 0) (temps 1) held small (mod_below registers (2 ^ 64) (lit< tt)) one_is ∙ ap (λ k. with_bits whole k 1 (bit v) % 2 ^ 32) number
 
-    register_body : (store : BitStore) → (let plan = bit_plan_for (operands.Register n) (record { state = s; store = store }) instr in length (steps_of plan.slots instr) ≡ length state.r
+    pub register_body : (store : BitStore) → (let plan = bit_plan_for None (operands.Register n) (record { state = s; store = store }) instr in length (steps_of plan.slots instr) ≡ length state.r
         → BodyDoes (operations.BranchOnBit (record { state = s; store = store })) instr plan state pages thread temps bit_values)
     unfolding body branch_on_bit bit_found leave_bit put sources_of value_from
     register_body Nothing same =
-        let plan = bit_plan_for (operands.Register n) (record { state = s; store = Nothing }) instr in
+        let plan = bit_plan_for None (operands.Register n) (record { state = s; store = Nothing }) instr in
         let steps = steps_of plan.slots instr in
         let after = effect refused_first found temps in
         rw (outside_is n position) (refuses (from Kept Kept) state pages thread instr.after 4 (nat_lt 31 position) (bit_tested s Long ++ (commit_program 0 steps ++ close)) after (go_end pages pc (stepped steps state)) refl (λ fine.
         nowhere (from Kept Kept) state pages thread instr.after ok close (go_end pages pc) _ (closes_kept state pages thread instr.after (branch_exit instr 2) pc) (bit_tested s Long) (tests_compute s Long) steps after same
         (record { low = lit< tt; goes = goes_by_register after refl refl (inside position fine) })))
     register_body (Plain v) same =
-        let plan = bit_plan_for (operands.Register n) (record { state = s; store = Plain v }) instr in
+        let plan = bit_plan_for None (operands.Register n) (record { state = s; store = Plain v }) instr in
         let steps = steps_of plan.slots instr in
         let after = effect refused_first found temps in
         rw (outside_is n position) (refuses (from Kept Kept) state pages thread instr.after 4 (nat_lt 31 position) (with_bit_into 2 Long v ++ (bit_tested s Long ++ (finish_program (operands.Register n) Long steps 2 ++ close))) after
@@ -245,7 +243,7 @@ module _ (s : Bool) (instr : Instr) (state : VaxState) (pages : Pages) (thread :
         let small = inside position fine in
         stores_in v steps same (effect (with_bit_into 2 Long v) found after) refl refl (two_is v (after 2) small) small))
     register_body (Interlocked v) same =
-        let plan = bit_plan_for (operands.Register n) (record { state = s; store = Interlocked v }) instr in
+        let plan = bit_plan_for None (operands.Register n) (record { state = s; store = Interlocked v }) instr in
         let steps = steps_of plan.slots instr in
         let after = effect refused_first found temps in
         rw (outside_is n position) (refuses (from Kept Kept) state pages thread instr.after 4 (nat_lt 31 position) (with_bit_into 2 Long v ++ (bit_tested s Long ++ (finish_program (operands.Register n) Long steps 2 ++ close))) after
@@ -256,7 +254,7 @@ module _ (s : Bool) (instr : Instr) (state : VaxState) (pages : Pages) (thread :
 -- ---- a bit in memory
 module _ (P : Left → Type 0) (end : Left → Tree) (pages : Pages) (state : VaxState) where
   -- a byte is checked and read
-  read_at : (write : Bool) (on : ℕ → Course Left) (rest : ℕ → VaxState → Tree) (place address : ℕ) → place ≡ address
+  pub read_at : (write : Bool) (on : ℕ → Course Left) (rest : ℕ → VaxState → Tree) (place address : ℕ) → place ≡ address
       → ((byte : ℕ) → byte < 2 ^ 8 → Agrees P end (on byte) (rest byte state))
       → Agrees P end (Check place 1 write (read_parts (parts place 1) on)) (trees.Check address 1 write (tree_of pages (read address 1) state rest))
   read_at write on rest place address is goes =
@@ -264,7 +262,7 @@ module _ (P : Left → Type 0) (end : Left → Tree) (pages : Pages) (state : Va
       (refl, refl, refl, reads_agree P end pages address 1 state on rest (lit< tt) goes)
 
   -- and written
-  write_at : (on : Course Left) (rest : Unit {0} → VaxState → Tree) (place address made value : ℕ) → place ≡ address → made ≡ value → Agrees P end on (rest tt state)
+  pub write_at : (on : Course Left) (rest : Unit {0} → VaxState → Tree) (place address made value : ℕ) → place ≡ address → made ≡ value → Agrees P end on (rest tt state)
       → Agrees P end (write_parts (parts place 1) made on) (tree_of pages (write address 1 value) state rest)
   write_at on rest place address made value is holds goes =
       subst (λ (x : ℕ). Agrees P end (write_parts (parts x 1) made on) (tree_of pages (write address 1 value) state rest)) (sym is)
@@ -294,10 +292,10 @@ told_byte temps k byte zero one lt fits =
     rw (zero, one, same, t, mod-eq_of_lt fits) refl
 
 -- one interlocked reference to a bit
-abbrev setting : (address number : ℕ) → Reference
+abbrev pub setting : (address number : ℕ) → Reference
 setting address number = record { address = address; count = 1; kind = references.SetBit number }
 
-abbrev clearing : (address number : ℕ) → Reference
+abbrev pub clearing : (address number : ℕ) → Reference
 clearing address number = record { address = address; count = 1; kind = references.ClearBit number }
 
 module _ (start : VaxState) (pages : Pages) (thread after : ℕ) (rest : List Micro) (k address : ℕ) (temps : Temps) (tree : ℕ → VaxState → Tree) (state : VaxState)
@@ -361,30 +359,10 @@ module _ (s : Bool) (instr : Instr) (state : VaxState) (pages : Pages) (thread :
       (record { low = lit< tt; goes = test_goes s Byte found temps' (byte / 2 ^ number) (target (operand instr 2)) instr.after (told_byte temps' number byte at_zero at_one lt fits) }))
       store
 
-  memory_body : (base : Base) (index : Option ℕ) (store : BitStore)
-      → (let plan = bit_plan_for (operands.Place base index) (record { state = s; store = store }) instr in length (steps_of plan.slots instr) ≡ length state.r
+  pub memory_body : (base : Base) (index : Option ℕ) (store : BitStore)
+      → (let plan = bit_plan_for None (operands.Place base index) (record { state = s; store = store }) instr in length (steps_of plan.slots instr) ≡ length state.r
       → BodyDoes (operations.BranchOnBit (record { state = s; store = store })) instr plan state pages thread temps memory_values)
   unfolding body branch_on_bit bit_found sources_of
   memory_body base index Nothing same = byte_goes Nothing _ same
   memory_body base index (Plain v) same = byte_goes (Plain v) _ same
   memory_body base index (Interlocked v) same = byte_goes (Interlocked v) _ same
-
--- ---- both
-module _ (s : Bool) (store : BitStore) (instr : Instr) (state : VaxState) (pages : Pages) (thread : ℕ) (temps : Temps) (ok : IsState state) (zero_fits : temps 0 < 2 ^ 32) (first : Evaluated) where
-  abbrev branch_here : BitBranch
-  branch_here = record { state = s; store = store }
-
-  abbrev DoesAt : Operand → Location → Type 0
-  DoesAt base location = BodyDoes (operations.BranchOnBit branch_here) instr (bit_plan_for base branch_here instr) state pages thread temps (value (temps 0) ∷ record { location = location; value = first.value } ∷ nothing ∷ [])
-
-  bit_body : (base : Operand) → IsBase base first (temps 1) (temps 2) → length (steps_of (bit_plan_for base branch_here instr).slots instr) ≡ length state.r → DoesAt base first.location
-  bit_body (operands.Register n) is same = subst (DoesAt (operands.Register n)) (sym is.0) (register_body s instr state pages thread temps ok zero_fits n first.value is.1 store same)
-  bit_body (operands.Place base index) is same = subst (DoesAt (operands.Place base index)) (sym is.0) (memory_body s instr state pages thread temps ok first.value is.1 base index store same)
-  bit_body operands.Unused is same = absurd is
-  bit_body (operands.Value number) is same = absurd is
-  bit_body (operands.Target address) is same = absurd is
-
-pub bit_branch_all : (branch : BitBranch) (instr : Instr) → AllDo (operations.BranchOnBit branch) instr (bit_branch_plan branch instr)
-bit_branch_all branch instr state pages thread temps values ok same left =
-    read_field_branch values temps (BodyDoes (operations.BranchOnBit branch) instr (bit_branch_plan branch instr) state pages thread temps) (operand instr 0) (operand instr 1) (operand instr 2) left
-    (λ first fits base. bit_body branch.state branch.store instr state pages thread temps ok fits first (operand instr 1) base same)

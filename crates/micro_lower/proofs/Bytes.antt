@@ -15,7 +15,7 @@ use Rattle.micro_ops.specs.declared.program.Micro.TheVariants.{Write, Leave}
 use Rattle.operand_programs.specs.InOrder.{operands_program, no_steps}
 use Rattle.operand_programs.specs.Results.{result_program, replacement_program, push_program, steps_behind_push}
 use Rattle.operand_programs.specs.Specifiers.{sum_into}
-use Rattle.micro_lower.specs.Lowering.{has_bytes}
+use Rattle.micro_ops.specs.Uses.{has_bytes}
 use Rattle.micro_lower.specs.Plans.{Plan, specifiers_from, steps_of, steps_behind_target, codes_program, write_program, end_program, rest_program, program_of}
 use Rattle.micro_lower.specs.declared.plans.Target.{Target}
 use Rattle.micro_lower.proofs.Quiet.{IsQuiet, is_quiet, quiet_passes, sum_quiet, operands_quiet, codes_quiet, end_quiet}

@@ -1,5 +1,5 @@
 -- Sums and differences with carry, shifts and rotation.
-use Rattle.std.proofs.Common.{◌≡◌, ℕ, ◌%◌, ◌^◌, ◌<◌, ◌==◌, Bool, true, false, refl, sym, ap, ◌∙◌, subst, arith, inl, inr}
+use Rattle.std.proofs.Common.{◌≡◌, ℕ, ◌%◌, ◌^◌, ◌<◌, ◌==◌, Bool, true, false, List, [], ◌∷◌, refl, sym, ap, ◌∙◌, subst, arith, inl, inr}
 use Rattle.std.proofs.Math.Nat.{mod-eq_of_lt}
 use Rattle.vax_form.specs.declared.instr.Instr.{Instr}
 use Rattle.vax_form.specs.declared.instr.Size.TheVariants.{Byte, Long}
@@ -26,7 +26,6 @@ use Rattle.std.specs.Prelude.{nat_le, ◌+◌, ◌-◌, ◌/◌, ◌*◌}
 use Rattle.std.proofs.lemmas.Bool.Decides.{nat_tests}
 use Rattle.vt_words.specs.Arithmetic.{difference_of}
 use Rattle.micro_lower.proofs.Given.{value_coded, value_end, value_ends, coded_end_of, gives_as, result_ready}
-use Rattle.micro_lower.proofs.Overflow.{some}
 use Rattle.std.proofs.Common.{lit<}
 use Rattle.std.specs.Prelude.{nat_lt, bit_xor}
 use Rattle.std.proofs.lemmas.Nat.{and_mask}
@@ -48,7 +47,14 @@ use Rattle.std.proofs.lemmas.Nat.{or_lt, shr_le}
 use Rattle.micro_lower.proofs.Planned.{read_and_modify, read_twice_and_write}
 use Rattle.vax_meaning.specs.Arithmetic.{add_with_carry, subtract_with_carry, replace}
 use Rattle.vt_words.specs.Shifts.{rotation_of}
-use Rattle.micro_lower.specs.Rows.{add_with_carry_plan, subtract_with_carry_plan, rotate_plan}
+use Rattle.micro_lower.specs.Plans.{unary}
+use Rattle.micro_lower.specs.Rows.{rotated as rotated_program, rotated_by, before_rotation, shift_plan_with, add_with_carry_plan, subtract_with_carry_plan, rotate_plan}
+use Rattle.micro_ops.specs.declared.program.Arg.TheVariants.{Temp}
+use Rattle.micro_ops.specs.declared.program.Micro.{Micro}
+use Rattle.micro_ops.specs.declared.program.MicroOp.TheVariants as ops
+use Rattle.operand_programs.specs.Pieces.{IsKnownValue}
+use Rattle.vax_form.specs.declared.instr.Operand.{Operand}
+use Rattle.vax_form.specs.declared.instr.Operand.TheVariants as operands
 
 -- ---- with carry
 -- C as a number
@@ -217,41 +223,80 @@ subtract_with_carry_all instr givable state pages thread temps values ok same le
 abbrev lacking : ℕ → ℕ
 lacking k = (32 + (256 - k % 256)) % 256
 
-lacks : (k : ℕ) → 0 < k → k < 32 → lacking k % 4294967296 ≡ 32 - k
-lacks k some small = omega (arith, some, small)
+lacks : (k : ℕ) → k < 32 → lacking k % 4294967296 ≡ 32 - k
+lacks k small = omega (arith, small)
 
-rotated : (x k : ℕ) → x < 2 ^ 32 → k < 32
-    → bit_or ((if nat_lt (k % 4294967296) 32 then x * 2 ^ (k % 4294967296) % 4294967296 else 0) % 4294967296) ((if nat_lt (lacking k % 4294967296) 32 then x / 2 ^ (lacking k % 4294967296) else 0) % 4294967296) ≡ rotation_of x k
-rotated x k lt small = elim (eqb_tells k 0) [
+lacks_literal : (k : ℕ) → (32 - k) % 4294967296 ≡ 32 - k
+lacks_literal k = omega arith
+
+rotated : (x k right : ℕ) → x < 2 ^ 32 → k < 32 → right ≡ 32 - k
+    → bit_or ((if nat_lt (k % 4294967296) 32 then x * 2 ^ (k % 4294967296) % 4294967296 else 0) % 4294967296) ((if nat_lt right 32 then x / 2 ^ right else 0) % 4294967296) ≡ rotation_of x k
+rotated x k right lt small lack = elim (eqb_tells k 0) [
   | inl is ↦ (let low : x * 1 % 4294967296 ≡ x = omega (arith, lt) in
       let twice : x * 1 % 4294967296 % 4294967296 ≡ x = omega (arith, lt) in
       let whole : x / 1 ≡ x = omega arith in
-      rw is.1 (ap (λ n. bit_or n 0) twice ∙ or_zero_r x ∙ sym (or_self x) ∙ ap (λ n. bit_or n x) (sym low) ∙ ap (λ n. bit_or (x * 1 % 4294967296) n) (sym whole)))
+      rw (lack, is.1) (ap (λ n. bit_or n 0) twice ∙ or_zero_r x ∙ sym (or_self x) ∙ ap (λ n. bit_or n x) (sym low) ∙ ap (λ n. bit_or (x * 1 % 4294967296) n) (sym whole)))
   | inr not ↦ (let some : 0 < k = grind (arith, nat_tests, not.0) in
       let same : k % 4294967296 ≡ k = omega (arith, small) in
       let same' : k % 32 ≡ k = omega (arith, small) in
-      let lack : lacking k % 4294967296 ≡ 32 - k = lacks k some small in
       let lack' : (32 - k) % 32 ≡ 32 - k = omega (arith, some, small) in
       let test : nat_lt k 32 ≡ true = grind (arith, nat_tests) in
       let test' : nat_lt (32 - k) 32 ≡ true = grind (arith, nat_tests) in
       let le = shr_le x (32 - k) in
       let right : x / 2 ^ (32 - k) % 4294967296 ≡ x / 2 ^ (32 - k) = mod-eq_of_lt (omega (arith, le, lt)) in
       let left : x * 2 ^ k % 4294967296 % 4294967296 ≡ x * 2 ^ k % 4294967296 = mod-eq_of_lt (low_below Long (x * 2 ^ k)) in
-      rw (same, lack, same', lack', test, test', right, left) refl)
+      rw (lack, same, same', lack', test, test', right, left) refl)
 ]
 
-pub rotate_all : (instr : Instr) → IsGivable (operand instr 2) Long → AllDo operations.Rotate instr (rotate_plan instr)
+abbrev copied : List Micro
+copied = unary 0 ops.Move Long (Temp 2) ∷ []
+
+-- by a count that is computed
+counted_all : (instr : Instr) → IsGivable (operand instr 2) Long → AllDo operations.Rotate instr (shift_plan_with rotated_program copied instr)
 unfolding body give sources_of value_from
-rotate_all instr givable state pages thread temps values ok same left =
-    let plan = rotate_plan instr in
+counted_all instr givable state pages thread temps values ok same left =
+    let plan = shift_plan_with rotated_program copied instr in
     let found = found_at state instr.after in
     let after = effect plan.before found temps in
     let k = temps 0 % 256 % 32 in
     let x = temps 1 % 2 ^ 32 in
     let v = rotation_of x k in
-    let made : after 2 ≡ v = rw (and_mask (temps 0 % 256) 5) (rotated x k (low_below Long _) (mod_below _ 32 (lit< tt))) in
+    let made : after 2 ≡ v = rw (and_mask (temps 0 % 256) 5) (rotated x k _ (low_below Long _) (mod_below _ 32 (lit< tt)) (lacks k (mod_below _ 32 (lit< tt)))) in
     let fits : v < 2 ^ 32 = subst (λ n. n < 2 ^ 32) made (or_lt 32 _ _ (low_below Long _) (low_below Long _)) in
     read_twice_and_write values temps (BodyDoes operations.Rotate instr plan state pages thread temps) Byte Long Long (operand instr 0) (operand instr 1) (operand instr 2) 0 1 1 2 left (λ location count source at.
     gives_as (Result Long) Kept state pages thread instr.after ok Long (operand instr 2) (steps_of plan.slots instr) same location (value_coded state Long v) after plan.behind refl
     at givable made fits refl (result_ready Long state v (effect plan.behind found after) fits (ap (λ n. n % 2 ^ 32) made ∙ mod-eq_of_lt fits) made) Next tt instr.after refl
     (value_end pages Long v instr.after) (value_ends pages state Long v instr.after))
+
+-- by a literal count
+literal_number : (n : ℕ) → n % 256 % 256 % 32 ≡ n % 32
+literal_number n = omega arith
+
+literal_all : (instr : Instr) (literal : ℕ) → operand instr 0 ≡ operands.Value literal → IsGivable (operand instr 2) Long
+    → AllDo operations.Rotate instr (shift_plan_with (rotated_by (literal % 32)) copied instr)
+unfolding body give sources_of value_from
+literal_all instr literal here givable state pages thread temps values ok same left =
+    let plan = shift_plan_with (rotated_by (literal % 32)) copied instr in
+    let found = found_at state instr.after in
+    let after = effect plan.before found temps in
+    let k = literal % 32 in
+    let x = temps 1 % 2 ^ 32 in
+    let v = rotation_of x (temps 0 % 256 % 32) in
+    let known : temps 0 ≡ literal % 256 = subst (λ (o : Operand). IsKnownValue o Byte (temps 0)) here left.3.2 in
+    let whole : k ≡ temps 0 % 256 % 32 = sym (ap (λ n. n % 256 % 32) known ∙ literal_number literal) in
+    let made : after 2 ≡ v = rotated x k _ (low_below Long _) (mod_below _ 32 (lit< tt)) (lacks_literal k) ∙ ap (λ n. rotation_of x n) whole in
+    let fits : v < 2 ^ 32 = subst (λ n. n < 2 ^ 32) made (or_lt 32 _ _ (low_below Long _) (low_below Long _)) in
+    read_twice_and_write values temps (BodyDoes operations.Rotate instr plan state pages thread temps) Byte Long Long (operand instr 0) (operand instr 1) (operand instr 2) 0 1 1 2 left (λ location count source at.
+    gives_as (Result Long) Kept state pages thread instr.after ok Long (operand instr 2) (steps_of plan.slots instr) same location (value_coded state Long v) after plan.behind refl
+    at givable made fits refl (result_ready Long state v (effect plan.behind found after) fits (ap (λ n. n % 2 ^ 32) made ∙ mod-eq_of_lt fits) made) Next tt instr.after refl
+    (value_end pages Long v instr.after) (value_ends pages state Long v instr.after))
+
+pub rotate_all : (instr : Instr) → IsGivable (operand instr 2) Long → AllDo operations.Rotate instr (rotate_plan instr)
+rotate_all instr givable = by_count (operand instr 0) refl
+  where
+    by_count : (count : Operand) → operand instr 0 ≡ count → AllDo operations.Rotate instr (shift_plan_with (before_rotation count) copied instr)
+    by_count (operands.Value literal) is = literal_all instr literal is givable
+    by_count operands.Unused is = counted_all instr givable
+    by_count (operands.Register n) is = counted_all instr givable
+    by_count (operands.Place base index) is = counted_all instr givable
+    by_count (operands.Target address) is = counted_all instr givable

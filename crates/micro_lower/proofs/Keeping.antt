@@ -223,6 +223,13 @@ module _ (operation : Operation) (instr : Instr) (is : operation_at instr.opcode
     computed = λ none. cc;
   }
 
+  -- the other way round
+  pub choice_kept : (when address : ℕ) → IsFixed instr address → ExitKeeps instr (exits.Choice when instr.after address)
+  choice_kept when address fixed = record {
+    goes = All-cons (GoesTo instr) instr.after (address ∷ []) (inl refl) (All-cons (GoesTo instr) address [] (goes_fixed address fixed) (All-nil (GoesTo instr)));
+    computed = λ none. cc;
+  }
+
   pub computed_keeps : (temp : ℕ) → ExitKeeps instr (exits.Computed temp)
   computed_keeps temp = record { goes = All-nil (GoesTo instr); computed = λ computed. may_jump }
 

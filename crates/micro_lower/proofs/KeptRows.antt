@@ -1,5 +1,6 @@
 -- The program of each operation keeps to its instruction.
-use Rattle.std.proofs.Common.{◌≡◌, ℕ, Bool, true, false, List, [], ◌∷◌, ◌++◌, Some, refl, sym, subst, lit≤}
+use Rattle.std.proofs.Common.{◌≡◌, ℕ, ◌%◌, ◌^◌, Bool, true, false, List, [], ◌∷◌, ◌++◌, Option, Some, None, refl, sym, subst, lit≤}
+use Rattle.std.specs.Prelude.{nat_lt}
 use Rattle.std.proofs.lemmas.Option.{same_Some}
 use Rattle.vax_form.specs.Grammar.{IsSpelled}
 use Rattle.vax_form.specs.Operation.{operation_at}
@@ -24,20 +25,21 @@ use Rattle.vax_form.specs.declared.state.Flags.{Flags}
 use Rattle.vax_meaning.specs.Branches.{target}
 use Rattle.vax_meaning.specs.Evaluation.{operand}
 use Rattle.cc_liveness.specs.Uses.{code_use_of, tested_by}
+use Rattle.micro_ops.specs.Exits.{leaves_computed}
 use Rattle.micro_ops.specs.Sources.{sources_of}
-use Rattle.micro_ops.specs.declared.program.Arg.TheVariants.{Register, Const}
+use Rattle.micro_ops.specs.declared.program.Arg.TheVariants.{Register, Const, Temp}
 use Rattle.micro_ops.specs.declared.program.Exit.TheVariants as exits
 use Rattle.micro_ops.specs.declared.program.Micro.{Micro}
-use Rattle.micro_ops.specs.declared.program.Micro.TheVariants.{Compute, Probe, Read, Write, Commit}
+use Rattle.micro_ops.specs.declared.program.Micro.TheVariants.{Compute, Probe, Read, Write, Commit, Leave}
 use Rattle.micro_ops.specs.declared.program.MicroOp.TheVariants as ops
 use Rattle.operand_programs.specs.Operands.{IsTarget}
 use Rattle.micro_lower.specs.Lowering.{AreLongOperands, KeepsTo, computes_address}
-use Rattle.micro_lower.specs.Plans.{Plan, program_of}
+use Rattle.micro_lower.specs.Plans.{Plan, program_of, unary}
 use Rattle.micro_lower.specs.Programs.{flags_of, flag_test, inversion, branch_if_program, subroutine_program, return_program, plain_program_of}
-use Rattle.micro_lower.specs.Rows.{move_row, arithmetic_row, control_row, own_program_of, row_program_of, branch_exit, move_plan, clear_plan, move_zero_extended_plan, move_complemented_plan, move_negated_plan, convert_plan, move_address_plan, push_address_plan, push_long_plan, compare_plan, test_plan, bit_test_plan, by_one_plan, two_operands_plan, three_operands_plan, low_bit_plan, subtract_one_plan, add_one_plan, add_compare_plan, jump_plan, jump_to_subroutine_plan, add_with_carry_plan, change_mode_plan, subtract_with_carry_plan, rotate_plan, arithmetic_shift_plan, change_psw_plan, bit_tested, bit_stored, byte_program, before_bit, bit_branch_plan, before_aligned, add_aligned_plan, move_psl_plan}
+use Rattle.micro_lower.specs.Rows.{move_row, arithmetic_row, control_row, own_program_of, row_program_of, branch_exit, move_plan, clear_plan, move_zero_extended_plan, move_complemented_plan, move_negated_plan, convert_plan, move_address_plan, push_address_plan, push_long_plan, compare_plan, test_plan, bit_test_plan, by_one_plan, two_operands_plan, three_operands_plan, low_bit_plan, subtract_one_plan, add_one_plan, add_compare_plan, jump_plan, jump_to_subroutine_plan, add_with_carry_plan, change_mode_plan, subtract_with_carry_plan, rotate_plan, arithmetic_shift_plan, shifted_by, overflow_of_shift_by, before_shift, behind_shift, before_rotation, change_psw_plan, bit_tested, bit_stored, byte_program, before_bit, literal_position, masked, mask_stored, mask_program, byte_of, before_literal, before_bit_at, bit_exit, bit_branch_plan, before_aligned, add_aligned_plan, move_psl_plan}
 use Rattle.micro_lower.proofs.Covered.{targeted}
 use Rattle.micro_lower.proofs.Inner.{IsInner, joined}
-use Rattle.micro_lower.proofs.Keeping.{Ends, ExitKeeps, keeps, ends_here, next_keeps, breakpoint_keeps, branch_fixed, fixed_keeps, choice_keeps, computed_keeps, jump_computes_for, jump_keeps, plan_keeps}
+use Rattle.micro_lower.proofs.Keeping.{Ends, ExitKeeps, keeps, ends_here, next_keeps, breakpoint_keeps, branch_fixed, fixed_keeps, choice_keeps, choice_kept, computed_keeps, jump_computes_for, jump_keeps, plan_keeps}
 use Rattle.micro_lower.proofs.Lowered.{slots_of, second, third, fourth}
 use Rattle.micro_lower.proofs.ProductLower.{product_keeps}
 use Rattle.micro_lower.proofs.Spelled.{Given, given}
@@ -140,8 +142,46 @@ before_inner set (operands.Value value) state store = joined set (byte_program s
 before_inner set (operands.Place base index) state store = joined set (byte_program store) (bit_tested state Byte) (byte_inner set store) (tested_inner set state Byte)
 before_inner set (operands.Target address) state store = joined set (byte_program store) (bit_tested state Byte) (byte_inner set store) (tested_inner set state Byte)
 
-bit_inner : (set : Flags) (base : Operand) (state : Bool) (store : BitStore) → IsInner set (before_bit base (record { state = state; store = store }) ++ [])
-bit_inner set base state store = joined set (before_bit base (record { state = state; store = store })) [] (before_inner set base state store) refl
+mask_stored_inner : (set : Flags) (store : BitStore) (mask : ℕ) → IsInner set (mask_stored store mask)
+mask_stored_inner set stores.Nothing mask = refl
+mask_stored_inner set (stores.Plain value) mask = refl
+mask_stored_inner set (stores.Interlocked value) mask = refl
+
+mask_inner : (set : Flags) (store : BitStore) (mask : ℕ) → IsInner set (mask_program store mask)
+mask_inner set stores.Nothing mask = refl
+mask_inner set (stores.Plain value) mask = refl
+mask_inner set (stores.Interlocked value) mask = refl
+
+byte_of_inner : (set : Flags) (first : Bool) (position : ℕ) → IsInner set (byte_of first position)
+byte_of_inner set true position = refl
+byte_of_inner set false position = refl
+
+in_memory_inner : (set : Flags) (first : Bool) (position : ℕ) (store : BitStore) → IsInner set (before_literal operands.Unused first position store)
+in_memory_inner set first position store =
+    let mask = 2 ^ (position % 8) in
+    joined set (byte_of first position) (mask_program store mask ++ masked Byte mask ∷ []) (byte_of_inner set first position)
+    (joined set (mask_program store mask) (masked Byte mask ∷ []) (mask_inner set store mask) refl)
+
+literal_inner : (set : Flags) (base : Operand) (first : Bool) (position : ℕ) (store : BitStore) → IsInner set (before_literal base first position store)
+literal_inner set (operands.Register n) first position store =
+    let mask = 2 ^ (position % 32) in joined set (mask_stored store mask) (masked Long mask ∷ []) (mask_stored_inner set store mask) refl
+literal_inner set operands.Unused first position store = in_memory_inner set first position store
+literal_inner set (operands.Value value) first position store = in_memory_inner set first position store
+literal_inner set (operands.Place base index) first position store = in_memory_inner set first position store
+literal_inner set (operands.Target address) first position store = in_memory_inner set first position store
+
+bit_at_inner : (set : Flags) (position : Option ℕ) (base : Operand) (state : Bool) (store : BitStore) → IsInner set (before_bit_at position base (record { state = state; store = store }))
+bit_at_inner set None base state store = before_inner set base state store
+bit_at_inner set (Some position) base state store = literal_inner set base (nat_lt position 8) position store
+
+bit_inner : (set : Flags) (position : Option ℕ) (base : Operand) (state : Bool) (store : BitStore) → IsInner set (before_bit_at position base (record { state = state; store = store }) ++ [])
+bit_inner set position base state store = joined set (before_bit_at position base (record { state = state; store = store })) [] (bit_at_inner set position base state store) refl
+
+-- the exit of a bit branch, by its literal
+bit_computes : (position : Option ℕ) (state : Bool) (instr : Instr) → leaves_computed (Leave (bit_exit position state instr)) ≡ false
+bit_computes None state instr = refl
+bit_computes (Some position) true instr = refl
+bit_computes (Some position) false instr = refl
 
 aligned_inner : (set : Flags) (base : Operand) → IsInner set (before_aligned base ++ [])
 aligned_inner set (operands.Register n) = refl
@@ -150,10 +190,35 @@ aligned_inner set (operands.Value value) = refl
 aligned_inner set (operands.Place base index) = refl
 aligned_inner set (operands.Target address) = refl
 
+-- shifts, by the operand that counts
+shift_inner_by : (set : Flags) (left : Bool) (count : ℕ) → IsInner set (shifted_by left count ++ overflow_of_shift_by left count)
+shift_inner_by set true count = refl
+shift_inner_by set false count = refl
+
+shift_inner : (set : Flags) (count : Operand) → IsInner set (before_shift count ++ behind_shift count)
+shift_inner set (operands.Value literal) = shift_inner_by set (nat_lt (literal % 256) 128) (literal % 256)
+shift_inner set operands.Unused = refl
+shift_inner set (operands.Register n) = refl
+shift_inner set (operands.Place base index) = refl
+shift_inner set (operands.Target address) = refl
+
+rotation_inner : (set : Flags) (count : Operand) → IsInner set (before_rotation count ++ unary 0 ops.Move Long (Temp 2) ∷ [])
+rotation_inner set (operands.Value literal) = refl
+rotation_inner set operands.Unused = refl
+rotation_inner set (operands.Register n) = refl
+rotation_inner set (operands.Place base index) = refl
+rotation_inner set (operands.Target address) = refl
+
 -- a branch by the operand of that number
 branch_keeps : (operation : Operation) (instr : Instr) → operation_at instr.opcode ≡ Some operation → (code_use_of operation).ends ≡ true
     → (number : ℕ) → IsTarget (operand instr number) → ExitKeeps instr (branch_exit instr number)
 branch_keeps operation instr is ends number displaced = choice_keeps operation instr is ends 0 (target (operand instr number)) (branch_fixed instr number displaced)
+
+bit_exit_keeps : (operation : Operation) (instr : Instr) → operation_at instr.opcode ≡ Some operation → (code_use_of operation).ends ≡ true
+    → (position : Option ℕ) (state : Bool) → IsTarget (operand instr 2) → ExitKeeps instr (bit_exit position state instr)
+bit_exit_keeps operation instr is ends None state displaced = branch_keeps operation instr is ends 2 displaced
+bit_exit_keeps operation instr is ends (Some position) true displaced = branch_keeps operation instr is ends 2 displaced
+bit_exit_keeps operation instr is ends (Some position) false displaced = choice_kept operation instr is ends 0 (target (operand instr 2)) (branch_fixed instr 2 displaced)
 
 next_row : (operation : Operation) (instr : Instr) (plan : Plan) (program : List Micro) → operation_at instr.opcode ≡ Some operation
     → IsInner (code_use_of operation).reads (plan.before ++ plan.behind) → plan.exit ≡ exits.Next → computes_address operation instr ≡ false
@@ -189,9 +254,9 @@ rows_keep (operations.Increment width) instr program spelled long is row = next_
 rows_keep (operations.Decrement width) instr program spelled long is row = next_row (operations.Decrement width) instr (by_one_plan ops.Sub width instr) program is refl refl refl row
 rows_keep operations.SubtractWithCarry instr program spelled long is row = next_row operations.SubtractWithCarry instr (subtract_with_carry_plan instr) program is refl refl refl row
 rows_keep operations.AddWithCarry instr program spelled long is row = next_row operations.AddWithCarry instr (add_with_carry_plan instr) program is refl refl refl row
-rows_keep operations.Rotate instr program spelled long is row = next_row operations.Rotate instr (rotate_plan instr) program is refl refl refl row
+rows_keep operations.Rotate instr program spelled long is row = next_row operations.Rotate instr (rotate_plan instr) program is (rotation_inner _ (operand instr 0)) refl refl row
 rows_keep operations.AddAlignedWord instr program spelled long is row = next_row operations.AddAlignedWord instr (add_aligned_plan instr) program is (aligned_inner _ (operand instr 1)) refl refl row
-rows_keep operations.ArithmeticShift instr program spelled long is row = next_row operations.ArithmeticShift instr (arithmetic_shift_plan instr) program is refl refl refl row
+rows_keep operations.ArithmeticShift instr program spelled long is row = next_row operations.ArithmeticShift instr (arithmetic_shift_plan instr) program is (shift_inner _ (operand instr 0)) refl refl row
 rows_keep operations.BitSetPsw instr program spelled long is row = next_row operations.BitSetPsw instr (change_psw_plan ops.Or) program is refl refl refl row
 rows_keep operations.BitClearPsw instr program spelled long is row = next_row operations.BitClearPsw instr (change_psw_plan ops.AndNot) program is refl refl refl row
 rows_keep operations.ExtendedMultiply instr program spelled long is row = product_keeps instr program is (sym (same_Some _ _ row))
@@ -212,8 +277,9 @@ rows_keep (operations.AddCompareBranch width) instr program spelled long is row 
     plan_keeps (operations.AddCompareBranch width) instr (add_compare_plan width instr) program is refl refl (branch_keeps (operations.AddCompareBranch width) instr is refl 3 (fourth _ _ _ _ _ instr slots).0.0) (sym (same_Some _ _ row))
 rows_keep (operations.BranchOnBit branch) instr program spelled long is row =
     let slots = slots_of (operations.BranchOnBit branch) instr (bit_branch_plan branch instr) program spelled long is (sym (same_Some _ _ row)) refl refl (lit≤ tt) in
-    plan_keeps (operations.BranchOnBit branch) instr (bit_branch_plan branch instr) program is (bit_inner _ (operand instr 1) branch.state branch.store) refl
-    (branch_keeps (operations.BranchOnBit branch) instr is refl 2 (third _ _ _ _ instr slots).0.0) (sym (same_Some _ _ row))
+    let position = literal_position (operand instr 0) (operand instr 1) in
+    plan_keeps (operations.BranchOnBit branch) instr (bit_branch_plan branch instr) program is (bit_inner _ position (operand instr 1) branch.state branch.store) (bit_computes position branch.state instr)
+    (bit_exit_keeps (operations.BranchOnBit branch) instr is refl position branch.state (third _ _ _ _ instr slots).0.0) (sym (same_Some _ _ row))
 rows_keep operations.Jump instr program spelled long is row =
     plan_keeps operations.Jump instr (jump_plan instr) program is refl (jump_computes_for instr) (jump_keeps _ instr is refl refl) (sym (same_Some _ _ row))
 rows_keep operations.JumpToSubroutine instr program spelled long is row =

@@ -36,6 +36,7 @@ pub mod SlotLoop
 pub mod PswRows
 pub mod BitValues
 pub mod BitRows
+pub mod LiteralBits
 pub mod AlignedRows
 pub mod AlignedLower
 pub mod ProductRows

@@ -111,11 +111,11 @@ index_end pages coded pc state = tree_of pages (change (with_three coded) >> fin
 index_ends : (pages : Pages) (start : VaxState) (coded : Coded) (pc : ℕ) (state : VaxState) → state.psw ≡ start.psw → coded_end_of pages (index_coded start coded) pc state ≡ index_end pages coded pc state
 index_ends pages start coded pc state same = rw same refl
 
-down_overflows : (x : ℕ) → x < 2 ^ 32 → (difference_of 4 x 1 false).v ≡ ((x + 2 ^ 32 - (1 + 0)) % 2 ^ 32 == 2147483647)
+down_overflows : (x : ℕ) → x < 2 ^ 32 → (difference_of 4 x 1 false).v ≡ int_lt (signed Long x) (signed Long ((x + 2 ^ 32 - (1 + 0)) % 2 ^ 32))
 unfolding difference_of
 down_overflows x lt = grind (arith, nat_tests, ints)
 
-up_overflows : (x : ℕ) → x < 2 ^ 32 → (sum_of 4 x 1 false).v ≡ ((x + 1 + 0) % 2 ^ 32 == 2147483648)
+up_overflows : (x : ℕ) → x < 2 ^ 32 → (sum_of 4 x 1 false).v ≡ int_lt (signed Long ((x + 1 + 0) % 2 ^ 32)) (signed Long x)
 unfolding sum_of
 up_overflows x lt = grind (arith, nat_tests, ints)
 
@@ -169,10 +169,10 @@ subtract_one_all or_equal instr givable state pages thread temps values ok same 
     let lt = low_below Long (temps 0) in
     let index = difference_of 4 x 1 false in
     let after = effect plan.before found temps in
-    let tested = with_temp 3 (bit (after 2 % 2 ^ 32 == 2147483647)) after in
+    let tested = with_temp 3 (bit (int_lt (signed Long x) (signed Long (after 2 % 2 ^ 32)))) after in
     let made : after 2 ≡ index.value = decreased x lt in
     let fits : index.value < 2 ^ 32 = low_below Long _ in
-    let v : tested 3 ≡ bit index.v = ap (λ n. bit (n == 2147483647)) (mod-eq_of_lt (rw made fits) ∙ made) ∙ ap bit (sym (down_overflows x lt)) in
+    let v : tested 3 ≡ bit index.v = ap (λ n. bit (int_lt (signed Long x) (signed Long n))) (mod-eq_of_lt (rw made fits) ∙ made) ∙ ap bit (sym (down_overflows x lt)) in
     let pc = pc_after instr 1 (goes_down or_equal index.value) in
     modify_then_branch values temps (BodyDoes (operations.SubtractOneBranch or_equal) instr plan state pages thread temps) Long Byte (operand instr 0) (operand instr 1) 0 0 1 left (λ location at was.
     replaces_as (Computed Long) Kept state pages thread instr.after ok Long (operand instr 0) (steps_of plan.slots instr) same location (index_coded state index) after plan.behind (down_computes or_equal)
@@ -208,10 +208,10 @@ add_one_all or_equal instr givable state pages thread temps values ok same left 
     let lt = low_below Long (temps 0) in
     let index = sum_of 4 x 1 false in
     let after = effect plan.before found temps in
-    let tested = with_temp 3 (bit (after 2 % 2 ^ 32 == 2147483648)) after in
+    let tested = with_temp 3 (bit (int_lt (signed Long (after 2 % 2 ^ 32)) (signed Long x))) after in
     let made : after 2 ≡ index.value = increased x in
     let fits : index.value < 2 ^ 32 = low_below Long _ in
-    let v : tested 3 ≡ bit index.v = ap (λ n. bit (n == 2147483648)) (mod-eq_of_lt (rw made fits) ∙ made) ∙ ap bit (sym (up_overflows x lt)) in
+    let v : tested 3 ≡ bit index.v = ap (λ n. bit (int_lt (signed Long n) (signed Long x))) (mod-eq_of_lt (rw made fits) ∙ made) ∙ ap bit (sym (up_overflows x lt)) in
     let pc = pc_after instr 2 (goes_up or_equal index.value (temps 1 % 2 ^ 32)) in
     read_modify_branch values temps (BodyDoes (operations.AddOneBranch or_equal) instr plan state pages thread temps) Long Long Byte (operand instr 0) (operand instr 1) (operand instr 2) 1 2 0 0 1 left (λ location limit at was.
     replaces_as (Computed Long) Kept state pages thread instr.after ok Long (operand instr 1) (steps_of plan.slots instr) same location (index_coded state index) after plan.behind (up_computes or_equal)

@@ -21,7 +21,7 @@ use Rattle.micro_ops.specs.declared.program.Micro.{Micro}
 use Rattle.micro_ops.specs.declared.program.Micro.TheVariants.{Compute, Write, Codes, Leave}
 use Rattle.operand_programs.specs.InOrder.{operands_program}
 use Rattle.operand_programs.specs.Operands.{access_program, operand_program, steps_behind_specifier}
-use Rattle.operand_programs.specs.Results.{finish_program, give_program, steps_left}
+use Rattle.operand_programs.specs.Results.{cleared_program, finish_program, give_program, steps_left}
 use Rattle.operand_programs.specs.Specifiers.{sum_into, address_program, index_program, place_program, pointer_of, steps_behind, register_program, commit_one, commit_program}
 use Rattle.operand_programs.specs.declared.operands.Specifier.{Specifier}
 use Rattle.micro_lower.specs.Plans.{signs_program, carry_program, overflow_temp, carry_temp, codes_program, end_program}
@@ -111,9 +111,12 @@ commits_quiet : (number : ℕ) (steps : List ℕ) → IsQuiet (commit_program nu
 commits_quiet number [] = refl
 commits_quiet number (step ∷ steps) = joined (commit_one number step) (commit_program (number + 1) steps) (one_quiet number step) (commits_quiet (number + 1) steps)
 
+cleared_quiet : (n step mask : ℕ) → IsQuiet (cleared_program n step mask)
+cleared_quiet n step mask = elim (eqb_tells step 0) [ inl is ↦ rw is.0 refl | inr not ↦ rw not.0 refl ]
+
 give_quiet : (operand : Operand) (size : Size) (steps : List ℕ) (from : ℕ) → IsQuiet (give_program operand size steps from)
-give_quiet (Register n) Byte steps from = rw (sum_quiet 5 (Some n) (get_or steps n 0)) refl
-give_quiet (Register n) Word steps from = rw (sum_quiet 5 (Some n) (get_or steps n 0)) refl
+give_quiet (Register n) Byte steps from = joined (cleared_program n (get_or steps n 0) 0xFF) _ (cleared_quiet n (get_or steps n 0) 0xFF) refl
+give_quiet (Register n) Word steps from = joined (cleared_program n (get_or steps n 0) 0xFFFF) _ (cleared_quiet n (get_or steps n 0) 0xFFFF) refl
 give_quiet (Register n) Long steps from = refl
 give_quiet (Register n) Quad steps from = refl
 give_quiet _ size steps from = refl

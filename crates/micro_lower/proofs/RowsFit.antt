@@ -1,6 +1,10 @@
 -- Each row fits a block, with a result in memory or in a register.
-use Rattle.std.proofs.Common.{◌≡◌, Bool, true, false, refl}
+use Rattle.std.proofs.Common.{◌≡◌, ℕ, ◌%◌, Bool, true, false, List, ◌∷◌, Option, Some, None, refl}
+use Rattle.std.specs.Prelude.{nat_lt}
+use Rattle.vax_form.specs.declared.instr.Base.{Base}
 use Rattle.vax_form.specs.declared.instr.Instr.{Instr}
+use Rattle.vax_form.specs.declared.instr.Operand.{Operand}
+use Rattle.vax_form.specs.declared.instr.Operand.TheVariants as operands
 use Rattle.vax_form.specs.declared.instr.Size.{Size}
 use Rattle.vax_form.specs.declared.instr.Size.TheVariants.{Byte, Word, Long, Quad}
 use Rattle.vax_form.specs.declared.instr.Width.{Width}
@@ -14,10 +18,12 @@ use Rattle.vax_form.specs.declared.operation.Operation.TheVariants as operations
 use Rattle.vax_meaning.specs.Evaluation.{operand}
 use Rattle.micro_ops.specs.Fits.{step}
 use Rattle.micro_ops.specs.Sources.{sources_of}
+use Rattle.micro_ops.specs.declared.program.Exit.{Exit}
+use Rattle.micro_ops.specs.declared.program.Micro.{Micro}
 use Rattle.micro_ops.specs.declared.program.MicroOp.TheVariants as ops
 use Rattle.operand_programs.specs.Operands.{IsLocated}
-use Rattle.micro_lower.specs.Rows.{divides, move_plan, clear_plan, move_zero_extended_plan, move_complemented_plan, move_negated_plan, convert_plan, move_address_plan, push_address_plan, push_long_plan, compare_plan, test_plan, bit_test_plan, by_one_plan, two_operands_plan, three_operands_plan, low_bit_plan, subtract_one_plan, add_one_plan, add_compare_plan, add_with_carry_plan, change_mode_plan, subtract_with_carry_plan, rotate_plan, arithmetic_shift_plan, change_psw_plan, bit_branch_plan, move_psl_plan}
-use Rattle.micro_lower.proofs.Fit.{plan_fits, PlanFits, first_located, second_located, third_located}
+use Rattle.micro_lower.specs.Rows.{divides, move_plan, clear_plan, move_zero_extended_plan, move_complemented_plan, move_negated_plan, convert_plan, move_address_plan, push_address_plan, push_long_plan, compare_plan, test_plan, bit_test_plan, by_one_plan, two_operands_plan, three_operands_plan, low_bit_plan, subtract_one_plan, add_one_plan, add_compare_plan, add_with_carry_plan, change_mode_plan, subtract_with_carry_plan, rotate_plan, arithmetic_shift_plan, shift_plan_with, shifted_by, overflow_of_shift_by, change_psw_plan, branch_exit, before_bit, before_literal, masked_exit, literal_position, bit_plan_with, bit_plan_for, bit_branch_plan, move_psl_plan}
+use Rattle.micro_lower.proofs.Fit.{having, plan_fits, PlanFits, first_located, second_located, third_located}
 
 pub move_fits : (size : Size) (instr : Instr) → IsLocated (operand instr 1) → plan_fits (sources_of (operations.Move size)) (move_plan size instr) instr ≡ true
 unfolding sources_of step
@@ -194,17 +200,68 @@ pub subtract_with_carry_fits : (instr : Instr) → IsLocated (operand instr 1) �
 unfolding sources_of step
 subtract_with_carry_fits instr is = second_located (PlanFits (sources_of operations.SubtractWithCarry) subtract_with_carry_plan) instr is (λ a base index more. refl) (λ a n more. refl)
 
-pub rotate_fits : (instr : Instr) → IsLocated (operand instr 2) → plan_fits (sources_of operations.Rotate) (rotate_plan instr) instr ≡ true
+-- ---- shifts, by the operand that counts
+abbrev counted_by : Instr → (count b : Operand) → (result : Operand) → (more : List Operand) → Instr
+counted_by instr count b result more = having instr (count ∷ b ∷ result ∷ more)
+
+rotation_in_memory : (instr : Instr) (count b : Operand) (base : Base) (index : Option ℕ) (more : List Operand) → PlanFits (sources_of operations.Rotate) rotate_plan (counted_by instr count b (operands.Place base index) more)
 unfolding sources_of step
-rotate_fits instr is = third_located (PlanFits (sources_of operations.Rotate) rotate_plan) instr is (λ a b base index more. refl) (λ a b n more. refl)
+rotation_in_memory instr (operands.Value literal) b base index more = refl
+rotation_in_memory instr operands.Unused b base index more = refl
+rotation_in_memory instr (operands.Register n) b base index more = refl
+rotation_in_memory instr (operands.Place at by) b base index more = refl
+rotation_in_memory instr (operands.Target address) b base index more = refl
+
+rotation_in_register : (instr : Instr) (count b : Operand) (n : ℕ) (more : List Operand) → PlanFits (sources_of operations.Rotate) rotate_plan (counted_by instr count b (operands.Register n) more)
+unfolding sources_of step
+rotation_in_register instr (operands.Value literal) b n more = refl
+rotation_in_register instr operands.Unused b n more = refl
+rotation_in_register instr (operands.Register m) b n more = refl
+rotation_in_register instr (operands.Place at by) b n more = refl
+rotation_in_register instr (operands.Target address) b n more = refl
+
+pub rotate_fits : (instr : Instr) → IsLocated (operand instr 2) → plan_fits (sources_of operations.Rotate) (rotate_plan instr) instr ≡ true
+rotate_fits instr is = third_located (PlanFits (sources_of operations.Rotate) rotate_plan) instr is (rotation_in_memory instr) (rotation_in_register instr)
+
+-- by a literal count, whichever way
+abbrev LiteralFits : (left : Bool) → (count : ℕ) → Instr → Type 0
+LiteralFits left count instr = plan_fits (sources_of operations.ArithmeticShift) (shift_plan_with (shifted_by left count) (overflow_of_shift_by left count) instr) instr ≡ true
+
+literal_in_memory : (instr : Instr) (literal : ℕ) (b : Operand) (base : Base) (index : Option ℕ) (more : List Operand) (left : Bool) (count : ℕ)
+    → LiteralFits left count (counted_by instr (operands.Value literal) b (operands.Place base index) more)
+unfolding sources_of step
+literal_in_memory instr literal b base index more true count = refl
+literal_in_memory instr literal b base index more false count = refl
+
+literal_in_register : (instr : Instr) (literal : ℕ) (b : Operand) (n : ℕ) (more : List Operand) (left : Bool) (count : ℕ)
+    → LiteralFits left count (counted_by instr (operands.Value literal) b (operands.Register n) more)
+unfolding sources_of step
+literal_in_register instr literal b n more true count = refl
+literal_in_register instr literal b n more false count = refl
+
+shift_in_memory : (instr : Instr) (count b : Operand) (base : Base) (index : Option ℕ) (more : List Operand)
+    → PlanFits (sources_of operations.ArithmeticShift) arithmetic_shift_plan (counted_by instr count b (operands.Place base index) more)
+unfolding sources_of step
+shift_in_memory instr (operands.Value literal) b base index more = literal_in_memory instr literal b base index more (nat_lt (literal % 256) 128) (literal % 256)
+shift_in_memory instr operands.Unused b base index more = refl
+shift_in_memory instr (operands.Register n) b base index more = refl
+shift_in_memory instr (operands.Place at by) b base index more = refl
+shift_in_memory instr (operands.Target address) b base index more = refl
+
+shift_in_register : (instr : Instr) (count b : Operand) (n : ℕ) (more : List Operand) → PlanFits (sources_of operations.ArithmeticShift) arithmetic_shift_plan (counted_by instr count b (operands.Register n) more)
+unfolding sources_of step
+shift_in_register instr (operands.Value literal) b n more = literal_in_register instr literal b n more (nat_lt (literal % 256) 128) (literal % 256)
+shift_in_register instr operands.Unused b n more = refl
+shift_in_register instr (operands.Register m) b n more = refl
+shift_in_register instr (operands.Place at by) b n more = refl
+shift_in_register instr (operands.Target address) b n more = refl
+
+pub arithmetic_shift_fits : (instr : Instr) → IsLocated (operand instr 2) → plan_fits (sources_of operations.ArithmeticShift) (arithmetic_shift_plan instr) instr ≡ true
+arithmetic_shift_fits instr is = third_located (PlanFits (sources_of operations.ArithmeticShift) arithmetic_shift_plan) instr is (shift_in_memory instr) (shift_in_register instr)
 
 pub move_psl_fits : (instr : Instr) → IsLocated (operand instr 0) → plan_fits (sources_of operations.MovePsl) (move_psl_plan instr) instr ≡ true
 unfolding sources_of step
 move_psl_fits instr is = first_located (PlanFits (sources_of operations.MovePsl) move_psl_plan) instr is (λ base index more. refl) (λ n more. refl)
-
-pub arithmetic_shift_fits : (instr : Instr) → IsLocated (operand instr 2) → plan_fits (sources_of operations.ArithmeticShift) (arithmetic_shift_plan instr) instr ≡ true
-unfolding sources_of step
-arithmetic_shift_fits instr is = third_located (PlanFits (sources_of operations.ArithmeticShift) arithmetic_shift_plan) instr is (λ a b base index more. refl) (λ a b n more. refl)
 
 pub set_psw_fits : (instr : Instr) → plan_fits (sources_of operations.BitSetPsw) (change_psw_plan ops.Or) instr ≡ true
 unfolding sources_of step
@@ -214,19 +271,90 @@ pub clear_psw_fits : (instr : Instr) → plan_fits (sources_of operations.BitCle
 unfolding sources_of step
 clear_psw_fits instr = refl
 
-bit_fits : (s : Bool) (store : BitStore) (instr : Instr) → IsLocated (operand instr 1)
-    → plan_fits (sources_of (operations.BranchOnBit (record { state = s; store = store }))) (bit_branch_plan (record { state = s; store = store }) instr) instr ≡ true
+-- ---- branches on a bit, by the literal
+abbrev BitFits : (before : List Micro) → Exit → (s : Bool) → BitStore → Operand → Instr → Type 0
+BitFits before exit s store base instr = plan_fits (sources_of (operations.BranchOnBit (record { state = s; store = store }))) (bit_plan_with before exit base store instr) instr ≡ true
+
+abbrev ComputedFits : (s : Bool) → BitStore → Operand → Instr → Type 0
+ComputedFits s store base instr = BitFits (before_bit base (record { state = s; store = store })) (branch_exit instr 2) s store base instr
+
+abbrev LiteralBitFits : (first : Bool) → (position : ℕ) → (s : Bool) → BitStore → Operand → Instr → Type 0
+LiteralBitFits first position s store base instr = BitFits (before_literal base first position store) (masked_exit s instr) s store base instr
+
+computed_in_memory : (s : Bool) (store : BitStore) (instr : Instr) (a : Operand) (base : Base) (index : Option ℕ) (more : List Operand) → ComputedFits s store (operands.Place base index) (having instr (a ∷ operands.Place base index ∷ more))
 unfolding sources_of step
-bit_fits true stores.Nothing instr is = second_located (PlanFits (sources_of (operations.BranchOnBit (record { state = true; store = stores.Nothing }))) (bit_branch_plan (record { state = true; store = stores.Nothing }))) instr is (λ a base index more. refl) (λ a n more. refl)
-bit_fits true (stores.Plain true) instr is = second_located (PlanFits (sources_of (operations.BranchOnBit (record { state = true; store = (stores.Plain true) }))) (bit_branch_plan (record { state = true; store = (stores.Plain true) }))) instr is (λ a base index more. refl) (λ a n more. refl)
-bit_fits true (stores.Plain false) instr is = second_located (PlanFits (sources_of (operations.BranchOnBit (record { state = true; store = (stores.Plain false) }))) (bit_branch_plan (record { state = true; store = (stores.Plain false) }))) instr is (λ a base index more. refl) (λ a n more. refl)
-bit_fits true (stores.Interlocked true) instr is = second_located (PlanFits (sources_of (operations.BranchOnBit (record { state = true; store = (stores.Interlocked true) }))) (bit_branch_plan (record { state = true; store = (stores.Interlocked true) }))) instr is (λ a base index more. refl) (λ a n more. refl)
-bit_fits true (stores.Interlocked false) instr is = second_located (PlanFits (sources_of (operations.BranchOnBit (record { state = true; store = (stores.Interlocked false) }))) (bit_branch_plan (record { state = true; store = (stores.Interlocked false) }))) instr is (λ a base index more. refl) (λ a n more. refl)
-bit_fits false stores.Nothing instr is = second_located (PlanFits (sources_of (operations.BranchOnBit (record { state = false; store = stores.Nothing }))) (bit_branch_plan (record { state = false; store = stores.Nothing }))) instr is (λ a base index more. refl) (λ a n more. refl)
-bit_fits false (stores.Plain true) instr is = second_located (PlanFits (sources_of (operations.BranchOnBit (record { state = false; store = (stores.Plain true) }))) (bit_branch_plan (record { state = false; store = (stores.Plain true) }))) instr is (λ a base index more. refl) (λ a n more. refl)
-bit_fits false (stores.Plain false) instr is = second_located (PlanFits (sources_of (operations.BranchOnBit (record { state = false; store = (stores.Plain false) }))) (bit_branch_plan (record { state = false; store = (stores.Plain false) }))) instr is (λ a base index more. refl) (λ a n more. refl)
-bit_fits false (stores.Interlocked true) instr is = second_located (PlanFits (sources_of (operations.BranchOnBit (record { state = false; store = (stores.Interlocked true) }))) (bit_branch_plan (record { state = false; store = (stores.Interlocked true) }))) instr is (λ a base index more. refl) (λ a n more. refl)
-bit_fits false (stores.Interlocked false) instr is = second_located (PlanFits (sources_of (operations.BranchOnBit (record { state = false; store = (stores.Interlocked false) }))) (bit_branch_plan (record { state = false; store = (stores.Interlocked false) }))) instr is (λ a base index more. refl) (λ a n more. refl)
+computed_in_memory true stores.Nothing instr a base index more = refl
+computed_in_memory true (stores.Plain true) instr a base index more = refl
+computed_in_memory true (stores.Plain false) instr a base index more = refl
+computed_in_memory true (stores.Interlocked true) instr a base index more = refl
+computed_in_memory true (stores.Interlocked false) instr a base index more = refl
+computed_in_memory false stores.Nothing instr a base index more = refl
+computed_in_memory false (stores.Plain true) instr a base index more = refl
+computed_in_memory false (stores.Plain false) instr a base index more = refl
+computed_in_memory false (stores.Interlocked true) instr a base index more = refl
+computed_in_memory false (stores.Interlocked false) instr a base index more = refl
+
+computed_in_register : (s : Bool) (store : BitStore) (instr : Instr) (a : Operand) (n : ℕ) (more : List Operand) → ComputedFits s store (operands.Register n) (having instr (a ∷ operands.Register n ∷ more))
+unfolding sources_of step
+computed_in_register true stores.Nothing instr a n more = refl
+computed_in_register true (stores.Plain true) instr a n more = refl
+computed_in_register true (stores.Plain false) instr a n more = refl
+computed_in_register true (stores.Interlocked true) instr a n more = refl
+computed_in_register true (stores.Interlocked false) instr a n more = refl
+computed_in_register false stores.Nothing instr a n more = refl
+computed_in_register false (stores.Plain true) instr a n more = refl
+computed_in_register false (stores.Plain false) instr a n more = refl
+computed_in_register false (stores.Interlocked true) instr a n more = refl
+computed_in_register false (stores.Interlocked false) instr a n more = refl
+
+literal_bit_in_memory : (first s : Bool) (store : BitStore) (instr : Instr) (a : Operand) (base : Base) (index : Option ℕ) (more : List Operand) (position : ℕ) → LiteralBitFits first position s store (operands.Place base index) (having instr (a ∷ operands.Place base index ∷ more))
+unfolding sources_of step
+literal_bit_in_memory true true stores.Nothing instr a base index more position = refl
+literal_bit_in_memory true true (stores.Plain true) instr a base index more position = refl
+literal_bit_in_memory true true (stores.Plain false) instr a base index more position = refl
+literal_bit_in_memory true true (stores.Interlocked true) instr a base index more position = refl
+literal_bit_in_memory true true (stores.Interlocked false) instr a base index more position = refl
+literal_bit_in_memory true false stores.Nothing instr a base index more position = refl
+literal_bit_in_memory true false (stores.Plain true) instr a base index more position = refl
+literal_bit_in_memory true false (stores.Plain false) instr a base index more position = refl
+literal_bit_in_memory true false (stores.Interlocked true) instr a base index more position = refl
+literal_bit_in_memory true false (stores.Interlocked false) instr a base index more position = refl
+literal_bit_in_memory false true stores.Nothing instr a base index more position = refl
+literal_bit_in_memory false true (stores.Plain true) instr a base index more position = refl
+literal_bit_in_memory false true (stores.Plain false) instr a base index more position = refl
+literal_bit_in_memory false true (stores.Interlocked true) instr a base index more position = refl
+literal_bit_in_memory false true (stores.Interlocked false) instr a base index more position = refl
+literal_bit_in_memory false false stores.Nothing instr a base index more position = refl
+literal_bit_in_memory false false (stores.Plain true) instr a base index more position = refl
+literal_bit_in_memory false false (stores.Plain false) instr a base index more position = refl
+literal_bit_in_memory false false (stores.Interlocked true) instr a base index more position = refl
+literal_bit_in_memory false false (stores.Interlocked false) instr a base index more position = refl
+
+literal_bit_in_register : (s : Bool) (store : BitStore) (instr : Instr) (a : Operand) (n : ℕ) (more : List Operand) (first : Bool) (position : ℕ) → LiteralBitFits first position s store (operands.Register n) (having instr (a ∷ operands.Register n ∷ more))
+unfolding sources_of step
+literal_bit_in_register true stores.Nothing instr a n more first position = refl
+literal_bit_in_register true (stores.Plain true) instr a n more first position = refl
+literal_bit_in_register true (stores.Plain false) instr a n more first position = refl
+literal_bit_in_register true (stores.Interlocked true) instr a n more first position = refl
+literal_bit_in_register true (stores.Interlocked false) instr a n more first position = refl
+literal_bit_in_register false stores.Nothing instr a n more first position = refl
+literal_bit_in_register false (stores.Plain true) instr a n more first position = refl
+literal_bit_in_register false (stores.Plain false) instr a n more first position = refl
+literal_bit_in_register false (stores.Interlocked true) instr a n more first position = refl
+literal_bit_in_register false (stores.Interlocked false) instr a n more first position = refl
+
+bit_in_memory : (branch : BitBranch) (position : Option ℕ) (instr : Instr) (a : Operand) (base : Base) (index : Option ℕ) (more : List Operand)
+    → (let i = having instr (a ∷ operands.Place base index ∷ more) in plan_fits (sources_of (operations.BranchOnBit branch)) (bit_plan_for position (operands.Place base index) branch i) i ≡ true)
+bit_in_memory branch None instr a base index more = computed_in_memory branch.state branch.store instr a base index more
+bit_in_memory branch (Some position) instr a base index more = literal_bit_in_memory (nat_lt position 8) branch.state branch.store instr a base index more position
+
+bit_in_register : (branch : BitBranch) (position : Option ℕ) (instr : Instr) (a : Operand) (n : ℕ) (more : List Operand)
+    → (let i = having instr (a ∷ operands.Register n ∷ more) in plan_fits (sources_of (operations.BranchOnBit branch)) (bit_plan_for position (operands.Register n) branch i) i ≡ true)
+bit_in_register branch None instr a n more = computed_in_register branch.state branch.store instr a n more
+bit_in_register branch (Some position) instr a n more = literal_bit_in_register branch.state branch.store instr a n more (nat_lt position 8) position
 
 pub bit_branch_fits : (branch : BitBranch) (instr : Instr) → IsLocated (operand instr 1) → plan_fits (sources_of (operations.BranchOnBit branch)) (bit_branch_plan branch instr) instr ≡ true
-bit_branch_fits branch instr is = bit_fits branch.state branch.store instr is
+bit_branch_fits branch instr is =
+    second_located (PlanFits (sources_of (operations.BranchOnBit branch)) (bit_branch_plan branch)) instr is
+    (λ a base index more. bit_in_memory branch (literal_position a (operands.Place base index)) instr a base index more)
+    (λ a n more. bit_in_register branch (literal_position a (operands.Register n)) instr a n more)

@@ -22,7 +22,7 @@ use Rattle.operand_programs.specs.Registers.{NamesRegisters}
 use Rattle.micro_lower.specs.Lowering.{Lowers, AreLongOperands}
 use Rattle.micro_lower.specs.Plans.{program_of}
 use Rattle.micro_lower.specs.Rows.{divides, move_plan, clear_plan, move_zero_extended_plan, move_complemented_plan, move_negated_plan, convert_plan, move_address_plan, push_address_plan, push_long_plan, compare_plan, test_plan, bit_test_plan, by_one_plan, two_operands_plan, three_operands_plan, low_bit_plan, subtract_one_plan, add_one_plan, add_compare_plan, add_with_carry_plan, change_mode_plan, subtract_with_carry_plan, rotate_plan, arithmetic_shift_plan, change_psw_plan, register_target, bit_target, bit_branch_plan, move_psl_plan}
-use Rattle.micro_lower.proofs.BitRows.{bit_branch_all}
+use Rattle.micro_lower.proofs.LiteralBits.{bit_branch_all}
 use Rattle.micro_lower.proofs.Fit.{TargetIsNamed}
 use Rattle.micro_lower.proofs.PswRows.{set_psw_all, clear_psw_all}
 use Rattle.micro_lower.proofs.ShiftRows.{arithmetic_shift_all}

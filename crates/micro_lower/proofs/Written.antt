@@ -1,8 +1,8 @@
 -- Each write of a program has as many bytes as the operand that its operation writes.
-use Rattle.std.proofs.Common.{◌≡◌, ℕ, Bool, true, false, List, ◌++◌, Option, Some, None, refl, sym, ap, ◌∙◌, subst}
+use Rattle.std.proofs.Common.{◌≡◌, ℕ, Bool, true, false, List, [], ◌∷◌, ◌++◌, Option, Some, None, refl, sym, ap, ◌∙◌, subst}
 use Rattle.std.proofs.lemmas.Option.{same_Some}
 use Rattle.std.specs.Option.{option_or}
-use Rattle.std.specs.Prelude.{option_and_then}
+use Rattle.std.specs.Prelude.{◌%◌, ◌^◌, nat_lt, option_and_then}
 use Rattle.vax_form.specs.Operation.{operation_at}
 use Rattle.vax_form.specs.Size.{bytes_of, size_of}
 use Rattle.vax_form.specs.Written.{written_bytes, bytes_of_store}
@@ -28,7 +28,7 @@ use Rattle.operand_programs.specs.InOrder.{operands_program, steps_behind_all, n
 use Rattle.micro_lower.specs.Lowering.{ProgramsWriteOperands, WritesOperand}
 use Rattle.micro_lower.specs.Plans.{Plan, specifiers_from, rest_program, program_of}
 use Rattle.micro_lower.specs.Programs.{branch_if_program, plain_program_of}
-use Rattle.micro_lower.specs.Rows.{move_row, arithmetic_row, control_row, own_program_of, row_program_of, program_of_operation, program_for, register_target, before_aligned, add_aligned_plan, behind_binary, low_bit_plan, subtract_one_plan, add_one_plan, bit_tested, bit_stored, byte_program, before_bit, bit_target, bit_branch_plan, factors, product_program, extended_multiply_plan, extended_multiply_program, move_plan, move_zero_extended_plan, clear_plan, move_complemented_plan, move_negated_plan, convert_plan, move_address_plan, push_address_plan, push_long_plan, compare_plan, test_plan, bit_test_plan, two_operands_plan, three_operands_plan, by_one_plan, add_compare_plan, jump_plan, jump_to_subroutine_plan, add_with_carry_plan, subtract_with_carry_plan, arithmetic_shift_plan, rotate_plan, move_psl_plan, change_psw_plan, change_mode_plan}
+use Rattle.micro_lower.specs.Rows.{move_row, arithmetic_row, control_row, own_program_of, row_program_of, program_of_operation, program_for, register_target, before_aligned, add_aligned_plan, behind_binary, low_bit_plan, subtract_one_plan, add_one_plan, bit_tested, bit_stored, byte_program, before_bit, bit_target, literal_position, masked, mask_stored, mask_program, byte_of, before_literal, before_bit_at, bit_branch_plan, factors, product_program, extended_multiply_plan, extended_multiply_program, move_plan, move_zero_extended_plan, clear_plan, move_complemented_plan, move_negated_plan, convert_plan, move_address_plan, push_address_plan, push_long_plan, compare_plan, test_plan, bit_test_plan, two_operands_plan, three_operands_plan, by_one_plan, add_compare_plan, jump_plan, jump_to_subroutine_plan, add_with_carry_plan, subtract_with_carry_plan, arithmetic_shift_plan, rotate_plan, shifted_by, overflow_of_shift_by, before_shift, behind_shift, before_rotation, move_psl_plan, change_psw_plan, change_mode_plan}
 use Rattle.micro_lower.proofs.Bytes.{HaveBytes, TargetHas, joined, plan_has, push_has, quiet_has, replacement_has, rest_have, result_has}
 use Rattle.micro_lower.proofs.Quiet.{operands_quiet}
 
@@ -70,6 +70,36 @@ bit_has : (base : Operand) (state : Bool) (store : BitStore) → HaveBytes (byte
 bit_has (operands.Register n) state store = in_register state store
 bit_has _ state store = in_memory state store
 
+mask_stored_has : (count : ℕ) (store : BitStore) (mask : ℕ) → HaveBytes count (mask_stored store mask)
+mask_stored_has count stores.Nothing mask = refl
+mask_stored_has count (stores.Plain value) mask = refl
+mask_stored_has count (stores.Interlocked value) mask = refl
+
+mask_has : (store : BitStore) (mask : ℕ) → HaveBytes (bytes_of_store store) (mask_program store mask)
+mask_has stores.Nothing mask = refl
+mask_has (stores.Plain value) mask = refl
+mask_has (stores.Interlocked value) mask = refl
+
+byte_of_has : (count : ℕ) (first : Bool) (position : ℕ) → HaveBytes count (byte_of first position)
+byte_of_has count true position = refl
+byte_of_has count false position = refl
+
+literal_in_memory : (first : Bool) (position : ℕ) (store : BitStore) → HaveBytes (bytes_of_store store) (before_literal operands.Unused first position store)
+literal_in_memory first position store =
+    let count = bytes_of_store store in
+    let mask = 2 ^ (position % 8) in
+    joined count (byte_of first position) (mask_program store mask ++ masked Byte mask ∷ []) (byte_of_has count first position)
+    (joined count (mask_program store mask) (masked Byte mask ∷ []) (mask_has store mask) refl)
+
+literal_has : (base : Operand) (first : Bool) (position : ℕ) (store : BitStore) → HaveBytes (bytes_of_store store) (before_literal base first position store)
+literal_has (operands.Register n) first position store =
+    let mask = 2 ^ (position % 32) in joined (bytes_of_store store) (mask_stored store mask) (masked Long mask ∷ []) (mask_stored_has (bytes_of_store store) store mask) refl
+literal_has _ first position store = literal_in_memory first position store
+
+bit_at_has : (position : Option ℕ) (base : Operand) (state : Bool) (store : BitStore) → HaveBytes (bytes_of_store store) (before_bit_at position base (record { state = state; store = store }))
+bit_at_has None base state store = bit_has base state store
+bit_at_has (Some position) base state store = literal_has base (nat_lt position 8) position store
+
 -- a register takes the result, and nothing is written
 left_has : (count : ℕ) (base : Operand) (size : Size) → TargetHas count (register_target base size)
 left_has count (operands.Register n) size steps = refl
@@ -83,6 +113,26 @@ bit_target_has count base (stores.Interlocked value) steps = left_has count base
 aligned_has : (base : Operand) → HaveBytes 0 (before_aligned base)
 aligned_has (operands.Register n) = refl
 aligned_has _ = refl
+
+shifted_by_has : (bytes : ℕ) (left : Bool) (count : ℕ) → HaveBytes bytes (shifted_by left count)
+shifted_by_has bytes true count = refl
+shifted_by_has bytes false count = refl
+
+overflow_by_has : (bytes : ℕ) (left : Bool) (count : ℕ) → HaveBytes bytes (overflow_of_shift_by left count)
+overflow_by_has bytes true count = refl
+overflow_by_has bytes false count = refl
+
+before_shift_has : (bytes : ℕ) (count : Operand) → HaveBytes bytes (before_shift count)
+before_shift_has bytes (operands.Value literal) = shifted_by_has bytes (nat_lt (literal % 256) 128) (literal % 256)
+before_shift_has bytes _ = refl
+
+behind_shift_has : (bytes : ℕ) (count : Operand) → HaveBytes bytes (behind_shift count)
+behind_shift_has bytes (operands.Value literal) = overflow_by_has bytes (nat_lt (literal % 256) 128) (literal % 256)
+behind_shift_has bytes _ = refl
+
+before_rotation_has : (bytes : ℕ) (count : Operand) → HaveBytes bytes (before_rotation count)
+before_rotation_has bytes (operands.Value literal) = refl
+before_rotation_has bytes _ = refl
 
 behind_has : (count : ℕ) (operation : BinaryOperation) (size : Size) → HaveBytes count (behind_binary operation size)
 behind_has count binary.Add size = refl
@@ -156,12 +206,12 @@ rows_have (operations.Decrement width) instr = by_plan (operations.Decrement wid
 rows_have operations.AddWithCarry instr = by_plan operations.AddWithCarry (add_with_carry_plan instr) instr refl (λ steps. replacement_has (operand instr 1) Long 3 2) refl
 rows_have operations.SubtractWithCarry instr = by_plan operations.SubtractWithCarry (subtract_with_carry_plan instr) instr refl (λ steps. replacement_has (operand instr 1) Long 3 2) refl
 rows_have operations.AddAlignedWord instr = by_plan operations.AddAlignedWord (add_aligned_plan instr) instr (aligned_has (operand instr 1)) (left_has 0 (operand instr 1) Word) refl
-rows_have operations.ArithmeticShift instr = by_plan operations.ArithmeticShift (arithmetic_shift_plan instr) instr refl (λ steps. result_has (operand instr 2) Long 3 2) refl
-rows_have operations.Rotate instr = by_plan operations.Rotate (rotate_plan instr) instr refl (λ steps. result_has (operand instr 2) Long 3 2) refl
+rows_have operations.ArithmeticShift instr = by_plan operations.ArithmeticShift (arithmetic_shift_plan instr) instr (before_shift_has (bytes_of Long) (operand instr 0)) (λ steps. result_has (operand instr 2) Long 3 2) (behind_shift_has (bytes_of Long) (operand instr 0))
+rows_have operations.Rotate instr = by_plan operations.Rotate (rotate_plan instr) instr (before_rotation_has (bytes_of Long) (operand instr 0)) (λ steps. result_has (operand instr 2) Long 3 2) refl
 rows_have operations.ExtendedMultiply instr = λ program made. subst (HaveBytes (bytes_of Quad)) (same_Some _ _ made) (product_has instr)
 rows_have (operations.BranchOnLowBit state) instr = low_bit_has state instr
 rows_have (operations.BranchOnBit branch) instr =
-    by_plan (operations.BranchOnBit branch) (bit_branch_plan branch instr) instr (bit_has (operand instr 1) branch.state branch.store) (bit_target_has (bytes_of_store branch.store) (operand instr 1) branch.store) refl
+    by_plan (operations.BranchOnBit branch) (bit_branch_plan branch instr) instr (bit_at_has (literal_position (operand instr 0) (operand instr 1)) (operand instr 1) branch.state branch.store) (bit_target_has (bytes_of_store branch.store) (operand instr 1) branch.store) refl
 rows_have (operations.SubtractOneBranch or_equal) instr = subtract_one_has or_equal instr
 rows_have (operations.AddOneBranch or_equal) instr = add_one_has or_equal instr
 rows_have (operations.AddCompareBranch width) instr = by_plan (operations.AddCompareBranch width) (add_compare_plan width instr) instr refl (λ steps. replacement_has (operand instr 2) (size_of width) 3 2) refl

@@ -26,10 +26,9 @@ use Rattle.micro_ops.specs.Fits.{fits}
 use Rattle.micro_ops.specs.Leaving.{CodesAgree}
 use Rattle.micro_ops.specs.Meaning.{program_tree}
 use Rattle.micro_ops.specs.Sources.{sources_of}
-use Rattle.micro_ops.specs.Uses.{reads_flag}
+use Rattle.micro_ops.specs.Uses.{has_bytes, reads_flag}
 use Rattle.micro_ops.specs.declared.codes.CodeSources.{CodeSources}
 use Rattle.micro_ops.specs.declared.program.Micro.{Micro}
-use Rattle.micro_ops.specs.declared.program.Micro.TheVariants.{Write}
 use Rattle.operand_programs.specs.Pieces.{service, IsLong}
 use Rattle.micro_lower.specs.Rows.{has_program, program_for}
 
@@ -84,11 +83,6 @@ pub record KeepsTo (instr : Instr) (program : List Micro) : Type 0 where
   pub computes : (operation : Operation) → operation_at instr.opcode ≡ Some operation → list_any leaves_computed program ≡ computes_address operation instr
 
 -- ---- what a program writes
--- a write, not interlocked, has so many bytes
-abbrev pub has_bytes : (count : ℕ) → Micro → Bool
-has_bytes count (Write place bytes from) = bytes == count
-has_bytes count _ = true
-
 -- each has as many bytes as the one operand that the instruction's operation writes
 abbrev pub WritesOperand : Instr → List Micro → Type 0
 WritesOperand instr program = (operation : Operation) → operation_at instr.opcode ≡ Some operation → list_all (has_bytes (written_bytes operation)) program ≡ true

@@ -1,6 +1,6 @@
 -- The rows of the table of instructions: the plan of each operation.
 -- VAX Architecture Reference Manual, "Instruction Descriptions".
-use Rattle.std.specs.Prelude.{ℕ, List, [], ◌∷◌, ◌++◌, Bool, true, false, Option, Some, None, option_and_then}
+use Rattle.std.specs.Prelude.{ℕ, ◌-◌, ◌/◌, ◌%◌, ◌^◌, List, [], ◌∷◌, ◌++◌, Bool, true, false, Option, Some, None, min, nat_lt, option_and_then, if◌then◌else◌}
 use Rattle.std.specs.Option.{option_or}
 use Rattle.vax_form.specs.Operation.{operation_at}
 use Rattle.vax_form.specs.Row.{class_at, is_translated}
@@ -312,25 +312,18 @@ low_bit_plan state instr = record {
   exit = branch_exit instr 1;
 }
 
--- the greatest and the least longword, as signed numbers
-abbrev pub greatest : ℕ
-greatest = 0x7FFF_FFFF
-
-abbrev pub least : ℕ
-least = 0x8000_0000
-
 -- whether a longword is at least 0, or above 0
 abbrev pub down_test : (or_equal : Bool) → List Micro
 down_test true = Compute 0 ops.Less Long (Temp 2) (Const 0) ∷ inverted 0 ∷ []
 down_test false = Compute 0 ops.Less Long (Const 0) (Temp 2) ∷ []
 
--- SOBGEQ, SOBGTR
+-- SOBGEQ, SOBGTR. V: the index was below what it is
 abbrev pub subtract_one_plan : (or_equal : Bool) → Instr → Plan
 subtract_one_plan or_equal instr = record {
   slots = modified Long 0 ∷ displaced Byte ∷ [];
   before = Compute 2 ops.Sub Long (Temp 0) (Const 1) ∷ [];
   target = targets.Replacement (operand instr 0) Long;
-  behind = Compute 3 ops.Equal Long (Temp 2) (Const greatest) ∷ down_test or_equal;
+  behind = Compute 3 ops.Less Long (Temp 0) (Temp 2) ∷ down_test or_equal;
   exit = branch_exit instr 1;
 }
 
@@ -339,13 +332,13 @@ abbrev pub up_test : (or_equal : Bool) → List Micro
 up_test true = Compute 0 ops.Less Long (Temp 1) (Temp 2) ∷ inverted 0 ∷ []
 up_test false = Compute 0 ops.Less Long (Temp 2) (Temp 1) ∷ []
 
--- AOBLEQ, AOBLSS
+-- AOBLEQ, AOBLSS. V: the index is below what it was
 abbrev pub add_one_plan : (or_equal : Bool) → Instr → Plan
 add_one_plan or_equal instr = record {
   slots = read Long 1 2 ∷ modified Long 0 ∷ displaced Byte ∷ [];
   before = Compute 2 ops.Add Long (Temp 0) (Const 1) ∷ [];
   target = targets.Replacement (operand instr 1) Long;
-  behind = Compute 3 ops.Equal Long (Temp 2) (Const least) ∷ up_test or_equal;
+  behind = Compute 3 ops.Less Long (Temp 2) (Temp 0) ∷ up_test or_equal;
   exit = branch_exit instr 2;
 }
 
@@ -427,18 +420,72 @@ bit_target base stores.Nothing = targets.Nowhere
 bit_target base (stores.Plain value) = register_target base Long
 bit_target base (stores.Interlocked value) = register_target base Long
 
-abbrev pub bit_plan_for : Operand → BitBranch → Instr → Plan
-bit_plan_for base branch instr = record {
+-- a literal position: of a register a bit that it has, and in memory one that is not negative
+abbrev pub is_plain : (base : Operand) → (position : ℕ) → Bool
+is_plain (operands.Register n) position = nat_lt position 32
+is_plain base position = nat_lt position 0x8000_0000
+
+abbrev pub literal_position : (position base : Operand) → Option ℕ
+literal_position (operands.Value number) base = let position = number % 2 ^ 32 in if is_plain base position then Some position else None
+literal_position position base = None
+
+-- the bit that a literal numbers, of the value in 1
+abbrev pub masked : Size → (mask : ℕ) → Micro
+masked size mask = Compute 0 ops.And size (Temp 1) (Const mask)
+
+-- the value in 1 with that bit set, or cleared
+abbrev pub with_mask_into : (to : ℕ) → Size → (value : Bool) → (mask : ℕ) → Micro
+with_mask_into to size value mask = Compute to (storing value) size (Temp 1) (Const mask)
+
+abbrev pub mask_stored : BitStore → (mask : ℕ) → List Micro
+mask_stored stores.Nothing mask = []
+mask_stored (stores.Plain value) mask = with_mask_into 2 Long value mask ∷ []
+mask_stored (stores.Interlocked value) mask = with_mask_into 2 Long value mask ∷ []
+
+-- the number of the bit in the byte is in 0
+abbrev pub mask_program : BitStore → (mask : ℕ) → List Micro
+mask_program stores.Nothing mask = Probe 2 1 false ∷ Read 1 2 1 ∷ []
+mask_program (stores.Plain value) mask = Probe 2 1 true ∷ Read 1 2 1 ∷ with_mask_into 3 Byte value mask ∷ Write 2 1 3 ∷ []
+mask_program (stores.Interlocked value) mask = Probe 2 1 true ∷ Locked 1 2 (locked_op value) 0 ∷ []
+
+-- behind the first byte, others are passed over
+abbrev pub byte_of : (first : Bool) → (position : ℕ) → List Micro
+byte_of true position = []
+byte_of false position = Compute 2 ops.Add Long (Temp 2) (Const (position / 8)) ∷ unary 0 ops.Move Byte (Const (position % 8)) ∷ []
+
+abbrev pub before_literal : Operand → (first : Bool) → (position : ℕ) → BitStore → List Micro
+before_literal (operands.Register n) first position store = mask_stored store (2 ^ (position % 32)) ++ masked Long (2 ^ (position % 32)) ∷ []
+before_literal base first position store = byte_of first position ++ (mask_program store (2 ^ (position % 8)) ++ masked Byte (2 ^ (position % 8)) ∷ [])
+
+-- a bit under a mask is 0, or is not
+abbrev pub masked_exit : (state : Bool) → Instr → Exit
+masked_exit true instr = branch_exit instr 2
+masked_exit false instr = Choice 0 instr.after (target (operand instr 2))
+
+-- by the literal, where there is one
+abbrev pub before_bit_at : Option ℕ → Operand → BitBranch → List Micro
+before_bit_at None base branch = before_bit base branch
+before_bit_at (Some position) base branch = before_literal base (nat_lt position 8) position branch.store
+
+abbrev pub bit_exit : Option ℕ → (state : Bool) → Instr → Exit
+bit_exit None state instr = branch_exit instr 2
+bit_exit (Some position) state instr = masked_exit state instr
+
+abbrev pub bit_plan_with : (before : List Micro) → Exit → Operand → BitStore → Instr → Plan
+bit_plan_with before exit base store instr = record {
   slots = read Long 0 1 ∷ field Byte ∷ displaced Byte ∷ [];
-  before = before_bit base branch;
-  target = bit_target base branch.store;
+  before = before;
+  target = bit_target base store;
   behind = [];
-  exit = branch_exit instr 2;
+  exit = exit;
 }
+
+abbrev pub bit_plan_for : Option ℕ → Operand → BitBranch → Instr → Plan
+bit_plan_for position base branch instr = bit_plan_with (before_bit_at position base branch) (bit_exit position branch.state instr) base branch.store instr
 
 -- BBS, BBC, BBSS, BBCS, BBSC, BBCC, BBSSI, BBCCI
 abbrev pub bit_branch_plan : BitBranch → Instr → Plan
-bit_branch_plan branch instr = bit_plan_for (operand instr 1) branch instr
+bit_branch_plan branch instr = bit_plan_for (literal_position (operand instr 0) (operand instr 1)) (operand instr 1) branch instr
 
 -- ---- jumps
 -- an operand whose address the code fixes is a fixed target
@@ -525,37 +572,79 @@ overflow_of_shift =
     ∷ Compute 3 ops.AndNot Byte (Temp 3) (Temp 4)
     ∷ []
 
--- ASHL: to the left by the unsigned count, or with a negative count to the right by what it lacks to 256
-abbrev pub arithmetic_shift_plan : Instr → Plan
-arithmetic_shift_plan instr = record {
+-- to the left by the unsigned count, or with a negative count to the right by what it lacks to 256
+abbrev pub shifted : List Micro
+shifted =
+    Compute 2 ops.ShiftLeft Long (Temp 1) (Temp 0)
+    ∷ Compute 4 ops.Sub Byte (Const 0) (Temp 0)
+    ∷ Compute 5 ops.ShiftSigned Long (Temp 1) (Temp 4)
+    ∷ Compute 4 ops.Less Byte (Temp 0) (Const 0)
+    ∷ Compute 2 ops.SelectNonzero Long (Temp 4) (Temp 5)
+    ∷ []
+
+-- the same by a literal count, which says the way
+abbrev pub shifted_by : (left : Bool) → (count : ℕ) → List Micro
+shifted_by true count = Compute 2 ops.ShiftLeft Long (Temp 1) (Const count) ∷ []
+shifted_by false count = Compute 2 ops.ShiftSigned Long (Temp 1) (Const (256 - count)) ∷ []
+
+-- V of a shift to the right is 0
+abbrev pub overflow_of_shift_by : (left : Bool) → (count : ℕ) → List Micro
+overflow_of_shift_by true count =
+    unary 4 ops.SignExtend Long (Temp 1)
+    ∷ Compute 4 ops.ShiftLeft Quad (Temp 4) (Const (min count 32))
+    ∷ unary 5 ops.SignExtend Long (Temp 4)
+    ∷ Compute 3 ops.Equal Quad (Temp 4) (Temp 5)
+    ∷ inverted 3
+    ∷ []
+overflow_of_shift_by false count = unary 3 ops.Move Byte (Const 0) ∷ []
+
+abbrev pub before_shift : Operand → List Micro
+before_shift (operands.Value count) = shifted_by (nat_lt (count % 256) 128) (count % 256)
+before_shift count = shifted
+
+abbrev pub behind_shift : Operand → List Micro
+behind_shift (operands.Value count) = overflow_of_shift_by (nat_lt (count % 256) 128) (count % 256)
+behind_shift count = overflow_of_shift
+
+-- a byte is the count, and the longword that it is taken of goes into 1
+abbrev pub shift_plan_with : (before behind : List Micro) → Instr → Plan
+shift_plan_with before behind instr = record {
   slots = read Byte 0 1 ∷ read Long 1 2 ∷ written Long ∷ [];
-  before =
-      Compute 2 ops.ShiftLeft Long (Temp 1) (Temp 0)
-      ∷ Compute 4 ops.Sub Byte (Const 0) (Temp 0)
-      ∷ Compute 5 ops.ShiftSigned Long (Temp 1) (Temp 4)
-      ∷ Compute 4 ops.Less Byte (Temp 0) (Const 0)
-      ∷ Compute 2 ops.SelectNonzero Long (Temp 4) (Temp 5)
-      ∷ [];
+  before = before;
   target = targets.Result (operand instr 2) Long;
-  behind = overflow_of_shift;
+  behind = behind;
   exit = Next;
 }
 
--- ROTL: by the count modulo 32, and what it lacks to 32 to the right
+-- ASHL
+abbrev pub arithmetic_shift_plan : Instr → Plan
+arithmetic_shift_plan instr = shift_plan_with (before_shift (operand instr 0)) (behind_shift (operand instr 0)) instr
+
+-- by the count modulo 32, and what it lacks to 32 to the right
+abbrev pub rotated : List Micro
+rotated =
+    Compute 4 ops.And Byte (Temp 0) (Const 31)
+    ∷ Compute 2 ops.ShiftLeft Long (Temp 1) (Temp 4)
+    ∷ Compute 4 ops.Sub Byte (Const 32) (Temp 4)
+    ∷ Compute 5 ops.ShiftRight Long (Temp 1) (Temp 4)
+    ∷ Compute 2 ops.Or Long (Temp 2) (Temp 5)
+    ∷ []
+
+-- the same by a literal count below 32
+abbrev pub rotated_by : (count : ℕ) → List Micro
+rotated_by count =
+    Compute 2 ops.ShiftLeft Long (Temp 1) (Const count)
+    ∷ Compute 5 ops.ShiftRight Long (Temp 1) (Const (32 - count))
+    ∷ Compute 2 ops.Or Long (Temp 2) (Temp 5)
+    ∷ []
+
+abbrev pub before_rotation : Operand → List Micro
+before_rotation (operands.Value count) = rotated_by (count % 32)
+before_rotation count = rotated
+
+-- ROTL
 abbrev pub rotate_plan : Instr → Plan
-rotate_plan instr = record {
-  slots = read Byte 0 1 ∷ read Long 1 2 ∷ written Long ∷ [];
-  before =
-      Compute 4 ops.And Byte (Temp 0) (Const 31)
-      ∷ Compute 2 ops.ShiftLeft Long (Temp 1) (Temp 4)
-      ∷ Compute 4 ops.Sub Byte (Const 32) (Temp 4)
-      ∷ Compute 5 ops.ShiftRight Long (Temp 1) (Temp 4)
-      ∷ Compute 2 ops.Or Long (Temp 2) (Temp 5)
-      ∷ [];
-  target = targets.Result (operand instr 2) Long;
-  behind = unary 0 ops.Move Long (Temp 2) ∷ [];
-  exit = Next;
-}
+rotate_plan instr = shift_plan_with (before_rotation (operand instr 0)) (unary 0 ops.Move Long (Temp 2) ∷ []) instr
 
 -- ---- EMUL: four operands are too many for the temporaries, so the factors are multiplied before the others are evaluated
 abbrev pub factors : List Slot

@@ -3,7 +3,7 @@
 ghost use Rattle.std.specs.Prelude.{◌≡◌, ◌≤◌, IfOk, length};
 ghost use Rattle.vax_form.specs.Size.{size_of};
 ghost use Rattle.micro_lower.specs.Plans.{plan_of, program_of};
-ghost use Rattle.micro_lower.specs.Rows.{compare_plan, test_plan, bit_test_plan, micro_of, behind_binary, two_operands_plan, three_operands_plan, by_one_plan, add_with_carry_plan, subtract_with_carry_plan, aligned_slot, add_aligned_plan, arithmetic_shift_plan, rotate_plan};
+ghost use Rattle.micro_lower.specs.Rows.{compare_plan, test_plan, bit_test_plan, micro_of, behind_binary, two_operands_plan, three_operands_plan, by_one_plan, add_with_carry_plan, subtract_with_carry_plan, aligned_slot, add_aligned_plan};
 
 use crate::micros::{binary, unary};
 use crate::plans::{Plan, Slot, Target, assemble};
@@ -209,7 +209,13 @@ const LONG_EXTENDED: Micro = unary!(5, MicroOp::SignExtend, Size::Long, Arg::Tem
 
 const IS_EXTENDED: Micro = binary!(3, MicroOp::Equal, Size::Quad, Arg::Temp(4), Arg::Temp(5));
 
-const OVERFLOWS: Micro = binary!(3, MicroOp::Xor, Size::Byte, Arg::Temp(3), Arg::Const(1));
+pub(crate) const OVERFLOWS: Micro = binary!(
+    3,
+    MicroOp::Xor,
+    Size::Byte,
+    Arg::Temp(3),
+    Arg::Const(1)
+);
 
 const SUM_WITH_CARRY: [Micro; 2] = [
     binary!(2, MicroOp::Add, Size::Long, Arg::Temp(0), Arg::Temp(1)),
@@ -365,140 +371,6 @@ pub(crate) fn add_aligned_word(
         before,
         target: register_target(base, Size::Word),
         behind: &[],
-        exit: Exit::Next,
-    };
-    assemble(alloc, codes, plan, instr)
-}
-
-/// V of ASHL into 3: the source as a signed quadword, shifted by at most 32, is not its low longword, and the count is
-/// not negative.
-const OVERFLOW_OF_SHIFT: [Micro; 10] = [
-    unary!(4, MicroOp::Move, Size::Byte, Arg::Temp(0)),
-    binary!(
-        5,
-        MicroOp::LessUnsigned,
-        Size::Byte,
-        Arg::Const(32),
-        Arg::Temp(0)
-    ),
-    binary!(
-        4,
-        MicroOp::SelectNonzero,
-        Size::Byte,
-        Arg::Temp(5),
-        Arg::Const(32)
-    ),
-    unary!(5, MicroOp::SignExtend, Size::Long, Arg::Temp(1)),
-    binary!(
-        4,
-        MicroOp::ShiftLeft,
-        Size::Quad,
-        Arg::Temp(5),
-        Arg::Temp(4)
-    ),
-    unary!(5, MicroOp::SignExtend, Size::Long, Arg::Temp(4)),
-    binary!(3, MicroOp::Equal, Size::Quad, Arg::Temp(4), Arg::Temp(5)),
-    OVERFLOWS,
-    binary!(4, MicroOp::Less, Size::Byte, Arg::Temp(0), Arg::Const(0)),
-    binary!(3, MicroOp::AndNot, Size::Byte, Arg::Temp(3), Arg::Temp(4)),
-];
-
-/// To the left by the unsigned count, or with a negative count to the right by what it lacks to 256.
-const SHIFTED: [Micro; 5] = [
-    binary!(
-        2,
-        MicroOp::ShiftLeft,
-        Size::Long,
-        Arg::Temp(1),
-        Arg::Temp(0)
-    ),
-    binary!(4, MicroOp::Sub, Size::Byte, Arg::Const(0), Arg::Temp(0)),
-    binary!(
-        5,
-        MicroOp::ShiftSigned,
-        Size::Long,
-        Arg::Temp(1),
-        Arg::Temp(4)
-    ),
-    binary!(4, MicroOp::Less, Size::Byte, Arg::Temp(0), Arg::Const(0)),
-    binary!(
-        2,
-        MicroOp::SelectNonzero,
-        Size::Long,
-        Arg::Temp(4),
-        Arg::Temp(5)
-    ),
-];
-
-/// The count, the source and the result.
-const SHIFT: [Slot; 3] = [
-    slot!(Access::Read, Size::Byte, 0, 1),
-    slot!(Access::Read, Size::Long, 1, 2),
-    slot!(Access::Write, Size::Long, 2, 3),
-];
-
-/// ASHL.
-pub(crate) fn arithmetic_shift(
-    alloc: Global,
-    codes: CodeSources,
-    instr: &Instr,
-) -> Result<Vec<Micro>, WantOfMemory>
-    ensures { IfOk result (λ p. p.items ≡ program_of codes (arithmetic_shift_plan instr.now) instr.now) }
-{
-    let long = Size::Long;
-    let plan = Plan {
-        slots: &SHIFT,
-        before: &SHIFTED,
-        target: Target::Result {
-            operand: operand(instr, 2),
-            size: long,
-        },
-        behind: &OVERFLOW_OF_SHIFT,
-        exit: Exit::Next,
-    };
-    assemble(alloc, codes, plan, instr)
-}
-
-/// By the count modulo 32, and what it lacks to 32 to the right.
-const ROTATED: [Micro; 5] = [
-    binary!(4, MicroOp::And, Size::Byte, Arg::Temp(0), Arg::Const(31)),
-    binary!(
-        2,
-        MicroOp::ShiftLeft,
-        Size::Long,
-        Arg::Temp(1),
-        Arg::Temp(4)
-    ),
-    binary!(4, MicroOp::Sub, Size::Byte, Arg::Const(32), Arg::Temp(4)),
-    binary!(
-        5,
-        MicroOp::ShiftRight,
-        Size::Long,
-        Arg::Temp(1),
-        Arg::Temp(4)
-    ),
-    binary!(2, MicroOp::Or, Size::Long, Arg::Temp(2), Arg::Temp(5)),
-];
-
-/// The result is also in 0.
-const COPY: Micro = unary!(0, MicroOp::Move, Size::Long, Arg::Temp(2));
-
-/// ROTL.
-pub(crate) fn rotate(
-    alloc: Global,
-    codes: CodeSources,
-    instr: &Instr,
-) -> Result<Vec<Micro>, WantOfMemory>
-    ensures { IfOk result (λ p. p.items ≡ program_of codes (rotate_plan instr.now) instr.now) }
-{
-    let plan = Plan {
-        slots: &SHIFT,
-        before: &ROTATED,
-        target: Target::Result {
-            operand: operand(instr, 2),
-            size: Size::Long,
-        },
-        behind: &[COPY],
         exit: Exit::Next,
     };
     assemble(alloc, codes, plan, instr)

@@ -1,15 +1,16 @@
 // Branches on a bit.
 // VAX Architecture Reference Manual, "Control Instructions": Branch on Bit.
-ghost use Rattle.std.specs.Prelude.{◌≡◌, ◌++◌, ◌∷◌, [], IfOk, OnOk};
+ghost use Rattle.std.specs.Prelude.{◌≡◌, ◌<◌, ◌^◌, ◌++◌, ◌∷◌, [], nat_lt, IfOk, OnOk};
 ghost use Rattle.micro_lower.specs.Plans.{program_of};
-ghost use Rattle.micro_lower.specs.Rows.{bit_tested, storing, with_bit_into, bit_stored, locked_op, byte_program, before_bit, bit_target, bit_branch_plan};
+ghost use Rattle.micro_lower.specs.Rows.{bit_tested, storing, with_bit_into, bit_stored, locked_op, byte_program, before_bit, bit_target, is_plain, literal_position, masked, with_mask_into, mask_stored, mask_program, byte_of, before_literal, masked_exit, bit_branch_plan};
 
-use crate::micros::{add, binary};
+use crate::micros::{add, binary, unary};
 use crate::plans::{Plan, Slot, Target, assemble};
 use crate::rows::{BIT, INVERTED, branch_exit, operand, register_target, slot};
-use micro_ops::{Arg, CodeSources, LockedOp, Micro, MicroOp};
+use micro_ops::{Arg, CodeSources, Exit, LockedOp, Micro, MicroOp};
 use std::alloc::Global;
 use vax_form::{Access, BitBranch, BitStore, Instr, Operand, Size, WantOfMemory};
+use vax_meaning::target;
 
 /// The greatest number of a bit in a register, and in a byte.
 const LAST_BIT: u64 = 31;
@@ -99,6 +100,24 @@ const FOUND: Micro = Micro::Read {
     count: 1,
 };
 
+const WRITTEN: Micro = Micro::Write {
+    place: 2,
+    count: 1,
+    from: 3,
+};
+
+/// The bit of the number in 0, by one interlocked reference.
+fn locked(value: bool) -> Micro
+    ensures { result ≡ Micro.Locked 1 2 (locked_op value) 0 }
+{
+    Micro::Locked {
+        to: 1,
+        place: 2,
+        kind: locked_op(value),
+        from: 0,
+    }
+}
+
 /// The byte at the address in 2 goes into 1, and the bit in it is left so.
 fn put_byte(program: &mut Vec<Micro>, store: BitStore) -> Result<(), WantOfMemory>
     ensures { OnOk result (program.new.items ≡ program.old.items ++ byte_program store) }
@@ -107,22 +126,9 @@ fn put_byte(program: &mut Vec<Micro>, store: BitStore) -> Result<(), WantOfMemor
         BitStore::Nothing => add(program, &[CHECKED_FOR_READ, FOUND]),
         BitStore::Plain(value) => {
             let [unit, made] = with_bit_into(3, Size::Byte, value);
-            let written = Micro::Write {
-                place: 2,
-                count: 1,
-                from: 3,
-            };
-            add(program, &[CHECKED_FOR_WRITE, FOUND, unit, made, written])
+            add(program, &[CHECKED_FOR_WRITE, FOUND, unit, made, WRITTEN])
         }
-        BitStore::Interlocked(value) => {
-            let locked = Micro::Locked {
-                to: 1,
-                place: 2,
-                kind: locked_op(value),
-                from: 0,
-            };
-            add(program, &[CHECKED_FOR_WRITE, locked])
-        }
+        BitStore::Interlocked(value) => add(program, &[CHECKED_FOR_WRITE, locked(value)]),
     }
 }
 
@@ -181,6 +187,155 @@ fn bit_target(base: Operand, store: BitStore) -> Target
     }
 }
 
+/// The longwords that there are.
+const LONGWORDS: u64 = 1 << 32;
+
+/// The bits of a longword, and of a byte.
+const BITS_OF_LONGWORD: u32 = 32;
+
+const BITS: u32 = 8;
+
+/// From here on a longword is negative.
+const NEGATIVE: u32 = 0x8000_0000;
+
+fn is_plain(base: Operand, position: u32) -> bool
+    ensures { result ≡ is_plain base position }
+{
+    match base {
+        Operand::Register(_) => position < BITS_OF_LONGWORD,
+        Operand::Unused | Operand::Value(_) | Operand::Place { .. } | Operand::Target(_) => {
+            position < NEGATIVE
+        }
+    }
+}
+
+/// A literal position: of a register a bit that it has, and in memory one that is not negative.
+fn literal_position(position: Operand, base: Operand) -> Option<u32>
+    ensures { result ≡ literal_position position base }
+{
+    match position {
+        Operand::Value(number) => {
+            let position = (number % LONGWORDS) as u32;
+            if is_plain(base, position) {
+                Some(position)
+            } else {
+                None
+            }
+        }
+        Operand::Unused | Operand::Register(_) | Operand::Place { .. } | Operand::Target(_) => None,
+    }
+}
+
+/// The bit of that number alone.
+fn mask_of(bit: u32) -> u64
+    requires { bit < 64 }
+    ensures { result ≡ 2 ^ bit }
+{
+    1 << bit
+}
+
+/// The bit that a literal numbers, of the value in 1.
+fn masked(size: Size, mask: u64) -> Micro
+    ensures { result ≡ masked size mask }
+{
+    binary!(0, MicroOp::And, size, Arg::Temp(1), Arg::Const(mask))
+}
+
+/// The value in 1 with that bit set, or cleared.
+fn with_mask_into(to: u8, size: Size, value: bool, mask: u64) -> Micro
+    ensures { result ≡ with_mask_into to size value mask }
+{
+    binary!(to, storing(value), size, Arg::Temp(1), Arg::Const(mask))
+}
+
+/// What is left in the register goes into 2.
+fn put_mask_stored(program: &mut Vec<Micro>, store: BitStore, mask: u64) -> Result<(), WantOfMemory>
+    ensures { OnOk result (program.new.items ≡ program.old.items ++ mask_stored store mask) }
+{
+    match store {
+        BitStore::Nothing => Ok(()),
+        BitStore::Plain(value) | BitStore::Interlocked(value) => {
+            add(program, &[with_mask_into(2, Size::Long, value, mask)])
+        }
+    }
+}
+
+/// The byte at the address in 2 goes into 1, and the bit of the number in 0 is left so.
+fn put_mask_program(
+    program: &mut Vec<Micro>,
+    store: BitStore,
+    mask: u64,
+) -> Result<(), WantOfMemory>
+    ensures { OnOk result (program.new.items ≡ program.old.items ++ mask_program store mask) }
+{
+    match store {
+        BitStore::Nothing => add(program, &[CHECKED_FOR_READ, FOUND]),
+        BitStore::Plain(value) => {
+            let made = with_mask_into(3, Size::Byte, value, mask);
+            add(program, &[CHECKED_FOR_WRITE, FOUND, made, WRITTEN])
+        }
+        BitStore::Interlocked(value) => add(program, &[CHECKED_FOR_WRITE, locked(value)]),
+    }
+}
+
+/// Behind the first byte, others are passed over.
+fn put_byte_of(program: &mut Vec<Micro>, first: bool, position: u32) -> Result<(), WantOfMemory>
+    ensures { OnOk result (program.new.items ≡ program.old.items ++ byte_of first position) }
+{
+    if first {
+        Ok(())
+    } else {
+        let bytes = Arg::Const(u64::from(position / BITS));
+        let number = Arg::Const(u64::from(position % BITS));
+        add(
+            program,
+            &[
+                binary!(2, MicroOp::Add, Size::Long, Arg::Temp(2), bytes),
+                unary!(0, MicroOp::Move, Size::Byte, number),
+            ],
+        )
+    }
+}
+
+/// A bit of a literal position, of a register or of memory.
+fn put_before_literal(
+    program: &mut Vec<Micro>,
+    base: Operand,
+    position: u32,
+    store: BitStore,
+) -> Result<(), WantOfMemory>
+    ensures { OnOk result (program.new.items ≡ program.old.items ++ before_literal base (nat_lt position 8) position store) }
+{
+    match base {
+        Operand::Register(_) => {
+            let mask = mask_of(position % BITS_OF_LONGWORD);
+            put_mask_stored(program, store, mask)?;
+            add(program, &[masked(Size::Long, mask)])
+        }
+        Operand::Unused | Operand::Value(_) | Operand::Place { .. } | Operand::Target(_) => {
+            let mask = mask_of(position % BITS);
+            put_byte_of(program, position < BITS, position)?;
+            put_mask_program(program, store, mask)?;
+            add(program, &[masked(Size::Byte, mask)])
+        }
+    }
+}
+
+/// A bit under a mask is 0, or is not.
+fn masked_exit(state: bool, instr: &Instr) -> Exit
+    ensures { result ≡ masked_exit state instr.now }
+{
+    if state {
+        branch_exit(instr, 2)
+    } else {
+        Exit::Choice {
+            when: 0,
+            taken: instr.after,
+            other: target(operand(instr, 2)),
+        }
+    }
+}
+
 /// The position, the base and the target.
 const BIT_AND_TARGET: [Slot; 3] = [
     slot!(Access::Read, Size::Long, 0, 1),
@@ -199,13 +354,22 @@ pub(crate) fn branch_on_bit(
 {
     let base = operand(instr, 1);
     let mut before = Vec::new(alloc);
-    put_before_bit(&mut before, base, branch)?;
+    let exit = match literal_position(operand(instr, 0), base) {
+        Some(position) => {
+            put_before_literal(&mut before, base, position, branch.store)?;
+            masked_exit(branch.state, instr)
+        }
+        None => {
+            put_before_bit(&mut before, base, branch)?;
+            branch_exit(instr, 2)
+        }
+    };
     let plan = Plan {
         slots: &BIT_AND_TARGET,
         before: &before,
         target: bit_target(base, branch.store),
         behind: &[],
-        exit: branch_exit(instr, 2),
+        exit,
     };
     assemble(alloc, codes, plan, instr)
 }

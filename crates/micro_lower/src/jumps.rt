@@ -11,11 +11,6 @@ use micro_ops::{Arg, CodeSources, Exit, Micro, MicroOp};
 use std::alloc::Global;
 use vax_form::{Access, Base, Instr, Operand, Size, WantOfMemory, Width};
 
-/// The greatest longword, and the least, as signed numbers.
-const GREATEST: u64 = 0x7FFF_FFFF;
-
-const LEAST: u64 = 0x8000_0000;
-
 const ITS_BIT: [Micro; 1] = [BIT];
 
 const INVERTED_BIT: [Micro; 2] = [BIT, INVERTED];
@@ -46,22 +41,17 @@ pub(crate) fn branch_on_low_bit(
 
 const ONE_LESS: [Micro; 1] = [binary!(2, MicroOp::Sub, Size::Long, Arg::Temp(0), Arg::Const(1))];
 
-const IS_GREATEST: Micro = binary!(
-    3,
-    MicroOp::Equal,
-    Size::Long,
-    Arg::Temp(2),
-    Arg::Const(GREATEST)
-);
+/// V of one less: the index was below what it is.
+const WAS_LESS: Micro = binary!(3, MicroOp::Less, Size::Long, Arg::Temp(0), Arg::Temp(2));
 
 const AT_LEAST_ZERO: [Micro; 3] = [
-    IS_GREATEST,
+    WAS_LESS,
     binary!(0, MicroOp::Less, Size::Long, Arg::Temp(2), Arg::Const(0)),
     INVERTED,
 ];
 
 const ABOVE_ZERO: [Micro; 2] = [
-    IS_GREATEST,
+    WAS_LESS,
     binary!(0, MicroOp::Less, Size::Long, Arg::Const(0), Arg::Temp(2)),
 ];
 
@@ -98,22 +88,17 @@ pub(crate) fn subtract_one_branch(
 
 const ONE_MORE: [Micro; 1] = [binary!(2, MicroOp::Add, Size::Long, Arg::Temp(0), Arg::Const(1))];
 
-const IS_LEAST: Micro = binary!(
-    3,
-    MicroOp::Equal,
-    Size::Long,
-    Arg::Temp(2),
-    Arg::Const(LEAST)
-);
+/// V of one more: the index is below what it was.
+const IS_LESS: Micro = binary!(3, MicroOp::Less, Size::Long, Arg::Temp(2), Arg::Temp(0));
 
 const AT_MOST_LIMIT: [Micro; 3] = [
-    IS_LEAST,
+    IS_LESS,
     binary!(0, MicroOp::Less, Size::Long, Arg::Temp(1), Arg::Temp(2)),
     INVERTED,
 ];
 
 const BELOW_LIMIT: [Micro; 2] = [
-    IS_LEAST,
+    IS_LESS,
     binary!(0, MicroOp::Less, Size::Long, Arg::Temp(2), Arg::Temp(1)),
 ];
 

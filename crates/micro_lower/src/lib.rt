@@ -15,6 +15,7 @@ mod plans;
 mod products;
 mod ranges;
 mod rows;
+mod shifts;
 mod status;
 mod table;
 

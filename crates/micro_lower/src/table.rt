@@ -4,8 +4,8 @@ ghost use Rattle.micro_ops.specs.Sources.{sources_of};
 ghost use Rattle.micro_lower.specs.Rows.{program_where, move_row, arithmetic_row, control_row, row_of, own_program_of, row_program_of};
 
 use crate::arithmetic::{
-    add_aligned_word, add_with_carry, arithmetic_shift, bit_test, by_one, compare, rotate,
-    subtract_with_carry, test_value, three_operands, two_operands,
+    add_aligned_word, add_with_carry, bit_test, by_one, compare, subtract_with_carry, test_value,
+    three_operands, two_operands,
 };
 use crate::bits::branch_on_bit;
 use crate::jumps::{
@@ -18,6 +18,7 @@ use crate::moves::{
 };
 use crate::products::extended_multiply;
 use crate::rows::{addressed, read};
+use crate::shifts::{arithmetic_shift, rotate};
 use crate::status::{clear_psw, move_psl, set_psw};
 use micro_ops::{CodeSources, Micro, MicroOp, sources_of};
 use std::alloc::Global;

@@ -1,0 +1,269 @@
+// Shifts and rotations.
+// VAX Architecture Reference Manual, "Integer Arithmetic and Logical Instructions": Arithmetic Shift, Rotate Long.
+ghost use Rattle.std.specs.Prelude.{◌≡◌, ◌<◌, ◌++◌, IfOk, OnOk};
+ghost use Rattle.micro_lower.specs.Plans.{program_of};
+ghost use Rattle.micro_lower.specs.Rows.{shifted_by, overflow_of_shift_by, before_shift, behind_shift, arithmetic_shift_plan, rotated_by, before_rotation, rotate_plan};
+
+use crate::arithmetic::OVERFLOWS;
+use crate::micros::{add, binary, unary};
+use crate::plans::{Plan, Slot, Target, assemble};
+use crate::rows::{operand, slot};
+use micro_ops::{Arg, CodeSources, Exit, Micro, MicroOp};
+use std::alloc::Global;
+use vax_form::{Access, Instr, Operand, Size, WantOfMemory};
+
+/// V of ASHL into 3: the source as a signed quadword, shifted by at most 32, is not its low longword, and the count is
+/// not negative.
+const OVERFLOW_OF_SHIFT: [Micro; 10] = [
+    unary!(4, MicroOp::Move, Size::Byte, Arg::Temp(0)),
+    binary!(
+        5,
+        MicroOp::LessUnsigned,
+        Size::Byte,
+        Arg::Const(32),
+        Arg::Temp(0)
+    ),
+    binary!(
+        4,
+        MicroOp::SelectNonzero,
+        Size::Byte,
+        Arg::Temp(5),
+        Arg::Const(32)
+    ),
+    unary!(5, MicroOp::SignExtend, Size::Long, Arg::Temp(1)),
+    binary!(
+        4,
+        MicroOp::ShiftLeft,
+        Size::Quad,
+        Arg::Temp(5),
+        Arg::Temp(4)
+    ),
+    unary!(5, MicroOp::SignExtend, Size::Long, Arg::Temp(4)),
+    binary!(3, MicroOp::Equal, Size::Quad, Arg::Temp(4), Arg::Temp(5)),
+    OVERFLOWS,
+    binary!(4, MicroOp::Less, Size::Byte, Arg::Temp(0), Arg::Const(0)),
+    binary!(3, MicroOp::AndNot, Size::Byte, Arg::Temp(3), Arg::Temp(4)),
+];
+
+/// To the left by the unsigned count, or with a negative count to the right by what it lacks to 256.
+const SHIFTED: [Micro; 5] = [
+    binary!(
+        2,
+        MicroOp::ShiftLeft,
+        Size::Long,
+        Arg::Temp(1),
+        Arg::Temp(0)
+    ),
+    binary!(4, MicroOp::Sub, Size::Byte, Arg::Const(0), Arg::Temp(0)),
+    binary!(
+        5,
+        MicroOp::ShiftSigned,
+        Size::Long,
+        Arg::Temp(1),
+        Arg::Temp(4)
+    ),
+    binary!(4, MicroOp::Less, Size::Byte, Arg::Temp(0), Arg::Const(0)),
+    binary!(
+        2,
+        MicroOp::SelectNonzero,
+        Size::Long,
+        Arg::Temp(4),
+        Arg::Temp(5)
+    ),
+];
+
+/// The values that a byte has.
+const BYTES: u64 = 256;
+
+/// The bits of a longword.
+const BITS: u64 = 32;
+
+/// From here on a count is negative.
+const LEFT: u64 = 128;
+
+/// The greatest count that matters to V.
+const MOST: u64 = 32;
+
+/// By a literal count, to the left or to the right.
+fn put_shifted_by(program: &mut Vec<Micro>, left: bool, count: u64) -> Result<(), WantOfMemory>
+    requires { count < 256 }
+    ensures { OnOk result (program.new.items ≡ program.old.items ++ shifted_by left count) }
+{
+    let shifted = if left {
+        binary!(
+            2,
+            MicroOp::ShiftLeft,
+            Size::Long,
+            Arg::Temp(1),
+            Arg::Const(count)
+        )
+    } else {
+        binary!(
+            2,
+            MicroOp::ShiftSigned,
+            Size::Long,
+            Arg::Temp(1),
+            Arg::Const(BYTES - count)
+        )
+    };
+    add(program, &[shifted])
+}
+
+/// V of a shift by a literal count into 3: to the right it is 0.
+fn put_overflow_by(program: &mut Vec<Micro>, left: bool, count: u64) -> Result<(), WantOfMemory>
+    ensures { OnOk result (program.new.items ≡ program.old.items ++ overflow_of_shift_by left count) }
+{
+    if left {
+        let most = Arg::Const(count.min(MOST));
+        add(
+            program,
+            &[
+                unary!(4, MicroOp::SignExtend, Size::Long, Arg::Temp(1)),
+                binary!(4, MicroOp::ShiftLeft, Size::Quad, Arg::Temp(4), most),
+                unary!(5, MicroOp::SignExtend, Size::Long, Arg::Temp(4)),
+                binary!(3, MicroOp::Equal, Size::Quad, Arg::Temp(4), Arg::Temp(5)),
+                OVERFLOWS,
+            ],
+        )
+    } else {
+        add(
+            program,
+            &[unary!(3, MicroOp::Move, Size::Byte, Arg::Const(0))],
+        )
+    }
+}
+
+fn put_before_shift(program: &mut Vec<Micro>, count: Operand) -> Result<(), WantOfMemory>
+    ensures { OnOk result (program.new.items ≡ program.old.items ++ before_shift count) }
+{
+    match count {
+        Operand::Value(value) => {
+            let count = value % BYTES;
+            put_shifted_by(program, count < LEFT, count)
+        }
+        Operand::Unused | Operand::Register(_) | Operand::Place { .. } | Operand::Target(_) => {
+            add(program, &SHIFTED)
+        }
+    }
+}
+
+fn put_behind_shift(program: &mut Vec<Micro>, count: Operand) -> Result<(), WantOfMemory>
+    ensures { OnOk result (program.new.items ≡ program.old.items ++ behind_shift count) }
+{
+    match count {
+        Operand::Value(value) => {
+            let count = value % BYTES;
+            put_overflow_by(program, count < LEFT, count)
+        }
+        Operand::Unused | Operand::Register(_) | Operand::Place { .. } | Operand::Target(_) => {
+            add(program, &OVERFLOW_OF_SHIFT)
+        }
+    }
+}
+
+/// The count, the source and the result.
+const SHIFT: [Slot; 3] = [
+    slot!(Access::Read, Size::Byte, 0, 1),
+    slot!(Access::Read, Size::Long, 1, 2),
+    slot!(Access::Write, Size::Long, 2, 3),
+];
+
+/// ASHL.
+pub(crate) fn arithmetic_shift(
+    alloc: Global,
+    codes: CodeSources,
+    instr: &Instr,
+) -> Result<Vec<Micro>, WantOfMemory>
+    ensures { IfOk result (λ p. p.items ≡ program_of codes (arithmetic_shift_plan instr.now) instr.now) }
+{
+    let count = operand(instr, 0);
+    let mut before = Vec::new(alloc);
+    put_before_shift(&mut before, count)?;
+    let mut behind = Vec::new(alloc);
+    put_behind_shift(&mut behind, count)?;
+    let plan = Plan {
+        slots: &SHIFT,
+        before: &before,
+        target: Target::Result {
+            operand: operand(instr, 2),
+            size: Size::Long,
+        },
+        behind: &behind,
+        exit: Exit::Next,
+    };
+    assemble(alloc, codes, plan, instr)
+}
+
+/// By the count modulo 32, and what it lacks to 32 to the right.
+const ROTATED: [Micro; 5] = [
+    binary!(4, MicroOp::And, Size::Byte, Arg::Temp(0), Arg::Const(31)),
+    binary!(
+        2,
+        MicroOp::ShiftLeft,
+        Size::Long,
+        Arg::Temp(1),
+        Arg::Temp(4)
+    ),
+    binary!(4, MicroOp::Sub, Size::Byte, Arg::Const(32), Arg::Temp(4)),
+    binary!(
+        5,
+        MicroOp::ShiftRight,
+        Size::Long,
+        Arg::Temp(1),
+        Arg::Temp(4)
+    ),
+    binary!(2, MicroOp::Or, Size::Long, Arg::Temp(2), Arg::Temp(5)),
+];
+
+/// By a literal count below 32.
+fn put_rotated_by(program: &mut Vec<Micro>, count: u64) -> Result<(), WantOfMemory>
+    requires { count < 32 }
+    ensures { OnOk result (program.new.items ≡ program.old.items ++ rotated_by count) }
+{
+    let (left, right) = (Arg::Const(count), Arg::Const(BITS - count));
+    add(
+        program,
+        &[
+            binary!(2, MicroOp::ShiftLeft, Size::Long, Arg::Temp(1), left),
+            binary!(5, MicroOp::ShiftRight, Size::Long, Arg::Temp(1), right),
+            binary!(2, MicroOp::Or, Size::Long, Arg::Temp(2), Arg::Temp(5)),
+        ],
+    )
+}
+
+fn put_before_rotation(program: &mut Vec<Micro>, count: Operand) -> Result<(), WantOfMemory>
+    ensures { OnOk result (program.new.items ≡ program.old.items ++ before_rotation count) }
+{
+    match count {
+        Operand::Value(value) => put_rotated_by(program, value % BITS),
+        Operand::Unused | Operand::Register(_) | Operand::Place { .. } | Operand::Target(_) => {
+            add(program, &ROTATED)
+        }
+    }
+}
+
+/// The result is also in 0.
+const COPY: Micro = unary!(0, MicroOp::Move, Size::Long, Arg::Temp(2));
+
+/// ROTL.
+pub(crate) fn rotate(
+    alloc: Global,
+    codes: CodeSources,
+    instr: &Instr,
+) -> Result<Vec<Micro>, WantOfMemory>
+    ensures { IfOk result (λ p. p.items ≡ program_of codes (rotate_plan instr.now) instr.now) }
+{
+    let mut before = Vec::new(alloc);
+    put_before_rotation(&mut before, operand(instr, 0))?;
+    let plan = Plan {
+        slots: &SHIFT,
+        before: &before,
+        target: Target::Result {
+            operand: operand(instr, 2),
+            size: Size::Long,
+        },
+        behind: &[COPY],
+        exit: Exit::Next,
+    };
+    assemble(alloc, codes, plan, instr)
+}
