@@ -16,6 +16,8 @@ pub enum Subject {
     Flow,
     Order,
     Hints,
+    Elf,
+    Parts,
 }
 
 /// `refused`, the subject, and the numbers of the refusal, each behind a blank.
@@ -42,6 +44,8 @@ fn push_subject(line: &mut Line, subject: Subject)
         Subject::Flow => b"flow",
         Subject::Order => b"order",
         Subject::Hints => b"hints",
+        Subject::Elf => b"elf",
+        Subject::Parts => b"parts",
     });
 }
 
