@@ -86,6 +86,7 @@ fn run_task<R: Threads + Wait + Sync, G: Gate + Sync>(
         image,
         target,
         translation,
+        ..
     } = &task.loaded;
     let prepared = made_ready(alloc, image, translation)?;
     let running = set_up(alloc, image, &task.taken, task.limits)?;
@@ -129,6 +130,7 @@ fn run_task_alone(alloc: Global, task: &Task) -> Result<(MemState, Vec<Processor
         image,
         target,
         translation,
+        ..
     } = &task.loaded;
     let prepared = made_ready(alloc, image, translation)?;
     let world = set_up_alone(alloc, image, &task.taken, task.limits)?;

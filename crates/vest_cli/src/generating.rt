@@ -49,6 +49,7 @@ fn task_of(alloc: Global, number: u32) -> Result<Task, WantOfMemory>
             image,
             target: Target::Original,
             translation,
+            hints: Vec::new(alloc),
         },
         taken: Vec::new(alloc),
         limits: DEFAULT_LIMITS,

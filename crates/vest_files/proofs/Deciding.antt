@@ -15,7 +15,7 @@ use Rattle.flow_discovery.specs.Starts.{starts}
 use Rattle.block_law.specs.Translations.{Code}
 use Rattle.vest_stops.specs.Decided.{Decision, stops, goes_on, IsDecided, StopsAsDecided}
 use Rattle.vest_files.specs.Loading.{DecidesBytes, DecidesFile, DecidesFlow, DecidesImage, DecidesLoad, DecidesParts, DecidesTail, is_translated}
-use Rattle.vest_files.specs.Loading.{IsOfImage, IsOfTranslated, Loads, StopsAtImageFile, StopsAtLoad, StopsAtTranslatedFile}
+use Rattle.vest_files.specs.Loading.{IsLoaded, IsOfImage, IsOfTranslated, Loads, StopsAtBytes, StopsAtImageFile, StopsAtLoad, StopsAtTranslatedFile}
 use Rattle.vest_stops.specs.Refusal.{RefusalValue}
 use Rattle.vest_files.specs.Stages.{HasParts, IsFile, IsImage, RefusesFlow, RefusesImage, RefusesParts, RefusesTail, StopsAtFile, StopsWhere}
 use Rattle.translate.specs.Translated.{IsTranslated}
@@ -159,23 +159,13 @@ module _ {X : Type 0} (r : Result X Stop) (d : Decision) where
   decided_by (Ok x) goes stop = goes
   decided_by (Err e) goes stop = stop
 
-  pub translated_file_decided : (image : X → ImageValue) (target : X → Target) (code : X → Code) (files : Option Files) (name bytes : List ℕ) → IsFile files name bytes → is_translated bytes ≡ true
-      → IfOk r (λ x. IsOfTranslated bytes (image x) (target x) (code x)) → IfErr r (λ stop. StopsAtTranslatedFile stop bytes) → DecidesLoad files name d → IsDecided r d
-  translated_file_decided image target code None name bytes file is ok err e = absurd e
-  translated_file_decided image target code (Some f) name bytes file is ok err e =
-      let at_bytes : DecidesBytes d bytes = file_read f name bytes (DecidesBytes d) d file e in
-      let at_parts : DecidesParts (parts_of bytes) d = subst (λ (b : Bool). MatchBool b (DecidesParts (parts_of bytes) d) (DecidesImage (image_of bytes) d)) is at_bytes in
-      decided_by r (IfOk-weaker r _ _ (λ x h. translated_goes bytes (image x) (target x) (code x) d h at_parts) ok)
-      (IfErr-weaker r _ _ (λ stop h. translated_stops stop bytes d h at_parts) err)
-
-  pub image_file_decided : (image : X → ImageValue) (target : X → Target) (code : X → Code) (files : Option Files) (name bytes : List ℕ) → IsFile files name bytes → is_translated bytes ≡ false
-      → IfOk r (λ x. IsOfImage bytes (image x) (target x) (code x)) → IfErr r (λ stop. StopsAtImageFile stop bytes) → DecidesLoad files name d → IsDecided r d
-  image_file_decided image target code None name bytes file is ok err e = absurd e
-  image_file_decided image target code (Some f) name bytes file is ok err e =
-      let at_bytes : DecidesBytes d bytes = file_read f name bytes (DecidesBytes d) d file e in
-      let at_image : DecidesImage (image_of bytes) d = subst (λ (b : Bool). MatchBool b (DecidesParts (parts_of bytes) d) (DecidesImage (image_of bytes) d)) is at_bytes in
-      decided_by r (IfOk-weaker r _ _ (λ x h. image_goes bytes (image x) (target x) (code x) d h at_image) ok)
-      (IfErr-weaker r _ _ (λ stop h. image_stops stop bytes d h at_image) err)
+  pub bytes_decided : (asked : Target) (image : X → ImageValue) (target : X → Target) (code : X → Code) (files : Option Files) (name bytes : List ℕ) → IsFile files name bytes
+      → IfOk r (λ x. IsLoaded asked bytes (image x) (target x) (code x)) → IfErr r (λ stop. StopsAtBytes stop bytes) → DecidesLoad files name d → IsDecided r d
+  bytes_decided asked image target code None name bytes file ok err e = absurd e
+  bytes_decided asked image target code (Some f) name bytes file ok err e =
+      let decides : DecidesBytes d bytes = file_read f name bytes (DecidesBytes d) d file e in
+      decided_by r (IfOk-weaker r _ _ (λ x h. bytes_go (is_translated bytes) bytes asked (image x) (target x) (code x) d h decides) ok)
+      (IfErr-weaker r _ _ (λ stop h. bytes_stops (is_translated bytes) stop bytes d h decides) err)
 
   pub translate_decided : (name : List ℕ) (old new : DeskMeaning) → IfErr r (λ stop. StopsTranslate stop name old new) → IfOk r (λ _. d ≡ goes_on)
       → DecidesTranslate old.files name d → IsDecided r d

@@ -1,5 +1,5 @@
 -- The image of a file with its translation.
-use Rattle.std.specs.Prelude.{◌≡◌, ◌⊎◌, ℕ, Bool, List, [], codes, length, nat_eq, nat_lt, MatchBool, MatchResult, Option, None, Some, Result, Ok, Err}
+use Rattle.std.specs.Prelude.{◌≡◌, ◌⊎◌, ℕ, Bool, List, [], codes, length, nat_eq, nat_lt, if◌then◌else◌, MatchBool, MatchResult, Option, None, Some, Result, Ok, Err}
 use Rattle.std.specs.List.{starts_with}
 use Rattle.vt_outside.specs.Desk.{Files, DeskMeaning}
 use Rattle.image_file.specs.Values.{ImageValue}
@@ -42,11 +42,23 @@ pub record IsOfTranslated (bytes : List ℕ) (image : ImageValue) (target : Targ
   pub translated : IsTranslated target parts.image parts.hints code
   pub equal : compared parts code.words code.map ≡ Ok tt
 
--- a VAX image is translated for the target that is asked for
+-- what the bytes of a file mean, by the first of them: a VAX image is translated for the target that is asked for
+abbrev pub IsLoaded : (asked : Target) → (bytes : List ℕ) → ImageValue → Target → Code → Type 0
+IsLoaded asked bytes image target code = MatchBool (is_translated bytes) (IsOfTranslated bytes image target code) ((target ≡ asked) × IsOfImage bytes image target code)
+
 pub record Loads (asked : Target) (files : Option Files) (name : List ℕ) (image : ImageValue) (target : Target) (code : Code) : Type 0 where
   pub bytes : List ℕ
   pub file : IsFile files name bytes
-  pub loaded : MatchBool (is_translated bytes) (IsOfTranslated bytes image target code) ((target ≡ asked) × IsOfImage bytes image target code)
+  pub loaded : IsLoaded asked bytes image target code
+
+-- the hints of the parts
+abbrev pub hints_of : Result PartsValue TranslatedRefusal → List ℕ
+hints_of (Ok parts) = parts.hints
+hints_of (Err refusal) = []
+
+-- the hints that a file gives; a VAX image gives none
+abbrev pub hints_in : (bytes : List ℕ) → List ℕ
+hints_in bytes = if is_translated bytes then hints_of (parts_of bytes) else []
 
 -- ---- why nothing was
 
@@ -64,12 +76,15 @@ StopsAtTranslatedFile stop bytes =
     × (StopsAtTranslation stop parts.image parts.hints
     ⊎ ((code : Code) × IsTranslated (target_of parts.version) parts.image parts.hints code × StopsAtTail stop parts code)))
 
+-- by the first of the bytes
+abbrev pub StopsAtBytes : Stop → (bytes : List ℕ) → Type 0
+StopsAtBytes stop bytes = MatchBool (is_translated bytes) (StopsAtTranslatedFile stop bytes) (StopsAtImageFile stop bytes)
+
 -- the file, and then what it is
 abbrev pub StopsAtLoad : Stop → (name : List ℕ) → (old new : DeskMeaning) → Type 0
 StopsAtLoad stop name old new =
     StopsAtFile stop name old new
-    ⊎ ((bytes : List ℕ) × IsFile old.files name bytes
-    × MatchBool (is_translated bytes) (StopsAtTranslatedFile stop bytes) (StopsAtImageFile stop bytes))
+    ⊎ ((bytes : List ℕ) × IsFile old.files name bytes × StopsAtBytes stop bytes)
 
 -- ---- what told files decide, with the checks in their order; what is not told decides nothing
 

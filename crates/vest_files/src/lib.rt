@@ -11,7 +11,8 @@ mod translating;
 mod versions;
 
 pub use listing::list_file;
-pub use loading::{Loaded, load};
-pub use stages::file_limit_is_as_stated;
+pub use loading::{Loaded, load, of_bytes};
+pub use stages::{file_limit_is_as_stated, read_file};
 pub use translating::translate_file;
+pub use versions::version_of;
 pub use vest_stops::{Done, Refusal, Status, Stop};

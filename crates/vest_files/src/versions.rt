@@ -6,7 +6,8 @@ ghost use Rattle.vest_files.specs.Versions.{target_of, version_of};
 use translate::Target;
 use translated_file::{VERSION_1, VERSION_2};
 
-pub(crate) fn version_of(target: Target) -> u32
+/// The version of a translated file for a target.
+pub fn version_of(target: Target) -> u32
     ensures value { result ≡ version_of target }
     ensures of_the_format { is_version result ≡ true }
 {
