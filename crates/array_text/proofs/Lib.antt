@@ -1,0 +1,2 @@
+pub mod DecimalDigits
+pub mod Hexadecimal

@@ -1,0 +1,4 @@
+pub mod Named
+pub mod Powers
+pub mod Rows
+pub mod Walk
