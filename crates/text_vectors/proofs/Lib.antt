@@ -1,0 +1,2 @@
+mod InstructionTexts
+mod WordTexts
