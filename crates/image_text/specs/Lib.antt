@@ -1,4 +1,3 @@
-pub mod Names
 pub mod Instructions
 pub mod Lines
 pub mod Text

@@ -10,7 +10,7 @@ use Rattle.vax_form.specs.Targets.{operand_of}
 use Rattle.vax_form.specs.declared.instr.Instr.{Instr}
 use Rattle.vax_form.specs.declared.pages.Pages.{Pages}
 use Rattle.flow_discovery.specs.Flow.{goes_on}
-use Rattle.image_text.specs.Names.{name_of}
+use Rattle.vax_text.specs.Names.{name_of}
 use Rattle.image_text.specs.Instructions.{is_open, asks_service, fixed_value, ends_thread}
 
 -- a number in decimal digits, and an address in eight hexadecimal digits, each behind a blank

@@ -5,7 +5,7 @@ use Rattle.image_file.specs.Spelling.{spelling}
 use Rattle.image_file.specs.Values.{ImageValue}
 use Rattle.vax_form.specs.Row.{class_at, is_translated}
 use Rattle.vax_form.specs.declared.instr.Instr.{Instr}
-use Rattle.image_text.specs.Names.{name_of}
+use Rattle.vax_text.specs.Names.{name_of}
 use Rattle.image_text.specs.Lines.{number, counted, thread_line, section_line, entry_line, hint_line, numbered, open_line, stop_lines, service_line}
 
 abbrev pub image_line : ImageValue → List ℕ

@@ -6,12 +6,12 @@ ghost use Rattle.image_text.specs.Lines.{open_line, service_line, stop_lines};
 ghost use Rattle.image_text.specs.Text.{flow_text, has_opcode, interpreted_line, is_interpreted, opcode_line, opcode_text, opcodes, reached_line, show_text};
 
 use crate::instructions::{put_open, put_service, put_stops};
-use crate::names::name_of;
 use crate::put::put_counted;
 use crate::tables::put_tables;
 use image_file::Image;
 use std::alloc::{AllocError, Global};
 use vax_form::{Class, Instr, Pages, class_of};
+use vax_text::name_of;
 
 /// How many opcodes there are.
 const OPCODES: u32 = 256;

@@ -5,13 +5,13 @@ ghost use Rattle.vax_decode.specs.Decoded.{found_of};
 ghost use Rattle.image_text.specs.Instructions.{asks_service, ends_thread, fixed_value, is_exit, is_followed, is_open, is_open_by, is_service};
 ghost use Rattle.image_text.specs.Lines.{code_text, open_line, service_line, stop_kind, stop_line, stop_lines, stop_text};
 
-use crate::names::name_of;
 use crate::put::{put_address, put_number};
 use flow_discovery::goes_on;
 use service_codes::EXIT;
 use std::alloc::{AllocError, Global};
 use vax_decode::{Decoded, decode_at};
 use vax_form::{Instr, LongOperation, Operand, Operation, Pages, call_of, jump_of, operation_of};
+use vax_text::name_of;
 
 /// A CASE whose limit is this or more is not followed.
 const TABLE_LIMIT: u64 = 4_096;

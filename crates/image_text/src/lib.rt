@@ -3,7 +3,6 @@
 
 mod flow;
 mod instructions;
-mod names;
 mod put;
 mod tables;
 
