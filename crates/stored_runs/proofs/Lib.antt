@@ -1,0 +1,9 @@
+pub mod Bytes
+pub mod Sections
+pub mod Stepping
+pub mod Standing
+pub mod Walked
+pub mod Runs
+pub mod Ending
+pub mod Giving
+pub mod Storing

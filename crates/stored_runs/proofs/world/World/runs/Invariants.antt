@@ -1,0 +1,11 @@
+use Rattle.std.proofs.Common.{◌≡◌, ℕ, List, drop, length}
+use Rattle.vax_driven.specs.Driven.{runs_from}
+use Rattle.vax_form.specs.Made.{Made}
+use Rattle.vax_run.specs.Values.{threads_of}
+use Rattle.stored_runs.specs.World.{IsLeft}
+use Rattle.stored_runs.proofs.Runs.{with_runs}
+use Rattle.stored_runs.proofs.world.World.runs.Given as goal
+
+abbrev pub invariant-loop-at : goal.invariant-loop-at
+invariant-loop-at l = (input counts : List ℕ) (made : List Made) → length counts ≡ length l.image.threads → IsLeft l.image input counts made l.self
+    → runs_from (threads_of l.image) made 0 counts ≡ with_runs l.runs.items (runs_from (threads_of l.image) made l.at (drop l.at counts))

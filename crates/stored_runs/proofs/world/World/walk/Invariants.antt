@@ -1,0 +1,9 @@
+use Rattle.std.proofs.Common.{ℕ, true, take, reverse, [], List}
+use Rattle.vax_driven.specs.Driven.{walk}
+use Rattle.vax_run.specs.Values.{world_of}
+use Rattle.stored_runs.specs.World.{IsLeft, IsWalked}
+use Rattle.stored_runs.proofs.world.World.walk.Given as goal
+
+abbrev pub invariant-loop-pick : goal.invariant-loop-pick
+invariant-loop-pick l = (counts : List ℕ) → IsLeft l.image l.input counts [] l.initial.self
+    → IsWalked l.image l.input counts (walk (world_of l.image l.input) (reverse (take l.pick-index l.order))) true l.self
