@@ -1,0 +1,42 @@
+// The commands, and what is asked of them.
+use image_file::Start;
+use image_parts::Options;
+
+/// A section that is asked for: where it begins, its bytes, 0 for as many as it stores, whether it may be written, and the
+/// file of what it stores.
+#[derive(Clone, Copy, Debug)]
+pub struct SectionAsked<'a> {
+    pub start: u32,
+    pub size: u32,
+    pub writable: bool,
+    pub file: Option<&'a str>,
+}
+
+/// The parts that are asked for, in the order of the words, and the file with a further entry on each line.
+#[derive(Debug, Drop)]
+pub struct PartsAsked<'a> {
+    pub threads: Vec<Start>,
+    pub sections: Vec<SectionAsked<'a>>,
+    pub entries: Vec<u32>,
+    pub entries_file: Option<&'a str>,
+}
+
+/// What a command line asks for. The names are words of the line.
+#[derive(Debug, Drop)]
+pub enum Command<'a> {
+    /// `make OUT` with sections and threads: writes the image of these parts.
+    MakeParts {
+        out: &'a str,
+        parts: PartsAsked<'a>,
+    },
+    /// `make OUT --elf FILE`: writes the image of a static executable.
+    MakeElf {
+        out: &'a str,
+        file: &'a str,
+        options: Options,
+    },
+    /// `show NAME`: says what an image or a translated file has, and what its translation makes of it.
+    Show {
+        name: &'a str,
+    },
+}

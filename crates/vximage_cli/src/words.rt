@@ -1,0 +1,139 @@
+// The command that the words of a line spell.
+use crate::app::vximage_app;
+use crate::commands::{Command, PartsAsked};
+use crate::values::{ValueFault, number_of, numbers_of, sections_of, threads_of};
+use clap::error::ErrorKind;
+use clap::{ArgMatches, Error};
+use image_parts::{Functions, Options};
+use std::alloc::{AllocError, Global};
+
+/// The bytes of each thread's stack where no option says it.
+const STACK: u32 = 0x4000;
+
+/// What is said in place of a command.
+#[derive(Debug, Drop)]
+pub enum Told {
+    /// Help or the version, for which the words ask.
+    Help(String),
+    /// Why the words spell no command.
+    Fault(String),
+    WantOfMemory,
+}
+
+impl From<AllocError> for Told {
+    fn from(_: AllocError) -> Told {
+        Told::WantOfMemory
+    }
+}
+
+fn parts_of<'a>(alloc: Global, matches: &ArgMatches<'a>) -> Result<PartsAsked<'a>, ValueFault<'a>> {
+    let sections = sections_of(alloc, matches.get_strs("section"))?;
+    let threads = threads_of(alloc, matches.get_strs("thread"))?;
+    let entries = numbers_of(alloc, "entry", matches.get_strs("entry"))?;
+    Ok(PartsAsked {
+        threads,
+        sections,
+        entries,
+        entries_file: matches.get_str("entries"),
+    })
+}
+
+fn functions_of(matches: &ArgMatches<'_>) -> Functions {
+    match matches.get_str("functions") {
+        Some("routines") => Functions::Routines,
+        Some("none") => Functions::Omitted,
+        _ => Functions::Procedures,
+    }
+}
+
+fn stack_of<'a>(matches: &ArgMatches<'a>) -> Result<u32, ValueFault<'a>> {
+    match matches.get_str("stack") {
+        Some(value) => number_of("stack", value),
+        None => Ok(STACK),
+    }
+}
+
+fn options_of<'a>(alloc: Global, matches: &ArgMatches<'a>) -> Result<Options, ValueFault<'a>> {
+    let starts = numbers_of(alloc, "start", matches.get_strs("start"))?;
+    let entries = numbers_of(alloc, "entry", matches.get_strs("entry"))?;
+    Ok(Options {
+        starts,
+        stack: stack_of(matches)?,
+        functions: functions_of(matches),
+        entries,
+    })
+}
+
+fn read_make<'a>(alloc: Global, matches: &ArgMatches<'a>) -> Result<Command<'a>, ValueFault<'a>> {
+    let out = matches.get_str("OUT").unwrap_or("");
+    match matches.get_str("elf") {
+        Some(file) => Ok(Command::MakeElf {
+            out,
+            file,
+            options: options_of(alloc, matches)?,
+        }),
+        None => Ok(Command::MakeParts {
+            out,
+            parts: parts_of(alloc, matches)?,
+        }),
+    }
+}
+
+fn read_show<'a>(matches: &ArgMatches<'a>) -> Command<'a> {
+    Command::Show {
+        name: matches.get_str("NAME").unwrap_or(""),
+    }
+}
+
+fn read_matches<'a>(
+    alloc: Global,
+    matches: &ArgMatches<'a>,
+) -> Result<Command<'a>, ValueFault<'a>> {
+    match matches.subcommand() {
+        Some(("make", inner)) => read_make(alloc, inner),
+        Some((_, inner)) => Ok(read_show(inner)),
+        None => Err(ValueFault::Bad {
+            option: "",
+            value: "",
+        }),
+    }
+}
+
+// What `clap` says.
+fn told_by(alloc: Global, error: &Error) -> Told {
+    if error.kind() == ErrorKind::OutOfMemory {
+        return Told::WantOfMemory;
+    }
+    match format!(in alloc; "{error}") {
+        Ok(text) if error.use_stderr() => Told::Fault(text),
+        Ok(text) => Told::Help(text),
+        Err(_) => Told::WantOfMemory,
+    }
+}
+
+// What is said of a value.
+fn told_of_value(
+    alloc: Global,
+    app: &mut clap::Command<'_>,
+    fault: ValueFault<'_>,
+) -> Result<Told, AllocError> {
+    let ValueFault::Bad { option, value } = fault else {
+        return Ok(Told::WantOfMemory);
+    };
+    let message = format!(in alloc; "invalid value '{value}' for '--{option}'")?;
+    let error = app.error(ErrorKind::ValueValidation, message.as_str())?;
+    Ok(told_by(alloc, &error))
+}
+
+/// The command that the words behind the program's name spell, or what is said in its place. It borrows its names from the words.
+pub fn read_words<'a>(alloc: Global, words: &'a [String]) -> Result<Command<'a>, Told> {
+    let mut app = vximage_app(alloc)?;
+    let matches = match app.try_get_matches_from_mut(words) {
+        Ok(matches) => matches,
+        Err(error) => return Err(told_by(alloc, &error)),
+    };
+    match read_matches(alloc, &matches) {
+        Ok(command) => Ok(command),
+        Err(fault) => Err(told_of_value(alloc, &mut app, fault)?),
+    }
+}
