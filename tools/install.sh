@@ -1,25 +1,38 @@
 #!/usr/bin/env bash
-# Copies the proved program, its page, its completions and the examples below a folder, with a file that says what they were made of. Status 1
-# where the program is older than a file of the crates or the tree isn't that of a commit, and where the first example, run from the new
-# place, writes another text.
+# Copies the proved program, its page, its completions and the examples below a folder, with a file that says what they were made of; the second
+# program too, where it was built. Status 1 where a program is older than a file of the crates or the tree isn't that of a commit, and where the
+# first example, run from the new place, writes another text.
 #
-# tools/install.sh PREFIX        behind `rt run` in crates/vest
+# tools/install.sh PREFIX        behind `rt run` in crates/vest, and in crates/vximage for the second program
 set -euo pipefail
 prefix=${1:?"usage: tools/install.sh PREFIX"}
 top=$(cd "$(dirname "$0")/.." && pwd)
-program=$top/crates/vest/out/vest
 
 stop() {
     echo "$1" >&2
     exit 1
 }
 
-[ -x "$program" ] || stop "no program: rt run in crates/vest makes it"
-[ -z "$(git -C "$top" status --porcelain --untracked-files=no)" ] || stop "files are changed: commit them first"
-newer=$(find "$top/crates" "$top/crates.txt" -newer "$program" \( -name '*.rt' -o -name '*.antt' -o -name crates.txt \) -print -quit)
-[ -z "$newer" ] || stop "the program is older than ${newer#"$top/"}"
+# Where the built program of that name is.
+built() {
+    echo "$top/crates/$1/out/$1"
+}
 
-install -D "$program" "$prefix/bin/vest"
+# Copies the program of that name.
+install_program() {
+    local program newer
+    program=$(built "$1")
+    newer=$(find "$top/crates" "$top/crates.txt" -newer "$program" \( -name '*.rt' -o -name '*.antt' -o -name crates.txt \) -print -quit)
+    [ -z "$newer" ] || stop "$1 is older than ${newer#"$top/"}"
+    install -D "$program" "$prefix/bin/$1"
+}
+
+[ -x "$(built vest)" ] || stop "no program: rt run in crates/vest makes it"
+[ -z "$(git -C "$top" status --porcelain --untracked-files=no)" ] || stop "files are changed: commit them first"
+install_program vest
+if [ -x "$(built vximage)" ]; then
+    install_program vximage
+fi
 install -D -m 644 "$top/docs/man/vest.1" "$prefix/share/man/man1/vest.1"
 install -D -m 644 "$top/completions/vest.bash" "$prefix/share/bash-completion/completions/vest"
 install -D -m 644 "$top/completions/_vest" "$prefix/share/zsh/site-functions/_vest"

@@ -11,10 +11,10 @@ import sys
 
 sys.dont_write_bytecode = True
 
-from vector_tables import blocks, machine, micro, opcodes, reading, simulator
+from vector_tables import blocks, machine, micro, opcodes, reading, simulator, texts
 from vector_tables.common import CRATES, lines_of
 
-TABLES = {**blocks.TABLES, **machine.TABLES, **opcodes.TABLES, **micro.TABLES, **reading.TABLES, **simulator.TABLES}
+TABLES = {**blocks.TABLES, **machine.TABLES, **opcodes.TABLES, **micro.TABLES, **reading.TABLES, **simulator.TABLES, **texts.TABLES}
 
 
 def occurs(name, text):

@@ -5,7 +5,8 @@ Processor time counts where one thread runs, so that other work on the machine w
 
 tools/measure/simulator.py PROGRAM
 
-Without SIMH (Debian's package `simh`) the program's side alone is measured. Instructions are counted by what the loops do."""
+Without SIMH (Debian's package `simh`) the program's side alone is measured. Instructions are counted by what the loops do. It
+ends with status 1 where a ratio is below its aim."""
 import dataclasses
 import os
 import pathlib
@@ -41,7 +42,7 @@ class Loop:
     simulated: int = 1
     threads: int = 1
     interpreted: bool = False
-    aim: str = "-"
+    aim: float | None = None
 
     def code_bytes(self, turns, end=EXIT):
         return bytes.fromhex(self.code.replace("N", struct.pack("<I", turns).hex()).replace(" ", "") + end + self.behind())
@@ -53,18 +54,18 @@ class Loop:
 REGISTERS = "D08F N 52  C05250 CC5051 D653 F552F5"
 LOOPS = [
     # MOVL #N,R2; ADDL2 R2,R0; XORL2 R0,R1; INCL R3; SOBGTR R2
-    Loop("registers", REGISTERS, 4, 500_000, aim="1"),
+    Loop("registers", REGISTERS, 4, 2_000_000, aim=0.65),
     # CLRL R2; MOVL #N,R3; CMPL R2,R3; BLSS; BBS #0,R4; AOBLSS R3,R2
-    Loop("compares and branches", "D452 D08F N 53  D15253 1900 E0005400 F25352F3", 4, 500_000, aim="0.7"),
+    Loop("compares and branches", "D452 D08F N 53  D15253 1900 E0005400 F25352F3", 4, 2_000_000, aim=0.75),
     # MOVL #N,R2; MOVAL @#1000,R3; MOVL (R3),R0; ADDL2 R0,4(R3); MOVL R0,(R3); SOBGTR R2
-    Loop("longwords in memory", "D08F N 52 DE9F0010000053  D06350 C050A304 D05063 F552F3", 4, 200_000, aim="0.3"),
+    Loop("longwords in memory", "D08F N 52 DE9F0010000053  D06350 C050A304 D05063 F552F3", 4, 200_000, aim=0.2),
     # the same with MOVB and ADDB2
-    Loop("bytes in memory", "D08F N 52 DE9F0010000053  906350 8050A304 905063 F552F3", 4, 100_000, aim="0.15"),
+    Loop("bytes in memory", "D08F N 52 DE9F0010000053  906350 8050A304 905063 F552F3", 4, 100_000, aim=0.12),
     # MOVL #N,R2; CALLS #0 of a procedure that is RET; SOBGTR R2
     Loop("CALLS and RET", "D08F N 52  FB00AF05 F552F9", 3, 50_000),
     # MOVL #N,R11; MOVC3 #4096,@#2000,@#4000; SOBGTR R11
     Loop("MOVC3 of 4,096 bytes", "D08F N 5B  288F00109F002000009F00400000 F55BEF", 2, 50, simulated=200),
-    Loop("registers, interpreted", REGISTERS, 4, 200_000, interpreted=True, aim="0.1"),
+    Loop("registers, interpreted", REGISTERS, 4, 200_000, interpreted=True),
     Loop("registers, 4 threads", REGISTERS, 4, 500_000, threads=4),
     # MOVL #N,R2; ADAWI #1,@#1000; SOBGTR R2
     Loop("ADAWI of one word, 4 threads", "D08F N 52  58019F00100000 F552F6", 2, 100_000, threads=4),
@@ -156,7 +157,7 @@ def figure(value, form):
 
 
 def row(loop, program, simulator):
-    """A line of the table."""
+    """A line of the table, and whether the loop's aim is lost."""
     beside = simulator.path and loop.threads == 1
     own, other = [], []
     for _ in range(ROUNDS):
@@ -168,10 +169,11 @@ def row(loop, program, simulator):
     simulated = count / statistics.median(other) if other else None
     steps = None if loop.interpreted else 1_000_000 / program.retired(loop, "--budget", "1000000")
     entries = entries_of(loop, program) if loop.threads == 1 else None
+    ratio = speed / simulated if simulated else None
     cells = [loop.name, f"{speed / 1e6:.4g}", figure(simulated and simulated / 1e6, ".4g"),
-             figure(simulated and speed / simulated, ".2f"), loop.aim, figure(program.words(loop), ".1f"),
+             figure(ratio, ".2f"), figure(loop.aim, "g"), figure(program.words(loop), ".1f"),
              figure(steps, ".1f"), figure(entries, ".2f")]
-    return "| " + " | ".join(cells) + " |"
+    return "| " + " | ".join(cells) + " |", bool(ratio and loop.aim and ratio < loop.aim)
 
 
 def entries_of(loop, program):
@@ -189,8 +191,12 @@ def main():
             print("SIMH's vax is not here: the program's side alone")
         print("| Loop | million instructions a second | SIMH | ratio | aim | Alpha words an instruction | Alpha steps | entries |")
         print("|---|---|---|---|---|---|---|---|")
+        lost = 0
         for loop in LOOPS:
-            print(row(loop, program, simulator), flush=True)
+            line, is_lost = row(loop, program, simulator)
+            lost += is_lost
+            print(line, flush=True)
+        sys.exit(1 if lost else 0)
 
 
 if __name__ == "__main__":
