@@ -1,6 +1,6 @@
 -- A memory's fields behind an entry.
-use Rattle.std.proofs.Common.{◌≡◌, ℕ, suc, ◌<◌, ◌≤◌, ◌+◌, ◌%◌, ◌^◌, Bool, true, false, if◌then◌else◌, List, [], ◌∷◌, ◌++◌, length, Option, Some, None, IfSome, Vec, slice_index_or, reverse, vec_capacity, vec_len, refl, sym, ap, ◌∙◌, subst, arith, length-append, add-one}
-use Rattle.std.proofs.lemmas.List.{length-reverse}
+use Rattle.std.proofs.Common.{◌≡◌, ℕ, suc, ◌<◌, ◌≤◌, ◌%◌, ◌==◌, ◌&&◌, Bool, true, false, if◌then◌else◌, List, [], ◌∷◌, ◌++◌, length, Option, Some, None, IfSome, Vec, min, slice_index_or, reverse, vec_capacity, vec_len, refl, sym, ap, ◌∙◌, subst, arith, length-append}
+use Rattle.std.proofs.lemmas.Bool.Decides.{nat_tests}
 use Rattle.std.specs.declared.alloc.Global.{Global}
 use Rattle.vax_form.specs.declared.pages.PageRange.{PageRange}
 use Rattle.vax_form.specs.Pages.{is_allowed}
@@ -12,10 +12,11 @@ use Rattle.memory_core.specs.declared.entry.Entry.{Entry}
 use Rattle.memory_core.specs.declared.entry.Request.{Request}
 use Rattle.memory_core.specs.declared.entry.SetUp.{SetUp}
 use Rattle.memory_core.specs.declared.reservation.Reservation.{Reservation}
-use Rattle.memory_core.specs.declared.state.MemState.TheInside.{Inside}
+use Rattle.memory_core.specs.declared.told.Told.{Told}
+use Rattle.memory_core.specs.declared.unkept.UnkeptState.TheInside.{Inside}
 use Rattle.memory_core.specs.Changes.{IsInRange, Allows, is_change_of, leaves}
-use Rattle.memory_core.specs.Contents.{output_of, entry_for}
-use Rattle.memory_core.specs.Fields.{IsKept, AreCurrent, stored_at}
+use Rattle.memory_core.specs.Contents.{bytes_put, output_of, entry_for}
+use Rattle.memory_core.specs.Fields.{IsKept, AreCurrent, next_taken, stored_at}
 use Rattle.memory_core.specs.Kinds.{is_memory, is_put, is_get}
 use Rattle.memory_core.specs.Order.{left_by, input_at, gets, succeeds, Fits, Meets}
 use Rattle.memory_core.specs.Places.{quad_place}
@@ -23,7 +24,8 @@ use Rattle.memory_core.specs.Requests.{CanMake}
 use Rattle.memory_core.specs.Reservations.{none, next_reservation}
 use Rattle.memory_core.specs.Sound.{set_up_of, IsSound}
 use Rattle.memory_core.proofs.Choices.{if_true, if_false}
-use Rattle.memory_core.proofs.Keeping.{kept_more, after_entry, current_more, reverse-push, output_of-push, room_for_try, gets_le, length-output_of}
+use Rattle.memory_core.proofs.Counting.{taken_more}
+use Rattle.memory_core.proofs.Keeping.{kept_more, after_entry, current_more, reverse-push, output_of-push}
 use Rattle.memory_core.proofs.Reading.{memory_kind, readable}
 
 -- the byte of a PUT
@@ -42,16 +44,22 @@ byte_put set_up past e f is = byte_put_at e.kind is f.change e.success e.before 
 
 -- ---- room
 
-pub room_for_byte : (m : Inside) → IsSound m → length m.history.items < m.limit → vec_len m.output < vec_capacity m.output
-room_for_byte m s room = omega (arith, s.output_room, room, ap length s.output, length-output_of m.history.items, m.output.ok.0)
+put_one : (b : Bool) (xs : List ℕ) (x limit : ℕ) → (b ≡ true → length xs < limit) → length xs ≤ limit → length (xs ++ (if b then x ∷ [] else [])) ≤ limit
+put_one true xs x limit h bound = omega (arith, h refl, length-append xs (x ∷ []))
+put_one false xs x limit h bound = omega (arith, bound, length-append xs [])
 
-pub room_for_get : (m : Inside) → IsSound m → length m.history.items < m.limit → m.taken + 1 < 2 ^ 64
-room_for_get m s room = omega (arith, s.taken, room, s.small, gets_le (reverse m.history.items), length-reverse m.history.items)
+pub puts-push : (history : List Entry) (e : Entry) (limit : ℕ) → (is_put e.kind ≡ true → bytes_put history < limit) → bytes_put history ≤ limit → bytes_put (history ++ e ∷ []) ≤ limit
+puts-push history e limit room bound =
+    let few = put_one (is_put e.kind) (output_of history) e.after limit room bound in
+    omega (arith, few, ap length (output_of-push history e))
 
-pub tries_fit : (m : Inside) (p : ℕ) (r : Reservation) → IsSound m → length m.history.items < m.limit → p < length m.reservations.items → r ≡ slice_index_or m.reservations.items p none → r.tries + 1 < 2 ^ 32
-tries_fit m p r s room lt e =
-    subst (λ (v : Reservation). v.tries + 1 < 2 ^ 32) (sym e)
-    (room_for_try (reverse m.history.items) p m.limit (slice_index_or m.reservations.items p none) (s.kept p lt) (omega (arith, room, length-reverse m.history.items)) s.small)
+-- what isn't full has room for one byte more
+pub room_to_put : (put : Bool) (count limit : ℕ) → (put && (count == limit)) ≡ false → count ≤ limit → put ≡ true → count < limit
+room_to_put true count limit h bound is = grind (arith, nat_tests)
+room_to_put false count limit h bound is = absurd (cc is)
+
+pub room_for_byte : (m : Inside) → IsSound m → bytes_put m.history.entries < m.limit → vec_len m.output < vec_capacity m.output
+room_for_byte m s room = omega (arith, s.output_room, room, ap length s.output, m.output.ok.0)
 
 within_at : (m : Inside) → IsSound m → (address : ℕ) (o : Option ℕ) → quad_place m.index address ≡ o → IfSome o (λ i. i < length m.quads.items)
 within_at m s address None h = tt
@@ -68,7 +76,7 @@ pub record IsEntered (m n : Inside) (e : Entry) : Type 0 where
   pub reservations : n.reservations ≡ m.reservations
   pub history : n.history ≡ m.history
   pub quads : n.quads.items ≡ after_entry m.index m.quads.items e
-  pub taken : n.taken ≡ (if is_get e.kind then suc m.taken else m.taken)
+  pub taken : n.taken ≡ (if is_get e.kind then next_taken (length m.input.items) m.taken else m.taken)
   pub output : n.output.items ≡ m.output.items ++ (if is_put e.kind then e.after ∷ [] else [])
   pub output_room : m.limit ≤ vec_capacity n.output
 
@@ -97,14 +105,14 @@ module _ (m : Inside) (e : Entry) (s : IsSound m) where
     output_room = omega (arith, room, s.output_room);
   }
 
-  pub entered_get : e.kind ≡ Get → IsEntered m (record m { taken = m.taken + 1 }) e
-  entered_get is = record {
+  pub entered_get : (taken : ℕ) → e.kind ≡ Get → taken ≡ next_taken (length m.input.items) m.taken → IsEntered m (record m { taken = taken }) e
+  entered_get taken is one = record {
     set_up = refl;
     index = refl;
     reservations = refl;
     history = refl;
     quads = rw is refl;
-    taken = rw is (add-one m.taken);
+    taken = rw is one;
     output = rw is (append_nil m.output.items);
     output_room = s.output_room;
   }
@@ -116,7 +124,7 @@ module _ (m : Inside) (e : Entry) (s : IsSound m) where
     reservations = refl;
     history = refl;
     quads = items ∙ ap (λ (b : Bool). if b then stored_at (quad_place m.index e.quad) e.after m.quads.items else m.quads.items) (sym (memory_kind e.kind p g));
-    taken = ap (λ (b : Bool). if b then suc m.taken else m.taken) (sym (no_get e.kind g));
+    taken = ap (λ (b : Bool). if b then next_taken (length m.input.items) m.taken else m.taken) (sym (no_get e.kind g));
     output = append_nil m.output.items ∙ ap (λ (b : Bool). m.output.items ++ (if b then e.after ∷ [] else [])) (sym (no_put e.kind p));
     output_room = s.output_room;
   }
@@ -129,59 +137,72 @@ pub record IsNoted (m n o : Inside) (e : Entry) : Type 0 where
   pub taken : o.taken ≡ n.taken
   pub output : o.output ≡ n.output
   pub count : length o.reservations.items ≡ length n.reservations.items
-  pub kept : (p : ℕ) → p < length n.reservations.items → slice_index_or o.reservations.items p none ≡ next_reservation e p (slice_index_or n.reservations.items p none)
-  pub history : o.history.items ≡ n.history.items ++ e ∷ []
-  pub room : vec_capacity o.history ≡ vec_capacity n.history
+  pub kept : (p : ℕ) → p < length n.reservations.items → slice_index_or o.reservations.items p none ≡ next_reservation n.miss e p (slice_index_or n.reservations.items p none)
+  pub history : o.history.entries ≡ n.history.entries ++ e ∷ []
 
-module _ (m n o : Inside) (e : Entry) (s : IsSound m) (f : Fits (set_up_of m) (reverse m.history.items) e) (aligned : is_memory e.kind ≡ true → e.quad % 8 ≡ 0) (room : length m.history.items < m.limit)
+module _ (m n o : Inside) (e : Entry) (s : IsSound m) (f : Fits (set_up_of m) (reverse m.history.entries) e) (aligned : is_memory e.kind ≡ true → e.quad % 8 ≡ 0)
+    (room : is_put e.kind ≡ true → bytes_put m.history.entries < m.limit)
     (i : IsEntered m n e) (j : IsNoted m n o e) where
   same_set_up : set_up_of o ≡ set_up_of m
   same_set_up = j.set_up ∙ i.set_up
 
-  grown : o.history.items ≡ m.history.items ++ e ∷ []
-  grown = j.history ∙ ap (λ (h : Vec Entry Global). h.items ++ e ∷ []) i.history
+  grown : o.history.entries ≡ m.history.entries ++ e ∷ []
+  grown = j.history ∙ ap (λ (h : Told). h.entries ++ e ∷ []) i.history
 
-  past : reverse o.history.items ≡ e ∷ reverse m.history.items
-  past = ap reverse grown ∙ reverse-push m.history.items e
+  past : reverse o.history.entries ≡ e ∷ reverse m.history.entries
+  past = ap reverse grown ∙ reverse-push m.history.entries e
 
-  order_more : Meets (set_up_of o) (reverse o.history.items)
-  order_more = subst (λ (h : List Entry). Meets (set_up_of o) h) (sym past) (subst (λ (k : SetUp). Meets k (e ∷ reverse m.history.items)) (sym same_set_up) (s.order, f))
+  order_more : Meets (set_up_of o) (reverse o.history.entries)
+  order_more = subst (λ (h : List Entry). Meets (set_up_of o) h) (sym past) (subst (λ (k : SetUp). Meets k (e ∷ reverse m.history.entries)) (sym same_set_up) (s.order, f))
 
-  current : AreCurrent (set_up_of m) (e ∷ reverse m.history.items) (after_entry m.index m.quads.items e)
+  current : AreCurrent (set_up_of m) (e ∷ reverse m.history.entries) (after_entry m.index m.quads.items e)
   current =
-      subst (λ (rs : List PageRange). AreCurrent (set_up_of m) (e ∷ reverse m.history.items) (after_entry rs m.quads.items e)) (sym s.index)
-      (current_more (set_up_of m) (reverse m.history.items) m.quads.items e aligned s.quads)
+      subst (λ (rs : List PageRange). AreCurrent (set_up_of m) (e ∷ reverse m.history.entries) (after_entry rs m.quads.items e)) (sym s.index)
+      (current_more (set_up_of m) (reverse m.history.entries) m.quads.items e aligned s.quads)
 
-  quads_more : AreCurrent (set_up_of o) (reverse o.history.items) o.quads.items
+  quads_more : AreCurrent (set_up_of o) (reverse o.history.entries) o.quads.items
   quads_more =
-      subst (λ (q : List ℕ). AreCurrent (set_up_of o) (reverse o.history.items) q) (sym (j.quads ∙ i.quads))
+      subst (λ (q : List ℕ). AreCurrent (set_up_of o) (reverse o.history.entries) q) (sym (j.quads ∙ i.quads))
       (subst (λ (h : List Entry). AreCurrent (set_up_of o) h (after_entry m.index m.quads.items e)) (sym past)
-      (subst (λ (k : SetUp). AreCurrent k (e ∷ reverse m.history.items) (after_entry m.index m.quads.items e)) (sym same_set_up) current))
+      (subst (λ (k : SetUp). AreCurrent k (e ∷ reverse m.history.entries) (after_entry m.index m.quads.items e)) (sym same_set_up) current))
 
-  kept_all : (p : ℕ) → p < length o.reservations.items → IsKept (reverse o.history.items) p (slice_index_or o.reservations.items p none)
+  same_input : length m.input.items ≡ length o.input.items
+  same_input = ap (λ (k : SetUp). length k.input) (sym same_set_up)
+
+  same_miss : o.miss ≡ m.miss
+  same_miss = ap (λ (k : SetUp). k.miss) same_set_up
+
+  kept_all : (p : ℕ) → p < length o.reservations.items → IsKept o.miss (reverse o.history.entries) p (slice_index_or o.reservations.items p none)
   kept_all p lt =
       let same = i.reservations in
       let before : p < length m.reservations.items = omega (arith, lt, j.count, ap (λ (v : Vec Reservation Global). length v.items) same) in
       let here : p < length n.reservations.items = omega (arith, lt, j.count) in
-      let is : slice_index_or o.reservations.items p none ≡ next_reservation e p (slice_index_or m.reservations.items p none) = j.kept p here ∙ ap (λ (v : Vec Reservation Global). next_reservation e p (slice_index_or v.items p none)) same in
-      subst (λ (h : List Entry). IsKept h p (slice_index_or o.reservations.items p none)) (sym past)
-      (subst (IsKept (e ∷ reverse m.history.items) p) (sym is) (kept_more (reverse m.history.items) e p (slice_index_or m.reservations.items p none) (s.kept p before)))
+      let is : slice_index_or o.reservations.items p none ≡ next_reservation m.miss e p (slice_index_or m.reservations.items p none) =
+      j.kept p here
+      ∙ ap (λ (v : Vec Reservation Global). next_reservation n.miss e p (slice_index_or v.items p none)) same
+      ∙ ap (λ (k : SetUp). next_reservation k.miss e p (slice_index_or m.reservations.items p none)) i.set_up in
+      subst (λ (miss : ℕ). IsKept miss (reverse o.history.entries) p (slice_index_or o.reservations.items p none)) (sym same_miss)
+      (subst (λ (h : List Entry). IsKept m.miss h p (slice_index_or o.reservations.items p none)) (sym past)
+      (subst (IsKept m.miss (e ∷ reverse m.history.entries) p) (sym is) (kept_more m.miss (reverse m.history.entries) e p (slice_index_or m.reservations.items p none) (s.kept p before))))
 
-  gets_more : (b : Bool) → (if b then suc m.taken else m.taken) ≡ (if b then suc (gets (reverse m.history.items)) else gets (reverse m.history.items))
-  gets_more true = ap suc s.taken
+  gets_more : (b : Bool) → (if b then next_taken (length m.input.items) m.taken else m.taken) ≡ min (if b then suc (gets (reverse m.history.entries)) else gets (reverse m.history.entries)) (length m.input.items)
+  gets_more true = ap (next_taken (length m.input.items)) s.taken ∙ taken_more (length m.input.items) (gets (reverse m.history.entries))
   gets_more false = s.taken
+
+  bound_more : bytes_put o.history.entries ≤ o.limit
+  bound_more =
+      let few = puts-push m.history.entries e m.limit room s.bound in
+      omega (arith, few, ap bytes_put grown, ap (λ (k : SetUp). k.limit) same_set_up)
 
   pub sound_more : IsSound o
   sound_more = record {
     order = order_more;
-    small = omega (arith, s.small, ap (λ (k : SetUp). k.limit) same_set_up);
-    bound = omega (arith, room, ap length grown, length-append m.history.items (e ∷ []), ap (λ (k : SetUp). k.limit) same_set_up);
-    room = omega (arith, s.room, j.room, ap (λ (h : Vec Entry Global). vec_capacity h) i.history, ap (λ (k : SetUp). k.limit) same_set_up);
+    bound = bound_more;
     index = j.index ∙ i.index ∙ s.index ∙ ap (λ (k : SetUp). k.image.pages.ranges) (sym same_set_up);
     quads = quads_more;
     kept = kept_all;
-    taken = j.taken ∙ i.taken ∙ gets_more (is_get e.kind) ∙ ap gets (sym past);
-    output = ap (λ (v : Vec ℕ Global). v.items) j.output ∙ i.output ∙ ap (λ (xs : List ℕ). xs ++ (if is_put e.kind then e.after ∷ [] else [])) s.output ∙ sym (output_of-push m.history.items e) ∙ ap output_of (sym grown);
+    taken = j.taken ∙ i.taken ∙ gets_more (is_get e.kind) ∙ ap (λ (h : List Entry). min (gets h) (length m.input.items)) (sym past) ∙ ap (λ (c : ℕ). min (gets (reverse o.history.entries)) c) same_input;
+    output = ap (λ (v : Vec ℕ Global). v.items) j.output ∙ i.output ∙ ap (λ (xs : List ℕ). xs ++ (if is_put e.kind then e.after ∷ [] else [])) s.output ∙ sym (output_of-push m.history.entries e) ∙ ap output_of (sym grown);
     output_room = omega (arith, i.output_room, ap (λ (v : Vec ℕ Global). vec_capacity v) j.output, ap (λ (k : SetUp). k.limit) same_set_up);
   }
 

@@ -1,5 +1,5 @@
 -- What an entry makes of what a memory keeps.
-use Rattle.std.proofs.Common.{◌≡◌, ◌≢◌, ℕ, suc, ◌<◌, ◌≤◌, ◌+◌, ◌-◌, ◌%◌, ◌^◌, ◌==◌, ◌&&◌, Bool, true, false, if◌then◌else◌, List, [], ◌∷◌, ◌++◌, length, Option, Some, None, slice_index_or, slice_set, map, reverse, refl, sym, ap, ◌∙◌, arith, add-one}
+use Rattle.std.proofs.Common.{◌≡◌, ◌≢◌, ℕ, suc, ◌<◌, ◌≤◌, ◌+◌, ◌-◌, ◌%◌, ◌^◌, ◌==◌, ◌&&◌, Bool, true, false, if◌then◌else◌, List, [], ◌∷◌, ◌++◌, length, Option, Some, None, slice_index_or, slice_set, map, reverse, refl, sym, ap, ◌∙◌, arith}
 use Rattle.std.specs.List.{filter}
 use Rattle.std.proofs.lemmas.Bool.Decides.{nat_tests}
 use Rattle.std.proofs.lemmas.Grind.{elements}
@@ -12,11 +12,11 @@ use Rattle.memory_core.specs.declared.entry.Kind.TheVariants.{LoadLocked, StoreC
 use Rattle.memory_core.specs.declared.entry.Entry.{Entry}
 use Rattle.memory_core.specs.declared.entry.SetUp.{SetUp}
 use Rattle.memory_core.specs.declared.reservation.Reservation.{Reservation}
-use Rattle.memory_core.specs.Kinds.{is_memory, writes, is_conditional, is_put, is_get}
+use Rattle.memory_core.specs.Kinds.{is_memory, writes, is_conditional, is_put}
 use Rattle.memory_core.specs.Contents.{output_of}
-use Rattle.memory_core.specs.Order.{left_by, block_of, reserved_by, reserved, tries, gets}
+use Rattle.memory_core.specs.Order.{left_by, block_of, reserved_by, reserved, tries}
 use Rattle.memory_core.specs.Places.{quad_place}
-use Rattle.memory_core.specs.Reservations.{holds, own_next, other_next, next_reservation}
+use Rattle.memory_core.specs.Reservations.{holds, next_tries, counted_tries, own_next, other_next, next_reservation}
 use Rattle.memory_core.specs.Fields.{IsKept, IsAt, AreCurrent, stored_at}
 use Rattle.memory_core.proofs.Placing.{quad_of_place, place_of_quad}
 
@@ -38,10 +38,10 @@ other_holds : (w : Bool) (block b n : ℕ) (o : Option ℕ) → holds (other_nex
 other_holds w block b n None = uncleared w (block == b) n block b
 other_holds w block b n (Some c) = cleared w c block b n
 
-own_holds : (kind : Kind) (block b : ℕ) (r : Reservation) → holds (own_next kind block r).block b ≡ reserved_by kind (block == b) (holds r.block b)
-own_holds LoadLocked block b r = refl
-own_holds StoreConditional block b r = refl
-own_holds _ block b r = refl
+own_holds : (miss : ℕ) (kind : Kind) (block b : ℕ) (r : Reservation) → holds (own_next miss kind block r).block b ≡ reserved_by kind (block == b) (holds r.block b)
+own_holds miss LoadLocked block b r = refl
+own_holds miss StoreConditional block b r = refl
+own_holds miss _ block b r = refl
 
 other_tries : (w : Bool) (block : ℕ) (r : Reservation) → (other_next w block r).tries ≡ r.tries
 other_tries false block r = refl
@@ -50,22 +50,29 @@ other_tries true block r = if_tries (holds r.block block) where
   if_tries true = refl
   if_tries false = refl
 
-own_tries : (kind : Kind) (block : ℕ) (r : Reservation) → (own_next kind block r).tries ≡ (if is_conditional kind then suc r.tries else r.tries)
-own_tries StoreConditional block r = add-one r.tries
-own_tries _ block r = refl
+own_tries : (miss : ℕ) (kind : Kind) (block : ℕ) (r : Reservation) → (own_next miss kind block r).tries ≡ (if is_conditional kind then next_tries miss r.tries else r.tries)
+own_tries miss StoreConditional block r = refl
+own_tries miss _ block r = refl
 
-module _ (past : List Entry) (e : Entry) (p : ℕ) (r : Reservation) (k : IsKept past p r) where
+if_counted : (b : Bool) (miss n : ℕ) → counted_tries miss (if b then suc n else n) ≡ (if b then next_tries miss (counted_tries miss n) else counted_tries miss n)
+if_counted true miss n = refl
+if_counted false miss n = refl
+
+module _ (miss : ℕ) (past : List Entry) (e : Entry) (p : ℕ) (r : Reservation) (k : IsKept miss past p r) where
   block_step : (own : Bool) (b : ℕ) → (if own then reserved_by e.kind (block_of e.quad == b) (reserved past p b) else if writes e.kind e.success && (block_of e.quad == b) then false else reserved past p b)
-      ≡ holds (if own then own_next e.kind (block_of e.quad) r else other_next (writes e.kind e.success) (block_of e.quad) r).block b
-  block_step true b = ap (reserved_by e.kind (block_of e.quad == b)) (k.block b) ∙ sym (own_holds e.kind (block_of e.quad) b r)
+      ≡ holds (if own then own_next miss e.kind (block_of e.quad) r else other_next (writes e.kind e.success) (block_of e.quad) r).block b
+  block_step true b = ap (reserved_by e.kind (block_of e.quad == b)) (k.block b) ∙ sym (own_holds miss e.kind (block_of e.quad) b r)
   block_step false b = ap (λ (was : Bool). if writes e.kind e.success && (block_of e.quad == b) then false else was) (k.block b) ∙ sym (other_holds (writes e.kind e.success) (block_of e.quad) b r.tries r.block)
 
-  tries_step : (own : Bool) → (if own && is_conditional e.kind then suc (tries past p) else tries past p) ≡ (if own then own_next e.kind (block_of e.quad) r else other_next (writes e.kind e.success) (block_of e.quad) r).tries
-  tries_step true = ap (λ (n : ℕ). if is_conditional e.kind then suc n else n) k.tries ∙ sym (own_tries e.kind (block_of e.quad) r)
+  tries_step : (own : Bool) → counted_tries miss (if own && is_conditional e.kind then suc (tries past p) else tries past p) ≡ (if own then own_next miss e.kind (block_of e.quad) r else other_next (writes e.kind e.success) (block_of e.quad) r).tries
+  tries_step true =
+      if_counted (is_conditional e.kind) miss (tries past p)
+      ∙ ap (λ (n : ℕ). if is_conditional e.kind then next_tries miss n else n) k.tries
+      ∙ sym (own_tries miss e.kind (block_of e.quad) r)
   tries_step false = k.tries ∙ sym (other_tries (writes e.kind e.success) (block_of e.quad) r)
 
   -- the flag and the look back go the same way
-  pub kept_more : IsKept (e ∷ past) p (next_reservation e p r)
+  pub kept_more : IsKept miss (e ∷ past) p (next_reservation miss e p r)
   kept_more = record { block = block_step (e.processor == p); tries = tries_step (e.processor == p) }
 
 -- ---- quadwords
@@ -140,18 +147,6 @@ output_of-push history e =
     ∙ map-append (λ (x : Entry). x.after) (filter (λ (x : Entry). is_put x.kind) history) (if is_put e.kind then e ∷ [] else [])
     ∙ ap (λ (ys : List ℕ). output_of history ++ ys) (filter_one (is_put e.kind) e)
 
-if_suc_le : (b : Bool) (n m : ℕ) → n ≤ m → (if b then suc n else n) ≤ suc m
-if_suc_le true n m h = omega arith
-if_suc_le false n m h = omega arith
-
-pub tries_le : (past : List Entry) (p : ℕ) → tries past p ≤ length past
-tries_le [] p = omega arith
-tries_le (e ∷ past) p = if_suc_le ((e.processor == p) && is_conditional e.kind) (tries past p) (length past) (tries_le past p)
-
-pub gets_le : (past : List Entry) → gets past ≤ length past
-gets_le [] = omega arith
-gets_le (e ∷ past) = if_suc_le (is_get e.kind) (gets past) (length past) (gets_le past)
-
 if_cons_le : (b : Bool) (e : Entry) (xs : List Entry) (m : ℕ) → length xs ≤ m → length (if b then e ∷ xs else xs) ≤ suc m
 if_cons_le true e xs m h = omega arith
 if_cons_le false e xs m h = omega arith
@@ -162,7 +157,3 @@ length-filter_le (e ∷ history) = if_cons_le (is_put e.kind) e (filter (λ (x :
 
 pub length-output_of : (history : List Entry) → length (output_of history) ≤ length history
 length-output_of history = rw (length-map (filter (λ (x : Entry). is_put x.kind) history) (λ (x : Entry). x.after)) (length-filter_le history)
-
--- a processor has made fewer store conditionals than the history has room for
-pub room_for_try : (past : List Entry) (p limit : ℕ) (r : Reservation) → IsKept past p r → length past < limit → limit < 2 ^ 32 → r.tries + 1 < 2 ^ 32
-room_for_try past p limit r k room fits = omega (arith, k.tries, tries_le past p)

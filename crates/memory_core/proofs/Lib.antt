@@ -10,3 +10,4 @@ pub mod Making
 pub mod LookingBack
 pub mod Neighbours
 pub mod Masked
+pub mod Counting

@@ -1,5 +1,5 @@
 -- A memory as contracts see it.
-use Rattle.std.specs.Prelude.{◌≡◌, ℕ, ◌-◌, ◌%◌, Bool, false, List, [], ◌∷◌, ◌++◌, Option, Some, None, option_map, map, filter, reverse, if◌then◌else◌}
+use Rattle.std.specs.Prelude.{◌≡◌, ℕ, ◌-◌, ◌%◌, Bool, false, List, [], ◌∷◌, ◌++◌, Option, Some, None, option_map, map, filter, length, reverse, if◌then◌else◌}
 use Rattle.std.specs.Int.{byte_at}
 use Rattle.image_file.specs.Values.{ImageValue}
 use Rattle.vax_form.specs.Pages.{is_allowed}
@@ -27,6 +27,10 @@ entry_for set_up history request = entry_of set_up (reverse history) request
 -- the bytes that were put, in order
 abbrev pub output_of : List Entry → List ℕ
 output_of history = map (λ (e : Entry). e.after) (filter (λ (e : Entry). is_put e.kind) history)
+
+-- how many
+abbrev pub bytes_put : List Entry → ℕ
+bytes_put history = length (output_of history)
 
 -- the quadword of an address of the image's pages, as the history left it
 abbrev pub quad_left : SetUp → List Entry → ℕ → Option ℕ

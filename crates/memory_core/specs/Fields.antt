@@ -1,16 +1,16 @@
 -- What a memory keeps of its history.
-use Rattle.std.specs.Prelude.{◌≡◌, ◌<◌, ◌-◌, ◌%◌, ℕ, List, Option, Some, None, length, slice_index_or, slice_set}
+use Rattle.std.specs.Prelude.{◌≡◌, ◌<◌, ◌-◌, ◌%◌, ℕ, suc, List, Option, Some, None, length, nat_lt, slice_index_or, slice_set, if◌then◌else◌}
 use Rattle.memory_core.specs.declared.entry.Entry.{Entry}
 use Rattle.memory_core.specs.declared.entry.SetUp.{SetUp}
 use Rattle.memory_core.specs.declared.reservation.Reservation.{Reservation}
 use Rattle.memory_core.specs.Order.{left_by, reserved, tries}
 use Rattle.memory_core.specs.Places.{quad_place}
-use Rattle.memory_core.specs.Reservations.{holds}
+use Rattle.memory_core.specs.Reservations.{holds, counted_tries}
 
 -- one processor's reservation
-pub record IsKept (past : List Entry) (processor : ℕ) (r : Reservation) : Type 0 where
+pub record IsKept (miss : ℕ) (past : List Entry) (processor : ℕ) (r : Reservation) : Type 0 where
   pub block : (b : ℕ) → reserved past processor b ≡ holds r.block b
-  pub tries : tries past processor ≡ r.tries
+  pub tries : counted_tries miss (tries past processor) ≡ r.tries
 
 -- the quadword of an address at its place, as the past left it
 pub record IsAt (set_up : SetUp) (past : List Entry) (quads : List ℕ) (address place : ℕ) : Type 0 where
@@ -21,6 +21,10 @@ pub record IsAt (set_up : SetUp) (past : List Entry) (quads : List ℕ) (address
 abbrev pub AreCurrent : SetUp → List Entry → List ℕ → Type 0
 AreCurrent set_up past quads =
     (address place : ℕ) → quad_place set_up.image.pages.ranges address ≡ Some place → IsAt set_up past quads address place
+
+-- how many of so many bytes of input are behind, once one more is asked for
+abbrev pub next_taken : (count taken : ℕ) → ℕ
+next_taken count taken = if nat_lt taken count then suc taken else taken
 
 -- the quadwords with one of them stored
 abbrev pub stored_at : Option ℕ → ℕ → List ℕ → List ℕ

@@ -11,3 +11,4 @@ pub mod Places
 pub mod Reservations
 pub mod Fields
 pub mod Sound
+pub mod Storing

@@ -1,6 +1,6 @@
 // Entries of the history: one access each.
 ghost use Rattle.std.specs.Prelude.{◌≡◌};
-ghost use Rattle.memory_core.specs.Kinds.{is_memory, writes, is_conditional};
+ghost use Rattle.memory_core.specs.Kinds.{is_memory, writes, is_conditional, is_put};
 
 use image_file::Image;
 use std::collections::LinkedList;
@@ -33,6 +33,12 @@ impl Kind {
         ensures { result ≡ is_conditional self }
     {
         matches!(self, Kind::StoreConditional)
+    }
+
+    pub(crate) fn is_put(self) -> bool
+        ensures { result ≡ is_put self }
+    {
+        matches!(self, Kind::Put)
     }
 
     pub(crate) fn writes(self, success: bool) -> bool
@@ -90,12 +96,13 @@ pub struct Request {
 pub enum Reply {
     /// What the access found, and whether it succeeded.
     Made { before: u64, success: bool },
-    /// The history has its limit, and nothing was done.
+    /// The history, or the output where it alone is counted, has its limit, and nothing was done.
     Full,
 }
 
-/// What a memory starts with: the image with its pages, the input, the greatest number of entries, and the miss number,
-/// which is 0 or makes every so many-th store conditional of a processor fail. It is a value of contracts alone.
+/// What a memory starts with: the image with its pages, the input, the greatest number of entries, or of bytes that are put where
+/// proofs alone keep the history, and the miss number, which is 0 or makes every so many-th store conditional of a processor fail. It
+/// is a value of contracts alone.
 pub struct SetUp {
     pub image: Image,
     pub input: LinkedList<u8>,

@@ -11,7 +11,10 @@ mod memory;
 mod page;
 mod reservation;
 mod state;
+mod told;
+mod unkept;
 
 pub use entry::{Change, Entry, Kind, Reply, Request, SetUp};
 pub use memory::Memory;
 pub use state::MemState;
+pub use unkept::UnkeptState;

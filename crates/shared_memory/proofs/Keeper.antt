@@ -43,7 +43,7 @@ chosen_here k s o p = let w = choosing o.keeper p in let f = o.fits o.seat o.kee
   turns = omega (arith, total-set turn_of s.views o.seat o.keeper w o.sits, o.turns);
   single = o.single;
   legal = o.legal;
-  count = o.count;
+  still = o.still;
   longest = still_longest k s o o.seat o.keeper w o.sits (λ e. e);
   fits = λ j u e. ⊎_elim (λ (t : (j ≡ o.seat) × (w ≡ u)). subst (Fits k o.history) t.1 (record { about = f.about; seen = f.seen; found = f.found; small = f.small; alive = f.alive; own = f.own; over = λ _ not. absurd (true≢false (sym o.keeps ∙ not)) }))
       (λ (t : (j ≢ o.seat) × (get_elem? s.views j ≡ some u)). o.fits j u t.1) (at_set s.views o.seat j w u e);
@@ -90,7 +90,7 @@ made_here k s o none_yet = let v = o.keeper in let p = v.chosen in let w = made_
       turns = omega (arith, total-set turn_of s.views o.seat v w o.sits, o.turns, total-append turn_of vs (new ∷ []));
       single = o.single;
       legal = o.legal;
-      count = o.count;
+      still = o.still;
       longest = let t = still_longest k s o o.seat v w o.sits (λ e. e) in (t.0, t.1, at_longer vs (new ∷ []) t.0 t.1 t.2, t.3);
       fits = λ j u e. ⊎_elim
           (λ (q : get_elem? vs j ≡ some u). ⊎_elim (λ (t : (j ≡ o.seat) × (w ≡ u)). subst (Fits k o.history) t.1 (record { about = f.about; seen = f.seen; found = f.found; small = f.small; alive = f.alive; own = f.own; over = λ _ not. absurd (true≢false (sym o.keeps ∙ not)) }))
@@ -147,7 +147,7 @@ ended_here k s o other w keeps_not lives turn apart them = let v = o.keeper in l
       turns = omega (arith, both turn_of, o.turns);
       single = o.single;
       legal = o.legal;
-      count = o.count;
+      still = o.still;
       longest = let t = o.longest in dite (ℕ_discrete t.0 o.seat)
           (λ e. let same : t.1 ≡ v = some-injective t.1 v (sym t.2 ∙ (ap (λ (x : ℕ). get_elem? s.views x) e ∙ o.sits)) in (o.seat, b, mine', longer_left v.seen w.seen o.history g.seen (ap (λ (x : View). x.seen) (sym same) ∙ t.3)))
           (λ ne. dite (ℕ_discrete t.0 other)
@@ -188,7 +188,7 @@ starts k state good = record {
   turns = refl;
   single = omega arith;
   legal = record { order = tt; room = omega arith };
-  count = refl;
+  still = refl;
   longest = (0, keeper_of k, refl, refl);
   fits = λ j u e. subst (Fits k []) (only_one j u e) (record { about = λ (x : false ≡ true). absurd (true≢false (sym x)); seen = ([], refl); found = λ (x : 0 ≡ 1). absurd (omega arith); small = omega arith; alive = λ (x : 0 ≡ 1). absurd (omega arith); own = λ (x : false ≡ true). absurd (true≢false (sym x)); over = λ _ (not : true ≡ false). absurd (true≢false not) });
   home = λ _. ap (λ (x : Contents). some (some (Some x))) good;

@@ -1,5 +1,5 @@
 -- Each step keeps the rule.
-use Rattle.std.proofs.Common.{◌≡◌, ◌≢◌, ℕ, ◌+◌, ◌<◌, ◌≤◌, Bool, true, false, true≢false, cond, eqb, List, [], ◌∷◌, ◌++◌, length, get_or, set, refl, sym, ap, ◌∙◌, subst, ⊎_elim, arith, length-append, length-set, get_or-set_same, get_or-set_other}
+use Rattle.std.proofs.Common.{◌≡◌, ◌≢◌, ℕ, ◌+◌, ◌<◌, ◌≤◌, Bool, true, false, true≢false, cond, eqb, List, [], ◌∷◌, ◌++◌, length, get_or, set, refl, sym, ap, ◌∙◌, subst, ⊎_elim, arith, length-set, get_or-set_same, get_or-set_other}
 use Rattle.std.specs.Prelude.{Option, Some}
 use mathlib.Core.Option.{some, none, some-injective, some-ne-none}
 use mathlib.Core.List.{IsPrefix}
@@ -46,14 +46,14 @@ apart k s o id v me not e = true≢false (sym o.keeps ∙ ap (λ (x : View). x.k
 moved : (k : Contents) (s : St) (o : Kept k s) (id : ℕ) (v w : View) (ws : List ℕ) (hs : Homes) (history : List Entry)
     → get_elem? s.views id ≡ some v → v.keeps ≡ false → w.keeps ≡ false → ((f : ℕ → ℕ) → living f w ≡ living f v)
     → length ws ≡ 2 → get_or ws 1 0 + v.turn ≡ get_or s.words 1 0 + w.turn → get_or ws 1 0 ≤ 1
-    → IsLegal k.set_up history → length history ≡ get_or ws 0 0
+    → IsLegal k.set_up history → get_or ws 0 0 ≡ 0
     → ((j : ℕ) × (u : View) × (get_elem? (set s.views id w) j ≡ some u) × (u.seen ≡ history))
     → Fits k history w → ((j : ℕ) (u : View) → j ≢ id → get_elem? s.views j ≡ some u → Fits k history u)
     → IsHome k ws hs history
     → ((j : ℕ) (e : Ended) → get_elem? o.keeper.ended j ≡ some e → FitsEnded history e)
     → ((p : ℕ) → total (only p) o.keeper.given ≡ 0 → own p history ≡ [])
     → Kept k (table ws hs (set s.views id w))
-moved k s o id v w ws hs history me not_v not_w same wide turns single legal count longest fits others home ended fresh = record {
+moved k s o id v w ws hs history me not_v not_w same wide turns single legal still longest fits others home ended fresh = record {
   history = history;
   seat = o.seat;
   keeper = o.keeper;
@@ -61,7 +61,7 @@ moved k s o id v w ws hs history me not_v not_w same wide turns single legal cou
   turns = omega (arith, total-set turn_of s.views id v w me, o.turns);
   single = single;
   legal = legal;
-  count = count;
+  still = still;
   longest = longest;
   fits = λ j u e. ⊎_elim (λ (t : (j ≡ id) × (w ≡ u)). subst (Fits k history) t.1 fits) (λ (t : (j ≢ id) × (get_elem? s.views j ≡ some u)). others j u t.0 t.1) (at_set s.views id j w u e);
   home = home;
@@ -91,7 +91,7 @@ stayed : (k : Contents) (s : St) (o : Kept k s) (id : ℕ) (v w : View) (ws : Li
     → (v.seen ≡ o.history → w.seen ≡ o.history) → Fits k o.history w → IsHome k ws hs o.history
     → Kept k (table ws hs (set s.views id w))
 stayed k s o id v w ws hs me not_v not_w same wide word turns single more fits home =
-    moved k s o id v w ws hs o.history me not_v not_w same wide turns single o.legal (o.count ∙ sym word) (still_longest k s o id v w me more) fits (λ j u _ e. o.fits j u e) home o.ended o.fresh
+    moved k s o id v w ws hs o.history me not_v not_w same wide turns single o.legal (word ∙ o.still) (still_longest k s o id v w me more) fits (λ j u _ e. o.fits j u e) home o.ended o.fresh
 
 -- a load after which nothing is changed
 unmoved : (k : Contents) (s : St) (o : Kept k s) (i id : ℕ) (m : Sat) → get_elem? s.views id ≡ some m.0 → Kept k (stepped s i (get_or s.words i 0) id m.1 m.0 keeps)
@@ -155,29 +155,27 @@ gives_back k n id v state keeps_not turn good inside s o slots me _ = let f = o.
 pub alone_here : (p : ℕ) (u : View) → u.lives ≡ true → u.number ≡ p → living (only p) u ≡ 1
 alone_here p u lives e = ap (λ (b : Bool). cond b (only p u.number) 0) lives ∙ only-same p u.number e
 
-pub enters : (k : Contents) (n id : ℕ) (m : Sat) (e : Entry) (old new : ℕ) (state : Contents) → m.0.keeps ≡ false → m.0.turn ≡ 1 → e.processor ≡ m.0.number
-    → state.history ≡ m.0.found ++ e ∷ [] → IsLegal k.set_up state.history → length m.0.found ≡ old → new ≡ old + 1
-    → Allows (Kept k) n id m 0 (λ y. either (eqb y old) new y) (Enters (step n 0 old new (some (Some state))) m)
-enters k n id m e old new state keeps_not turn mine adds legal long next s o slots me _ =
+pub enters : (k : Contents) (n id : ℕ) (m : Sat) (e : Entry) (state : Contents) → m.0.keeps ≡ false → m.0.turn ≡ 1 → e.processor ≡ m.0.number
+    → state.history ≡ m.0.found ++ e ∷ [] → IsLegal k.set_up state.history
+    → Allows (Kept k) n id m 0 (λ y. either (eqb y 0) 0 y) (Enters (step n 0 0 0 (some (Some state))) m)
+enters k n id m e state keeps_not turn mine adds legal s o slots me _ =
     let f = o.fits id m.0 me in let v = m.0 in let h' : List Entry = state.history in let w = entered v h' in let p = v.number in
     let was : v.found ≡ o.history = f.found turn in
     let is : h' ≡ o.history ++ e ∷ [] = adds ∙ ap (λ (l : List Entry). l ++ e ∷ []) was in
-    let counted = o.count in let wide = o.wide in let all = o.turns in let single = o.single in
+    let wide = o.wide in let all = o.turns in let single = o.single in
     let lives = f.alive turn in
-    let here : get_or s.words 0 0 ≡ old = sym counted ∙ (ap length (sym was) ∙ long) in
     let one : living (only p) v ≡ 1 = alone_here p v lives refl in
     let part = term_le turn_of s.views id v me in
-    let other : get_or (set s.words 0 new) 1 0 ≡ get_or s.words 1 0 = get_or-set_other s.words 0 1 new 0 (λ x. omega arith) in
-    let zeroth : get_or (set s.words 0 new) 0 0 ≡ new = get_or-set_same s.words 0 new 0 (omega arith) in
-    let grown : length h' ≡ length o.history + 1 = ap length is ∙ length-append o.history (e ∷ []) in
+    let other : get_or (set s.words 0 0) 1 0 ≡ get_or s.words 1 0 = get_or-set_other s.words 0 1 0 0 (λ x. omega arith) in
+    let zeroth : get_or (set s.words 0 0) 0 0 ≡ 0 = get_or-set_same s.words 0 0 0 (omega arith) in
     let strange : (q : ℕ) → q ≢ p → own q h' ≡ own q o.history = λ q ne. ap (own q) is ∙ own-push_other q o.history e (λ x. ne (sym x ∙ mine)) in
     let once = o.once p in let balance = o.balance (only p) in let part_one = term_le (living (only p)) s.views id v me in
-    exchanged (get_or s.words 0 0) old new (Goes k s 0 id m (Enters (step n 0 old new (some (Some state))) m))
+    exchanged (get_or s.words 0 0) 0 0 (Goes k s 0 id m (Enters (step n 0 0 0 (some (Some state))) m))
     (λ _. (
       w,
       keeps,
       tt,
-      moved k s o id v w (set s.words 0 new) s.homes h' me keeps_not keeps_not (λ _. refl) (length-set s.words 0 new ∙ o.wide) (omega arith) (omega arith) legal (omega arith)
+      moved k s o id v w (set s.words 0 0) s.homes h' me keeps_not keeps_not (λ _. refl) (length-set s.words 0 0 ∙ o.wide) (omega arith) (omega arith) legal zeroth
           (id, w, set_here s.views id w (short s.views id v me), refl)
           (record { about = f.about; seen = prefix_self h'; found = λ _. refl; small = f.small; alive = f.alive; own = λ _. refl; over = λ dead _. absurd (true≢false (sym lives ∙ dead)) })
           (λ j u ne at. let g = o.fits j u at in let two = terms_le turn_of s.views id j v u ne me at in record {
@@ -197,7 +195,7 @@ enters k n id m e old new state keeps_not turn mine adds legal long next s o slo
           (λ q none_given. strange q (λ same. let z : total (only p) o.keeper.given ≡ 0 = ap (λ (r : ℕ). total (only r) o.keeper.given) (sym same) ∙ none_given in absurd (omega arith)) ∙ o.fresh q none_given),
       refl,
     ))
-    (λ miss. absurd (miss here))
+    (λ miss. absurd (miss o.still))
 
 pub gives_back_at : (k : Contents) (n id : ℕ) (m : Sat) (v : View) (state : Contents) → m ≡ (v, (0, Some state) ∷ []) → v.keeps ≡ false → v.turn ≡ 1 → state ≡ behind k v.found → 0 < n
     → Allows (Kept k) n id m 1 (λ _. 0) (λ _. GivesBack (step n 1 0 0 none) m 0)

@@ -1,6 +1,6 @@
 -- The rule of the shared slot, in which the memory lies. It is a fact about the two words, the slot and what each pass knows;
--- every step keeps it. Word 0 counts the entries of the history; word 1 is 1 while a pass has the turn, and else 0. Lists of
--- entries are oldest first.
+-- every step keeps it. Word 0 stays 0: on it steps are made that tell of the history. Word 1 is 1 while a pass has the turn, and else
+-- 0. Lists of entries are oldest first.
 use Rattle.std.specs.Prelude.{◌≡◌, ℕ, ◌+◌, ◌≤◌, true, false, cond, List, [], ◌∷◌, length, reverse, slice_index, Option, Some}
 use Rattle.std.proofs.Common.{leb}
 use mathlib.Core.Option.{some}
@@ -84,7 +84,7 @@ pub record Kept (start : Contents) (s : State (Option MemState) View) : Type 0 w
   pub turns : total (λ (v : View). v.turn) s.views ≡ slice_index s.words 1
   pub single : slice_index s.words 1 ≤ 1
   pub legal : IsLegal start.set_up history
-  pub count : length history ≡ slice_index s.words 0
+  pub still : slice_index s.words 0 ≡ 0
   pub longest : (k : ℕ) × (v : View) × (get_elem? s.views k ≡ some v) × (v.seen ≡ history)
   pub fits : (k : ℕ) (v : View) → get_elem? s.views k ≡ some v → Fits start history v
   pub home : slice_index s.words 1 ≡ 0 → get_elem? s.homes 0 ≡ some (some (Some (behind start history)))

@@ -24,14 +24,14 @@ impl Play<Option<MemState>, View> for Win {
     ghost then = { Wins };
 }
 
-/// Counts one more entry, while the memory is out.
+/// Announces one more entry, while the memory is out.
 pub struct Enter;
 
 impl Play<Option<MemState>, View> for Enter {
     ghost then = { Enters };
 }
 
-/// Reads the count, while the memory is out.
+/// Sees what was found, while the memory is out.
 pub struct Look;
 
 impl Play<Option<MemState>, View> for Look {

@@ -67,16 +67,15 @@ pub fn give_back(shared: &Shared, waiting: &EventCount, seat: &mut Place, whole:
     waiting.notify_one();
 }
 
-// Enters the last entry of the memory, which has one more than was found.
+// Enters the last entry of the memory, which has one more than was found. It exchanges nothing: the step announces the memory.
 pub fn enter(shared: &Shared, waiting: &EventCount, seat: &mut Place, state: MemState)
     requires table { (seat.old.table_id ≡ shared.now.table_id) × (shared.now.table_id.words ≡ 2) × (shared.now.table_id.slots ≡ 1) }
     requires turn { HasTurn seat.old.me }
     requires entry { (e : Entry) × (e.processor ≡ seat.old.me.0.number) × (state ≡ behind shared.now.key.value (seat.old.me.0.found ++ e ∷ [])) × IsLegal shared.now.key.value.set_up state.history }
     ensures { (seat.new.table_id ≡ seat.old.table_id) × (seat.new.me ≡ (given_back (entered seat.old.me.0 state.history), [])) }
 {
-    let count = state.history().len() as u64;
     let whole = Some(state);
-    shared.compare_exchange_with::<Enter>(seat, 0, count - 1, count, &whole);
+    shared.compare_exchange_with::<Enter>(seat, 0, 0, 0, &whole);
     give_back(shared, waiting, seat, whole);
 }
 

@@ -1,14 +1,12 @@
-use Rattle.std.proofs.Common.{◌≡◌, ◌∷◌, ◌+◌, [], length, ap, sym, ◌∙◌, arith, length-append, Some}
+use Rattle.std.proofs.Common.{ap, sym, ◌∙◌, arith, Some}
 use Rattle.memory_core.specs.Contents.{Contents}
 use Rattle.shared_memory.specs.Rule.{behind}
 use Rattle.shared_memory.proofs.Keeps.{enters}
 use Rattle.shared_memory.proofs.steps.enter.Goals as goal
 
 pub compare_exchange_with-requires : goal.compare_exchange_with-requires
-compare_exchange_with-requires c = let b = c.requires.table in let t = c.requires.turn in let r = c.requires.entry in let found = c.args.seat.now.me.0.found in
-    let many : length c.args.state.history ≡ length found + 1 = ap (λ (s : Contents). length s.history) r.2 ∙ length-append found (r.0 ∷ []) in
-    let counted = ap length c.history.ensures.value in
-    (b.0, omega arith, enters _ _ _ c.args.seat.now.me r.0 _ _ c.args.state t.1 t.0 r.1 (ap (λ (s : Contents). s.history) r.2) r.3 (omega arith) (omega arith))
+compare_exchange_with-requires c = let b = c.requires.table in let t = c.requires.turn in let r = c.requires.entry in
+    (b.0, omega arith, enters _ _ _ c.args.seat.now.me r.0 c.args.state t.1 t.0 r.1 (ap (λ (s : Contents). s.history) r.2) r.3)
 
 pub give_back-requires-clause-state : goal.give_back-requires-clause-state
 give_back-requires-clause-state c = let r = c.requires.entry in let x = c.compare_exchange_with.ensures in let k = c.args.shared.now.key.value in

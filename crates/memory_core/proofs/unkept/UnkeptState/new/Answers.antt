@@ -5,7 +5,7 @@ use Rattle.memory_core.specs.Places.{quads_of}
 use Rattle.memory_core.specs.Reservations.{none}
 use Rattle.memory_core.specs.declared.reservation.Reservation.{Reservation}
 use Rattle.memory_core.proofs.Making.{fresh_sound}
-use Rattle.memory_core.proofs.state.MemState.new.Goals as goal
+use Rattle.memory_core.proofs.unkept.UnkeptState.new.Goals as goal
 
 pub invariant_of-result-2 : goal.invariant_of-result-2
 invariant_of-result-2 c =
@@ -13,13 +13,11 @@ invariant_of-result-2 c =
     let none_all = c.in_ok-reservations.ensures.items_if_clones_equal (λ _ e. e) in
     let count = c.in_ok-reservations.ensures.len in
     fresh_sound _ (record {
-      small = omega arith;
       index = c.index.view_is ∙ c.in_ok-index.ensures ∙ ap ranges c.image.view_is ∙ ap ranges (sym c.of.ensures);
       quads = c.in_ok-quads.ensures ∙ ap (λ (i : ImageValue). quads_of i i.pages.ranges) (sym c.of.ensures);
       kept = λ p l. ap (λ (rs : List Reservation). slice_index_or rs p none) none_all ∙ get_or-replicate c.args.processors p none none (omega (arith, count));
       taken = refl;
       output = c.in_ok-with_capacity.ensures.items;
       output_room = omega (arith, c.in_ok-with_capacity.ensures.exact);
-      history = c.in_ok-with_capacity-2.ensures.items;
-      room = omega (arith, c.in_ok-with_capacity-2.ensures.exact);
+      history = c.nothing.ensures;
     })

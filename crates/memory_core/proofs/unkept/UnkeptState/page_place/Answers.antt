@@ -3,7 +3,7 @@ use Rattle.vax_form.specs.declared.pages.PageRange.{PageRange}
 use Rattle.memory_core.specs.Contents.{Contents}
 use Rattle.memory_core.specs.Places.{page_place}
 use Rattle.memory_core.proofs.Indexing.{placed_exactly, place_own}
-use Rattle.memory_core.proofs.state.MemState.page_place.Goals as goal
+use Rattle.memory_core.proofs.unkept.UnkeptState.page_place.Goals as goal
 
 pub returns-clause-pages : goal.returns-clause-pages
 returns-clause-pages c =

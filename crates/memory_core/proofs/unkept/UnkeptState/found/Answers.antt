@@ -1,6 +1,6 @@
 use Rattle.std.proofs.Common.{IsSome, sym, subst}
 use Rattle.memory_core.proofs.Reading.{request_left}
-use Rattle.memory_core.proofs.state.MemState.found.Goals as goal
+use Rattle.memory_core.proofs.unkept.UnkeptState.found.Goals as goal
 
 pub unwrap-requires : goal.unwrap-requires
 unwrap-requires c =
