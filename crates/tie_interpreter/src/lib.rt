@@ -1,11 +1,15 @@
 //! Interprets a VAX instruction that is not long one reference at a time. A `Tie` keeps the state before the instruction,
 //! its place, the values of its operands and the few replies of its current part; memory stays with the caller.
 //!
-//! `body` is what comes behind the operands, and `tie` the whole instruction.
+//! `body` is what comes behind the operands, `tie` the whole instruction, `operands` evaluates all operands, and `played` goes through an instruction from its
+//! begin with the replies so far.
 #![tactic(auto)]
 
 mod body;
+mod operands;
+mod played;
 mod tie;
 
+pub use played::{played_instr, played_short};
 pub use tie::Tie;
 pub use tie_operands::TieStep;

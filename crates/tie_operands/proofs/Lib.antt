@@ -3,3 +3,4 @@ pub mod Whole
 pub mod Leading
 pub mod Resuming
 pub mod Passing
+pub mod Played

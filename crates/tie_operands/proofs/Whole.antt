@@ -16,7 +16,7 @@ use Rattle.vax_form.proofs.Trees.{feeding_twice, shows_the_outcome}
 use Rattle.vax_meaning.specs.Play.{IsFault}
 use Rattle.tie_operands.specs.declared.step.TieStep.{TieStep}
 use Rattle.tie_operands.specs.declared.step.TieStep.TheVariants.{Want, Retired, Exited, Raised}
-use Rattle.tie_operands.specs.Steps.{step_of, IfWant, FaultsAtHead, Shows, FailsByFault, StandsFor, StepsAs}
+use Rattle.tie_operands.specs.Steps.{step_of, IfWant, FaultsAtHead, Shows, FailsByFault, SeenAs, StandsFor, StepsAs}
 
 pub if_want : {A B : Type 0} (step : TieStep) → (A → B) → IfWant step A → IfWant step B
 if_want (Want reference) f given = f given
@@ -37,6 +37,13 @@ fails_by_fault pages (Ask reference on) [] faults = tt
 fails_by_fault pages (Ask reference on) (reply ∷ replies) faults = fails_by_fault pages (on reply) replies faults
 fails_by_fault pages (Fault exception) replies faults = faults
 fails_by_fault pages (Ends e) replies faults = tt
+
+-- a step that shows the rest of a tree behind all replies comes to what the tree comes to with them
+pub seen_as : (pages : Pages) (before : VaxState) (tree : Tree) (replies : List ℕ) (step : TieStep) → Shows before (feed pages tree replies) step → SeenAs pages before tree replies step
+seen_as pages before tree replies step shows = record {
+  answers = shows.head ∙ ap step_of (shows_the_outcome pages tree replies before);
+  faults = fails_by_fault pages tree replies shows.faults;
+}
 
 -- a step that shows the rest of a tree with one more reply comes to what the tree comes to
 pub steps_as : (pages : Pages) (kept : VaxState) (old new : Tree) (reply : List ℕ) (step : TieStep)

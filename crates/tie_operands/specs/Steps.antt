@@ -43,18 +43,28 @@ abbrev pub Passes : VaxState → Tree → Result End Stop → VaxState → Type 
 Passes before tree (Ok end) after = Shows before tree (step_of (ending_outcome (ending end after)))
 Passes before tree (Err stop) after = Shows before tree (step_of (stop_outcome before stop))
 
--- a tree that wants a reference first
-abbrev pub IsAsking : Tree → Type 0
-IsAsking (Check address count write tree) = IsAsking tree
-IsAsking (Ask reference on) = Unit {0}
-IsAsking (Fault exception) = ⊥
-IsAsking (Ends e) = ⊥
+-- the step of an instruction that was gone through from its begin, from one state to another
+abbrev pub step_by : (before : VaxState) → Result End Stop → (after : VaxState) → TieStep
+step_by before (Ok end) after = step_of (ending_outcome (ending end after))
+step_by before (Err stop) after = step_of (stop_outcome before stop)
 
 -- what failed did so by a fault: an arithmetic exception is a trap
 abbrev pub FailsByFault : Answer → Type 0
 FailsByFault (Wants reference) = Unit {0}
 FailsByFault (Fails exception) = IsFault exception
 FailsByFault (Comes e left) = Unit {0}
+
+-- it comes to what the tree comes to with these replies, and fails by faults alone
+pub record SeenAs (pages : Pages) (before : VaxState) (tree : Tree) (replies : List ℕ) (step : TieStep) : Type 0 where
+  pub answers : step ≡ step_of (outcome before (answer pages tree replies))
+  pub faults : FailsByFault (answer pages tree replies)
+
+-- a tree that wants a reference first
+abbrev pub IsAsking : Tree → Type 0
+IsAsking (Check address count write tree) = IsAsking tree
+IsAsking (Ask reference on) = Unit {0}
+IsAsking (Fault exception) = ⊥
+IsAsking (Ends e) = ⊥
 
 -- what stands for an instruction that was begun in that state, with these replies made to its tree: the state before it,
 -- and the rest of the tree

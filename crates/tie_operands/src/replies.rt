@@ -1,5 +1,5 @@
 // A few replies, kept.
-ghost use Rattle.std.specs.Prelude.{◌≡◌, ◌<◌, ◌≤◌, ◌++◌, [], length};
+ghost use Rattle.std.specs.Prelude.{◌≡◌, ◌<◌, ◌≤◌, ◌++◌, ◌∷◌, [], length};
 
 /// At most `MOST` replies, in order.
 #[derive(Clone, Copy, Debug, PartialEq, Eq)]
@@ -44,6 +44,25 @@ impl<const MOST: usize> Replies<MOST> {
             all.count += 1;
         }
         all
+    }
+
+    /// Keeps one more at the end, where there is room.
+    #[inline(always)]
+    pub fn push(&mut self, reply: u64)
+        ensures { length (replies_of self.old) < MOST → replies_of self.new ≡ replies_of self.old ++ reply ∷ [] }
+    {
+        if self.count < MOST {
+            self.values[self.count] = reply;
+            self.count += 1;
+        }
+    }
+
+    /// Keeps none any more.
+    #[inline(always)]
+    pub fn clear(&mut self)
+        ensures { replies_of self.new ≡ [] }
+    {
+        self.count = 0;
     }
 
     /// All of them, the first one first.

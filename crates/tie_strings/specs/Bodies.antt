@@ -1,5 +1,5 @@
 -- The rest of the tree of a long instruction behind its operands.
-use Rattle.std.specs.Prelude.{List}
+use Rattle.std.specs.Prelude.{List, Option, Some, None}
 use Rattle.vax_form.specs.Tree.{Tree, feed, instruction_tree}
 use Rattle.vax_form.specs.declared.instr.Instr.{Instr}
 use Rattle.vax_form.specs.declared.operation.LongOperation.{LongOperation}
@@ -21,6 +21,20 @@ long_of CallStack = long.CallStack
 long_of Return = long.Return
 long_of PushRegisters = long.PushRegisters
 long_of PopRegisters = long.PopRegisters
+
+-- the operation, where it has no strings
+abbrev pub plain_of : LongOperation → Option Plain
+plain_of long.Index = Some Index
+plain_of long.CallGeneral = Some CallGeneral
+plain_of long.CallStack = Some CallStack
+plain_of long.Return = Some Return
+plain_of long.PushRegisters = Some PushRegisters
+plain_of long.PopRegisters = Some PopRegisters
+plain_of long.MoveCharacters = None
+plain_of long.MoveCharactersFilled = None
+plain_of long.CompareCharacters = None
+plain_of long.LocateCharacter = None
+plain_of long.SkipCharacter = None
 
 -- what a long operation does once its operands are evaluated, to its end
 unfoldable pub long_tree : Pages → LongOperation → Instr → List Evaluated → VaxState → Tree

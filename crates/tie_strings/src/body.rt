@@ -12,7 +12,7 @@ const REPLIES_OF_BODY: usize = 36;
 
 /// A long operation without strings.
 #[derive(Clone, Copy, Debug, PartialEq, Eq)]
-pub(crate) enum Plain {
+pub enum Plain {
     Index,
     CallGeneral,
     CallStack,
@@ -28,7 +28,12 @@ impl Plain {
 
     /// Does what it does once its operands are evaluated.
     #[tactic(auto, unfolding(vax_long::specs::Instructions::long_body))]
-    fn run(self, cursor: &mut Cursor, instr: &Instr, values: &[Evaluated; 6]) -> Result<End, Stop>
+    pub(crate) fn run(
+        self,
+        cursor: &mut Cursor,
+        instr: &Instr,
+        values: &[Evaluated; 6],
+    ) -> Result<End, Stop>
         ensures plays { Plays (long_body (long_of self) instr.now values.now) cursor.old result cursor.new }
         ensures few { Uses 36 cursor.old result cursor.new }
     {

@@ -3,8 +3,8 @@
 //! 36, and go through it anew, and a string keeps its place and at most one byte. Memory stays with the caller.
 //!
 //! `body` is what comes behind the operands of an instruction without a string, `moving`, `comparing` and `scanning` are
-//! strings under way, `byte` reads the next byte of one, `string` goes through any of them, and `tie` is the whole
-//! instruction.
+//! strings under way, `byte` reads the next byte of one, `string` goes through any of them, `tie` is the whole
+//! instruction, and `played` goes through one without strings from its begin with the replies so far.
 #![tactic(auto)]
 
 mod begun;
@@ -12,9 +12,12 @@ mod body;
 mod byte;
 mod comparing;
 mod moving;
+mod played;
 mod scanning;
 mod string;
 mod tie;
 
+pub use body::Plain;
+pub use played::{plain_of, played_long};
 pub use tie::LongTie;
 pub use tie_operands::TieStep;

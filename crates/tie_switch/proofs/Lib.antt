@@ -3,6 +3,8 @@ pub mod Masks
 pub mod Steps
 pub mod Turns
 pub mod Handled
+pub mod Knowing
+pub mod Playing
 pub mod Awaited
 pub mod Found
 pub mod Standing

@@ -1,22 +1,28 @@
 -- What a thread does at a state, interpreted a reference at a time.
-use Rattle.std.specs.Prelude.{◌≡◌, ◌≢◌, ◌<◌, ℕ, List, [], length}
+use Rattle.std.specs.Prelude.{◌≡◌, ◌≢◌, ◌<◌, ℕ, List, [], length, take, Option, Some, None}
+use Rattle.vax_form.specs.Grammar.{Found, instruction, reserved_instruction, reserved_mode, past}
+use Rattle.vax_form.specs.GrammarFound.{found}
 use Rattle.vax_form.specs.Moments.{handled_ending, handled_failure}
-use Rattle.vax_form.specs.Tree.{Answer, Wants, Fails, Comes, Finish, Exit, Trap}
+use Rattle.vax_form.specs.Tree.{Answer, Wants, Fails, Comes, Finish, Exit, Trap, answer, instruction_tree, outcome}
+use Rattle.vax_form.specs.declared.operation.LongOperation.{LongOperation}
 use Rattle.vax_form.specs.declared.pages.Pages.{Pages}
 use Rattle.vax_form.specs.declared.state.Exception.{Exception}
 use Rattle.vax_form.specs.declared.state.Exception.TheVariants.{Arithmetic}
 use Rattle.vax_form.specs.declared.state.Pending.TheVariants.{Nothing}
 use Rattle.vax_form.specs.declared.state.VaxState.{VaxState}
-use Rattle.vax_long.specs.Instructions.{tree_at}
+use Rattle.vax_long.specs.Instructions.{long_at, script_found, tree_at}
 use Rattle.tie_operands.specs.Replies.{replies_of}
+use Rattle.tie_operands.specs.Steps as made
+use Rattle.tie_operands.specs.Steps.{FailsByFault, IfWant}
 use Rattle.tie_operands.specs.declared.step.TieStep.{TieStep}
 use Rattle.tie_operands.specs.declared.step.TieStep.TheVariants as ties
-use Rattle.tie_interpreter.specs.Whole as short
+use Rattle.tie_strings.specs.Bodies.{plain_of}
 use Rattle.tie_strings.specs.Whole as long
 use Rattle.tie_switch.specs.declared.place.Last.{Last}
 use Rattle.tie_switch.specs.declared.place.Last.TheVariants as lasts
 use Rattle.tie_switch.specs.declared.interpreted.Interpreted.{Interpreted}
-use Rattle.tie_switch.specs.declared.interpreted.Interpreted.TheVariants.{Short, Long, Awaits}
+use Rattle.tie_switch.specs.declared.interpreted.Interpreted.TheVariants.{Plays, Long, Awaits}
+use Rattle.tie_switch.specs.declared.played.Played.{Played}
 use Rattle.tie_switch.specs.declared.interpreted.Step.{Step}
 use Rattle.tie_switch.specs.declared.interpreted.Step.TheVariants as steps
 
@@ -32,9 +38,38 @@ step_of (Comes (Finish state) left) = steps.Leaves (lasts.Finish state)
 step_of (Comes (Exit state) left) = steps.Leaves (lasts.Exit state)
 step_of (Comes (Trap kind state) left) = steps.Leaves (lasts.Trap kind state)
 
+-- ---- what is interpreted
+abbrev pub HasStringsBy : Option LongOperation → Type 0
+HasStringsBy None = ⊥
+HasStringsBy (Some operation) = plain_of operation ≡ None
+
+-- an instruction with strings was found
+abbrev pub HasStrings : Found → Type 0
+HasStrings (instruction instr) = HasStringsBy (long_at instr.opcode)
+HasStrings reserved_instruction = ⊥
+HasStrings reserved_mode = ⊥
+HasStrings (past address) = ⊥
+
+-- an instruction without strings makes so many references at most
+abbrev pub replies_of_instruction : ℕ
+replies_of_instruction = 60
+
+-- the replies so far
+abbrev pub kept_of : Played → List ℕ
+kept_of played = take played.count played.values
+
+-- it keeps the state and the replies. One with strings has none
+pub record IsPlayed (pages : Pages) (thread : ℕ) (played : Played) (state : VaxState) (replies : List ℕ) : Type 0 where
+  pub nothing : state.pending ≡ Nothing
+  pub before : played.before ≡ state
+  pub of_thread : played.thread ≡ thread
+  pub kept : kept_of played ≡ replies
+  pub room : length replies < replies_of_instruction
+  pub whole : HasStrings (found pages state.pc) → replies ≡ []
+
 -- it stands for what the thread does at that state, with these replies made
 abbrev pub Stands : Pages → (thread : ℕ) → Interpreted → VaxState → (replies : List ℕ) → Type 0
-Stands pages thread (Short tie) state replies = (state.pending ≡ Nothing) × short.Stands pages tie state (tree_at pages thread state) replies
+Stands pages thread (Plays played) state replies = IsPlayed pages thread played state replies
 Stands pages thread (Long tie) state replies = (state.pending ≡ Nothing) × long.Stands pages tie state (tree_at pages thread state) replies
 Stands pages thread (Awaits tie) state replies = (state.pending ≢ Nothing) × (tie.before ≡ state) × (replies_of tie.kept ≡ replies) × (length replies < replies_of_pending)
 
@@ -42,6 +77,13 @@ Stands pages thread (Awaits tie) state replies = (state.pending ≢ Nothing) × 
 abbrev pub IfWants : Step → Type 0 → Type 0
 IfWants (steps.Wants reference) P = P
 IfWants (steps.Leaves last) P = Unit {0}
+
+-- a step of an instruction without strings is what it comes to with these replies
+pub record ComesTo (pages : Pages) (thread : ℕ) (before : VaxState) (there : Found) (replies : List ℕ) (step : TieStep) : Type 0 where
+  pub answers : step ≡ made.step_of (outcome before (answer pages (instruction_tree pages (script_found there thread) before) replies))
+  pub faults : FailsByFault (answer pages (instruction_tree pages (script_found there thread) before) replies)
+  pub few : IfWant step (length replies < replies_of_instruction)
+  pub whole : HasStrings there → ⊥
 
 -- ---- the handler
 -- an instruction's answer where the handler takes its exceptions

@@ -9,3 +9,4 @@ pub mod Inside
 pub mod Courses
 pub mod ManyTurns
 pub mod Laws
+pub mod Known

@@ -11,6 +11,7 @@ ghost use Rattle.tie_switch.specs.Processors.{IsMode};
 ghost use Rattle.tie_switch.specs.Seen as seen;
 ghost use Rattle.tie_switch.specs.Seen.{setting_of};
 ghost use Rattle.tie_switch.specs.Turns.{has_ended};
+ghost use Rattle.vax_driven.specs.declared.thread.End.TheVariants as ends;
 ghost use Rattle.vax_form.specs.declared.pages.Pages.{Pages};
 
 use crate::interpreted::Interpreted;
@@ -23,6 +24,7 @@ use vax_driven::End;
 use vax_form::{Exception, Flags, VaxState};
 
 /// Interprets what the thread does at a state.
+#[inline(never)]
 fn interprets(setting: Setting<'_>, thread: u8, state: &VaxState) -> Mode
     ensures { IsMode setting.entry.pages.now thread state.now result (model.Interprets state.now []) }
 {
@@ -75,10 +77,35 @@ pub(crate) fn settled(before: &VaxState, last: Last) -> Last
     }
 }
 
+impl Mode {
+    // It begins to interpret what the thread does at a state.
+    #[inline(never)]
+    fn begin(&mut self, setting: Setting<'_>, thread: u8, state: &VaxState)
+        ensures { IsMode setting.entry.pages.now thread state.now self.new (model.Interprets state.now []) }
+    {
+        *self = interprets(setting, thread, state);
+    }
+
+    // It interprets what the thread does at a state, which is written in place where it interpreted before.
+    #[inline(always)]
+    fn interpret(&mut self, setting: Setting<'_>, thread: u8, state: &VaxState)
+        ensures { IsMode setting.entry.pages.now thread state.now self.new (model.Interprets state.now []) }
+    {
+        match self {
+            Mode::Interprets(interpreted, reply) => {
+                interpreted.begin_anew(state, setting.pages, thread);
+                *reply = None;
+            }
+            Mode::New | Mode::Runs(_) | Mode::Ended(_) => self.begin(setting, thread, state),
+        }
+    }
+}
+
 impl Processor {
     ghost use Rattle.tie_switch.specs.Processors.{in_mode, processor_of, IsMode, StandsFor};
 
     /// It makes no more steps.
+    #[inline(never)]
     pub(crate) fn spend(&mut self)
         ensures stands { (pages : Pages) (mode : model.Mode) → StandsFor pages self.new (spent (in_mode self.old mode)) }
         ensures ended { has_ended (processor_of self.new).mode ≡ true }
@@ -104,7 +131,34 @@ impl Processor {
         self.retired += 1;
     }
 
+    // It retires its instruction at a boundary at which it stands.
+    #[inline(always)]
+    fn pass(&mut self, state: VaxState, held: Flags)
+        requires { self.old.retired < self.old.steps }
+        ensures stands { (pages : Pages) (before after : model.Mode) → IsMode pages self.old.thread state self.old.mode after
+            → StandsFor pages self.new (record (in_mode self.old before) { mode = after; boundary = state; held = held; retired = suc self.old.retired }) }
+        ensures budget { self.new.budget ≡ self.old.budget }
+        ensures thread { self.new.thread ≡ self.old.thread }
+        ensures steps { self.new.steps ≡ self.old.steps }
+    {
+        self.boundary = state;
+        self.held = held;
+        self.retired += 1;
+    }
+
+    // It ends by a fault, which retires nothing and leaves the boundary.
+    #[inline(never)]
+    fn fail(&mut self, exception: Exception)
+        ensures stands { (pages : Pages) (before : model.Mode) → StandsFor pages self.new (record (in_mode self.old before) { mode = model.Ended (ends.Raised exception) }) }
+        ensures budget { self.new.budget ≡ self.old.budget }
+        ensures thread { self.new.thread ≡ self.old.thread }
+        ensures steps { self.new.steps ≡ self.old.steps }
+    {
+        self.mode = Mode::Ended(End::Raised(exception));
+    }
+
     // It retires its instruction and ends.
+    #[inline(never)]
     fn retire_and_end(&mut self, state: VaxState, end: End)
         requires { self.old.retired < self.old.steps }
         ensures stands { (pages : Pages) (before : model.Mode) → StandsFor pages self.new (record (in_mode self.old before) { mode = model.Ended end; boundary = state; retired = suc self.old.retired }) }
@@ -117,6 +171,25 @@ impl Processor {
         self.retired += 1;
     }
 
+    // It stands at a boundary, in the mode there.
+    #[inline(always)]
+    fn stand(&mut self, setting: Setting<'_>, state: &VaxState)
+        ensures mode { IsMode setting.entry.pages.now self.old.thread state.now self.new.mode (mode_at (setting_of setting.entry) self.old.thread state.now (registers_of state.now)) }
+        ensures same { (mode : model.Mode) → in_mode self.new mode ≡ in_mode self.old mode }
+        ensures thread { self.new.thread ≡ self.old.thread }
+        ensures retired { self.new.retired ≡ self.old.retired }
+        ensures steps { self.new.steps ≡ self.old.steps }
+        ensures budget { self.new.budget ≡ self.old.budget }
+    {
+        match goes_on(setting, self.thread, state) {
+            Some(pc) => self.mode.run(&Cpu {
+                r: registers_of(state),
+                pc,
+            }),
+            None => self.mode.interpret(setting, self.thread, state),
+        }
+    }
+
     /// Its instruction ended: it goes on, or it ends. A fault retires nothing and leaves the boundary.
     pub(crate) fn leave(&mut self, setting: Setting<'_>, last: Last)
         requires { self.old.retired < self.old.steps }
@@ -127,14 +200,14 @@ impl Processor {
     {
         match last {
             Last::Finish(state) => {
-                let mode = mode_at(setting, self.thread, &state);
-                self.arrive(mode, state, Flags::ALL);
+                self.stand(setting, &state);
+                self.pass(state, Flags::ALL);
             }
             Last::Exit(state) => self.retire_and_end(state, End::Exit(state.register(0))),
             Last::Trap(kind, state) => {
                 self.retire_and_end(state, End::Raised(Exception::Arithmetic(kind)));
             }
-            Last::Fault(exception) => self.mode = Mode::Ended(End::Raised(exception)),
+            Last::Fault(exception) => self.fail(exception),
         }
     }
 

@@ -1,19 +1,18 @@
 // What a thread does at a state, interpreted a reference at a time.
-ghost use Rattle.std.specs.Prelude.{◌≡◌, [], true, false};
-ghost use Rattle.vax_decode.specs.Decoded.{found_of};
-ghost use Rattle.tie_interpreter.specs.Found.{IsShort};
+ghost use Rattle.std.specs.Prelude.{◌≡◌, []};
 ghost use Rattle.tie_strings.specs.Whole.{IsLong};
 ghost use Rattle.tie_switch.specs.Interpreted.{raised_last};
+ghost use Rattle.tie_switch.specs.Known.{AreFound};
+ghost use Rattle.vax_form.specs.GrammarFound.{found};
 ghost use Rattle.vax_form.specs.declared.state.Pending.TheVariants.{Nothing};
 
 use crate::arrive::settled;
 use crate::pending::PendingTie;
 use crate::place::Last;
-use tie_interpreter::Tie;
+use crate::played::Played;
 use tie_operands::TieStep;
 use tie_strings::LongTie;
-use vax_decode::{Decoded, decode_at};
-use vax_form::{Exception, Pages, Pending, Reference, VaxState, is_long};
+use vax_form::{Exception, Instr, Pages, Pending, Reference, VaxState};
 
 /// What a step comes to.
 #[derive(Clone, Copy)]
@@ -43,7 +42,8 @@ impl Step {
 
     /// The step of an instruction whose exceptions the handler takes, by the instruction's own. What is raised carries
     /// the state whose handler takes it.
-    fn handled(step: TieStep) -> Step
+    #[inline(always)]
+    pub(crate) fn handled(step: TieStep) -> Step
         ensures answers { (before : VaxState) (answer : Answer) → step ≡ ties.step_of (outcome before answer) → FailsByFault answer
             → result ≡ step_of (handled_answer before answer) }
         ensures wants { IfWants result (IsWant step) }
@@ -62,7 +62,8 @@ impl Step {
 /// An instruction whose exceptions the thread's handler takes, or what is pending.
 #[derive(Clone, Copy, Debug)]
 pub enum Interpreted {
-    Short(Tie),
+    /// An instruction without strings, or one that is not begun.
+    Plays(Played),
     Long(LongTie),
     /// A delivery or a resumption.
     Awaits(PendingTie),
@@ -77,26 +78,32 @@ impl Interpreted {
     ghost use Rattle.tie_operands.specs.Replies.{list_of};
     ghost use Rattle.tie_switch.specs.Interpreted.{step_of, Stands, IfWants};
 
-    /// Begins the instruction at the PC, or what stands there where there is none.
-    fn at_pc(state: &VaxState, pages: &Pages, thread: u8) -> Interpreted
-        requires nothing { state.now.pending ≡ Nothing }
-        ensures { Stands pages.now thread result state.now [] }
+    /// Begins what the thread does at a state.
+    #[inline(never)]
+    pub fn begin(state: &VaxState, _pages: &Pages, thread: u8) -> Interpreted
+        ensures { Stands _pages.now thread result state.now [] }
     {
-        let decoded = decode_at(pages, state.pc);
-        if is_long_found(&decoded) {
-            Interpreted::Long(LongTie::begin_decoded(state, &decoded, thread))
-        } else {
-            Interpreted::Short(Tie::begin_decoded(state, &decoded, thread))
+        match state.pending {
+            Pending::Nothing => Interpreted::Plays(Played::begin(state, thread)),
+            Pending::Deliver(_) | Pending::Resume => Interpreted::Awaits(PendingTie::begin(state)),
         }
     }
 
-    /// Begins what the thread does at a state.
-    pub fn begin(state: &VaxState, pages: &Pages, thread: u8) -> Interpreted
-        ensures { Stands pages.now thread result state.now [] }
+    /// Begins what the thread does at a state, in place.
+    #[inline(always)]
+    pub fn begin_anew(&mut self, state: &VaxState, pages: &Pages, thread: u8)
+        ensures { Stands pages.now thread self.new state.now [] }
     {
         match state.pending {
-            Pending::Nothing => Interpreted::at_pc(state, pages, thread),
-            Pending::Deliver(_) | Pending::Resume => Interpreted::Awaits(PendingTie::begin(state)),
+            Pending::Nothing => match self {
+                Interpreted::Plays(played) => played.begin_anew(state, thread),
+                Interpreted::Long(_) | Interpreted::Awaits(_) => {
+                    *self = Interpreted::begin(state, pages, thread);
+                }
+            },
+            Pending::Deliver(_) | Pending::Resume => {
+                *self = Interpreted::begin(state, pages, thread);
+            }
         }
     }
 
@@ -107,21 +114,53 @@ impl Interpreted {
         ensures stands { (thread : ℕ) (state : VaxState) (replies : List ℕ) → Stands pages.now thread self.old state replies
             → IfWants result (Stands pages.now thread self.new state (replies ++ list_of reply)) }
     {
+        self.step_by(pages, &mut [], reply)
+    }
+
+    // Begins an instruction with strings, and goes on to its first reference or to the end.
+    #[inline(never)]
+    fn begin_strings(
+        &mut self,
+        before: &VaxState,
+        pages: &Pages,
+        thread: u8,
+        reply: Option<u64>,
+    ) -> Step
+        requires long { IsLong (found pages.now before.now.pc) }
+        ensures answers { before.now.pending ≡ Nothing → result ≡ step_of (answer pages.now (moment_at pages.now thread before.now) (list_of reply)) }
+        ensures stands { before.now.pending ≡ Nothing → IfWants result (Stands pages.now thread self.new before.now (list_of reply)) }
+    {
+        let mut tie = LongTie::begin(before, pages, thread);
+        let step = Step::handled(tie.step(pages, reply));
+        *self = Interpreted::Long(tie);
+        step
+    }
+
+    /// The same, by the instructions that are known.
+    #[inline(always)]
+    pub fn step_by(
+        &mut self,
+        pages: &Pages,
+        known: &mut [Option<Instr>],
+        reply: Option<u64>,
+    ) -> Step
+        requires known { AreFound pages.now known.old }
+        ensures known { AreFound pages.now known.new }
+        ensures answers { (thread : ℕ) (state : VaxState) (replies : List ℕ) → Stands pages.now thread self.old state replies
+            → result ≡ step_of (answer pages.now (moment_at pages.now thread state) (replies ++ list_of reply)) }
+        ensures stands { (thread : ℕ) (state : VaxState) (replies : List ℕ) → Stands pages.now thread self.old state replies
+            → IfWants result (Stands pages.now thread self.new state (replies ++ list_of reply)) }
+    {
         match self {
-            Interpreted::Short(tie) => Step::handled(tie.step(pages, reply)),
+            Interpreted::Plays(played) => match played.step(pages, known, reply) {
+                Some(step) => step,
+                None => {
+                    let (before, thread) = (played.before, played.thread);
+                    self.begin_strings(&before, pages, thread, reply)
+                }
+            },
             Interpreted::Long(tie) => Step::handled(tie.step(pages, reply)),
             Interpreted::Awaits(tie) => tie.step(pages, reply),
         }
-    }
-}
-
-/// Whether a long instruction was decoded.
-fn is_long_found(decoded: &Decoded) -> bool
-    ensures long { result ≡ true → IsLong (found_of decoded.now) }
-    ensures short { result ≡ false → IsShort (found_of decoded.now) }
-{
-    match decoded {
-        Decoded::Instr(instr) => is_long(instr.opcode),
-        Decoded::Reserved | Decoded::BadMode | Decoded::Past(_) => false,
     }
 }

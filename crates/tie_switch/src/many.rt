@@ -6,22 +6,29 @@ ghost use Rattle.system_model.specs.Processors as model;
 ghost use Rattle.system_model.specs.Processors.{Runs, mode_of};
 ghost use Rattle.tie_switch.specs.Courses.{Begins, HasOpcode, course_of};
 ghost use Rattle.tie_switch.specs.Inside.{goes_on_locally, is_local, went};
+ghost use Rattle.tie_switch.specs.Known.{AreFound};
 ghost use Rattle.tie_switch.specs.ManyTurns.{IsBehind, MayCome};
 ghost use Rattle.tie_switch.specs.Processors.{HasAdvanced, HasGone, HasSteps, IsPlain};
+ghost use Rattle.tie_switch.specs.Seen.{setting_of};
 ghost use Rattle.tie_switch.specs.Settings.{image_setting};
 ghost use Rattle.tie_switch.specs.Turns.{has_ended};
 ghost use Rattle.vax_form.specs.declared.state.Pending.TheVariants.{Nothing};
 
 use crate::course::Course;
+use crate::known::KNOWN;
 use crate::processor::{Mode, Processor};
 use crate::registers::registers_of;
+use crate::setting::Setting;
 use crate::turn::Turn;
 use alpha_machine::Cpu;
 use image_file::Image;
 use memory_core::Memory;
 use prepared_code::Prepared;
 use system_model::{Range, Translation, word_for};
-use vax_form::Pending;
+use vax_form::{Instr, Pending};
+
+/// Where fewer turns are asked for, no instructions are known.
+const MANY_TURNS: u64 = 1_000;
 
 impl Processor {
     ghost use Rattle.tie_switch.specs.Processors.{processor_of, StandsFor};
@@ -163,11 +170,83 @@ impl Processor {
         ensures turned { (p : model.Processor) → StandsFor image.now.pages self.old p
             → HasAdvanced (image_setting image.now.pages translation.now ranges.now) (M.set_up memory.old) (MayCome M.same M.between memory.old) self.old.budget p result self.new (M.seen memory.old) (M.seen memory.new) }
     {
-        let mut made = self.run_local(prepared, ranges, most);
+        let setting = Setting {
+            pages: &image.pages,
+            code: translation,
+            ranges,
+        };
+        if most < MANY_TURNS {
+            self.advance_by(setting, prepared, &mut [], memory, most)
+        } else {
+            self.advance_knowing(setting, prepared, memory, most)
+        }
+    }
+
+    // The same, where what was decoded is known then.
+    fn advance_knowing<M: Memory>(
+        &mut self,
+        setting: Setting<'_>,
+        prepared: &Prepared<'_>,
+        memory: &mut M,
+        most: u64,
+    ) -> u64
+        requires few { length setting.code.now.words ≤ most_words }
+        requires code { prepared.now.code ≡ setting.code.now }
+        requires image { prepared.now.pages ≡ setting.pages.now }
+        requires pages { (M.set_up memory.old).image.pages ≡ setting.pages.now }
+        requires serves { M.serves memory.old self.old.thread }
+        requires has_steps { HasSteps (setting_of setting) (M.set_up memory.old) (MayCome M.same M.between memory.old) most self.old (M.seen memory.old) }
+        ensures some { 0 < most → 0 < result }
+        ensures most { result ≤ most }
+        ensures all { result < most → has_ended (processor_of self.new).mode ≡ true }
+        ensures set_up { M.set_up memory.new ≡ M.set_up memory.old }
+        ensures place { IsBehind M.same memory.old memory.new }
+        ensures serves { (thread : ℕ) → M.serves memory.old thread ↔ M.serves memory.new thread }
+        ensures budget { self.new.budget ≡ self.old.budget }
+        ensures thread { self.new.thread ≡ self.old.thread }
+        ensures steps { has_ended (processor_of self.new).mode ≡ false → self.new.steps ≡ self.old.steps + result }
+        ensures few_steps { self.new.steps ≤ self.new.budget }
+        ensures turned { (p : model.Processor) → StandsFor setting.entry.pages.now self.old p
+            → HasAdvanced (setting_of setting.entry) (M.set_up memory.old) (MayCome M.same M.between memory.old) self.old.budget p result self.new (M.seen memory.old) (M.seen memory.new) }
+    {
+        let mut known = [None; KNOWN];
+        self.advance_by(setting, prepared, &mut known, memory, most)
+    }
+
+    // The same, by the instructions that are known.
+    fn advance_by<M: Memory>(
+        &mut self,
+        setting: Setting<'_>,
+        prepared: &Prepared<'_>,
+        known: &mut [Option<Instr>],
+        memory: &mut M,
+        most: u64,
+    ) -> u64
+        requires known { AreFound setting.pages.now known.old }
+        requires few { length setting.code.now.words ≤ most_words }
+        requires code { prepared.now.code ≡ setting.code.now }
+        requires image { prepared.now.pages ≡ setting.pages.now }
+        requires pages { (M.set_up memory.old).image.pages ≡ setting.pages.now }
+        requires serves { M.serves memory.old self.old.thread }
+        requires has_steps { HasSteps (setting_of setting) (M.set_up memory.old) (MayCome M.same M.between memory.old) most self.old (M.seen memory.old) }
+        ensures some { 0 < most → 0 < result }
+        ensures most { result ≤ most }
+        ensures all { result < most → has_ended (processor_of self.new).mode ≡ true }
+        ensures set_up { M.set_up memory.new ≡ M.set_up memory.old }
+        ensures place { IsBehind M.same memory.old memory.new }
+        ensures serves { (thread : ℕ) → M.serves memory.old thread ↔ M.serves memory.new thread }
+        ensures budget { self.new.budget ≡ self.old.budget }
+        ensures thread { self.new.thread ≡ self.old.thread }
+        ensures steps { has_ended (processor_of self.new).mode ≡ false → self.new.steps ≡ self.old.steps + result }
+        ensures few_steps { self.new.steps ≤ self.new.budget }
+        ensures turned { (p : model.Processor) → StandsFor setting.entry.pages.now self.old p
+            → HasAdvanced (setting_of setting.entry) (M.set_up memory.old) (MayCome M.same M.between memory.old) self.old.budget p result self.new (M.seen memory.old) (M.seen memory.new) }
+    {
+        let mut made = self.run_local(prepared, setting.ranges, most);
         while made < most {
             made += 1;
-            match self.turn_prepared(image, translation, prepared, ranges, memory) {
-                Turn::Went => made += self.run_local(prepared, ranges, most - made),
+            match self.turn_by(setting, prepared, known, memory) {
+                Turn::Went => made += self.run_local(prepared, setting.ranges, most - made),
                 Turn::Ended => return made,
             }
         }

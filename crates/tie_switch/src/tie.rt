@@ -3,6 +3,7 @@ ghost use Rattle.std.specs.Prelude.{◌≡◌, ◌≤◌, ◌<◌, ◌+◌, ◌+
 ghost use Rattle.system_model.specs.Processors.{Interprets, tied, turn_in};
 ghost use Rattle.system_model.specs.Processors as model;
 ghost use Rattle.tie_switch.specs.Interpreted.{IfWants, step_of};
+ghost use Rattle.tie_switch.specs.Known.{AreFound};
 ghost use Rattle.tie_switch.specs.Processors.{CanInterpret, HasMade, IsGiven, IsInterpreting, IsMode};
 ghost use Rattle.tie_switch.specs.Seen.{setting_of};
 ghost use Rattle.tie_switch.specs.Turns.{has_ended};
@@ -16,13 +17,17 @@ use crate::processor::{Mode, Processor};
 use crate::reference::reply_found;
 use crate::setting::Setting;
 use memory_core::{Memory, Reply};
+use vax_form::Instr;
 
 impl Processor {
     ghost use Rattle.tie_switch.specs.Processors.{in_mode, processor_of, StandsFor};
 
     // Goes on in what is interpreted, to its next reference or its end.
-    fn interpret(&mut self, pages: &vax_form::Pages) -> Step
+    #[inline(always)]
+    fn interpret(&mut self, pages: &vax_form::Pages, known: &mut [Option<Instr>]) -> Step
+        requires known { AreFound pages.now known.old }
         requires interprets { IsInterpreting self.old.mode }
+        ensures known { AreFound pages.now known.new }
         ensures answers { (state : VaxState) (replies : List ℕ) → IsMode pages.now self.old.thread self.old.boundary self.old.mode (Interprets state replies)
             → result ≡ step_of (answer pages.now (moment_at pages.now self.old.thread state) replies) }
         ensures stands { (state : VaxState) (replies : List ℕ) → IsMode pages.now self.old.thread self.old.boundary self.old.mode (Interprets state replies)
@@ -34,7 +39,7 @@ impl Processor {
         ensures budget { self.new.budget ≡ self.old.budget }
     {
         match &mut self.mode {
-            Mode::Interprets(interpreted, reply) => interpreted.step(pages, reply.take()),
+            Mode::Interprets(interpreted, reply) => interpreted.step_by(pages, known, reply.take()),
             Mode::New | Mode::Runs(_) | Mode::Ended(_) => unreachable!(),
         }
     }
@@ -72,12 +77,19 @@ impl Processor {
     }
 
     /// Makes one interpreted step, with at most one access.
-    pub(crate) fn tie_step<M: Memory>(&mut self, setting: Setting<'_>, memory: &mut M)
+    pub(crate) fn tie_step<M: Memory>(
+        &mut self,
+        setting: Setting<'_>,
+        known: &mut [Option<Instr>],
+        memory: &mut M,
+    )
+        requires known { AreFound setting.pages.now known.old }
         requires interprets { IsInterpreting self.old.mode }
         requires pages { (M.set_up memory.old).image.pages ≡ setting.pages.now }
         requires serves { M.serves memory.old self.old.thread }
         requires steps { self.old.steps < self.old.budget }
         requires can { CanInterpret setting.pages.now (M.set_up memory.old) self.old }
+        ensures known { AreFound setting.entry.pages.now known.new }
         ensures set_up { M.set_up memory.new ≡ M.set_up memory.old }
         ensures place { (memory.new ≡ memory.old) ⊎ M.same memory.old memory.new }
         ensures serves { (thread : ℕ) → M.serves memory.old thread ↔ M.serves memory.new thread }
@@ -88,7 +100,7 @@ impl Processor {
             → HasMade (setting_of setting.entry) (M.set_up memory.old) (M.between memory.old) (turn_in (setting_of setting.entry) (in_mode self.old before) (Interprets state replies))
             (in_mode self.old before) self.new (M.seen memory.old) (M.seen memory.new) }
     {
-        match self.interpret(setting.pages) {
+        match self.interpret(setting.pages, known) {
             Step::Wants(reference) => {
                 let request = self.reference_request(&reference);
                 match memory.access(&request) {

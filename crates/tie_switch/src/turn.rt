@@ -7,6 +7,7 @@ ghost use Rattle.system_model.specs.Processors as model;
 ghost use Rattle.system_model.specs.Steps.{Stuck, next};
 ghost use Rattle.tie_switch.specs.Processors.{HasMade, HasStep, HasTurned, IsMode, IsStarted};
 ghost use Rattle.tie_switch.specs.Accesses.{Fits, IsFetched};
+ghost use Rattle.tie_switch.specs.Known.{AreFound};
 ghost use Rattle.tie_switch.specs.Seen.{place_behind, setting_of};
 ghost use Rattle.tie_switch.specs.Settings.{image_setting};
 ghost use Rattle.tie_switch.specs.Turns.{has_ended};
@@ -21,6 +22,7 @@ use image_file::Image;
 use memory_core::{Memory, Reply};
 use prepared_code::Prepared;
 use system_model::{Range, Translation};
+use vax_form::Instr;
 
 /// Whether a processor has ended.
 #[derive(Clone, Copy, Debug, PartialEq, Eq)]
@@ -32,8 +34,9 @@ pub enum Turn {
 impl Processor {
     ghost use Rattle.tie_switch.specs.Processors.{in_mode, processor_of, StandsFor};
 
-    // At its first turn it stands at its first boundary.
-    fn start(&mut self, setting: Setting<'_>)
+    // A new processor stands at its first boundary.
+    #[inline(never)]
+    fn start_new(&mut self, setting: Setting<'_>)
         ensures starts { (mode : model.Mode) → IsMode setting.entry.pages.now self.old.thread self.old.boundary self.old.mode mode
             → IsMode setting.entry.pages.now self.old.thread self.old.boundary self.new.mode (mode_of (setting_of setting.entry) (in_mode self.old mode) mode) }
         ensures started { IsStarted self.new.mode }
@@ -44,6 +47,22 @@ impl Processor {
     {
         if let Mode::New = self.mode {
             self.mode = mode_at(setting, self.thread, &self.boundary);
+        }
+    }
+
+    // At its first turn it stands at its first boundary.
+    #[inline(always)]
+    fn start(&mut self, setting: Setting<'_>)
+        ensures starts { (mode : model.Mode) → IsMode setting.entry.pages.now self.old.thread self.old.boundary self.old.mode mode
+            → IsMode setting.entry.pages.now self.old.thread self.old.boundary self.new.mode (mode_of (setting_of setting.entry) (in_mode self.old mode) mode) }
+        ensures started { IsStarted self.new.mode }
+        ensures same { (mode : model.Mode) → in_mode self.new mode ≡ in_mode self.old mode }
+        ensures thread { self.new.thread ≡ self.old.thread }
+        ensures steps { self.new.steps ≡ self.old.steps }
+        ensures budget { self.new.budget ≡ self.old.budget }
+    {
+        if let Mode::New = self.mode {
+            self.start_new(setting);
         }
     }
 
@@ -105,13 +124,20 @@ impl Processor {
     }
 
     // Makes the step that it has.
-    fn make_step<M: Memory>(&mut self, setting: Setting<'_>, memory: &mut M)
+    fn make_step<M: Memory>(
+        &mut self,
+        setting: Setting<'_>,
+        known: &mut [Option<Instr>],
+        memory: &mut M,
+    )
+        requires known { AreFound setting.pages.now known.old }
         requires few { length setting.code.now.words ≤ most_words }
         requires pages { (M.set_up memory.old).image.pages ≡ setting.pages.now }
         requires serves { M.serves memory.old self.old.thread }
         requires steps { self.old.steps < self.old.budget }
         requires going { has_ended (processor_of self.old).mode ≡ false }
         requires has_step { HasStep (setting_of setting) (M.set_up memory.old) self.old }
+        ensures known { AreFound setting.entry.pages.now known.new }
         ensures set_up { M.set_up memory.new ≡ M.set_up memory.old }
         ensures place { (memory.new ≡ memory.old) ⊎ M.same memory.old memory.new }
         ensures serves { (thread : ℕ) → M.serves memory.old thread ↔ M.serves memory.new thread }
@@ -124,17 +150,24 @@ impl Processor {
         self.start(setting);
         match self.mode {
             Mode::Runs(cpu) => self.alpha_step(setting, cpu, memory),
-            Mode::Interprets(..) => self.tie_step(setting, memory),
+            Mode::Interprets(..) => self.tie_step(setting, known, memory),
             Mode::New | Mode::Ended(_) => unreachable!(),
         }
     }
 
     // Takes its turn, if it has not ended.
-    fn take_turn<M: Memory>(&mut self, setting: Setting<'_>, memory: &mut M)
+    fn take_turn<M: Memory>(
+        &mut self,
+        setting: Setting<'_>,
+        known: &mut [Option<Instr>],
+        memory: &mut M,
+    )
+        requires known { AreFound setting.pages.now known.old }
         requires few { length setting.code.now.words ≤ most_words }
         requires pages { (M.set_up memory.old).image.pages ≡ setting.pages.now }
         requires serves { M.serves memory.old self.old.thread }
         requires has_step { HasStep (setting_of setting) (M.set_up memory.old) self.old }
+        ensures known { AreFound setting.entry.pages.now known.new }
         ensures set_up { M.set_up memory.new ≡ M.set_up memory.old }
         ensures place { (memory.new ≡ memory.old) ⊎ M.same memory.old memory.new }
         ensures serves { (thread : ℕ) → M.serves memory.old thread ↔ M.serves memory.new thread }
@@ -151,7 +184,7 @@ impl Processor {
             self.spend();
             return;
         }
-        self.make_step(setting, memory);
+        self.make_step(setting, known, memory);
     }
 
     // What its last turn was.
@@ -195,7 +228,7 @@ impl Processor {
             code: translation,
             ranges,
         };
-        self.take_turn(setting, memory);
+        self.take_turn(setting, &mut [], memory);
         self.turn_made()
     }
 
@@ -229,11 +262,42 @@ impl Processor {
             code: translation,
             ranges,
         };
+        self.turn_by(setting, prepared, &mut [], memory)
+    }
+
+    /// The same turn, by the instructions that are known.
+    #[inline(always)]
+    pub(crate) fn turn_by<M: Memory>(
+        &mut self,
+        setting: Setting<'_>,
+        prepared: &Prepared<'_>,
+        known: &mut [Option<Instr>],
+        memory: &mut M,
+    ) -> Turn
+        requires known { AreFound setting.pages.now known.old }
+        requires few { length setting.code.now.words ≤ most_words }
+        requires code { prepared.now.code ≡ setting.code.now }
+        requires pages { (M.set_up memory.old).image.pages ≡ setting.pages.now }
+        requires serves { M.serves memory.old self.old.thread }
+        requires has_step { HasStep (setting_of setting) (M.set_up memory.old) self.old }
+        ensures known { AreFound setting.entry.pages.now known.new }
+        ensures set_up { M.set_up memory.new ≡ M.set_up memory.old }
+        ensures place { (memory.new ≡ memory.old) ⊎ M.same memory.old memory.new }
+        ensures serves { (thread : ℕ) → M.serves memory.old thread ↔ M.serves memory.new thread }
+        ensures budget { self.new.budget ≡ self.old.budget }
+        ensures thread { self.new.thread ≡ self.old.thread }
+        ensures steps { result ≡ Turn.Went → self.new.steps ≡ self.old.steps + 1 }
+        ensures few_steps { self.new.steps ≤ self.new.budget }
+        ensures turned { (p : model.Processor) → StandsFor setting.entry.pages.now self.old p
+            → HasTurned (setting_of setting.entry) (M.set_up memory.old) (M.between memory.old) self.old.budget p self.new (M.seen memory.old) (M.seen memory.new) }
+        ensures ended { (result ≡ Turn.Ended) ↔ (has_ended (processor_of self.new).mode ≡ true) }
+    {
         if self.steps < self.budget {
             if let Some(turn) = self.access_inside(setting, prepared, memory) {
                 return turn;
             }
         }
-        self.turn(image, translation, ranges, memory)
+        self.take_turn(setting, known, memory);
+        self.turn_made()
     }
 }

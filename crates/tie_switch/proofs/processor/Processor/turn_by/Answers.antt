@@ -2,15 +2,13 @@
 use Rattle.std.proofs.Common.{◌≡◌, false, None, refl, sym, ap, ◌∙◌, subst, arith}
 use Rattle.std.specs.Prelude.{MatchBool}
 use Rattle.vt_words.proofs.Tests.{less_differs}
-use Rattle.image_file.specs.Values.{ImageValue}
 use Rattle.system_model.specs.Legal.{spent}
 use Rattle.system_model.specs.Processors.{Mode, New, Runs, Interprets, Ended, turn}
-use Rattle.vax_form.specs.declared.pages.Pages.{Pages}
-use Rattle.tie_switch.specs.Processors.{HasMade, ProcessorValue, StandsFor, end_of, processor_of}
-use Rattle.tie_switch.specs.Settings.{image_setting}
+use Rattle.tie_switch.specs.Processors.{ProcessorValue, end_of, processor_of}
+use Rattle.tie_switch.specs.Seen.{setting_of}
 use Rattle.tie_switch.specs.Turns.{IsStill, Makes, has_ended}
 use Rattle.tie_switch.proofs.Standing.{out_is}
-use Rattle.tie_switch.proofs.processor.Processor.turn_prepared.Goals as goal
+use Rattle.tie_switch.proofs.processor.Processor.turn_by.Goals as goal
 
 no_end : (m : Mode) → has_ended m ≡ false → end_of m ≡ None
 no_end New e = refl
@@ -20,18 +18,15 @@ no_end (Ended end) e = absurd (cc e)
 
 pub returns-in-Some-clause-turned : goal.returns-in-Some-clause-turned
 returns-in-Some-clause-turned g c p stands =
-    let pages = c.args.image.now.pages in
-    let code = c.args.translation.now in
-    let ranges = c.args.ranges.now in
+    let setting = setting_of c.args.setting in
+    let pages = c.args.setting.pages.now in
     let old = c.args.self.now in
     let new = c.access_inside.new.self in
     let set_up = g.M.Memory.set_up c.args.memory.now in
     let between = g.M.Memory.between c.args.memory.now in
     let seen = g.M.Memory.seen c.args.memory.now in
     let seen' = g.M.Memory.seen c.access_inside.new.memory in
-    let same : c.image.inside.pages ≡ pages = ap (λ (i : ImageValue). i.pages) c.image.view_is in
-    let made =
-    subst (λ (x : Pages). StandsFor x old p → HasMade (image_setting x code ranges) set_up between (turn (image_setting x code ranges) p) p new seen seen') same (λ s. c.in-Some.ensures.turned p s) stands in
+    let made = c.in-Some.ensures.turned p stands in
     let none : end_of (processor_of old).mode ≡ None = no_end (processor_of old).mode c.in-Some.ensures.going in
     let steps : c.self.inside.steps ≡ old.steps = ap (λ (k : ProcessorValue). k.steps) c.self.view_is in
     let budget : c.self.inside.budget ≡ old.budget = ap (λ (k : ProcessorValue). k.budget) c.self.view_is in
@@ -40,6 +35,6 @@ returns-in-Some-clause-turned g c p stands =
       processor = made.processor;
       stands = made.stands;
       turned =
-          subst (λ b. MatchBool b (IsStill (spent p) made.processor seen seen') (Makes (turn (image_setting pages code ranges) p) set_up between p made.processor seen seen')) (sym out)
+          subst (λ b. MatchBool b (IsStill (spent p) made.processor seen seen') (Makes (turn setting p) set_up between p made.processor seen seen')) (sym out)
           made.makes;
     }

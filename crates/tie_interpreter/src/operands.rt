@@ -1,0 +1,71 @@
+// The operands of an instruction that is gone through. Places that are not used are passed over.
+ghost use Rattle.std.specs.Prelude.{◌≡◌};
+ghost use Rattle.vax_meaning.specs.Evaluation.{evaluate, nothings, operands_from};
+ghost use Rattle.vax_meaning.specs.Instructions.{operation_script};
+ghost use Rattle.vax_meaning.specs.Play.{Plays, Uses};
+
+use vax_form::{Access, End, Instr, Operand, Operation, Row, Size, Stop};
+use vax_meaning::{Cursor, Evaluated, NOTHING, body, evaluated_row, find, obtain};
+
+/// Evaluates an operand that is used.
+fn used(
+    cursor: &mut Cursor,
+    access: Access,
+    size: Size,
+    operand: Operand,
+) -> Result<Evaluated, Stop>
+    ensures plays { Plays (evaluate access size operand) cursor.old result cursor.new }
+    ensures few { Uses 4 cursor.old result cursor.new }
+{
+    let location = find(cursor, access, size, operand)?;
+    obtain(cursor, access, size, operand, location)
+}
+
+/// Evaluates the operand of a place.
+#[inline(always)]
+#[tactic(auto, unfolding(vax_meaning::specs::Evaluation::find, vax_meaning::specs::Evaluation::obtain, vax_meaning::specs::Evaluation::read_found, vax_meaning::specs::Operands::locate))]
+fn evaluated(
+    cursor: &mut Cursor,
+    access: Access,
+    size: Size,
+    operand: Operand,
+) -> Result<Evaluated, Stop>
+    ensures plays { Plays (evaluate access size operand) cursor.old result cursor.new }
+    ensures few { Uses 4 cursor.old result cursor.new }
+{
+    match (access, operand) {
+        (Access::Read, Operand::Unused) => Ok(NOTHING),
+        _ => used(cursor, access, size, operand),
+    }
+}
+
+/// Evaluates the operands from left to right.
+#[tactic(auto, unfolding(vax_meaning::specs::Evaluation::operands_from))]
+fn operands(cursor: &mut Cursor, row: &Row, instr: &Instr) -> Result<[Evaluated; 6], Stop>
+    ensures plays { Plays (operands_from 6 row.now instr.now nothings) cursor.old result cursor.new }
+    ensures few { Uses 24 cursor.old result cursor.new }
+{
+    let v0 = evaluated(cursor, row.access[0], row.size[0], instr.operands[0])?;
+    let v1 = evaluated(cursor, row.access[1], row.size[1], instr.operands[1])?;
+    let v2 = evaluated(cursor, row.access[2], row.size[2], instr.operands[2])?;
+    let v3 = evaluated(cursor, row.access[3], row.size[3], instr.operands[3])?;
+    let v4 = evaluated(cursor, row.access[4], row.size[4], instr.operands[4])?;
+    let v5 = evaluated(cursor, row.access[5], row.size[5], instr.operands[5])?;
+    Ok([v0, v1, v2, v3, v4, v5])
+}
+
+/// Goes through an instruction.
+#[tactic(auto, unfolding(vax_meaning::specs::Instructions::operation_script))]
+pub(crate) fn run_instr(
+    cursor: &mut Cursor,
+    operation: Operation,
+    instr: &Instr,
+    thread: u8,
+) -> Result<End, Stop>
+    ensures plays { Plays (operation_script operation instr.now thread) cursor.old result cursor.new }
+    ensures few { Uses 28 cursor.old result cursor.new }
+{
+    let row = evaluated_row(operation);
+    let values = operands(cursor, &row, instr)?;
+    body(cursor, operation, instr, thread, &values)
+}

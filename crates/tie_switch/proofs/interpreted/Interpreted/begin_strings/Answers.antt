@@ -1,0 +1,22 @@
+-- An instruction with strings steps as its tree says, and the handler takes its exceptions.
+use Rattle.std.proofs.Common.{[], ◌∙◌}
+use Rattle.vax_form.specs.Tree.{answer}
+use Rattle.vax_long.specs.Instructions.{tree_at}
+use Rattle.tie_operands.specs.Replies.{list_of}
+use Rattle.tie_switch.proofs.Handled.{moment_step, if_wants}
+use Rattle.tie_switch.proofs.interpreted.Interpreted.begin_strings.Goals as goal
+
+pub returns-clause-answers : goal.returns-clause-answers
+returns-clause-answers c = λ nothing.
+    let pages = c.args.pages.now in
+    let before = c.args.before.now in
+    let tree = tree_at pages c.args.thread before in
+    let given = list_of c.args.reply in
+    c.handled-step.ensures.answers before (answer pages tree given) (c.step.ensures.answers before tree [] c.begin-tie.ensures) (c.step.ensures.faults before tree [] c.begin-tie.ensures)
+    ∙ moment_step pages c.args.thread before given nothing
+
+pub returns-clause-stands : goal.returns-clause-stands
+returns-clause-stands c = λ nothing.
+    let before = c.args.before.now in
+    let tree = tree_at c.args.pages.now c.args.thread before in
+    if_wants c.handled-step.result c.step.result c.handled-step.ensures.wants (λ left. (nothing, left)) (c.step.ensures.stands before tree [] c.begin-tie.ensures)

@@ -1,0 +1,179 @@
+// An instruction without strings, gone through anew with each reply.
+ghost use Rattle.std.specs.Prelude.{◌≡◌, ◌<◌, ◌++◌, ◌∷◌, ℕ, List, [], length, IfSome, IfNone};
+ghost use Rattle.tie_operands.specs.Replies.{list_of};
+ghost use Rattle.tie_switch.specs.Interpreted.{ComesTo, HasStrings, IfWants, IsPlayed, kept_of, step_of};
+ghost use Rattle.tie_switch.specs.Known.{AreFound};
+ghost use Rattle.vax_form.specs.Grammar.{instruction};
+ghost use Rattle.vax_form.specs.GrammarFound.{found};
+ghost use Rattle.vax_form.specs.Tree.{answer};
+ghost use Rattle.vax_form.specs.declared.state.VaxState.{VaxState};
+ghost use Rattle.vax_long.specs.Pending.{moment_at};
+
+use crate::interpreted::Step;
+use crate::known::{decoded_at, place_of};
+use tie_interpreter::{played_instr, played_short};
+use tie_operands::TieStep;
+use tie_strings::{plain_of, played_long};
+use vax_decode::Decoded;
+use vax_form::{Instr, Pages, VaxState};
+use vax_long::long_operation_of;
+
+/// An instruction without strings makes so many references at most.
+const REPLIES_OF_INSTRUCTION: usize = 60;
+
+/// An instruction with the state before it and the replies so far, of which there are `count`. One with strings has none.
+#[derive(Clone, Copy, Debug)]
+pub struct Played {
+    pub(crate) before: VaxState,
+    pub(crate) thread: u8,
+    pub(crate) count: usize,
+    pub(crate) values: [u64; REPLIES_OF_INSTRUCTION + 1],
+}
+
+impl Played {
+    /// Begins what stands at the PC.
+    pub(crate) fn begin(state: &VaxState, thread: u8) -> Played
+        ensures before { result.before ≡ state.now }
+        ensures thread { result.thread ≡ thread }
+        ensures kept { kept_of result ≡ [] }
+    {
+        Played {
+            before: *state,
+            thread,
+            count: 0,
+            values: [0; REPLIES_OF_INSTRUCTION + 1],
+        }
+    }
+
+    /// The same in place.
+    #[inline(always)]
+    pub(crate) fn begin_anew(&mut self, state: &VaxState, thread: u8)
+        ensures before { self.new.before ≡ state.now }
+        ensures thread { self.new.thread ≡ thread }
+        ensures kept { kept_of self.new ≡ [] }
+    {
+        self.before = *state;
+        self.thread = thread;
+        self.count = 0;
+    }
+
+    // Keeps a reply, where there is room.
+    #[inline(always)]
+    fn push(&mut self, reply: u64)
+        ensures before { self.new.before ≡ self.old.before }
+        ensures thread { self.new.thread ≡ self.old.thread }
+        ensures kept { length (kept_of self.old) < 61 → kept_of self.new ≡ kept_of self.old ++ reply ∷ [] }
+    {
+        if self.count < self.values.len() {
+            self.values[self.count] = reply;
+            self.count += 1;
+        }
+    }
+
+    // Takes the reply to the last reference, where there is one.
+    #[inline(always)]
+    fn take(&mut self, reply: Option<u64>)
+        ensures before { self.new.before ≡ self.old.before }
+        ensures thread { self.new.thread ≡ self.old.thread }
+        ensures kept { length (kept_of self.old) < 60 → kept_of self.new ≡ kept_of self.old ++ list_of reply }
+    {
+        if let Some(reply) = reply {
+            self.push(reply);
+        }
+    }
+
+    // The replies so far.
+    #[inline(always)]
+    fn replies(&self) -> &[u64]
+        ensures { length (kept_of self.now) < 61 → result.now ≡ kept_of self.now }
+    {
+        match self.values.get(..self.count) {
+            Some(replies) => replies,
+            None => &[],
+        }
+    }
+
+    // Goes through an instruction; None where it has strings.
+    #[inline(always)]
+    fn go_through(&self, instr: &Instr, pages: &Pages, replies: &[u64]) -> Option<TieStep>
+        ensures comes { IfSome result (ComesTo pages.now self.now.thread self.now.before (instruction instr.now) replies.now) }
+        ensures strings { IfNone result (HasStrings (instruction instr.now)) }
+    {
+        match long_operation_of(instr.opcode) {
+            None => Some(played_instr(&self.before, instr, pages, self.thread, replies)),
+            Some(operation) => match plain_of(operation) {
+                Some(plain) => Some(played_long(&self.before, plain, instr, pages, replies)),
+                None => None,
+            },
+        }
+    }
+
+    // Goes through what stands at the PC, which is decoded and known then; None where it has strings.
+    #[inline(never)]
+    fn go_through_new(
+        &self,
+        pages: &Pages,
+        known: &mut [Option<Instr>],
+        replies: &[u64],
+    ) -> Option<TieStep>
+        requires known { AreFound pages.now known.old }
+        ensures known { AreFound pages.now known.new }
+        ensures comes { IfSome result (ComesTo pages.now self.now.thread self.now.before (found pages.now self.now.before.pc) replies.now) }
+        ensures strings { IfNone result (HasStrings (found pages.now self.now.before.pc)) }
+    {
+        let decoded = decoded_at(pages, known, self.before.pc);
+        match &decoded {
+            Decoded::Instr(instr) => self.go_through(instr, pages, replies),
+            Decoded::Reserved | Decoded::BadMode | Decoded::Past(_) => {
+                Some(played_short(&self.before, &decoded, pages, self.thread, replies))
+            }
+        }
+    }
+
+    // Goes through what stands at the PC, by what is known; None where it has strings.
+    #[inline(always)]
+    fn go_through_known(
+        &self,
+        pages: &Pages,
+        known: &mut [Option<Instr>],
+        replies: &[u64],
+    ) -> Option<TieStep>
+        requires known { AreFound pages.now known.old }
+        ensures known { AreFound pages.now known.new }
+        ensures comes { IfSome result (ComesTo pages.now self.now.thread self.now.before (found pages.now self.now.before.pc) replies.now) }
+        ensures strings { IfNone result (HasStrings (found pages.now self.now.before.pc)) }
+    {
+        let pc = self.before.pc;
+        if let Some(Some(instr)) = known.get(place_of(pc)) {
+            if instr.at == pc {
+                return self.go_through(instr, pages, replies);
+            }
+        }
+        self.go_through_new(pages, known, replies)
+    }
+
+    /// Goes on to the next reference or to the end; None where the instruction has strings.
+    #[inline(always)]
+    pub(crate) fn step(
+        &mut self,
+        pages: &Pages,
+        known: &mut [Option<Instr>],
+        reply: Option<u64>,
+    ) -> Option<Step>
+        requires known { AreFound pages.now known.old }
+        ensures known { AreFound pages.now known.new }
+        ensures before { self.new.before ≡ self.old.before }
+        ensures thread { self.new.thread ≡ self.old.thread }
+        ensures answers { IfSome result (λ step. (thread : ℕ) (state : VaxState) (replies : List ℕ) → IsPlayed pages.now thread self.old state replies
+            → step ≡ step_of (answer pages.now (moment_at pages.now thread state) (replies ++ list_of reply))) }
+        ensures stands { IfSome result (λ step. (thread : ℕ) (state : VaxState) (replies : List ℕ) → IsPlayed pages.now thread self.old state replies
+            → IfWants step (IsPlayed pages.now thread self.new state (replies ++ list_of reply))) }
+        ensures strings { IfNone result (HasStrings (found pages.now self.old.before.pc)) }
+    {
+        self.take(reply);
+        match self.go_through_known(pages, known, self.replies()) {
+            Some(step) => Some(Step::handled(step)),
+            None => None,
+        }
+    }
+}
