@@ -25,3 +25,4 @@ pub mod Testing
 pub mod Departures
 pub mod Beginning
 pub mod Promised
+pub mod Targets

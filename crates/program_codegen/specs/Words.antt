@@ -196,6 +196,10 @@ abbrev pub points_from : (word : ℕ) → List Line → List Entry
 points_from word [] = []
 points_from word (line ∷ lines) = with_entry line.point word (points_from (word + 1) lines)
 
+-- points without the words at which they stand
+abbrev pub points_alone : List Entry → List Point
+points_alone points = map (λ (entry : Entry). entry.1) points
+
 abbrev pub exits_from : (word : ℕ) → List Line → List (ℕ × ℕ)
 exits_from word [] = []
 exits_from word (line ∷ lines) = with_entry line.exit word (exits_from (word + 1) lines)

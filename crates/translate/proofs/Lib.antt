@@ -7,3 +7,4 @@ pub mod Placing
 pub mod Meeting
 pub mod Reached
 pub mod Alone
+pub mod Targets

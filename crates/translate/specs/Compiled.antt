@@ -43,7 +43,7 @@ use Rattle.exception_records.specs.Codes.{all_ready}
 use Rattle.program_codegen.specs.Programs.{KeepsTogether, is_narrow}
 use Rattle.micro_lower.specs.Lowering.{GoesTo}
 use Rattle.program_codegen.specs.Promises.{BeginsBy, HasRules}
-use Rattle.program_codegen.specs.Words.{program_block}
+use Rattle.program_codegen.specs.Words.{points_alone, program_block}
 use Rattle.flow_discovery.specs.Mapped.{Mapped}
 use Rattle.micro_lower.specs.Rows.{program_for}
 
@@ -166,3 +166,7 @@ IsFunction = (target : Target) (pages : Pages) (starts : List ℕ) (a b : Code) 
 -- which instructions are mapped, and so what codes they have along their runs, does not depend on the target
 abbrev pub AreMappedAlike : Type 0
 AreMappedAlike = (target other : Target) (pages : Pages) (starts : List ℕ) (a b : Code) (is : IsTranslation target pages starts a) (is' : IsTranslation other pages starts b) → is.instrs ≡ is'.instrs
+
+-- nor do their points, but for the words at which these stand
+abbrev pub HaveLikePoints : Type 0
+HaveLikePoints = (target other : Target) (pages : Pages) (starts : List ℕ) (a b : Code) → IsTranslation target pages starts a → IsTranslation other pages starts b → points_alone a.points ≡ points_alone b.points

@@ -1,5 +1,5 @@
 // What holds of translations.
-ghost use Rattle.translate.specs.Compiled.{AreAlwaysReady, AreMappedAlike, ArePages, IsFunction};
+ghost use Rattle.translate.specs.Compiled.{AreAlwaysReady, AreMappedAlike, ArePages, HaveLikePoints, IsFunction};
 
 use image_meaning::laws::page_table_has_bytes;
 use vax_form::Pages;
@@ -12,6 +12,11 @@ pub fn translation_law()
 /// An image and its starts have the same mapped instructions for every target, and so the same codes along runs.
 pub fn targets_law()
     ensures { AreMappedAlike }
+{}
+
+/// Nor do the points of a translation depend on the target, but for the words at which they stand.
+pub fn points_law()
+    ensures { HaveLikePoints }
 {}
 
 /// What `block` of program_codegen asks of sources and rules holds of every operation, and of the codes along every run of

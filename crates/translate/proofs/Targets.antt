@@ -1,0 +1,69 @@
+-- A translation's points are the same for every target, but for the words at which they stand.
+use Rattle.std.proofs.Common.{◌≡◌, ℕ, ◌+◌, refl, sym, ap, ◌∙◌, List, [], ◌∷◌, ◌++◌, length, map}
+use Rattle.std.specs.Prelude.{unwrap_or}
+use Rattle.std.specs.List.{range_with_len}
+use Rattle.vax_form.specs.declared.instr.Instr.{Instr}
+use Rattle.exception_records.specs.Points.{Entry}
+use Rattle.block_law.specs.Translations.{Code}
+use Rattle.branch_layout.specs.Layouts.{Placed, laid_points, layout, shifted}
+use Rattle.program_codegen.specs.Words.{points_alone}
+use Rattle.program_codegen.proofs.Targets.{block_points}
+use Rattle.code_runs.specs.Codes.{code_sources, codes_at}
+use Rattle.code_runs.specs.Runs.{instr_at}
+use Rattle.flag_codegen.specs.Words.{code_words}
+use Rattle.micro_lower.specs.Rows.{program_for}
+use Rattle.image_meaning.specs.declared.target.Target.{Target}
+use Rattle.translate.specs.Compiled.{HaveLikePoints, block_of, blocks_of, has_byte_word}
+use Rattle.translate.proofs.Alone.{same_mapped}
+
+-- ---- blocks one behind the other
+alone_both : (points more : List Entry) → points_alone (points ++ more) ≡ points_alone points ++ points_alone more
+alone_both [] more = refl
+alone_both (point ∷ points) more = ap (λ ps. point.1 ∷ ps) (alone_both points more)
+
+alone_shifted : (first : ℕ) (points : List Entry) → points_alone (shifted first points) ≡ points_alone points
+alone_shifted first [] = refl
+alone_shifted first (point ∷ points) = ap (λ ps. point.1 ∷ ps) (alone_shifted first points)
+
+laid_alone : (first : ℕ) (block : Placed) (blocks : List Placed)
+    → points_alone (laid_points first (block ∷ blocks)) ≡ points_alone block.1.points ++ points_alone (laid_points (first + length block.1.words) blocks)
+laid_alone first block blocks =
+    alone_both (shifted first block.1.points) (laid_points (first + length block.1.words) blocks)
+    ∙ ap (λ ps. ps ++ points_alone (laid_points (first + length block.1.words) blocks)) (alone_shifted first block.1.points)
+
+module _ (target other : Target) (instrs : List Instr) where
+  -- the blocks of the instructions at these places
+  abbrev blocks_at : Target → List ℕ → List Placed
+  blocks_at kind places = map (λ place. block_of kind (instr_at instrs place) (codes_at instrs place)) places
+
+  one_alike : (place : ℕ)
+      → points_alone (block_of target (instr_at instrs place) (codes_at instrs place)).1.points ≡ points_alone (block_of other (instr_at instrs place) (codes_at instrs place)).1.points
+  unfolding block_of
+  one_alike place =
+      let instr = instr_at instrs place in
+      let codes = codes_at instrs place in
+      block_points instr (code_sources instr) codes.before codes.behind (has_byte_word target) (has_byte_word other) (code_words (code_sources instr) codes.live) (unwrap_or (program_for instr) [])
+
+  laid_alike : (first first' : ℕ) (places : List ℕ)
+      → points_alone (laid_points first (blocks_at target places)) ≡ points_alone (laid_points first' (blocks_at other places))
+  laid_alike first first' [] = refl
+  laid_alike first first' (place ∷ places) =
+      let here = block_of target (instr_at instrs place) (codes_at instrs place) in
+      let there = block_of other (instr_at instrs place) (codes_at instrs place) in
+      let next = first + length here.1.words in
+      let next' = first' + length there.1.words in
+      laid_alone first here (blocks_at target places)
+      ∙ (ap (λ ps. ps ++ points_alone (laid_points next (blocks_at target places))) (one_alike place)
+      ∙ (ap (λ ps. points_alone there.1.points ++ ps) (laid_alike next next' places)
+      ∙ sym (laid_alone first' there (blocks_at other places))))
+
+  layout_alike : points_alone (layout (blocks_of target instrs)).points ≡ points_alone (layout (blocks_of other instrs)).points
+  unfolding layout
+  layout_alike = laid_alike 0 0 (range_with_len 0 (length instrs))
+
+pub have_like_points : HaveLikePoints
+have_like_points target other pages starts a b is is' =
+    ap (λ (code : Code). points_alone code.points) is.made.laid
+    ∙ (layout_alike target other is.instrs
+    ∙ (ap (λ (instrs : List Instr). points_alone (layout (blocks_of other instrs)).points) (same_mapped target other pages starts a b is is')
+    ∙ ap (λ (code : Code). points_alone code.points) (sym is'.made.laid)))
