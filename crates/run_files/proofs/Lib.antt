@@ -4,3 +4,5 @@ pub mod BothWays
 pub mod Prefixes
 pub mod WriteLaws
 pub mod Rows
+pub mod HintLaws
+pub mod HintRows

@@ -1,4 +1,5 @@
 pub mod Fits
+pub mod Hints
 pub mod Laws
 pub mod Limits
 pub mod Reading

@@ -1,16 +1,28 @@
--- The numbers of the format, in figures, and its limits.
+-- The numbers of the formats, in figures, and their limits.
 use Rattle.std.specs.Prelude.{ℕ}
 
 -- the bytes VXOR, the lowest first
 abbrev pub MAGIC : ℕ
 MAGIC = 0x524f5856
 
+-- the bytes VXHT
+abbrev pub HINT_MAGIC : ℕ
+HINT_MAGIC = 0x54485856
+
+-- of either format
 abbrev pub VERSION : ℕ
 VERSION = 1
 
--- the bytes of the header
+-- the bytes of an order file's header, and of a hint file's
 abbrev pub HEADER : ℕ
 HEADER = 20
+
+abbrev pub HINT_HEADER : ℕ
+HINT_HEADER = 12
+
+-- the bytes of an address
+abbrev pub HINT_BYTES : ℕ
+HINT_BYTES = 4
 
 -- the bytes of a thread's count and flag, and of a pick
 abbrev pub THREAD_BYTES : ℕ

@@ -11,8 +11,8 @@ mod refusal;
 mod writing;
 
 pub use comparing::compare;
-pub use limits::{MOST_PAIRS, MOST_WORDS, VERSION_1, VERSION_2, limits_are_as_stated};
+pub use limits::{MOST_HINTS, MOST_PAIRS, MOST_WORDS, VERSION_1, VERSION_2, limits_are_as_stated};
 pub use parts::Parts;
-pub use reading::read_parts;
+pub use reading::{first_fall, hints_of, read_parts};
 pub use refusal::{Numbers, TranslatedRefusal};
 pub use writing::write_translated;

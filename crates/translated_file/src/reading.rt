@@ -24,8 +24,8 @@ fn image_of(alloc: Global, bytes: &[u8]) -> Result<Image, TranslatedRefusal>
     }
 }
 
-/// The hints, which stand in front.
-fn hints_of(alloc: Global, count: u32, bytes: &[u8]) -> Result<Vec<u32>, AllocError>
+/// So many hints, which stand in front.
+pub fn hints_of(alloc: Global, count: u32, bytes: &[u8]) -> Result<Vec<u32>, AllocError>
     requires { WORD_BYTES * count ≤ length bytes.now }
     ensures { IfOk result (λ v. v.items ≡ table_in WORD_BYTES word count bytes.now) }
 {
@@ -37,7 +37,7 @@ fn hints_of(alloc: Global, count: u32, bytes: &[u8]) -> Result<Vec<u32>, AllocEr
 }
 
 /// The place of the first number that isn't above its predecessor.
-fn first_fall(numbers: &[u32]) -> Option<usize>
+pub fn first_fall(numbers: &[u32]) -> Option<usize>
     ensures value { result ≡ first_fall numbers.now }
     ensures within { IfSome result (λ place. place < length numbers.now) }
 {
