@@ -1,1 +1,7 @@
 pub mod Tiles
+mod Appended
+mod Asked
+mod Blocks
+mod Lines
+mod Spelled
+pub mod Rows

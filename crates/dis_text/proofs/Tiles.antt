@@ -1,13 +1,12 @@
 -- Lists of pieces that go on from one address to another.
-use Rattle.std.proofs.Common.{◌≡◌, ◌≤◌, ◌<◌, ◌+◌, ◌-◌, ◌*◌, ◌/◌, ℕ, zero, suc, Bool, true, false, cond, ltb, eqb, List, [], ◌∷◌, ◌++◌, Some, None, refl, sym, ap, ◌∙◌, subst, arith, ⊎_elim}
+use Rattle.std.proofs.Common.{◌≡◌, ◌≤◌, ◌<◌, ◌+◌, ◌-◌, ◌*◌, ◌/◌, ℕ, zero, suc, Bool, true, false, cond, eqb, List, [], ◌∷◌, ◌++◌, Some, None, refl, sym, ap, ◌∙◌, subst, arith, ⊎_elim}
 use Rattle.std.specs.Prelude.{max, min, map}
 use Rattle.std.specs.List.{range_with_len}
-use Rattle.std.proofs.lemmas.Bool.{cases_eq, cases_lt, eq-eqb, le-ltb, lt-ltb, ne_eqb}
-use Rattle.vax_form.specs.Operation.{operation_at}
+use Rattle.std.proofs.lemmas.Bool.{cases_lt, le-ltb, lt-ltb}
 use Rattle.vax_form.specs.declared.instr.Instr.{Instr}
 use Rattle.vax_form.specs.declared.pages.Pages.{Pages}
 use Rattle.dis_text.specs.Bytes.{count_of}
-use Rattle.dis_text.specs.Pieces.{Covered, Piece, behind_table, byte_lines, bytes, covered_by, gap, inside, instruction, lines_from, next_at, pieces, table, table_word, table_words, word, words_by, zero_line, zeros}
+use Rattle.dis_text.specs.Pieces.{Covered, Piece, byte_lines, bytes, covered_by, end_of_instr, gap, inside, instruction, lines_from, pieces, table_word, table_words, unread, words_behind, zero_line, zeros}
 use Rattle.dis_text.specs.Whole.{AllBegin, Begins, IsWhole, end_of, last_end}
 
 record Tiles (from : ℕ) (ps : List Piece) (to : ℕ) : Type 0 where
@@ -32,7 +31,7 @@ both_tile from middle to (p ∷ ps) qs s t =
     in_front from to p (ps ++ qs) s.begin.0
     (both_tile (max from (end_of p)) middle to ps qs (record { begin = s.begin.1; last = s.last }) t)
 
--- ---- what no instruction covers
+-- ---- bytes that are no code
 
 lines_tile : (n at end : ℕ) → n ≡ (end - at + 7) / 8 → Tiles at (lines_from n at end) (max at end)
 unfolding lines_from
@@ -56,9 +55,9 @@ some_zeros from at end e h = subst (λ b. Tiles from (cond b (zeros at (end - at
 no_zeros : (from at end : ℕ) → end ≤ at → Tiles from (zero_line at end) from
 no_zeros from at end h = subst (λ b. Tiles from (cond b (zeros at (end - at) ∷ []) []) from) (sym (le-ltb at end h)) (none_tile from from refl)
 
-gap_tile : (stored at end : ℕ) → Tiles at (gap stored at end) (max at end)
-unfolding gap
-gap_tile stored at end =
+unread_tile : (stored at end : ℕ) → Tiles at (unread stored at end) (max at end)
+unfolding unread
+unread_tile stored at end =
     let middle = max at (min end stored) in
     both_tile at middle (max at end) (byte_lines at (min end stored)) (zero_line (max at stored) end)
     (lines_tile ((min end stored - at + 7) / 8) at (min end stored) refl)
@@ -71,7 +70,29 @@ gap_tile stored at end =
     subst (Tiles middle (zero_line (max at stored) end)) to (no_zeros middle (max at stored) end none))
     (cases_lt (max at stored) end))
 
--- ---- an instruction and the table behind it
+words_tile : (pages : Pages) (at k n : ℕ) → Tiles (at + 2 * k) (map (table_word pages at) (range_with_len k n)) (at + 2 * k + 2 * n)
+words_tile pages at k zero = none_tile (at + 2 * k) (at + 2 * k + 2 * 0) (omega arith)
+words_tile pages at k (suc n) =
+    in_front (at + 2 * k) (at + 2 * k + 2 * suc n) (table_word pages at k) (map (table_word pages at) (range_with_len (k + 1) n)) refl
+    (let next : at + 2 * (k + 1) ≡ max (at + 2 * k) (at + 2 * k + 2) = omega arith in
+    let last : at + 2 * (k + 1) + 2 * n ≡ at + 2 * k + 2 * suc n = omega arith in
+    subst (λ f. Tiles f (map (table_word pages at) (range_with_len (k + 1) n)) (at + 2 * k + 2 * suc n)) next
+    (subst (Tiles (at + 2 * (k + 1)) (map (table_word pages at) (range_with_len (k + 1) n))) last (words_tile pages at (k + 1) n)))
+
+-- the table, and what is no code behind it
+gap_tile : (pages : Pages) (stored : ℕ) (c : Covered) (to : ℕ) → Tiles c.end (gap pages stored c to) (max c.end to)
+unfolding gap
+gap_tile pages stored c to =
+    let n = table_words c to in
+    let begin : c.end + 2 * 0 ≡ c.end = omega arith in
+    let middle : c.end + 2 * 0 + 2 * n ≡ c.end + 2 * n = omega arith in
+    let last : max (c.end + 2 * n) to ≡ max c.end to = omega arith in
+    both_tile c.end (c.end + 2 * n) (max c.end to) (map (table_word pages c.end) (range_with_len 0 n)) (unread stored (c.end + 2 * n) to)
+    (subst (λ f. Tiles f (map (table_word pages c.end) (range_with_len 0 n)) (c.end + 2 * n)) begin
+    (subst (Tiles (c.end + 2 * 0) (map (table_word pages c.end) (range_with_len 0 n))) middle (words_tile pages c.end 0 n)))
+    (subst (Tiles (c.end + 2 * n) (unread stored (c.end + 2 * n) to)) last (unread_tile stored (c.end + 2 * n) to))
+
+-- ---- an instruction
 
 inside_tile : (c : Covered) (instr : Instr) → Tiles (max c.end instr.at) (instruction instr (inside c instr) ∷ []) (max c.end (instr.at + count_of instr))
 inside_tile c instr = ⊎_elim
@@ -89,41 +110,22 @@ inside_tile c instr = ⊎_elim
 
 covered_end : (instr : Instr) (c : Covered) → (covered_by instr c).end ≡ max c.end (instr.at + count_of instr)
 covered_end instr c = ⊎_elim
-    (λ h. ap (λ b. (cond b longer c).end) (lt-ltb c.end (instr.at + count_of instr) h) ∙ omega arith)
-    (λ h. ap (λ b. (cond b longer c).end) (le-ltb c.end (instr.at + count_of instr) h) ∙ omega arith)
-    (cases_lt c.end (instr.at + count_of instr))
+    (λ h. ap (λ b. (cond b longer other).end) (lt-ltb c.end (end_of_instr instr) h) ∙ omega arith)
+    (λ h. ap (λ b. (cond b longer other).end) (le-ltb c.end (end_of_instr instr) h) ∙ same (eqb (end_of_instr instr) c.end) ∙ omega arith)
+    (cases_lt c.end (end_of_instr instr))
   where
     longer : Covered
-    longer = record { end = instr.at + count_of instr; by = instr.at }
+    longer = record { end = end_of_instr instr; by = instr.at; words = words_behind instr }
 
-words_tile : (pages : Pages) (at k n : ℕ) → Tiles (at + 2 * k) (map (table_word pages at) (range_with_len k n)) (at + 2 * k + 2 * n)
-words_tile pages at k zero = none_tile (at + 2 * k) (at + 2 * k + 2 * 0) (omega arith)
-words_tile pages at k (suc n) =
-    in_front (at + 2 * k) (at + 2 * k + 2 * suc n) (table_word pages at k) (map (table_word pages at) (range_with_len (k + 1) n)) refl
-    (let next : at + 2 * (k + 1) ≡ max (at + 2 * k) (at + 2 * k + 2) = omega arith in
-    let last : at + 2 * (k + 1) + 2 * n ≡ at + 2 * k + 2 * suc n = omega arith in
-    subst (λ f. Tiles f (map (table_word pages at) (range_with_len (k + 1) n)) (at + 2 * k + 2 * suc n)) next
-    (subst (Tiles (at + 2 * (k + 1)) (map (table_word pages at) (range_with_len (k + 1) n))) last (words_tile pages at (k + 1) n)))
+    both : Bool → Covered
+    both b = cond b (record c { words = max c.words (words_behind instr) }) c
 
-table_tile : (pages : Pages) (instr : Instr) (end next : ℕ)
-    → Tiles end (table pages instr (table_words instr end next)) (end + 2 * table_words instr end next)
-unfolding table table_words
-table_tile pages instr end next = ⊎_elim
-    (λ h. subst (λ n. Tiles n (map (table_word pages instr.after) (range_with_len 0 (count n))) (n + 2 * count n)) (sym h)
-    (let from : instr.after + 2 * 0 ≡ instr.after = omega arith in
-    let last : instr.after + 2 * 0 + 2 * count instr.after ≡ instr.after + 2 * count instr.after = omega arith in
-    subst (λ f. Tiles f (map (table_word pages instr.after) (range_with_len 0 (count instr.after))) (instr.after + 2 * count instr.after)) from
-    (subst (Tiles (instr.after + 2 * 0) (map (table_word pages instr.after) (range_with_len 0 (count instr.after)))) last
-    (words_tile pages instr.after 0 (count instr.after)))))
-    (λ h. subst (λ b. Tiles end (map (table_word pages instr.after) (range_with_len 0 (cond b (most end) 0))) (end + 2 * cond b (most end) 0))
-    (sym (ne_eqb end instr.after h)) (none_tile end (end + 2 * 0) (omega arith)))
-    (cases_eq end instr.after)
-  where
-    most : ℕ → ℕ
-    most e = min (words_by instr (operation_at instr.opcode)) ((next - e) / 2)
+    other : Covered
+    other = both (eqb (end_of_instr instr) c.end)
 
-    count : ℕ → ℕ
-    count e = cond (eqb e instr.after) (most e) 0
+    same : (b : Bool) → (both b).end ≡ c.end
+    same true = refl
+    same false = refl
 
 -- ---- a section
 
@@ -134,21 +136,18 @@ record Reaches (from : ℕ) (ps : List Piece) (end : ℕ) : Type 0 where
 
 pieces_reach : (pages : Pages) (stored end : ℕ) (c : Covered) (instrs : List Instr) → Reaches c.end (pieces pages stored end c instrs) end
 unfolding pieces
-pieces_reach pages stored end c [] = record { to = max c.end end; tiles = gap_tile stored c.end end; far = omega arith }
+pieces_reach pages stored end c [] = record { to = max c.end end; tiles = gap_tile pages stored c end; far = omega arith }
 pieces_reach pages stored end c (instr ∷ instrs) =
     let covered = covered_by instr c in
-    let count = table_words instr covered.end (next_at end instrs) in
-    let more = pieces_reach pages stored end (behind_table covered count) instrs in
+    let more = pieces_reach pages stored end covered instrs in
     let first = max c.end instr.at in
-    let behind : Tiles first (instruction instr (inside c instr) ∷ []) covered.end = subst (Tiles first (instruction instr (inside c instr) ∷ [])) (sym (covered_end instr c)) (inside_tile c instr) in
-    let to = covered.end + 2 * count in
     let one = instruction instr (inside c instr) in
-    let shown = both_tile first covered.end to (one ∷ []) (table pages instr count) behind (table_tile pages instr covered.end (next_at end instrs)) in
-    let front = both_tile c.end first to (gap stored c.end instr.at) (one ∷ table pages instr count) (gap_tile stored c.end instr.at) shown in
+    let rest = pieces pages stored end covered instrs in
+    let here : Tiles first (one ∷ []) covered.end = subst (Tiles first (one ∷ [])) (sym (covered_end instr c)) (inside_tile c instr) in
     record {
       to = more.to;
-      tiles = both_tile c.end to more.to (gap stored c.end instr.at ++ one ∷ table pages instr count)
-          (pieces pages stored end (behind_table covered count) instrs) front more.tiles;
+      tiles = both_tile c.end first more.to (gap pages stored c instr.at) (one ∷ rest) (gap_tile pages stored c instr.at)
+          (both_tile first covered.end more.to (one ∷ []) rest here more.tiles);
       far = more.far;
     }
 

@@ -1,3 +1,9 @@
 pub mod Bytes
 pub mod Pieces
+pub mod Lines
+pub mod Labels
+pub mod Words
+pub mod Listing
+pub mod Before
+pub mod Made
 pub mod Whole

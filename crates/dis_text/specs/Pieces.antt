@@ -1,7 +1,6 @@
 -- What stands in a read-only section, piece by piece, in rising order of address.
-use Rattle.std.specs.Prelude.{ℕ, zero, suc, ◌+◌, ◌-◌, ◌*◌, ◌/◌, ◌==◌, nat_lt, min, max, Bool, if◌then◌else◌, List, [], ◌∷◌, ◌++◌, map, Option, Some, None, unwrap_or}
+use Rattle.std.specs.Prelude.{ℕ, zero, suc, ◌+◌, ◌-◌, ◌*◌, ◌/◌, ◌==◌, nat_lt, min, max, if◌then◌else◌, List, [], ◌∷◌, ◌++◌, map, Option, Some, None, unwrap_or}
 use Rattle.std.specs.List.{range_with_len}
-use Rattle.vax_form.specs.Grammar.{wrapped}
 use Rattle.vax_form.specs.Operation.{operation_at}
 use Rattle.vax_form.specs.Targets.{operand_of}
 use Rattle.vax_form.specs.declared.instr.Instr.{Instr}
@@ -23,18 +22,7 @@ pub data Piece : Type 0 where
   -- bytes of pages that are not stored
   zeros : (at count : ℕ) → Piece
 
--- the address behind the instructions so far, and the one of them that goes so far
-pub record Covered : Type 0 where
-  pub end : ℕ
-  pub by : ℕ
-
-abbrev pub covered_by : Instr → Covered → Covered
-covered_by instr c = if nat_lt c.end (instr.at + count_of instr) then record { end = instr.at + count_of instr; by = instr.at } else c
-
-abbrev pub inside : Covered → Instr → Option ℕ
-inside c instr = if nat_lt instr.at c.end then Some c.by else None
-
--- ---- what no instruction covers
+-- ---- bytes that are no code
 
 -- lines of eight bytes, and a last one of what is left
 unfoldable pub lines_from : (count at end : ℕ) → List Piece
@@ -48,8 +36,8 @@ abbrev pub zero_line : (at end : ℕ) → List Piece
 zero_line at end = if nat_lt at end then zeros at (end - at) ∷ [] else []
 
 -- the bytes of pages that are stored, which end at that address, and of those that aren't
-unfoldable pub gap : (stored at end : ℕ) → List Piece
-gap stored at end = byte_lines at (min end stored) ++ zero_line (max at stored) end
+unfoldable pub unread : (stored at end : ℕ) → List Piece
+unread stored at end = byte_lines at (min end stored) ++ zero_line (max at stored) end
 
 -- ---- the table of a CASE that the flow follows
 
@@ -61,32 +49,46 @@ abbrev pub words_by : Instr → Option Operation → ℕ
 words_by instr (Some (Case width)) = followed_words (operand_of instr 1) (operand_of instr 2)
 words_by instr operation = 0
 
--- so many of its words stand between the instruction and the next one
-unfoldable pub table_words : Instr → (end next : ℕ) → ℕ
-table_words instr end next =
-    if end == instr.after then min (words_by instr (operation_at instr.opcode)) ((next - end) / 2) else 0
+-- how many words the table behind an instruction has
+abbrev pub words_behind : Instr → ℕ
+words_behind instr = words_by instr (operation_at instr.opcode)
 
 abbrev pub table_word : Pages → (table number : ℕ) → Piece
 table_word pages table number = word (table + 2 * number) (unwrap_or (table_target pages table number) 0)
 
-unfoldable pub table : Pages → Instr → (count : ℕ) → List Piece
-table pages instr count = map (table_word pages instr.after) (range_with_len 0 count)
+-- ---- what the instructions so far cover
+
+-- the address behind them, the one of them that goes so far, and how many words of a table stand there
+pub record Covered : Type 0 where
+  pub end : ℕ
+  pub by : ℕ
+  pub words : ℕ
+
+abbrev pub end_of_instr : Instr → ℕ
+end_of_instr instr = instr.at + count_of instr
+
+-- of two that end at one address either may have a table
+abbrev pub covered_by : Instr → Covered → Covered
+covered_by instr c =
+    if nat_lt c.end (end_of_instr instr) then record { end = end_of_instr instr; by = instr.at; words = words_behind instr }
+    else if end_of_instr instr == c.end then record c { words = max c.words (words_behind instr) } else c
+
+abbrev pub inside : Covered → Instr → Option ℕ
+inside c instr = if nat_lt instr.at c.end then Some c.by else None
+
+-- so many words of the table stand before that address
+abbrev pub table_words : Covered → (to : ℕ) → ℕ
+table_words c to = min c.words ((to - c.end) / 2)
+
+-- from what is covered to that address: the table's words, and what is no code
+unfoldable pub gap : Pages → (stored : ℕ) → Covered → (to : ℕ) → List Piece
+gap pages stored c to =
+    map (table_word pages c.end) (range_with_len 0 (table_words c to)) ++ unread stored (c.end + 2 * table_words c to) to
 
 -- ---- a section
 
--- where the next instruction begins, or the section ends
-abbrev pub next_at : (end : ℕ) → List Instr → ℕ
-next_at end [] = end
-next_at end (instr ∷ instrs) = min end instr.at
-
-abbrev pub behind_table : Covered → (count : ℕ) → Covered
-behind_table c count = record c { end = c.end + 2 * count }
-
--- The pieces of a section that ends at that address, by the instructions that begin in it, in rising order.
+-- the pieces from what is covered to the section's end, by the instructions that begin in it, in rising order
 unfoldable pub pieces : Pages → (stored end : ℕ) → Covered → List Instr → List Piece
-pieces pages stored end c [] = gap stored c.end end
+pieces pages stored end c [] = gap pages stored c end
 pieces pages stored end c (instr ∷ instrs) =
-    let covered = covered_by instr c in
-    let count = table_words instr covered.end (next_at end instrs) in
-    gap stored c.end instr.at ++ instruction instr (inside c instr) ∷ table pages instr count
-    ++ pieces pages stored end (behind_table covered count) instrs
+    gap pages stored c instr.at ++ instruction instr (inside c instr) ∷ pieces pages stored end (covered_by instr c) instrs
