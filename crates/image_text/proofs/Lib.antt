@@ -1,3 +1,4 @@
+mod Counts
 mod Ranges
 mod Appended
 pub mod Rows

@@ -1,5 +1,5 @@
 // The lines of what a translation makes of an image, and the whole text.
-ghost use Rattle.std.specs.Prelude.{◌≡◌, ◌<◌, ◌≤◌, ◌++◌, IfOk, OnOk, filter, length};
+ghost use Rattle.std.specs.Prelude.{◌≡◌, ◌<◌, ◌≤◌, ◌++◌, ℕ, IfOk, OnOk, filter, length, slice_index};
 ghost use Rattle.std.specs.List.{flat_map};
 ghost use Rattle.image_file.specs.Whole.{IsWhole};
 ghost use Rattle.image_text.specs.Lines.{open_line, service_line, stop_lines};
@@ -14,18 +14,12 @@ use vax_form::{Class, Instr, Pages, class_of};
 use vax_text::name_of;
 
 /// How many opcodes there are.
-const OPCODES: u32 = 256;
+const OPCODES: usize = 256;
 
 fn is_interpreted(instr: &Instr) -> bool
     ensures { result ≡ is_interpreted instr.now }
 {
     class_of(instr.opcode) != Class::Translated
-}
-
-fn has_opcode(instr: &Instr, opcode: u8) -> bool
-    ensures { result ≡ has_opcode opcode instr.now }
-{
-    instr.opcode == opcode && is_interpreted(instr)
 }
 
 /// How many of the instructions have no block.
@@ -42,18 +36,25 @@ fn interpreted(instrs: &[Instr]) -> u64
     count
 }
 
-/// How many of those are of that opcode.
-fn of_opcode(instrs: &[Instr], opcode: u8) -> u64
-    ensures value { result ≡ length (filter (has_opcode opcode) instrs.now) }
-    ensures most { result ≤ length instrs.now }
+/// Where an opcode is counted.
+fn place_of(instr: &Instr) -> usize
+    ensures value { result ≡ instr.now.opcode }
+    ensures within { result < OPCODES }
 {
-    let mut count = 0;
+    usize::from(instr.opcode)
+}
+
+/// Of each opcode, how many of those there are.
+fn of_opcodes(instrs: &[Instr]) -> [u64; OPCODES]
+    ensures { (k : ℕ) → k < OPCODES → slice_index result k ≡ length (filter (has_opcode k) instrs.now) }
+{
+    let mut counts = [0; OPCODES];
     for instr in instrs {
-        if has_opcode(instr, opcode) {
-            count += 1;
+        if is_interpreted(instr) {
+            counts[place_of(instr)] += 1;
         }
     }
-    count
+    counts
 }
 
 fn put_reached(
@@ -93,9 +94,9 @@ fn put_opcode(out: &mut Vec<u8>, opcode: u8, count: u64) -> Result<(), AllocErro
 fn put_opcodes(out: &mut Vec<u8>, instrs: &[Instr]) -> Result<(), AllocError>
     ensures { OnOk result (out.new.items ≡ out.old.items ++ flat_map (interpreted_line instrs.now) opcodes) }
 {
+    let counts = of_opcodes(instrs);
     for opcode in 0..OPCODES {
-        let opcode = opcode as u8;
-        put_opcode(out, opcode, of_opcode(instrs, opcode))?;
+        put_opcode(out, opcode as u8, counts[opcode])?;
     }
     Ok(())
 }

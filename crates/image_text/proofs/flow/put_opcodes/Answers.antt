@@ -8,7 +8,7 @@ pub loop-opcode-preserved : goal.loop-opcode-preserved
 loop-opcode-preserved c =
     let opcode = c.loop-opcode.opcode in
     flat_more (interpreted_line c.args.instrs.now) c.args.out.now.items c.loop-opcode.out.items _ opcode c.loop-opcode.invariant
-    (c.in_ok-put_opcode.ensures ∙ ap (λ n. c.loop-opcode.out.items ++ opcode_text opcode n) c.of_opcode.ensures.value)
+    (c.in_ok-put_opcode.ensures ∙ ap (λ n. c.loop-opcode.out.items ++ opcode_text opcode n) (c.of_opcodes-counts.ensures opcode c.loop-opcode-test.true))
 
 pub returns : goal.returns
 returns c =
