@@ -2,6 +2,9 @@ pub mod Bytes
 pub mod Sections
 pub mod Stepping
 pub mod Standing
+pub mod Marking
+pub mod Marked
+pub mod First
 pub mod Walked
 pub mod Runs
 pub mod Ending

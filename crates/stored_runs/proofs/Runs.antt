@@ -1,8 +1,8 @@
 -- Threads after their counts, and before their first instructions.
-use Rattle.std.proofs.Common.{◌≡◌, ◌⊎◌, inl, inr, ⊎_elim, ℕ, zero, suc, ◌<◌, ◌+◌, List, [], ◌∷◌, ◌++◌, append_assoc, append-nil, length, drop, Option, Some, None, get_or, option_map, slice_get, slice_index, refl, sym, ap, ◌∙◌, subst, arith}
+use Rattle.std.proofs.Common.{◌≡◌, ◌⊎◌, inl, inr, ⊎_elim, ℕ, zero, suc, ◌<◌, ◌+◌, List, [], ◌∷◌, ◌++◌, append_assoc, append-nil, length, drop, Option, Some, None, get_or, option_map, slice_get, refl, sym, ap, ◌∙◌, subst, arith}
 use Rattle.std.proofs.Math.Seq.{drop-cons}
 use Rattle.std.proofs.lemmas.List.{length-append}
-use Rattle.std.proofs.lemmas.Option.{slice_get-get_or}
+use Rattle.std.proofs.lemmas.Option.{get_or_from_slice_get, slice_get-get_or}
 use Rattle.image_file.specs.Start.{start_state}
 use Rattle.image_file.specs.Values.{ImageValue}
 use Rattle.image_file.specs.declared.image.Start.{Start}
@@ -39,7 +39,7 @@ module _ (image : ImageValue) (input counts : List ℕ) (made : List Made) where
   next_run world at t left among is below run shown =
       let here = at_among image input counts made world at t left among is in
       let e : suc at ≡ at + 1 = omega arith in
-      let count : t.count ≡ get_or counts at 0 = here.count in
+      let count : t.count ≡ get_or counts at 0 = sym (get_or_from_slice_get counts at t.count 0 here.count) in
       let same : thread_run (threads_of image) at (get_or counts at 0) (replies_to at made) ≡ run =
       ap (λ n. thread_run (threads_of image) at n (replies_to at made)) (sym count) ∙ sym (shown (replies_to at made) here.at) in
       ap (runs_from (threads_of image) made at) (drop-cons counts at 0 below)
@@ -85,14 +85,21 @@ got_pushed (u ∷ threads) new t (suc k) is =
 
 module _ (image : ImageValue) (counts : List ℕ) where
   pub none_begun : (threads : List Thread) → threads ≡ [] → AreBegun image counts 0 threads
-  none_begun threads none = record { many = ap length none; each = λ k t is. let gone : None ≡ Some t = sym (ap (λ l. slice_get l k) none) ∙ is in absurd (cc gone) }
+  none_begun threads none = record {
+    many = ap length none;
+    each = λ k t is. absurd (gone k t is);
+    fresh = λ k t is. absurd (gone k t is);
+  }
+    where
+      gone : (k : ℕ) (t : Thread) → slice_get threads k ≡ Some t → ⊥
+      gone k t is = let no : None ≡ Some t = sym (ap (λ l. slice_get l k) none) ∙ is in cc no
 
   pub begins : (at : ℕ) (from : Start) → at < length image.threads → from ≡ get_or image.threads at from → (threads_of image).start at ≡ Some (start_state from)
   begins at from below is = ap (option_map start_state) (slice_get-get_or image.threads at from below ∙ ap (λ (f : Start). Some f) (sym is))
 
-  pub begun_more : (at : ℕ) (threads more : List Thread) (new : Thread) → AreBegun image counts at threads → more ≡ threads ++ new ∷ [] → IsAt image at [] new → new.count ≡ slice_index counts at
-      → AreBegun image counts (at + 1) more
-  begun_more at threads more new begun is first count = record {
+  pub begun_more : (at : ℕ) (threads more : List Thread) (new : Thread) → AreBegun image counts at threads → more ≡ threads ++ new ∷ [] → IsAt image at [] new
+      → slice_get counts at ≡ Some new.count → new.retired ≡ 0 → AreBegun image counts (at + 1) more
+  begun_more at threads more new begun is first count fresh = record {
     many = ap length is ∙ length-append threads (new ∷ []) ∙ ap (λ n. n + 1) begun.many;
     each = λ k t found.
         ⊎_elim
@@ -100,5 +107,10 @@ module _ (image : ImageValue) (counts : List ℕ) where
         (λ (last : (k ≡ length threads) × (new ≡ t)).
         let same : k ≡ at = last.0 ∙ begun.many in
         subst (λ k. IsThread image counts [] k t) (sym same) (subst (λ t. IsThread image counts [] at t) last.1 (record { at = first; count = count })))
+        (got_pushed threads new t k (subst (λ l. slice_get l k ≡ Some t) is found));
+    fresh = λ k t found.
+        ⊎_elim
+        (λ (before : slice_get threads k ≡ Some t). begun.fresh k t before)
+        (λ (last : (k ≡ length threads) × (new ≡ t)). subst (λ (t : Thread). t.retired ≡ 0) last.1 fresh)
         (got_pushed threads new t k (subst (λ l. slice_get l k ≡ Some t) is found));
   }

@@ -1,5 +1,5 @@
 -- Where a thread stands.
-use Rattle.std.proofs.Common.{◌≡◌, ℕ, zero, suc, ◌<◌, ◌+◌, ◌-◌, false, List, [], ◌∷◌, ◌++◌, Option, Some, None, IfSome, refl, sym, ap, ◌∙◌, subst, arith}
+use Rattle.std.proofs.Common.{◌≡◌, ◌≢◌, ◌⊎◌, inl, inr, ⊎_elim, ℕ, zero, suc, ◌<◌, ◌+◌, ◌-◌, false, List, [], ◌∷◌, ◌++◌, Option, Some, None, IfSome, slice_get, slice_set, refl, sym, ap, ◌∙◌, subst, arith}
 use Rattle.image_file.specs.Values.{ImageValue}
 use Rattle.vax_form.specs.After.{one_more}
 use Rattle.vax_form.specs.Tree.{Answer, Wants, Fails, Comes, answer, Runs, Retired, retires}
@@ -36,11 +36,11 @@ module _ (image : ImageValue) (thread : ℕ) where
   }
 
   module _ (replies : List ℕ) where
-    stage_came : (retired : ℕ) (state : VaxState) (stage : Stage) → IsStage image thread replies retired state stage
-        → (here : Retired) × (reached (threads_of image) thread retired replies ≡ Some here)
-    stage_came retired state (stages.Goes interpreted reply) is = (_, is.came)
-    stage_came retired state stages.Exited is = (_, is.came)
-    stage_came retired state (stages.Trapped kind) is = (_, is.came)
+    pub stage_came : (retired : ℕ) (state : VaxState) (stage : Stage) → IsStage image thread replies retired state stage
+        → (here : Retired) × (reached (threads_of image) thread retired replies ≡ Some here) × (here.state ≡ state)
+    stage_came retired state (stages.Goes interpreted reply) is = (_, is.came, refl)
+    stage_came retired state stages.Exited is = (_, is.came, refl)
+    stage_came retired state (stages.Trapped kind) is = (_, is.came, refl)
 
     unwanted : (w : Option Reference) (after retired : ℕ) (here : Retired) → wanted (threads_of image) thread after replies ≡ w → after < retired
         → reached (threads_of image) thread retired replies ≡ Some here → None ≡ w
@@ -62,12 +62,15 @@ module _ (image : ImageValue) (thread : ℕ) where
     noted_later : (reply retired count : ℕ) (noted : Option VaxState) → IsNoted image thread replies retired count noted
         → IsNoted image thread (replies ++ reply ∷ []) retired count noted
     noted_later reply retired count None is = is
-    noted_later reply retired count (Some state) is = record {
-      left = is.left ++ reply ∷ [];
-      came = reached_stays (threads_of image) thread count replies (reply ∷ []) _ is.came;
-      next = record is.next { left = is.next.left ++ reply ∷ [] };
-      later = reached_stays (threads_of image) thread (suc count) replies (reply ∷ []) is.next is.later;
-    }
+    noted_later reply retired count (Some state) is = (
+      is.0,
+      record {
+        left = is.1.left ++ reply ∷ [];
+        came = reached_stays (threads_of image) thread count replies (reply ∷ []) _ is.1.came;
+        next = record is.1.next { left = is.1.next.left ++ reply ∷ [] };
+        later = reached_stays (threads_of image) thread (suc count) replies (reply ∷ []) is.1.next is.1.later;
+      },
+    )
 
     pub taken : (reply : ℕ) (reference : Reference) (t : Thread) (interpreted : Interpreted) (kept : Option ℕ) → t.stage ≡ stages.Goes interpreted kept → IsAsking image thread replies reference t
         → IsAt image thread (replies ++ reply ∷ [])
@@ -100,10 +103,13 @@ module _ (image : ImageValue) (thread : ℕ) where
 
     pub noted_run : (retired count : ℕ) (noted : Option VaxState) (state : VaxState) → noted ≡ Some state → IsNoted image thread replies retired count noted
         → Some (record { state = state; exited = false; raised = None }) ≡ thread_run (threads_of image) thread count replies
-    noted_run retired count noted state is at = passed_run count state (subst (IsNoted image thread replies retired count) is at)
+    noted_run retired count noted state is at = passed_run count state (subst (IsNoted image thread replies retired count) is at).1
+
+    pub noted_behind : (retired count : ℕ) (noted : Option VaxState) (state : VaxState) → noted ≡ Some state → IsNoted image thread replies retired count noted → count < retired
+    noted_behind retired count noted state is at = (subst (IsNoted image thread replies retired count) is at).0
 
     -- nothing behind what can't be reached
-    nothing_more : (count more : ℕ) → reached (threads_of image) thread count replies ≡ None → reached (threads_of image) thread (more + count) replies ≡ None
+    pub nothing_more : (count more : ℕ) → reached (threads_of image) thread count replies ≡ None → reached (threads_of image) thread (more + count) replies ≡ None
     nothing_more count zero none = let e : count ≡ 0 + count = omega arith in subst (λ n. reached (threads_of image) thread n replies ≡ None) e none
     nothing_more count (suc more) none =
         let e : suc (more + count) ≡ suc more + count = omega arith in
@@ -127,7 +133,24 @@ module _ (image : ImageValue) (thread : ℕ) where
     pub never_run : (count later : ℕ) → reached (threads_of image) thread (suc count) replies ≡ None → count < later → None ≡ thread_run (threads_of image) thread later replies
     never_run count later none ahead = sym (ap (run_at (threads_of image) thread) (never count later none ahead))
 
+-- ---- lists of threads
+pub got_set : (threads : List Thread) (at : ℕ) (new t : Thread) (k : ℕ) → slice_get (slice_set threads at new) k ≡ Some t
+    → ((k ≡ at) × (new ≡ t)) ⊎ ((k ≢ at) × (slice_get threads k ≡ Some t))
+got_set [] at new t k is = absurd (cc is)
+got_set (u ∷ threads) zero new t zero is = let same : new ≡ t = cc is in inl (refl, same)
+got_set (u ∷ threads) zero new t (suc k) is = inr ((λ e. let z : ⊥ = omega (arith, e) in z), is)
+got_set (u ∷ threads) (suc at) new t zero is = inr ((λ e. let z : ⊥ = omega (arith, e) in z), is)
+got_set (u ∷ threads) (suc at) new t (suc k) is =
+    ⊎_elim
+    (λ (same : (k ≡ at) × (new ≡ t)). inl (ap suc same.0, same.1))
+    (λ (other : (k ≢ at) × (slice_get threads k ≡ Some t)). inr ((λ e. other.0 (omega (arith, e))), other.1))
+    (got_set threads at new t k is)
+
 -- ---- what holds of a reference that is wanted
 pub of_some : (P Q : Reference → Type 0) (o : Option Reference) → ((r : Reference) → P r → Q r) → IfSome o P → IfSome o Q
 of_some P Q None more is = tt
 of_some P Q (Some r) more is = more r is
+
+pub always_some : (P : Type 0) (o : Option Reference) → P → IfSome o (λ _. P)
+always_some P None is = tt
+always_some P (Some r) is = is

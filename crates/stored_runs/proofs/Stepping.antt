@@ -72,16 +72,19 @@ module _ (image : ImageValue) (thread : ℕ) (replies : List ℕ) where
       → IsNoted image thread replies (retired + 1) count (if b then Some state else noted)
   noted_more true retired count state left next noted e came later before =
       let same : retired ≡ count = grind (arith, nat_tests, e) in
-      record {
-        left = left;
-        came = subst (λ n. Came image thread replies n Runs state left) same came;
-        next = next;
-        later = subst (λ n. reached (threads_of image) thread (suc n) replies ≡ Some next) same later;
-      }
+      let behind : count < retired + 1 = omega (arith, same) in (
+        behind,
+        record {
+          left = left;
+          came = subst (λ n. Came image thread replies n Runs state left) same came;
+          next = next;
+          later = subst (λ n. reached (threads_of image) thread (suc n) replies ≡ Some next) same later;
+        },
+      )
   noted_more false retired count state left next None e came later before =
       let apart : retired < count = grind (arith, nat_tests, e, before) in
       omega arith
-  noted_more false retired count state left next (Some s) e came later before = before
+  noted_more false retired count state left next (Some s) e came later before = let behind : count < retired + 1 = omega (arith, before.0) in (behind, before.1)
 
   -- it stands at the next boundary
   stands : (t : Thread) (left : List ℕ) (next : Retired) (stage : Stage) (state : VaxState) → Came image thread replies t.retired Runs t.state left

@@ -5,3 +5,6 @@ pub mod Law
 pub mod Memory
 pub mod Threads
 pub mod World
+pub mod Found
+pub mod Marks
+pub mod Stood

@@ -1,5 +1,5 @@
 -- Threads on their way along an order, as the code keeps them.
-use Rattle.std.specs.Prelude.{◌≡◌, ℕ, suc, ◌+◌, ◌≤◌, ◌==◌, List, [], ◌++◌, Option, Some, None, if◌then◌else◌}
+use Rattle.std.specs.Prelude.{◌≡◌, ℕ, suc, ◌+◌, ◌≤◌, ◌<◌, ◌==◌, List, [], ◌++◌, Option, Some, None, if◌then◌else◌}
 use Rattle.image_file.specs.Values.{ImageValue}
 use Rattle.vax_form.specs.Tree.{Answer, Wants, Fails, Comes, answer, Life, Runs, Exited, Trapped, Retired}
 use Rattle.vax_form.specs.declared.state.Reference.{Reference}
@@ -54,7 +54,7 @@ pub record IsPassed (image : ImageValue) (thread : ℕ) (replies : List ℕ) (co
 -- its state after its count is noted where it went on
 abbrev pub IsNoted : ImageValue → (thread : ℕ) → (replies : List ℕ) → (retired count : ℕ) → Option VaxState → Type 0
 IsNoted image thread replies retired count None = retired ≤ count
-IsNoted image thread replies retired count (Some state) = IsPassed image thread replies count state
+IsNoted image thread replies retired count (Some state) = (count < retired) × IsPassed image thread replies count state
 
 -- a thread stands where it came with the replies that it got
 pub record IsAt (image : ImageValue) (thread : ℕ) (replies : List ℕ) (t : Thread) : Type 0 where
@@ -77,6 +77,12 @@ pub record EndsSo (image : ImageValue) (thread : ℕ) (replies left : List ℕ) 
   pub takes : LeavesNone (answer image.pages (moment_at image.pages thread t.state) left)
   pub ends : steps.Leaves last ≡ step_of (answer image.pages (moment_at image.pages thread t.state) left)
   pub noted : IsNoted image thread replies t.retired t.count t.noted
+
+-- it goes on from its boundary by what is begun there
+pub record IsBegun (image : ImageValue) (thread : ℕ) (old new : Thread) : Type 0 where
+  pub interpreted : Interpreted
+  pub stands : Stands image.pages thread interpreted old.state []
+  pub is : new ≡ record old { stage = stages.Goes interpreted None }
 
 -- at the next boundary, in that state; behind its count its state there is noted
 abbrev pub stood : Stage → VaxState → Thread → Thread
