@@ -3,7 +3,7 @@ use Rattle.std.proofs.Common.{◌≡◌, refl, codes, [], ◌∷◌, Some, None}
 use Rattle.std.specs.Str.{chars}
 use Rattle.command_words.specs.Parts.{parts_of}
 use Rattle.command_words.specs.declared.commands.Target.TheVariants.{Original, ByteWord}
-use Rattle.command_words.specs.Commands.{forms, list, run, spells, translate}
+use Rattle.command_words.specs.Commands.{forms, list, replay, run, spells, translate}
 
 pub run_alone : spells forms (codes "run" ∷ codes "a" ∷ []) ≡ Some (run (codes "a") (record { limits = record { budget = 100000000; events = 4194304; miss = 0 }; ranges = []; target = Original; order = None }))
 unfolding parts_of chars
@@ -17,7 +17,7 @@ pub one_hyphen : spells forms (codes "list" ∷ codes "-" ∷ []) ≡ Some (list
 unfolding parts_of chars
 one_hyphen = refl
 
-pub behind_hyphens : spells forms (codes "translate" ∷ codes "a" ∷ codes "--" ∷ codes "--b" ∷ []) ≡ Some (translate (codes "a") (codes "--b") Original)
+pub behind_hyphens : spells forms (codes "translate" ∷ codes "a" ∷ codes "--" ∷ codes "--b" ∷ []) ≡ Some (translate (codes "a") (codes "--b") Original None)
 unfolding parts_of chars
 behind_hyphens = refl
 
@@ -41,7 +41,7 @@ pub for_byte_word : spells forms (codes "run" ∷ codes "x" ∷ codes "--target"
 unfolding parts_of chars
 for_byte_word = refl
 
-pub translated_for_byte_word : spells forms (codes "translate" ∷ codes "--target=byteword" ∷ codes "a" ∷ codes "b" ∷ []) ≡ Some (translate (codes "a") (codes "b") ByteWord)
+pub translated_for_byte_word : spells forms (codes "translate" ∷ codes "--target=byteword" ∷ codes "a" ∷ codes "b" ∷ []) ≡ Some (translate (codes "a") (codes "b") ByteWord None)
 unfolding parts_of chars
 translated_for_byte_word = refl
 
@@ -76,3 +76,43 @@ order_twice = refl
 pub order_of_another_command : spells forms (codes "list" ∷ codes "x" ∷ codes "--order=o" ∷ []) ≡ None
 unfolding parts_of chars
 order_of_another_command = refl
+
+pub replayed : spells forms (codes "replay" ∷ codes "a" ∷ codes "o" ∷ []) ≡ Some (replay (codes "a") (codes "o") None)
+unfolding parts_of chars
+replayed = refl
+
+pub replayed_without_file : spells forms (codes "replay" ∷ codes "a" ∷ []) ≡ None
+unfolding parts_of chars
+replayed_without_file = refl
+
+pub replayed_with_three_names : spells forms (codes "replay" ∷ codes "a" ∷ codes "o" ∷ codes "b" ∷ []) ≡ None
+unfolding parts_of chars
+replayed_with_three_names = refl
+
+pub replayed_with_an_option : spells forms (codes "replay" ∷ codes "a" ∷ codes "o" ∷ codes "--order=o" ∷ []) ≡ None
+unfolding parts_of chars
+replayed_with_an_option = refl
+
+pub with_hints : spells forms (codes "translate" ∷ codes "a" ∷ codes "--hints" ∷ codes "h" ∷ codes "b" ∷ []) ≡ Some (translate (codes "a") (codes "b") Original (Some (codes "h")))
+unfolding parts_of chars
+with_hints = refl
+
+pub hints_twice : spells forms (codes "translate" ∷ codes "a" ∷ codes "b" ∷ codes "--hints=h" ∷ codes "--hints=h" ∷ []) ≡ None
+unfolding parts_of chars
+hints_twice = refl
+
+pub run_without_hints : spells forms (codes "run" ∷ codes "x" ∷ codes "--hints" ∷ codes "h" ∷ []) ≡ None
+unfolding parts_of chars
+run_without_hints = refl
+
+pub replayed_for_hints : spells forms (codes "replay" ∷ codes "a" ∷ codes "--hints" ∷ codes "h" ∷ codes "o" ∷ []) ≡ Some (replay (codes "a") (codes "o") (Some (codes "h")))
+unfolding parts_of chars
+replayed_for_hints = refl
+
+pub replayed_for_empty_hints : spells forms (codes "replay" ∷ codes "--hints=" ∷ codes "a" ∷ codes "a" ∷ []) ≡ Some (replay (codes "a") (codes "a") (Some []))
+unfolding parts_of chars
+replayed_for_empty_hints = refl
+
+pub replayed_for_hints_twice : spells forms (codes "replay" ∷ codes "a" ∷ codes "o" ∷ codes "--hints=h" ∷ codes "--hints=h" ∷ []) ≡ None
+unfolding parts_of chars
+replayed_for_hints_twice = refl

@@ -1,6 +1,6 @@
 -- An answer beside what the words spell.
 use Rattle.std.specs.Prelude.{◌≡◌, Option, Some, None, Result, MatchResult, option_map}
-use Rattle.command_words.specs.Commands.{CommandValue, OptionsValue, generate, list, run, translate}
+use Rattle.command_words.specs.Commands.{CommandValue, OptionsValue, generate, list, replay, run, translate}
 use Rattle.command_words.specs.declared.commands.RunOptions.{RunOptions}
 use Rattle.command_words.specs.declared.commands.Command.{Command}
 use Rattle.command_words.specs.declared.commands.Command.TheVariants as command
@@ -13,9 +13,10 @@ options_value options = record { limits = options.limits; ranges = options.range
 -- the command with its names as texts
 abbrev pub command_value : Command → CommandValue
 command_value (command.Run name options) = run name.now (options_value options)
-command_value (command.Translate image out target) = translate image.now out.now target
+command_value (command.Translate image out target hints) = translate image.now out.now target (option_map (λ s. s.now) hints)
 command_value (command.List name) = list name.now
 command_value (command.Generate number) = generate number
+command_value (command.Replay name file hints) = replay name.now file.now (option_map (λ s. s.now) hints)
 
 -- the answer is the command where there is one, and else none
 abbrev pub Reads : Option CommandValue → Option Command → Type 0

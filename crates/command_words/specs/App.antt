@@ -48,9 +48,13 @@ ordered_app = with_rule targeted_app (option_arg (codes "order"))
 abbrev pub run_app : App
 run_app = with_rule ordered_app (repeated_arg (codes "interpret"))
 
--- `translate` with its option
+-- `translate` with its options
 abbrev pub translate_app : App
-translate_app = with_rule (plain_app (codes "translate")) (option_arg (codes "target"))
+translate_app = with_rule (with_rule (plain_app (codes "translate")) (option_arg (codes "target"))) (option_arg (codes "hints"))
+
+-- `replay` with its option
+abbrev pub replay_app : App
+replay_app = with_rule (plain_app (codes "replay")) (option_arg (codes "hints"))
 
 -- a command is wanted first, and nothing is told of help
 abbrev pub top_app : App
@@ -63,9 +67,9 @@ top_app = on_top (λ s. record s {
 
 -- all commands
 abbrev pub vest_app : App
-vest_app = with_subcommand (with_subcommand (with_subcommand
+vest_app = with_subcommand (with_subcommand (with_subcommand (with_subcommand
     (with_subcommand top_app run_app.top) translate_app.top)
-    (plain_app (codes "list")).top) (plain_app (codes "generate")).top
+    (plain_app (codes "list")).top) (plain_app (codes "generate")).top) replay_app.top
 
 -- some values, or none
 abbrev pub joined : Option (List Text) → List Text → Option (List Text)

@@ -20,9 +20,10 @@ pub record OptionsValue : Type 0 where
 -- a command with what is behind it
 pub data CommandValue : Type 0 where
   run : (name : Text) → OptionsValue → CommandValue
-  translate : (image out : Text) → Target → CommandValue
+  translate : (image out : Text) → Target → (hints : Option Text) → CommandValue
   list : (name : Text) → CommandValue
   generate : (number : ℕ) → CommandValue
+  replay : (name file : Text) → (hints : Option Text) → CommandValue
 
 -- an option that stands at most once
 abbrev pub once : Text → Choice
@@ -45,11 +46,15 @@ run_form = record {
 
 -- `translate`
 abbrev pub translate_form : Form
-translate_form = record { title = codes "translate"; choices = once (codes "target") ∷ [] }
+translate_form = record { title = codes "translate"; choices = once (codes "target") ∷ once (codes "hints") ∷ [] }
+
+-- `replay`
+abbrev pub replay_form : Form
+replay_form = record { title = codes "replay"; choices = once (codes "hints") ∷ [] }
 
 -- a row for each command
 abbrev pub forms : List Form
-forms = run_form ∷ translate_form ∷ plain_form (codes "list") ∷ plain_form (codes "generate") ∷ []
+forms = run_form ∷ translate_form ∷ plain_form (codes "list") ∷ plain_form (codes "generate") ∷ replay_form ∷ []
 
 -- the number that a value writes, or the default where there is none
 abbrev pub number_or : ℕ → Option Text → Option ℕ
@@ -106,12 +111,12 @@ run_of parts = do
   options ← options_of parts
   Some (run name options)
 
--- `translate IMAGE OUT`
+-- `translate IMAGE OUT`, with the hints of a file by `--hints`
 abbrev pub translate_of : List Part → Option CommandValue
 translate_of parts = do
   names ← two_names (names_in parts)
   target ← target_of parts
-  Some (translate names.0 names.1 target)
+  Some (translate names.0 names.1 target (first_of (values_in (codes "hints") parts)))
 
 -- `list NAME`
 abbrev pub list_of : List Part → Option CommandValue
@@ -126,13 +131,20 @@ generate_of parts = do
   number ← within (λ n. nat_le 1 n && nat_le n 32000) (number_in name)
   Some (generate number)
 
+-- `replay NAME FILE`, with a file for hints by `--hints`
+abbrev pub replay_of : List Part → Option CommandValue
+replay_of parts = do
+  names ← two_names (names_in parts)
+  Some (replay names.0 names.1 (first_of (values_in (codes "hints") parts)))
+
 -- the command with the title, by its names and options
 abbrev pub command_of : Form × List Part → Option CommandValue
 command_of (form, parts) =
     if bytes_eq form.title (codes "run") then run_of parts
     else (if bytes_eq form.title (codes "translate") then translate_of parts
     else (if bytes_eq form.title (codes "list") then list_of parts
-    else (if bytes_eq form.title (codes "generate") then generate_of parts else None)))
+    else (if bytes_eq form.title (codes "generate") then generate_of parts
+    else (if bytes_eq form.title (codes "replay") then replay_of parts else None))))
 
 -- the command that the words spell, by the forms of the commands that there are
 abbrev pub spells : List Form → List Text → Option CommandValue

@@ -76,7 +76,16 @@ fn translate_app<'a>(alloc: Global) -> Result<Command<'a>, AllocError>
     ensures app { IfOk result (λ c. app_of c ≡ spec.translate_app) }
     ensures local { IfOk result (λ c. (fields_of c).has_globals ≡ false) }
 {
-    plain_app(alloc, "translate")?.arg(option_arg(alloc, "target"))
+    plain_app(alloc, "translate")?
+        .arg(option_arg(alloc, "target"))?
+        .arg(option_arg(alloc, "hints"))
+}
+
+fn replay_app<'a>(alloc: Global) -> Result<Command<'a>, AllocError>
+    ensures app { IfOk result (λ c. app_of c ≡ spec.replay_app) }
+    ensures local { IfOk result (λ c. (fields_of c).has_globals ≡ false) }
+{
+    plain_app(alloc, "replay")?.arg(option_arg(alloc, "hints"))
 }
 
 // The words begin with a command, and nothing is told of help.
@@ -98,8 +107,10 @@ pub fn vest_app<'a>(alloc: Global) -> Result<Command<'a>, AllocError>
     let translate = translate_app(alloc)?;
     let list = plain_app(alloc, "list")?;
     let generate = plain_app(alloc, "generate")?;
+    let replay = replay_app(alloc)?;
     let with_run = top_app(alloc).subcommand(run)?;
     let with_translate = with_run.subcommand(translate)?;
     let with_list = with_translate.subcommand(list)?;
-    with_list.subcommand(generate)
+    let with_generate = with_list.subcommand(generate)?;
+    with_generate.subcommand(replay)
 }

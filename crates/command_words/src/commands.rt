@@ -78,11 +78,13 @@ pub enum Command<'a> {
         name: &'a str,
         options: RunOptions<'a>,
     },
-    /// `translate IMAGE OUT`, with `--target` behind it: writes the translated file.
+    /// `translate IMAGE OUT`, with `--target` and `--hints` behind it: writes the translated file.
     Translate {
         image: &'a str,
         out: &'a str,
         target: Target,
+        /// The name of a hint file. It is a word of the line, and may be empty.
+        hints: Option<&'a str>,
     },
     /// `list NAME`: writes the listing.
     List {
@@ -91,6 +93,13 @@ pub enum Command<'a> {
     /// `generate N`: runs the image that is generated for a number from 1 to 32,000.
     Generate {
         number: u32,
+    },
+    /// `replay NAME FILE`, with `--hints` behind it: drives an image's threads by the order of a file.
+    Replay {
+        name: &'a str,
+        file: &'a str,
+        /// The name of the file for hints. It is a word of the line, and may be empty.
+        hints: Option<&'a str>,
     },
 }
 
@@ -202,7 +211,13 @@ pub fn read_translate<'a>(matches: &ArgMatches<'a>) -> Option<Command<'a>>
 {
     let (image, out) = two_names(matches)?;
     let target = target_of(matches)?;
-    Some(Command::Translate { image, out, target })
+    let hints = value_of(matches, "hints");
+    Some(Command::Translate {
+        image,
+        out,
+        target,
+        hints,
+    })
 }
 
 pub fn read_list<'a>(matches: &ArgMatches<'a>) -> Option<Command<'a>>
@@ -224,4 +239,13 @@ pub fn read_generate<'a>(matches: &ArgMatches<'a>) -> Option<Command<'a>>
     Some(Command::Generate {
         number: number as u32,
     })
+}
+
+pub fn read_replay<'a>(matches: &ArgMatches<'a>) -> Option<Command<'a>>
+    ensures { (parts : List Part) → HoldsParts parts (rows_of (found_of matches.now))
+        → Reads (spec.replay_of parts) result }
+{
+    let (name, file) = two_names(matches)?;
+    let hints = value_of(matches, "hints");
+    Some(Command::Replay { name, file, hints })
 }

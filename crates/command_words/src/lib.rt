@@ -63,6 +63,7 @@ pub fn read_words<'a>(alloc: Global, words: &'a [String]) -> Result<Command<'a>,
         "translate" => commands::read_translate(inner).ok_or(WordsFault::Usage),
         "list" => commands::read_list(inner).ok_or(WordsFault::Usage),
         "generate" => commands::read_generate(inner).ok_or(WordsFault::Usage),
+        "replay" => commands::read_replay(inner).ok_or(WordsFault::Usage),
         _ => Err(WordsFault::Usage),
     }
 }
