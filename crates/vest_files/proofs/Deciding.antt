@@ -1,5 +1,5 @@
 -- What stages found, or why they stop, beside what told files decide.
-use Rattle.std.proofs.Common.{◌≡◌, ℕ, Bool, true, false, List, [], length, Option, Some, None, Result, Ok, Err, subst, inl, inr}
+use Rattle.std.proofs.Common.{◌≡◌, ℕ, Bool, true, false, List, [], length, Option, Some, None, Result, Ok, Err, subst, sym, inl, inr}
 use Rattle.std.specs.Prelude.{IfErr, IfOk, MatchBool, MatchResult}
 use Rattle.std.proofs.lemmas.Result.{IfErr-weaker, IfOk-weaker}
 use Rattle.std.proofs.lemmas.Bool.{lt-ltb, le-ltb}
@@ -17,9 +17,11 @@ use Rattle.vest_stops.specs.Decided.{Decision, stops, goes_on, IsDecided, StopsA
 use Rattle.vest_files.specs.Loading.{DecidesBytes, DecidesFile, DecidesFlow, DecidesImage, DecidesLoad, DecidesParts, DecidesTail, is_translated}
 use Rattle.vest_files.specs.Loading.{IsLoaded, IsOfImage, IsOfTranslated, Loads, StopsAtBytes, StopsAtImageFile, StopsAtLoad, StopsAtTranslatedFile}
 use Rattle.vest_stops.specs.Refusal.{RefusalValue}
-use Rattle.vest_files.specs.Stages.{HasParts, IsFile, IsImage, RefusesFlow, RefusesImage, RefusesParts, RefusesTail, StopsAtFile, StopsWhere}
+use Rattle.vest_files.specs.Stages.{HasParts, IsFile, IsImage, RefusesFlow, RefusesHints, RefusesImage, RefusesParts, RefusesTail, StopsAtFile, StopsWhere}
 use Rattle.translate.specs.Translated.{IsTranslated}
-use Rattle.vest_files.specs.Translate.{DecidesTranslate, StopsTranslate}
+use Rattle.run_files.specs.Hints.{hints_of}
+use Rattle.run_files.specs.declared.hint_refusal.HintRefusal.{HintRefusal}
+use Rattle.vest_files.specs.Translate.{DecidesHinted, DecidesHints, DecidesTranslate, DecidesTranslating, IsHinted, IsTranslatedFile, StopsAtHinted, StopsAtTranslating, StopsTranslate}
 use Rattle.vest_files.specs.Limits.{FILE_LIMIT}
 use Rattle.vest_files.specs.Versions.{target_of}
 use Rattle.image_meaning.specs.declared.target.Target.{Target}
@@ -136,22 +138,55 @@ load_goes asked (Some f) name image target code d h e =
     bytes_go (is_translated h.bytes) h.bytes asked image target code d h.loaded (file_read f name h.bytes (DecidesBytes d) d h.file e)
 
 -- ---- `translate`
-translate_stops_at : (files : Option Files) (r w : ℕ) (stop : Stop) (name : List ℕ) (new : DeskMeaning) (d : Decision)
-    → StopsTranslate stop name (record { files = files; read_faults = r; write_faults = w }) new → DecidesTranslate files name d → StopsAsDecided stop d
-translate_stops_at None r w stop name new d h e = absurd e
-translate_stops_at (Some f) r w stop name new d (inl h) e = file_stops stop name f r w new (λ bytes. DecidesImage (image_of bytes) d) d h e
-translate_stops_at (Some f) r w stop name new d (inr (bytes, file, h)) e =
-    image_stops stop bytes d h (file_read f name bytes (λ b. DecidesImage (image_of b) d) d file e)
+hints_refused : (bytes : List ℕ) (Then : List ℕ → Type 0) (d : Decision) (r : RefusalValue) → RefusesHints bytes r → DecidesHints (hints_of bytes) Then d → d ≡ stops status.Refused
+hints_refused bytes Then d r h e = subst (λ (o : Result (List ℕ) HintRefusal). DecidesHints o Then d) h.refused e
 
-pub translate_stops : (stop : Stop) (name : List ℕ) (old new : DeskMeaning) (d : Decision) → StopsTranslate stop name old new → DecidesTranslate old.files name d
+hinted_stops : (hinted : Option (List ℕ)) (stop : Stop) (f : Files) (r w : ℕ) (new : DeskMeaning) (Then : List ℕ → Type 0) (d : Decision)
+    → StopsAtHinted stop hinted (record { files = Some f; read_faults = r; write_faults = w }) new → DecidesHinted f hinted Then d → StopsAsDecided stop d
+hinted_stops None stop f r w new Then d h e = absurd h
+hinted_stops (Some name) stop f r w new Then d (inl h) e = file_stops stop name f r w new (λ bytes. DecidesHints (hints_of bytes) Then d) d h e
+hinted_stops (Some name) stop f r w new Then d (inr (bytes, file, h)) e =
+    stage (RefusesHints bytes) stop d h (λ refusal refused. hints_refused bytes Then d refusal refused (file_read f name bytes (λ b. DecidesHints (hints_of b) Then d) d file e))
+
+hinted_go : (hinted : Option (List ℕ)) (f : Files) (hints : List ℕ) (Then : List ℕ → Type 0) (d : Decision) → IsHinted (Some f) hinted hints → DecidesHinted f hinted Then d → Then hints
+hinted_go None f hints Then d told e = subst Then (sym told) e
+hinted_go (Some name) f hints Then d (bytes, file, has) e =
+    subst (λ (o : Result (List ℕ) HintRefusal). DecidesHints o Then d) has.meant (file_read f name bytes (λ b. DecidesHints (hints_of b) Then d) d file e)
+
+-- what is decided of the flow with the hints
+abbrev Flows : ImageValue → Decision → (hints : List ℕ) → Type 0
+Flows image d hints = DecidesFlow image hints (d ≡ goes_on) d
+
+hinted_flow : (f : Files) (hinted : Option (List ℕ)) (bytes : List ℕ) (image : ImageValue) (d : Decision) → IsImage bytes image → DecidesTranslating f hinted (image_of bytes) d
+    → DecidesHinted f hinted (Flows image d) d
+hinted_flow f hinted bytes image d meant e = subst (λ (o : Result ImageValue ImageRefusal). DecidesTranslating f hinted o d) meant.meant e
+
+translating_stops : (stop : Stop) (bytes : List ℕ) (hinted : Option (List ℕ)) (f : Files) (r w : ℕ) (new : DeskMeaning) (d : Decision)
+    → StopsAtTranslating stop bytes hinted (record { files = Some f; read_faults = r; write_faults = w }) new → DecidesTranslating f hinted (image_of bytes) d → StopsAsDecided stop d
+translating_stops stop bytes hinted f r w new d (inl h) e =
+    stage (RefusesImage bytes) stop d h (λ refusal refused. subst (λ (o : Result ImageValue ImageRefusal). DecidesTranslating f hinted o d) refused.refused e)
+translating_stops stop bytes hinted f r w new d (inr (image, meant, inl h)) e = hinted_stops hinted stop f r w new (Flows image d) d h (hinted_flow f hinted bytes image d meant e)
+translating_stops stop bytes hinted f r w new d (inr (image, meant, inr (hints, told, h))) e =
+    stage (RefusesFlow image hints) stop d h
+    (λ refusal many. too_many image hints (d ≡ goes_on) d refusal many (hinted_go hinted f hints (Flows image d) d told (hinted_flow f hinted bytes image d meant e)))
+
+translate_stops_at : (files : Option Files) (r w : ℕ) (stop : Stop) (name : List ℕ) (hinted : Option (List ℕ)) (new : DeskMeaning) (d : Decision)
+    → StopsTranslate stop name hinted (record { files = files; read_faults = r; write_faults = w }) new → DecidesTranslate files name hinted d → StopsAsDecided stop d
+translate_stops_at None r w stop name hinted new d h e = absurd e
+translate_stops_at (Some f) r w stop name hinted new d (inl h) e = file_stops stop name f r w new (λ bytes. DecidesTranslating f hinted (image_of bytes) d) d h e
+translate_stops_at (Some f) r w stop name hinted new d (inr (bytes, file, h)) e =
+    translating_stops stop bytes hinted f r w new d h (file_read f name bytes (λ b. DecidesTranslating f hinted (image_of b) d) d file e)
+
+pub translate_stops : (stop : Stop) (name : List ℕ) (hinted : Option (List ℕ)) (old new : DeskMeaning) (d : Decision) → StopsTranslate stop name hinted old new → DecidesTranslate old.files name hinted d
     → StopsAsDecided stop d
-translate_stops stop name old new d h e = translate_stops_at old.files old.read_faults old.write_faults stop name new d h e
+translate_stops stop name hinted old new d h e = translate_stops_at old.files old.read_faults old.write_faults stop name hinted new d h e
 
-pub translate_goes : (files : Option Files) (name bytes : List ℕ) (image : ImageValue) (target : Target) (code : Code) (d : Decision) → IsFile files name bytes → IsOfImage bytes image target code
-    → DecidesTranslate files name d → d ≡ goes_on
-translate_goes None name bytes image target code d file h e = absurd e
-translate_goes (Some f) name bytes image target code d file h e =
-    image_goes bytes image target code d h (file_read f name bytes (λ b. DecidesImage (image_of b) d) d file e)
+pub translate_goes : (files : Option Files) (name bytes : List ℕ) (hinted : Option (List ℕ)) (target : Target) (file : List ℕ) (d : Decision) → IsFile files name bytes
+    → IsTranslatedFile target bytes hinted files file → DecidesTranslate files name hinted d → d ≡ goes_on
+translate_goes None name bytes hinted target file d read h e = absurd e
+translate_goes (Some f) name bytes hinted target file d read h e =
+    let decides = file_read f name bytes (λ b. DecidesTranslating f hinted (image_of b) d) d read e in
+    few_enough target h.image h.hints (d ≡ goes_on) d h.code h.translated (hinted_go hinted f h.hints (Flows h.image d) d h.told (hinted_flow f hinted bytes h.image d h.meant decides))
 
 -- ---- what a call answers
 module _ {X : Type 0} (r : Result X Stop) (d : Decision) where
@@ -167,6 +202,6 @@ module _ {X : Type 0} (r : Result X Stop) (d : Decision) where
       decided_by r (IfOk-weaker r _ _ (λ x h. bytes_go (is_translated bytes) bytes asked (image x) (target x) (code x) d h decides) ok)
       (IfErr-weaker r _ _ (λ stop h. bytes_stops (is_translated bytes) stop bytes d h decides) err)
 
-  pub translate_decided : (name : List ℕ) (old new : DeskMeaning) → IfErr r (λ stop. StopsTranslate stop name old new) → IfOk r (λ _. d ≡ goes_on)
-      → DecidesTranslate old.files name d → IsDecided r d
-  translate_decided name old new err ok e = decided_by r ok (IfErr-weaker r _ _ (λ stop h. translate_stops stop name old new d h e) err)
+  pub translate_decided : (name : List ℕ) (hinted : Option (List ℕ)) (old new : DeskMeaning) → IfErr r (λ stop. StopsTranslate stop name hinted old new) → IfOk r (λ _. d ≡ goes_on)
+      → DecidesTranslate old.files name hinted d → IsDecided r d
+  translate_decided name hinted old new err ok e = decided_by r ok (IfErr-weaker r _ _ (λ stop h. translate_stops stop name hinted old new d h e) err)

@@ -1,3 +1,5 @@
 pub mod Deciding
 pub mod Members
 mod Sizes
+pub mod Sooner
+pub mod Hinted

@@ -1,3 +1,4 @@
+pub mod Hinted
 pub mod Limits
 pub mod Versions
 pub mod Stages

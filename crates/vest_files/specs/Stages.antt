@@ -11,13 +11,15 @@ use Rattle.translated_file.specs.Comparing.{compared}
 use Rattle.translated_file.specs.Reading.{parts_of}
 use Rattle.translated_file.specs.Refusal.{numbers_of as translated_numbers}
 use Rattle.translated_file.specs.Values.{PartsValue}
-use Rattle.translated_file.specs.Whole.{AreWhole}
+use Rattle.translated_file.specs.Whole.{AreHints, AreWhole}
 use Rattle.translated_file.specs.declared.refusal.TranslatedRefusal.{TranslatedRefusal}
 use Rattle.flow_discovery.specs.Reach.{AreTooMany}
 use Rattle.flow_discovery.specs.Starts.{starts}
 use Rattle.block_law.specs.Translations.{Code}
 use Rattle.translate.specs.Refusal.{numbers_of as flow_numbers}
 use Rattle.translate.specs.declared.refusal.TranslateRefusal.TheVariants.{Flow as TooMuch}
+use Rattle.run_files.specs.Hints.{hint_numbers_of, hints_of}
+use Rattle.run_files.specs.declared.hint_refusal.HintRefusal.{HintRefusal}
 use Rattle.report_text.specs.declared.refused.Subject.TheVariants as subjects
 use Rattle.vest_stops.specs.Refusal.{RefusalValue, told}
 use Rattle.vest_files.specs.Limits.{FILE_LIMIT}
@@ -67,6 +69,19 @@ pub record RefusesParts (bytes : List ℕ) (refusal : RefusalValue) : Type 0 whe
 
 abbrev pub StopsAtParts : Stop → (bytes : List ℕ) → Type 0
 StopsAtParts stop bytes = StopsWhere (RefusesParts bytes) stop
+
+-- ---- the bytes mean the addresses of a hint file
+pub record HasHints (bytes hints : List ℕ) : Type 0 where
+  pub meant : hints_of bytes ≡ Ok hints
+  pub are : AreHints hints
+
+pub record RefusesHints (bytes : List ℕ) (refusal : RefusalValue) : Type 0 where
+  pub cause : HintRefusal
+  pub refused : hints_of bytes ≡ Err cause
+  pub is : refusal ≡ told subjects.Hints (hint_numbers_of cause)
+
+abbrev pub StopsAtHints : Stop → (bytes : List ℕ) → Type 0
+StopsAtHints stop bytes = StopsWhere (RefusesHints bytes) stop
 
 -- ---- the translation of an image with these hints
 pub record RefusesFlow (image : ImageValue) (hints : List ℕ) (refusal : RefusalValue) : Type 0 where

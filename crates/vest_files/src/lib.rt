@@ -4,6 +4,7 @@
 //! what the files decide where the desk tells them. `specs/` has their tables.
 #![tactic(auto)]
 
+pub mod laws;
 mod listing;
 mod loading;
 mod stages;

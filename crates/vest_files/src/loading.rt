@@ -32,8 +32,8 @@ pub struct Loaded {
     pub hints: Vec<u32>,
 }
 
-/// Of the bytes of a VAX image, as far as it shows itself what can be reached.
-pub fn of_image(alloc: Global, bytes: &[u8], target: Target) -> Result<Loaded, Stop>
+// Of the bytes of a VAX image, as far as it shows itself what can be reached.
+fn of_image(alloc: Global, bytes: &[u8], target: Target) -> Result<Loaded, Stop>
     ensures ok { IfOk result (λ loaded. IsOfImage bytes.now loaded.image loaded.target loaded.translation) }
     ensures target { IfOk result (λ loaded. loaded.target ≡ target) }
     ensures hints { IfOk result (λ loaded. loaded.hints.items ≡ []) }

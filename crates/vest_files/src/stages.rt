@@ -3,14 +3,15 @@ ghost use Rattle.std.specs.Prelude.{◌≡◌, IfOk, IfErr, OnOk, Ok};
 ghost use Rattle.translated_file.specs.Comparing.{compared};
 ghost use Rattle.translated_file.specs.Whole.{AreWhole};
 ghost use Rattle.vest_files.specs.Limits as stated;
-ghost use Rattle.vest_files.specs.Stages.{HasParts, IsFile, IsImage};
+ghost use Rattle.vest_files.specs.Stages.{HasHints, HasParts, IsFile, IsImage};
 ghost use Rattle.translate.specs.Translated.{IsTranslated};
 ghost use Rattle.vest_stops.specs.Files.{SameFiles};
 ghost use Rattle.vest_files.specs.Versions.{target_of};
-ghost use Rattle.vest_files.specs.Stages.{StopsAtFile, StopsAtImage, StopsAtParts, StopsAtTail, StopsAtTranslation};
+ghost use Rattle.vest_files.specs.Stages.{StopsAtFile, StopsAtHints, StopsAtImage, StopsAtParts, StopsAtTail, StopsAtTranslation};
 
 use image_file::{Image, ImageRefusal, read_image};
 use report_text::Subject;
+use run_files::{HintRefusal, read_hints};
 use std::alloc::Global;
 use system_model::Translation;
 use translate::{Target, TranslateRefusal, translate};
@@ -65,6 +66,18 @@ pub fn parts_of(alloc: Global, bytes: &[u8]) -> Result<Parts, Stop>
             Subject::Translated,
             cause.numbers().as_slice(),
         ))),
+    }
+}
+
+/// The addresses of the hint file that the bytes mean.
+pub fn hints_of(alloc: Global, bytes: &[u8]) -> Result<Vec<u32>, Stop>
+    ensures ok { IfOk result (λ hints. HasHints bytes.now hints.items) }
+    ensures err { IfErr result (λ stop. StopsAtHints stop bytes.now) }
+{
+    match read_hints(alloc, bytes) {
+        Ok(hints) => Ok(hints),
+        Err(HintRefusal::WantOfMemory) => Err(Stop::WantOfMemory),
+        Err(cause) => Err(Stop::Refused(Refusal::new(Subject::Hints, cause.numbers().as_slice()))),
     }
 }
 
