@@ -13,7 +13,7 @@ use Rattle.system_model.specs.Legal.{IsLegal}
 use Rattle.system_model.specs.Processors.{Processor}
 use Rattle.system_model.specs.Settings.{Setting}
 use Rattle.legal_history.specs.Entries.{counted_in, failed_in}
-use Rattle.legal_history.specs.Law.{HasHeadline}
+use Rattle.legal_history.specs.Law.{HasHeadline, IsRun}
 use Rattle.tie_switch.specs.Turns.{has_ended}
 use Rattle.vest_runs.specs.Report.{is_spent}
 
@@ -42,6 +42,8 @@ pub record AreDriven (setting : Setting) (permit : Permit) (of : SetUp) (history
 -- the history, oldest first, and the processors are a legal run, in which all threads have ended: so they are what the VAX
 -- threads do
 pub record HasRun (setting : Setting) (permit : Permit) (of : SetUp) (budget : ℕ) (history : List Entry) (processors : List Processor) : Type 0 where
+  -- its image and its input are in range
+  pub in_range : IsRun of
   pub legal : IsLegal setting of budget (reverse history) processors
   pub ended : AllByRecursion (λ (p : Processor). has_ended p.mode ≡ true) processors
   pub spent : (thread : ℕ) (p : Processor) → slice_get processors thread ≡ Some p

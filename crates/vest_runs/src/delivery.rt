@@ -4,7 +4,7 @@ ghost use Rattle.system_model.specs.Interpreted.{has_raised};
 ghost use Rattle.tie_switch.specs.Processors.{processor_of};
 ghost use Rattle.report_text.specs.Offer.{Offers};
 ghost use Rattle.vt_outside.specs.Taking.{TookAll, TookSome};
-ghost use Rattle.vest_runs.specs.Delivery.{Delivers};
+ghost use Rattle.vest_runs.specs.Delivery.{DeliversRun};
 ghost use Rattle.vest_runs.specs.Report.{is_spent, lines_of, report_of, done_by_ends};
 
 use report_text::{Offered, offer};
@@ -19,7 +19,7 @@ pub fn deliver<K: Sink, E: Sink>(
     out: &mut K,
     report: &mut E,
 ) -> Done
-    ensures { Delivers result output.now (map processor_of processors.now) (K.meaning out.old) (K.meaning out.new)
+    ensures { DeliversRun result output.now (map processor_of processors.now) (K.meaning out.old) (K.meaning out.new)
         (E.meaning report.old) (E.meaning report.new) }
 {
     if write_all(out, output).is_err() {

@@ -1,6 +1,7 @@
 // Keeps a run.
 ghost use Rattle.std.specs.Prelude.{◌≡◌, map};
 ghost use Rattle.image_meaning.specs.Permits.{permit_of};
+ghost use Rattle.image_meaning.specs.declared.target.Target.{Target};
 ghost use Rattle.tie_switch.specs.Processors.{processor_of};
 ghost use Rattle.tie_switch.specs.Settings.{image_setting};
 ghost use Rattle.vest_runs.specs.Keeping.{HasKept};
@@ -9,16 +10,14 @@ ghost use Rattle.vest_runs.specs.Threads.{HasRun};
 use crate::kept::Kept;
 use command_words::Limits;
 use image_file::Image;
-use image_meaning::Target;
 use memory_core::MemState;
 use system_model::{Range, Translation};
 use tie_switch::Processor;
 
-/// Keeps a run of an image with its translation for a target on an input, by these limits, in which threads interpret these ranges: its memory
+/// Keeps a run of an image with its translation on an input, by these limits, in which threads interpret these ranges: its memory
 /// and its processors. It takes no memory.
 pub fn keep(
     image: Image,
-    _target: Target,
     translation: Translation,
     input: Vec<u8>,
     limits: Limits,
@@ -28,8 +27,8 @@ pub fn keep(
     kept: &mut Kept,
 )
     requires set_up { memory.set_up ≡ record { image = image; input = input.items; limit = limits.events; miss = limits.miss } }
-    requires ran { HasRun (image_setting image.pages translation ranges.items) (permit_of _target image.pages) memory.set_up limits.budget memory.history (map processor_of processors.items) }
-    ensures kept { HasKept image _target translation input.items limits ranges.items kept.new }
+    ensures kept { (target : Target) → HasRun (image_setting image.pages translation ranges.items) (permit_of target image.pages) memory.set_up limits.budget memory.history (map processor_of processors.items)
+        → HasKept image target translation input.items limits ranges.items kept.new }
     ensures history { kept.new.history ≡ memory.history }
     ensures processors { kept.new.processors ≡ processors.items }
 {
