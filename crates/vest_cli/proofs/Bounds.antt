@@ -9,7 +9,7 @@ use Rattle.command_words.specs.declared.numbers.Range.{Range}
 use Rattle.command_words.specs.Parts.{Part, Text, first_of, names_in, only_name, two_names, values_in}
 use Rattle.command_words.specs.Forms.{Form, line_of}
 use Rattle.command_words.specs.Numbers.{few_ranges, number_in, within}
-use Rattle.command_words.specs.Commands.{CommandValue, DEFAULT_LIMITS, command_of, forms, generate, generate_of, is_miss, limits_of, list, list_of, number_of, run, run_of, spells, target_of, translate, translate_of}
+use Rattle.command_words.specs.Commands.{CommandValue, DEFAULT_LIMITS, command_of, forms, generate, generate_of, is_miss, limits_of, list, list_of, number_of, replay, replay_of, run, run_of, spells, target_of, translate, translate_of}
 use Rattle.vest_cli.specs.Words.{AreBounded, CanBeObeyed}
 
 abbrev Obeyable : Option CommandValue → Type 0
@@ -71,7 +71,7 @@ translate_can : (parts : List Part) → Obeyable (translate_of parts)
 translate_can parts = go (two_names (names_in parts)) (target_of parts)
   where
     go : (names : Option (Text × Text)) (target : Option Target)
-        → Obeyable (option_and_then (λ p. option_and_then (λ t. Some (translate p.0 p.1 t)) target) names)
+        → Obeyable (option_and_then (λ p. option_and_then (λ t. Some (translate p.0 p.1 t (first_of (values_in (codes "hints") parts)))) target) names)
     go None target = tt
     go (Some p) None = tt
     go (Some p) (Some t) = tt
@@ -82,6 +82,13 @@ list_can parts = go (only_name (names_in parts))
     go : (name : Option Text) → Obeyable (option_and_then (λ n. Some (list n)) name)
     go None = tt
     go (Some n) = tt
+
+replay_can : (parts : List Part) → Obeyable (replay_of parts)
+replay_can parts = go (two_names (names_in parts))
+  where
+    go : (names : Option (Text × Text)) → Obeyable (option_and_then (λ p. Some (replay p.0 p.1 (first_of (values_in (codes "hints") parts)))) names)
+    go None = tt
+    go (Some p) = tt
 
 abbrev fits : ℕ → Bool
 fits n = nat_le 1 n && nat_le n 32000
@@ -113,7 +120,8 @@ command_can f parts =
     chosen (bytes_eq f.title (codes "run")) (run_of parts) _ (run_can parts)
     (chosen (bytes_eq f.title (codes "translate")) (translate_of parts) _ (translate_can parts)
     (chosen (bytes_eq f.title (codes "list")) (list_of parts) _ (list_can parts)
-    (chosen (bytes_eq f.title (codes "generate")) (generate_of parts) None (generate_can parts) tt)))
+    (chosen (bytes_eq f.title (codes "generate")) (generate_of parts) _ (generate_can parts)
+    (chosen (bytes_eq f.title (codes "replay")) (replay_of parts) None (replay_can parts) tt))))
 
 spelled_can : (words : List Text) → Obeyable (spells forms words)
 spelled_can words = go (line_of forms words)

@@ -3,27 +3,34 @@ use Rattle.std.proofs.Common.{◌≡◌, ◌<◌, ◌≤◌, ◌∙◌, ℕ, Boo
 use Rattle.std.specs.Prelude.{MatchBool}
 use Rattle.vt_outside.specs.Causes.{Rose, one_more}
 use Rattle.vt_outside.specs.Desk.{DeskMeaning, Files}
+use Rattle.address_map.specs.Pairs.{Pair}
+use Rattle.image_file.specs.Values.{ImageValue}
 use Rattle.memory_core.specs.Contents.{output_of}
 use Rattle.report_text.specs.Generated.{generated_image}
 use Rattle.system_model.specs.Processors.{Processor}
-use Rattle.command_words.specs.Commands.{CommandValue, run, translate, list, generate}
+use Rattle.command_words.specs.Commands.{CommandValue, run, translate, list, generate, replay}
 use Rattle.vest_stops.specs.Decided.{Decision}
 use Rattle.vest_files.specs.Loading.{StopsAtImageFile, StopsAtLoad, StopsAtTranslatedFile, is_translated}
 use Rattle.vest_stops.specs.Status.{status_of, status_of_done}
-use Rattle.vest_files.specs.Translate.{StopsTranslate}
+use Rattle.vest_files.specs.Translate.{StopsAtHinted, StopsTranslate}
 use Rattle.vest_stops.specs.declared.status.Done.{Done}
 use Rattle.vest_stops.specs.declared.status.Done.TheVariants as dones
 use Rattle.vest_stops.specs.declared.status.Status.{Status}
 use Rattle.vest_stops.specs.declared.status.Status.TheVariants as status
 use Rattle.vest_stops.specs.declared.stop.Stop.{Stop}
 use Rattle.vest_stops.specs.declared.stop.Stop.TheVariants.{Absent, Refused, ReadFault, TooLong, WantOfMemory}
-use Rattle.vest_runs.specs.Delivery.{Delivers}
+use Rattle.report_text.specs.Report.{report_text}
+use Rattle.vest_runs.specs.Delivery.{Delivers, DeliversRun}
 use Rattle.vest_runs.specs.Generate.{lines_of}
 use Rattle.vest_runs.specs.Kept.{KeptValue}
 use Rattle.vest_cli.specs.Lent.{Lent}
 use Rattle.vest_runs.specs.Keeping.{processors_of, set_up_of}
 use Rattle.run_files.specs.Spelling.{order_bytes}
+use Rattle.run_files.specs.Values.{OrderValue}
 use Rattle.vest_runs.specs.Order.{order_kept}
+use Rattle.vest_runs.specs.Report as reports
+use Rattle.vest_cli.specs.Hints.{StoresHints}
+use Rattle.vest_cli.specs.Replay.{StopsReplay, done_of}
 use Rattle.vest_cli.specs.Run.{StopsRun, target_of}
 use Rattle.vest_cli.specs.Storing as storing
 use Rattle.vest_cli.specs.Storing.{Stores}
@@ -52,14 +59,27 @@ translated_has_none bytes (inl h) = h
 translated_has_none bytes (inr (parts, has, inl h)) = h
 translated_has_none bytes (inr (parts, has, inr (code, translated, h))) = h
 
-load_rose : (name : List ℕ) (desk desk' : DeskMeaning) → StopsAtLoad ReadFault name desk desk' → Rose desk.read_faults desk'.read_faults
+pub load_rose : (name : List ℕ) (desk desk' : DeskMeaning) → StopsAtLoad ReadFault name desk desk' → Rose desk.read_faults desk'.read_faults
 load_rose name desk desk' (inl h) = h
 load_rose name desk desk' (inr (bytes, file, h)) =
     absurd (neither (is_translated bytes) (StopsAtTranslatedFile ReadFault bytes) (StopsAtImageFile ReadFault bytes) (translated_has_none bytes) (image_has_none bytes) h)
 
-translate_rose : (name : List ℕ) (desk desk' : DeskMeaning) → StopsTranslate ReadFault name desk desk' → Rose desk.read_faults desk'.read_faults
-translate_rose name desk desk' (inl h) = h
-translate_rose name desk desk' (inr (bytes, file, h)) = absurd (image_has_none bytes h)
+hinted_rose : (hints : Option (List ℕ)) (desk desk' : DeskMeaning) → StopsAtHinted ReadFault hints desk desk' → Rose desk.read_faults desk'.read_faults
+hinted_rose None desk desk' h = absurd h
+hinted_rose (Some name) desk desk' (inl h) = h
+hinted_rose (Some name) desk desk' (inr (bytes, file, h)) = absurd h
+
+translate_rose : (name : List ℕ) (hints : Option (List ℕ)) (desk desk' : DeskMeaning) → StopsTranslate ReadFault name hints desk desk' → Rose desk.read_faults desk'.read_faults
+translate_rose name hints desk desk' (inl h) = h
+translate_rose name hints desk desk' (inr (bytes, file, inl h)) = absurd h
+translate_rose name hints desk desk' (inr (bytes, file, inr (image, meant, inl h))) = hinted_rose hints desk desk' h
+translate_rose name hints desk desk' (inr (bytes, file, inr (image, meant, inr (found, told, h)))) = absurd h
+
+pub replay_rose : (name file : List ℕ) (desk desk' : DeskMeaning) → StopsReplay ReadFault name file desk desk' → Rose desk.read_faults desk'.read_faults
+replay_rose name file desk desk' (inl h) = load_rose name desk desk' h
+replay_rose name file desk desk' (inr (image, target, code, loads, inl (inl h))) = h
+replay_rose name file desk desk' (inr (image, target, code, loads, inl (inr (bytes, stored, h)))) = absurd h
+replay_rose name file desk desk' (inr (image, target, code, loads, inr (order, stored, h))) = absurd h
 
 module _ (old new : Lent) (kept : KeptValue) (none : NoneFailed old new) where
   no_desk_read : Rose old.desk.read_faults new.desk.read_faults → ⊥
@@ -71,9 +91,10 @@ module _ (old new : Lent) (kept : KeptValue) (none : NoneFailed old new) where
 
   command_reads : (command : CommandValue) → StopsAt command ReadFault old.desk new.desk old.input new.input → ⊥
   command_reads (run name options) h = run_reads (target_of options.target) name h
-  command_reads (translate image to target) h = no_desk_read (translate_rose image old.desk new.desk h.0)
+  command_reads (translate image to target hints) h = no_desk_read (translate_rose image hints old.desk new.desk h.0)
   command_reads (list name) h = no_desk_read (load_rose name old.desk new.desk h.0)
   command_reads (generate number) h = let same : ReadFault ≡ WantOfMemory = h.0 in cc same
+  command_reads (replay name file hints) h = no_desk_read (replay_rose name file old.desk new.desk h.0)
 
   call_reads : (command : Option CommandValue) → Stops command ReadFault old.desk new.desk old.input new.input → ⊥
   call_reads None h = h
@@ -101,24 +122,36 @@ module _ (old new : Lent) (kept : KeptValue) (none : NoneFailed old new) where
   no_out : Rose old.out.faults new.out.faults → ⊥
   no_out h = stood old.out.faults new.out.faults none.out h
 
-  delivery_writes : (output : List ℕ) (processors : List Processor) → Delivers dones.WriteFault output processors old.out new.out old.report new.report → ⊥
-  delivery_writes output processors (inl h) = no_out h.0.failed
-  delivery_writes output processors (inr h) = stood old.report.faults new.report.faults none.report h.1.failed
+  delivery_writes : (output lines : List ℕ) (decided : Done) → Delivers dones.WriteFault output lines decided old.out new.out old.report new.report → ⊥
+  delivery_writes output lines decided (inl h) = no_out h.0.failed
+  delivery_writes output lines decided (inr h) = stood old.report.faults new.report.faults none.report h.1.failed
 
-  -- its order was not stored in vain: that is the fault of a sink, or of the write
-  order_writes : (made : Done) (to : Option (List ℕ)) (bytes output : List ℕ) (processors : List Processor) → Stores dones.WriteFault made to bytes old.desk new.desk
-      → Delivers made output processors old.out new.out old.report new.report → ⊥
-  order_writes made to bytes output processors (storing.left why is same) h =
-      delivery_writes output processors (subst (λ (d : Done). Delivers d output processors old.out new.out old.report new.report) (sym is) h)
-  order_writes made to bytes output processors (storing.stored name asked sent is writes) h = sent (sym is)
-  order_writes made to bytes output processors (storing.failed name asked sent is writes) h = stood old.desk.write_faults new.desk.write_faults none.desk_writes writes.0
+  run_writes : (output : List ℕ) (processors : List Processor) → DeliversRun dones.WriteFault output processors old.out new.out old.report new.report → ⊥
+  run_writes output processors h = delivery_writes output (reports.report_of processors) (reports.done_by_ends processors) h
+
+  -- a file was not stored in vain: that is the fault of a sink, or of the write
+  stored_writes : (made : Done) (to : Option (List ℕ)) (bytes output lines : List ℕ) (decided : Done) → Stores dones.WriteFault made to bytes old.desk new.desk
+      → Delivers made output lines decided old.out new.out old.report new.report → ⊥
+  stored_writes made to bytes output lines decided (storing.left why is same) h =
+      delivery_writes output lines decided (subst (λ (d : Done). Delivers d output lines decided old.out new.out old.report new.report) (sym is) h)
+  stored_writes made to bytes output lines decided (storing.stored name asked sent is writes) h = sent (sym is)
+  stored_writes made to bytes output lines decided (storing.failed name asked sent is writes) h = stood old.desk.write_faults new.desk.write_faults none.desk_writes writes.0
+
+  hints_writes : (image : ImageValue) (order : OrderValue) (map : List Pair) (to : Option (List ℕ)) (made : Done) (output lines : List ℕ) (decided : Done)
+      → StoresHints image order map to dones.WriteFault made old.desk new.desk → Delivers made output lines decided old.out new.out old.report new.report → ⊥
+  hints_writes image order map None made output lines decided stored h =
+      delivery_writes output lines decided (subst (λ (d : Done). Delivers d output lines decided old.out new.out old.report new.report) (sym stored.0) h)
+  hints_writes image order map (Some name) made output lines decided (bytes, hinted, stored) h = stored_writes made (Some name) bytes output lines decided stored h
 
   command_writes : (command : CommandValue) → Does command dones.WriteFault old new kept → ⊥
-  command_writes (run name options) h = order_writes h.run options.order (order_bytes (order_kept kept)) (output_of kept.history) (processors_of kept) h.stored h.delivered
-  command_writes (translate image to target) h = stood old.desk.write_faults new.desk.write_faults none.desk_writes h.translates.written.0
+  command_writes (run name options) h = stored_writes h.run options.order (order_bytes (order_kept kept)) (output_of kept.history) (reports.report_of (processors_of kept)) (reports.done_by_ends (processors_of kept)) h.stored h.delivered
+  command_writes (translate image to target hints) h = stood old.desk.write_faults new.desk.write_faults none.desk_writes h.translates.written.0
   command_writes (list name) h = no_out h.lists.sent.failed
   command_writes (generate number) h =
-      delivery_writes (lines_of number h.generates.code (set_up_of (generated_image number) kept) kept.history) (processors_of kept) h.generates.delivered
+      run_writes (lines_of number h.generates.code (set_up_of (generated_image number) kept) kept.history) (processors_of kept) h.generates.delivered
+  command_writes (replay name file hints) h =
+      let its = h.replays in
+      hints_writes its.gives.image its.gives.order its.gives.code.map hints its.sent its.replayed.output (report_text its.replayed.ends) (done_of its.replayed.ends) its.stored its.delivered
 
   stop_writes : (stop : Stop) → status_of stop ≡ status.WriteFault → ⊥
   stop_writes Absent e = cc e

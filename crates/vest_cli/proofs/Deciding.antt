@@ -1,16 +1,17 @@
 -- What the meaning of a call says of its status.
-use Rattle.std.proofs.Common.{◌≡◌, ◌≢◌, Option, Some, refl, sym, subst}
-use Rattle.command_words.specs.Commands.{CommandValue, run, translate, list, generate}
+use Rattle.std.proofs.Common.{◌≡◌, ◌≢◌, ◌∙◌, Option, Some, refl, sym, ap, subst}
+use Rattle.command_words.specs.Commands.{CommandValue, run, translate, list, generate, replay}
 use Rattle.vest_stops.specs.Decided.{Decision, goes_on, StopsAsDecided}
 use Rattle.vest_stops.specs.Status.{status_of, status_of_done}
 use Rattle.vest_stops.specs.declared.status.Done.{Done}
 use Rattle.vest_stops.specs.declared.status.Done.TheVariants as dones
+use Rattle.vest_stops.specs.declared.status.Status.{Status}
 use Rattle.vest_stops.specs.declared.status.Status.TheVariants as status
 use Rattle.vest_stops.specs.declared.stop.Stop.{Stop}
 use Rattle.vest_stops.specs.declared.stop.Stop.TheVariants.{Absent, Refused, ReadFault, TooLong, WantOfMemory}
 use Rattle.vest_runs.specs.Kept.{KeptValue}
 use Rattle.vest_cli.specs.Lent.{Lent}
-use Rattle.vest_cli.specs.Decided.{IsOrFault}
+use Rattle.vest_cli.specs.Decided.{EndsARun, IsOrFault}
 use Rattle.vest_cli.specs.Vest.{Does}
 
 pub stopped_as : (command : Option CommandValue) (stop : Stop) (d : Decision) → StopsAsDecided stop d → IsOrFault command (status_of stop) d
@@ -26,10 +27,10 @@ ends_well (run name options) dones.Ok old new kept h = tt
 ends_well (run name options) dones.Exception old new kept h = tt
 ends_well (run name options) dones.Spent old new kept h = tt
 ends_well (run name options) dones.WriteFault old new kept h = tt
-ends_well (translate image to target) dones.Ok old new kept h = refl
-ends_well (translate image to target) dones.Exception old new kept h = absurd h.translates.written
-ends_well (translate image to target) dones.Spent old new kept h = absurd h.translates.written
-ends_well (translate image to target) dones.WriteFault old new kept h = tt
+ends_well (translate image to target hints) dones.Ok old new kept h = refl
+ends_well (translate image to target hints) dones.Exception old new kept h = absurd h.translates.written
+ends_well (translate image to target hints) dones.Spent old new kept h = absurd h.translates.written
+ends_well (translate image to target hints) dones.WriteFault old new kept h = tt
 ends_well (list name) dones.Ok old new kept h = refl
 ends_well (list name) dones.Exception old new kept h = absurd h.lists.sent
 ends_well (list name) dones.Spent old new kept h = absurd h.lists.sent
@@ -38,6 +39,10 @@ ends_well (generate number) dones.Ok old new kept h = tt
 ends_well (generate number) dones.Exception old new kept h = tt
 ends_well (generate number) dones.Spent old new kept h = tt
 ends_well (generate number) dones.WriteFault old new kept h = tt
+ends_well (replay name file hints) dones.Ok old new kept h = tt
+ends_well (replay name file hints) dones.Exception old new kept h = tt
+ends_well (replay name file hints) dones.Spent old new kept h = tt
+ends_well (replay name file hints) dones.WriteFault old new kept h = tt
 
 pub done_as : (spelled : Option CommandValue) (command : CommandValue) (end : Done) (old new : Lent) (kept : KeptValue) (d : Decision)
     → spelled ≡ Some command → Does command end old new kept → d ≡ goes_on → IsOrFault spelled (status_of_done end) d
@@ -58,3 +63,17 @@ done_no_usage dones.Ok = λ e. cc e
 done_no_usage dones.Exception = λ e. cc e
 done_no_usage dones.Spent = λ e. cc e
 done_no_usage dones.WriteFault = λ e. cc e
+
+-- ---- a status that comes behind a run
+pub well_ended : (result : Status) (end : Done) → result ≡ status_of_done end → EndsARun result → end ≢ dones.WriteFault
+well_ended result end is ended failed = subst EndsARun (is ∙ ap status_of_done failed) ended
+
+pub stops_no_run : (result : Status) (stop : Stop) → result ≡ status_of stop → EndsARun result → ⊥
+stops_no_run result stop is ended = by stop (subst EndsARun is ended)
+  where
+    by : (s : Stop) → EndsARun (status_of s) → ⊥
+    by Absent e = e
+    by (Refused refusal) e = e
+    by ReadFault e = e
+    by TooLong e = e
+    by WantOfMemory e = e

@@ -1,7 +1,7 @@
 -- What a run that waits comes to.
 use Rattle.std.proofs.Common.{◌≡◌, ◌≤◌, ◌⊎◌, ◌∙◌, arith, zero-le, List, Option, None, Some, Result, Ok, Err, IfErr, IfOk, refl, sym, ap, subst, inr}
 use Rattle.std.specs.Prelude.{ℕ, []}
-use Rattle.command_words.specs.Commands.{CommandValue, OptionsValue, DEFAULT_LIMITS, generate, list, run, translate}
+use Rattle.command_words.specs.Commands.{CommandValue, OptionsValue, DEFAULT_LIMITS, generate, list, replay, run, translate}
 use Rattle.command_words.specs.declared.commands.Limits.{Limits}
 use Rattle.vt_outside.specs.Desk.{DeskMeaning, Files}
 use Rattle.vt_outside.specs.Sink.{SinkMeaning}
@@ -24,7 +24,7 @@ use Rattle.vest_stops.specs.declared.status.Status.{Status}
 use Rattle.vest_stops.specs.declared.status.Status.TheVariants as status
 use Rattle.vest_stops.specs.declared.stop.Stop.{Stop}
 use Rattle.vest_stops.specs.declared.stop.Stop.TheVariants.{WantOfMemory}
-use Rattle.vest_runs.specs.Delivery.{Delivers}
+use Rattle.vest_runs.specs.Delivery.{DeliversRun}
 use Rattle.vest_runs.specs.Generate.{lines_of}
 use Rattle.vest_runs.specs.Input.{HasGiven, ReadsAll}
 use Rattle.vest_runs.specs.Keeping.{HasKept, processors_of, set_up_of}
@@ -84,14 +84,14 @@ generates_so end number to desk desk' out out' report report' kept task is none 
     let by_input : HasKept image Original code [] task.limits task.ranges.items kept = subst (λ (i : List ℕ). HasKept image Original code i task.limits task.ranges.items kept) is.taken by_image in
     let by_limits : HasKept image Original code [] DEFAULT_LIMITS task.ranges.items kept = subst (λ (l : Limits). HasKept image Original code [] l task.ranges.items kept) is.limits by_input in
     let end_is : end ≡ g.run = unasked_is end g.run to (order_bytes (order_kept kept)) desk desk' none g.stored in
-    let by_end : Delivers end (lines_of number code (set_up_of task.loaded.image kept) kept.history) (processors_of kept) out out' report report' =
-    subst (λ (d : Done). Delivers d (lines_of number code (set_up_of task.loaded.image kept) kept.history) (processors_of kept) out out' report report') (sym end_is) g.delivered in
+    let by_end : DeliversRun end (lines_of number code (set_up_of task.loaded.image kept) kept.history) (processors_of kept) out out' report report' =
+    subst (λ (d : Done). DeliversRun d (lines_of number code (set_up_of task.loaded.image kept) kept.history) (processors_of kept) out out' report report') (sym end_is) g.delivered in
     record {
       code = code;
       whole = subst IsWhole is.image is.whole;
       translated = is.translated;
       has_kept = subst (λ (r : List Range). HasKept image Original code [] DEFAULT_LIMITS r kept) is.ranges by_limits;
-      delivered = subst (λ (i : ImageValue). Delivers end (lines_of number code (set_up_of i kept) kept.history) (processors_of kept) out out' report report') is.image by_end;
+      delivered = subst (λ (i : ImageValue). DeliversRun end (lines_of number code (set_up_of i kept) kept.history) (processors_of kept) out out' report report') is.image by_end;
     }
 
 -- with what is known of what goes out, and where
@@ -198,9 +198,10 @@ module _ (spelled : Option CommandValue) (waiting : Waiting) (result : Status) (
 
   waits_short : (command : CommandValue) → WaitsAt command waiting old.desk mid.desk old.input mid.input → StopsAt command WantOfMemory old.desk mid.desk old.input mid.input
   waits_short (run name options) h = stops_short name options old.desk mid.desk old.input mid.input waiting.task h.is.task
-  waits_short (translate image to target) h = absurd h
+  waits_short (translate image to target hints) h = absurd h
   waits_short (list name) h = absurd h
   waits_short (generate number) h = (refl, h.1)
+  waits_short (replay name file hints) h = absurd h
 
   gives_put : (end : Done) (puts : Puts) (to : Option (List ℕ)) → waiting.puts ≡ puts → name_of waiting.order ≡ to
       → Gives end waiting.task waiting.puts (name_of waiting.order) mid.desk desk mid.out out mid.report report kept
@@ -214,13 +215,14 @@ module _ (spelled : Option CommandValue) (waiting : Waiting) (result : Status) (
       → Gives end waiting.task waiting.puts (name_of waiting.order) mid.desk desk mid.out out mid.report report kept → Does command end old new kept
   does_so end (run name options) h g =
       runs_so end name options old new mid.desk kept waiting.task h.is.task w.leaves.desk (gives_put end Output options.order h.is.puts h.is.order g)
-  does_so end (translate image to target) h g = absurd h
+  does_so end (translate image to target hints) h g = absurd h
   does_so end (list name) h g = absurd h
   does_so end (generate number) h g = record {
     generates = generates_so end number None mid.desk desk old.out out old.report report kept waiting.task h.0.task refl (gives_put end (Lines number) None h.0.puts h.0.order g);
     desk = g.unasked h.0.order ∙ h.1.same_desk;
     input = h.1.same_input;
   }
+  does_so end (replay name file hints) h g = absurd h
 
   pub finish_ends : Finishes waiting result mid.desk desk mid.out out mid.report report kept → Ends spelled result old new kept
   finish_ends (short is untouched same nothing says) =

@@ -7,3 +7,6 @@ mod RunDecided
 mod Halting
 mod Unread
 mod OrderFiles
+mod StoredOrders
+mod Again
+mod Mapped

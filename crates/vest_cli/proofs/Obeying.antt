@@ -18,7 +18,8 @@ use Rattle.vest_runs.specs.Kept.{KeptValue, nothing_kept}
 use Rattle.vest_cli.specs.Lent.{Lent, lent}
 use Rattle.vest_cli.specs.Leaving.{LeavesAll}
 use Rattle.vest_cli.specs.Decided.{DecidesOn}
-use Rattle.vest_cli.specs.Vest.{Does, OnlyGenerates, OnlyLists, OnlyTranslates, StopsAt}
+use Rattle.vest_cli.specs.Replay.{Replays}
+use Rattle.vest_cli.specs.Vest.{Does, OnlyGenerates, OnlyLists, OnlyReplays, OnlyTranslates, StopsAt}
 use Rattle.vest_cli.specs.Waiting.{HaltsAt, HaltsGenerate, HaltsRun, IsHaltDecided, WaitsReady, or_halt}
 use Rattle.vest_cli.specs.declared.halt.Halt.{Halt}
 use Rattle.vest_cli.specs.declared.halt.Halt.TheVariants.{Stops, Waits}
@@ -77,15 +78,28 @@ module _ (r : Result Done Stop) (result : Result Done Halt) (same : result ≡ o
 module _ (r : Result Done Stop) where
   -- ---- nothing else is touched
   module _ (input : SourceMeaning) (report : SinkMeaning) (kept : KeptValue) (nothing : kept ≡ nothing_kept) where
-    pub only_translates : (target : Target) (image to : List ℕ) (desk desk' : DeskMeaning) (out : SinkMeaning) → IfOk r (λ end. Translates target end image to desk desk')
-        → IfOk r (λ end. OnlyTranslates target end image to (lent desk input out report) (lent desk' input out report) kept)
-    only_translates target image to desk desk' out h =
+    pub only_translates : (target : Target) (image to : List ℕ) (hints : Option (List ℕ)) (desk desk' : DeskMeaning) (out : SinkMeaning) → IfOk r (λ end. Translates target end image to hints desk desk')
+        → IfOk r (λ end. OnlyTranslates target end image to hints (lent desk input out report) (lent desk' input out report) kept)
+    only_translates target image to hints desk desk' out h =
         IfOk-weaker r _ _ (λ end translates. record { translates = translates; out = refl; report = refl; input = refl; kept_nothing = nothing }) h
 
     pub only_lists : (name : List ℕ) (desk desk' : DeskMeaning) (out out' : SinkMeaning) → SameFiles desk desk' → IfOk r (λ end. Lists end name desk out out')
         → IfOk r (λ end. OnlyLists end name (lent desk input out report) (lent desk' input out' report) kept)
     only_lists name desk desk' out out' same h =
         IfOk-weaker r _ _ (λ end lists. record { lists = lists; desk = same; report = refl; input = refl; kept_nothing = nothing }) h
+
+    pub only_replays : (name file : List ℕ) (hints : Option (List ℕ)) (desk desk' : DeskMeaning) (out out' report' : SinkMeaning) → IfOk r (λ end. Replays end name file hints desk desk' out out' report report')
+        → IfOk r (λ end. OnlyReplays end name file hints (lent desk input out report) (lent desk' input out' report') kept)
+    only_replays name file hints desk desk' out out' report' h =
+        IfOk-weaker r _ _ (λ end replays. record { replays = replays; input = refl; kept_nothing = nothing }) h
+
+    pub replay_leaves : (desk desk' : DeskMeaning) (out out' report' : SinkMeaning) → IfErr r (λ _. SameFiles desk desk') → IfErr r (λ _. out' ≡ out) → IfErr r (λ _. report' ≡ report)
+        → IfErr r (λ _. LeavesAll (lent desk input out report) (lent desk' input out' report') kept)
+    replay_leaves desk desk' out out' report' stays unsent unsaid = go r stays unsent unsaid
+      where
+        go : (x : Result Done Stop) → IfErr x (λ _. SameFiles desk desk') → IfErr x (λ _. out' ≡ out) → IfErr x (λ _. report' ≡ report) → IfErr x (λ _. LeavesAll (lent desk input out report) (lent desk' input out' report') kept)
+        go (Ok end) same sent said = tt
+        go (Err stop) same sent said = record { desk = same; out = sent; report = said; kept_nothing = nothing }
 
     pub translate_leaves : (desk desk' : DeskMeaning) (out : SinkMeaning) → IfErr r (λ _. SameFiles desk desk')
         → IfErr r (λ _. LeavesAll (lent desk input out report) (lent desk' input out report) kept)

@@ -8,11 +8,10 @@ use Rattle.memory_core.specs.declared.entry.Entry.{Entry}
 use Rattle.memory_core.specs.declared.entry.SetUp.{SetUp}
 use Rattle.tie_switch.specs.Processors.{ProcessorValue, processor_of}
 use Rattle.vest_runs.specs.Order.{order_kept, order_made}
-use Rattle.vest_runs.specs.Delivery.{Delivers}
+use Rattle.vest_runs.specs.Delivery.{DeliversRun}
 use Rattle.vest_runs.specs.Keeping.{HasKept, processors_of, set_up_of}
 use Rattle.vest_runs.specs.Kept.{KeptValue}
 use Rattle.vest_stops.specs.Files.{SameFiles}
-use Rattle.vest_files.specs.Translate.{Writes}
 use Rattle.vest_stops.specs.declared.status.Done.{Done}
 use Rattle.vest_stops.specs.declared.status.Done.TheVariants.{Ok, Exception, Spent, WriteFault}
 use Rattle.vest_cli.specs.Made.{HasMade}
@@ -49,20 +48,6 @@ unasked_is result run to bytes old new none (storing.left why is same) = is
 unasked_is result run to bytes old new none (storing.stored name asked sent is writes) = is
 unasked_is result run to bytes old new none (storing.failed name asked sent is writes) = absurd (let clash : None ≡ Some name = sym none ∙ asked in cc clash)
 
--- ---- what the desk was asked to write is the file
-pub put_as : (name name' bytes bytes' : List ℕ) (old new : DeskMeaning) → name ≡ name' → bytes ≡ bytes' → BothTold old.files new.files (λ f g. PutsAll f g name bytes) → Writes Ok name' bytes' old new
-put_as name name' bytes bytes' old new named same h =
-    subst (λ (b : List ℕ). BothTold old.files new.files (λ f g. PutsAll f g name' b)) same
-    (subst (λ (n : List ℕ). BothTold old.files new.files (λ f g. PutsAll f g n bytes)) named h)
-
-pub put_part_as : (name name' bytes bytes' : List ℕ) (old new : DeskMeaning) → name ≡ name' → bytes ≡ bytes' → Rose old.write_faults new.write_faults
-    → BothTold old.files new.files (λ f g. PutsPart f g name bytes) → Writes WriteFault name' bytes' old new
-put_part_as name name' bytes bytes' old new named same rose h = (
-  rose,
-  subst (λ (b : List ℕ). BothTold old.files new.files (λ f g. PutsPart f g name' b)) same
-      (subst (λ (n : List ℕ). BothTold old.files new.files (λ f g. PutsPart f g n bytes)) named h),
-)
-
 -- ---- what was made is what is kept
 pub kept_order : (history : List Entry) (input : List ℕ) (processors : List ProcessorValue) (kept : KeptValue) → kept.history ≡ history → kept.input ≡ input → kept.processors ≡ processors
     → order_made history input (map processor_of processors) ≡ order_kept kept
@@ -75,12 +60,12 @@ kept_set_up run kept made has =
 
 pub delivered_as : (run : Run) (puts : Puts) (kept : KeptValue) (sent : Done) (out out' report report' : SinkMeaning) → HasMade run
     → HasKept run.task.loaded.image run.task.loaded.target run.task.loaded.translation run.task.taken.items run.task.limits run.task.ranges.items kept → kept.history ≡ run.memory.history → kept.processors ≡ run.processors.items
-    → Delivers sent (put_out puts run.task.loaded.translation run.memory.set_up run.memory.history) (map processor_of run.processors.items) out out' report report'
-    → Delivers sent (put_out puts run.task.loaded.translation (set_up_of run.task.loaded.image kept) kept.history) (processors_of kept) out out' report report'
+    → DeliversRun sent (put_out puts run.task.loaded.translation run.memory.set_up run.memory.history) (map processor_of run.processors.items) out out' report report'
+    → DeliversRun sent (put_out puts run.task.loaded.translation (set_up_of run.task.loaded.image kept) kept.history) (processors_of kept) out out' report report'
 delivered_as run puts kept sent out out' report report' made has same ended h =
     let code = run.task.loaded.translation in
-    let by_set_up : Delivers sent (put_out puts code (set_up_of run.task.loaded.image kept) run.memory.history) (map processor_of run.processors.items) out out' report report' =
-    subst (λ (of : SetUp). Delivers sent (put_out puts code of run.memory.history) (map processor_of run.processors.items) out out' report report') (kept_set_up run kept made has) h in
-    let by_history : Delivers sent (put_out puts code (set_up_of run.task.loaded.image kept) kept.history) (map processor_of run.processors.items) out out' report report' =
-    subst (λ (history : List Entry). Delivers sent (put_out puts code (set_up_of run.task.loaded.image kept) history) (map processor_of run.processors.items) out out' report report') (sym same) by_set_up in
-    subst (λ (processors : List ProcessorValue). Delivers sent (put_out puts code (set_up_of run.task.loaded.image kept) kept.history) (map processor_of processors) out out' report report') (sym ended) by_history
+    let by_set_up : DeliversRun sent (put_out puts code (set_up_of run.task.loaded.image kept) run.memory.history) (map processor_of run.processors.items) out out' report report' =
+    subst (λ (of : SetUp). DeliversRun sent (put_out puts code of run.memory.history) (map processor_of run.processors.items) out out' report report') (kept_set_up run kept made has) h in
+    let by_history : DeliversRun sent (put_out puts code (set_up_of run.task.loaded.image kept) kept.history) (map processor_of run.processors.items) out out' report report' =
+    subst (λ (history : List Entry). DeliversRun sent (put_out puts code (set_up_of run.task.loaded.image kept) history) (map processor_of run.processors.items) out out' report report') (sym same) by_set_up in
+    subst (λ (processors : List ProcessorValue). DeliversRun sent (put_out puts code (set_up_of run.task.loaded.image kept) kept.history) (map processor_of processors) out out' report report') (sym ended) by_history

@@ -8,7 +8,7 @@ use Rattle.block_law.specs.Translations.{Code}
 use Rattle.report_text.specs.Generated.{generated_image}
 use Rattle.translate.specs.Translated.{IsTranslated}
 use Rattle.vest_stops.specs.declared.status.Done.{Done}
-use Rattle.vest_runs.specs.Delivery.{Delivers}
+use Rattle.vest_runs.specs.Delivery.{DeliversRun}
 use Rattle.vest_runs.specs.Generate.{lines_of}
 use Rattle.vest_runs.specs.Keeping.{HasKept, processors_of, set_up_of}
 use Rattle.vest_runs.specs.Kept.{KeptValue}
@@ -20,5 +20,5 @@ pub record Generates (result : Done) (number : ℕ) (out out' report report' : S
   pub whole : IsWhole (generated_image number)
   pub translated : IsTranslated Original (generated_image number) [] code
   pub has_kept : HasKept (generated_image number) Original code [] DEFAULT_LIMITS [] kept
-  pub delivered : Delivers result (lines_of number code (set_up_of (generated_image number) kept) kept.history) (processors_of kept)
+  pub delivered : DeliversRun result (lines_of number code (set_up_of (generated_image number) kept) kept.history) (processors_of kept)
       out out' report report'

@@ -6,7 +6,11 @@ pub mod Made
 pub mod Storing
 pub mod Run
 pub mod Generate
+pub mod Hints
+pub mod Replay
 pub mod Vest
 pub mod Decided
 pub mod Waiting
+pub mod Again
+pub mod Mapped
 pub mod Program

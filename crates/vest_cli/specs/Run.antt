@@ -20,7 +20,7 @@ use Rattle.vest_files.specs.Loading.{DecidesLoad, Loads, StopsAtLoad}
 use Rattle.vest_stops.specs.declared.status.Done.{Done}
 use Rattle.vest_stops.specs.declared.stop.Stop.{Stop}
 use Rattle.run_files.specs.Spelling.{order_bytes}
-use Rattle.vest_runs.specs.Delivery.{Delivers}
+use Rattle.vest_runs.specs.Delivery.{DeliversRun}
 use Rattle.vest_runs.specs.Keeping.{HasKept, processors_of}
 use Rattle.vest_runs.specs.Kept.{KeptValue}
 use Rattle.vest_runs.specs.Order.{order_kept}
@@ -65,7 +65,7 @@ pub record Runs (result : Done) (name : List ℕ) (options : OptionsValue) (old 
   pub input : ReadsAll old.input new.input kept.input
   pub has_kept : HasKept image target code kept.input options.limits (map range_of options.ranges) kept
   pub run : Done
-  pub delivered : Delivers run (output_of kept.history) (processors_of kept) old.out new.out old.report new.report
+  pub delivered : DeliversRun run (output_of kept.history) (processors_of kept) old.out new.out old.report new.report
   pub stored : Stores result run options.order (order_bytes (order_kept kept)) old.desk new.desk
 
 -- ---- what told files and a told input decide

@@ -1,4 +1,4 @@
--- The file of a run's order.
+-- What is stored behind what went out: the file of a run's order, for one.
 use Rattle.std.specs.Prelude.{◌≡◌, ◌≢◌, ◌⊎◌, Bool, true, false, ℕ, List, Option, None, Some, length}
 use Rattle.std.specs.String.{string_bytes}
 use Rattle.vt_outside.specs.Desk.{DeskMeaning}
@@ -17,7 +17,7 @@ has_failed Exception = false
 has_failed Spent = false
 has_failed WriteFault = true
 
--- behind a run that came to `run`: nothing was asked for, or a sink failed; or the file was written; or its write failed
+-- behind output and report, which came to `run`: nothing was asked for, or a sink failed; or the file was written; or its write failed
 pub data Stores (result run : Done) (to : Option (List ℕ)) (bytes : List ℕ) (old new : DeskMeaning) : Type 0 where
   left : (to ≡ None) ⊎ (run ≡ WriteFault) → result ≡ run → SameFiles old new → Stores result run to bytes old new
   stored : (name : List ℕ) → to ≡ Some name → run ≢ WriteFault → result ≡ run → Writes Ok name bytes old new → Stores result run to bytes old new

@@ -1,6 +1,6 @@
 -- Runs that are yet to be made, and what they come to.
 use Rattle.std.specs.Prelude.{◌≡◌, ◌≤◌, ◌<◌, ℕ, List, [], Option, None, Some, Result, Ok, Err, length}
-use Rattle.command_words.specs.Commands.{CommandValue, OptionsValue, generate, list, run, translate}
+use Rattle.command_words.specs.Commands.{CommandValue, OptionsValue, generate, list, replay, run, translate}
 use Rattle.command_words.specs.Commands.{DEFAULT_LIMITS}
 use Rattle.vt_outside.specs.Desk.{DeskMeaning, Files}
 use Rattle.vt_outside.specs.Sink.{SinkMeaning}
@@ -25,7 +25,7 @@ use Rattle.vest_stops.specs.declared.status.Status.TheVariants as status
 use Rattle.vest_stops.specs.declared.stop.Stop.{Stop}
 use Rattle.vest_stops.specs.declared.stop.Stop.TheVariants as stops
 use Rattle.run_files.specs.Spelling.{order_bytes}
-use Rattle.vest_runs.specs.Delivery.{Delivers}
+use Rattle.vest_runs.specs.Delivery.{DeliversRun}
 use Rattle.vest_runs.specs.Generate.{lines_of}
 use Rattle.vest_runs.specs.Keeping.{HasKept, processors_of, set_up_of}
 use Rattle.vest_runs.specs.Kept.{KeptValue, nothing_kept}
@@ -69,7 +69,7 @@ HasSeveral waiting = 1 < length waiting.task.loaded.image.threads
 pub record Gives (result : Done) (task : Task) (puts : Puts) (to : Option (List ℕ)) (desk desk' : DeskMeaning) (out out' report report' : SinkMeaning) (kept : KeptValue) : Type 0 where
   pub has_kept : HasKept task.loaded.image task.loaded.target task.loaded.translation task.taken.items task.limits task.ranges.items kept
   pub run : Done
-  pub delivered : Delivers run (put_out puts task.loaded.translation (set_up_of task.loaded.image kept) kept.history) (processors_of kept) out out' report report'
+  pub delivered : DeliversRun run (put_out puts task.loaded.translation (set_up_of task.loaded.image kept) kept.history) (processors_of kept) out out' report report'
   pub stored : Stores result run to (order_bytes (order_kept kept)) desk desk'
   pub unasked : to ≡ None → desk' ≡ desk
 
@@ -127,12 +127,13 @@ abbrev pub HaltsGenerate : Halt → (number : ℕ) → Type 0
 HaltsGenerate (Stops stop) number = stop ≡ stops.WantOfMemory
 HaltsGenerate (Waits waiting) number = WaitsToGenerate waiting number
 
--- ---- of each command; `translate` and `list` never wait
+-- ---- of each command; `translate`, `list` and `replay` never wait
 abbrev pub WaitsAt : CommandValue → Waiting → DeskMeaning → DeskMeaning → SourceMeaning → SourceMeaning → Type 0
 WaitsAt (run name options) waiting desk desk' input input' = WaitsToRun waiting name options desk.files input input'
-WaitsAt (translate image to target) waiting desk desk' input input' = ⊥
+WaitsAt (translate image to target hints) waiting desk desk' input input' = ⊥
 WaitsAt (list name) waiting desk desk' input input' = ⊥
 WaitsAt (generate number) waiting desk desk' input input' = WaitsToGenerate waiting number × Untouched desk desk' input input'
+WaitsAt (replay name file hints) waiting desk desk' input input' = ⊥
 
 abbrev pub HaltsAt : CommandValue → Halt → DeskMeaning → DeskMeaning → SourceMeaning → SourceMeaning → Type 0
 HaltsAt command (Stops stop) desk desk' input input' = StopsAt command stop desk desk' input input'

@@ -2,7 +2,7 @@
 use Rattle.std.specs.Prelude.{◌≤◌, List, Option, String, map}
 use Rattle.std.specs.String.{string_bytes}
 use Rattle.std.specs.declared.alloc.Global.{Global}
-use Rattle.command_words.specs.Commands.{CommandValue, forms, generate, list, run, spells, translate}
+use Rattle.command_words.specs.Commands.{CommandValue, forms, generate, list, replay, run, spells, translate}
 use Rattle.command_words.specs.declared.commands.Limits.{Limits}
 use Rattle.report_text.specs.declared.images.TheConstants.{MOST_GROUPS}
 
@@ -17,6 +17,7 @@ pub record AreBounded (limits : Limits) : Type 0 where
 -- the limits of `run` are bounded, and an image can be generated for the number of `generate`
 abbrev pub CanBeObeyed : CommandValue → Type 0
 CanBeObeyed (run name options) = AreBounded options.limits
-CanBeObeyed (translate image to target) = Unit {0}
+CanBeObeyed (translate image to target hints) = Unit {0}
 CanBeObeyed (list name) = Unit {0}
 CanBeObeyed (generate number) = number ≤ MOST_GROUPS
+CanBeObeyed (replay name file hints) = Unit {0}

@@ -84,13 +84,12 @@ fn run_task<R: Threads + Wait + Sync, G: Gate + Sync>(
 {
     let Loaded {
         image,
-        target,
         translation,
         ..
     } = &task.loaded;
     let prepared = made_ready(alloc, image, translation)?;
     let running = set_up(alloc, image, &task.taken, task.limits)?;
-    ended_is_run(image, *target, &task.taken, translation, &task.ranges);
+    ended_is_run(image, &task.taken, translation, &task.ranges);
     permits();
     running.go(rt, alloc, image, translation, &prepared, &task.ranges, gate)
 }
@@ -128,16 +127,15 @@ fn run_task_alone(alloc: Global, task: &Task) -> Result<(MemState, Vec<Processor
 {
     let Loaded {
         image,
-        target,
         translation,
         ..
     } = &task.loaded;
     let prepared = made_ready(alloc, image, translation)?;
     let world = set_up_alone(alloc, image, &task.taken, task.limits)?;
+    permits();
     Ok(run_alone(
         world,
         image,
-        *target,
         &task.taken,
         translation,
         &prepared,
@@ -201,7 +199,6 @@ pub(crate) fn keep_run(run: Run, kept: &mut Kept)
     } = task;
     keep(
         loaded.image,
-        loaded.target,
         loaded.translation,
         taken,
         limits,

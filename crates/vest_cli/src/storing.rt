@@ -1,5 +1,5 @@
-// The file of a run's order, where one is asked for.
-ghost use Rattle.std.specs.Prelude.{◌≡◌, ◌≤◌, None, length, map, IfOk};
+// What is stored behind output and report: the file of a run's order, where one is asked for.
+ghost use Rattle.std.specs.Prelude.{◌≡◌, ◌≤◌, None, Some, length, map, IfOk};
 ghost use Rattle.command_words.specs.Answers.{options_value};
 ghost use Rattle.image_file.specs.Whole.{IsWhole};
 ghost use Rattle.run_files.specs.Limits.{MOST_INPUT, MOST_PICKS};
@@ -52,6 +52,19 @@ fn has_failed(done: Done) -> bool
     matches!(done, Done::WriteFault)
 }
 
+/// Writes a file behind output and report, where the sinks took all. It takes no memory.
+pub(crate) fn write_behind<D: Desk>(sent: Done, name: &str, bytes: &[u8], desk: &mut D) -> Done
+    ensures { Stores result sent (Some name.now) bytes.now (D.meaning desk.old) (D.meaning desk.new) }
+{
+    if has_failed(sent) {
+        return sent;
+    }
+    match desk.write(name, bytes) {
+        DeskWrite::Done => sent,
+        DeskWrite::Failed => Done::WriteFault,
+    }
+}
+
 /// Writes the file behind a run, where one is asked for and the sinks took all. It takes no memory.
 pub(crate) fn store<D: Desk>(done: Done, file: Option<OrderFile>, run: &Run, desk: &mut D) -> Done
     requires made { HasMade run.now }
@@ -62,13 +75,7 @@ pub(crate) fn store<D: Desk>(done: Done, file: Option<OrderFile>, run: &Run, des
     let Some(file) = file else {
         return done;
     };
-    if has_failed(done) {
-        return done;
-    }
     let history = run.memory.history();
     let bytes = file.room.filled(history, &run.task.taken, &run.processors);
-    match desk.write(&file.name, &bytes) {
-        DeskWrite::Done => done,
-        DeskWrite::Failed => Done::WriteFault,
-    }
+    write_behind(done, &file.name, &bytes, desk)
 }

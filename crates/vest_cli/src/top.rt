@@ -13,6 +13,7 @@ ghost use Rattle.vest_cli.specs.Waiting.{CallWaits, HaltsAt, IsHaltDecided, Wait
 use crate::conclude::{conclude, refuse_words};
 use crate::generating::generate;
 use crate::halt::{Halt, or_halt};
+use crate::replaying::replay;
 use crate::running::run;
 use crate::tasks::target_of;
 use crate::waiting::Waiting;
@@ -132,8 +133,12 @@ fn obey<D: Desk, I: Source, K: Sink, E: Sink>(
             image,
             out: to,
             target,
-        } => or_halt(translate_file(alloc, image, to, target_of(target), desk)),
+            hints,
+        } => or_halt(translate_file(alloc, image, hints, to, target_of(target), desk)),
         Command::List { name } => or_halt(list_file(alloc, name, desk, out)),
         Command::Generate { number } => generate(alloc, number, desk, out, report, kept),
+        Command::Replay { name, file, hints } => {
+            or_halt(replay(alloc, name, file, hints, desk, out, report))
+        }
     }
 }

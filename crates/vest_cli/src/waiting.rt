@@ -1,7 +1,7 @@
 // A run that is yet to be made: of one thread here, of several by their threads.
 ghost use Rattle.std.specs.Prelude.{◌≡◌, ◌≤◌, IfOk, IfErr, map};
 ghost use Rattle.tie_switch.specs.Processors.{processor_of};
-ghost use Rattle.vest_runs.specs.Delivery.{Delivers};
+ghost use Rattle.vest_runs.specs.Delivery.{DeliversRun};
 ghost use Rattle.vest_runs.specs.Kept.{nothing_kept};
 ghost use Rattle.vest_stops.specs.declared.stop.Stop.TheVariants.{WantOfMemory as NoMemory};
 ghost use Rattle.vest_cli.specs.Made.{HasMade};
@@ -38,7 +38,7 @@ pub struct Waiting {
 // What goes out, and then the report.
 fn deliver_run<K: Sink, E: Sink>(puts: Puts, run: &Run, out: &mut K, report: &mut E) -> Done
     requires { CanPut puts }
-    ensures { Delivers result (put_out puts run.now.task.loaded.translation run.now.memory.set_up run.now.memory.history) (map processor_of run.now.processors.items)
+    ensures { DeliversRun result (put_out puts run.now.task.loaded.translation run.now.memory.set_up run.now.memory.history) (map processor_of run.now.processors.items)
         (K.meaning out.old) (K.meaning out.new) (E.meaning report.old) (E.meaning report.new) }
 {
     match puts {

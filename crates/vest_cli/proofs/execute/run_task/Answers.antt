@@ -27,7 +27,7 @@ returns-clause-ran g c =
     let code = task.loaded.translation in
     let start = running_of image task.taken.items task.limits in
     let law = subst (λ (ranges : List Range). EndedIsRun image task.loaded.target task.taken.items code ranges) c.deref-3.ensures.value
-    (subst (λ (input : List ℕ). EndedIsRun image task.loaded.target input code c.deref-3.result.now) c.deref-2.ensures.value c.ended_is_run.ensures) in
+    (subst (λ (input : List ℕ). EndedIsRun image task.loaded.target input code c.deref-3.result.now) c.deref-2.ensures.value (c.ended_is_run.ensures task.loaded.target c.requires.meets)) in
     by_both c.go.result _ _ _ (λ r legal ended. law start.set_up start.budget r.0.history (map processor_of r.1.items) refl refl
     (subst (λ (ranges : List Range). IsLegal (image_setting image.pages code ranges) start.set_up start.budget (reverse r.0.history) (map processor_of r.1.items)) c.deref-4.ensures.value
     (subst (λ (of : RunningValue). IsLegal (image_setting image.pages code c.deref-4.result.now) of.set_up of.budget (reverse r.0.history) (map processor_of r.1.items)) (c.in_ok-running.ensures ∙ ap (λ (input : List ℕ). running_of image input task.limits) c.deref.ensures.value) legal))

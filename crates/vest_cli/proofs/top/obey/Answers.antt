@@ -1,17 +1,20 @@
 -- The command is the one that was read.
 use Rattle.std.proofs.Common.{IfOk, ap, subst}
+use Rattle.std.specs.Prelude.{option_map}
 use Rattle.command_words.specs.Answers.{command_value, options_value}
-use Rattle.command_words.specs.Commands.{generate, list, run, translate}
+use Rattle.command_words.specs.Commands.{generate, list, replay, run, translate}
 use Rattle.image_meaning.specs.declared.target.Target.{Target}
 use Rattle.vest_files.specs.Loading.{StopsAtLoad}
 use Rattle.vest_files.specs.Translate.{StopsTranslate, Translates}
 use Rattle.vest_cli.specs.Leaving.{LeavesAll}
 use Rattle.vest_cli.specs.Lent.{lent}
+use Rattle.vest_cli.specs.Replay.{StopsReplay}
 use Rattle.vest_cli.specs.Run.{target_of}
 use Rattle.vest_cli.specs.Vest.{Does}
 use Rattle.vest_cli.specs.Words.{CanBeObeyed}
-use Rattle.vest_cli.proofs.Obeying.{decided_as, decided_so, does_as, err_so, generate_leaves, generate_why, halts_as, input_stays, list_leaves, ok_so, only_generates, only_lists, only_translates, ready_so, run_why, translate_leaves, why_so}
+use Rattle.vest_cli.proofs.Obeying.{decided_as, decided_so, does_as, err_so, generate_leaves, generate_why, halts_as, input_stays, list_leaves, ok_so, only_generates, only_lists, only_replays, only_translates, ready_so, replay_leaves, run_why, translate_leaves, why_so}
 use Rattle.vest_cli.proofs.Halting.{generate_decided}
+use Rattle.vest_cli.proofs.StoredOrders.{replay_decided}
 use Rattle.vest_cli.proofs.top.obey.Goals as goal
 
 pub run-requires-clause-few : goal.run-requires-clause-few
@@ -38,27 +41,27 @@ returns-in-Run-clause-decided g c =
 
 pub returns-in-Translate-clause-does : goal.returns-in-Translate-clause-does
 returns-in-Translate-clause-does g c =
-    does_as c.or_halt.result (command_value c.args.command) (translate c.in-Translate.image.now c.in-Translate.to.now c.in-Translate.target)
+    does_as c.or_halt.result (command_value c.args.command) (translate c.in-Translate.image.now c.in-Translate.to.now c.in-Translate.target (option_map (λ s. s.now) c.in-Translate.hints))
     (lent (g.D.Desk.meaning c.args.desk.now) (g.I.Source.meaning c.args.input.now) (g.K.Sink.meaning c.args.out.now) (g.E.Sink.meaning c.args.report.now))
     (lent (g.D.Desk.meaning c.translate_file.new.desk) (g.I.Source.meaning c.args.input.now) (g.K.Sink.meaning c.args.out.now) (g.E.Sink.meaning c.args.report.now))
     c.args.kept.now (ap command_value c.in-Translate.is)
-    (ok_so c.translate_file.result c.or_halt.result c.or_halt.ensures (λ end. Does (translate c.in-Translate.image.now c.in-Translate.to.now c.in-Translate.target) end (lent (g.D.Desk.meaning c.args.desk.now) (g.I.Source.meaning c.args.input.now) (g.K.Sink.meaning c.args.out.now) (g.E.Sink.meaning c.args.report.now)) (lent (g.D.Desk.meaning c.translate_file.new.desk) (g.I.Source.meaning c.args.input.now) (g.K.Sink.meaning c.args.out.now) (g.E.Sink.meaning c.args.report.now)) c.args.kept.now)
-    (only_translates c.translate_file.result (g.I.Source.meaning c.args.input.now) (g.E.Sink.meaning c.args.report.now) c.args.kept.now c.requires.nothing (target_of c.in-Translate.target) c.in-Translate.image.now c.in-Translate.to.now (g.D.Desk.meaning c.args.desk.now) (g.D.Desk.meaning c.translate_file.new.desk) (g.K.Sink.meaning c.args.out.now) (subst (λ (t : Target). IfOk c.translate_file.result (λ end. Translates t end c.in-Translate.image.now c.in-Translate.to.now (g.D.Desk.meaning c.args.desk.now) (g.D.Desk.meaning c.translate_file.new.desk))) c.target_of.ensures c.translate_file.ensures.does)))
+    (ok_so c.translate_file.result c.or_halt.result c.or_halt.ensures (λ end. Does (translate c.in-Translate.image.now c.in-Translate.to.now c.in-Translate.target (option_map (λ s. s.now) c.in-Translate.hints)) end (lent (g.D.Desk.meaning c.args.desk.now) (g.I.Source.meaning c.args.input.now) (g.K.Sink.meaning c.args.out.now) (g.E.Sink.meaning c.args.report.now)) (lent (g.D.Desk.meaning c.translate_file.new.desk) (g.I.Source.meaning c.args.input.now) (g.K.Sink.meaning c.args.out.now) (g.E.Sink.meaning c.args.report.now)) c.args.kept.now)
+    (only_translates c.translate_file.result (g.I.Source.meaning c.args.input.now) (g.E.Sink.meaning c.args.report.now) c.args.kept.now c.requires.nothing (target_of c.in-Translate.target) c.in-Translate.image.now c.in-Translate.to.now (option_map (λ s. s.now) c.in-Translate.hints) (g.D.Desk.meaning c.args.desk.now) (g.D.Desk.meaning c.translate_file.new.desk) (g.K.Sink.meaning c.args.out.now) (subst (λ (t : Target). IfOk c.translate_file.result (λ end. Translates t end c.in-Translate.image.now c.in-Translate.to.now (option_map (λ s. s.now) c.in-Translate.hints) (g.D.Desk.meaning c.args.desk.now) (g.D.Desk.meaning c.translate_file.new.desk))) c.target_of.ensures c.translate_file.ensures.does)))
 
 pub returns-in-Translate-clause-why : goal.returns-in-Translate-clause-why
 returns-in-Translate-clause-why g c =
-    halts_as c.or_halt.result (command_value c.args.command) (translate c.in-Translate.image.now c.in-Translate.to.now c.in-Translate.target)
+    halts_as c.or_halt.result (command_value c.args.command) (translate c.in-Translate.image.now c.in-Translate.to.now c.in-Translate.target (option_map (λ s. s.now) c.in-Translate.hints))
     (g.D.Desk.meaning c.args.desk.now) (g.D.Desk.meaning c.translate_file.new.desk) (g.I.Source.meaning c.args.input.now) (g.I.Source.meaning c.args.input.now) (ap command_value c.in-Translate.is)
-    (why_so c.translate_file.result c.or_halt.result c.or_halt.ensures (translate c.in-Translate.image.now c.in-Translate.to.now c.in-Translate.target)
+    (why_so c.translate_file.result c.or_halt.result c.or_halt.ensures (translate c.in-Translate.image.now c.in-Translate.to.now c.in-Translate.target (option_map (λ s. s.now) c.in-Translate.hints))
     (g.D.Desk.meaning c.args.desk.now) (g.D.Desk.meaning c.translate_file.new.desk) (g.I.Source.meaning c.args.input.now) (g.I.Source.meaning c.args.input.now)
-    (input_stays c.translate_file.result (λ stop. StopsTranslate stop c.in-Translate.image.now (g.D.Desk.meaning c.args.desk.now) (g.D.Desk.meaning c.translate_file.new.desk)) (g.I.Source.meaning c.args.input.now) c.translate_file.ensures.why))
+    (input_stays c.translate_file.result (λ stop. StopsTranslate stop c.in-Translate.image.now (option_map (λ s. s.now) c.in-Translate.hints) (g.D.Desk.meaning c.args.desk.now) (g.D.Desk.meaning c.translate_file.new.desk)) (g.I.Source.meaning c.args.input.now) c.translate_file.ensures.why))
 
 pub returns-in-Translate-clause-ready : goal.returns-in-Translate-clause-ready
 returns-in-Translate-clause-ready g c = ready_so c.translate_file.result c.or_halt.result c.or_halt.ensures
 
 pub returns-in-Translate-clause-decided : goal.returns-in-Translate-clause-decided
 returns-in-Translate-clause-decided g c =
-    decided_as c.or_halt.result (command_value c.args.command) (translate c.in-Translate.image.now c.in-Translate.to.now c.in-Translate.target)
+    decided_as c.or_halt.result (command_value c.args.command) (translate c.in-Translate.image.now c.in-Translate.to.now c.in-Translate.target (option_map (λ s. s.now) c.in-Translate.hints))
     (g.D.Desk.meaning c.args.desk.now).files (g.I.Source.meaning c.args.input.now).left (ap command_value c.in-Translate.is) (λ d on. decided_so c.translate_file.result c.or_halt.result c.or_halt.ensures d (c.translate_file.ensures.decided d on))
 
 pub returns-in-Translate-clause-leaves : goal.returns-in-Translate-clause-leaves
@@ -121,3 +124,36 @@ pub returns-in-Generate-clause-leaves : goal.returns-in-Generate-clause-leaves
 returns-in-Generate-clause-leaves g c =
     generate_leaves c.generate.result (g.D.Desk.meaning c.args.desk.now) (g.D.Desk.meaning c.generate.new.desk) (g.I.Source.meaning c.args.input.now) (g.K.Sink.meaning c.args.out.now) (g.K.Sink.meaning c.generate.new.out) (g.E.Sink.meaning c.args.report.now) (g.E.Sink.meaning c.generate.new.report) c.generate.new.kept
     c.generate.ensures.desk c.generate.ensures.unsent c.generate.ensures.unsaid c.generate.ensures.unkept
+
+pub returns-in-Replay-clause-does : goal.returns-in-Replay-clause-does
+returns-in-Replay-clause-does g c =
+    does_as c.or_halt-in-Replay.result (command_value c.args.command) (replay c.in-Replay.name.now c.in-Replay.file.now (option_map (λ s. s.now) c.in-Replay.hints))
+    (lent (g.D.Desk.meaning c.args.desk.now) (g.I.Source.meaning c.args.input.now) (g.K.Sink.meaning c.args.out.now) (g.E.Sink.meaning c.args.report.now))
+    (lent (g.D.Desk.meaning c.replay.new.desk) (g.I.Source.meaning c.args.input.now) (g.K.Sink.meaning c.replay.new.out) (g.E.Sink.meaning c.replay.new.report))
+    c.args.kept.now (ap command_value c.in-Replay.is)
+    (ok_so c.replay.result c.or_halt-in-Replay.result c.or_halt-in-Replay.ensures (λ end. Does (replay c.in-Replay.name.now c.in-Replay.file.now (option_map (λ s. s.now) c.in-Replay.hints)) end (lent (g.D.Desk.meaning c.args.desk.now) (g.I.Source.meaning c.args.input.now) (g.K.Sink.meaning c.args.out.now) (g.E.Sink.meaning c.args.report.now)) (lent (g.D.Desk.meaning c.replay.new.desk) (g.I.Source.meaning c.args.input.now) (g.K.Sink.meaning c.replay.new.out) (g.E.Sink.meaning c.replay.new.report)) c.args.kept.now)
+    (only_replays c.replay.result (g.I.Source.meaning c.args.input.now) (g.E.Sink.meaning c.args.report.now) c.args.kept.now c.requires.nothing c.in-Replay.name.now c.in-Replay.file.now (option_map (λ s. s.now) c.in-Replay.hints) (g.D.Desk.meaning c.args.desk.now) (g.D.Desk.meaning c.replay.new.desk) (g.K.Sink.meaning c.args.out.now) (g.K.Sink.meaning c.replay.new.out) (g.E.Sink.meaning c.replay.new.report) c.replay.ensures.does))
+
+pub returns-in-Replay-clause-why : goal.returns-in-Replay-clause-why
+returns-in-Replay-clause-why g c =
+    halts_as c.or_halt-in-Replay.result (command_value c.args.command) (replay c.in-Replay.name.now c.in-Replay.file.now (option_map (λ s. s.now) c.in-Replay.hints))
+    (g.D.Desk.meaning c.args.desk.now) (g.D.Desk.meaning c.replay.new.desk) (g.I.Source.meaning c.args.input.now) (g.I.Source.meaning c.args.input.now) (ap command_value c.in-Replay.is)
+    (why_so c.replay.result c.or_halt-in-Replay.result c.or_halt-in-Replay.ensures (replay c.in-Replay.name.now c.in-Replay.file.now (option_map (λ s. s.now) c.in-Replay.hints))
+    (g.D.Desk.meaning c.args.desk.now) (g.D.Desk.meaning c.replay.new.desk) (g.I.Source.meaning c.args.input.now) (g.I.Source.meaning c.args.input.now)
+    (input_stays c.replay.result (λ stop. StopsReplay stop c.in-Replay.name.now c.in-Replay.file.now (g.D.Desk.meaning c.args.desk.now) (g.D.Desk.meaning c.replay.new.desk)) (g.I.Source.meaning c.args.input.now) c.replay.ensures.why))
+
+pub returns-in-Replay-clause-ready : goal.returns-in-Replay-clause-ready
+returns-in-Replay-clause-ready g c = ready_so c.replay.result c.or_halt-in-Replay.result c.or_halt-in-Replay.ensures
+
+pub returns-in-Replay-clause-decided : goal.returns-in-Replay-clause-decided
+returns-in-Replay-clause-decided g c =
+    decided_as c.or_halt-in-Replay.result (command_value c.args.command) (replay c.in-Replay.name.now c.in-Replay.file.now (option_map (λ s. s.now) c.in-Replay.hints))
+    (g.D.Desk.meaning c.args.desk.now).files (g.I.Source.meaning c.args.input.now).left (ap command_value c.in-Replay.is) (λ d on. decided_so c.replay.result c.or_halt-in-Replay.result c.or_halt-in-Replay.ensures d
+    (replay_decided c.replay.result c.in-Replay.name.now c.in-Replay.file.now (option_map (λ s. s.now) c.in-Replay.hints) (g.D.Desk.meaning c.args.desk.now) (g.D.Desk.meaning c.replay.new.desk) (g.K.Sink.meaning c.args.out.now) (g.K.Sink.meaning c.replay.new.out) (g.E.Sink.meaning c.args.report.now) (g.E.Sink.meaning c.replay.new.report)
+    c.replay.ensures.does c.replay.ensures.why d on))
+
+pub returns-in-Replay-clause-leaves : goal.returns-in-Replay-clause-leaves
+returns-in-Replay-clause-leaves g c =
+    err_so c.replay.result c.or_halt-in-Replay.result c.or_halt-in-Replay.ensures
+    (LeavesAll (lent (g.D.Desk.meaning c.args.desk.now) (g.I.Source.meaning c.args.input.now) (g.K.Sink.meaning c.args.out.now) (g.E.Sink.meaning c.args.report.now)) (lent (g.D.Desk.meaning c.replay.new.desk) (g.I.Source.meaning c.args.input.now) (g.K.Sink.meaning c.replay.new.out) (g.E.Sink.meaning c.replay.new.report)) c.args.kept.now)
+    (replay_leaves c.replay.result (g.I.Source.meaning c.args.input.now) (g.E.Sink.meaning c.args.report.now) c.args.kept.now c.requires.nothing (g.D.Desk.meaning c.args.desk.now) (g.D.Desk.meaning c.replay.new.desk) (g.K.Sink.meaning c.args.out.now) (g.K.Sink.meaning c.replay.new.out) (g.E.Sink.meaning c.replay.new.report) c.replay.ensures.stays c.replay.ensures.unsent c.replay.ensures.unsaid)
