@@ -58,15 +58,37 @@ fn run_text(alloc: Global, name: &str, options: &RunOptions<'_>) -> Result<Strin
     Ok(text)
 }
 
+/// The name of a file for hints, where one is named.
+fn push_hints(text: &mut String, hints: &Option<&str>) -> Result<(), AllocError> {
+    if let Some(hints) = hints {
+        let hints = name_text(hints);
+        write!(text, " hints {hints}")?;
+    }
+    Ok(())
+}
+
 fn command_text(alloc: Global, command: &Command<'_>) -> Result<String, AllocError> {
     match command {
         Command::Run { name, options } => run_text(alloc, name, options),
-        Command::Translate { image, out, target } => {
+        Command::Translate {
+            image,
+            out,
+            target,
+            hints,
+        } => {
             let target = target_text(*target);
-            format!(in alloc; "translate {image} to {out}{target}")
+            let mut text = format!(in alloc; "translate {image} to {out}{target}")?;
+            push_hints(&mut text, hints)?;
+            Ok(text)
         }
         Command::List { name } => format!(in alloc; "list {name}"),
         Command::Generate { number } => format!(in alloc; "generate {number}"),
+        Command::Replay { name, file, hints } => {
+            let (name, file) = (name_text(name), name_text(file));
+            let mut text = format!(in alloc; "replay {name} by {file}")?;
+            push_hints(&mut text, hints)?;
+            Ok(text)
+        }
     }
 }
 

@@ -1,10 +1,11 @@
 // What rows do.
 use crate::call::call;
-use crate::cuts::{refuses_changes, refuses_longer, refuses_prefixes};
+use crate::cuts::{refuses_beginnings, refuses_changes, refuses_longer, refuses_prefixes};
 use crate::files::Files;
 use crate::left::Left;
 use crate::lent::{Lent, object_of};
 use crate::pieces::{first_word, parted, place_of, spelled};
+use crate::replays::is_replayed;
 use crate::turns::Turns;
 use anyhow::{Context, Result, bail};
 use row_tally::longword;
@@ -73,21 +74,23 @@ impl Bench {
         }
     }
 
-    // One call, and whether it leaves what is wanted.
+    // One call, and whether it leaves what is wanted, and a run is given again by `replay`, with hints where these are asked for.
     fn calls_once<R: Threads + Wait + Sync + Print>(
         &mut self,
         rt: &R,
         alloc: Global,
         line: &str,
         wanted: &str,
+        hints: bool,
     ) -> Result<bool> {
+        let replayed = is_replayed(rt, alloc, &self.lent, &self.files, line, hints)?;
         let left = call(rt, alloc, &self.lent, &mut self.files, line)?;
         let agrees = left.is_or_prints(rt, alloc, wanted)?;
         self.left = Some(left);
-        Ok(agrees)
+        Ok(agrees && replayed)
     }
 
-    // LINE: STATUS OUT REPORT, so many times.
+    // LINE: STATUS OUT REPORT, so many times, the first of them with hints.
     fn calls<R: Threads + Wait + Sync + Print>(
         &mut self,
         rt: &R,
@@ -96,8 +99,8 @@ impl Bench {
         times: usize,
     ) -> Result<bool> {
         let (line, wanted) = parted(rest, ": ")?;
-        for _ in 0..times {
-            if !self.calls_once(rt, alloc, line, wanted)? {
+        for time in 0..times {
+            if !self.calls_once(rt, alloc, line, wanted, time == 0)? {
                 return Ok(false);
             }
         }
@@ -198,6 +201,7 @@ impl Bench {
             "again" => self.calls_again(rt, alloc, rest),
             "turns" => self.fails_in_turn(rt, alloc, rest),
             "prefixes" => refuses_prefixes(rt, alloc, self.files.get(rest)?),
+            "beginnings" => refuses_beginnings(rt, alloc, &self.files, rest),
             "changes" => refuses_changes(rt, alloc, self.files.get(rest)?),
             "longer" => refuses_longer(rt, alloc, self.files.get(rest)?),
             _ => self.stands(rt, alloc, verb, rest),

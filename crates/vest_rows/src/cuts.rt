@@ -1,7 +1,8 @@
-// Translated files that `translate` wrote, cut and changed.
+// Translated files that `translate` wrote, cut and changed, and orders cut.
 use crate::call::call;
 use crate::files::Files;
 use crate::lent::Lent;
+use crate::pieces::parted;
 use anyhow::{Context, Result};
 use std::alloc::{AllocError, Global};
 use std::sync::Wait;
@@ -19,7 +20,7 @@ const LENGTH: usize = 8;
 /// The bytes of a word.
 const WORD: usize = 4;
 
-/// The name of the file that is run.
+/// The name of the file that is run or replayed.
 const NAME: &str = "cut";
 
 /// Whether `run` refuses the bytes with that line.
@@ -59,6 +60,40 @@ pub fn refuses_prefixes<R: Threads + Wait + Sync>(
         }
     }
     Ok(true)
+}
+
+/// Whether `replay` refuses the beginning of an order as too short.
+fn refuses_beginning<R: Threads + Wait + Sync>(
+    rt: &R,
+    alloc: Global,
+    files: &mut Files,
+    words: &str,
+    beginning: &[u8],
+) -> Result<bool> {
+    files.put(alloc, NAME, beginning.to_vec(alloc)?)?;
+    let line = format!(in alloc; "refused order 1 {}\n", beginning.len())?;
+    let left = call(rt, alloc, &Lent::sound(alloc), files, words)?;
+    Ok(left.is_refused(line.as_str()))
+}
+
+/// IMAGE FILE: whether `replay` of the image refuses each beginning of the order as too short, with its length.
+pub fn refuses_beginnings<R: Threads + Wait + Sync>(
+    rt: &R,
+    alloc: Global,
+    files: &Files,
+    names: &str,
+) -> Result<bool> {
+    let (image, file) = parted(names, " ")?;
+    let words = format!(in alloc; "replay {image} {NAME}")?;
+    let whole = files.get(file)?;
+    let mut files = files.copy(alloc)?;
+    for length in 0..whole.len() {
+        let beginning = whole.get(..length).context("a beginning")?;
+        if !refuses_beginning(rt, alloc, &mut files, words.as_str(), beginning)? {
+            return Ok(false);
+        }
+    }
+    Ok(!whole.is_empty())
 }
 
 /// Whether the file with one byte more is refused, with the place of that byte.

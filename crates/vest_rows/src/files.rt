@@ -3,8 +3,8 @@ use anyhow::{Context, Result, bail};
 use std::alloc::{AllocError, Global};
 use vt_outside::{Desk, DeskRead, MemoryDesk};
 
-/// The most bytes of a file.
-const MOST: usize = 50_331_648;
+/// The most bytes of a file of the rows. A command takes fewer.
+const MOST: usize = 67_108_864;
 
 /// How often a file is read at most, where one call may fail.
 const READS: usize = 2;

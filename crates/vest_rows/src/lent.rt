@@ -96,6 +96,11 @@ impl Lent {
         Ok(())
     }
 
+    /// Whether some call is to fail.
+    pub fn may_fail(&self) -> bool {
+        !self.faults.is_empty()
+    }
+
     pub fn fails_of(&self, alloc: Global, object: Object) -> Result<Vec<u64>, AllocError> {
         let mut fails = Vec::new(alloc);
         for fault in &self.faults {

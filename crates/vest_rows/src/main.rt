@@ -3,7 +3,8 @@
 //!
 //! `pieces` reads bytes, `files` keeps them by their names, `lent` and `gates` have what a call is lent beside the files,
 //! `call` makes the call, `left`, `numbers` and `memory` have what it left, `cuts` goes through beginnings and changes of a translated
-//! file, `turns` through the calls of an object that may fail, and `bench` says which of these a row asks for.
+//! file, `turns` through the calls of an object that may fail, `replays` drives the order of each run again, and `bench` says which of
+//! these a row asks for.
 #![tactic(auto)]
 
 mod bench;
@@ -16,6 +17,7 @@ mod lent;
 mod memory;
 mod numbers;
 mod pieces;
+mod replays;
 mod turns;
 
 use crate::bench::{Bench, is_setting};

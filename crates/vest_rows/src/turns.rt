@@ -29,14 +29,22 @@ fn first(bytes: &[u8], count: u64) -> &[u8] {
     bytes.get(..count as usize).unwrap_or(bytes)
 }
 
+/// How many files a line reads before it writes one: `replay` reads two, and so does `translate` with hints.
+fn reads_of(line: &str) -> u64 {
+    let two = line.starts_with("replay ") || line.contains("--hints");
+    if two { 2 } else { 1 }
+}
+
 /// What a failing call of an object leaves of a call that left `whole`, where sinks take one byte a call: what `out` took
 /// before, and then nothing of the report; or all of it, and what the report took before; or all of both, where the write of a file
 /// failed behind them; or nothing, and why.
-fn is_cut(object: Object, number: u64, whole: &Left, left: &Left) -> bool {
-    match object {
+fn is_cut(turns: &Turns<'_>, number: u64, whole: &Left, left: &Left) -> bool {
+    match turns.object {
         Object::Out => left.has(WRITE_FAULT, first(&whole.out, number), &[]),
         Object::Report => left.has(WRITE_FAULT, &whole.out, first(&whole.report, number)),
-        Object::Desk if number > 0 => left.has(WRITE_FAULT, &whole.out, &whole.report),
+        Object::Desk if number >= reads_of(turns.line) => {
+            left.has(WRITE_FAULT, &whole.out, &whole.report)
+        }
         Object::Desk | Object::Input => left.has(READ_FAULT, &[], b"read fault\n"),
     }
 }
@@ -91,11 +99,7 @@ impl Turns<'_> {
         number: u64,
     ) -> Result<bool> {
         let (left, files) = self.failing(rt, alloc, number)?;
-        Ok(
-            files == *self.files
-                && is_cut(self.object, number, whole, &left)
-                && is_kept(whole, &left),
-        )
+        Ok(files == *self.files && is_cut(self, number, whole, &left) && is_kept(whole, &left))
     }
 
     // Whether each of so many calls is made and leaves what it has to where it fails, and no call is made behind them.

@@ -1,6 +1,7 @@
 // A world beside the threads that are driven by the order of its history.
 ghost use Rattle.image_file.specs.Whole.{IsWhole};
 
+use crate::replayed::check_replayed;
 use crate::texts::order_in;
 use anyhow::{Result, bail};
 use image_file::Image;
@@ -87,12 +88,12 @@ fn driven_by(alloc: Global, image: &Image, input: &[u8], world: &World) -> Resul
     driven_in(alloc, image, input, &order, &counts)
 }
 
-/// Refuses a world that is not what the threads do that are driven by its order.
+/// Refuses a world that is not what the threads do that are driven by its order, or whose stored order is not so replayed.
 pub fn check_driven(alloc: Global, image: &Image, input: &[u8], world: &World) -> Result<()>
     requires { IsWhole image.now }
 {
     match driven_by(alloc, image, input, world)? {
-        Some(run) if is_as(world, &run) => Ok(()),
+        Some(run) if is_as(world, &run) => check_replayed(alloc, image, input, world),
         _ => bail!("not as driven"),
     }
 }

@@ -3,7 +3,7 @@
 //! codes are told along translated runs.
 //!
 //! `images` makes the image of a row, `programs` translates it, `worlds` picks its processors, `driven` compares a world with
-//! the driven threads, `report`, `texts` and `left` say in text what is left. `turns` and `interleavings` go through the
+//! the driven threads, `replayed` these with a replay of its order and of orders like it, `report`, `texts` and `left` say in text what is left. `turns` and `interleavings` go through the
 //! files, and `translations` says what a translation has; `nothing` is a translation of nothing.
 #![tactic(auto)]
 
@@ -13,6 +13,7 @@ mod interleavings;
 mod left;
 mod nothing;
 mod programs;
+mod replayed;
 mod report;
 mod texts;
 mod translations;
