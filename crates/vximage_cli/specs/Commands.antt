@@ -1,8 +1,10 @@
 -- The commands, and what is asked of them.
 use Rattle.std.specs.Prelude.{ℕ, Bool, List, Option, option_map, map}
+use Rattle.dis_text.specs.declared.pieces.Range.{Range}
 use Rattle.image_file.specs.declared.image.Start.{Start}
 use Rattle.image_parts.specs.Values.{OptionsValue}
 use Rattle.vximage_cli.specs.declared.commands.SectionAsked.{SectionAsked}
+use Rattle.vximage_cli.specs.declared.commands.ListingAsked.{ListingAsked}
 use Rattle.vximage_cli.specs.declared.commands.PartsAsked.{PartsAsked}
 use Rattle.vximage_cli.specs.declared.commands.Command.{Command}
 use Rattle.vximage_cli.specs.declared.commands.Command.TheVariants as words
@@ -21,11 +23,18 @@ pub record PartsWanted : Type 0 where
   pub entries : List ℕ
   pub entries_file : Option (List ℕ)
 
+-- what is listed: whether with Alpha words, of which addresses, and the name of the file with names
+pub record ListingWanted : Type 0 where
+  pub with_words : Bool
+  pub range : Range
+  pub names : Option (List ℕ)
+
 -- a command with what is behind it
 pub data CommandValue : Type 0 where
   make_parts : (out : List ℕ) → PartsWanted → CommandValue
   make_elf : (out file : List ℕ) → OptionsValue → CommandValue
   show : (name : List ℕ) → CommandValue
+  list : (name : List ℕ) → ListingWanted → CommandValue
 
 -- the same with names as texts
 abbrev pub section_wanted : SectionAsked → SectionWanted
@@ -39,7 +48,11 @@ parts_wanted asked = record {
   entries_file = option_map (λ s. s.now) asked.entries_file;
 }
 
+abbrev pub listing_wanted : ListingAsked → ListingWanted
+listing_wanted asked = record { with_words = asked.with_words; range = asked.range; names = option_map (λ s. s.now) asked.names }
+
 abbrev pub command_value : Command → CommandValue
 command_value (words.MakeParts out parts) = make_parts out.now (parts_wanted parts)
 command_value (words.MakeElf out file options) = make_elf out.now file.now options
 command_value (words.Show name) = show name.now
+command_value (words.List name asked) = list name.now (listing_wanted asked)

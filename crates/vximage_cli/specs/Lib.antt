@@ -4,5 +4,7 @@ pub mod Stopping
 pub mod Named
 pub mod Making
 pub mod Showing
+pub mod Names
+pub mod Listing
 pub mod Vximage
 pub mod Program

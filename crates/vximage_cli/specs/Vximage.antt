@@ -11,7 +11,8 @@ use Rattle.vest_stops.specs.declared.status.Status.{Status}
 use Rattle.vest_stops.specs.declared.status.Status.TheVariants as status
 use Rattle.vest_stops.specs.declared.stop.Stop.{Stop}
 use Rattle.vest_stops.specs.declared.stop.Stop.TheVariants.{WantOfMemory}
-use Rattle.vximage_cli.specs.Commands.{CommandValue, make_elf, make_parts, show}
+use Rattle.vximage_cli.specs.Commands.{CommandValue, ListingWanted, list, make_elf, make_parts, show}
+use Rattle.vximage_cli.specs.Listing.{Lists, RefusesNames, StopsListing, names_line}
 use Rattle.vximage_cli.specs.Making.{MakesElf, MakesParts, StopsElf, StopsParts}
 use Rattle.vximage_cli.specs.Showing.{Shows, StopsShow}
 use Rattle.vximage_cli.specs.Stopping.{Says, line_of}
@@ -31,6 +32,14 @@ abbrev pub StopsAt : CommandValue → Stop → (named : Option (List ℕ)) → (
 StopsAt (make_parts out wanted) stop named old new = StopsParts stop named wanted old new
 StopsAt (make_elf out file options) stop named old new = StopsElf stop named file options old new
 StopsAt (show name) stop named old new = StopsShow stop named name old new
+StopsAt (list name wanted) stop named old new = StopsListing stop named name wanted old new
+
+-- a line of its file of names is none
+abbrev pub StopsAtNames : CommandValue → (line : ℕ) → DeskMeaning → Type 0
+StopsAtNames (list name wanted) line desk = RefusesNames desk.files wanted.names line
+StopsAtNames (make_parts out wanted) line desk = ⊥
+StopsAtNames (make_elf out file options) line desk = ⊥
+StopsAtNames (show name) line desk = ⊥
 
 -- `make` writes the desk alone
 pub record OnlyWrites (Makes : DeskMeaning → DeskMeaning → Type 0) (desk desk' : DeskMeaning) (out out' : SinkMeaning) : Type 0 where
@@ -42,11 +51,17 @@ pub record OnlyShows (result : Done) (name : List ℕ) (desk desk' : DeskMeaning
   pub shows : Shows result name desk out out'
   pub stays : SameFiles desk desk'
 
+-- and so does `dis`
+pub record OnlyLists (result : Done) (name : List ℕ) (wanted : ListingWanted) (desk desk' : DeskMeaning) (out out' : SinkMeaning) : Type 0 where
+  pub lists : Lists result name wanted desk out out'
+  pub stays : SameFiles desk desk'
+
 -- what it does
 abbrev pub DoesOnly : CommandValue → Done → (desk desk' : DeskMeaning) → (out out' : SinkMeaning) → Type 0
 DoesOnly (make_parts to wanted) result desk desk' out out' = OnlyWrites (MakesParts result to wanted) desk desk' out out'
 DoesOnly (make_elf to file options) result desk desk' out out' = OnlyWrites (MakesElf result to file options) desk desk' out out'
 DoesOnly (show name) result desk desk' out out' = OnlyShows result name desk desk' out out'
+DoesOnly (list name wanted) result desk desk' out out' = OnlyLists result name wanted desk desk' out out'
 
 -- nothing was written, and the report took the line, or a part of it
 pub record Stopped (line : List ℕ) (old new : Lent) : Type 0 where
@@ -58,6 +73,8 @@ pub record Stopped (line : List ℕ) (old new : Lent) : Type 0 where
 pub data Obeys (command : CommandValue) (result : Status) (old new : Lent) : Type 0 where
   stopped : (stop : Stop) (named : Option (List ℕ)) → result ≡ status_of stop → StopsAt command stop named old.desk new.desk
       → Stopped (line_of stop named) old new → Obeys command result old new
+  refused_names : (line : ℕ) → result ≡ status.Refused → StopsAtNames command line old.desk → Stopped (names_line line) old new
+      → Obeys command result old new
   done : (end : Done) → result ≡ status_of_done end → DoesOnly command end old.desk new.desk old.out new.out → new.report ≡ old.report
       → Obeys command result old new
 

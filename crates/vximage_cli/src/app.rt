@@ -2,7 +2,8 @@
 use clap::{Arg, ArgAction, Command};
 use std::alloc::{AllocError, Global};
 
-const ABOUT: &str = "Makes images for vest from parts and from ELF files, and shows them.";
+const ABOUT: &str =
+    "Makes images for vest from parts and from ELF files, shows them, and lists their code.";
 
 const NUMBERS: &str =
     "Addresses, sizes and registers are hexadecimal without a prefix; thread and section numbers are decimal. A name \
@@ -20,6 +21,18 @@ VMS images. Debugging data falls away. GNU ld's -N and -n make code that can be 
 
 const SHOW_ABOUT: &str =
     "Says what an image or a translated file has, and what its translation makes of it";
+
+const DIS_ABOUT: &str =
+    "Lists the code of an image or a translated file: the instructions that can be reached, and the bytes between them";
+
+const ALPHA_HELP: &str = "Lists behind each instruction the Alpha words of its block, too";
+
+const FROM_HELP: &str = "The first address of which lines are listed [default: 0]";
+
+const TO_HELP: &str = "The last address of which lines are listed [default: FFFFFFFF]";
+
+const NAMES_HELP: &str =
+    "Names of addresses: each line of FILE has an address, perhaps a letter, and a name, as nm prints them";
 
 const SECTION_HELP: &str =
     "A section from A on, read-only (r) or writable (w), of SIZE bytes; FILE's bytes are stored from A on. With \
@@ -116,6 +129,21 @@ fn show_app<'a>(alloc: Global) -> Result<Command<'a>, AllocError> {
         .arg(name_arg(alloc, "NAME", "An image or a translated file"))
 }
 
+fn dis_app<'a>(alloc: Global) -> Result<Command<'a>, AllocError> {
+    let alpha = Arg::new(alloc, "alpha")
+        .long("alpha")
+        .action(ArgAction::SetTrue)
+        .help(ALPHA_HELP);
+    Command::new(alloc, "dis")
+        .about(DIS_ABOUT)
+        .after_help(NUMBERS)
+        .arg(name_arg(alloc, "NAME", "An image or a translated file"))?
+        .arg(alpha)?
+        .arg(option_arg(alloc, "from", "A", FROM_HELP))?
+        .arg(option_arg(alloc, "to", "B", TO_HELP))?
+        .arg(option_arg(alloc, "names", "FILE", NAMES_HELP))
+}
+
 /// All commands.
 pub fn vximage_app<'a>(alloc: Global) -> Result<Command<'a>, AllocError> {
     Command::new(alloc, "vximage")
@@ -126,7 +154,8 @@ pub fn vximage_app<'a>(alloc: Global) -> Result<Command<'a>, AllocError> {
         .no_binary_name(true)
         .subcommand_required(true)
         .subcommand(make_app(alloc)?)?
-        .subcommand(show_app(alloc)?)
+        .subcommand(show_app(alloc)?)?
+        .subcommand(dis_app(alloc)?)
 }
 
 /// The version of the words and of what is printed.

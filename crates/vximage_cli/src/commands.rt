@@ -1,4 +1,5 @@
 // The commands, and what is asked of them.
+use dis_text::Range;
 use image_file::Start;
 use image_parts::Options;
 
@@ -21,6 +22,14 @@ pub struct PartsAsked<'a> {
     pub entries_file: Option<&'a str>,
 }
 
+/// What is listed: whether with Alpha words, of which addresses, and the file with names.
+#[derive(Clone, Copy, Debug)]
+pub struct ListingAsked<'a> {
+    pub with_words: bool,
+    pub range: Range,
+    pub names: Option<&'a str>,
+}
+
 /// What a command line asks for. The names are words of the line.
 #[derive(Debug, Drop)]
 pub enum Command<'a> {
@@ -38,5 +47,10 @@ pub enum Command<'a> {
     /// `show NAME`: says what an image or a translated file has, and what its translation makes of it.
     Show {
         name: &'a str,
+    },
+    /// `dis NAME`: lists what stands in the code of an image or a translated file.
+    List {
+        name: &'a str,
+        asked: ListingAsked<'a>,
     },
 }

@@ -2,11 +2,12 @@
 ghost use Rattle.std.specs.Prelude.{◌≡◌, ◌<◌, ◌≤◌, ◌∷◌, ℕ, List, IfErr, IfSome, Ok, OnOk, length, position, unwrap_or};
 ghost use Rattle.vximage_cli.specs.Entries.{ListGives, address_in, digit_of, entries_listed, hexadecimal, is_blank, IsFault, last_line, listed_from};
 
-use std::alloc::{AllocFailed, Global};
+use std::alloc::{AllocError, AllocFailed, Global};
 
 const MOST_DIGITS: usize = 8;
 
-const LINE_FEED: u8 = b'\n';
+/// What ends a line.
+pub const LINE_FEED: u8 = b'\n';
 
 /// Why a file lists no entries.
 #[derive(Clone, Copy, Debug, PartialEq, Eq)]
@@ -22,6 +23,16 @@ impl<T: Drop> From<AllocFailed<T>> for ListFault {
     ghost from_gives = { λ _ fault. fault ≡ WantOfMemory };
 
     fn from(_: AllocFailed<T>) -> ListFault {
+        ListFault::WantOfMemory
+    }
+}
+
+impl From<AllocError> for ListFault {
+    ghost use Rattle.vximage_cli.specs.declared.entries.ListFault.TheVariants.{WantOfMemory};
+
+    ghost from_gives = { λ _ fault. fault ≡ WantOfMemory };
+
+    fn from(_: AllocError) -> ListFault {
         ListFault::WantOfMemory
     }
 }
@@ -47,14 +58,15 @@ pub fn hexadecimal(text: &[u8]) -> Option<u32>
     Some(value)
 }
 
-fn is_blank(byte: u8) -> bool
+/// Whether a byte ends a field.
+pub fn is_blank(byte: u8) -> bool
     ensures { result ≡ is_blank byte }
 {
     byte == b' ' || byte == b'\t' || byte == b'\r'
 }
 
-// Where the first word of a line ends.
-fn word_end(line: &[u8]) -> usize
+/// Where the first word of a line ends.
+pub fn word_end(line: &[u8]) -> usize
     ensures value { result ≡ unwrap_or (position is_blank line.now) (length line.now) }
     ensures within { result ≤ length line.now }
 {
@@ -63,7 +75,8 @@ fn word_end(line: &[u8]) -> usize
         .unwrap_or(line.len())
 }
 
-fn address_in(line: &[u8]) -> Option<u32>
+/// The address at the begin of a line.
+pub fn address_in(line: &[u8]) -> Option<u32>
     ensures { result ≡ address_in line.now }
 {
     hexadecimal(&line[..word_end(line)])

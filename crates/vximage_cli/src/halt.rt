@@ -4,11 +4,12 @@ ghost use Rattle.vt_outside.specs.Taking.{TookAll, TookSome};
 ghost use Rattle.vest_files.specs.Stages.{IsFile, StopsWhere};
 ghost use Rattle.vest_stops.specs.Files.{SameFiles};
 ghost use Rattle.vest_stops.specs.declared.stop.Stop.TheVariants.{WantOfMemory as NoMemory};
+ghost use Rattle.vximage_cli.specs.Listing.{names_line};
 ghost use Rattle.vximage_cli.specs.Named.{name_told};
 ghost use Rattle.vximage_cli.specs.Stopping.{IsTold, Says, StopsAtNamed, line_of, subject_of};
 
 use image_parts::{Judge, MakeRefusal};
-use report_text::Subject;
+use report_text::{Line, Subject};
 use std::alloc::{AllocError, AllocFailed, Global};
 use vest_files::read_file;
 use vest_stops::{Refusal, Stop};
@@ -42,6 +43,24 @@ impl<T: Drop> From<AllocFailed<T>> for Halt<'_> {
 
     fn from(_: AllocFailed<T>) -> Self {
         Halt::from(Stop::WantOfMemory)
+    }
+}
+
+/// Why a command stops that reads names.
+#[derive(Debug, Drop)]
+pub enum Fault<'a> {
+    Halted(Halt<'a>),
+    /// The line, from 1, of the file of names begins with no address.
+    BadName { line: u64 },
+}
+
+impl<'a> From<Halt<'a>> for Fault<'a> {
+    ghost use Rattle.vximage_cli.specs.declared.halt.Fault.TheVariants.{Halted};
+
+    ghost from_gives = { λ halt fault. fault ≡ Halted halt };
+
+    fn from(halt: Halt<'a>) -> Self {
+        Fault::Halted(halt)
     }
 }
 
@@ -106,4 +125,15 @@ pub fn say<E: Sink>(halt: &Halt<'_>, report: &mut E)
         (Stop::TooLong, Some(name)) => say_name(b"too long ", name, report),
         (stop, _) => write_all(report, stop.line().as_slice()),
     };
+}
+
+/// Says that a line of the file of names begins with no address. It takes no memory.
+pub fn say_bad_name<E: Sink>(line: u64, report: &mut E)
+    ensures { Says (names_line line) (E.meaning report.old) (E.meaning report.new) }
+{
+    let mut text = Line::new();
+    text.push_text(b"refused names");
+    text.push_spaced(line);
+    text.push(b'\n');
+    let _ = write_all(report, text.as_slice());
 }

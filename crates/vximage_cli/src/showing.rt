@@ -26,8 +26,8 @@ use vt_outside::{Desk, Sink, write_all};
 /// The first bytes of a translated file.
 const MAGIC: &[u8; 4] = b"VXTR";
 
-// The instructions that can be reached, which are not too many.
-fn reached(
+/// The instructions that can be reached, which are not too many.
+pub fn reached(
     alloc: Global,
     image: &Image,
     hints: &[u32],

@@ -3,11 +3,12 @@ ghost use Rattle.std.specs.Prelude.{◌≡◌, IfErr, IfOk};
 ghost use Rattle.vt_outside.specs.Desk.{DeskMeaning};
 ghost use Rattle.vest_stops.specs.Files.{SameFiles};
 ghost use Rattle.vximage_cli.specs.Commands.{command_value};
-ghost use Rattle.vximage_cli.specs.Named.{name_told};
-ghost use Rattle.vximage_cli.specs.Vximage.{DoesOnly, Ends, Obeys, StopsAt, lent};
+ghost use Rattle.vximage_cli.specs.Named.{StopsAs};
+ghost use Rattle.vximage_cli.specs.Vximage.{DoesOnly, Ends, Obeys, StopsAt, StopsAtNames, lent};
 
 use crate::commands::Command;
-use crate::halt::{Halt, say};
+use crate::halt::{Fault, Halt, say, say_bad_name};
+use crate::listing::list;
 use crate::making::{make_elf, make_parts};
 use crate::showing::{send, show};
 use crate::words::{Told, read_words};
@@ -21,21 +22,24 @@ fn done_by<'a, D: Desk, K: Sink>(
     command: &Command<'a>,
     desk: &mut D,
     out: &mut K,
-) -> Result<Done, Halt<'a>>
+) -> Result<Done, Fault<'a>>
     ensures does { IfOk result (λ done. DoesOnly (command_value command.now) done
         (D.meaning desk.old) (D.meaning desk.new) (K.meaning out.old) (K.meaning out.new)) }
-    ensures why { IfErr result (λ halt. StopsAt (command_value command.now) halt.stop (name_told halt) (D.meaning desk.old) (D.meaning desk.new)) }
+    ensures why { IfErr result (λ fault. StopsAs fault
+        (λ stop named. StopsAt (command_value command.now) stop named (D.meaning desk.old) (D.meaning desk.new))
+        (λ line. StopsAtNames (command_value command.now) line (D.meaning desk.old))) }
     ensures stays { IfErr result (λ _. SameFiles (D.meaning desk.old) (D.meaning desk.new)) }
     ensures unsent { IfErr result (λ _. K.meaning out.new ≡ K.meaning out.old) }
 {
     match command {
-        Command::MakeParts { out: name, parts } => make_parts(alloc, name, parts, desk),
+        Command::MakeParts { out: name, parts } => Ok(make_parts(alloc, name, parts, desk)?),
         Command::MakeElf {
             out: name,
             file,
             options,
-        } => make_elf(alloc, name, file, options, desk),
-        Command::Show { name } => show(alloc, name, desk, out),
+        } => Ok(make_elf(alloc, name, file, options, desk)?),
+        Command::Show { name } => Ok(show(alloc, name, desk, out)?),
+        Command::List { name, asked } => list(alloc, name, asked, desk, out),
     }
 }
 
@@ -53,9 +57,13 @@ pub fn obey<D: Desk, K: Sink, E: Sink>(
 {
     match done_by(alloc, command, desk, out) {
         Ok(done) => done.status(),
-        Err(halt) => {
+        Err(Fault::Halted(halt)) => {
             say(&halt, report);
             halt.stop.status()
+        }
+        Err(Fault::BadName { line }) => {
+            say_bad_name(line, report);
+            Status::Refused
         }
     }
 }

@@ -1,9 +1,10 @@
 // The command that the words of a line spell.
 use crate::app::vximage_app;
-use crate::commands::{Command, PartsAsked};
+use crate::commands::{Command, ListingAsked, PartsAsked};
 use crate::values::{ValueFault, number_of, numbers_of, sections_of, threads_of};
 use clap::error::ErrorKind;
 use clap::{ArgMatches, Error};
+use dis_text::Range;
 use image_parts::{Functions, Options};
 use std::alloc::{AllocError, Global};
 
@@ -85,12 +86,49 @@ fn read_show<'a>(matches: &ArgMatches<'a>) -> Command<'a> {
     }
 }
 
+// The number of an option, where it is there.
+fn number_or<'a>(
+    matches: &ArgMatches<'a>,
+    option: &'static str,
+    otherwise: u32,
+) -> Result<u32, ValueFault<'a>> {
+    match matches.get_str(option) {
+        Some(value) => number_of(option, value),
+        None => Ok(otherwise),
+    }
+}
+
+// The addresses of which lines are listed; the last may not be below the first.
+fn range_of<'a>(matches: &ArgMatches<'a>) -> Result<Range, ValueFault<'a>> {
+    let first = number_or(matches, "from", 0)?;
+    let last = number_or(matches, "to", u32::MAX)?;
+    if last < first {
+        return Err(ValueFault::Bad {
+            option: "to",
+            value: matches.get_str("to").unwrap_or(""),
+        });
+    }
+    Ok(Range { first, last })
+}
+
+fn read_dis<'a>(matches: &ArgMatches<'a>) -> Result<Command<'a>, ValueFault<'a>> {
+    Ok(Command::List {
+        name: matches.get_str("NAME").unwrap_or(""),
+        asked: ListingAsked {
+            with_words: matches.get_flag("alpha"),
+            range: range_of(matches)?,
+            names: matches.get_str("names"),
+        },
+    })
+}
+
 fn read_matches<'a>(
     alloc: Global,
     matches: &ArgMatches<'a>,
 ) -> Result<Command<'a>, ValueFault<'a>> {
     match matches.subcommand() {
         Some(("make", inner)) => read_make(alloc, inner),
+        Some(("dis", inner)) => read_dis(inner),
         Some((_, inner)) => Ok(read_show(inner)),
         None => Err(ValueFault::Bad {
             option: "",
@@ -125,15 +163,41 @@ fn told_of_value(
     Ok(told_by(alloc, &error))
 }
 
+// What the words match, or what `clap` says of them.
+fn matches_of<'a>(
+    alloc: Global,
+    app: &mut clap::Command<'a>,
+    words: &'a [String],
+) -> Result<ArgMatches<'a>, Told> {
+    match app.try_get_matches_from_mut(words) {
+        Ok(matches) => Ok(matches),
+        Err(error) => Err(told_by(alloc, &error)),
+    }
+}
+
+// The command of these matches, or what is said of a value.
+fn command_of<'a>(
+    alloc: Global,
+    app: &mut clap::Command<'_>,
+    matches: &ArgMatches<'a>,
+) -> Result<Command<'a>, Told> {
+    match read_matches(alloc, matches) {
+        Ok(command) => Ok(command),
+        Err(fault) => Err(told_of_value(alloc, app, fault)?),
+    }
+}
+
+fn read_by<'a>(
+    alloc: Global,
+    app: &mut clap::Command<'a>,
+    words: &'a [String],
+) -> Result<Command<'a>, Told> {
+    let matches = matches_of(alloc, app, words)?;
+    command_of(alloc, app, &matches)
+}
+
 /// The command that the words behind the program's name spell, or what is said in its place. It borrows its names from the words.
 pub fn read_words<'a>(alloc: Global, words: &'a [String]) -> Result<Command<'a>, Told> {
     let mut app = vximage_app(alloc)?;
-    let matches = match app.try_get_matches_from_mut(words) {
-        Ok(matches) => matches,
-        Err(error) => return Err(told_by(alloc, &error)),
-    };
-    match read_matches(alloc, &matches) {
-        Ok(command) => Ok(command),
-        Err(fault) => Err(told_of_value(alloc, &mut app, fault)?),
-    }
+    read_by(alloc, &mut app, words)
 }

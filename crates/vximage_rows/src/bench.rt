@@ -110,7 +110,7 @@ impl Bench {
             bail!("two names");
         };
         let mut desk = self.files.desk(alloc, Vec::new(alloc))?;
-        let done = translate_file(alloc, image, out, Target::Original, &mut desk);
+        let done = translate_file(alloc, image, None, out, Target::Original, &mut desk);
         ensure!(matches!(done, Ok(Done::Ok)), "no translation");
         self.files.take(alloc, &mut desk, &names)
     }
