@@ -5,7 +5,11 @@ Each run has a budget of 10,000 steps. It has to end with the refusal, and the l
 here apart from the program; a file that this reading accepts has to run, and nothing else may write to standard output. Where the
 hints or the image of a translated file are others than those whose tail is known, what its tail is compared with isn't told.
 
-tools/damaged_files.py PROGRAM [COUNT [SEED]]"""
+With --orders the files are orders of runs of these images, damaged so, and each is replayed with its image. What the format refuses
+has to be refused so; behind that `replay` ends with 0, 4 or 5, or refuses the order as one that can't be driven (11) or has another end
+(12).
+
+tools/damaged_files.py PROGRAM [--orders] [COUNT [SEED]]"""
 import collections
 import concurrent.futures
 import os
@@ -19,12 +23,13 @@ import tempfile
 
 RAN = {0, 4, 5}
 REFUSED = 3
-IMAGE, TRANSLATED = b"VXIM", b"VXTR"
+IMAGE, TRANSLATED, ORDER = b"VXIM", b"VXTR", b"VXOR"
 TARGETS = {1: "original", 2: "byteword"}
 MOST_THREADS = {1: 16, 2: 32}
 MOST_BYTES = {1: 1 << 20, 2: 1 << 22}
 START_BYTES = {1: 8, 2: 64}
 MOST_SECTIONS, MOST_ENTRIES, MOST_HINTS = 64, 4096, 32768
+MOST_PICKS, MOST_INPUT, MOST_COUNT = 4194304, 65536, 1_000_000_000_000
 ADDRESS_END = 0x80000000
 SECONDS = 20
 PAGE = 512
@@ -62,6 +67,21 @@ def accepted():
 
 def with_hints(version, data, tail, hints):
     return TRANSLATED + struct.pack("<III", version, len(data), len(hints)) + data + b"".join(struct.pack("<I", hint) for hint in hints) + tail
+
+
+def orders(program, images):
+    """Of each image, its number of threads and orders of its runs: whole, cut short by its budget, and with input."""
+    found = []
+    with tempfile.TemporaryDirectory() as room:
+        source, target = pathlib.Path(room, "image"), pathlib.Path(room, "order")
+        for data in images:
+            source.write_bytes(data)
+            made = []
+            for options, text in [([], b""), (["--budget", "9"], b""), (["--interpret", "0:0-FFFFFFFF"], b"ab")]:
+                subprocess.run([program, "run", *options, "--order", target, source], input=text, capture_output=True, check=False)
+                made.append(target.read_bytes())
+            found.append((data, struct.unpack_from("<H", data, 6)[0], made))
+    return found
 
 
 def tails(program, images):
@@ -160,6 +180,39 @@ def refusal_of_tail(at, found, wanted):
     return [6, at + len(wanted)] if len(found) > len(wanted) else None
 
 
+def refusal_of_order(data, threads):
+    """The numbers by which the format refuses an order of so many threads, or none."""
+    if len(data) < 20:
+        return [1, len(data)]
+    if data[:4] != ORDER:
+        return [2]
+    version, found, picks, length = longwords(data, 4, 4)
+    for is_so, numbers in [(version != 1, [3, version]), (found != threads, [4, found]), (picks > MOST_PICKS, [5, picks]),
+                           (length > MOST_INPUT, [6, length])]:
+        if is_so:
+            return numbers
+    picks_at = 20 + 9 * threads + length
+    end = picks_at + 9 * picks
+    if len(data) != end:
+        return [1, len(data)] if len(data) < end else [7, end]
+    ends = [struct.unpack_from("<QB", data, 20 + 9 * thread) for thread in range(threads)]
+    bad = [[8, thread] for thread, (_, flag) in enumerate(ends) if flag > 1]
+    bad += [[9, thread] for thread, (count, _) in enumerate(ends) if count > MOST_COUNT]
+    bad += [[10, place] for place in range(picks) if data[picks_at + 9 * place] >= threads]
+    return bad[0] if bad else None
+
+
+def order_agrees(data, threads, status, line, has_output):
+    """Whether a replay ended as the reading of its order expects it."""
+    if has_output and status not in RAN:
+        return False
+    refusal = refusal_of_order(data, threads)
+    if refusal:
+        return (status, line) == (REFUSED, f"refused order {' '.join(map(str, refusal))}\n")
+    undriven = ["refused order 11\n", *(f"refused order 12 {thread}\n" for thread in range(threads))]
+    return status in RAN or status == REFUSED and line in undriven
+
+
 UNTOLD = "untold"
 
 
@@ -235,10 +288,10 @@ class Runner:
     """Runs the program on one file after the other, in a folder of its own. A new process that is made in this way costs less than one
     of `subprocess`."""
 
-    def __init__(self, program, room):
+    def __init__(self, program, room, words=("run", "--budget", "10000")):
         self.program, self.name, self.out = program, os.path.join(room, "file"), os.path.join(room, "out")
         self.report = os.path.join(room, "report")
-        self.words = [program, "run", "--budget", "10000", self.name]
+        self.words = [program, *words, self.name]
         write = os.O_WRONLY | os.O_CREAT | os.O_TRUNC
         self.streams = [(os.POSIX_SPAWN_OPEN, 0, os.devnull, os.O_RDONLY, 0),
                         (os.POSIX_SPAWN_OPEN, 1, self.out, write, 0o600),
@@ -274,10 +327,45 @@ def runs(program, files, known, seed, count):
     return statuses, wrong
 
 
+def replays(program, stored, seed, count):
+    """The same of damaged orders, each replayed with its image."""
+    rng = random.Random(seed)
+    statuses, wrong = collections.Counter(), []
+    with tempfile.TemporaryDirectory(dir="/dev/shm") as room:
+        image_name = os.path.join(room, "image")
+        runner = Runner(program, room, ("replay", image_name))
+        for _ in range(count):
+            picture, threads, made = rng.choice(stored)
+            pathlib.Path(image_name).write_bytes(picture)
+            data = damaged(rng, made)
+            status, report, has_output = runner.run(data)
+            statuses[status] += 1
+            if not order_agrees(data, threads, status, report, has_output):
+                wrong.append((status, report, data.hex() + " of " + picture.hex()))
+    return statuses, wrong
+
+
+def try_orders(program, count, seed):
+    stored = orders(program, list(accepted()))
+    statuses, wrong = collections.Counter(), []
+    with concurrent.futures.ProcessPoolExecutor() as pool:
+        chunks = [(f"{seed} {first}", min(CHUNK, count - first)) for first in range(0, count, CHUNK)]
+        for found, bad in pool.map(replays, [program] * len(chunks), [stored] * len(chunks), *zip(*chunks)):
+            statuses.update(found)
+            wrong += bad
+    print(f"{count} orders of {len(stored)} images:", ", ".join(f"status {s} {n}" for s, n in sorted(statuses.items(), key=str)))
+    for status, report, text in wrong[:20]:
+        print(f"wrong: {status} {report.strip()} {text}")
+    return 1 if wrong else 0
+
+
 def main():
+    numbers = [word for word in sys.argv[2:] if word != "--orders"]
     program = os.path.abspath(sys.argv[1])
-    count = int(sys.argv[2]) if len(sys.argv) > 2 else 1_000_000
-    seed = int(sys.argv[3]) if len(sys.argv) > 3 else 1
+    count = int(numbers[0]) if numbers else 1_000_000
+    seed = int(numbers[1]) if len(numbers) > 1 else 1
+    if "--orders" in sys.argv:
+        return try_orders(program, count, seed)
     known = tails(program, list(accepted()))
     files = [*(data for version, data in known),
              *(with_hints(version, data, tail, hints) for (version, data), tail in known.items() for hints in ([], [0x200]))]

@@ -1,6 +1,7 @@
 #!/usr/bin/env python3
 """Lists the definitions and lemmas that nothing cites, and the items that a crate gives out and no other crate names, but for laws, and
-for what another item that is given out speaks of: a type of its signature or of a definition, or a table of its contract."""
+for what another item that is given out speaks of: a type of its signature, of a definition or of the head of its impl, or a table of its
+contract."""
 import collections
 import pathlib
 import re
@@ -14,9 +15,12 @@ ITEM = re.compile(r"^ *pub (?:const fn|fn|struct|enum|const|trait|type) ([A-Za-z
 USE = re.compile(r"^\s*(ghost )?(pub )?use ")
 TYPE = re.compile(r"\b[A-Z][a-z][A-Za-z0-9]*\b")
 FUNCTION = re.compile(r"^ *pub (?:const )?fn ")
+TRAIT = re.compile(r"^ *pub trait ")
+# The type of an impl that is no trait's, and what stands in its place for a parameter.
+IMPL = re.compile(r"^impl(?:<[^>]*>)? ([A-Z]\w*)<(.*)> \{$")
 # Files whose names the toolchain gives; and files of lemmas that stand for themselves: worked rows, and what is refused.
 GOALS = {"Answers.antt", "Invariants.antt", "Proof.antt"}
-ROWS = {"Refused.antt", "Rows.antt", "Sizes.antt", "Worked.antt"}
+ROWS = ("Refused.antt", "Rows.antt", "Sizes.antt", "Worked.antt")
 # The crates whose lemmas are answers from outside, and stand for themselves too: their names end so.
 OUTSIDE = "vectors"
 
@@ -37,7 +41,7 @@ def given_out(crate, path, name):
     root = crate / "src" / "lib.rt"
     text = "\n".join(text_of(root))
     module = path.relative_to(crate / "src").with_suffix("").parts[0]
-    used = NAME.findall(" ".join(re.findall(r"pub use [^;]*;", text)))
+    used = NAME.findall(re.sub(r"\w+::", "", " ".join(re.findall(r"pub use [^;]*;", text))))
     return path == root or f"pub mod {module};" in text or name in used
 
 
@@ -49,7 +53,10 @@ def items_of(text):
         item = ITEM.match(line)
         if not item:
             continue
-        ends = re.compile(r"^ *\{\}?$|^(?! *(?:ensures|requires)\b).*\{$") if FUNCTION.match(line) else re.compile(r"^ *\}|;$")
+        if FUNCTION.match(line):
+            ends = re.compile(r"^ *\{\}?$|^(?! *(?:ensures|requires)\b).*\{$")
+        else:
+            ends = re.compile(r"^\}" if TRAIT.match(line) else r"^ *\}|;$")
         end = next((n for n in range(number, len(text)) if ends.search(text[n])), number)
         words = set(NAME.findall(" ".join(text[number:end + 1]))) - {item.group(1)}
         found.append((number + 1, item.group(1), words, text[end].strip() == "{}"))
@@ -67,7 +74,7 @@ def main():
             cited.update(set(NAME.findall(line)))
     dead = []
     for path, text in lines.items():
-        if path.suffix != ".antt" or path.name in GOALS | ROWS or any(part.endswith(OUTSIDE) for part in path.parts):
+        if path.suffix != ".antt" or path.name in GOALS or path.name.endswith(ROWS) or any(part.endswith(OUTSIDE) for part in path.parts):
             continue
         own = collections.Counter()
         heads = {}
@@ -94,6 +101,9 @@ def main():
         words = set(NAME.findall(others))
         public = [(path, *head) for path in files(crate, "rt") for head in items_of(lines[path]) if given_out(crate, path, head[1])]
         types = {name for path in files(crate / "specs", "antt") for line in lines[path] if not USE.match(line) for name in TYPE.findall(line)}
+        heads = [head for path in files(crate, "rt") for line in lines[path] if (head := IMPL.match(line))]
+        given = {name for _, _, name, _, _ in public}
+        types |= {name for head in heads if head[1] in given for name in TYPE.findall(head[2])}
         for path, number, name, _, is_law in public:
             spoken_of = name in types or any(name in said for other, at, _, said, _ in public if (other, at) != (path, number))
             if not (name in words or is_law or spoken_of):

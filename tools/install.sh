@@ -32,6 +32,10 @@ install_program() {
 install_program vest
 if [ -x "$(built vximage)" ]; then
     install_program vximage
+    install -D -m 644 "$top/docs/man/vximage.1" "$prefix/share/man/man1/vximage.1"
+    install -D -m 644 "$top/completions/vximage.bash" "$prefix/share/bash-completion/completions/vximage"
+    install -D -m 644 "$top/completions/_vximage" "$prefix/share/zsh/site-functions/_vximage"
+    install -D -m 644 "$top/completions/vximage.fish" "$prefix/share/fish/vendor_completions.d/vximage.fish"
 fi
 install -D -m 644 "$top/docs/man/vest.1" "$prefix/share/man/man1/vest.1"
 install -D -m 644 "$top/completions/vest.bash" "$prefix/share/bash-completion/completions/vest"

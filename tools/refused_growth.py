@@ -1,6 +1,6 @@
 #!/usr/bin/env python3
 """Refuses each growth of the built program's memory in turn: for a run of the sample image, a run of an image with 32 threads, both
-with `--order` too, `translate` and `list`. Each such call has to end with status 9, `no memory` on standard error and nothing on standard
+with `--order` too, `translate`, `list` and `replay`, with hints and without. Each such call has to end with status 9, `no memory` on standard error and nothing on standard
 output or under the second name; a thread that can't be made for want of memory is no exception. Then, that a run takes no memory once its
 processors step: it takes as many growths as one whose budget is one step, and succeeds where every growth behind those would be
 refused. The status is 1 where a growth isn't answered so, and where none is counted.
@@ -20,6 +20,8 @@ THREADS = 32
 WANT_OF_MEMORY = 9
 LINE = "no memory\n"
 SAMPLE = bytes.fromhex("D00550BC02BC01")
+# MOVAB @#220,R1; JMP (R1); and at 220 CHMK #1
+JUMP = bytes.fromhex("9E9F20020000511761") + bytes(23) + bytes.fromhex("BC01")
 
 SHIM = r"""
 #define _GNU_SOURCE
@@ -97,6 +99,9 @@ class Bench:
         subprocess.run(["gcc", "-shared", "-fPIC", "-O1", "-w", "-o", self.library, source, "-ldl"], check=True)
         (self.room / "sample").write_bytes(image(1, 1, SAMPLE))
         (self.room / "threads").write_bytes(image(2, THREADS, SAMPLE))
+        (self.room / "jump").write_bytes(image(2, THREADS, JUMP))
+        self.call(["run", "jump", "--order", "order"])
+        self.call(["replay", "jump", "order", "--hints", "hints"])
 
     def call(self, words, first=None, last=None):
         """Status, output, report and growths of a call in which the growths from the first to the last are refused."""
@@ -151,7 +156,9 @@ def main():
         for name, words in [("run", ["run", "sample"]), ("run of 32 threads", ["run", "threads"]),
                             ("run --order", ["run", "sample", "--order", "out"]),
                             ("run --order of 32 threads", ["run", "threads", "--order", "out"]),
-                            ("translate", ["translate", "sample", "out"]), ("list", ["list", "sample"])]:
+                            ("translate", ["translate", "sample", "out"]), ("list", ["list", "sample"]),
+                            ("translate --hints", ["translate", "jump", "out", "--hints", "hints"]),
+                            ("replay", ["replay", "jump", "order"]), ("replay --hints", ["replay", "jump", "order", "--hints", "out"])]:
             wrong += refuse_each(bench, name, words)
         wrong += takes_none_later(bench, "run", ["run", "sample"])
         wrong += takes_none_later(bench, "run of 32 threads", ["run", "threads"])

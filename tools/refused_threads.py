@@ -8,7 +8,9 @@ one fewer. A program whose threads begin sooner is told by its time alone.
 
 tools/refused_threads.py PROGRAM
 
-It needs the right to change its user, since a limit of processes binds no superuser."""
+It needs the right to change its user, since a limit of processes binds no superuser. The system places nothing at random in these runs,
+or the least limit would vary by a page."""
+import ctypes
 import os
 import pathlib
 import resource
@@ -17,6 +19,9 @@ import subprocess
 import sys
 import tempfile
 
+LIBC = ctypes.CDLL(None)
+# ADDR_NO_RANDOMIZE of sys/personality.h
+NOTHING_AT_RANDOM = 0x40000
 SECONDS = 60
 SOON = 5
 USER = 61234
@@ -43,6 +48,7 @@ def image(count, code):
 def run(words, kind=None, limit=None, seconds=SECONDS):
     """The status, the output and the report, or nothing where the run doesn't end in that time."""
     def limited():
+        LIBC.personality(NOTHING_AT_RANDOM)
         if kind is not None:
             resource.setrlimit(kind, (limit, limit))
         os.setgid(USER)

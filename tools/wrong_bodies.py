@@ -128,11 +128,11 @@ class Scratch:
         return folder
 
 
-def tables(rows, room):
+def tables(rows, room, left_out):
     """The program's files of data, without the rows that are left out, as words for `rt try`."""
     for file in (TOP / "crates" / rows / "data").iterdir():
         lines = file.read_text().splitlines(keepends=True)
-        kept = [line for line in lines if not any(text in line for text in LEFT_OUT.get(rows, []))]
+        kept = [line for line in lines if not any(text in line for text in left_out)]
         (room / file.name).write_text("".join(kept))
         yield from ["--data", f"{file.name}={room / file.name}"]
 
@@ -149,9 +149,14 @@ def outputs(text):
     return found
 
 
+def is_difference(line):
+    """Whether a printed line names a row that differs."""
+    return line.startswith(DIFFERS) or NOT in line
+
+
 def tell(body, printed, ended):
     """Prints which rows refuse a wrong body. Returns whether one does, or, of the program as it stands, whether none does."""
-    rows = [line for line in printed if line.startswith(DIFFERS) or NOT in line]
+    rows = [line for line in printed if is_difference(line)]
     print(f"{body.crate}/{body.name}: {len(rows)} rows of {body.rows} differ; {ended}", flush=True)
     for row in rows:
         print(f"    {row.removeprefix(DIFFERS)[:WIDTH]}")
@@ -167,9 +172,8 @@ def cases_of(bodies, folder):
     return folder
 
 
-def try_all(rows, bodies):
-    """The names of those bodies that the program of rows doesn't refuse, and of the program as it stands if a row differs."""
-    bodies = [Body(RIGHT, rows, rows, []), *bodies]
+def run_all(rows, bodies, left_out, seconds):
+    """How each body ended, and the lines that it printed, by its name."""
     with tempfile.TemporaryDirectory() as room:
         scratch = Scratch(room)
         for body in bodies:
@@ -178,12 +182,18 @@ def try_all(rows, bodies):
         cases = cases_of(bodies, folder / "cases")
         data = folder / "data"
         data.mkdir()
-        words = ["rt", "try", "--seconds", SECONDS, "--steps", "1", "--cases", cases.name, *tables(rows, data)]
+        words = ["rt", "try", "--seconds", seconds, "--steps", "1", "--cases", cases.name, *tables(rows, data, left_out)]
         run = subprocess.run(words, cwd=folder, capture_output=True, text=True, check=False)
     ended = dict(CASE.findall(run.stderr))
     if not ended:
         sys.exit(run.stderr)
-    printed = outputs(run.stdout)
+    return ended, outputs(run.stdout)
+
+
+def try_all(rows, bodies):
+    """The names of those bodies that the program of rows doesn't refuse, and of the program as it stands if a row differs."""
+    bodies = [Body(RIGHT, rows, rows, []), *bodies]
+    ended, printed = run_all(rows, bodies, LEFT_OUT.get(rows, []), SECONDS)
     return [body.name for body in bodies if not tell(body, printed[body.name], ended.get(body.name, ""))]
 
 

@@ -1,17 +1,18 @@
 #!/usr/bin/env python3
-"""Measures `vximage` in the built program: `make` of an image of 4 MiB, of parts and of an executable, and `show` of an image of 32,768
-instructions beside `vest translate` of it. Prints of ten runs of each the shortest time by the clock.
+"""Measures `vximage` in the built program: `make` of an image of 4 MiB, of parts and of an executable, and `show` and `dis` of an image
+of 32,768 instructions beside `vest translate` of it, and of `dis` what a line takes, which has the text of an instruction. Prints of ten
+runs of each the least time of a processor.
 
 tools/measure/images.py VXIMAGE VEST
 
 Another status where a call doesn't end with status 0, where `make` takes more than 50 ms, or `show` more than 30 ms more than
-`translate`."""
+`translate`, `dis` more than 200 ms more, or with `--alpha` more than 500 ms more, or a line more than 300 ns."""
 import pathlib
+import resource
 import struct
 import subprocess
 import sys
 import tempfile
-import time
 
 ROUNDS = 10
 PAGES_BYTES = 4_194_304
@@ -19,19 +20,27 @@ PAGE = 512
 INSTRUCTIONS = 32_768
 ADD = bytes([0xC1, 0x51, 0x52, 0x53])  # ADDL3 R1,R2,R3
 MOST_MAKE = 0.050
-MOST_BESIDE = 0.030
+MOST_BESIDE = {"show": 0.030, "dis": 0.200, "dis --alpha": 0.500}
+MOST_LINE = 300e-9
+ONE_LINE = "dis --from 200 --to 200"
 LOAD, EXECUTABLE, VAX, READ_AND_RUN = 1, 2, 75, 5
 HEADER, PROGRAM_HEADER = 52, 32
 STACK = 0x200
 
 
-def shortest(words, room):
+def used():
+    """The seconds of a processor that the programs run so far took."""
+    usage = resource.getrusage(resource.RUSAGE_CHILDREN)
+    return usage.ru_utime + usage.ru_stime
+
+
+def least(words, room):
     """The least time of some runs."""
     times = []
     for _ in range(ROUNDS):
-        begin = time.perf_counter()
+        begin = used()
         result = subprocess.run(words, cwd=room, stdout=subprocess.DEVNULL, stderr=subprocess.PIPE, check=False)
-        times.append(time.perf_counter() - begin)
+        times.append(used() - begin)
         if result.returncode != 0:
             sys.exit(f"{' '.join(map(str, words))}: status {result.returncode}: {result.stderr.decode()}")
     return min(times)
@@ -56,15 +65,19 @@ def main():
         (room / "data").write_bytes(bytes([1]) * (PAGES_BYTES - PAGE))
         (room / "code").write_bytes(ADD * INSTRUCTIONS)
         (room / "elf").write_bytes(executable(bytes([1]) * (PAGES_BYTES - STACK - PAGE - HEADER - PROGRAM_HEADER)))
-        parts = shortest([vximage, "make", "x", "--section", "200:r:1", "--section", "1000:w:0:data", "--thread", "200:0"], room)
-        elf = shortest([vximage, "make", "x", "--elf", "elf", "--stack", f"{STACK:X}"], room)
-        shortest([vximage, "make", "y", "--section", "200:r:0:code", "--thread", "200:0"], room)
-        translate = shortest([vest, "translate", "y", "z"], room)
-        show = shortest([vximage, "show", "y"], room)
+        parts = least([vximage, "make", "x", "--section", "200:r:1", "--section", "1000:w:0:data", "--thread", "200:0"], room)
+        elf = least([vximage, "make", "x", "--elf", "elf", "--stack", f"{STACK:X}"], room)
+        least([vximage, "make", "y", "--section", "200:r:0:code", "--thread", "200:0"], room)
+        translate = least([vest, "translate", "y", "z"], room)
+        beside = {words: least([vximage, *words.split(), "y"], room) - translate for words in MOST_BESIDE}
+        line = (beside["dis"] + translate - least([vximage, *ONE_LINE.split(), "y"], room)) / INSTRUCTIONS
     print(f"make of parts, 4 MiB: {1000 * parts:.1f} ms")
     print(f"make of an executable, 4 MiB: {1000 * elf:.1f} ms")
-    print(f"translate of {INSTRUCTIONS} instructions: {1000 * translate:.1f} ms; show of them: {1000 * show:.1f} ms")
-    if max(parts, elf) > MOST_MAKE or show - translate > MOST_BESIDE:
+    print(f"translate of {INSTRUCTIONS} instructions: {1000 * translate:.1f} ms")
+    for words, more in beside.items():
+        print(f"{words} of them: {1000 * more:.1f} ms more")
+    print(f"a line of dis: {1e9 * line:.0f} ns")
+    if max(parts, elf) > MOST_MAKE or line > MOST_LINE or any(more > MOST_BESIDE[words] for words, more in beside.items()):
         sys.exit("more than it may take")
 
 
