@@ -1,19 +1,20 @@
 // Two processors that load and store one quadword.
 ghost use Rattle.std.specs.Prelude.{◌≡◌, ◌<◌, true, false};
 ghost use Rattle.vax_form.specs.Pages.{is_allowed};
+ghost use Rattle.memory_core.specs.declared.entry.Limit.TheVariants.{Entries};
 ghost use Rattle.memory_core.specs.Kinds.{writes};
 ghost use Rattle.memory_core.specs.Changes.{is_change_of};
 ghost use Rattle.image_file.specs.Whole.{IsWhole};
 
 use anyhow::{Result, bail};
 use image_file::Image;
-use memory_core::{Change, Entry, Kind, MemState, Reply, Request};
+use memory_core::{Change, Entry, Kind, Limit, MemState, Reply, Request};
 use std::alloc::Global;
 use system_model::order_of;
 use vax_form::Pick;
 
 /// The most entries of a history.
-const LIMIT: u32 = 64;
+const LIMIT: Limit = Limit::Entries(64);
 
 /// The quadword of the byte.
 const QUADWORD: u32 = 0x1000;
@@ -25,6 +26,7 @@ pub struct Machine {
     ghost readable: { is_allowed memory.set_up.image.pages 0x1000 false ≡ true },
     ghost writable: { is_allowed memory.set_up.image.pages 0x1000 true ≡ true },
     ghost two: { memory.processors ≡ 2 },
+    ghost limit: { memory.set_up.limit ≡ Entries 64 },
 }
 
 impl Machine {
@@ -92,12 +94,12 @@ impl Machine {
 
     /// The accesses so far.
     pub fn history(&self) -> &[Entry] {
-        self.memory.history()
+        self.memory.history().unwrap()
     }
 
     /// The order of references that the history keeps.
     pub fn order(&self, alloc: Global) -> Result<Vec<Pick>> {
-        match order_of(alloc, self.memory.history()) {
+        match order_of(alloc, self.history()) {
             Ok(order) => Ok(order),
             Err(_) => bail!("want of memory"),
         }

@@ -1,6 +1,7 @@
 -- Numbers that are kept in place of a count without bound.
-use Rattle.std.proofs.Common.{◌≡◌, ℕ, zero, suc, ◌<◌, ◌%◌, ◌==◌, ◌&&◌, Bool, true, false, not, if◌then◌else◌, min, nat_lt, List, refl, sym, ap, ◌∙◌, subst, arith}
+use Rattle.std.proofs.Common.{◌≡◌, ℕ, zero, suc, ◌<◌, ◌+◌, ◌%◌, ◌==◌, ◌&&◌, Bool, true, false, not, if◌then◌else◌, min, nat_lt, nat_le, List, refl, sym, ap, ◌∙◌, arith}
 use Rattle.std.proofs.Math.Nat.{suc-mod, mod-lt, mod-eq_of_lt, mod_self}
+use Rattle.std.proofs.lemmas.Bool.{eqb-true, eq-eqb}
 use Rattle.std.proofs.lemmas.Bool.Decides.{nat_tests}
 use Rattle.memory_core.specs.declared.entry.Entry.{Entry}
 use Rattle.memory_core.specs.declared.entry.Kind.{Kind}
@@ -31,14 +32,26 @@ strikes_by_counted zero n = refl
 strikes_by_counted (suc k) n =
     ap (λ (t : ℕ). not (suc k == 0) && (t == 0)) (ap (λ (c : ℕ). suc c % suc k) (counted_is k n) ∙ sym (suc-mod n (suc k)))
 
--- ---- bytes of input
+-- ---- bytes of input, of which some are behind
 
-taken_step : (count gets : ℕ) (b : Bool) → nat_lt (min gets count) count ≡ b → (if b then suc (min gets count) else min gets count) ≡ min (suc gets) count
-taken_step count gets true h = grind (arith, nat_tests)
-taken_step count gets false h = grind (arith, nat_tests)
+taken_step : (behind count all gets taken : ℕ) → all ≡ behind + count → behind + taken ≡ min gets (suc all) → (b : Bool) → nat_le taken count ≡ b
+    → behind + (if b then suc taken else taken) ≡ min (suc gets) (suc all)
+taken_step behind count all gets taken long is true h = grind (arith, nat_tests)
+taken_step behind count all gets taken long is false h = grind (arith, nat_tests)
 
-pub taken_more : (count gets : ℕ) → next_taken count (min gets count) ≡ min (suc gets) count
-taken_more count gets = taken_step count gets (nat_lt (min gets count) count) refl
+pub taken_more : (behind count all gets taken : ℕ) → all ≡ behind + count → behind + taken ≡ min gets (suc all) → behind + next_taken count taken ≡ min (suc gets) (suc all)
+taken_more behind count all gets taken long is = taken_step behind count all gets taken long is (nat_le taken count) refl
+
+-- a GET found each byte, and none found the end, where just so many were taken
+all_taken_step : (behind count all gets taken : ℕ) → all ≡ behind + count → behind + taken ≡ min gets (suc all) → (b : Bool) → (taken == count) ≡ b → b ≡ (gets == all)
+all_taken_step behind count all gets taken long is true h =
+    let same : taken ≡ count = eqb-true taken count h in
+    let all_read : gets ≡ all = grind (arith, nat_tests) in
+    sym (eq-eqb gets all all_read)
+all_taken_step behind count all gets taken long is false h = grind (arith, nat_tests)
+
+pub all_taken : (behind count all gets taken : ℕ) → all ≡ behind + count → behind + taken ≡ min gets (suc all) → (taken == count) ≡ (gets == all)
+all_taken behind count all gets taken long is = all_taken_step behind count all gets taken long is (taken == count) refl
 
 -- ---- whether a store conditional succeeds
 

@@ -1,9 +1,8 @@
 -- Bytes copied one after the other.
-use Rattle.std.proofs.Common.{◌≡◌, ◌≢◌, ℕ, ◌<◌, ◌≤◌, ◌+◌, ◌==◌, List, length, if◌then◌else◌, slice_index, slice_set, ◌∙◌, arith}
+use Rattle.std.proofs.Common.{◌≡◌, ℕ, ◌<◌, ◌+◌, ◌==◌, List, length, if◌then◌else◌, slice_index, slice_set, ◌∙◌, arith}
 use Rattle.std.proofs.lemmas.Bool.Decides.{nat_tests}
 use Rattle.std.proofs.lemmas.Grind.{elements}
 use Rattle.std.proofs.lemmas.List.{length-set}
-use Rattle.std.specs.Int.{bit_at}
 use Rattle.memory_core.specs.Bytes.{quad_of}
 
 set_at : (bytes : List ℕ) (at k v : ℕ) → at < length bytes → slice_index (slice_set bytes at v) k ≡ (if k == at then v else slice_index bytes k)

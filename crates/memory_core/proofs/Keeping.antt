@@ -1,10 +1,8 @@
 -- What an entry makes of what a memory keeps.
-use Rattle.std.proofs.Common.{◌≡◌, ◌≢◌, ℕ, suc, ◌<◌, ◌≤◌, ◌+◌, ◌-◌, ◌%◌, ◌^◌, ◌==◌, ◌&&◌, Bool, true, false, if◌then◌else◌, List, [], ◌∷◌, ◌++◌, length, Option, Some, None, slice_index_or, slice_set, map, reverse, refl, sym, ap, ◌∙◌, arith}
-use Rattle.std.specs.List.{filter}
+use Rattle.std.proofs.Common.{◌≡◌, ◌≢◌, ℕ, suc, ◌<◌, ◌-◌, ◌%◌, ◌==◌, ◌&&◌, Bool, true, false, if◌then◌else◌, List, [], ◌∷◌, ◌++◌, length, Option, Some, None, slice_index_or, slice_set, map, reverse, refl, sym, ap, ◌∙◌, arith}
 use Rattle.std.proofs.lemmas.Bool.Decides.{nat_tests}
 use Rattle.std.proofs.lemmas.Grind.{elements}
-use Rattle.std.proofs.lemmas.List.{length-set, reverse-append, map-append, length-map}
-use Rattle.std.proofs.lemmas.List.Elements.{filter-append}
+use Rattle.std.proofs.lemmas.List.{length-set, reverse-append}
 use Rattle.std.proofs.lemmas.Bool.{eqb-true, eqb-false}
 use Rattle.vax_form.specs.declared.pages.PageRange.{PageRange}
 use Rattle.memory_core.specs.declared.entry.Kind.{Kind}
@@ -18,6 +16,7 @@ use Rattle.memory_core.specs.Order.{left_by, block_of, reserved_by, reserved, tr
 use Rattle.memory_core.specs.Places.{quad_place}
 use Rattle.memory_core.specs.Reservations.{holds, next_tries, counted_tries, own_next, other_next, next_reservation}
 use Rattle.memory_core.specs.Fields.{IsKept, IsAt, AreCurrent, stored_at}
+use Rattle.memory_core.proofs.Limits.{output_of-append}
 use Rattle.memory_core.proofs.Placing.{quad_of_place, place_of_quad}
 
 -- ---- reservations
@@ -143,17 +142,5 @@ filter_one false e = refl
 
 pub output_of-push : (history : List Entry) (e : Entry) → output_of (history ++ e ∷ []) ≡ output_of history ++ (if is_put e.kind then e.after ∷ [] else [])
 output_of-push history e =
-    ap (map (λ (x : Entry). x.after)) (filter-append (λ (x : Entry). is_put x.kind) history (e ∷ []))
-    ∙ map-append (λ (x : Entry). x.after) (filter (λ (x : Entry). is_put x.kind) history) (if is_put e.kind then e ∷ [] else [])
+    output_of-append history (e ∷ [])
     ∙ ap (λ (ys : List ℕ). output_of history ++ ys) (filter_one (is_put e.kind) e)
-
-if_cons_le : (b : Bool) (e : Entry) (xs : List Entry) (m : ℕ) → length xs ≤ m → length (if b then e ∷ xs else xs) ≤ suc m
-if_cons_le true e xs m h = omega arith
-if_cons_le false e xs m h = omega arith
-
-length-filter_le : (history : List Entry) → length (filter (λ (x : Entry). is_put x.kind) history) ≤ length history
-length-filter_le [] = omega arith
-length-filter_le (e ∷ history) = if_cons_le (is_put e.kind) e (filter (λ (x : Entry). is_put x.kind) history) (length history) (length-filter_le history)
-
-pub length-output_of : (history : List Entry) → length (output_of history) ≤ length history
-length-output_of history = rw (length-map (filter (λ (x : Entry). is_put x.kind) history) (λ (x : Entry). x.after)) (length-filter_le history)

@@ -11,3 +11,5 @@ pub mod LookingBack
 pub mod Neighbours
 pub mod Masked
 pub mod Counting
+pub mod Limits
+pub mod GoingOn

@@ -1,5 +1,5 @@
 -- A masked store by two masks: the bytes that it names from the value, and the others as before.
-use Rattle.std.proofs.Common.{◌≡◌, ℕ, ◌-◌, ◌*◌, ◌<◌, ◌^◌, ◌==◌, if◌then◌else◌, refl, sym, ap, ◌∙◌, arith, lit<, ⊎_elim, bit_or}
+use Rattle.std.proofs.Common.{◌≡◌, ℕ, ◌-◌, ◌*◌, ◌<◌, ◌^◌, ◌==◌, if◌then◌else◌, refl, sym, ◌∙◌, arith, ⊎_elim, bit_or}
 use Rattle.std.specs.Int.Bits.{or_zero_l, or_zero_r, and_le_l}
 use Rattle.std.specs.Int.{bit_at, byte_at}
 use Rattle.std.proofs.lemmas.Nat.{or_lt}

@@ -4,6 +4,7 @@ use Rattle.std.specs.Int.{byte_at}
 use Rattle.image_file.specs.Values.{ImageValue}
 use Rattle.vax_form.specs.Pages.{is_allowed}
 use Rattle.memory_core.specs.declared.entry.Entry.{Entry}
+use Rattle.memory_core.specs.declared.entry.Limit.{Limit}
 use Rattle.memory_core.specs.declared.entry.Request.{Request}
 use Rattle.memory_core.specs.declared.entry.SetUp.{SetUp}
 use Rattle.memory_core.specs.Kinds.{is_put}
@@ -16,7 +17,7 @@ pub record Contents : Type 0 where
   pub history : List Entry
 
 -- a memory without entries
-abbrev pub fresh : ImageValue → (input : List ℕ) → (processors limit miss : ℕ) → Contents
+abbrev pub fresh : ImageValue → (input : List ℕ) → (processors : ℕ) → Limit → (miss : ℕ) → Contents
 fresh image input processors limit miss =
     record { set_up = record { image = image; input = input; limit = limit; miss = miss }; processors = processors; history = [] }
 

@@ -1,6 +1,8 @@
 -- What a memory keeps of its history.
-use Rattle.std.specs.Prelude.{◌≡◌, ◌<◌, ◌-◌, ◌%◌, ℕ, suc, List, Option, Some, None, length, nat_lt, slice_index_or, slice_set, if◌then◌else◌}
+use Rattle.std.specs.Prelude.{◌≡◌, ◌<◌, ◌-◌, ◌%◌, ℕ, suc, List, [], Option, Some, None, length, nat_le, slice_index_or, slice_set, if◌then◌else◌}
 use Rattle.memory_core.specs.declared.entry.Entry.{Entry}
+use Rattle.memory_core.specs.declared.entry.Limit.{Limit}
+use Rattle.memory_core.specs.declared.entry.Limit.TheVariants.{Entries, Puts}
 use Rattle.memory_core.specs.declared.entry.SetUp.{SetUp}
 use Rattle.memory_core.specs.declared.reservation.Reservation.{Reservation}
 use Rattle.memory_core.specs.Order.{left_by, reserved, tries}
@@ -22,11 +24,21 @@ abbrev pub AreCurrent : SetUp → List Entry → List ℕ → Type 0
 AreCurrent set_up past quads =
     (address place : ℕ) → quad_place set_up.image.pages.ranges address ≡ Some place → IsAt set_up past quads address place
 
--- how many of so many bytes of input are behind, once one more is asked for
+-- how many of so many bytes of input were asked for, once one more is; one more than there are stands for any more
 abbrev pub next_taken : (count taken : ℕ) → ℕ
-next_taken count taken = if nat_lt taken count then suc taken else taken
+next_taken count taken = if nat_le taken count then suc taken else taken
 
 -- the quadwords with one of them stored
 abbrev pub stored_at : Option ℕ → ℕ → List ℕ → List ℕ
 stored_at None value quads = quads
 stored_at (Some place) value quads = slice_set quads place value
+
+-- the entries of a history that are kept
+abbrev pub kept_of : Limit → List Entry → List Entry
+kept_of (Entries n) history = history
+kept_of (Puts n) history = []
+
+-- the greatest number of these
+abbrev pub most_kept : Limit → ℕ
+most_kept (Entries n) = n
+most_kept (Puts n) = 0

@@ -7,6 +7,7 @@ use Rattle.memory_core.specs.declared.entry.Kind.TheVariants.{LoadLocked, StoreC
 use Rattle.memory_core.specs.declared.entry.SetUp.{SetUp}
 use Rattle.memory_core.specs.Changes.{IsInRange, changed, touches}
 use Rattle.memory_core.specs.Kinds.{writes}
+use Rattle.memory_core.specs.Live.{GoesOn}
 use Rattle.memory_core.specs.Opening.{opening}
 use Rattle.memory_core.specs.Order.{own, stands_on, left_by, Meets}
 
@@ -19,6 +20,9 @@ PairsAgree =
 
 abbrev pub BeginningsMeet : Type 0
 BeginningsMeet = (set_up : SetUp) (history later : List Entry) → Meets set_up (reverse (history ++ later)) → Meets set_up (reverse history)
+
+abbrev pub MeetsGoOn : Type 0
+MeetsGoOn = (old new : SetUp) (entries : List Entry) → GoesOn entries old new → Meets old entries → Meets new entries
 
 abbrev pub ReadersLeave : Type 0
 ReadersLeave =

@@ -4,6 +4,9 @@ pub mod Changes
 pub mod Opening
 pub mod Order
 pub mod Contents
+pub mod Limits
+pub mod Held
+pub mod Live
 pub mod Requests
 pub mod Seen
 pub mod Laws
@@ -11,4 +14,4 @@ pub mod Places
 pub mod Reservations
 pub mod Fields
 pub mod Sound
-pub mod Storing
+pub mod LiveFields

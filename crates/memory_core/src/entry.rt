@@ -1,6 +1,8 @@
 // Entries of the history: one access each.
 ghost use Rattle.std.specs.Prelude.{◌≡◌};
 ghost use Rattle.memory_core.specs.Kinds.{is_memory, writes, is_conditional, is_put};
+ghost use Rattle.memory_core.specs.Fields.{most_kept};
+ghost use Rattle.memory_core.specs.Limits.{greatest};
 
 use image_file::Image;
 use std::collections::LinkedList;
@@ -96,16 +98,45 @@ pub struct Request {
 pub enum Reply {
     /// What the access found, and whether it succeeded.
     Made { before: u64, success: bool },
-    /// The history, or the output where it alone is counted, has its limit, and nothing was done.
+    /// One more of what the limit counts is asked for than there may be, and nothing was done.
     Full,
 }
 
-/// What a memory starts with: the image with its pages, the input, the greatest number of entries, or of bytes that are put where
-/// proofs alone keep the history, and the miss number, which is 0 or makes every so many-th store conditional of a processor fail. It
-/// is a value of contracts alone.
+/// What a memory counts, and how many of these there may be.
+#[derive(Clone, Copy, Debug, PartialEq, Eq)]
+pub enum Limit {
+    /// Entries of the history, which is kept.
+    Entries(u32),
+    /// Bytes that are put. Proofs alone keep the history.
+    Puts(u64),
+}
+
+impl Limit {
+    pub(crate) fn greatest(self) -> u64
+        ensures { result ≡ greatest self }
+    {
+        match self {
+            Limit::Entries(most) => u64::from(most),
+            Limit::Puts(most) => most,
+        }
+    }
+
+    /// The greatest number of entries that are kept.
+    pub(crate) fn most_kept(self) -> u32
+        ensures { result ≡ most_kept self }
+    {
+        match self {
+            Limit::Entries(most) => most,
+            Limit::Puts(_) => 0,
+        }
+    }
+}
+
+/// What a memory starts with: the image with its pages, the input, the limit, and the miss number, which is 0 or makes every so
+/// many-th store conditional of a processor fail. It is a value of contracts alone.
 pub struct SetUp {
     pub image: Image,
     pub input: LinkedList<u8>,
-    pub limit: u32,
+    pub limit: Limit,
     pub miss: u16,
 }

@@ -1,5 +1,5 @@
 //! What the order of accesses tells, for the proofs of the crates above. Their functions do nothing.
-ghost use Rattle.memory_core.specs.Laws.{PairsAgree, BeginningsMeet, ReadersLeave, OthersStay, OpeningIsFound};
+ghost use Rattle.memory_core.specs.Laws.{PairsAgree, BeginningsMeet, MeetsGoOn, ReadersLeave, OthersStay, OpeningIsFound};
 
 /// A store conditional that succeeds, where its processor's latest entry is a load-locked of the same quadword, finds
 /// what that one found.
@@ -10,6 +10,11 @@ pub fn pairs_agree()
 /// Each beginning of a history that meets the order meets it.
 pub fn beginnings_meet()
     ensures { BeginningsMeet }
+{}
+
+/// A history that meets the order meets it from a set-up that goes on as another, too.
+pub fn meets_go_on()
+    ensures { MeetsGoOn }
 {}
 
 /// An entry that doesn't write leaves every quadword as it was.

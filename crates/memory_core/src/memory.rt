@@ -4,6 +4,7 @@ ghost use Rattle.memory_core.specs.Requests.{CanMake, MatchReply};
 ghost use Rattle.memory_core.specs.Seen.{IsNext, IsOver};
 
 use crate::entry::{Reply, Request, SetUp};
+use crate::live::LiveState;
 use crate::state::MemState;
 
 /// A memory, or one processor's way to it. What it has seen are the first entries of the memory's history.
@@ -31,7 +32,7 @@ pub trait Memory {
         ensures serves { (p : ℕ) → serves self.old p ↔ serves self.new p }
         ensures reply { MatchReply result
             (λ before success. IsNext (set_up self.old) (between self.old) request.now before success (seen self.old) (seen self.new))
-            (IsOver (set_up self.old) (between self.old) request.now.processor (seen self.old) (seen self.new)) };
+            (IsOver (set_up self.old) (between self.old) request.now (seen self.old) (seen self.new)) };
 }
 
 // A memory of one owner, where no entries of others come between.
@@ -48,6 +49,26 @@ impl Memory for MemState {
     ghost between = { λ _ entries. entries ≡ [] };
 
     ghost seen = { λ m. m.history };
+
+    fn access(&mut self, request: &Request) -> Reply {
+        self.access(request)
+    }
+}
+
+// So is a memory whose input is given while it runs: the set-up stays in each access.
+impl Memory for LiveState {
+    ghost use Rattle.std.specs.Prelude.{◌≡◌, ◌<◌, ℕ, List, []};
+    ghost use Rattle.memory_core.specs.declared.entry.Entry.{Entry};
+
+    ghost set_up = { λ m. m.contents.set_up };
+
+    ghost serves = { λ m p. p < m.contents.processors };
+
+    ghost same = { λ m n. (n.contents.set_up ≡ m.contents.set_up) × (n.contents.processors ≡ m.contents.processors) };
+
+    ghost between = { λ _ entries. entries ≡ [] };
+
+    ghost seen = { λ m. m.contents.history };
 
     fn access(&mut self, request: &Request) -> Reply {
         self.access(request)

@@ -1,4 +1,3 @@
-use Rattle.std.proofs.Common.{◌≡◌}
 use Rattle.memory_core.proofs.change.with_bytes.Goals as goal
 use Rattle.memory_core.proofs.Masked.{masked}
 
