@@ -8,6 +8,7 @@ use Rattle.memory_core.specs.declared.entry.Change.TheVariants.{Nothing, Bytes}
 use Rattle.memory_core.specs.declared.entry.Entry.{Entry}
 use Rattle.memory_core.specs.declared.entry.Kind.{Kind}
 use Rattle.memory_core.specs.declared.entry.Kind.TheVariants.{LoadLocked, Store, StoreConditional}
+use Rattle.memory_core.specs.declared.entry.Limit.TheVariants.{Entries}
 use Rattle.memory_core.specs.declared.entry.SetUp.{SetUp}
 use Rattle.memory_core.specs.Bytes.{with_bytes}
 use Rattle.memory_core.specs.Changes.{Allows, leaves}
@@ -47,7 +48,7 @@ MeetsStill set_up (e ∷ past) = MeetsStill set_up past × FitsStill set_up past
 -- ---- a history: processor 0 writes 5 to byte 0 of a quadword by a load-locked access and a store conditional, and between
 -- them processor 1 stores 1 in byte 1
 abbrev zeros : SetUp
-zeros = record { image = record { version = 1; threads = []; sections = []; entries = []; pages = record { ranges = []; code = [] } }; input = []; limit = 3; miss = 0 }
+zeros = record { image = record { version = 1; threads = []; sections = []; entries = []; pages = record { ranges = []; code = [] } }; input = []; limit = Entries 3; miss = 0 }
 
 abbrev locks : Entry
 locks = record { retired = 0; before = 0; after = 0; quad = 0x1000; processor = 0; kind = LoadLocked; success = true }

@@ -1,8 +1,9 @@
 -- What one access says of its pass.
-use Rattle.std.proofs.Common.{◌≡◌, ℕ, ◌≤◌, Bool, List, [], ◌∷◌, ◌++◌, length, reverse, refl, sym, ap, ◌∙◌, subst, arith, length-append, Option, Some, None}
+use Rattle.std.proofs.Common.{◌≡◌, ℕ, Bool, true, List, [], ◌∷◌, ◌++◌, length, reverse, refl, sym, ap, ◌∙◌, subst, arith, length-append, Option, Some, None}
 use Rattle.memory_core.specs.declared.entry.Entry.{Entry}
 use Rattle.memory_core.specs.declared.entry.Request.{Request}
 use Rattle.memory_core.specs.Contents.{Contents, entry_for, Appends}
+use Rattle.memory_core.specs.Limits.{counts, IsAtLimit, IsWithin}
 use Rattle.memory_core.specs.Order.{own, Meets}
 use Rattle.shared_memory.specs.declared.view.View.{View}
 use Rattle.shared_memory.specs.Rule.{behind, IsLegal}
@@ -64,7 +65,7 @@ module _ (k : Contents) (p : ℕ) (m w x : Sat) (state : Contents) (o : Out k p 
 
   module _ (after : Contents) where
     pub entry_fits : (request : Request) (before : ℕ) (success : Bool) → request.processor ≡ p → Appends state after request before success
-        → Meets after.set_up (reverse after.history) → length after.history ≤ after.set_up.limit
+        → Meets after.set_up (reverse after.history) → IsWithin after.set_up.limit after.history
         → (e : Entry) × (e.processor ≡ x.0.number) × (after ≡ behind k (x.0.found ++ e ∷ [])) × IsLegal k.set_up after.history
     entry_fits request before success mine a order room =
         let e = entry_for state.set_up state.history request in
@@ -77,7 +78,7 @@ module _ (k : Contents) (p : ℕ) (m w x : Sat) (state : Contents) (o : Out k p 
 
     module _ (y : Sat) where
       pub made : (request : Request) (before : ℕ) (success : Bool) → request.processor ≡ p → Appends state after request before success
-          → Meets after.set_up (reverse after.history) → length after.history ≤ after.set_up.limit
+          → Meets after.set_up (reverse after.history) → IsWithin after.set_up.limit after.history
           → y ≡ (given_back (entered x.0 after.history), []) → IsMade k.set_up request before success m.0 y.0
       made request before success mine a order room end =
           let new = entry_for k.set_up (m.0.seen ++ between) request in
@@ -96,7 +97,7 @@ module _ (k : Contents) (p : ℕ) (m w x : Sat) (state : Contents) (o : Out k p 
               found = a.found ∙ ap (λ (e : Entry). e.before) same;
               succeeded = a.succeeded ∙ ap (λ (e : Entry). e.success) same;
               order = subst (λ (h : List Entry). Meets k.set_up (reverse h)) (sym y_seen) f.3.order;
-              room = subst (λ (h : List Entry). length h ≤ k.set_up.limit) (sym y_seen) f.3.room;
+              room = subst (λ (h : List Entry). IsWithin k.set_up.limit h) (sym y_seen) f.3.room;
             };
             own = ap (λ (s : Sat). s.0.own) end ∙ (ap (λ (n : ℕ). own n after.history) number ∙ (ap (own p) history ∙ (own-push p (m.0.seen ++ between) new mine ∙ ap (λ (l : List Entry). l ++ new ∷ []) before_it)));
           }
@@ -105,14 +106,16 @@ module _ (k : Contents) (p : ℕ) (m w x : Sat) (state : Contents) (o : Out k p 
     pub full_seen : y.0.seen ≡ state.history
     full_seen = ap (λ (s : Sat). s.0.seen) end ∙ (ap (λ (v : View). v.found) out_view ∙ sym (ap (λ (c : Contents). c.history) taken))
 
-    pub full : length state.history ≡ state.set_up.limit → Meets state.set_up (reverse state.history) → IsFull k.set_up p m.0 y.0
-    full limit order = record {
+    pub full : (request : Request) → request.processor ≡ p → (counts state.set_up.limit request.kind ≡ true) × IsAtLimit state.set_up.limit state.history
+        → Meets state.set_up (reverse state.history) → IsFull k.set_up request m.0 y.0
+    full request mine limit order = record {
       over = record {
         between = between;
-        others = others;
+        others = subst (λ (n : ℕ). own n between ≡ []) (sym mine) others;
         come = tt;
         seen = full_seen ∙ whole;
-        full = ap length full_seen ∙ (limit ∙ ap (λ (c : Contents). c.set_up.limit) taken);
+        counts = subst (λ (c : Contents). counts c.set_up.limit request.kind ≡ true) taken limit.0;
+        full = subst (λ (c : Contents). IsAtLimit c.set_up.limit y.0.seen) taken (subst (λ (h : List Entry). IsAtLimit state.set_up.limit h) (sym full_seen) limit.1);
         order = subst (λ (h : List Entry). Meets k.set_up (reverse h)) (sym full_seen) (subst (λ (c : Contents). Meets c.set_up (reverse state.history)) taken order);
       };
       own = ap (λ (s : Sat). s.0.own) end ∙ ap (λ (v : View). v.own) out_view;

@@ -6,13 +6,13 @@ use Rattle.crossbeam_utils.proofs.sync.event_count.EventCount.TheSendSync as Eve
 use Rattle.memory_core.proofs.entry.Entry.TheSendSync as Entry
 use Rattle.memory_core.proofs.reservation.Reservation.TheSendSync as Reservation
 use Rattle.memory_core.proofs.told.Told.TheSendSync as Told
-use Rattle.vax_form.proofs.pages.PageRange.TheSendSync as PageRange
+use Rattle.memory_core.proofs.told.ToldBytes.TheSendSync as ToldBytes
 use Rattle.memory_core.specs.contracts.state.MemState as State
 use Rattle.std.specs.contracts.option.Option as Option
 use Rattle.shared_memory.specs.contracts.shared.SharedMemory as SharedMemory
 
 pub state_send : IsSend State.the_row
-state_send = search (Entry.the_send, Reservation.the_send, PageRange.the_send, Told.the_send, sendable, crosses) depth 30
+state_send = search (Entry.the_send, Reservation.the_send, Told.the_send, ToldBytes.the_send, sendable, crosses) depth 30
 
 pub slot_send : IsSend (Option.the_row State.the_row)
 slot_send = search (state_send, sendable) depth 20

@@ -14,6 +14,7 @@ use Rattle.memory_core.specs.declared.entry.Entry.{Entry}
 use Rattle.memory_core.specs.declared.state.MemState.{MemState}
 use Rattle.memory_core.specs.Contents.{Contents}
 use Rattle.memory_core.specs.Order.{own}
+use Rattle.memory_core.proofs.Limits.{none_within}
 use Rattle.shared_memory.proofs.Own.{own-append}
 use Rattle.shared_memory.specs.declared.view.View.{View}
 use Rattle.shared_memory.specs.declared.view.Ended.{Ended}
@@ -187,7 +188,7 @@ starts k state good = record {
   wide = refl;
   turns = refl;
   single = omega arith;
-  legal = record { order = tt; room = omega arith };
+  legal = record { order = tt; room = none_within k.set_up.limit };
   still = refl;
   longest = (0, keeper_of k, refl, refl);
   fits = λ j u e. subst (Fits k []) (only_one j u e) (record { about = λ (x : false ≡ true). absurd (true≢false (sym x)); seen = ([], refl); found = λ (x : 0 ≡ 1). absurd (omega arith); small = omega arith; alive = λ (x : 0 ≡ 1). absurd (omega arith); own = λ (x : false ≡ true). absurd (true≢false (sym x)); over = λ _ (not : true ≡ false). absurd (true≢false not) });

@@ -10,7 +10,9 @@ use Rattle.atomic_table.specs.Table.{State}
 use Rattle.memory_core.specs.declared.entry.Entry.{Entry}
 use Rattle.memory_core.specs.declared.entry.SetUp.{SetUp}
 use Rattle.memory_core.specs.declared.state.MemState.{MemState}
+use Rattle.memory_core.specs.declared.entry.Limit.TheVariants.{Entries}
 use Rattle.memory_core.specs.Contents.{Contents, fresh}
+use Rattle.memory_core.specs.Limits.{IsWithin}
 use Rattle.memory_core.specs.Order.{own, Meets}
 use Rattle.shared_memory.specs.declared.view.View.{View}
 use Rattle.shared_memory.specs.declared.view.Ended.{Ended}
@@ -23,10 +25,10 @@ behind start history = record start { history = history }
 -- a history that the memory allows
 pub record IsLegal (set_up : SetUp) (history : List Entry) : Type 0 where
   pub order : Meets set_up (reverse history)
-  pub room : length history ≤ set_up.limit
+  pub room : IsWithin set_up.limit history
 
 abbrev pub nothing : Contents
-nothing = fresh (record { version = 1; threads = []; sections = []; entries = []; pages = record { ranges = []; code = [] } }) [] 0 0 0
+nothing = fresh (record { version = 1; threads = []; sections = []; entries = []; pages = record { ranges = []; code = [] } }) [] 0 (Entries 0) 0
 
 abbrev pub keeper_of : Contents → View
 keeper_of start = record { start = start; lives = false; number = 0; keeps = true; turn = 0; found = []; seen = []; own = []; chosen = 0; given = []; ended = [] }

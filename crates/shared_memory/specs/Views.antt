@@ -38,9 +38,9 @@ pub record IsMade (set_up : SetUp) (request : Request) (before : ℕ) (success :
   pub next : IsNext set_up Any request before success v.seen w.seen
   pub own : w.own ≡ v.own ++ entry_for set_up (v.seen ++ next.between) request ∷ []
 
--- the pass has seen entries of others alone, up to the limit
-pub record IsFull (set_up : SetUp) (processor : ℕ) (v w : View) : Type 0 where
-  pub over : IsOver set_up Any processor v.seen w.seen
+-- the pass has seen entries of others alone, up to the limit, against which the request counts
+pub record IsFull (set_up : SetUp) (request : Request) (v w : View) : Type 0 where
+  pub over : IsOver set_up Any request v.seen w.seen
   pub own : w.own ≡ v.own
 
 -- the keeper has given one more number

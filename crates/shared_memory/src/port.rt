@@ -36,7 +36,7 @@ impl<'a, R: Wait, G: Gate> Port<'a, R, G> {
         ensures pass { IsPassOf self.old.memory.now request.now.processor self.new.pass }
         ensures reply { MatchReply result
             (λ before success. IsMade (set_up_of self.old.memory.now) request.now before success (view_of self.old.pass) (view_of self.new.pass))
-            (IsFull (set_up_of self.old.memory.now) request.now.processor (view_of self.old.pass) (view_of self.new.pass)) }
+            (IsFull (set_up_of self.old.memory.now) request.now (view_of self.old.pass) (view_of self.new.pass)) }
         ensures own { own_of self.new.pass ≡ own request.now.processor (seen_of self.new.pass) }
     {
         self.gate.before(request.processor, self.asked);

@@ -64,7 +64,7 @@ impl SharedMemory {
         Pass { seat }
     }
 
-    /// Makes one access, or answers `Full` where the history has its limit. It takes no memory, and may wait for the
+    /// Makes one access, or answers `Full` where it counts against the limit and that is reached. It takes no memory, and may wait for the
     /// others' accesses. Entries of other processors that were made since the pass's last access come before its own.
     pub fn access<R: Wait>(&self, rt: &R, pass: &mut Pass, request: &Request) -> Reply
         requires pass { IsPassOf self.now request.now.processor pass.old }
@@ -72,7 +72,7 @@ impl SharedMemory {
         ensures pass { IsPassOf self.now request.now.processor pass.new }
         ensures reply { MatchReply result
             (λ before success. IsMade (set_up_of self.now) request.now before success (view_of pass.old) (view_of pass.new))
-            (IsFull (set_up_of self.now) request.now.processor (view_of pass.old) (view_of pass.new)) }
+            (IsFull (set_up_of self.now) request.now (view_of pass.old) (view_of pass.new)) }
         ensures own { own_of pass.new ≡ own request.now.processor (seen_of pass.new) }
     {
         let shared = &self.table.shared;

@@ -79,7 +79,7 @@ pub fn enter(shared: &Shared, waiting: &EventCount, seat: &mut Place, state: Mem
     give_back(shared, waiting, seat, whole);
 }
 
-// Sees that the history has its limit.
+// Sees a history that has its limit.
 pub fn look(shared: &Shared, waiting: &EventCount, seat: &mut Place, state: MemState)
     requires table { (seat.old.table_id ≡ shared.now.table_id) × (shared.now.table_id.words ≡ 2) × (shared.now.table_id.slots ≡ 1) }
     requires turn { HasTurn seat.old.me }

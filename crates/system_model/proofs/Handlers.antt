@@ -1,5 +1,5 @@
 -- A handler at worked rows: set in translated code, it takes the exceptions of what is interpreted and of what is translated.
-use Rattle.std.proofs.Common.{◌≡◌, ℕ, true, [], ◌∷◌, replicate, None, refl}
+use Rattle.std.proofs.Common.{◌≡◌, ℕ, [], ◌∷◌, replicate, None, refl}
 use Rattle.alpha_meaning.specs.State.{Alpha, at_place}
 use Rattle.exception_records.specs.Codes.{all_ready}
 use Rattle.vax_form.specs.Moments.{delivering, handled}

@@ -1,6 +1,7 @@
 pub mod Lists
 pub mod Requests
 pub mod Turns
+pub mod GoingOn
 pub mod Quads
 pub mod Neighbours
 pub mod Orders

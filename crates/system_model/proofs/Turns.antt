@@ -2,14 +2,16 @@
 use Rattle.std.proofs.Common.{◌≡◌, ℕ, zero, suc, ◌+◌, ◌≤◌, ◌==◌, Bool, true, if◌then◌else◌, List, [], ◌∷◌, ◌++◌, length, Some, refl, sym, ap, ◌∙◌, subst, arith, ◌⊎◌, inl, inr, ⊎_elim}
 use Rattle.std.specs.Prelude.{option_map, slice_get}
 use Rattle.std.specs.List.{AllByRecursion}
-use Rattle.std.proofs.lemmas.List.{length-append}
 use Rattle.std.proofs.lemmas.List.Elements.{filter-append}
 use Rattle.std.proofs.lemmas.Bool.{eq-eqb}
 use Rattle.std.proofs.lemmas.Option.{slice_get_within}
 use Rattle.image_file.specs.Start.{start_state}
 use Rattle.image_file.specs.declared.image.Start.{Start}
 use Rattle.memory_core.specs.declared.entry.Entry.{Entry}
+use Rattle.memory_core.specs.declared.entry.Limit.{Limit}
+use Rattle.memory_core.specs.Limits as limits
 use Rattle.memory_core.specs.Order.{own}
+use Rattle.memory_core.proofs.Limits.{none_within, at_stays}
 use Rattle.vax_form.specs.declared.state.VaxState.{VaxState}
 use Rattle.system_model.specs.Settings.{Setting}
 use Rattle.system_model.specs.Processors.{Processor, begun, entry_by, Reaches, Begins, Steps, Takes}
@@ -22,7 +24,7 @@ own_if : (b : Bool) (e : Entry) (mine : List Entry) (c : Bool) → b ≡ c → (
 own_if b e mine c h = ap (λ x. if x then e ∷ mine else mine) h
 
 -- a processor that goes on is what it was
-pub going_is : (setting : Setting) (budget limit : ℕ) (entries : List Entry) (was p : Processor) → IsGoing p.mode → (p ≡ was) ⊎ IsSpent setting budget limit entries was p → p ≡ was
+pub going_is : (setting : Setting) (budget : ℕ) (limit : Limit) (entries : List Entry) (was p : Processor) → IsGoing p.mode → (p ≡ was) ⊎ IsSpent setting budget limit entries was p → p ≡ was
 going_is setting budget limit entries was p g (inl e) = e
 going_is setting budget limit entries was p g (inr s) = absurd (subst (λ (x : Processor). IsGoing x.mode) s.is g)
 
@@ -97,7 +99,7 @@ pub beginnings_are_legal : BeginningsAreLegal
 beginnings_are_legal setting set_up budget pages = record {
   pages = pages;
   order = tt;
-  room = omega arith;
+  room = none_within set_up.limit;
   count = begun_length 0 set_up.image.threads;
   known = tt;
   each = λ thread start p s h.
@@ -108,12 +110,12 @@ beginnings_are_legal setting set_up budget pages = record {
 -- ---- one processor
 
 -- what a turn makes of a processor that goes on is reached from where it was
-reached_from : (setting : Setting) (budget limit : ℕ) (entries : List Entry) (thread : ℕ) (start : VaxState) (p : Processor) → IsReached setting budget limit entries thread start p → IsGoing p.mode
+reached_from : (setting : Setting) (budget : ℕ) (limit : Limit) (entries : List Entry) (thread : ℕ) (start : VaxState) (p : Processor) → IsReached setting budget limit entries thread start p → IsGoing p.mode
     → Reaches setting (begun thread start) p.steps (own thread entries) p
 reached_from setting budget limit entries thread start p r going =
     subst (λ (x : Processor). Reaches setting (begun thread start) x.steps (own thread entries) x) (sym (going_is setting budget limit entries r.was p going r.now)) r.reaches
 
-pub reached_within : (setting : Setting) (budget limit : ℕ) (entries : List Entry) (thread : ℕ) (start : VaxState) (p : Processor) → IsReached setting budget limit entries thread start p → IsGoing p.mode → p.steps ≤ budget
+pub reached_within : (setting : Setting) (budget : ℕ) (limit : Limit) (entries : List Entry) (thread : ℕ) (start : VaxState) (p : Processor) → IsReached setting budget limit entries thread start p → IsGoing p.mode → p.steps ≤ budget
 reached_within setting budget limit entries thread start p r going =
     subst (λ (x : Processor). x.steps ≤ budget) (sym (going_is setting budget limit entries r.was p going r.now)) r.within
 
@@ -159,18 +161,15 @@ ends_keep_reached setting budget limit entries thread start p r going cause = re
 
 -- ---- among others
 
--- a full history stays full
-still_spent : (setting : Setting) (budget limit : ℕ) (later entries : List Entry) (was p : Processor) → length (later ++ entries) ≤ limit
+-- where there may be no more it stays so
+still_spent : (setting : Setting) (budget : ℕ) (limit : Limit) (later entries : List Entry) (was p : Processor) → limits.IsWithin limit (later ++ entries)
     → (p ≡ was) ⊎ IsSpent setting budget limit entries was p → (p ≡ was) ⊎ IsSpent setting budget limit (later ++ entries) was p
 still_spent setting budget limit later entries was p room (inl same) = inl same
 still_spent setting budget limit later entries was p room (inr s) = inr (record {
   is = s.is;
   going = s.going;
-  cause = ⊎_elim (λ c. inl c) (λ c. inr (c.0, full c.1)) s.cause;
+  cause = ⊎_elim (λ c. inl c) (λ c. inr (c.0, at_stays limit later entries c.1 room)) s.cause;
 })
-  where
-    full : length entries ≡ limit → length (later ++ entries) ≡ limit
-    full is = omega (arith, room, length-append later entries)
 
 pub others_keep_reached : OthersKeepReached
 others_keep_reached setting budget limit later entries thread start p r others room =

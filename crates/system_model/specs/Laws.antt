@@ -4,9 +4,12 @@ use Rattle.std.specs.List.{AllByRecursion}
 use Rattle.image_file.specs.Start.{start_state}
 use Rattle.image_file.specs.declared.image.Start.{Start}
 use Rattle.memory_core.specs.declared.entry.Entry.{Entry}
+use Rattle.memory_core.specs.declared.entry.Limit.{Limit}
 use Rattle.memory_core.specs.declared.entry.Request.{Request}
 use Rattle.memory_core.specs.declared.entry.SetUp.{SetUp}
 use Rattle.memory_core.specs.Changes as quadwords
+use Rattle.memory_core.specs.Limits as limits
+use Rattle.memory_core.specs.Live.{GoesOn}
 use Rattle.memory_core.specs.Order.{own, Meets}
 use Rattle.memory_core.specs.Requests.{CanMake}
 use Rattle.alpha_meaning.specs.State.{Alpha}
@@ -15,13 +18,14 @@ use Rattle.vax_form.specs.declared.state.VaxState.{VaxState}
 use Rattle.vax_form.specs.Ranges.{FitsPage}
 use Rattle.vax_form.specs.References.{reply_of, changed, AreBytes, FitsQuadword}
 use Rattle.block_law.specs.References.{is_of_memory}
+use Rattle.vax_driven.specs.declared.thread.End.TheVariants.{Spent}
 use Rattle.system_model.specs.Counted.{order}
 use Rattle.system_model.specs.Matches.{KeepsOthers}
 use Rattle.system_model.specs.Quadwords.{quad_at, quad_address, change_of, reply_found, IsOf}
 use Rattle.system_model.specs.Settings.{Setting}
 use Rattle.system_model.specs.Steps.{Place, Wants, Moment, next}
-use Rattle.system_model.specs.Processors.{Processor, Went, Asks, begun, request_of, turn, entry_by}
-use Rattle.system_model.specs.Legal.{starts, spent, IsGoing, IsAsking, IsReached, IsLegal}
+use Rattle.system_model.specs.Processors.{Ended, Processor, Went, Asks, begun, request_of, turn, entry_by}
+use Rattle.system_model.specs.Legal.{starts, spent, IsGoing, AsksToCount, IsReached, IsLegal}
 
 -- ---- legal histories
 -- processors before their first turn, from that thread on
@@ -34,6 +38,12 @@ abbrev pub BeginningsAreLegal : Type 0
 BeginningsAreLegal = (setting : Setting) (set_up : SetUp) (budget : ℕ) → setting.meaning.pages ≡ set_up.image.pages
     → IsLegal setting set_up budget [] (begun_from 0 set_up.image.threads)
 
+-- a legal history with no processor spent stays legal from a set-up that goes on as the old one
+abbrev pub LegalGoesOn : Type 0
+LegalGoesOn = (setting : Setting) (old new : SetUp) (budget : ℕ) (entries : List Entry) (processors : List Processor)
+    → GoesOn entries old new → AllByRecursion (λ (p : Processor). p.mode ≢ Ended Spent) processors
+    → IsLegal setting old budget entries processors → IsLegal setting new budget entries processors
+
 -- ---- one processor, by its own entries
 -- it made at most as many steps as its budget has, and retired no more instructions than it made steps; and none of its
 -- entries tells more of them
@@ -44,44 +54,44 @@ pub record IsWithin (budget : ℕ) (mine : List Entry) (p : Processor) : Type 0 
 
 -- it stays reached by a turn that asks nothing
 abbrev pub StepsKeepReached : Type 0
-StepsKeepReached = (setting : Setting) (budget limit : ℕ) (entries : List Entry) (thread : ℕ) (start : VaxState) (p q : Processor)
+StepsKeepReached = (setting : Setting) (budget : ℕ) (limit : Limit) (entries : List Entry) (thread : ℕ) (start : VaxState) (p q : Processor)
     → IsReached setting budget limit entries thread start p → IsGoing p.mode → turn setting p ≡ Went q → p.steps < budget
     → IsReached setting budget limit entries thread start q
 
 -- by a turn that asks, with the entry that it asked for
 abbrev pub AccessesKeepReached : Type 0
-AccessesKeepReached = (setting : Setting) (budget limit : ℕ) (entries : List Entry) (thread : ℕ) (start : VaxState) (p : Processor)
+AccessesKeepReached = (setting : Setting) (budget : ℕ) (limit : Limit) (entries : List Entry) (thread : ℕ) (start : VaxState) (p : Processor)
     (request : Request) (on : ℕ → Bool → Processor) (before : ℕ) (success : Bool)
     → IsReached setting budget limit entries thread start p → IsGoing p.mode → turn setting p ≡ Asks request on → p.steps < budget
     → IsReached setting budget limit (entry_by request before success ∷ entries) thread start (on before success)
 
--- and where it has no step left, or asks where the history is full
+-- and where it has no step left, or asks for one more than the limit allows
 abbrev pub EndsKeepReached : Type 0
-EndsKeepReached = (setting : Setting) (budget limit : ℕ) (entries : List Entry) (thread : ℕ) (start : VaxState) (p : Processor)
-    → IsReached setting budget limit entries thread start p → IsGoing p.mode → (p.steps ≡ budget) ⊎ (IsAsking (turn setting p) × (length entries ≡ limit))
+EndsKeepReached = (setting : Setting) (budget : ℕ) (limit : Limit) (entries : List Entry) (thread : ℕ) (start : VaxState) (p : Processor)
+    → IsReached setting budget limit entries thread start p → IsGoing p.mode → (p.steps ≡ budget) ⊎ (AsksToCount limit (turn setting p) × limits.IsAtLimit limit entries)
     → IsReached setting budget limit entries thread start (spent p)
 
 -- reached by a beginning of a history it is reached by the whole, where none of its entries come later
 abbrev pub OthersKeepReached : Type 0
-OthersKeepReached = (setting : Setting) (budget limit : ℕ) (later entries : List Entry) (thread : ℕ) (start : VaxState) (p : Processor)
-    → IsReached setting budget limit entries thread start p → own thread later ≡ [] → length (later ++ entries) ≤ limit
+OthersKeepReached = (setting : Setting) (budget : ℕ) (limit : Limit) (later entries : List Entry) (thread : ℕ) (start : VaxState) (p : Processor)
+    → IsReached setting budget limit entries thread start p → own thread later ≡ [] → limits.IsWithin limit (later ++ entries)
     → IsReached setting budget limit (later ++ entries) thread start p
 
 -- what it asks is of its thread
 abbrev pub RequestsAreOwn : Type 0
-RequestsAreOwn = (setting : Setting) (budget limit : ℕ) (entries : List Entry) (thread : ℕ) (start : VaxState) (p : Processor) (request : Request) (on : ℕ → Bool → Processor)
+RequestsAreOwn = (setting : Setting) (budget : ℕ) (limit : Limit) (entries : List Entry) (thread : ℕ) (start : VaxState) (p : Processor) (request : Request) (on : ℕ → Bool → Processor)
     → IsReached setting budget limit entries thread start p → IsGoing p.mode → turn setting p ≡ Asks request on → request.processor ≡ thread
 
 -- it is within its budget
 abbrev pub ReachedAreWithin : Type 0
-ReachedAreWithin = (setting : Setting) (budget limit : ℕ) (entries : List Entry) (thread : ℕ) (start : VaxState) (p : Processor)
+ReachedAreWithin = (setting : Setting) (budget : ℕ) (limit : Limit) (entries : List Entry) (thread : ℕ) (start : VaxState) (p : Processor)
     → IsReached setting budget limit entries thread start p → IsWithin budget (own thread entries) p
 
 -- just one processor for each thread of the image, each reached by its own entries of a history that meets the memory
 -- order and the limit and has entries of these alone
 abbrev pub ReachedAreLegal : Type 0
 ReachedAreLegal = (setting : Setting) (set_up : SetUp) (budget : ℕ) (entries : List Entry) (processors : List Processor)
-    → setting.meaning.pages ≡ set_up.image.pages → Meets set_up entries → length entries ≤ set_up.limit → length processors ≡ length set_up.image.threads
+    → setting.meaning.pages ≡ set_up.image.pages → Meets set_up entries → limits.IsWithin set_up.limit entries → length processors ≡ length set_up.image.threads
     → AllByRecursion (λ e. e.processor < length processors) entries
     → ((thread : ℕ) (start : VaxState) (p : Processor) → starts set_up.image thread ≡ Some start → slice_get processors thread ≡ Some p
     → IsReached setting budget set_up.limit entries thread start p)

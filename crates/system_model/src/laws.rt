@@ -1,10 +1,15 @@
 //! What keeps processors reached and makes a history legal, and references beside the quadwords of their accesses, for the proofs of the crates above.
 //! Its functions do nothing.
-ghost use Rattle.system_model.specs.Laws.{BeginningsAreLegal, StepsKeepReached, AccessesKeepReached, EndsKeepReached, OthersKeepReached, RequestsAreOwn, ReachedAreLegal, ReachedAreWithin, LegalAreWithin, ReferencesCanBeMade, StepsCanBeMade, QuadwordChanges, OtherQuadwordsStay, QuadwordReplies, NeighboursStay, OrderTurns};
+ghost use Rattle.system_model.specs.Laws.{BeginningsAreLegal, LegalGoesOn, StepsKeepReached, AccessesKeepReached, EndsKeepReached, OthersKeepReached, RequestsAreOwn, ReachedAreLegal, ReachedAreWithin, LegalAreWithin, ReferencesCanBeMade, StepsCanBeMade, QuadwordChanges, OtherQuadwordsStay, QuadwordReplies, NeighboursStay, OrderTurns};
 
 /// Processors before their first turn are legal, whatever is interpreted.
 pub fn beginnings_are_legal()
     ensures { BeginningsAreLegal }
+{}
+
+/// A legal history with no processor spent stays legal from a set-up that goes on as the old one.
+pub fn legal_goes_on()
+    ensures { LegalGoesOn }
 {}
 
 /// A turn that asks nothing keeps a processor reached by its own entries.
@@ -19,7 +24,7 @@ pub fn accesses_keep_reached()
     ensures { AccessesKeepReached }
 {}
 
-/// And so does the end of a processor that has no step left, or asks where the history is full.
+/// And so does the end of a processor that has no step left, or asks for one more than the limit allows.
 #[tactic(auto, using(crate::proofs::Turns::ends_keep_reached))]
 pub fn ends_keep_reached()
     ensures { EndsKeepReached }

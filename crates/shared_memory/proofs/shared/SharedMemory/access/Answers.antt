@@ -26,4 +26,4 @@ pub returns-in-Full-clause-reply : goal.returns-in-Full-clause-reply
 returns-in-Full-clause-reply g c = let t = c.take_out-state in let r = c.in-Full.ensures in let p = c.args.pass.now in let is = c.requires.pass.is in
     let o : Out (start_of c.args.self.now) c.args.request.now.processor p.seat.me c.win.new.seat.me t.new.seat.me t.result
     = record { is = is; free = p.home; mine = p.mine is.lives; won = c.win.ensures.1; hand = t.ensures.out.0; out = t.ensures.out.1 } in
-    rw c.in-Full.is (full _ _ _ _ _ _ o c.look.new.seat.me c.look.ensures.1 (r.full.0 refl) (subst (λ (s : Contents). Meets s.set_up (reverse s.history)) r.reply r.order))
+    rw c.in-Full.is (full _ _ _ _ _ _ o c.look.new.seat.me c.look.ensures.1 c.args.request.now refl (r.full.0 refl) (subst (λ (s : Contents). Meets s.set_up (reverse s.history)) r.reply r.order))
