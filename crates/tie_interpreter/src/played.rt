@@ -6,7 +6,7 @@ ghost use Rattle.vax_decode.specs.Decoded.{found_of};
 ghost use Rattle.vax_form.specs.Tree.{answer, outcome};
 ghost use Rattle.vax_meaning.specs.Instructions.{tree_for};
 
-use crate::operands::run_instr;
+use crate::instr::run_instr;
 use tie_operands::TieStep;
 use vax_decode::Decoded;
 use vax_form::{Exception, Instr, Pages, VaxState, operation_of};

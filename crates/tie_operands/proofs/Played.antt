@@ -1,14 +1,12 @@
 -- An instruction that is gone through from its begin comes to what its tree comes to.
-use Rattle.std.proofs.Common.{◌≡◌, ℕ, ◌<◌, length, Result, Ok, Err}
+use Rattle.std.proofs.Common.{ℕ, Result, Ok, Err}
 use Rattle.vax_form.specs.Script.{Script}
 use Rattle.vax_form.specs.Tree.{instruction_tree}
 use Rattle.vax_form.specs.declared.script.End.{End}
-use Rattle.vax_form.specs.declared.script.End.TheVariants.{Done, Exits, Traps}
 use Rattle.vax_form.specs.declared.script.Stop.{Stop}
-use Rattle.vax_form.specs.declared.script.Stop.TheVariants.{Wants, Fails}
 use Rattle.vax_meaning.specs.Play.{Plays, Uses}
 use Rattle.vax_meaning.specs.declared.cursor.Cursor.{Cursor}
-use Rattle.tie_operands.specs.Steps.{IfWant, SeenAs, step_by}
+use Rattle.tie_operands.specs.Steps.{SeenAs, step_by}
 use Rattle.tie_operands.proofs.Passing.{passes}
 use Rattle.tie_operands.proofs.Whole.{seen_as}
 
@@ -16,11 +14,3 @@ pub played : (most : ℕ) (script : Script End) (old new : Cursor) (result : Res
     → SeenAs old.pages.now old.state (instruction_tree old.pages.now script old.state) old.replies.now (step_by old.state result new.state)
 played most script old new (Ok end) plays few = seen_as old.pages.now old.state _ old.replies.now _ (passes most old.state script old new (Ok end) plays few)
 played most script old new (Err stop) plays few = seen_as old.pages.now old.state _ old.replies.now _ (passes most old.state script old new (Err stop) plays few)
-
--- where it wants a reference it had few replies
-pub few_played : (most : ℕ) (old new : Cursor) (result : Result End Stop) → Uses most old result new → IfWant (step_by old.state result new.state) (length old.replies.now < most)
-few_played most old new (Ok Done) few = tt
-few_played most old new (Ok Exits) few = tt
-few_played most old new (Ok (Traps kind)) few = tt
-few_played most old new (Err (Wants reference)) few = few
-few_played most old new (Err (Fails exception)) few = tt

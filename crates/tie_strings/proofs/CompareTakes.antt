@@ -8,13 +8,14 @@ use Rattle.vax_form.specs.declared.state.VaxState.{VaxState}
 use Rattle.vax_meaning.specs.Memory.{low_bytes}
 use Rattle.vax_meaning.specs.Moves.{with_comparison}
 use Rattle.vax_long.specs.Strings.{beside, fetch_byte, compare_bytes}
-use Rattle.tie_operands.specs.Steps.{IsAsking}
-use Rattle.tie_strings.specs.Bytes.{next_byte}
+use Rattle.tie_operands.specs.Steps.{IsAsking, Shows}
+use Rattle.tie_operands.specs.declared.step.TieStep.TheVariants.{Want}
+use Rattle.tie_strings.specs.Bytes.{may_be_read, next_byte, read_of}
 use Rattle.tie_strings.specs.Compares.{compare_second, compare_on, comparing_end, comparing_script}
 use Rattle.tie_strings.specs.declared.comparing.Pair.{Pair}
 use Rattle.tie_strings.specs.declared.comparing.Pair.TheVariants.{First, Second, Differs}
 use Rattle.tie_strings.specs.declared.comparing.Compared.{Compared}
-use Rattle.tie_strings.proofs.Replying.{read_of, reading, read_reply, check_made}
+use Rattle.tie_strings.proofs.Replying.{reading, read_reply, check_made, read_shown}
 use Rattle.tie_strings.proofs.Unchecked.{some_left, compared_by, compared_from}
 
 abbrev tree : Pages → VaxState → Compared → (checked : Bool) → Pair → (left first second : ℕ) → Tree
@@ -130,3 +131,18 @@ noted pages state compared checked First zero first second asks = refl
 noted pages state compared checked First (suc rest) first second asks = first_noted pages state compared checked (suc rest) first second (omega arith) asks
 noted pages state compared checked (Second one) left first second asks = second_noted pages state compared checked one left first second asks
 noted pages state compared checked (Differs one other) left first second asks = refl
+
+-- ---- the reference that is wanted
+pub first_shown : (pages : Pages) (before state : VaxState) (compared : Compared) (checked : Bool) (pair : Pair) (left first second : ℕ) → pair ≡ First → 0 < left
+    → may_be_read checked pages first ≡ true → Shows before (feed pages (tree pages state compared checked pair left first second) []) (Want (read_of first))
+first_shown pages before state compared checked pair left first second at some may =
+    let whole = ap (λ p. tree pages state compared checked p left first second) at ∙ first_of checked pages state compared left first second (some_left left some) in
+    let on : ℕ → Tree = λ r. second_read pages state compared left first second (low_bytes 1 r) in
+    subst (λ t. Shows before (feed pages t []) (Want (read_of first))) (sym whole) (read_shown before checked pages first (read_of first) on may)
+
+pub second_shown : (pages : Pages) (before state : VaxState) (compared : Compared) (checked : Bool) (pair : Pair) (one left first second : ℕ) → pair ≡ Second one
+    → may_be_read checked pages second ≡ true → Shows before (feed pages (tree pages state compared checked pair left first second) []) (Want (read_of second))
+second_shown pages before state compared checked pair one left first second at may =
+    let whole = ap (λ p. tree pages state compared checked p left first second) at ∙ second_of checked pages state compared one left first second in
+    let on : ℕ → Tree = λ r. looked_at pages state compared (one == low_bytes 1 r) one (low_bytes 1 r) left first second in
+    subst (λ t. Shows before (feed pages t []) (Want (read_of second))) (sym whole) (read_shown before checked pages second (read_of second) on may)

@@ -10,6 +10,9 @@ use Rattle.vax_meaning.specs.Codes.{go_to}
 use Rattle.vax_meaning.specs.Memory.{write_part}
 use Rattle.vax_meaning.specs.Moves.{with_comparison}
 use Rattle.vax_long.specs.Strings.{beside, move_bytes, fill_bytes, with_moved}
+use Rattle.tie_operands.specs.Steps.{Shows}
+use Rattle.tie_operands.specs.declared.step.TieStep.TheVariants.{Want}
+use Rattle.tie_strings.specs.Bytes.{read_of, write_of}
 use Rattle.tie_strings.specs.Moves.{move_on, moving_script}
 use Rattle.tie_strings.specs.declared.moving.Fill.{Fill}
 use Rattle.tie_strings.specs.declared.moving.Moved.{Moved}
@@ -56,3 +59,20 @@ pub over : (pages : Pages) (state : VaxState) (byte : Option ℕ) (down : Bool) 
     ≡ feed pages (instruction_tree pages (moving_script byte down left from to (record { left = fill_left; to = fill_to; byte = fill_byte }) moved) state) []
 unfolding moving_script move_on move_bytes fill_bytes
 over pages state byte down left from to fill_left fill_to fill_byte moved reply none zero empty = rw (none, zero, empty) refl
+
+-- ---- the reference that is wanted
+pub write_shown : (pages : Pages) (before state : VaxState) (byte : Option ℕ) (b : ℕ) (down : Bool) (left from to : ℕ) (fill : Fill) (moved : Moved) → byte ≡ Some b
+    → Shows before (feed pages (instruction_tree pages (moving_script byte down left from to fill moved) state) []) (Want (write_of to b))
+unfolding moving_script move_on
+write_shown pages before state byte b down left from to fill moved is = rw is (record { head = refl; faults = tt })
+
+pub read_shown : (rest : ℕ) (pages : Pages) (before state : VaxState) (byte : Option ℕ) (down : Bool) (left from to : ℕ) (fill : Fill) (moved : Moved) → byte ≡ None → left ≡ suc rest
+    → Shows before (feed pages (instruction_tree pages (moving_script byte down left from to fill moved) state) []) (Want (read_of from))
+unfolding moving_script move_on move_bytes
+read_shown rest pages before state byte down left from to fill moved none is = rw (none, is) (record { head = refl; faults = tt })
+
+pub fill_shown : (rest : ℕ) (pages : Pages) (before state : VaxState) (byte : Option ℕ) (down : Bool) (left from to fill_left fill_to fill_byte : ℕ) (moved : Moved)
+    → byte ≡ None → left ≡ 0 → fill_left ≡ suc rest
+    → Shows before (feed pages (instruction_tree pages (moving_script byte down left from to (record { left = fill_left; to = fill_to; byte = fill_byte }) moved) state) []) (Want (write_of fill_to fill_byte))
+unfolding moving_script move_on move_bytes fill_bytes
+fill_shown rest pages before state byte down left from to fill_left fill_to fill_byte moved none zero is = rw (none, zero, is) (record { head = refl; faults = tt })

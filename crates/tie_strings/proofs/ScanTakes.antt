@@ -6,11 +6,12 @@ use Rattle.vax_form.specs.declared.pages.Pages.{Pages}
 use Rattle.vax_form.specs.declared.state.VaxState.{VaxState}
 use Rattle.vax_meaning.specs.Memory.{low_bytes}
 use Rattle.vax_long.specs.Strings.{beside, fetch_byte, scan_bytes, stops_at}
-use Rattle.tie_operands.specs.Steps.{IsAsking}
-use Rattle.tie_strings.specs.Bytes.{next_byte}
+use Rattle.tie_operands.specs.Steps.{IsAsking, Shows}
+use Rattle.tie_operands.specs.declared.step.TieStep.TheVariants.{Want}
+use Rattle.tie_strings.specs.Bytes.{may_be_read, next_byte, read_of}
 use Rattle.tie_strings.specs.Scans.{scan_on, scanning_script}
 use Rattle.tie_strings.specs.declared.scanning.Scanned.{Scanned}
-use Rattle.tie_strings.proofs.Replying.{read_of, reading, read_reply, check_made}
+use Rattle.tie_strings.proofs.Replying.{reading, read_reply, check_made, read_shown}
 use Rattle.tie_strings.proofs.Unchecked.{some_left, scanned_by, scanned_from}
 
 abbrev tree : Pages → VaxState → Scanned → (stopped checked : Bool) → (left address : ℕ) → Tree
@@ -86,3 +87,10 @@ unfolding scanning_script scan_on
 noted pages state scanned true checked left address asks = refl
 noted pages state scanned false checked zero address asks = refl
 noted pages state scanned false checked (suc rest) address asks = noted_on pages state scanned checked (suc rest) address (omega arith) asks
+
+pub byte_shown : (pages : Pages) (before state : VaxState) (scanned : Scanned) (stopped checked : Bool) (left address : ℕ) → stopped ≡ false → 0 < left → may_be_read checked pages address ≡ true
+    → Shows before (feed pages (tree pages state scanned stopped checked left address) []) (Want (read_of address))
+byte_shown pages before state scanned stopped checked left address at some may =
+    let whole = ap (λ b. tree pages state scanned b checked left address) at ∙ scan_of checked pages state scanned left address (some_left left some) in
+    let on : ℕ → Tree = λ r. looked_at pages state scanned (stops_at scanned.locates scanned.character (low_bytes 1 r)) left address in
+    subst (λ t. Shows before (feed pages t []) (Want (read_of address))) (sym whole) (read_shown before checked pages address (read_of address) on may)

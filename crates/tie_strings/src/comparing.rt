@@ -1,9 +1,9 @@
 // CMPC3: strings compared a byte at a time.
-ghost use Rattle.std.specs.Prelude.{◌≡◌, ◌==◌, ◌-◌, ◌∷◌, []};
+ghost use Rattle.std.specs.Prelude.{◌≡◌, ◌==◌, ◌-◌, ◌∷◌, [], IfSome};
 ghost use Rattle.vax_meaning.specs.Play.{Plays, Uses};
 
-use crate::byte::next_byte;
-use vax_form::{End, Stop, Width};
+use crate::byte::{may_be_read, next_byte, read_of};
+use vax_form::{End, Pages, Reference, Stop, Width};
 use vax_long::{beside, beyond, compare_bytes};
 use vax_meaning::{Cursor, go_to, set_codes, set_compared, set_register_of};
 
@@ -50,7 +50,8 @@ impl Comparing {
     ghost use Rattle.vax_form.specs.Tree.{feed, instruction_tree};
     ghost use Rattle.vax_form.specs.declared.pages.Pages.{Pages};
     ghost use Rattle.vax_form.specs.declared.state.VaxState.{VaxState};
-    ghost use Rattle.tie_operands.specs.Steps.{IsAsking};
+    ghost use Rattle.tie_operands.specs.Steps.{IsAsking, Shows};
+    ghost use Rattle.tie_operands.specs.declared.step.TieStep.TheVariants.{Want};
     ghost use Rattle.tie_strings.specs.Compares.{compare_second, compare_on, comparing_script};
 
     /// Compares the second of two bytes with the first, and what is left behind both.
@@ -108,6 +109,31 @@ impl Comparing {
         set_register_of(cursor, 2, left as u32);
         set_register_of(cursor, 3, beyond(self.compared.second, done));
         go_to(cursor, self.compared.after)
+    }
+
+    /// The reference that is wanted, if any.
+    #[inline(always)]
+    pub(crate) fn wanted(&self, pages: &Pages) -> Option<Reference>
+        ensures { IfSome result (λ reference. (before state : VaxState)
+            → Shows before (feed pages.now (instruction_tree pages.now (comparing_script self.now.checked self.now.pair self.now.left self.now.first self.now.second self.now.compared) state) []) (Want reference)) }
+    {
+        match self.pair {
+            Pair::First => {
+                if self.left > 0 && may_be_read(self.checked, pages, self.first) {
+                    Some(read_of(self.first))
+                } else {
+                    None
+                }
+            }
+            Pair::Second(_) => {
+                if may_be_read(self.checked, pages, self.second) {
+                    Some(read_of(self.second))
+                } else {
+                    None
+                }
+            }
+            Pair::Differs(_, _) => None,
+        }
     }
 
     /// Notes that the byte that is wanted was checked.

@@ -3,7 +3,7 @@
 //! 36, and go through it anew, and a string keeps its place and at most one byte. Memory stays with the caller.
 //!
 //! `body` is what comes behind the operands of an instruction without a string, `moving`, `comparing` and `scanning` are
-//! strings under way, `byte` reads the next byte of one, `string` goes through any of them, `tie` is the whole
+//! strings under way, `byte` has the next byte of one, `string` goes through any of them, `tie` is the whole
 //! instruction, and `played` goes through one without strings from its begin with the replies so far.
 #![tactic(auto)]
 

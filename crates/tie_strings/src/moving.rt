@@ -1,8 +1,9 @@
 // MOVC3 and MOVC5: strings moved a byte at a time.
-ghost use Rattle.std.specs.Prelude.{◌≡◌, ◌∷◌, []};
+ghost use Rattle.std.specs.Prelude.{◌≡◌, ◌∷◌, [], IfSome};
 ghost use Rattle.vax_meaning.specs.Play.{Plays, Uses};
 
-use vax_form::{End, Stop, Width};
+use crate::byte::{read_of, write_of};
+use vax_form::{End, Reference, Stop, Width};
 use vax_long::{beside, fill_bytes, move_bytes, set_moved, write_byte};
 use vax_meaning::{Cursor, go_to, set_compared};
 
@@ -45,6 +46,8 @@ impl Moving {
     ghost use Rattle.vax_form.specs.Tree.{feed, instruction_tree};
     ghost use Rattle.vax_form.specs.declared.pages.Pages.{Pages};
     ghost use Rattle.vax_form.specs.declared.state.VaxState.{VaxState};
+    ghost use Rattle.tie_operands.specs.Steps.{Shows};
+    ghost use Rattle.tie_operands.specs.declared.step.TieStep.TheVariants.{Want};
     ghost use Rattle.tie_strings.specs.Moves.{move_on, moving_script};
 
     /// Moves what is left.
@@ -82,7 +85,28 @@ impl Moving {
         go_to(cursor, moved.after)
     }
 
+    /// The reference that is wanted, if any.
+    #[inline(always)]
+    pub(crate) fn wanted(&self) -> Option<Reference>
+        ensures { IfSome result (λ reference. (pages : Pages) (before state : VaxState)
+            → Shows before (feed pages (instruction_tree pages (moving_script self.now.byte self.now.down self.now.left self.now.from self.now.to self.now.fill self.now.moved) state) []) (Want reference)) }
+    {
+        match self.byte {
+            Some(byte) => Some(write_of(self.to, byte)),
+            None => {
+                if self.left > 0 {
+                    Some(read_of(self.from))
+                } else if self.fill.left > 0 {
+                    Some(write_of(self.fill.to, self.fill.byte))
+                } else {
+                    None
+                }
+            }
+        }
+    }
+
     /// Takes the reply to the reference that is wanted.
+    #[inline(always)]
     pub(crate) fn take(&mut self, reply: u64)
         ensures { (pages : Pages) (state : VaxState)
             → feed pages (instruction_tree pages (moving_script self.old.byte self.old.down self.old.left self.old.from self.old.to self.old.fill self.old.moved) state) (reply ∷ [])

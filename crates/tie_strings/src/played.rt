@@ -7,9 +7,9 @@ ghost use Rattle.vax_long.specs.Instructions.{long_script};
 ghost use Rattle.vax_meaning.specs.Play.{Plays, Uses};
 
 use crate::body::Plain;
-use tie_operands::TieStep;
+use tie_operands::{TieStep, all_operands};
 use vax_form::{End, Instr, LongOperation, Operation, Pages, Stop, VaxState};
-use vax_meaning::{Cursor, operands_from};
+use vax_meaning::Cursor;
 
 /// The operation, where it has no strings.
 pub fn plain_of(operation: LongOperation) -> Option<Plain>
@@ -52,7 +52,7 @@ impl Plain {
         ensures few { Uses 60 cursor.old result cursor.new }
     {
         let row = Operation::Long(self.long()).row();
-        let values = operands_from(cursor, &row, instr)?;
+        let values = all_operands(cursor, &row, instr)?;
         self.run(cursor, instr, &values)
     }
 

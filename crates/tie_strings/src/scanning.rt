@@ -1,9 +1,9 @@
 // LOCC and SKPC: a string searched a byte at a time.
-ghost use Rattle.std.specs.Prelude.{◌≡◌, ◌∷◌, []};
+ghost use Rattle.std.specs.Prelude.{◌≡◌, ◌∷◌, [], IfSome};
 ghost use Rattle.vax_meaning.specs.Play.{Plays, Uses};
 
-use crate::byte::next_byte;
-use vax_form::{End, Stop};
+use crate::byte::{may_be_read, next_byte, read_of};
+use vax_form::{End, Pages, Reference, Stop};
 use vax_long::{beside, beyond, scan_bytes, stops_at};
 use vax_meaning::{Cursor, go_to, set_codes, set_register_of};
 
@@ -35,7 +35,8 @@ impl Scanning {
     ghost use Rattle.vax_form.specs.Tree.{feed, instruction_tree};
     ghost use Rattle.vax_form.specs.declared.pages.Pages.{Pages};
     ghost use Rattle.vax_form.specs.declared.state.VaxState.{VaxState};
-    ghost use Rattle.tie_operands.specs.Steps.{IsAsking};
+    ghost use Rattle.tie_operands.specs.Steps.{IsAsking, Shows};
+    ghost use Rattle.tie_operands.specs.declared.step.TieStep.TheVariants.{Want};
     ghost use Rattle.tie_strings.specs.Scans.{scan_on, scanning_script};
 
     /// Searches what is left, and gives the number of bytes left.
@@ -75,6 +76,25 @@ impl Scanning {
         set_register_of(cursor, 1, beyond(self.scanned.address, done));
         set_codes(cursor, false, left == 0, false, false);
         go_to(cursor, self.scanned.after)
+    }
+
+    /// The reference that is wanted, if any.
+    #[inline(always)]
+    pub(crate) fn wanted(&self, pages: &Pages) -> Option<Reference>
+        ensures { IfSome result (λ reference. (before state : VaxState)
+            → Shows before (feed pages.now (instruction_tree pages.now (scanning_script self.now.stopped self.now.checked self.now.left self.now.address self.now.scanned) state) []) (Want reference)) }
+    {
+        if self.stopped {
+            return None;
+        }
+        if self.left == 0 {
+            return None;
+        }
+        if may_be_read(self.checked, pages, self.address) {
+            Some(read_of(self.address))
+        } else {
+            None
+        }
     }
 
     /// Notes that the byte that is wanted was checked.

@@ -1,12 +1,12 @@
 // An instruction with strings that is under way.
-ghost use Rattle.std.specs.Prelude.{◌≡◌, ◌∷◌, []};
+ghost use Rattle.std.specs.Prelude.{◌≡◌, ◌∷◌, [], IfSome};
 ghost use Rattle.vax_meaning.specs.Play.{Plays, Uses};
 
 use crate::comparing::Comparing;
 use crate::moving::Moving;
 use crate::scanning::Scanning;
 use tie_operands::TieStep;
-use vax_form::{End, Pages, Stop, VaxState};
+use vax_form::{End, Pages, Reference, Stop, VaxState};
 use vax_meaning::Cursor;
 
 /// What is left of an instruction with strings.
@@ -21,7 +21,8 @@ impl Strings {
     ghost use Rattle.vax_form.specs.Tree.{feed};
     ghost use Rattle.vax_form.specs.declared.pages.Pages.{Pages};
     ghost use Rattle.vax_form.specs.declared.state.VaxState.{VaxState};
-    ghost use Rattle.tie_operands.specs.Steps.{IsAsking};
+    ghost use Rattle.tie_operands.specs.Steps.{IsAsking, Shows};
+    ghost use Rattle.tie_operands.specs.declared.step.TieStep.TheVariants.{Want};
     ghost use Rattle.tie_strings.specs.Strings.{strings_script, strings_tree};
 
     /// Goes through it.
@@ -33,6 +34,18 @@ impl Strings {
             Strings::Moves(moving) => moving.run(cursor),
             Strings::Compares(comparing) => comparing.run(cursor),
             Strings::Scans(scanning) => scanning.run(cursor),
+        }
+    }
+
+    /// The reference that is wanted, if any.
+    #[inline(always)]
+    fn wanted(&self, pages: &Pages) -> Option<Reference>
+        ensures { IfSome result (λ reference. (before state : VaxState) → Shows before (feed pages.now (strings_tree pages.now self.now state) []) (Want reference)) }
+    {
+        match self {
+            Strings::Moves(moving) => moving.wanted(),
+            Strings::Compares(comparing) => comparing.wanted(pages),
+            Strings::Scans(scanning) => scanning.wanted(pages),
         }
     }
 
@@ -72,6 +85,7 @@ impl StringLoop {
     ghost use Rattle.vax_form.specs.Tree.{feed};
     ghost use Rattle.std.specs.Prelude.{ℕ, List, ◌++◌};
     ghost use Rattle.vax_form.specs.Tree.{Tree};
+    ghost use Rattle.tie_operands.specs.Replies.{list_of};
     ghost use Rattle.tie_operands.specs.Steps.{Shows, Passes, IfWant};
     ghost use Rattle.tie_strings.specs.Strings.{strings_tree, loop_tree, StandsAt};
 
@@ -82,8 +96,9 @@ impl StringLoop {
         self.strings.run(cursor)
     }
 
-    /// The next reference, or the end.
-    fn look(&self, pages: &Pages, before: &VaxState) -> TieStep
+    /// The next reference, or the end, by going through what is left.
+    #[inline(never)]
+    fn gone_through(&self, pages: &Pages, before: &VaxState) -> TieStep
         ensures { Shows before.now (feed pages.now (loop_tree pages.now self.now) []) result }
     {
         let mut cursor = Cursor {
@@ -97,7 +112,19 @@ impl StringLoop {
         }
     }
 
+    /// The next reference, or the end.
+    #[inline(always)]
+    fn look(&self, pages: &Pages, before: &VaxState) -> TieStep
+        ensures { Shows before.now (feed pages.now (loop_tree pages.now self.now) []) result }
+    {
+        match self.strings.wanted(pages) {
+            Some(reference) => TieStep::Want(reference),
+            None => self.gone_through(pages, before),
+        }
+    }
+
     /// The next reference, whose check is then made, or the end.
+    #[inline(never)]
     fn show(&mut self, pages: &Pages, before: &VaxState) -> TieStep
         ensures shown { Shows before.now (feed pages.now (loop_tree pages.now self.old) []) result }
         ensures rest { IfWant result (feed pages.now (loop_tree pages.now self.new) [] ≡ feed pages.now (loop_tree pages.now self.old) []) }
@@ -123,7 +150,45 @@ impl StringLoop {
         }
     }
 
+    /// What `show` gives, at once where the next reference is told by what is left.
+    #[inline(always)]
+    fn tell(&mut self, pages: &Pages, before: &VaxState) -> TieStep
+        ensures shown { Shows before.now (feed pages.now (loop_tree pages.now self.old) []) result }
+        ensures rest { IfWant result (feed pages.now (loop_tree pages.now self.new) [] ≡ feed pages.now (loop_tree pages.now self.old) []) }
+    {
+        match self.strings.wanted(pages) {
+            Some(reference) => {
+                self.strings.note_check();
+                TieStep::Want(reference)
+            }
+            None => self.show(pages, before),
+        }
+    }
+
+    /// Takes the reply to the reference that is wanted, where there is one, and comes to the next or to the end.
+    #[inline(always)]
+    pub(crate) fn answered(
+        &mut self,
+        pages: &Pages,
+        before: &VaxState,
+        reply: Option<u64>,
+    ) -> TieStep
+        ensures { StandsAt pages.now before.now (loop_tree pages.now self.old) (list_of reply) self.new result }
+    {
+        let Some(reply) = reply else {
+            return self.show(pages, before);
+        };
+        match self.strings.wanted(pages) {
+            Some(_) => {
+                self.strings.take(reply);
+                self.tell(pages, before)
+            }
+            None => self.go_on(pages, before, &[reply]),
+        }
+    }
+
     /// Takes the replies that there are, one after the other, and comes to the next reference or to the end.
+    #[inline(never)]
     pub(crate) fn go_on(&mut self, pages: &Pages, before: &VaxState, replies: &[u64]) -> TieStep
         ensures { StandsAt pages.now before.now (loop_tree pages.now self.old) replies.now self.new result }
     {

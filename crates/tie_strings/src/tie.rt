@@ -55,7 +55,8 @@ impl LongTie {
     ghost use Rattle.vax_form.specs.declared.operation.LongOperation.TheVariants.{MoveCharacters, MoveCharactersFilled, CompareCharacters, LocateCharacter, SkipCharacter};
     ghost use Rattle.tie_strings.specs.Bodies.{body_at, long_of};
     ghost use Rattle.tie_strings.specs.Strings.{strings_tree};
-    ghost use Rattle.tie_strings.specs.Whole.{IsLong, rest_of, before_of, Stands};
+    ghost use Rattle.tie_strings.specs.Whole.{IsLong, rest_of, stage_rest, before_of, Stands};
+    ghost use Rattle.tie_strings.specs.declared.tie.Stage.TheVariants.{Evaluates, Closes};
 
     /// Begins the long instruction (`vax_form::is_long`) that stands at the PC.
     pub fn begin(state: &VaxState, pages: &Pages, thread: u8) -> LongTie
@@ -248,45 +249,80 @@ impl LongTie {
         }
     }
 
-    /// Goes on to the next reference or to the end, by the tree that is left.
+    /// Goes on with the operands by the next reply, where there is one.
+    #[inline(never)]
+    fn evaluated_on(
+        &mut self,
+        operation: LongOperation,
+        operands: Operands,
+        pages: &Pages,
+        reply: Option<u64>,
+    ) -> TieStep
+        ensures shows { Shows (before_of self.old) (feed pages.now (stage_rest pages.now (Evaluates operation operands)) (list_of reply)) result }
+        ensures rest { IfWant result (rest_of pages.now self.new ≡ feed pages.now (stage_rest pages.now (Evaluates operation operands)) (list_of reply)) }
+        ensures before { before_of self.new ≡ before_of self.old }
+    {
+        let given = operands.replies_with(reply);
+        let mut cursor = Cursor {
+            state: operands.state(),
+            pages,
+            replies: given.as_slice(),
+        };
+        self.evaluated(operation, operands, &mut cursor)
+    }
+
+    /// Goes on with an operation without strings by the next reply, where there is one.
+    #[inline(never)]
+    fn closed_on(&mut self, closing: Body, pages: &Pages, reply: Option<u64>) -> TieStep
+        ensures shows { Shows (before_of self.old) (feed pages.now (stage_rest pages.now (Closes closing)) (list_of reply)) result }
+        ensures rest { IfWant result (rest_of pages.now self.new ≡ feed pages.now (stage_rest pages.now (Closes closing)) (list_of reply)) }
+        ensures before { before_of self.new ≡ before_of self.old }
+    {
+        let given = closing.kept.with(reply);
+        let mut cursor = Cursor {
+            state: closing.state,
+            pages,
+            replies: given.as_slice(),
+        };
+        self.closed(closing, &mut cursor)
+    }
+
+    /// Goes on to the next reference or to the end at any stage.
+    #[inline(never)]
+    fn staged_on(&mut self, pages: &Pages, reply: Option<u64>) -> TieStep
+        ensures shows { Shows (before_of self.old) (feed pages.now (rest_of pages.now self.old) (list_of reply)) result }
+        ensures rest { IfWant result (rest_of pages.now self.new ≡ feed pages.now (rest_of pages.now self.old) (list_of reply)) }
+        ensures before { before_of self.new ≡ before_of self.old }
+    {
+        match &mut self.stage {
+            Stage::Repeats(under_way) => under_way.answered(pages, &self.before, reply),
+            Stage::Evaluates(operation, operands) => {
+                let (operation, operands) = (*operation, *operands);
+                self.evaluated_on(operation, operands, pages, reply)
+            }
+            Stage::Closes(closing) => {
+                let closing = *closing;
+                self.closed_on(closing, pages, reply)
+            }
+        }
+    }
+
+    /// Goes on to the next reference or to the end, by the tree that is left: in a string at once.
+    #[inline(always)]
     fn taken_on(&mut self, pages: &Pages, reply: Option<u64>) -> TieStep
         ensures shows { Shows (before_of self.old) (feed pages.now (rest_of pages.now self.old) (list_of reply)) result }
         ensures rest { IfWant result (rest_of pages.now self.new ≡ feed pages.now (rest_of pages.now self.old) (list_of reply)) }
         ensures before { before_of self.new ≡ before_of self.old }
     {
-        match self.stage {
-            Stage::Evaluates(operation, operands) => {
-                let given = operands.replies_with(reply);
-                let mut cursor = Cursor {
-                    state: operands.state(),
-                    pages,
-                    replies: given.as_slice(),
-                };
-                self.evaluated(operation, operands, &mut cursor)
-            }
-            Stage::Closes(closing) => {
-                let given = closing.kept.with(reply);
-                let mut cursor = Cursor {
-                    state: closing.state,
-                    pages,
-                    replies: given.as_slice(),
-                };
-                self.closed(closing, &mut cursor)
-            }
-            Stage::Repeats(under_way) => {
-                let given = Replies::<1>::none().with(reply);
-                let cursor = Cursor {
-                    state: under_way.state,
-                    pages,
-                    replies: given.as_slice(),
-                };
-                self.repeated(under_way.strings, &cursor)
-            }
+        match &mut self.stage {
+            Stage::Repeats(under_way) => under_way.answered(pages, &self.before, reply),
+            Stage::Evaluates(..) | Stage::Closes(_) => self.staged_on(pages, reply),
         }
     }
 
     /// Goes on to the next reference or to the end. The reply is that of the last reference wanted, and none at first.
     /// No fault is an arithmetic exception, so that an arithmetic one that is raised is a trap.
+    #[inline(always)]
     pub fn step(&mut self, pages: &Pages, reply: Option<u64>) -> TieStep
         ensures answers { (state : VaxState) (tree : Tree) (replies : List ℕ) → Stands pages.now self.old state tree replies
             → result ≡ step_of (outcome state (answer pages.now tree (replies ++ list_of reply))) }

@@ -1,14 +1,14 @@
-// The operands of an instruction that is gone through. Places that are not used are passed over.
+// All operands of an instruction that is gone through. Places that are not used are passed over, and registers and literals are
+// found at once.
 ghost use Rattle.std.specs.Prelude.{◌≡◌};
 ghost use Rattle.vax_meaning.specs.Evaluation.{evaluate, nothings, operands_from};
-ghost use Rattle.vax_meaning.specs.Instructions.{operation_script};
 ghost use Rattle.vax_meaning.specs.Play.{Plays, Uses};
 
-use vax_form::{Access, End, Instr, Operand, Operation, Row, Size, Stop};
-use vax_meaning::{Cursor, Evaluated, NOTHING, body, evaluated_row, find, obtain};
+use vax_form::{Access, Instr, Operand, Row, Size, Stop};
+use vax_meaning::{Cursor, Evaluated, Location, NOTHING, find, low_bytes, obtain};
 
-/// Evaluates an operand that is used.
-fn used(
+/// Evaluates an operand that is found first.
+fn found_first(
     cursor: &mut Cursor,
     access: Access,
     size: Size,
@@ -35,13 +35,28 @@ fn evaluated(
 {
     match (access, operand) {
         (Access::Read, Operand::Unused) => Ok(NOTHING),
-        _ => used(cursor, access, size, operand),
+        (Access::Read, Operand::Value(value)) => Ok(Evaluated {
+            location: Location::InMemory(0),
+            value: low_bytes(size.bytes(), value),
+        }),
+        (Access::Read, Operand::Register(number)) => {
+            obtain(cursor, access, size, operand, Location::InRegister(number))
+        }
+        (Access::Modify, Operand::Register(number)) => {
+            obtain(cursor, access, size, operand, Location::InRegister(number))
+        }
+        (Access::Write, Operand::Register(number)) => Ok(Evaluated {
+            location: Location::InRegister(number),
+            value: 0,
+        }),
+        _ => found_first(cursor, access, size, operand),
     }
 }
 
 /// Evaluates the operands from left to right.
+#[inline(always)]
 #[tactic(auto, unfolding(vax_meaning::specs::Evaluation::operands_from))]
-fn operands(cursor: &mut Cursor, row: &Row, instr: &Instr) -> Result<[Evaluated; 6], Stop>
+pub fn all_operands(cursor: &mut Cursor, row: &Row, instr: &Instr) -> Result<[Evaluated; 6], Stop>
     ensures plays { Plays (operands_from 6 row.now instr.now nothings) cursor.old result cursor.new }
     ensures few { Uses 24 cursor.old result cursor.new }
 {
@@ -52,20 +67,4 @@ fn operands(cursor: &mut Cursor, row: &Row, instr: &Instr) -> Result<[Evaluated;
     let v4 = evaluated(cursor, row.access[4], row.size[4], instr.operands[4])?;
     let v5 = evaluated(cursor, row.access[5], row.size[5], instr.operands[5])?;
     Ok([v0, v1, v2, v3, v4, v5])
-}
-
-/// Goes through an instruction.
-#[tactic(auto, unfolding(vax_meaning::specs::Instructions::operation_script))]
-pub(crate) fn run_instr(
-    cursor: &mut Cursor,
-    operation: Operation,
-    instr: &Instr,
-    thread: u8,
-) -> Result<End, Stop>
-    ensures plays { Plays (operation_script operation instr.now thread) cursor.old result cursor.new }
-    ensures few { Uses 28 cursor.old result cursor.new }
-{
-    let row = evaluated_row(operation);
-    let values = operands(cursor, &row, instr)?;
-    body(cursor, operation, instr, thread, &values)
 }
