@@ -5,7 +5,6 @@ use Rattle.address_map.specs.Pairs.{address_at}
 use Rattle.alpha_encode.specs.declared.instr.AlphaInstr.{AlphaInstr}
 use Rattle.alpha_encode.specs.declared.instr.AlphaInstr.TheVariants.{Memory}
 use Rattle.alpha_encode.specs.declared.instr.MemoryOp.{MemoryOp}
-use Rattle.alpha_machine.specs.Step.{state_of}
 use Rattle.alpha_meaning.specs.Act.{Does, act, memory_act_by, memory_finish, memory_finish_by}
 use Rattle.alpha_meaning.specs.Act as acts
 use Rattle.alpha_meaning.specs.Memory.{address_of}
@@ -21,13 +20,7 @@ use Rattle.prepared_code.specs.declared.asked.Asked.{Asked}
 use Rattle.system_model.specs.Processors.{Mode, Runs, Processor, Asks, Stuck, alpha_turn, mode_of, moment_of, placed, stepped, turn, turn_in}
 use Rattle.system_model.specs.Settings.{Setting}
 use Rattle.system_model.specs.Steps.{Moment, accesses, does, is_defined, next, next_by, place_by, place_of, request_for}
-use Rattle.vax_form.specs.declared.pages.Pages.{Pages}
-use Rattle.vax_form.specs.declared.state.VaxState.{VaxState}
 use Rattle.tie_switch.specs.Accesses.{IsAccess}
-use Rattle.tie_switch.specs.Asks.{AsksAt}
-use Rattle.tie_switch.specs.Processors.{IsMode, ProcessorValue, StandsFor}
-use Rattle.tie_switch.specs.declared.processor.Mode.{Mode as Kind}
-use Rattle.tie_switch.specs.declared.processor.Mode.TheVariants as modes
 use Rattle.tie_switch.proofs.Steps.{access_small}
 
 -- where a processor stands, which asks for that access
@@ -35,15 +28,6 @@ pub record Standing (source : Source) (a : Asked) (p : Processor) : Type 0 where
   pub alpha : Alpha
   pub runs : p.mode ≡ Runs alpha
   pub asks : AsksInside source alpha a
-
-standing_by : (pages : Pages) (thread : ℕ) (boundary : VaxState) (source : Source) (a : Asked) (p : Processor) (kind : Kind) → AsksAt source kind a → IsMode pages thread boundary kind p.mode → Standing source a p
-standing_by pages thread boundary source a p modes.New asks is = absurd asks
-standing_by pages thread boundary source a p (modes.Runs cpu) asks is = record { alpha = state_of cpu; runs = is; asks = asks }
-standing_by pages thread boundary source a p (modes.Interprets interpreted reply) asks is = absurd asks
-standing_by pages thread boundary source a p (modes.Ended end) asks is = absurd asks
-
-pub standing : (pages : Pages) (source : Source) (a : Asked) (k : ProcessorValue) (p : Processor) → AsksAt source k.mode a → StandsFor pages k p → Standing source a p
-standing pages source a k p asks stands = standing_by pages k.thread k.boundary source a p k.mode asks stands.mode
 
 pub is_access : (source : Source) (c : Alpha) (a : Asked) → AsksInside source c a → IsAccess a.access
 is_access source c a w = subst IsAccess (sym w.access) (access_small a.op a.access.kind (address_of a.op (c.regs w.base) w.disp) (c.regs a.register))

@@ -13,4 +13,5 @@ pub mod Courses
 pub mod Stopping
 pub mod ManyTurns
 pub mod Advances
+pub mod Along
 mod Asks

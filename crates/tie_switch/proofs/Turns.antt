@@ -4,19 +4,21 @@ use Rattle.std.specs.Prelude.{MatchBool, option_map, reverse, slice_get, slice_s
 use Rattle.std.specs.List.{AllByRecursion}
 use Rattle.std.proofs.lemmas.Bool.{and_parts, eqb-true}
 use Rattle.std.proofs.lemmas.Bool.Decides.{nat_tests}
-use Rattle.std.proofs.lemmas.List.{append-nil, reverse-append, length-reverse, length-set}
+use Rattle.std.proofs.lemmas.List.{append-nil, reverse-append, length-set}
 use Rattle.std.proofs.lemmas.List.Elements.{filter-append}
 use Rattle.std.proofs.lemmas.Option.{slice_get_within}
 use Rattle.system_model.proofs.Lists.{there_is}
 use Rattle.image_file.specs.Start.{start_state}
 use Rattle.memory_core.specs.Contents.{entry_for}
+use Rattle.memory_core.specs.Limits.{IsWithin, IsAtLimit}
 use Rattle.memory_core.specs.Order.{own, Meets}
 use Rattle.memory_core.specs.declared.entry.Entry.{Entry}
 use Rattle.memory_core.specs.declared.entry.Request.{Request}
 use Rattle.memory_core.specs.declared.entry.SetUp.{SetUp}
+use Rattle.memory_core.proofs.Limits.{within_part, within_reverse, within_turned, at_reverse, at_within}
 use Rattle.vax_form.specs.declared.state.VaxState.{VaxState}
 use Rattle.system_model.specs.Laws.{StepsKeepReached, AccessesKeepReached, EndsKeepReached, OthersKeepReached, RequestsAreOwn, ReachedAreLegal}
-use Rattle.system_model.specs.Legal.{starts, spent, IsGoing, IsAsking, IsReached, IsLegal}
+use Rattle.system_model.specs.Legal.{starts, spent, IsGoing, AsksToCount, IsReached, IsLegal}
 use Rattle.system_model.specs.Processors.{Mode, New, Runs, Interprets, Ended, Processor, Turn, Went, Asks, Over, Stuck, turn, turn_in, mode_of, entry_by}
 use Rattle.system_model.specs.Settings.{Setting}
 use Rattle.system_model.proofs.Turns.{reached_within}
@@ -123,11 +125,11 @@ module _ (steps : StepsKeepReached) (accesses : AccessesKeepReached) (ends : End
   Keeps new q = IsReached setting budget set_up.limit (reverse new) thread start q
 
   -- reached, with the entries of others that were seen
-  seen_more : (between : List Entry) → own thread between ≡ [] → length (old ++ between) ≤ set_up.limit
+  seen_more : (between : List Entry) → own thread between ≡ [] → IsWithin set_up.limit (old ++ between)
       → IsReached setting budget set_up.limit (reverse (old ++ between)) thread start p
   seen_more between none room =
       let turned : reverse (old ++ between) ≡ reverse between ++ reverse old = reverse-append old between in
-      let few : length (reverse between ++ reverse old) ≤ set_up.limit = omega (arith, room, ap length turned, length-reverse (old ++ between)) in
+      let few : IsWithin set_up.limit (reverse between ++ reverse old) = subst (IsWithin set_up.limit) turned (within_reverse set_up.limit (old ++ between) room) in
       let none_turned : own thread (reverse between) ≡ [] = own_reverse thread between none in
       subst (λ (entries : List Entry). IsReached setting budget set_up.limit entries thread start p) (sym turned)
       (others setting budget set_up.limit (reverse between) (reverse old) thread start p reached none_turned few)
@@ -145,7 +147,7 @@ module _ (steps : StepsKeepReached) (accesses : AccessesKeepReached) (ends : End
       let entry : entry_for set_up past request ≡ found = same_entry set_up past request m.before m.success n.found n.succeeded in
       let is : new ≡ past ++ found ∷ [] = n.seen ∙ ap (λ x. past ++ x ∷ []) entry in
       let turned : reverse new ≡ found ∷ reverse past = ap reverse is ∙ newest past found in
-      let room : length past ≤ set_up.limit = omega (arith, n.room, ap length turned, length-reverse new, length-reverse past) in
+      let room : IsWithin set_up.limit past = (within_part set_up.limit past (found ∷ []) (subst (IsWithin set_up.limit) is n.room)).0 in
       let none : own thread n.between ≡ [] = subst (λ (t : ℕ). own t n.between ≡ []) (its_own request on e) n.others in
       subst (λ (entries : List Entry). IsReached setting budget set_up.limit entries thread start q) (sym turned)
       (subst (λ (x : Processor). IsReached setting budget set_up.limit (found ∷ reverse past) thread start x) (sym m.goes)
@@ -156,12 +158,13 @@ module _ (steps : StepsKeepReached) (accesses : AccessesKeepReached) (ends : End
   refused request on q new e r =
       let o = r.over in
       let past = old ++ o.between in
-      let full : length (reverse past) ≡ set_up.limit = length-reverse past ∙ sym (ap length o.seen) ∙ o.full in
-      let room : length past ≤ set_up.limit = omega (arith, ap length o.seen, o.full) in
+      let full : IsAtLimit set_up.limit past = subst (IsAtLimit set_up.limit) o.seen o.full in
+      let room : IsWithin set_up.limit past = at_within set_up.limit past full in
+      let asks : AsksToCount set_up.limit (turn setting p) = subst (AsksToCount set_up.limit) (sym e) o.counts in
       let none : own thread o.between ≡ [] = subst (λ (t : ℕ). own t o.between ≡ []) (its_own request on e) o.others in
       subst (λ (entries : List Entry). IsReached setting budget set_up.limit (reverse entries) thread start q) (sym o.seen)
       (subst (λ (x : Processor). IsReached setting budget set_up.limit (reverse past) thread start x) (sym r.goes)
-      (ends setting budget set_up.limit (reverse past) thread start p (seen_more o.between none room) (going setting p (Asks request on) e tt) (inr (subst IsAsking (sym e) tt, full))))
+      (ends setting budget set_up.limit (reverse past) thread start p (seen_more o.between none room) (going setting p (Asks request on) e tt) (inr (asks, at_reverse set_up.limit past full))))
 
   still : (r q : Processor) (new : List Entry) → IsStill r q old new → IsReached setting budget set_up.limit (reverse old) thread start r → Keeps new q
   still r q new s k =
@@ -213,7 +216,7 @@ record IsGrown (set_up : SetUp) (thread : ℕ) (old new : List Entry) : Type 0 w
   seen : reverse new ≡ added ++ reverse old
   its : AllByRecursion (λ e. e.processor ≡ thread) added
   order : Meets set_up (reverse old) → Meets set_up (reverse new)
-  room : length old ≤ set_up.limit → length new ≤ set_up.limit
+  room : IsWithin set_up.limit old → IsWithin set_up.limit new
 
 module _ (setting : Setting) (set_up : SetUp) (thread : ℕ) (p : Processor) (asks : (request : Request) (on : ℕ → Bool → Processor) → turn setting p ≡ Asks request on → request.processor ≡ thread) where
   same_grown : (old new : List Entry) → new ≡ old → IsGrown set_up thread old new
@@ -222,7 +225,7 @@ module _ (setting : Setting) (set_up : SetUp) (thread : ℕ) (p : Processor) (as
     seen = ap reverse same;
     its = tt;
     order = λ order. subst (λ (entries : List Entry). Meets set_up (reverse entries)) (sym same) order;
-    room = λ room. subst (λ (entries : List Entry). length entries ≤ set_up.limit) (sym same) room;
+    room = λ room. subst (IsWithin set_up.limit) (sym same) room;
   }
 
   grown_by : (t : Turn) (q : Processor) (old new : List Entry) → turn setting p ≡ t → Makes t set_up (λ between. between ≡ []) p q old new → IsGrown set_up thread old new
@@ -264,6 +267,9 @@ module _ (kept : TurnsKeepReached) (others : OthersKeepReached) (requests : Requ
   here_grown : IsGrown set_up thread old new
   here_grown = grown setting set_up thread p its_requests budget (is_out budget p) q old new turned
 
+  room_more : IsWithin set_up.limit (reverse new)
+  room_more = within_reverse set_up.limit new (here_grown.room (within_turned set_up.limit old legal.room))
+
   -- any entries of others may come where none do
   any_may : (t : Turn) (b : Bool) → MatchBool b (IsStill (spent p) q old new) (Makes t set_up (λ between. between ≡ []) p q old new)
       → MatchBool b (IsStill (spent p) q old new) (Makes t set_up (λ between. Unit {0}) p q old new)
@@ -276,7 +282,7 @@ module _ (kept : TurnsKeepReached) (others : OthersKeepReached) (requests : Requ
     goes = m.goes;
   })
   any_may (Asks request on) false (inr r) = inr (record {
-    over = record { between = (r.over).between; others = (r.over).others; come = tt; seen = (r.over).seen; full = (r.over).full; order = (r.over).order };
+    over = record { between = (r.over).between; others = (r.over).others; come = tt; seen = (r.over).seen; counts = (r.over).counts; full = (r.over).full; order = (r.over).order };
     goes = r.goes;
   })
   any_may Over false m = m
@@ -293,7 +299,7 @@ module _ (kept : TurnsKeepReached) (others : OthersKeepReached) (requests : Requ
   each_reached u start x s h false e =
       let apart : thread ≢ u = unequal thread u e in
       let g = here_grown in
-      let room : length (g.added ++ reverse old) ≤ set_up.limit = omega (arith, g.room (omega (arith, legal.room, length-reverse old)), ap length g.seen, length-reverse new) in
+      let room : IsWithin set_up.limit (g.added ++ reverse old) = subst (IsWithin set_up.limit) g.seen room_more in
       subst (λ (entries : List Entry). IsReached setting budget set_up.limit entries u start x) (sym g.seen)
       (others setting budget set_up.limit g.added (reverse old) u start x (legal.each u start x s (sym (get_other processors thread u q apart) ∙ h)) (own_other thread u g.added g.its apart) room)
     where
@@ -314,7 +320,7 @@ module _ (kept : TurnsKeepReached) (others : OthersKeepReached) (requests : Requ
   stays_legal =
       let g = here_grown in
       are_legal setting set_up budget (reverse new) (slice_set processors thread q) legal.pages (g.order legal.order)
-      (omega (arith, g.room (omega (arith, legal.room, length-reverse old)), length-reverse new))
+      room_more
       (length-set processors thread q ∙ legal.count) all_known (λ u start x s h. each_reached u start x s h (thread == u) refl)
 
 pub turns_stay_legal : TurnsKeepReached → OthersKeepReached → RequestsAreOwn → ReachedAreLegal → TurnsStayLegal

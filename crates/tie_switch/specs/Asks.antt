@@ -1,23 +1,15 @@
--- Processors in Alpha code, at an access inside a block.
-use Rattle.std.specs.Prelude.{◌<◌}
-use Rattle.alpha_machine.specs.Step.{state_of}
-use Rattle.alpha_meaning.specs.Pieces.{most_words}
-use Rattle.prepared_code.specs.Asks.{AsksInside}
-use Rattle.prepared_code.specs.Sources.{Source}
-use Rattle.prepared_code.specs.declared.asked.Asked.{Asked}
-use Rattle.tie_switch.specs.declared.processor.Mode.{Mode}
-use Rattle.tie_switch.specs.declared.processor.Mode.TheVariants as modes
+-- Courses at an access inside a block.
+use Rattle.std.specs.Prelude.{ℕ}
+use Rattle.memory_core.specs.declared.entry.SetUp.{SetUp}
+use Rattle.system_model.specs.Settings.{Setting}
+use Rattle.tie_switch.specs.Courses.{course_of}
+use Rattle.tie_switch.specs.Processors.{CanStep}
+use Rattle.tie_switch.specs.declared.course.Course.{Course}
+use Rattle.vax_form.specs.declared.state.VaxState.{VaxState}
 
--- its word asks for that access inside a block
-abbrev pub AsksAt : Source → Mode → Asked → Type 0
-AsksAt source modes.New a = ⊥
-AsksAt source (modes.Runs cpu) a = AsksInside source (state_of cpu) a
-AsksAt source (modes.Interprets interpreted reply) a = ⊥
-AsksAt source (modes.Ended end) a = ⊥
-
--- it stands in Alpha code, at a word that code may have
-abbrev pub IsLow : Mode → Type 0
-IsLow modes.New = ⊥
-IsLow (modes.Runs cpu) = cpu.pc < most_words
-IsLow (modes.Interprets interpreted reply) = ⊥
-IsLow (modes.Ended end) = ⊥
+-- a processor on that course has a step, and memory can make what it asks for
+pub record HasCourseStep (setting : Setting) (set_up : SetUp) (thread : ℕ) (course : Course) : Type 0 where
+  pub before : VaxState
+  pub interpreted : ℕ
+  pub steps : ℕ
+  pub can : CanStep setting set_up (course_of thread before interpreted course steps)

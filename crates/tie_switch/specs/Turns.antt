@@ -18,7 +18,7 @@ pub record IsMade (set_up : SetUp) (may_come : List Entry → Type 0) (request :
 
 -- the history was full, and the processor makes no more steps
 pub record IsRefused (set_up : SetUp) (may_come : List Entry → Type 0) (request : Request) (p q : Processor) (old new : List Entry) : Type 0 where
-  pub over : IsOver set_up may_come request.processor old new
+  pub over : IsOver set_up may_come request old new
   pub goes : q ≡ spent p
 
 pub record IsStill (p q : Processor) (old new : List Entry) : Type 0 where

@@ -325,6 +325,7 @@ impl Course {
         requires nothing { before.now.pending ≡ Nothing }
         requires room { self.old.retired + most < 2 ^ 64 }
         requires opcode { HasOpcode prepared.now.pages self.old.landed }
+        ensures opcode { HasOpcode prepared.now.pages self.new.landed }
         ensures most { result ≤ most }
         ensures goes { Goes (image_setting prepared.now.pages prepared.now.code ranges.now) thread before.now self.old self.new result }
         ensures retired { self.new.retired ≤ self.old.retired + result }

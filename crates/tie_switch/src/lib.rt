@@ -15,6 +15,7 @@ mod known;
 pub mod laws;
 mod many;
 mod next;
+mod over;
 mod pending;
 mod place;
 mod played;

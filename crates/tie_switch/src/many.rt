@@ -81,8 +81,8 @@ impl Processor {
         }
     }
 
-    // Stands where a course came to with so many steps.
-    fn settle(&mut self, course: &Course, made: u64)
+    /// Stands where a course came to with so many steps.
+    pub(crate) fn settle(&mut self, course: &Course, made: u64)
         requires retired { course.now.retired ≤ self.old.retired + made }
         requires steps { self.old.steps + made ≤ self.old.budget }
         ensures is { processor_of self.new ≡ course_of self.old.thread self.old.boundary self.old.interpreted course.now (self.old.steps + made) }
@@ -242,14 +242,60 @@ impl Processor {
         ensures turned { (p : model.Processor) → StandsFor setting.entry.pages.now self.old p
             → HasAdvanced (setting_of setting.entry) (M.set_up memory.old) (MayCome M.same M.between memory.old) self.old.budget p result self.new (M.seen memory.old) (M.seen memory.new) }
     {
-        let mut made = self.run_local(prepared, setting.ranges, most);
+        // It does nothing, and brings that the steps are within the budget.
+        let _ = &self.steps;
+        let mut made = 0;
         while made < most {
-            made += 1;
-            match self.turn_by(setting, prepared, known, memory) {
-                Turn::Went => made += self.run_local(prepared, setting.ranges, most - made),
-                Turn::Ended => return made,
+            let (steps, turn) = self.some_turns(setting, prepared, known, memory, most - made);
+            made += steps;
+            if let Turn::Ended = turn {
+                return made;
             }
         }
         made
+    }
+
+    // Turns in one course, and one more behind them.
+    #[inline(always)]
+    fn some_turns<M: Memory>(
+        &mut self,
+        setting: Setting<'_>,
+        prepared: &Prepared<'_>,
+        known: &mut [Option<Instr>],
+        memory: &mut M,
+        most: u64,
+    ) -> (u64, Turn)
+        requires known { AreFound setting.pages.now known.old }
+        requires few { length setting.code.now.words ≤ most_words }
+        requires code { prepared.now.code ≡ setting.code.now }
+        requires image { prepared.now.pages ≡ setting.pages.now }
+        requires pages { (M.set_up memory.old).image.pages ≡ setting.pages.now }
+        requires serves { M.serves memory.old self.old.thread }
+        requires has_steps { HasSteps (setting_of setting) (M.set_up memory.old) (MayCome M.same M.between memory.old) most self.old (M.seen memory.old) }
+        ensures known { AreFound setting.entry.pages.now known.new }
+        ensures some { 0 < most → 0 < result.0 }
+        ensures most { result.0 ≤ most }
+        ensures set_up { M.set_up memory.new ≡ M.set_up memory.old }
+        ensures place { IsBehind M.same memory.old memory.new }
+        ensures serves { (thread : ℕ) → M.serves memory.old thread ↔ M.serves memory.new thread }
+        ensures budget { self.new.budget ≡ self.old.budget }
+        ensures thread { self.new.thread ≡ self.old.thread }
+        ensures steps { result.1 ≡ Turn.Went → self.new.steps ≡ self.old.steps + result.0 }
+        ensures few_steps { self.new.steps ≤ self.new.budget }
+        ensures ended { result.1 ≡ Turn.Ended → has_ended (processor_of self.new).mode ≡ true }
+        ensures turned { (p : model.Processor) → StandsFor setting.entry.pages.now self.old p
+            → HasAdvanced (setting_of setting.entry) (M.set_up memory.old) (MayCome M.same M.between memory.old) self.old.budget p result.0 self.new (M.seen memory.old) (M.seen memory.new) }
+    {
+        let (made, turn) = self.over_accesses(setting, prepared, memory, most);
+        match turn {
+            Turn::Went => {
+                if made < most {
+                    (made + 1, self.turn_by(setting, prepared, known, memory))
+                } else {
+                    (made, turn)
+                }
+            }
+            Turn::Ended => (made, turn),
+        }
     }
 }

@@ -2,7 +2,7 @@
 ghost use Rattle.std.specs.Prelude.{◌≡◌, ◌+◌, ◌*◌, ◌≤◌, ◌<◌, ◌%◌, ◌^◌, true};
 ghost use Rattle.system_model.specs.Processors.{moment_of};
 ghost use Rattle.system_model.specs.Quadwords.{stored};
-ghost use Rattle.system_model.specs.Steps.{kind_of, change_of, is_defined, request_for};
+ghost use Rattle.system_model.specs.Steps.{Moment, kind_of, change_of, is_defined, request_for};
 ghost use Rattle.tie_switch.specs.Accesses.{IsAccess, CanAsk};
 ghost use Rattle.tie_switch.specs.Seen.{setting_of};
 ghost use Rattle.memory_core.specs.Changes.{IsInRange};
@@ -61,6 +61,28 @@ fn page_table_rises(pages: &Pages)
     let _ = &pages.ranges;
 }
 
+/// The request of an access by a thread that has retired so many instructions.
+pub(crate) fn request_by(
+    setting: Setting<'_>,
+    thread: u8,
+    retired: u64,
+    access: AlphaAccess,
+) -> Request
+    requires access { IsAccess access }
+    requires defined { is_defined (setting_of setting) access ≡ true }
+    ensures request { (moment : Moment) → moment.thread ≡ thread → moment.retired ≡ retired → result ≡ request_for moment access }
+    ensures can { CanAsk setting.entry.pages.now result }
+{
+    page_table_rises(setting.pages);
+    Request {
+        processor: thread,
+        retired,
+        kind: kind_of(access.kind),
+        quad: (access.address / 8 * 8) as u32,
+        change: change_of(access),
+    }
+}
+
 impl Processor {
     ghost use Rattle.tie_switch.specs.Processors.{processor_of};
 
@@ -71,13 +93,6 @@ impl Processor {
         ensures request { result ≡ request_for (moment_of (processor_of self.now)) access }
         ensures can { CanAsk setting.entry.pages.now result }
     {
-        page_table_rises(setting.pages);
-        Request {
-            processor: self.thread,
-            retired: self.retired,
-            kind: kind_of(access.kind),
-            quad: (access.address / 8 * 8) as u32,
-            change: change_of(access),
-        }
+        request_by(setting, self.thread, self.retired, access)
     }
 }

@@ -199,8 +199,8 @@ impl Processor {
     }
 
     /// One turn of the processor: one step, in Alpha code or interpreted, with at most one access. One that has ended stays
-    /// as it is. It ends as spent where its steps equal its budget, and where the history is full. Each processor of the
-    /// model for which it stands makes that turn, and it stands for what that becomes.
+    /// as it is. It ends as spent where its steps equal its budget, and where it asks for one more than the limit allows. Each
+    /// processor of the model for which it stands makes that turn, and it stands for what that becomes.
     pub fn turn<M: Memory>(
         &mut self,
         image: &Image,

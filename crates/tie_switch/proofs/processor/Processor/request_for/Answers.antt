@@ -1,12 +1,10 @@
--- Addresses in pages are small.
-use Rattle.std.proofs.Common.{◌%◌, ◌==◌, arith}
-use Rattle.alpha_meaning.specs.Memory.{stores}
-use Rattle.vax_form.specs.PageTable.{IsPageTable}
-use Rattle.tie_switch.proofs.Low.{quad_fits}
+-- It is the request at its moment.
+use Rattle.std.proofs.Common.{sym, ap}
+use Rattle.system_model.specs.Processors.{moment_of}
+use Rattle.tie_switch.specs.Processors.{ProcessorValue, processor_of}
 use Rattle.tie_switch.proofs.processor.Processor.request_for.Goals as goal
 
-pub overflow_cast-result : goal.overflow_cast-result
-overflow_cast-result c =
-    let table : IsPageTable c.args.setting.pages.now = c.page_table_rises.ensures in
-    let low = quad_fits c.args.setting.pages.now.ranges c.args.access.address (c.args.access.address % c.args.access.bytes == 0) (stores c.args.access.kind) table.rising c.requires.defined in
-    omega arith
+pub returns-clause-request : goal.returns-clause-request
+returns-clause-request c =
+    let k = c.args.self.now in
+    c.request_by.ensures.request (moment_of (processor_of k)) (ap (λ (x : ProcessorValue). x.thread) (sym c.self.view_is)) (ap (λ (x : ProcessorValue). x.retired) (sym c.self.view_is))

@@ -60,12 +60,14 @@ returns-in-Full-clause-turned g c before state replies h =
     let wants = wants_is _ reference (sym (c.interpret.ensures.answers state replies h) ∙ c.in-Wants.is) in
     let same : (mode : Mode) → in_mode c.interpret.new.self mode ≡ in_mode old mode = c.interpret.ensures.same in
     let thread : c.interpret.new.self.thread ≡ old.thread = ap (λ (x : Processor). x.thread) (same before) in
-    let processor : c.reference_request-request.result.processor ≡ old.thread = ap (λ (r : Request). r.processor) c.reference_request-request.ensures ∙ thread in
+    let retired : c.interpret.new.self.retired ≡ old.retired = ap (λ (x : Processor). x.retired) (same before) in
+    let request : c.reference_request-request.result ≡ request_of old.thread old.retired reference =
+    c.reference_request-request.ensures ∙ ap (λ t. request_of t c.interpret.new.self.retired reference) thread ∙ ap (λ r. request_of old.thread r reference) retired in
     subst (λ (a : Answer). HasMade setting set_up between (tie_turn setting p state replies a) p c.spend.new.self seen seen') (sym wants)
     (record {
       processor = spent p;
       stands = subst (λ (x : Processor). StandsFor pages c.spend.new.self (spent x)) (same before) (c.spend.ensures.stands pages before);
-      makes = inr (record { over = subst (λ t. IsOver set_up between t seen seen') processor c.in-Full.ensures.reply; goes = refl });
+      makes = inr (record { over = subst (λ (r : Request). IsOver set_up between r seen seen') request c.in-Full.ensures.reply; goes = refl });
     })
 
 pub returns-in-Leaves-clause-turned : goal.returns-in-Leaves-clause-turned

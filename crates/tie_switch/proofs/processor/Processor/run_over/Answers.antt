@@ -1,0 +1,124 @@
+-- Local steps, and then each time an access and the local steps behind it.
+use Rattle.std.proofs.Common.{◌≡◌, ◌+◌, ◌<◌, ◌≤◌, Some, refl, sym, ap, ◌∙◌, subst, arith}
+use Rattle.system_model.specs.Legal.{spent}
+use Rattle.system_model.specs.Processors.{turn}
+use Rattle.tie_switch.specs.Asks.{HasCourseStep}
+use Rattle.tie_switch.specs.Courses.{Goes, course_of}
+use Rattle.tie_switch.specs.ManyTurns.{IsTurns, MayCome, NoAccess}
+use Rattle.tie_switch.specs.Processors.{ProcessorValue, processor_of}
+use Rattle.tie_switch.specs.Seen.{setting_of}
+use Rattle.tie_switch.specs.Settings.{image_setting}
+use Rattle.tie_switch.specs.Turns.{Makes}
+use Rattle.tie_switch.specs.declared.course.Course.{Course}
+use Rattle.tie_switch.proofs.Advances.{behind_turn, both}
+use Rattle.tie_switch.proofs.Along.{Came, came_by, came_counted, came_nowhere, came_on, came_step, goes_prepared}
+use Rattle.tie_switch.proofs.processor.Processor.run_over.Goals as goal
+
+pub loop-made-init : goal.loop-made-init
+loop-made-init g c =
+    let p = c.args.prepared.now in
+    let k = c.args.self.now in
+    let s = setting_of c.args.setting in
+    let first = c.args.memory.now in
+    let u = g.M.Memory.set_up first in
+    let may = MayCome g.M.Memory.same g.M.Memory.between first in
+    let seen = g.M.Memory.seen first in
+    let ran = c.run-made in
+    let goes : Goes s k.thread k.boundary c.args.course.now ran.new.self ran.result =
+    goes_prepared p.pages c.args.setting.pages.now p.code c.args.setting.code.now c.args.setting.ranges.now k.thread k.boundary c.args.course.now ran.new.self ran.result c.requires.code c.requires.image
+    (subst (λ (x : ProcessorValue). Goes (image_setting p.pages p.code c.args.setting.ranges.now) x.thread x.boundary c.args.course.now ran.new.self ran.result) c.self.view_is ran.ensures.goes) in
+    let none : 0 + ran.result ≡ ran.result = omega arith in
+    let few : k.steps + (0 + ran.result) ≤ k.budget = omega (arith, ran.ensures.most, c.requires.steps) in
+    record {
+      most = ran.ensures.most;
+      set_up = refl;
+      behind = NoAccess;
+      serves = λ thread. (λ a. a, λ a. a);
+      opcode = ran.ensures.opcode;
+      retired = ran.ensures.retired;
+      came =
+          subst (λ n. Came s u may k seen n ran.new.self seen) none
+          (came_on s u may k seen 0 ran.result c.args.course.now ran.new.self seen (came_nowhere s u may k seen c.args.course.now c.requires.stands) goes few);
+    }
+
+pub access-requires-clause-has_step : goal.access-requires-clause-has_step
+access-requires-clause-has_step g c =
+    let k = c.args.self.now in
+    let first = c.args.memory.now in
+    let l = c.loop-made in
+    subst (λ (x : ProcessorValue). HasCourseStep (setting_of c.args.setting) (g.M.Memory.set_up l.memory) x.thread l.course) (sym c.self.view_is)
+    (came_step (setting_of c.args.setting) (g.M.Memory.set_up first) (MayCome g.M.Memory.same g.M.Memory.between first) k (g.M.Memory.seen first) (g.M.Memory.set_up l.memory) c.args.most l.made l.course
+    (g.M.Memory.seen l.memory) c.requires.has_steps c.requires.plain l.invariant.came (omega (arith, c.loop-made-test.true)) l.invariant.set_up)
+
+pub run-made-requires-in-Some-Went-clause-room : goal.run-made-requires-in-Some-Went-clause-room
+run-made-requires-in-Some-Went-clause-room g c =
+    omega (arith, c.requires.retired, c.requires.room, c.access.ensures.retired, c.loop-made.invariant.retired, c.loop-made-test.true)
+
+pub loop-made-preserved : goal.loop-made-preserved
+loop-made-preserved g c =
+    let p = c.args.prepared.now in
+    let k = c.args.self.now in
+    let s = setting_of c.args.setting in
+    let first = c.args.memory.now in
+    let u = g.M.Memory.set_up first in
+    let may = MayCome g.M.Memory.same g.M.Memory.between first in
+    let seen = g.M.Memory.seen first in
+    let l = c.loop-made in
+    let kept = l.invariant in
+    let access = c.access in
+    let ran = c.run-made-in-Some-Went in
+    let mid = g.M.Memory.seen access.new.memory in
+    let makes = access.ensures.made (c.in-Some-Went.is ∙ ap Some c.in-Some-Went.field-0-is) k.boundary k.interpreted (k.steps + l.made) in
+    let made : Makes (turn s (course_of k.thread k.boundary k.interpreted l.course (k.steps + l.made))) (g.M.Memory.set_up l.memory) (g.M.Memory.between l.memory)
+    (course_of k.thread k.boundary k.interpreted l.course (k.steps + l.made)) (course_of k.thread k.boundary k.interpreted access.new.self (k.steps + l.made + 1)) (g.M.Memory.seen l.memory) mid =
+    subst (λ (x : ProcessorValue). Makes (turn s (course_of x.thread k.boundary k.interpreted l.course (k.steps + l.made))) (g.M.Memory.set_up l.memory) (g.M.Memory.between l.memory)
+    (course_of x.thread k.boundary k.interpreted l.course (k.steps + l.made)) (course_of x.thread k.boundary k.interpreted access.new.self (k.steps + l.made + 1)) (g.M.Memory.seen l.memory) mid)
+    c.self.view_is makes in
+    let within : k.steps + l.made < k.budget = omega (arith, c.requires.steps, c.loop-made-test.true) in
+    let behind =
+    came_by s u may k seen (g.M.Memory.set_up l.memory) (g.M.Memory.between l.memory) l.made l.course (course_of k.thread k.boundary k.interpreted access.new.self (k.steps + l.made + 1))
+    (g.M.Memory.seen l.memory) mid kept.came within (λ entries come. record { memory = l.memory; behind = kept.behind; comes = come }) kept.set_up made in
+    let count : k.steps + l.made + 1 ≡ k.steps + (l.made + 1) = omega arith in
+    let came : Came s u may k seen (l.made + 1) access.new.self mid =
+    came_counted s u may k seen (l.made + 1) access.new.self (k.steps + l.made + 1) mid count behind in
+    let goes : Goes s k.thread k.boundary access.new.self ran.new.self ran.result =
+    goes_prepared p.pages c.args.setting.pages.now p.code c.args.setting.code.now c.args.setting.ranges.now k.thread k.boundary access.new.self ran.new.self ran.result c.requires.code c.requires.image
+    (subst (λ (x : ProcessorValue). Goes (image_setting p.pages p.code c.args.setting.ranges.now) x.thread x.boundary access.new.self ran.new.self ran.result) c.self.view_is ran.ensures.goes) in
+    let few : k.steps + (l.made + 1 + ran.result) ≤ k.budget = omega (arith, ran.ensures.most, c.requires.steps, c.loop-made-test.true) in
+    record {
+      most = omega (arith, ran.ensures.most, c.loop-made-test.true);
+      set_up = access.ensures.set_up ∙ kept.set_up;
+      behind = behind_turn g.M.Memory.same first l.memory access.new.memory kept.behind access.ensures.place;
+      serves = λ thread. both (kept.serves thread) (access.ensures.serves thread);
+      opcode = ran.ensures.opcode;
+      retired = omega (arith, ran.ensures.retired, access.ensures.retired, kept.retired);
+      came = came_on s u may k seen (l.made + 1) ran.result access.new.self ran.new.self mid came goes few;
+    }
+
+pub returns-in-Some-Ended-clause-place : goal.returns-in-Some-Ended-clause-place
+returns-in-Some-Ended-clause-place g c =
+    behind_turn g.M.Memory.same c.args.memory.now c.loop-made.memory c.access.new.memory c.loop-made.invariant.behind c.access.ensures.place
+
+pub returns-in-Some-Ended-clause-ended : goal.returns-in-Some-Ended-clause-ended
+returns-in-Some-Ended-clause-ended g c = λ ended.
+    let k = c.args.self.now in
+    let s = setting_of c.args.setting in
+    let first = c.args.memory.now in
+    let u = g.M.Memory.set_up first in
+    let may = MayCome g.M.Memory.same g.M.Memory.between first in
+    let seen = g.M.Memory.seen first in
+    let l = c.loop-made in
+    let kept = l.invariant in
+    let access = c.access in
+    let is = c.in-Some-Ended.is ∙ ap Some c.in-Some-Ended.field-0-is in
+    let last = g.M.Memory.seen access.new.memory in
+    let full = access.ensures.full is k.boundary k.interpreted (k.steps + l.made) in
+    let makes : Makes (turn s (course_of k.thread k.boundary k.interpreted l.course (k.steps + l.made))) (g.M.Memory.set_up l.memory) (g.M.Memory.between l.memory)
+    (course_of k.thread k.boundary k.interpreted l.course (k.steps + l.made)) (spent (course_of k.thread k.boundary k.interpreted l.course (k.steps + l.made))) (g.M.Memory.seen l.memory) last =
+    subst (λ (x : ProcessorValue). Makes (turn s (course_of x.thread k.boundary k.interpreted l.course (k.steps + l.made))) (g.M.Memory.set_up l.memory) (g.M.Memory.between l.memory)
+    (course_of x.thread k.boundary k.interpreted l.course (k.steps + l.made)) (spent (course_of x.thread k.boundary k.interpreted l.course (k.steps + l.made))) (g.M.Memory.seen l.memory) last)
+    c.self.view_is full in
+    let within : k.steps + l.made < k.budget = omega (arith, c.requires.steps, c.loop-made-test.true) in
+    subst (λ (x : Course). IsTurns s u may k.budget (processor_of k) seen (l.made + 1) (spent (course_of k.thread k.boundary k.interpreted x (k.steps + l.made))) last) (sym (access.ensures.ended is))
+    (came_by s u may k seen (g.M.Memory.set_up l.memory) (g.M.Memory.between l.memory) l.made l.course (spent (course_of k.thread k.boundary k.interpreted l.course (k.steps + l.made)))
+    (g.M.Memory.seen l.memory) last kept.came within (λ entries come. record { memory = l.memory; behind = kept.behind; comes = come }) kept.set_up makes)
