@@ -4,12 +4,14 @@ use Rattle.std.specs.Prelude.{map, slice_get}
 use Rattle.std.specs.List.{AllByRecursion}
 use Rattle.std.proofs.lemmas.Bool.{cases_lt}
 use Rattle.std.proofs.lemmas.Bool.Decides.{nat_tests}
-use Rattle.std.proofs.lemmas.List.{reverse-append, length-map, length-reverse, nil_from_length}
+use Rattle.std.proofs.lemmas.List.{reverse-append, length-map, nil_from_length}
 use Rattle.std.proofs.lemmas.List.Elements.{filter-append}
 use Rattle.std.proofs.lemmas.Option.{same_Some}
 use Rattle.memory_core.specs.Contents.{Contents}
+use Rattle.memory_core.specs.Limits.{IsWithin}
 use Rattle.memory_core.specs.Order.{own}
 use Rattle.memory_core.specs.declared.entry.Entry.{Entry}
+use Rattle.memory_core.proofs.Limits.{within_reverse}
 use Rattle.vax_form.specs.declared.state.VaxState.{VaxState}
 use Rattle.shared_memory.specs.declared.pass.Pass.{Pass}
 use Rattle.shared_memory.specs.declared.shared.SharedMemory.{SharedMemory}
@@ -63,7 +65,8 @@ module _ (others_law : OthersKeepReached) (setting : Setting) (memory : SharedMe
       let own_seen : own thread v.seen ≡ own thread seen = subst (λ (t : ℕ). own t v.seen ≡ own t seen) number (fits.own ∙ joined.own_is) in
       let none : own thread later ≡ [] = later_are_others thread seen later (ap (own thread) fits.seen.1 ∙ own_seen) in
       let turned : reverse v.seen ≡ reverse later ++ reverse seen = ap reverse (sym fits.seen.1) ∙ reverse-append seen later in
-      let few : length (reverse later ++ reverse seen) ≤ (set_up_of memory).limit = omega (arith, closed.legal.room, ap length turned, length-reverse v.seen) in
+      let few : IsWithin (set_up_of memory).limit (reverse later ++ reverse seen) =
+      subst (λ (entries : List Entry). IsWithin (set_up_of memory).limit entries) turned (within_reverse (set_up_of memory).limit v.seen closed.legal.room) in
       let ended = done.ended in
       let start_is : ended.start ≡ start = same_Some ended.start start (sym ended.starts_so ∙ (ap (starts (set_up_of memory).image) done.has.thread_is ∙ begins)) in
       let with_budget : IsReached setting budget (set_up_of memory).limit (reverse seen) job.processor.thread ended.start (processor_of job.processor) =
@@ -107,7 +110,7 @@ module _ (others_law : OthersKeepReached) (legal_law : ReachedAreLegal) (setting
   pub is_legal : IsLegal setting (set_up_of memory) budget (reverse (seen_of next)) (map processor_of ended)
   is_legal =
       legal_law setting (set_up_of memory) budget (reverse (seen_of next)) (map processor_of ended) pages closed.legal.order
-      (omega (arith, closed.legal.room, length-reverse (seen_of next))) (count ∙ many)
+      (within_reverse (set_up_of memory).limit (seen_of next) closed.legal.room) (count ∙ many)
       (subst (λ (n : ℕ). AllByRecursion (λ (e : Entry). e.processor < n) (reverse (seen_of next))) (sym count)
       (all_below (length ended) (reverse (seen_of next)) none_above))
       each

@@ -18,7 +18,7 @@ use crate::turns::Turner;
 use image_file::Image;
 use image_meaning::laws::{page_table_has_bytes, vax_meaning_is_sound};
 use legal_history::laws::images_are_runs;
-use memory_core::MemState;
+use memory_core::{Limit, MemState};
 use prepared_code::Prepared;
 use shared_memory::{Pass, SharedMemory};
 use std::alloc::Global;
@@ -55,13 +55,13 @@ impl Running {
     ghost use Rattle.run_threads.specs.Runs.{RunningValue};
 
     /// Takes all memory of a run: the image's memory, the passes, a processor beside its pass for each thread, and the
-    /// list for the answer. `limit` is the greatest number of entries, `budget` the most steps of each processor.
+    /// list for the answer. `budget` is the most steps of each processor.
     pub fn new(
         alloc: Global,
         image: &Image,
         input: Vec<u8>,
         budget: u64,
-        limit: u32,
+        limit: Limit,
         miss: u16,
     ) -> Result<Running, WantOfMemory>
         requires whole { IsWhole image.now }

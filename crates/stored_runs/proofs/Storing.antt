@@ -10,12 +10,15 @@ use Rattle.legal_history.specs.Law.{IsRun}
 use Rattle.legal_history.proofs.Headlines.{legal_has_headline}
 use Rattle.memory_core.specs.Contents.{output_of}
 use Rattle.memory_core.specs.Kinds.{is_put}
+use Rattle.memory_core.specs.Limits.{greatest, IsWithin as IsWithinLimit, KeepsEntries}
 use Rattle.memory_core.specs.Order.{own}
 use Rattle.memory_core.specs.declared.entry.Entry.{Entry}
+use Rattle.memory_core.specs.declared.entry.Limit.{Limit}
+use Rattle.memory_core.specs.declared.entry.Limit.TheVariants.{Entries, Puts}
 use Rattle.memory_core.specs.declared.entry.SetUp.{SetUp}
 use Rattle.memory_core.proofs.Keeping.{output_of-push}
 use Rattle.run_files.specs.Fits.{Fits, IsCount, IsPick}
-use Rattle.run_files.specs.Limits.{MOST_COUNT}
+use Rattle.run_files.specs.Limits.{MOST_COUNT, MOST_PICKS}
 use Rattle.run_files.specs.Spelling.{Ended}
 use Rattle.run_files.proofs.BothWays.{written_is_read}
 use Rattle.system_model.specs.Counted.{is_counted, order, pick_of}
@@ -240,9 +243,14 @@ counts_small : (processors : List Processor) → ((k : ℕ) (p : Processor) → 
 counts_small [] each = tt
 counts_small (p ∷ processors) each = (each 0 p refl, counts_small processors (λ k. each (suc k)))
 
+-- entries that are kept are as few as their limit
+few_kept : (limit : Limit) (entries : List Entry) (most : ℕ) → IsWithinLimit limit entries → KeepsEntries limit → greatest limit ≤ most → length entries ≤ most
+few_kept (Entries n) entries most within keeps few = omega (arith, within, few)
+few_kept (Puts n) entries most within keeps few = absurd keeps
+
 module _ (set_up : SetUp) (budget : ℕ) (history : List Entry) (processors : List Processor) where
   fits : IsRun set_up → length processors ≡ length set_up.image.threads → AllByRecursion (λ (e : Entry). e.processor < length processors) (reverse history)
-      → length (reverse history) ≤ set_up.limit
+      → IsWithinLimit set_up.limit (reverse history)
       → ((thread : ℕ) (p : Processor) → slice_get processors thread ≡ Some p → IsWithin budget (own thread (reverse history)) p)
       → IsStorable set_up budget → Fits (length set_up.image.threads) (order_of_run history set_up.input processors)
   fits run many known room within storable =
@@ -252,7 +260,7 @@ module _ (set_up : SetUp) (budget : ℕ) (history : List Entry) (processors : Li
       let reversed : length (reverse history) ≡ length history = length-reverse history in
       let budgeted = storable.steps in
       record {
-        few = record { few_threads = storable.threads; short_input = storable.input; few_picks = omega (arith, few_picks, reversed, room, storable.limit) };
+        few = record { few_threads = storable.threads; short_input = storable.input; few_picks = omega (arith, few_picks, reversed, few_kept set_up.limit (reverse history) MOST_PICKS room storable.keeps storable.limit) };
         counts = length-map (map stored_end processors) (λ (e : Ended). e.0) ∙ as_many ∙ many;
         spent = length-map (map stored_end processors) (λ (e : Ended). e.1) ∙ as_many ∙ many;
         small = counts_small processors (λ k p at. let w = within k p at in omega (arith, budgeted, w.steps, w.retired));

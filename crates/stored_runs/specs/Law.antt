@@ -5,6 +5,7 @@ use Rattle.block_law.specs.Sound.{IsSound, AllowsFew}
 use Rattle.block_law.specs.Translations.{Code, Meets, Permit}
 use Rattle.legal_history.specs.Law.{HasHeadline, IsRun}
 use Rattle.memory_core.specs.Contents.{output_of}
+use Rattle.memory_core.specs.Limits.{greatest, KeepsEntries}
 use Rattle.memory_core.specs.declared.entry.Entry.{Entry}
 use Rattle.memory_core.specs.declared.entry.SetUp.{SetUp}
 use Rattle.run_files.specs.Limits.{MOST_THREADS, MOST_INPUT, MOST_PICKS, MOST_COUNT}
@@ -42,10 +43,11 @@ abbrev pub ends_of : List Processor → List EndValue
 ends_of [] = []
 ends_of (p ∷ processors) = end_with p.mode p (ends_of processors)
 
--- a run that an order file can hold: its budget, its limit, its threads and its input
+-- a run that an order file can hold: its budget, its entries, which are kept, their limit, its threads and its input
 pub record IsStorable (set_up : SetUp) (budget : ℕ) : Type 0 where
   pub steps : budget ≤ MOST_COUNT
-  pub limit : set_up.limit ≤ MOST_PICKS
+  pub keeps : KeepsEntries set_up.limit
+  pub limit : greatest set_up.limit ≤ MOST_PICKS
   pub threads : length set_up.image.threads ≤ MOST_THREADS
   pub input : length set_up.input ≤ MOST_INPUT
 

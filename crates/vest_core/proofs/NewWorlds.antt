@@ -11,6 +11,7 @@ use Rattle.legal_history.specs.Law.{IsRun}
 use Rattle.system_model.proofs.Lists.{there_is}
 use Rattle.memory_core.specs.Contents.{Contents, fresh}
 use Rattle.memory_core.specs.declared.entry.Entry.{Entry}
+use Rattle.memory_core.specs.declared.entry.Limit.{Limit}
 use Rattle.memory_core.specs.declared.entry.SetUp.{SetUp}
 use Rattle.system_model.specs.Legal.{IsLegal}
 use Rattle.system_model.specs.Laws.{BeginningsAreLegal, begun_from}
@@ -68,7 +69,7 @@ are_own threads budget ks same each n k at =
 pub are_counted : (threads : List Start) (ks : List ProcessorValue) → ((pages : Pages) → AllZip (StandsFor pages) ks (begun_from 0 threads)) → length ks ≡ length threads
 are_counted threads ks stand = sym (AllZip-long (StandsFor no_pages) ks (begun_from 0 threads) (stand no_pages)) ∙ begun_length 0 threads
 
-module _ (image : ImageValue) (input : List ℕ) (budget limit miss : ℕ) (threads : List Start) (its : threads ≡ image.threads)
+module _ (image : ImageValue) (input : List ℕ) (budget : ℕ) (limit : Limit) (miss : ℕ) (threads : List Start) (its : threads ≡ image.threads)
     (memory : Contents) (is : memory ≡ fresh image input (length threads) limit miss) (ks : List ProcessorValue) where
   pub is_manned : ((pages : Pages) → AllZip (StandsFor pages) ks (begun_from 0 threads)) → ((n : ℕ) (k : ProcessorValue) → slice_get ks n ≡ Some k → IsOf n budget k)
       → ((set_up : SetUp) → set_up.image ≡ image → set_up.input ≡ input → IsRun set_up)

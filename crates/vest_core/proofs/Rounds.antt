@@ -5,6 +5,7 @@ use Rattle.std.specs.List.{AllByRecursion, AllZip}
 use Rattle.std.proofs.lemmas.Option.{slice_get_within}
 use Rattle.image_file.specs.Start.{start_state}
 use Rattle.memory_core.specs.declared.entry.Entry.{Entry}
+use Rattle.memory_core.specs.declared.entry.Limit.{Limit}
 use Rattle.system_model.specs.Legal.{IsReached, IsSpent}
 use Rattle.system_model.specs.Processors.{Processor}
 use Rattle.system_model.specs.Processors as model
@@ -38,7 +39,7 @@ ended_at [] k at = absurd (cc at)
 ended_at (x ∷ rest) k at = let same : x ≡ k = cc at in ap (λ (y : ProcessorValue). has_ended (processor_of y).mode) same
 
 -- its steps are at most the budget
-steps_within : (setting : Setting) (budget limit : ℕ) (entries : List Entry) (thread : ℕ) (start : VaxState) (p : Processor) → IsReached setting budget limit entries thread start p → p.steps ≤ budget
+steps_within : (setting : Setting) (budget : ℕ) (limit : Limit) (entries : List Entry) (thread : ℕ) (start : VaxState) (p : Processor) → IsReached setting budget limit entries thread start p → p.steps ≤ budget
 steps_within setting budget limit entries thread start p reached = go reached.now
   where
     go : ((p ≡ reached.was) ⊎ IsSpent setting budget limit entries reached.was p) → p.steps ≤ budget

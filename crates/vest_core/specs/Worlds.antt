@@ -6,6 +6,7 @@ use Rattle.block_law.specs.Translations.{Meets, Permit}
 use Rattle.image_file.specs.Values.{ImageValue}
 use Rattle.legal_history.specs.Headline.{HasFewSteps}
 use Rattle.legal_history.specs.Law.{HasHeadline, IsRun}
+use Rattle.memory_core.specs.declared.entry.Limit.{Limit}
 use Rattle.memory_core.specs.Contents.{Contents, fresh}
 use Rattle.memory_core.specs.Order.{own}
 use Rattle.system_model.specs.Laws.{begun_from}
@@ -36,7 +37,7 @@ pub record IsManned (w : WorldValue) : Type 0 where
   pub each : (thread : ℕ) (k : ProcessorValue) → slice_get w.processors thread ≡ Some k → IsOf thread w.budget k
 
 -- a world before the first turn: nothing was accessed, and each processor stands where its thread starts
-pub record IsNew (image : ImageValue) (input : List ℕ) (most limit miss : ℕ) (w : WorldValue) : Type 0 where
+pub record IsNew (image : ImageValue) (input : List ℕ) (most : ℕ) (limit : Limit) (miss : ℕ) (w : WorldValue) : Type 0 where
   pub memory : w.memory ≡ fresh image input (length image.threads) limit miss
   pub processors : (pages : Pages) → AllZip (StandsFor pages) w.processors (begun_from 0 image.threads)
   pub budget : w.budget ≡ most

@@ -17,7 +17,7 @@ ghost use Rattle.vest_core.specs.Worlds.{IsAdvanced, IsExplained, IsLegalWorld, 
 use image_file::{Image, Start};
 use image_meaning::laws::{page_table_has_bytes, vax_meaning_is_sound};
 use legal_history::laws::{images_are_runs, legal_has_headline, reached_is_steady};
-use memory_core::MemState;
+use memory_core::{Limit, MemState};
 use prepared_code::Prepared;
 use std::alloc::{AllocError, Global};
 use std::marker::Model;
@@ -60,15 +60,14 @@ fn begun(alloc: Global, threads: &[Start], budget: u64) -> Result<Vec<Processor>
 }
 
 impl World {
-    /// A world before its first turn. `budget` is the most steps of a processor, `limit` the greatest number of entries,
-    /// and each `miss`-th store conditional of a processor fails, none for that reason where `miss` is 0. All memory that
-    /// turns use is taken here.
+    /// A world before its first turn. `budget` is the most steps of a processor, and each `miss`-th store conditional of a
+    /// processor fails, none for that reason where `miss` is 0. All memory that turns use is taken here.
     pub fn new(
         alloc: Global,
         image: &Image,
         input: Vec<u8>,
         budget: u64,
-        limit: u32,
+        limit: Limit,
         miss: u16,
     ) -> Result<World, WantOfMemory>
         requires { IsWhole image.now }
