@@ -17,6 +17,7 @@ complete -c vest -n '__fish_seen_subcommand_from run translate list replay' -F
 complete -c vest -n '__fish_seen_subcommand_from run; and not __vest_options_end' -x -l budget -d 'the most steps of a processor'
 complete -c vest -n '__fish_seen_subcommand_from run; and not __vest_options_end' -x -l events -d 'the most entries of the history'
 complete -c vest -n '__fish_seen_subcommand_from run; and not __vest_options_end' -x -l miss -d 'every so many-th store conditional fails'
+complete -c vest -n '__fish_seen_subcommand_from run; and not __vest_options_end' -l unkept -d 'the history is not kept'
 complete -c vest -n '__fish_seen_subcommand_from run; and not __vest_options_end' -r -F -l order -d 'the file for the order of the references'
 complete -c vest -n '__fish_seen_subcommand_from run; and not __vest_options_end' -x -l interpret -d 'a thread and the addresses that it interprets'
 complete -c vest -n '__fish_seen_subcommand_from translate; and not __vest_options_end' -r -F -l hints -d 'a file of addresses from which code is looked for'

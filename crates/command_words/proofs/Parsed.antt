@@ -3,7 +3,7 @@ use Rattle.std.proofs.Common.{◌≡◌, ◌∙◌, true, false, codes, refl, sy
 use Rattle.std.specs.List.{list_all}
 use Rattle.std.specs.Prelude.{MatchOption}
 use Rattle.clap.specs.Walk.{Row}
-use Rattle.clap.specs.Simple.{built, entered, is_simple}
+use Rattle.clap.specs.Simple.{entered, is_simple}
 use Rattle.clap.specs.Words.{fault_of, is_simple_and_free, IsAmong, Kinds, subcommand_of, subcommand_rows_of}
 use Rattle.clap.specs.Faults.{built_fault}
 use Rattle.clap.specs.Walk.{nothing_held}

@@ -10,7 +10,7 @@ use Rattle.clap.specs.declared.builder.value_parser.Reading.{Reading}
 use Rattle.clap.specs.declared.parser.matches.ValueSource.{ValueSource}
 use Rattle.clap.specs.declared.parser.matches.ValueSource.TheVariants.{CommandLine}
 use Rattle.clap.proofs.WalkLemmas.{both}
-use Rattle.command_words.specs.Parts.{Choice, Part, Text, choice_of, chosen, named, names_in, parts_of, stands_once, values_in, is_dashed, option_parts, option_word, with_part, word_parts}
+use Rattle.command_words.specs.Parts.{Choice, Part, Text, choice_of, choice_parts, chosen, named, names_in, parts_of, stands_once, values_in, is_dashed, option_parts, option_word, with_part, word_parts}
 use Rattle.command_words.specs.App.{joined, names_id}
 use Rattle.command_words.proofs.Walks.{choice_rule, chosen_rows, fresh, names_rule, taken, when}
 
@@ -284,16 +284,20 @@ module _ (os : List Choice) where
     known_names (word ∷ words) = known_names words
 
     known_option : (p : Text × Option Text) (rest : Option Text → Option (List Part)) → KnownRest rest → known_of (option_parts os p rest) ≡ true
-    known_option (label, Some v) rest k = go (is_some (choice_of os label)) refl
+    known_option (label, v) rest k = go (choice_of os label) refl v
       where
-        go : (b : Bool) → is_some (choice_of os label) ≡ b → known_of (cond b (with_part (chosen label v) (rest None)) None) ≡ true
-        go false e = refl
-        go true e = known_chosen label v (rest None) e k.0
-    known_option (label, None) rest k = go (is_some (choice_of os label)) refl
-      where
-        go : (b : Bool) → is_some (choice_of os label) ≡ b → known_of (cond b (rest (Some label)) None) ≡ true
-        go false e = refl
-        go true e = k.1 label e
+        given : is_some (choice_of os label) ≡ true → (v : Text) → (b : Bool) → known_of (cond b (with_part (chosen label v) (rest None)) None) ≡ true
+        given e v false = refl
+        given e v true = known_chosen label v (rest None) e k.0
+
+        asked : is_some (choice_of os label) ≡ true → (b : Bool) → known_of (cond b (rest (Some label)) (with_part (chosen label []) (rest None))) ≡ true
+        asked e false = known_chosen label [] (rest None) e k.0
+        asked e true = k.1 label e
+
+        go : (c : Option Choice) → choice_of os label ≡ c → (v : Option Text) → known_of (choice_parts c label v rest) ≡ true
+        go None e v = refl
+        go (Some o) e (Some v) = given (ap is_some e) v o.has_value
+        go (Some o) e None = asked (ap is_some e) o.has_value
 
     known_word : (word : Text) (p : Option (Text × Option Text)) (rest : Option Text → Option (List Part)) → KnownRest rest → known_of (word_parts os word p rest) ≡ true
     known_word word (Some p) rest k = known_option p rest k

@@ -11,7 +11,7 @@ use Rattle.clap.specs.Walk.{Row, Rule, Walk, idle, option, positional, arg_by_id
 use Rattle.clap.specs.Simple.{Shape, new_rule, new_shape}
 use Rattle.clap.specs.Kinds.{Kinds, or_else}
 use Rattle.clap.specs.declared.error.kind.ErrorKind.TheVariants as kind
-use Rattle.clap.specs.Faults.{action_fault, flags_fault, settle_fault, turn_fault, use_fault, walk_fault}
+use Rattle.clap.specs.Faults.{flags_fault, settle_fault, turn_fault, use_fault, walk_fault}
 use Rattle.clap.specs.declared.builder.action.ArgAction.{ArgAction}
 use Rattle.clap.specs.declared.builder.action.ArgAction.TheVariants.{Set, Append}
 use Rattle.clap.specs.declared.builder.value_parser.ValueParser.TheVariants as vp
@@ -31,7 +31,11 @@ abbrev pub names_rule : Rule
 names_rule = record (filled_rule names_id Append) { index = Some 1 }
 
 abbrev pub choice_rule : Choice → Rule
-choice_rule o = record (filled_rule o.label (cond o.repeats Append Set)) { long = Some o.label }
+choice_rule o = record (filled_rule o.label (cond o.repeats Append Set)) {
+  long = Some o.label;
+  range = Some (record { start_inclusive = cond o.has_value 1 0; end_inclusive = cond o.has_value 1 0 });
+  missing = cond o.has_value [] ([] ∷ []);
+}
 
 abbrev pub rules_for : List Choice → List Rule
 rules_for os = names_rule ∷ map choice_rule os
@@ -204,47 +208,51 @@ module _ (os : List Choice) (title : Text) where
       go true e = refl
       go false e = e
 
-  -- the waiting option has no value
-  unused : (label : Text) (rows : List Row) (o : Choice) → arg_by_id (rules_for os) label ≡ Some (choice_rule o)
-      → owed rows (Some (label, [])) ≡ false
-  unused label rows o e = rw e refl
+  once : (has : Bool) → clean (or_else (cond (has && true) (kind.ArgumentConflict ∷ []) []) []) ≡ not has
+  once true = refl
+  once false = refl
 
   -- the waiting option has its value
-  use_is : (o : Choice) (v : Text) (rows : List Row) → clean (use_fault false (choice_rule o) (v ∷ []) rows) ≡ fresh o rows
-  use_is o v rows = go o.repeats
+  use_is : (o : Choice) (v : Text) (rows : List Row) → o.has_value ≡ true → clean (use_fault false (choice_rule o) (v ∷ []) rows) ≡ fresh o rows
+  use_is o v rows valued = go o.repeats refl
     where
-      once : (has : Bool) → clean (or_else (cond (has && true) (kind.ArgumentConflict ∷ []) []) []) ≡ not has
-      once true = refl
-      once false = refl
+      go : (b : Bool) → o.repeats ≡ b → clean (use_fault false (choice_rule o) (v ∷ []) rows) ≡ fresh o rows
+      go true e = rw (e, valued) refl
+      go false e = rw (e, valued) (once (has_row o.label rows))
 
-      go : (b : Bool) → clean (action_fault (cond b Append Set) false (choice_rule o) (v ∷ []) rows) ≡ (b || not (has_row o.label rows))
-      go true = refl
-      go false = once (has_row o.label rows)
+  -- an option without a value is used
+  flag_is : (o : Choice) (rows : List Row) → o.has_value ≡ false
+      → (clean (use_fault false (choice_rule o) [] rows) ≡ fresh o rows) × (used (choice_rule o) [] rows ≡ used (choice_rule o) ([] ∷ []) rows)
+  flag_is o rows bare = (go o.repeats refl, rw bare refl)
+    where
+      go : (b : Bool) → o.repeats ≡ b → clean (use_fault false (choice_rule o) [] rows) ≡ fresh o rows
+      go true e = rw (e, bare) refl
+      go false e = rw (e, bare) (once (has_row o.label rows))
 
-  used_now : (label : Text) (v : Text) (rows : List Row) (o : Choice) → arg_by_id (rules_for os) label ≡ Some (choice_rule o)
+  used_now : (label : Text) (v : Text) (rows : List Row) (o : Choice) → arg_by_id (rules_for os) label ≡ Some (choice_rule o) → o.has_value ≡ true
       → (owed rows (Some (label, v ∷ [])) ≡ fresh o rows) × (rows_at rows (Some (label, v ∷ [])) ≡ used (choice_rule o) (v ∷ []) rows)
-  used_now label v rows o e = (rw e (use_is o v rows), rw e refl)
+  used_now label v rows o e valued = (rw e (use_is o v rows valued), rw e refl)
 
-  asks_trail : (label : Text) (rows : List Row) (o : Choice) → arg_by_id (rules_for os) label ≡ Some (choice_rule o)
+  asks_trail : (label : Text) (rows : List Row) (o : Choice) → arg_by_id (rules_for os) label ≡ Some (choice_rule o) → o.has_value ≡ true
       → (words : List Text) → rest_of (asks label true rows) words ≡ None
   unfolding walk_fault
-  asks_trail label rows o e [] = rw e refl
-  asks_trail label rows o e (word ∷ words) = stop (asks label true rows) word words (rw (and-false (bytes_eq label names_id), e) refl)
+  asks_trail label rows o e valued [] = rw (e, valued) refl
+  asks_trail label rows o e valued (word ∷ words) = stop (asks label true rows) word words (rw (and-false (bytes_eq label names_id), e, valued) refl)
 
   -- the next word is the value
   asks_plain : (label : Text) (rows : List Row) (word : Text) (o : Choice) → bytes_eq word (45 ∷ 45 ∷ []) ≡ false → long_of word ≡ None → short_of word ≡ None
-      → arg_by_id (rules_for os) label ≡ Some (choice_rule o) → bytes_eq label o.label ≡ true
+      → arg_by_id (rules_for os) label ≡ Some (choice_rule o) → bytes_eq label o.label ≡ true → o.has_value ≡ true
       → (turn_fault (shape_for title os) [] (asks label false rows) word ≡ [])
       × (walked (rules_for os) [] (asks label false rows) word ≡ at false false rows (Some (label, word ∷ [])))
   unfolding walked
-  asks_plain label rows word o d l sh e q = (rw (d, l, sh) refl, rw (d, l, sh, e, q) refl)
+  asks_plain label rows word o d l sh e q valued = (rw (d, l, sh) refl, rw (d, l, sh, e, q, valued) refl)
 
   asks_empty : (label : Text) (rows : List Row) (word flags : Text) (k : ℕ) (o : Choice) → bytes_eq word (45 ∷ 45 ∷ []) ≡ false → long_of word ≡ None → short_of word ≡ Some flags
-      → length flags ≡ suc k → chars flags ≡ [] → arg_by_id (rules_for os) label ≡ Some (choice_rule o) → bytes_eq label o.label ≡ true
+      → length flags ≡ suc k → chars flags ≡ [] → arg_by_id (rules_for os) label ≡ Some (choice_rule o) → bytes_eq label o.label ≡ true → o.has_value ≡ true
       → (turn_fault (shape_for title os) [] (asks label false rows) word ≡ [])
       × (walked (rules_for os) [] (asks label false rows) word ≡ at false false rows (Some (label, word ∷ [])))
   unfolding walked flags_fault bundle_met
-  asks_empty label rows word flags k o d l sh n cs e q = (rw (d, l, sh, n, cs) refl, rw (d, l, sh, n, cs, e, q) refl)
+  asks_empty label rows word flags k o d l sh n cs e q valued = (rw (d, l, sh, n, cs) refl, rw (d, l, sh, n, cs, e, q, valued) refl)
 
   -- or it is refused
   asks_short : (label : Text) (rows : List Row) (word flags : Text) (k x : ℕ) (xs : Text) → bytes_eq word (45 ∷ 45 ∷ []) ≡ false → long_of word ≡ None
@@ -253,13 +261,19 @@ module _ (os : List Choice) (title : Text) where
   asks_short label rows word flags k x xs d l sh n cs = rw (d, l, sh, n, cs, short_is x) refl
 
   asks_long : (label : Text) (rows : List Row) (word : Text) (p : Text × Option Text) (o : Choice) → bytes_eq word (45 ∷ 45 ∷ []) ≡ false → long_of word ≡ Some p
-      → arg_by_id (rules_for os) label ≡ Some (choice_rule o) → clean (turn_fault (shape_for title os) [] (asks label false rows) word) ≡ false
-  asks_long label rows word (n, v) o d l e = go (choice_of os n) refl v l
+      → arg_by_id (rules_for os) label ≡ Some (choice_rule o) → o.has_value ≡ true → clean (turn_fault (shape_for title os) [] (asks label false rows) word) ≡ false
+  asks_long label rows word (n, v) o d l e valued = go (choice_of os n) refl v l
     where
+      known : (a : Choice) → choice_of os n ≡ Some a → (b : Bool) → a.has_value ≡ b → (v : Option Text) → long_of word ≡ Some (n, v)
+          → clean (turn_fault (shape_for title os) [] (asks label false rows) word) ≡ false
+      known a f true g (Some v) l = rw (d, l, long_is n, f, g, e, valued) refl
+      known a f true g None l = rw (d, l, long_is n, f, g, e, valued) refl
+      known a f false g (Some v) l = rw (d, l, long_is n, f, g) refl
+      known a f false g None l = rw (d, l, long_is n, f, g, e, valued) refl
+
       go : (c : Option Choice) → choice_of os n ≡ c → (v : Option Text) → long_of word ≡ Some (n, v) → clean (turn_fault (shape_for title os) [] (asks label false rows) word) ≡ false
       go None f v l = rw (d, l, long_is n, f) refl
-      go (Some a) f (Some v) l = rw (d, l, long_is n, f, e) refl
-      go (Some a) f None l = rw (d, l, long_is n, f, e) refl
+      go (Some a) f v l = known a f a.has_value refl v l
 
   -- ---- where no option waits
 
@@ -296,21 +310,35 @@ module _ (os : List Choice) (title : Text) where
   unknown_turn false rows p word n v d l f = rw (d, l, long_is n, f) refl
 
   given_turn : (b : Bool) (rows : List Row) (p : Option (Text × List Text)) (word n v : Text) (o : Choice) → bytes_eq word (45 ∷ 45 ∷ []) ≡ false → long_of word ≡ Some (n, Some v)
-      → choice_of os n ≡ Some o
+      → choice_of os n ≡ Some o → o.has_value ≡ true
       → (turn_fault (shape_for title os) [] (at b false rows p) word
       ≡ or_else (or_else (settle_fault (rules_for os) false (record { rows = rows; pending = p; skip = 0 })) (use_fault false (choice_rule o) (v ∷ []) (rows_at rows p))) [])
       × (walked (rules_for os) [] (at b false rows p) word ≡ at false false (used (choice_rule o) (v ∷ []) (rows_at rows p)) None)
   unfolding walked
-  given_turn true rows p word n v o d l f = (rw (d, l, long_is n, f) refl, rw (d, l, long_is n, f) refl)
-  given_turn false rows p word n v o d l f = (rw (d, l, long_is n, f) refl, rw (d, l, long_is n, f) refl)
+  given_turn true rows p word n v o d l f valued = (rw (d, l, long_is n, f, valued) refl, rw (d, l, long_is n, f, valued) refl)
+  given_turn false rows p word n v o d l f valued = (rw (d, l, long_is n, f, valued) refl, rw (d, l, long_is n, f, valued) refl)
+
+  flag_turn : (b : Bool) (rows : List Row) (p : Option (Text × List Text)) (word n : Text) (o : Choice) → bytes_eq word (45 ∷ 45 ∷ []) ≡ false → long_of word ≡ Some (n, None)
+      → choice_of os n ≡ Some o → o.has_value ≡ false
+      → (turn_fault (shape_for title os) [] (at b false rows p) word
+      ≡ or_else (or_else (settle_fault (rules_for os) false (record { rows = rows; pending = p; skip = 0 })) (use_fault false (choice_rule o) [] (rows_at rows p))) [])
+      × (walked (rules_for os) [] (at b false rows p) word ≡ at false false (used (choice_rule o) [] (rows_at rows p)) None)
+  unfolding walked
+  flag_turn true rows p word n o d l f bare = (rw (d, l, long_is n, f, bare) refl, rw (d, l, long_is n, f, bare) refl)
+  flag_turn false rows p word n o d l f bare = (rw (d, l, long_is n, f, bare) refl, rw (d, l, long_is n, f, bare) refl)
+
+  valued_flag_turn : (b : Bool) (rows : List Row) (p : Option (Text × List Text)) (word n v : Text) (o : Choice) → bytes_eq word (45 ∷ 45 ∷ []) ≡ false → long_of word ≡ Some (n, Some v)
+      → choice_of os n ≡ Some o → o.has_value ≡ false → clean (turn_fault (shape_for title os) [] (at b false rows p) word) ≡ false
+  valued_flag_turn true rows p word n v o d l f bare = rw (d, l, long_is n, f, bare) refl
+  valued_flag_turn false rows p word n v o d l f bare = rw (d, l, long_is n, f, bare) refl
 
   asking_turn : (b : Bool) (rows : List Row) (p : Option (Text × List Text)) (word n : Text) (o : Choice) → bytes_eq word (45 ∷ 45 ∷ []) ≡ false → long_of word ≡ Some (n, None)
-      → choice_of os n ≡ Some o
+      → choice_of os n ≡ Some o → o.has_value ≡ true
       → (turn_fault (shape_for title os) [] (at b false rows p) word ≡ or_else (settle_fault (rules_for os) false (record { rows = rows; pending = p; skip = 0 })) [])
       × (walked (rules_for os) [] (at b false rows p) word ≡ asks o.label false (rows_at rows p))
   unfolding walked
-  asking_turn true rows p word n o d l f = (rw (d, l, long_is n, f) refl, rw (d, l, long_is n, f) refl)
-  asking_turn false rows p word n o d l f = (rw (d, l, long_is n, f) refl, rw (d, l, long_is n, f) refl)
+  asking_turn true rows p word n o d l f valued = (rw (d, l, long_is n, f, valued) refl, rw (d, l, long_is n, f, valued) refl)
+  asking_turn false rows p word n o d l f valued = (rw (d, l, long_is n, f, valued) refl, rw (d, l, long_is n, f, valued) refl)
 
   -- ---- all the words
 
@@ -349,7 +377,7 @@ module _ (os : List Choice) (title : Text) where
   pub record Walks (words : List Text) : Type 0 where
     pub idle : (b : Bool) (rows : List Row) (p : Option (Text × List Text))
         → rest_of (at b false rows p) words ≡ when (owed rows p) (taken_of os (parts_of os words None) (rows_at rows p))
-    pub asking : (n : Text) (rows : List Row) (o : Choice) → choice_of os n ≡ Some o
+    pub asking : (n : Text) (rows : List Row) (o : Choice) → choice_of os n ≡ Some o → o.has_value ≡ true
         → rest_of (asks n false rows) words ≡ taken_of os (parts_of os words (Some n)) rows
 
   module _ (apart : choice_of os names_id ≡ None) where
@@ -361,25 +389,39 @@ module _ (os : List Choice) (title : Text) where
         ∙ trail b rows p words ∙ rw d refl
     idle_word word words rest (long (n, v) d l w i) b rows p = go (choice_of os n) refl v l w
       where
+        known : (o : Choice) → choice_of os n ≡ Some o → (h : Bool) → o.has_value ≡ h → (v : Option Text) → long_of word ≡ Some (n, v) → option_word word ≡ Some (n, v)
+            → rest_of (at b false rows p) (word ∷ words) ≡ when (owed rows p) (taken_of os (parts_of os (word ∷ words) None) (rows_at rows p))
+        known o f true h (Some v) l w =
+            let t = given_turn b rows p word n v o d l f h in
+            let after : List Row = used (choice_rule o) (v ∷ []) (rows_at rows p) in
+            turn (at b false rows p) (at false false after None) word words _ t.0 t.1
+            ∙ when_both (settle_fault (rules_for os) false (record { rows = rows; pending = p; skip = 0 })) (use_fault false (choice_rule o) (v ∷ []) (rows_at rows p)) (rest_of (at false false after None) words)
+            ∙ ap₂ (λ (x : Bool) (y : Option (List Row)). when (owed rows p) (when x y)) (use_is o v (rows_at rows p) h) (rest.idle false after None)
+            ∙ ap (when (owed rows p)) (sym (taken_chosen n v (parts_of os words None) o (rows_at rows p) f))
+            ∙ rw (d, w, f, h) refl
+        known o f true h None l w =
+            let t = asking_turn b rows p word n o d l f h in
+            let same : o.label ≡ n = (bytes_eq-Decides o.label n).0 (found_label os n o f) in
+            turn (at b false rows p) (asks n false (rows_at rows p)) word words _ t.0 (t.1 ∙ ap (λ (m : Text). asks m false (rows_at rows p)) same)
+            ∙ when_or (settle_fault (rules_for os) false (record { rows = rows; pending = p; skip = 0 })) [] (rest_of (asks n false (rows_at rows p)) words)
+            ∙ ap (when (owed rows p)) (rest.asking n (rows_at rows p) o f h)
+            ∙ rw (d, w, f, h) refl
+        known o f false h (Some v) l w = stop (at b false rows p) word words (valued_flag_turn b rows p word n v o d l f h) ∙ sym (rw (d, w, f, h) (when_none (owed rows p)))
+        known o f false h None l w =
+            let t = flag_turn b rows p word n o d l f h in
+            let uses = flag_is o (rows_at rows p) h in
+            let after : List Row = used (choice_rule o) ([] ∷ []) (rows_at rows p) in
+            turn (at b false rows p) (at false false after None) word words _ t.0 (t.1 ∙ ap (λ (r : List Row). at false false r None) uses.1)
+            ∙ when_both (settle_fault (rules_for os) false (record { rows = rows; pending = p; skip = 0 })) (use_fault false (choice_rule o) [] (rows_at rows p)) (rest_of (at false false after None) words)
+            ∙ ap₂ (λ (x : Bool) (y : Option (List Row)). when (owed rows p) (when x y)) uses.0 (rest.idle false after None)
+            ∙ ap (when (owed rows p)) (sym (taken_chosen n [] (parts_of os words None) o (rows_at rows p) f))
+            ∙ rw (d, w, f, h) refl
+
         go : (c : Option Choice) → choice_of os n ≡ c → (v : Option Text) → long_of word ≡ Some (n, v) → option_word word ≡ Some (n, v)
             → rest_of (at b false rows p) (word ∷ words) ≡ when (owed rows p) (taken_of os (parts_of os (word ∷ words) None) (rows_at rows p))
         go None f None l w = stop (at b false rows p) word words (unknown_turn b rows p word n None d l f) ∙ sym (rw (d, w, f) (when_none (owed rows p)))
         go None f (Some v) l w = stop (at b false rows p) word words (unknown_turn b rows p word n (Some v) d l f) ∙ sym (rw (d, w, f) (when_none (owed rows p)))
-        go (Some o) f (Some v) l w =
-            let t = given_turn b rows p word n v o d l f in
-            let after : List Row = used (choice_rule o) (v ∷ []) (rows_at rows p) in
-            turn (at b false rows p) (at false false after None) word words _ t.0 t.1
-            ∙ when_both (settle_fault (rules_for os) false (record { rows = rows; pending = p; skip = 0 })) (use_fault false (choice_rule o) (v ∷ []) (rows_at rows p)) (rest_of (at false false after None) words)
-            ∙ ap₂ (λ (x : Bool) (y : Option (List Row)). when (owed rows p) (when x y)) (use_is o v (rows_at rows p)) (rest.idle false after None)
-            ∙ ap (when (owed rows p)) (sym (taken_chosen n v (parts_of os words None) o (rows_at rows p) f))
-            ∙ rw (d, w, f) refl
-        go (Some o) f None l w =
-            let t = asking_turn b rows p word n o d l f in
-            let same : o.label ≡ n = (bytes_eq-Decides o.label n).0 (found_label os n o f) in
-            turn (at b false rows p) (asks n false (rows_at rows p)) word words _ t.0 (t.1 ∙ ap (λ (m : Text). asks m false (rows_at rows p)) same)
-            ∙ when_or (settle_fault (rules_for os) false (record { rows = rows; pending = p; skip = 0 })) [] (rest_of (asks n false (rows_at rows p)) words)
-            ∙ ap (when (owed rows p)) (rest.asking n (rows_at rows p) o f)
-            ∙ rw (d, w, f) refl
+        go (Some o) f v l w = known o f o.has_value refl v l w
     idle_word word words rest (short flags k n d l w sh i) b rows p = go (chars flags) refl
       where
         go : (cs : Text) → chars flags ≡ cs → rest_of (at b false rows p) (word ∷ words) ≡ when (owed rows p) (taken_of os (parts_of os (word ∷ words) None) (rows_at rows p))
@@ -400,36 +442,36 @@ module _ (os : List Choice) (title : Text) where
         let e : o.label ≡ n = (bytes_eq-Decides o.label n).0 (found_label os n o f) in
         (bytes_eq-Decides n o.label).1 (sym e)
 
-    asking_word : (word : Text) (words : List Text) → Walks words → Look word → (n : Text) (rows : List Row) (o : Choice) → choice_of os n ≡ Some o
+    asking_word : (word : Text) (words : List Text) → Walks words → Look word → (n : Text) (rows : List Row) (o : Choice) → choice_of os n ≡ Some o → o.has_value ≡ true
         → rest_of (asks n false rows) (word ∷ words) ≡ taken_of os (parts_of os (word ∷ words) (Some n)) rows
     unfolding parts_of walked
-    asking_word word words rest (dashes d i) n rows o f =
-        turn (asks n false rows) (asks n true rows) word words [] (rw d refl) (rw d refl) ∙ asks_trail n rows o (found_id apart n o f) words ∙ sym (rw i refl)
-    asking_word word words rest (long p d l w i) n rows o f = stop (asks n false rows) word words (asks_long n rows word p o d l (found_id apart n o f)) ∙ sym (rw i refl)
-    asking_word word words rest (short flags k z d l w sh i) n rows o f = go (chars flags) refl
+    asking_word word words rest (dashes d i) n rows o f h =
+        turn (asks n false rows) (asks n true rows) word words [] (rw d refl) (rw d refl) ∙ asks_trail n rows o (found_id apart n o f) h words ∙ sym (rw i refl)
+    asking_word word words rest (long p d l w i) n rows o f h = stop (asks n false rows) word words (asks_long n rows word p o d l (found_id apart n o f) h) ∙ sym (rw i refl)
+    asking_word word words rest (short flags k z d l w sh i) n rows o f h = go (chars flags) refl
       where
         go : (cs : Text) → chars flags ≡ cs → rest_of (asks n false rows) (word ∷ words) ≡ taken_of os (parts_of os (word ∷ words) (Some n)) rows
         go (x ∷ xs) g = stop (asks n false rows) word words (asks_short n rows word flags k x xs d l sh z g) ∙ sym (rw (i, g) refl)
         go [] g =
             let id = found_id apart n o f in
-            let t = asks_empty n rows word flags k o d l sh z g id (same n o f) in
+            let t = asks_empty n rows word flags k o d l sh z g id (same n o f) h in
             turn (asks n false rows) (at false false rows (Some (n, word ∷ []))) word words _ t.0 t.1
             ∙ rest.idle false rows (Some (n, word ∷ []))
-            ∙ ap₂ (λ (x : Bool) (y : List Row). when x (taken_of os (parts_of os words None) y)) (used_now n word rows o id).0 (used_now n word rows o id).1
+            ∙ ap₂ (λ (x : Bool) (y : List Row). when x (taken_of os (parts_of os words None) y)) (used_now n word rows o id h).0 (used_now n word rows o id h).1
             ∙ sym (taken_chosen n word (parts_of os words None) o rows f) ∙ sym (rw (i, g) refl)
-    asking_word word words rest (plain d l w sh i) n rows o f =
+    asking_word word words rest (plain d l w sh i) n rows o f h =
         let id = found_id apart n o f in
-        let t = asks_plain n rows word o d l sh id (same n o f) in
+        let t = asks_plain n rows word o d l sh id (same n o f) h in
         turn (asks n false rows) (at false false rows (Some (n, word ∷ []))) word words _ t.0 t.1
         ∙ rest.idle false rows (Some (n, word ∷ []))
-        ∙ ap₂ (λ (x : Bool) (y : List Row). when x (taken_of os (parts_of os words None) y)) (used_now n word rows o id).0 (used_now n word rows o id).1
+        ∙ ap₂ (λ (x : Bool) (y : List Row). when x (taken_of os (parts_of os words None) y)) (used_now n word rows o id h).0 (used_now n word rows o id h).1
         ∙ sym (taken_chosen n word (parts_of os words None) o rows f) ∙ sym (rw i refl)
 
     pub walks : (words : List Text) → Walks words
     unfolding parts_of walk_fault taken
     walks [] = record {
       idle = λ b rows p. refl;
-      asking = λ n rows o f. rw (found_id apart n o f) refl;
+      asking = λ n rows o f h. rw (found_id apart n o f, h) refl;
     }
     walks (word ∷ words) = record {
       idle = idle_word word words (walks words) (look word);

@@ -2,14 +2,15 @@
 use Rattle.std.proofs.Common.{◌≡◌, refl, codes, [], ◌∷◌, Some, None}
 use Rattle.std.specs.Str.{chars}
 use Rattle.command_words.specs.Parts.{parts_of}
+use Rattle.command_words.specs.declared.commands.Keeping.TheVariants.{History, Nothing}
 use Rattle.command_words.specs.declared.commands.Target.TheVariants.{Original, ByteWord}
 use Rattle.command_words.specs.Commands.{forms, list, replay, run, spells, translate}
 
-pub run_alone : spells forms (codes "run" ∷ codes "a" ∷ []) ≡ Some (run (codes "a") (record { limits = record { budget = 100000000; events = 4194304; miss = 0 }; ranges = []; target = Original; order = None }))
+pub run_alone : spells forms (codes "run" ∷ codes "a" ∷ []) ≡ Some (run (codes "a") (record { limits = record { budget = 100000000; keeping = History; events = 4194304; miss = 0 }; ranges = []; target = Original; order = None }))
 unfolding parts_of chars
 run_alone = refl
 
-pub options_around : spells forms (codes "run" ∷ codes "--miss=2" ∷ codes "a" ∷ codes "--budget" ∷ codes "+07" ∷ codes "--interpret" ∷ codes "31:200-2fF" ∷ []) ≡ Some (run (codes "a") (record { limits = record { budget = 7; events = 4194304; miss = 2 }; ranges = record { thread = 31; first = 512; last = 767 } ∷ []; target = Original; order = None }))
+pub options_around : spells forms (codes "run" ∷ codes "--miss=2" ∷ codes "a" ∷ codes "--budget" ∷ codes "+07" ∷ codes "--interpret" ∷ codes "31:200-2fF" ∷ []) ≡ Some (run (codes "a") (record { limits = record { budget = 7; keeping = History; events = 4194304; miss = 2 }; ranges = record { thread = 31; first = 512; last = 767 } ∷ []; target = Original; order = None }))
 unfolding parts_of chars
 options_around = refl
 
@@ -37,7 +38,7 @@ pub help : spells forms (codes "run" ∷ codes "--help" ∷ []) ≡ None
 unfolding parts_of chars
 help = refl
 
-pub for_byte_word : spells forms (codes "run" ∷ codes "x" ∷ codes "--target" ∷ codes "byteword" ∷ []) ≡ Some (run (codes "x") (record { limits = record { budget = 100000000; events = 4194304; miss = 0 }; ranges = []; target = ByteWord; order = None }))
+pub for_byte_word : spells forms (codes "run" ∷ codes "x" ∷ codes "--target" ∷ codes "byteword" ∷ []) ≡ Some (run (codes "x") (record { limits = record { budget = 100000000; keeping = History; events = 4194304; miss = 0 }; ranges = []; target = ByteWord; order = None }))
 unfolding parts_of chars
 for_byte_word = refl
 
@@ -61,11 +62,11 @@ pub list_without_target : spells forms (codes "list" ∷ codes "x" ∷ codes "--
 unfolding parts_of chars
 list_without_target = refl
 
-pub with_order : spells forms (codes "run" ∷ codes "x" ∷ codes "--order" ∷ codes "o" ∷ []) ≡ Some (run (codes "x") (record { limits = record { budget = 100000000; events = 4194304; miss = 0 }; ranges = []; target = Original; order = Some (codes "o") }))
+pub with_order : spells forms (codes "run" ∷ codes "x" ∷ codes "--order" ∷ codes "o" ∷ []) ≡ Some (run (codes "x") (record { limits = record { budget = 100000000; keeping = History; events = 4194304; miss = 0 }; ranges = []; target = Original; order = Some (codes "o") }))
 unfolding parts_of chars
 with_order = refl
 
-pub empty_order : spells forms (codes "run" ∷ codes "--order=" ∷ codes "x" ∷ []) ≡ Some (run (codes "x") (record { limits = record { budget = 100000000; events = 4194304; miss = 0 }; ranges = []; target = Original; order = Some [] }))
+pub empty_order : spells forms (codes "run" ∷ codes "--order=" ∷ codes "x" ∷ []) ≡ Some (run (codes "x") (record { limits = record { budget = 100000000; keeping = History; events = 4194304; miss = 0 }; ranges = []; target = Original; order = Some [] }))
 unfolding parts_of chars
 empty_order = refl
 
@@ -116,3 +117,43 @@ replayed_for_empty_hints = refl
 pub replayed_for_hints_twice : spells forms (codes "replay" ∷ codes "a" ∷ codes "o" ∷ codes "--hints=h" ∷ codes "--hints=h" ∷ []) ≡ None
 unfolding parts_of chars
 replayed_for_hints_twice = refl
+
+pub unkept : spells forms (codes "run" ∷ codes "x" ∷ codes "--unkept" ∷ []) ≡ Some (run (codes "x") (record { limits = record { budget = 100000000; keeping = Nothing; events = 4194304; miss = 0 }; ranges = []; target = Original; order = None }))
+unfolding parts_of chars
+unkept = refl
+
+pub unkept_before_the_name : spells forms (codes "run" ∷ codes "--unkept" ∷ codes "x" ∷ codes "--events" ∷ codes "3" ∷ []) ≡ Some (run (codes "x") (record { limits = record { budget = 100000000; keeping = Nothing; events = 3; miss = 0 }; ranges = []; target = Original; order = None }))
+unfolding parts_of chars
+unkept_before_the_name = refl
+
+pub unkept_with_a_value : spells forms (codes "run" ∷ codes "x" ∷ codes "--unkept=1" ∷ []) ≡ None
+unfolding parts_of chars
+unkept_with_a_value = refl
+
+pub unkept_with_an_empty_value : spells forms (codes "run" ∷ codes "x" ∷ codes "--unkept=" ∷ []) ≡ None
+unfolding parts_of chars
+unkept_with_an_empty_value = refl
+
+pub unkept_with_a_name_behind : spells forms (codes "run" ∷ codes "--unkept" ∷ codes "x" ∷ codes "y" ∷ []) ≡ None
+unfolding parts_of chars
+unkept_with_a_name_behind = refl
+
+pub unkept_as_a_value : spells forms (codes "run" ∷ codes "x" ∷ codes "--order" ∷ codes "--unkept" ∷ []) ≡ None
+unfolding parts_of chars
+unkept_as_a_value = refl
+
+pub unkept_twice : spells forms (codes "run" ∷ codes "x" ∷ codes "--unkept" ∷ codes "--unkept" ∷ []) ≡ None
+unfolding parts_of chars
+unkept_twice = refl
+
+pub unkept_with_order : spells forms (codes "run" ∷ codes "x" ∷ codes "--unkept" ∷ codes "--order" ∷ codes "o" ∷ []) ≡ None
+unfolding parts_of chars
+unkept_with_order = refl
+
+pub unkept_of_another_command : spells forms (codes "translate" ∷ codes "a" ∷ codes "b" ∷ codes "--unkept" ∷ []) ≡ None
+unfolding parts_of chars
+unkept_of_another_command = refl
+
+pub replayed_unkept : spells forms (codes "replay" ∷ codes "a" ∷ codes "o" ∷ codes "--unkept" ∷ []) ≡ None
+unfolding parts_of chars
+replayed_unkept = refl

@@ -5,7 +5,7 @@ use Rattle.std.specs.Str.{bytes_eq}
 use Rattle.clap.specs.Words.{App, Row, Rule, all_of, new_app, new_rule}
 use Rattle.clap.specs.Words.{subcommand_rows_of, with_rule, with_subcommand}
 use Rattle.clap.specs.Simple.{on_top}
-use Rattle.clap.specs.declared.builder.action.ArgAction.TheVariants.{Append}
+use Rattle.clap.specs.declared.builder.action.ArgAction.TheVariants.{Append, Set}
 use Rattle.clap.specs.declared.parser.matches.ArgMatches.{ArgMatches}
 use Rattle.command_words.specs.Parts.{Part, Text, names_in, values_in}
 use Rattle.command_words.specs.Forms.{Form, line_of}
@@ -27,6 +27,14 @@ option_arg label = record (new_rule label) { long = Some label }
 abbrev pub repeated_arg : Text → Rule
 repeated_arg label = record (option_arg label) { action = Some Append }
 
+-- an option without a value: its use stands for the empty text
+abbrev pub flag_arg : Text → Rule
+flag_arg label = record (option_arg label) {
+  action = Some Set;
+  range = Some (record { start_inclusive = 0; end_inclusive = 0 });
+  missing = [] ∷ [];
+}
+
 -- a command without options
 abbrev pub plain_app : Text → App
 plain_app title = with_rule (new_app title) names_arg
@@ -36,9 +44,13 @@ abbrev pub limited_app : App
 limited_app = with_rule (with_rule (with_rule (plain_app (codes "run"))
     (option_arg (codes "budget"))) (option_arg (codes "events"))) (option_arg (codes "miss"))
 
+-- and with what keeps no history
+abbrev pub unkept_app : App
+unkept_app = with_rule limited_app (flag_arg (codes "unkept"))
+
 -- and with the target
 abbrev pub targeted_app : App
-targeted_app = with_rule limited_app (option_arg (codes "target"))
+targeted_app = with_rule unkept_app (option_arg (codes "target"))
 
 -- and with the file of its order
 abbrev pub ordered_app : App

@@ -1,7 +1,9 @@
 -- The commands, and the one that words spell.
 use Rattle.std.specs.Prelude.{◌==◌, ◌&&◌, ◌||◌, ℕ, Bool, true, false, List, [], ◌∷◌, Option, Some, None}
-use Rattle.std.specs.Prelude.{if◌then◌else◌, codes, nat_le}
+use Rattle.std.specs.Prelude.{if◌then◌else◌, codes, is_some, nat_le}
 use Rattle.std.specs.Str.{bytes_eq}
+use Rattle.command_words.specs.declared.commands.Keeping.{Keeping}
+use Rattle.command_words.specs.declared.commands.Keeping.TheVariants.{History, Nothing}
 use Rattle.command_words.specs.declared.commands.Limits.{Limits}
 use Rattle.command_words.specs.declared.commands.Target.{Target}
 use Rattle.command_words.specs.declared.commands.Target.TheVariants.{Original, ByteWord}
@@ -27,11 +29,15 @@ pub data CommandValue : Type 0 where
 
 -- an option that stands at most once
 abbrev pub once : Text → Choice
-once label = record { label = label; repeats = false }
+once label = record { label = label; repeats = false; has_value = true }
 
 -- an option that may stand again
 abbrev pub often : Text → Choice
-often label = record { label = label; repeats = true }
+often label = record { label = label; repeats = true; has_value = true }
+
+-- an option without a value, that stands at most once
+abbrev pub flag : Text → Choice
+flag label = record { label = label; repeats = false; has_value = false }
 
 -- a command without options
 abbrev pub plain_form : Text → Form
@@ -41,7 +47,7 @@ plain_form title = record { title = title; choices = [] }
 abbrev pub run_form : Form
 run_form = record {
   title = codes "run";
-  choices = once (codes "budget") ∷ once (codes "events") ∷ once (codes "miss") ∷ once (codes "target") ∷ once (codes "order") ∷ often (codes "interpret") ∷ [];
+  choices = once (codes "budget") ∷ once (codes "events") ∷ once (codes "miss") ∷ flag (codes "unkept") ∷ once (codes "target") ∷ once (codes "order") ∷ often (codes "interpret") ∷ [];
 }
 
 -- `translate`
@@ -71,15 +77,19 @@ is_miss n = n == 0 || (nat_le 2 n && nat_le n 1000)
 
 -- the limits of a run where no option gives others
 abbrev pub DEFAULT_LIMITS : Limits
-DEFAULT_LIMITS = record { budget = 100000000; events = 4194304; miss = 0 }
+DEFAULT_LIMITS = record { budget = 100000000; keeping = History; events = 4194304; miss = 0 }
 
--- the limits of a run, by `--budget`, up to 10^12, by `--events`, up to 4,194,304, and by `--miss`
+-- what a run keeps, by `--unkept`
+abbrev pub keeping_of : List Part → Keeping
+keeping_of parts = if is_some (first_of (values_in (codes "unkept") parts)) then Nothing else History
+
+-- the limits of a run, by `--budget`, up to 10^12, by `--unkept`, by `--events`, up to 4,194,304, and by `--miss`
 abbrev pub limits_of : List Part → Option Limits
 limits_of parts = do
   budget ← within (λ n. nat_le n 1000000000000) (number_of (codes "budget") DEFAULT_LIMITS.budget parts)
   events ← within (λ n. nat_le n 4194304) (number_of (codes "events") DEFAULT_LIMITS.events parts)
   miss ← within is_miss (number_of (codes "miss") DEFAULT_LIMITS.miss parts)
-  Some (record { budget = budget; events = events; miss = miss })
+  Some (record { budget = budget; keeping = keeping_of parts; events = events; miss = miss })
 
 -- the target that a value names, in just these letters
 abbrev pub target_in : Text → Option Target
@@ -96,13 +106,20 @@ target_or (Some text) = target_in text
 abbrev pub target_of : List Part → Option Target
 target_of parts = target_or (first_of (values_in (codes "target") parts))
 
+-- a file for the order of a run's references, where the run keeps them
+abbrev pub order_by : Keeping → Option Text → Option (Option Text)
+order_by History name = Some name
+order_by Nothing None = Some None
+order_by Nothing (Some name) = None
+
 -- the options of `run`, with ranges by `--interpret`, and a file by `--order`
 abbrev pub options_of : List Part → Option OptionsValue
 options_of parts = do
   limits ← limits_of parts
   target ← target_of parts
+  order ← order_by limits.keeping (first_of (values_in (codes "order") parts))
   ranges ← few_ranges (values_in (codes "interpret") parts)
-  Some (record { limits = limits; ranges = ranges; target = target; order = first_of (values_in (codes "order") parts) })
+  Some (record { limits = limits; ranges = ranges; target = target; order = order })
 
 -- `run NAME`
 abbrev pub run_of : List Part → Option CommandValue

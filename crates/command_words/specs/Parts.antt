@@ -1,6 +1,6 @@
 -- The names and options behind a command.
 use Rattle.std.specs.Prelude.{◌==◌, ◌&&◌, ◌||◌, ℕ, Bool, true, false, List, [], ◌∷◌, map}
-use Rattle.std.specs.Prelude.{Option, Some, None, if◌then◌else◌, length, find, nat_lt, option_map, is_some}
+use Rattle.std.specs.Prelude.{Option, Some, None, if◌then◌else◌, length, find, nat_lt, option_map}
 use Rattle.std.specs.List.{list_any, before_first, after_first}
 use Rattle.std.specs.Str.{bytes_eq, chars}
 
@@ -8,12 +8,13 @@ use Rattle.std.specs.Str.{bytes_eq, chars}
 abbrev pub Text : Type 0
 Text = List ℕ
 
--- an option of a command, and whether it may stand more than once
+-- an option of a command, whether it may stand more than once, and whether it has a value
 pub record Choice : Type 0 where
   pub label : Text
   pub repeats : Bool
+  pub has_value : Bool
 
--- a name, or an option with its value
+-- a name, or an option with its value, which is empty where it has none
 pub data Part : Type 0 where
   named : Text → Part
   chosen : Text → Text → Part
@@ -52,13 +53,19 @@ choice_of choices label = find (λ o. bytes_eq o.label label) choices
 abbrev pub with_part : Part → Option (List Part) → Option (List Part)
 with_part part rest = option_map (λ parts. part ∷ parts) rest
 
--- an option word: its value is attached to it, or is the next word
+-- the label of an option, with the value that is attached to it: else its value is the next word, where it has one
+abbrev pub choice_parts : Option Choice → Text → Option Text → (Option Text → Option (List Part))
+    → Option (List Part)
+choice_parts None label value rest = None
+choice_parts (Some o) label (Some value) rest =
+    if o.has_value then with_part (chosen label value) (rest None) else None
+choice_parts (Some o) label None rest =
+    if o.has_value then rest (Some label) else with_part (chosen label []) (rest None)
+
+-- an option word
 abbrev pub option_parts : List Choice → Text × Option Text → (Option Text → Option (List Part))
     → Option (List Part)
-option_parts choices (label, Some value) rest =
-    if is_some (choice_of choices label) then with_part (chosen label value) (rest None) else None
-option_parts choices (label, None) rest =
-    if is_some (choice_of choices label) then rest (Some label) else None
+option_parts choices (label, value) rest = choice_parts (choice_of choices label) label value rest
 
 -- a word where no option waits for its value
 abbrev pub word_parts : List Choice → Text → Option (Text × Option Text)

@@ -30,6 +30,17 @@ fn repeated_arg<'a>(alloc: Global, label: &'a str) -> Arg<'a>
     option_arg(alloc, label).action(ArgAction::Append)
 }
 
+// An option without a value: its use stands for the empty text.
+fn flag_arg<'a>(alloc: Global, label: &'a str) -> Arg<'a>
+    ensures rule { rule_of result ≡ spec.flag_arg label.entry.now }
+    ensures local { result.global ≡ false }
+{
+    option_arg(alloc, label)
+        .action(ArgAction::Set)
+        .num_args(0)
+        .default_missing_value("")
+}
+
 // A command without options.
 fn plain_app<'a>(alloc: Global, title: &'a str) -> Result<Command<'a>, AllocError>
     ensures app { IfOk result (λ c. app_of c ≡ spec.plain_app title.entry.now) }
@@ -49,12 +60,20 @@ fn limited_app<'a>(alloc: Global) -> Result<Command<'a>, AllocError>
         .arg(option_arg(alloc, "miss"))
 }
 
+// And with what keeps no history.
+fn unkept_app<'a>(alloc: Global) -> Result<Command<'a>, AllocError>
+    ensures app { IfOk result (λ c. app_of c ≡ spec.unkept_app) }
+    ensures local { IfOk result (λ c. (fields_of c).has_globals ≡ false) }
+{
+    limited_app(alloc)?.arg(flag_arg(alloc, "unkept"))
+}
+
 // And with the target.
 fn targeted_app<'a>(alloc: Global) -> Result<Command<'a>, AllocError>
     ensures app { IfOk result (λ c. app_of c ≡ spec.targeted_app) }
     ensures local { IfOk result (λ c. (fields_of c).has_globals ≡ false) }
 {
-    limited_app(alloc)?.arg(option_arg(alloc, "target"))
+    unkept_app(alloc)?.arg(option_arg(alloc, "target"))
 }
 
 // And with the file of its order.

@@ -4,7 +4,7 @@ ghost use Rattle.std.specs.Str.{bytes_eq};
 ghost use Rattle.clap.specs.Words.{found_of, rows_of};
 ghost use Rattle.command_words.specs.App.{HoldsParts, names_id};
 ghost use Rattle.command_words.specs.Answers.{AnswersTo, Reads};
-ghost use Rattle.command_words.specs.Parts.{Part, values_in};
+ghost use Rattle.command_words.specs.Parts.{Part, first_of, values_in};
 ghost use Rattle.command_words.specs.Numbers.{within, few_ranges};
 ghost use Rattle.command_words.specs.Commands as spec;
 
@@ -19,7 +19,7 @@ const BUDGET: u64 = 100_000_000;
 
 const MOST_BUDGET: u64 = 1_000_000_000_000;
 
-/// The number of entries of a history where no option says it.
+/// The limit of what a run counts where no option says it.
 const EVENTS: u64 = 4_194_304;
 
 const MOST_EVENTS: u64 = 4_194_304;
@@ -32,12 +32,22 @@ const MOST_MISS: u64 = 1_000;
 /// The greatest number of a generated image.
 const MOST_GENERATED: u64 = 32_000;
 
+/// What a run keeps of its references.
+#[derive(Clone, Copy, Debug, PartialEq, Eq)]
+pub enum Keeping {
+    /// Their history.
+    History,
+    /// `--unkept`.
+    Nothing,
+}
+
 /// What limits a run.
 #[derive(Clone, Copy, Debug, PartialEq, Eq)]
 pub struct Limits {
     /// How many steps a processor makes at most: up to 10^12.
     pub budget: u64,
-    /// How many entries the history has at most: up to 4,194,304.
+    pub keeping: Keeping,
+    /// How many entries the history has at most, or how many bytes are put where none is kept: up to 4,194,304.
     pub events: u32,
     /// The number by which store conditionals miss: 0 for never, else 2 to 1,000.
     pub miss: u16,
@@ -46,6 +56,7 @@ pub struct Limits {
 /// The limits of a run where no option gives others.
 pub const DEFAULT_LIMITS: Limits = Limits {
     budget: BUDGET,
+    keeping: Keeping::History,
     events: EVENTS as u32,
     miss: MISS as u16,
 };
@@ -66,14 +77,14 @@ pub struct RunOptions<'a> {
     /// At most 64.
     pub ranges: Vec<Range>,
     pub target: Target,
-    /// The name of the file for the order of its references. It is a word of the line, and may be empty.
+    /// The name of the file for the order of its references, which are then kept. It is a word of the line, and may be empty.
     pub order: Option<&'a str>,
 }
 
 /// What a command line asks for. The names are words of the line.
 #[derive(Debug, Drop)]
 pub enum Command<'a> {
-    /// `run NAME`, with `--budget`, `--events`, `--miss`, `--target`, `--order` and `--interpret` behind it: runs an image.
+    /// `run NAME`, with `--budget`, `--events`, `--miss`, `--unkept`, `--target`, `--order` and `--interpret` behind it: runs an image.
     Run {
         name: &'a str,
         options: RunOptions<'a>,
@@ -137,6 +148,16 @@ fn miss_of(matches: &ArgMatches<'_>) -> Option<u16>
     }
 }
 
+fn keeping_of(matches: &ArgMatches<'_>) -> Keeping
+    ensures { (parts : List Part) → HoldsParts parts (rows_of (found_of matches.now))
+        → result ≡ spec.keeping_of parts }
+{
+    match value_of(matches, "unkept") {
+        Some(_) => Keeping::Nothing,
+        None => Keeping::History,
+    }
+}
+
 fn limits_of(matches: &ArgMatches<'_>) -> Option<Limits>
     ensures { (parts : List Part) → HoldsParts parts (rows_of (found_of matches.now))
         → result ≡ spec.limits_of parts }
@@ -146,6 +167,7 @@ fn limits_of(matches: &ArgMatches<'_>) -> Option<Limits>
     let miss = miss_of(matches)?;
     Some(Limits {
         budget,
+        keeping: keeping_of(matches),
         events: events as u32,
         miss,
     })
@@ -182,6 +204,18 @@ fn ranges_of(alloc: Global, matches: &ArgMatches<'_>) -> Result<Option<Vec<Range
     }
 }
 
+// The file by `--order`, or none: only a history that is kept is stored.
+fn order_by<'a>(matches: &ArgMatches<'a>, keeping: Keeping) -> Option<Option<&'a str>>
+    ensures { (parts : List Part) → HoldsParts parts (rows_of (found_of matches.now))
+        → option_map (λ name. option_map (λ s. s.now) name) result ≡ spec.order_by keeping (first_of (values_in (codes "order") parts)) }
+{
+    let name = value_of(matches, "order");
+    match keeping {
+        Keeping::Nothing if name.is_some() => None,
+        _ => Some(name),
+    }
+}
+
 pub fn read_run<'a>(alloc: Global, matches: &ArgMatches<'a>) -> Result<Command<'a>, WordsFault>
     ensures { (parts : List Part) → HoldsParts parts (rows_of (found_of matches.now))
         → AnswersTo (spec.run_of parts) result }
@@ -189,7 +223,7 @@ pub fn read_run<'a>(alloc: Global, matches: &ArgMatches<'a>) -> Result<Command<'
     let name = only_name(matches).ok_or(WordsFault::Usage)?;
     let limits = limits_of(matches).ok_or(WordsFault::Usage)?;
     let target = target_of(matches).ok_or(WordsFault::Usage)?;
-    let order = value_of(matches, "order");
+    let order = order_by(matches, limits.keeping).ok_or(WordsFault::Usage)?;
     match ranges_of(alloc, matches) {
         Ok(Some(ranges)) => Ok(Command::Run {
             name,
