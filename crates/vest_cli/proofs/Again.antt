@@ -1,6 +1,6 @@
 -- A replay gives its run.
 use Rattle.std.proofs.Common.{◌≡◌, ◌≢◌, ◌⊎◌, ◌∙◌, ◌+◌, ◌++◌, ◌||◌, ◌≤◌, ◌<◌, ℕ, zero, suc, Bool, true, false, if◌then◌else◌, List, [], ◌∷◌, length, map, option_map, Option, None, Some, Result, Ok, refl, sym, ap, ap₂, subst, arith, inl, inr}
-use Rattle.std.specs.Prelude.{◌==◌, MatchBool, MatchResult, String, option_and_then, slice_get}
+use Rattle.std.specs.Prelude.{◌==◌, IfSome, MatchBool, MatchResult, String, option_and_then, slice_get}
 use Rattle.std.specs.List.{list_any}
 use Rattle.std.specs.String.{string_bytes}
 use Rattle.std.specs.declared.alloc.Global.{Global}
@@ -9,6 +9,8 @@ use Rattle.std.proofs.lemmas.Option.{slice_get_within}
 use Rattle.address_map.specs.Pairs.{Pair}
 use Rattle.block_law.specs.Translations.{Code}
 use Rattle.command_words.specs.Commands.{CommandValue, OptionsValue, replay, run}
+use Rattle.command_words.specs.declared.commands.Keeping.{Keeping}
+use Rattle.command_words.specs.declared.commands.Keeping.TheVariants.{History, Nothing}
 use Rattle.image_file.specs.Limits.{most_threads}
 use Rattle.image_file.specs.Reading.{image_of}
 use Rattle.image_file.specs.Start.{start_state}
@@ -20,7 +22,9 @@ use Rattle.image_meaning.specs.declared.target.Target.{Target}
 use Rattle.image_meaning.specs.declared.target.Target.TheVariants.{Original}
 use Rattle.flow_discovery.specs.Reach.{most}
 use Rattle.memory_core.specs.Contents.{output_of}
+use Rattle.memory_core.specs.Limits.{greatest, KeepsEntries}
 use Rattle.memory_core.specs.declared.entry.Entry.{Entry}
+use Rattle.memory_core.specs.declared.entry.Limit.{Limit}
 use Rattle.memory_core.specs.declared.entry.SetUp.{SetUp}
 use Rattle.report_text.specs.Report.{report_from, report_text, thread_text}
 use Rattle.run_files.specs.Reading.{order_of}
@@ -65,12 +69,11 @@ use Rattle.vest_files.specs.Limits.{FILE_LIMIT}
 use Rattle.vest_files.specs.Loading.{DecidesBytes, DecidesFile, DecidesImage, DecidesLoad, DecidesParts, DecidesTail, IsOfImage, IsOfTranslated, Loads, is_translated}
 use Rattle.vest_files.specs.Versions as versions
 use Rattle.vest_runs.specs.Delivery.{Delivers}
-use Rattle.vest_runs.specs.Keeping.{processors_of, set_up_of}
+use Rattle.vest_runs.specs.Keeping.{limit_by, limit_of, processors_of, set_up_of}
 use Rattle.vest_runs.specs.Kept.{KeptValue}
 use Rattle.vest_runs.specs.Order.{end_of, order_kept}
 use Rattle.vest_runs.specs.Report.{done_by_ends, is_spent, lines_by, report_of}
 use Rattle.vest_cli.specs.Again.{HasRunAndStored, IsSameAgain, ReplayGivesItsRun, TookBoth, same_again, short_again, unread_again, unstored_again, unwritten_again}
-use Rattle.vest_cli.specs.Decided.{EndsARun}
 use Rattle.vest_cli.specs.Hints.{StoresHints}
 use Rattle.vest_cli.specs.Lent.{Lent}
 use Rattle.vest_cli.specs.Replay.{DecidesOrder, DecidesOrderFile, DecidesReplay, DecidesReplayed, FilesGive, StopsReplay, done_of, image_in}
@@ -88,7 +91,7 @@ use Rattle.vest_cli.proofs.StoredOrders.{loaded_image, replay_stops_at}
 -- ---- the processors of a run, and the ends that are replayed
 
 -- each has the number of its place
-thread_of : (setting : Setting) (budget limit : ℕ) (entries : List Entry) (thread : ℕ) (start : VaxState) (p : Processor) → IsReached setting budget limit entries thread start p → p.thread ≡ thread
+thread_of : (setting : Setting) (budget : ℕ) (limit : Limit) (entries : List Entry) (thread : ℕ) (start : VaxState) (p : Processor) → IsReached setting budget limit entries thread start p → p.thread ≡ thread
 thread_of setting budget limit entries thread start p r = by r.now
   where
     was_is : r.was.thread ≡ thread
@@ -231,9 +234,13 @@ record HasLeft (name file : List ℕ) (result : Status) (old new : Lent) : Type 
   took : TookBoth old new replayed.output (report_text replayed.ends)
   came_to : result ≡ status_of_done (done_of replayed.ends)
 
+greatest_is : (keeping : Keeping) (events : ℕ) → greatest (limit_by keeping events) ≡ events
+greatest_is History events = refl
+greatest_is Nothing events = refl
+
 module _ (law : HeadlineIsReplayed) (unique : IsFunction) where
   -- ---- of a run whose order was stored
-  module _ (name file : List ℕ) (options : OptionsValue) (bounded : AreBounded options.limits) (other : file ≢ name) (end : Done) (old new : Lent) (kept : KeptValue) (h : HasRunSo end name options old new kept) where
+  module _ (name file : List ℕ) (options : OptionsValue) (bounded : AreBounded options) (asked : options.order ≡ Some file) (other : file ≢ name) (end : Done) (old new : Lent) (kept : KeptValue) (h : HasRunSo end name options old new kept) where
     abbrev ps : List Processor
     ps = processors_of kept
 
@@ -246,6 +253,9 @@ module _ (law : HeadlineIsReplayed) (unique : IsFunction) where
     few : length h.image.threads ≤ 255
     few = let bound = few_threads h.image.version in omega (arith, bound, h.whole.room.threads)
 
+    keeps : KeepsEntries (limit_of options.limits)
+    keeps = subst (λ (o : Option (List ℕ)). IfSome o (λ _. KeepsEntries (limit_of options.limits))) asked bounded.kept
+
     replays : IsReplayed (set_up_of h.image kept) kept.history ps
     replays =
         let made = h.has_kept in
@@ -253,7 +263,8 @@ module _ (law : HeadlineIsReplayed) (unique : IsFunction) where
         law h.code kept.ranges (permit_of h.target h.image.pages) (set_up_of h.image kept) kept.budget kept.history ps its.in_range its.legal its.driven.headline its.ended
         (record {
           steps = omega (arith, made.budget, bounded.budget);
-          limit = omega (arith, made.limit, bounded.events);
+          keeps = subst KeepsEntries (sym made.limit) keeps;
+          limit = omega (arith, ap greatest made.limit, greatest_is options.limits.keeping options.limits.events, bounded.events);
           threads = few;
           input = h.input.short;
         })
@@ -319,7 +330,7 @@ module _ (law : HeadlineIsReplayed) (unique : IsFunction) where
       by (done command end is so does) =
           let one : command ≡ run name first.options = let e : Some command ≡ Some (run name first.options) = sym is ∙ first.spells in cc e in
           let made : HasRunSo end name first.options old new kept = subst (λ (c : CommandValue). Does c end old new kept) one does in
-          stored_by name file first.options (can_be_obeyed (map string_bytes words) (run name first.options) first.spells) first.other end old new kept made
+          stored_by name file first.options (can_be_obeyed (map string_bytes words) (run name first.options) first.spells) first.order first.other end old new kept made
           first.files first.told result so (well_ended result end so first.ended) first.options.order first.order made.stored
 
 -- ---- the second call

@@ -1,16 +1,20 @@
 -- Words spell bounded limits of a run, and a number for which an image can be generated.
-use Rattle.std.proofs.Common.{◌≡◌, ◌≤◌, ◌&&◌, ℕ, Bool, true, false, cond, codes, nat_le, List, Option, Some, None, refl, subst, arith}
+use Rattle.std.proofs.Common.{◌≡◌, ◌≤◌, ◌&&◌, ℕ, Bool, true, false, cond, codes, nat_le, List, Option, Some, None, refl, subst, sym, arith}
 use Rattle.std.proofs.lemmas.Bool.Decides.{nat_tests}
 use Rattle.std.specs.Prelude.{IfSome, option_and_then}
 use Rattle.std.specs.Str.{bytes_eq}
+use Rattle.command_words.specs.declared.commands.Keeping.{Keeping}
+use Rattle.command_words.specs.declared.commands.Keeping.TheVariants.{History, Nothing}
 use Rattle.command_words.specs.declared.commands.Limits.{Limits}
 use Rattle.command_words.specs.declared.commands.Target.{Target}
 use Rattle.command_words.specs.declared.numbers.Range.{Range}
 use Rattle.command_words.specs.Parts.{Part, Text, first_of, names_in, only_name, two_names, values_in}
 use Rattle.command_words.specs.Forms.{Form, line_of}
 use Rattle.command_words.specs.Numbers.{few_ranges, number_in, within}
-use Rattle.command_words.specs.Commands.{CommandValue, DEFAULT_LIMITS, command_of, forms, generate, generate_of, is_miss, limits_of, list, list_of, number_of, replay, replay_of, run, run_of, spells, target_of, translate, translate_of}
-use Rattle.vest_cli.specs.Words.{AreBounded, CanBeObeyed}
+use Rattle.command_words.specs.Commands.{CommandValue, DEFAULT_LIMITS, command_of, forms, generate, generate_of, is_miss, keeping_of, limits_of, list, list_of, number_of, order_by, replay, replay_of, run, run_of, spells, target_of, translate, translate_of}
+use Rattle.memory_core.specs.Limits.{KeepsEntries}
+use Rattle.vest_runs.specs.Keeping.{limit_by}
+use Rattle.vest_cli.specs.Words.{CanBeObeyed}
 
 abbrev Obeyable : Option CommandValue → Type 0
 Obeyable o = IfSome o CanBeObeyed
@@ -27,45 +31,69 @@ steps_bound n e = grind (arith, nat_tests)
 entries_bound : (n : ℕ) → few_entries n ≡ true → n ≤ 4194304
 entries_bound n e = grind (arith, nat_tests)
 
-abbrev limits_by : (budget events miss : Option ℕ) → Option Limits
-limits_by budget events miss = option_and_then (λ b. option_and_then (λ e. option_and_then (λ m. Some (record { budget = b; events = e; miss = m })) miss) (within few_entries events)) (within few_steps budget)
+-- the limits of the words are so
+record IsFew (limits : Limits) : Type 0 where
+  steps : limits.budget ≤ 1000000000000
+  entries : limits.events ≤ 4194304
 
-limits_bounded : (budget events miss : Option ℕ) → IfSome (limits_by budget events miss) AreBounded
-limits_bounded None events miss = tt
-limits_bounded (Some b) events miss = by_budget (few_steps b) refl
-  where
-    missed : (e : ℕ) (miss : Option ℕ) → b ≤ 1000000000000 → e ≤ 4194304
-        → IfSome (option_and_then (λ m. Some (record { budget = b; events = e; miss = m })) miss) AreBounded
-    missed e None steps entries = tt
-    missed e (Some m) steps entries = record { budget = steps; events = entries }
+module _ (keeping : Keeping) where
+  abbrev limits_by : (budget events miss : Option ℕ) → Option Limits
+  limits_by budget events miss = option_and_then (λ b. option_and_then (λ e. option_and_then (λ m. Some (record { budget = b; keeping = keeping; events = e; miss = m })) miss) (within few_entries events)) (within few_steps budget)
 
-    by_events : (e : ℕ) (t : Bool) → few_entries e ≡ t → b ≤ 1000000000000
-        → IfSome (option_and_then (λ e. option_and_then (λ m. Some (record { budget = b; events = e; miss = m })) miss) (cond t (Some e) None)) AreBounded
-    by_events e true is steps = missed e miss steps (entries_bound e is)
-    by_events e false is steps = tt
+  limits_bounded : (budget events miss : Option ℕ) → IfSome (limits_by budget events miss) IsFew
+  limits_bounded None events miss = tt
+  limits_bounded (Some b) events miss = by_budget (few_steps b) refl
+    where
+      missed : (e : ℕ) (miss : Option ℕ) → b ≤ 1000000000000 → e ≤ 4194304
+          → IfSome (option_and_then (λ m. Some (record { budget = b; keeping = keeping; events = e; miss = m })) miss) IsFew
+      missed e None steps entries = tt
+      missed e (Some m) steps entries = record { steps = steps; entries = entries }
 
-    entered : (events : Option ℕ) → b ≤ 1000000000000
-        → IfSome (option_and_then (λ e. option_and_then (λ m. Some (record { budget = b; events = e; miss = m })) miss) (within few_entries events)) AreBounded
-    entered None steps = tt
-    entered (Some e) steps = by_events e (few_entries e) refl steps
+      by_events : (e : ℕ) (t : Bool) → few_entries e ≡ t → b ≤ 1000000000000
+          → IfSome (option_and_then (λ e. option_and_then (λ m. Some (record { budget = b; keeping = keeping; events = e; miss = m })) miss) (cond t (Some e) None)) IsFew
+      by_events e true is steps = missed e miss steps (entries_bound e is)
+      by_events e false is steps = tt
 
-    by_budget : (t : Bool) → few_steps b ≡ t
-        → IfSome (option_and_then (λ b. option_and_then (λ e. option_and_then (λ m. Some (record { budget = b; events = e; miss = m })) miss) (within few_entries events)) (cond t (Some b) None)) AreBounded
-    by_budget true is = entered events (steps_bound b is)
-    by_budget false is = tt
+      entered : (events : Option ℕ) → b ≤ 1000000000000
+          → IfSome (option_and_then (λ e. option_and_then (λ m. Some (record { budget = b; keeping = keeping; events = e; miss = m })) miss) (within few_entries events)) IsFew
+      entered None steps = tt
+      entered (Some e) steps = by_events e (few_entries e) refl steps
+
+      by_budget : (t : Bool) → few_steps b ≡ t
+          → IfSome (option_and_then (λ b. option_and_then (λ e. option_and_then (λ m. Some (record { budget = b; keeping = keeping; events = e; miss = m })) miss) (within few_entries events)) (cond t (Some b) None)) IsFew
+      by_budget true is = entered events (steps_bound b is)
+      by_budget false is = tt
+
+-- whatever holds, holds where there is something
+if_any : {X : Type 0} (o : Option X) {K : Type 0} → K → IfSome o (λ _. K)
+if_any None k = tt
+if_any (Some x) k = k
+
+-- an order is asked for of a history that is kept
+module _ (name : Text) (limits : Limits) (target : Target) (few : IsFew limits) where
+  ordered : (keeping : Keeping) → limits.keeping ≡ keeping → (order : Option Text) (ranges : Option (List Range))
+      → Obeyable (option_and_then (λ o. Some (run name o)) (option_and_then (λ to. option_and_then (λ r. Some (record { limits = limits; ranges = r; target = target; order = to })) ranges) (order_by keeping order)))
+  ordered History is order None = tt
+  ordered History is order (Some r) = record {
+    budget = few.steps;
+    events = few.entries;
+    kept = if_any order (subst (λ (k : Keeping). KeepsEntries (limit_by k limits.events)) (sym is) tt);
+  }
+  ordered Nothing is None None = tt
+  ordered Nothing is None (Some r) = record { budget = few.steps; events = few.entries; kept = tt }
+  ordered Nothing is (Some to) ranges = tt
 
 run_can : (parts : List Part) → Obeyable (run_of parts)
 run_can parts =
     go (only_name (names_in parts)) (limits_of parts) (target_of parts) (few_ranges (values_in (codes "interpret") parts))
-    (limits_bounded (number_of (codes "budget") DEFAULT_LIMITS.budget parts) (number_of (codes "events") DEFAULT_LIMITS.events parts) (within is_miss (number_of (codes "miss") DEFAULT_LIMITS.miss parts)))
+    (limits_bounded (keeping_of parts) (number_of (codes "budget") DEFAULT_LIMITS.budget parts) (number_of (codes "events") DEFAULT_LIMITS.events parts) (within is_miss (number_of (codes "miss") DEFAULT_LIMITS.miss parts)))
   where
-    go : (name : Option Text) (limits : Option Limits) (target : Option Target) (ranges : Option (List Range)) → IfSome limits AreBounded
-        → Obeyable (option_and_then (λ n. option_and_then (λ o. Some (run n o)) (option_and_then (λ l. option_and_then (λ t. option_and_then (λ r. Some (record { limits = l; ranges = r; target = t; order = first_of (values_in (codes "order") parts) })) ranges) target) limits)) name)
-    go None limits target ranges bounded = tt
-    go (Some n) None target ranges bounded = tt
-    go (Some n) (Some l) None ranges bounded = tt
-    go (Some n) (Some l) (Some t) None bounded = tt
-    go (Some n) (Some l) (Some t) (Some r) bounded = bounded
+    go : (name : Option Text) (limits : Option Limits) (target : Option Target) (ranges : Option (List Range)) → IfSome limits IsFew
+        → Obeyable (option_and_then (λ n. option_and_then (λ o. Some (run n o)) (option_and_then (λ l. option_and_then (λ t. option_and_then (λ to. option_and_then (λ r. Some (record { limits = l; ranges = r; target = t; order = to })) ranges) (order_by l.keeping (first_of (values_in (codes "order") parts)))) target) limits)) name)
+    go None limits target ranges few = tt
+    go (Some n) None target ranges few = tt
+    go (Some n) (Some l) None ranges few = tt
+    go (Some n) (Some l) (Some t) ranges few = ordered n l t few l.keeping refl (first_of (values_in (codes "order") parts)) ranges
 
 translate_can : (parts : List Part) → Obeyable (translate_of parts)
 translate_can parts = go (two_names (names_in parts)) (target_of parts)

@@ -1,11 +1,9 @@
 -- What a replay found is mapped by the translation with its hints.
-use Rattle.std.proofs.Common.{◌≡◌, ◌≢◌, ◌∙◌, ℕ, Bool, true, false, codes, List, length, take, Option, None, Some, Ok, refl, sym, ap, subst, arith, inl, inr}
-use Rattle.std.specs.Prelude.{IsSome, IsTrue, MatchBool, String}
+use Rattle.std.proofs.Common.{◌≡◌, ◌∙◌, ℕ, Bool, true, false, codes, List, length, take, Option, None, Some, Ok, refl, sym, ap, subst, arith, inl, inr}
+use Rattle.std.specs.Prelude.{MatchBool, String}
 use Rattle.std.specs.Int.{w32, from_le_bytes}
-use Rattle.std.specs.Str.{bytes_eq}
 use Rattle.std.specs.declared.alloc.Global.{Global}
 use Rattle.std.proofs.lemmas.Slice.Eq.{bytes_eq-Decides}
-use Rattle.address_map.specs.Pairs.{Pair, word_at}
 use Rattle.block_law.specs.Translations.{Code}
 use Rattle.command_words.specs.Commands.{CommandValue, replay, translate}
 use Rattle.command_words.specs.declared.commands.Target.{Target as WordTarget}
@@ -15,12 +13,10 @@ use Rattle.image_file.specs.Values.{ImageValue}
 use Rattle.image_file.proofs.ReadLaws.{counts_ok, image_ok}
 use Rattle.image_meaning.specs.declared.target.Target.{Target}
 use Rattle.image_meaning.specs.declared.target.Target.TheVariants.{Original}
-use Rattle.run_files.specs.Hints.{WrittenHintsAreRead, hints_bytes, hints_of}
+use Rattle.run_files.specs.Hints.{WrittenHintsAreRead, hints_of}
 use Rattle.run_files.specs.Values.{OrderValue}
-use Rattle.stored_runs.specs.Found.{AreFound}
 use Rattle.translate.specs.Translated.{IsTranslated}
 use Rattle.translated_file.specs.Spelling.{spelling}
-use Rattle.vax_form.specs.Targets.{has}
 use Rattle.vest_files.specs.Hinted.{HintsAreMapped}
 use Rattle.vest_files.specs.Loading.{IsLoaded, IsOfImage, IsOfTranslated, Loads, is_translated}
 use Rattle.vest_files.specs.Stages.{IsFile}
@@ -35,10 +31,9 @@ use Rattle.vest_stops.specs.declared.status.Status.TheVariants as status
 use Rattle.vest_stops.specs.declared.stop.Stop.{Stop}
 use Rattle.vest_stops.specs.declared.stop.Stop.TheVariants.{Absent, Refused, ReadFault, TooLong, WantOfMemory}
 use Rattle.vt_outside.specs.Desk.{BothTold, DeskMeaning, Files, Puts}
-use Rattle.vest_cli.specs.Decided.{EndsARun}
-use Rattle.vest_cli.specs.Hints.{AreHintBytes, StoresHints}
+use Rattle.vest_cli.specs.Hints.{AreHintBytes}
 use Rattle.vest_cli.specs.Lent.{Lent}
-use Rattle.vest_cli.specs.Mapped.{FoundAreMapped, HasFound, HasTranslated, WhatWasFoundIsMapped}
+use Rattle.vest_cli.specs.Mapped.{FoundAreMapped, FoundIsMapped, HasFound, HasTranslated, WhatWasFoundIsMapped}
 use Rattle.vest_cli.specs.Replay.{HasOrder}
 use Rattle.vest_cli.specs.Run.{target_of}
 use Rattle.vest_cli.specs.Storing as storing
@@ -129,7 +124,11 @@ module _ (words : List (String Global)) (name file hints : List ℕ) (result : S
           })
 
 -- ---- what the second call made of them
-module _ (read_back : WrittenHintsAreRead) (maps : HintsAreMapped) (name file hints to : List ℕ) (first : Files) (left : Lent) (l : HasLeftHints name file hints first left) where
+pub found_is_mapped : HintsAreMapped → FoundIsMapped
+found_is_mapped maps target image order map addresses code address found translated there =
+    maps target image addresses code address translated there (found.found.each address there).block
+
+module _ (read_back : WrittenHintsAreRead) (maps : FoundIsMapped) (name file hints to : List ℕ) (first : Files) (left : Lent) (l : HasLeftHints name file hints first left) where
   -- the file that was written is that of the found addresses
   made_of : (asked : Target) (bytes written : List ℕ) → l.files name ≡ Some bytes → IsTranslatedFile asked bytes (Some hints) (Some l.files) written
       → (last : Files) → last to ≡ Some written → FoundAreMapped name file to asked first last
@@ -157,7 +156,7 @@ module _ (read_back : WrittenHintsAreRead) (maps : HintsAreMapped) (name file hi
         hinted = made.code;
         translated = translated;
         there = there ∙ ap Some (made.is ∙ (λ i. spelling (version_of asked) (same_image i) (same_hints i) made.code.words made.code.map));
-        mapped = λ address found. maps asked l.image addresses made.code address translated found (l.hinted.found.found.each address found).block;
+        mapped = λ address found. maps asked l.image l.order l.code.map addresses made.code address l.hinted.found translated found;
       }
 
   written_by : (asked : Target) (before after : DeskMeaning) → before.files ≡ Some l.files → (made : Translates asked dones.Ok name to (Some hints) before after)
@@ -198,6 +197,6 @@ module _ (read_back : WrittenHintsAreRead) (maps : HintsAreMapped) (name file hi
           let only : OnlyTranslates (target_of target) end name to (Some hints) before after kept = subst (λ (c : CommandValue). Does c end before after kept) one does in
           translated_by (target_of target) end (sym h.ended ∙ so) before.desk after.desk (h.over ∙ l.told) only.translates
 
-pub what_was_found_is_mapped : WrittenHintsAreRead → HintsAreMapped → WhatWasFoundIsMapped
+pub what_was_found_is_mapped : WrittenHintsAreRead → FoundIsMapped → WhatWasFoundIsMapped
 what_was_found_is_mapped read_back maps words others name file hints to target result again files old new before after kept kept' first second =
     is_mapped_by read_back maps name file hints to files new (has_left_hints words name file hints result files old new kept first) others target again before after kept' second

@@ -6,10 +6,11 @@ use Rattle.vt_outside.specs.Sink.{SinkMeaning}
 use Rattle.vt_outside.specs.Desk.{BothTold, DeskMeaning, Files, Puts as PutsAll, PutsPart}
 use Rattle.memory_core.specs.declared.entry.Entry.{Entry}
 use Rattle.memory_core.specs.declared.entry.SetUp.{SetUp}
+use Rattle.memory_core.specs.Limits.{KeepsEntries}
 use Rattle.tie_switch.specs.Processors.{ProcessorValue, processor_of}
 use Rattle.vest_runs.specs.Order.{order_kept, order_made}
 use Rattle.vest_runs.specs.Delivery.{DeliversRun}
-use Rattle.vest_runs.specs.Keeping.{HasKept, processors_of, set_up_of}
+use Rattle.vest_runs.specs.Keeping.{HasKept, limit_of, processors_of, set_up_of}
 use Rattle.vest_runs.specs.Kept.{KeptValue}
 use Rattle.vest_stops.specs.Files.{SameFiles}
 use Rattle.vest_stops.specs.declared.status.Done.{Done}
@@ -47,6 +48,10 @@ pub unasked_is : (result run : Done) (to : Option (List ℕ)) (bytes : List ℕ)
 unasked_is result run to bytes old new none (storing.left why is same) = is
 unasked_is result run to bytes old new none (storing.stored name asked sent is writes) = is
 unasked_is result run to bytes old new none (storing.failed name asked sent is writes) = absurd (let clash : None ≡ Some name = sym none ∙ asked in cc clash)
+
+-- ---- a run that was made keeps its history where its words say so
+pub keeps_entries : (run : Run) → HasMade run → KeepsEntries (limit_of run.task.limits) → KeepsEntries run.memory.set_up.limit
+keeps_entries run made keeps = subst KeepsEntries (sym (ap (λ (of : SetUp). of.limit) made.set_up)) keeps
 
 -- ---- what was made is what is kept
 pub kept_order : (history : List Entry) (input : List ℕ) (processors : List ProcessorValue) (kept : KeptValue) → kept.history ≡ history → kept.input ≡ input → kept.processors ≡ processors

@@ -17,11 +17,12 @@ use Rattle.tie_switch.specs.Turns.{has_ended}
 use Rattle.vest_cli.specs.declared.execute.Run.{Run}
 use Rattle.vest_cli.specs.declared.execute.Task.{Task}
 use Rattle.run_threads.specs.Runs.{RunningValue}
+use Rattle.vest_runs.specs.Keeping.{limit_of}
 use Rattle.vest_runs.specs.Threads.{HasRun}
 
--- what a run starts with: its history has at most as many entries as the limits allow
+-- what a run starts with: it counts what the limits say, and at most as many
 abbrev pub running_of : ImageValue → (input : List ℕ) → Limits → RunningValue
-running_of image input limits = record { set_up = record { image = image; input = input; limit = limits.events; miss = limits.miss }; budget = limits.budget }
+running_of image input limits = record { set_up = record { image = image; input = input; limit = limit_of limits; miss = limits.miss }; budget = limits.budget }
 
 -- what a task starts with
 abbrev pub started : Task → RunningValue

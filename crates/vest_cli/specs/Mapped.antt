@@ -1,7 +1,7 @@
 -- What a replay found is mapped by the translation with its hints.
 use Rattle.std.specs.Prelude.{◌≡◌, ◌≢◌, ℕ, IsSome, IsTrue, List, length, Some, String}
 use Rattle.std.specs.declared.alloc.Global.{Global}
-use Rattle.address_map.specs.Pairs.{word_at}
+use Rattle.address_map.specs.Pairs.{Pair, word_at}
 use Rattle.block_law.specs.Translations.{Code}
 use Rattle.command_words.specs.Commands.{replay, translate}
 use Rattle.command_words.specs.declared.commands.Target.{Target as WordTarget}
@@ -63,3 +63,8 @@ abbrev pub WhatWasFoundIsMapped : Type 0
 WhatWasFoundIsMapped = (words others : List (String Global)) (name file hints to : List ℕ) (target : WordTarget) (result again : Status) (files : Files) (old new before after : Lent) (kept kept' : KeptValue)
     → HasFound words name file hints result files old new kept → HasTranslated others name to hints target again new before after kept'
     → (last : Files) × (after.desk.files ≡ Some last) × FoundAreMapped name file to (target_of target) files last
+
+-- what an order finds of an image is in the map of the image's translation with these hints, whichever map lacked it before
+abbrev pub FoundIsMapped : Type 0
+FoundIsMapped = (target : Target) (image : ImageValue) (order : OrderValue) (map : List Pair) (addresses : List ℕ) (code : Code) (address : ℕ)
+    → AreFound image order map addresses → IsTranslated target image addresses code → IsTrue (has addresses address) → IsSome (word_at code.map address)

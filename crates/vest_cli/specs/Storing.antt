@@ -1,8 +1,10 @@
 -- What is stored behind what went out: the file of a run's order, for one.
 use Rattle.std.specs.Prelude.{◌≡◌, ◌≢◌, ◌⊎◌, Bool, true, false, ℕ, List, Option, None, Some, length}
 use Rattle.std.specs.String.{string_bytes}
+use Rattle.memory_core.specs.Limits.{KeepsEntries}
 use Rattle.vt_outside.specs.Desk.{DeskMeaning}
 use Rattle.vest_files.specs.Translate.{Writes}
+use Rattle.vest_runs.specs.Keeping.{limit_of}
 use Rattle.vest_runs.specs.Order.{HasRoom}
 use Rattle.vest_stops.specs.Files.{SameFiles}
 use Rattle.vest_stops.specs.declared.status.Done.{Done}
@@ -28,7 +30,8 @@ abbrev pub name_of : Option OrderFile → Option (List ℕ)
 name_of None = None
 name_of (Some file) = Some (string_bytes file.name)
 
--- its room is enough for whatever run of the task
+-- its room is enough for whatever run of the task, which keeps its history
 abbrev pub HasRoomFor : Task → Option OrderFile → Type 0
 HasRoomFor task None = Unit {0}
-HasRoomFor task (Some file) = HasRoom (length task.loaded.image.threads) (length task.taken.items) task.limits.events file.room
+HasRoomFor task (Some file) =
+    KeepsEntries (limit_of task.limits) × HasRoom (length task.loaded.image.threads) (length task.taken.items) task.limits.events file.room

@@ -27,7 +27,7 @@ use tie_switch::{Processor, made_ready};
 use vax_form::WantOfMemory;
 use vest_core::World;
 use vest_files::Loaded;
-use vest_runs::{Kept, keep};
+use vest_runs::{Kept, keep, limit_of};
 use vt_outside::Gate;
 
 /// What is to run: an image with its translation, the input, the limits, and the addresses that threads interpret.
@@ -63,7 +63,7 @@ fn set_up(
         image,
         input,
         limits.budget,
-        limits.events,
+        limit_of(limits),
         limits.miss,
     )
 }
@@ -108,12 +108,14 @@ fn set_up_alone(
     ensures legal { IfOk result (λ world. (setting : Setting) → setting.meaning.pages ≡ image.now.pages → IsLegalWorld setting world) }
 {
     let input = input.to_vec(alloc)?;
-    let Limits {
-        budget,
-        events,
-        miss,
-    } = limits;
-    World::new(alloc, image, input, budget, events, miss)
+    World::new(
+        alloc,
+        image,
+        input,
+        limits.budget,
+        limit_of(limits),
+        limits.miss,
+    )
 }
 
 // The memory and the processor that a run of one thread leaves.

@@ -1,6 +1,6 @@
 //! What holds of all calls. Its functions do nothing.
 ghost use Rattle.vest_cli.specs.Again.{ReplayGivesItsRun};
-ghost use Rattle.vest_cli.specs.Mapped.{WhatWasFoundIsMapped};
+ghost use Rattle.vest_cli.specs.Mapped.{FoundIsMapped, WhatWasFoundIsMapped};
 
 use run_files::laws::written_hints_are_read;
 use stored_runs::laws::headline_is_replayed;
@@ -18,6 +18,14 @@ pub fn replay_gives_its_run()
     translation_law();
 }
 
+/// Each address that an order finds of an image, and that a map lacks, is in the map of each translation of the image that has what
+/// was found as its hints.
+pub fn found_is_mapped()
+    ensures { FoundIsMapped }
+{
+    hints_are_mapped();
+}
+
 /// A call of `replay` of an image with a file for hints of another name than the image's, over a desk that tells its files, ended with
 /// status 0, 4 or 5; and a call of `translate` of that image with these hints, over the files that it left, ended with 0: each address that
 /// the first found, which its translation lacks, is in the map of the file that the second wrote.
@@ -25,5 +33,5 @@ pub fn what_was_found_is_mapped()
     ensures { WhatWasFoundIsMapped }
 {
     written_hints_are_read();
-    hints_are_mapped();
+    found_is_mapped();
 }

@@ -35,7 +35,7 @@ pub(crate) fn run<D: Desk, I: Source, K: Sink, E: Sink>(
     kept: &mut Kept,
 ) -> Result<Done, Halt>
     requires nothing { kept.old ≡ nothing_kept }
-    requires few { AreBounded options.now.limits }
+    requires few { AreBounded (options_value options.now) }
     ensures runs { IfOk result (λ done. Runs done name.now (options_value options.now)
         (lent (D.meaning desk.old) (I.meaning input.old) (K.meaning out.old) (E.meaning report.old))
         (lent (D.meaning desk.new) (I.meaning input.new) (K.meaning out.new) (E.meaning report.new))

@@ -1,10 +1,12 @@
 // What is stored behind output and report: the file of a run's order, where one is asked for.
-ghost use Rattle.std.specs.Prelude.{◌≡◌, ◌≤◌, None, Some, length, map, IfOk};
+ghost use Rattle.std.specs.Prelude.{◌≡◌, ◌≤◌, None, Some, length, map, IfOk, IfSome};
 ghost use Rattle.command_words.specs.Answers.{options_value};
 ghost use Rattle.image_file.specs.Whole.{IsWhole};
+ghost use Rattle.memory_core.specs.Limits.{KeepsEntries};
 ghost use Rattle.run_files.specs.Limits.{MOST_INPUT, MOST_PICKS};
 ghost use Rattle.run_files.specs.Spelling.{order_bytes};
 ghost use Rattle.tie_switch.specs.Processors.{processor_of};
+ghost use Rattle.vest_runs.specs.Keeping.{limit_of};
 ghost use Rattle.vest_runs.specs.Order.{order_made};
 ghost use Rattle.vest_cli.specs.Made.{HasMade};
 ghost use Rattle.vest_cli.specs.Storing.{HasRoomFor, Stores, has_failed, name_of};
@@ -32,6 +34,7 @@ pub(crate) fn order_file(
     requires whole { IsWhole task.now.loaded.image }
     requires input { length task.now.taken.items ≤ MOST_INPUT }
     requires events { task.now.limits.events ≤ MOST_PICKS }
+    requires kept { IfSome (options_value options.now).order (λ _. KeepsEntries (limit_of task.now.limits)) }
     ensures name { IfOk result (λ file. name_of file ≡ (options_value options.now).order) }
     ensures room { IfOk result (HasRoomFor task.now) }
 {
@@ -75,7 +78,9 @@ pub(crate) fn store<D: Desk>(done: Done, file: Option<OrderFile>, run: &Run, des
     let Some(file) = file else {
         return done;
     };
-    let history = run.memory.history();
+    let Some(history) = run.memory.history() else {
+        unreachable!()
+    };
     let bytes = file.room.filled(history, &run.task.taken, &run.processors);
     write_behind(done, &file.name, &bytes, desk)
 }

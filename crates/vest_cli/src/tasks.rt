@@ -85,7 +85,7 @@ pub(crate) fn waiting_of<D: Desk, I: Source>(
     desk: &mut D,
     input: &mut I,
 ) -> Result<Waiting, Stop>
-    requires { AreBounded options.now.limits }
+    requires { AreBounded (options_value options.now) }
     ensures waiting { IfOk result (IsToRun name.now (options_value options.now) (D.meaning desk.old).files (I.meaning input.old) (I.meaning input.new)) }
     ensures why { IfErr result (λ stop. StopsRun stop (target_of options.now.target) name.now
         (D.meaning desk.old) (D.meaning desk.new) (I.meaning input.old) (I.meaning input.new)) }

@@ -8,7 +8,10 @@ use Rattle.block_law.specs.Translations.{Permit}
 use Rattle.image_file.specs.Start.{start_state}
 use Rattle.image_file.specs.declared.image.Start.{Start}
 use Rattle.memory_core.specs.declared.entry.Entry.{Entry}
+use Rattle.memory_core.specs.declared.entry.Limit.{Limit}
+use Rattle.memory_core.specs.declared.entry.Limit.TheVariants.{Entries, Puts}
 use Rattle.memory_core.specs.declared.entry.SetUp.{SetUp}
+use Rattle.memory_core.specs.Limits.{IsAtLimit}
 use Rattle.memory_core.specs.Order.{own}
 use Rattle.vax_driven.specs.Driven.{Driven, World, driven_on, ended, run_before, runs_from, walk}
 use Rattle.vax_driven.specs.Threads.{Threads, thread_run}
@@ -22,12 +25,12 @@ use Rattle.legal_history.specs.Law.{HasHeadline}
 use Rattle.legal_history.specs.OneHistory.{world_of}
 use Rattle.system_model.specs.Counted.{order}
 use Rattle.system_model.specs.Interpreted.{threads_of}
-use Rattle.system_model.specs.Legal.{IsAsking, IsLegal, IsReached, IsSpent, starts}
+use Rattle.system_model.specs.Legal.{AsksToCount, IsLegal, IsReached, IsSpent, starts}
 use Rattle.system_model.specs.Processors.{Mode, New, Runs, Interprets, Ended, Processor, Reaches, Begins, Steps, Takes, Turn, Went, Asks, Over, Stuck, alpha_turn, begun, left, mode_by, mode_of, moment_of, placed, stepped, tie_turn, tied, turn, turn_in}
 use Rattle.system_model.specs.Settings.{Setting, goes_on}
 use Rattle.system_model.specs.Steps.{Last, Comes, Fails, Place, Inside, Lands, Leaves, Next, Moves, Wants, next, settled_last}
 use Rattle.system_model.specs.Steps as step
-use Rattle.vest_runs.specs.Threads.{SpentByBudget, SpentByLimit, SpentHasCause}
+use Rattle.vest_runs.specs.Threads.{AskedToCount, SpentByBudget, SpentByLimit, SpentHasCause}
 use Rattle.vest_runs.specs.Report.{is_spent}
 
 -- ---- no turn leads to a spent processor
@@ -124,17 +127,18 @@ few_steps setting permit of entries processors headline thread p at =
 -- ---- so a spent one has its cause
 module _ (setting : Setting) (of : SetUp) (budget : ℕ) (entries : List Entry) where
   of_reached : (thread : ℕ) (start : VaxState) (p : Processor) → IsReached setting budget of.limit entries thread start p → is_spent p.mode ≡ true
-      → (p.steps ≡ budget) ⊎ (length entries ≡ of.limit)
+      → (p.steps ≡ budget) ⊎ (AskedToCount setting of.limit p × IsAtLimit of.limit entries)
   of_reached thread start p reached e = by reached.now
     where
-      by : (p ≡ reached.was) ⊎ IsSpent setting budget of.limit entries reached.was p → (p.steps ≡ budget) ⊎ (length entries ≡ of.limit)
+      by : (p ≡ reached.was) ⊎ IsSpent setting budget of.limit entries reached.was p → (p.steps ≡ budget) ⊎ (AskedToCount setting of.limit p × IsAtLimit of.limit entries)
       by (inl same) = absurd (let never = unspent_reached setting (begun thread start) reached.was reached.was.steps _ refl reached.reaches in
           let is : is_spent reached.was.mode ≡ true = subst (λ (q : Processor). is_spent q.mode ≡ true) same e in cc)
       by (inr s) = cause s.cause
         where
-          cause : (reached.was.steps ≡ budget) ⊎ (IsAsking (turn setting reached.was) × (length entries ≡ of.limit)) → (p.steps ≡ budget) ⊎ (length entries ≡ of.limit)
+          cause : (reached.was.steps ≡ budget) ⊎ (AsksToCount of.limit (turn setting reached.was) × IsAtLimit of.limit entries)
+              → (p.steps ≡ budget) ⊎ (AskedToCount setting of.limit p × IsAtLimit of.limit entries)
           cause (inl out) = inl (ap (λ (q : Processor). q.steps) s.is ∙ out)
-          cause (inr full) = inr full.1
+          cause (inr full) = inr (record { was = reached.was; is = s.is; asks = full.0 }, full.1)
 
   start_of : (threads : List Start) (k : ℕ) → k < length threads → (start : Start) × (slice_get threads k ≡ Some start)
   start_of [] k lt = absurd (omega arith)
@@ -142,7 +146,7 @@ module _ (setting : Setting) (of : SetUp) (budget : ℕ) (entries : List Entry) 
   start_of (s ∷ threads) (suc k) lt = start_of threads k (omega arith)
 
   pub all_have_cause : (permit : Permit) (processors : List Processor) → IsLegal setting of budget entries processors → HasHeadline setting permit of entries processors
-      → (thread : ℕ) (p : Processor) → slice_get processors thread ≡ Some p → SpentHasCause budget of.limit entries (length processors) thread p
+      → (thread : ℕ) (p : Processor) → slice_get processors thread ≡ Some p → SpentHasCause setting budget of.limit entries (length processors) thread p
   all_have_cause permit processors legal headline thread p at spent =
       by (of_reached thread (start_state start.0) p (legal.each thread (start_state start.0) p (ap (option_map start_state) start.1) at) spent)
     where
@@ -152,6 +156,11 @@ module _ (setting : Setting) (of : SetUp) (budget : ℕ) (entries : List Entry) 
           let count = legal.count in
           start_of of.image.threads thread (omega (arith, lt, count))
 
-      by : (p.steps ≡ budget) ⊎ (length entries ≡ of.limit) → SpentByBudget budget p (own thread entries) ⊎ SpentByLimit of.limit entries (length processors)
+      by_limit : (limit : Limit) → AskedToCount setting limit p → IsAtLimit limit entries → SpentByLimit setting limit entries (length processors) p
+      by_limit (Entries n) asked full = (full, let few = headline.few_entries in omega (arith, few, full))
+      by_limit (Puts n) asked full = (full, asked)
+
+      by : (p.steps ≡ budget) ⊎ (AskedToCount setting of.limit p × IsAtLimit of.limit entries)
+          → SpentByBudget budget p (own thread entries) ⊎ SpentByLimit setting of.limit entries (length processors) p
       by (inl out) = inl (out, let few = few_steps setting permit of entries processors headline thread p at in omega (arith, few, out))
-      by (inr full) = inr (full, let few = headline.few_entries in omega (arith, few, full))
+      by (inr full) = inr (by_limit of.limit full.0 full.1)

@@ -1,7 +1,11 @@
 -- A run that was made, as it is kept.
 use Rattle.std.specs.Prelude.{◌≡◌, ℕ, List, Some, map}
+use Rattle.command_words.specs.declared.commands.Keeping.{Keeping}
+use Rattle.command_words.specs.declared.commands.Keeping.TheVariants.{History, Nothing}
 use Rattle.command_words.specs.declared.commands.Limits.{Limits}
 use Rattle.image_file.specs.Values.{ImageValue}
+use Rattle.memory_core.specs.declared.entry.Limit.{Limit}
+use Rattle.memory_core.specs.declared.entry.Limit.TheVariants.{Entries, Puts}
 use Rattle.memory_core.specs.declared.entry.SetUp.{SetUp}
 use Rattle.block_law.specs.Translations.{Code}
 use Rattle.image_meaning.specs.Permits.{permit_of}
@@ -13,6 +17,14 @@ use Rattle.tie_switch.specs.Settings.{image_setting}
 use Rattle.tie_switch.specs.Processors.{processor_of}
 use Rattle.vest_runs.specs.Kept.{KeptValue}
 use Rattle.vest_runs.specs.Threads.{HasRun}
+
+-- what is counted in a run by what it keeps of its references: entries, or bytes that are put; and how many at most
+abbrev pub limit_by : Keeping → (events : ℕ) → Limit
+limit_by History events = Entries events
+limit_by Nothing events = Puts events
+
+abbrev pub limit_of : Limits → Limit
+limit_of limits = limit_by limits.keeping limits.events
 
 -- the memory that the history is of
 abbrev pub set_up_of : ImageValue → KeptValue → SetUp
@@ -33,7 +45,7 @@ pub record HasKept (image : ImageValue) (target : Target) (code : Code) (taken :
   pub ranges : kept.ranges ≡ interpreted
   pub input : kept.input ≡ taken
   pub budget : kept.budget ≡ limits.budget
-  pub limit : kept.limit ≡ limits.events
+  pub limit : kept.limit ≡ limit_of limits
   pub miss : kept.miss ≡ limits.miss
   -- the history and the processors are a legal run, in which all threads have ended, and so what the VAX threads do, by
   -- accesses that code for the target may make

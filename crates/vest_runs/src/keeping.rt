@@ -1,18 +1,28 @@
-// Keeps a run.
+// Keeps a run, and what its limits count.
 ghost use Rattle.std.specs.Prelude.{◌≡◌, map};
 ghost use Rattle.image_meaning.specs.Permits.{permit_of};
 ghost use Rattle.image_meaning.specs.declared.target.Target.{Target};
 ghost use Rattle.tie_switch.specs.Processors.{processor_of};
 ghost use Rattle.tie_switch.specs.Settings.{image_setting};
-ghost use Rattle.vest_runs.specs.Keeping.{HasKept};
+ghost use Rattle.vest_runs.specs.Keeping.{HasKept, limit_of};
 ghost use Rattle.vest_runs.specs.Threads.{HasRun};
 
 use crate::kept::Kept;
-use command_words::Limits;
+use command_words::{Keeping, Limits};
 use image_file::Image;
-use memory_core::MemState;
+use memory_core::{Limit, MemState};
 use system_model::{Range, Translation};
 use tie_switch::Processor;
+
+/// What the memory of a run counts by these limits.
+pub fn limit_of(limits: Limits) -> Limit
+    ensures { result ≡ limit_of limits }
+{
+    match limits.keeping {
+        Keeping::History => Limit::Entries(limits.events),
+        Keeping::Nothing => Limit::Puts(u64::from(limits.events)),
+    }
+}
 
 /// Keeps a run of an image with its translation on an input, by these limits, in which threads interpret these ranges: its memory
 /// and its processors. It takes no memory.
@@ -26,7 +36,7 @@ pub fn keep(
     processors: Vec<Processor>,
     kept: &mut Kept,
 )
-    requires set_up { memory.set_up ≡ record { image = image; input = input.items; limit = limits.events; miss = limits.miss } }
+    requires set_up { memory.set_up ≡ record { image = image; input = input.items; limit = limit_of limits; miss = limits.miss } }
     ensures kept { (target : Target) → HasRun (image_setting image.pages translation ranges.items) (permit_of target image.pages) memory.set_up limits.budget memory.history (map processor_of processors.items)
         → HasKept image target translation input.items limits ranges.items kept.new }
     ensures history { kept.new.history ≡ memory.history }
@@ -35,10 +45,10 @@ pub fn keep(
     *kept = Kept {
         image: Some(image),
         input,
-        history: memory.take_history(),
+        memory: Some(memory),
         processors,
         budget: limits.budget,
-        limit: limits.events,
+        limit: limit_of(limits),
         miss: limits.miss,
         translation: Some(translation),
         ranges,

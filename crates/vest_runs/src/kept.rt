@@ -1,34 +1,34 @@
 // What is kept of a call that made a run.
 
 use image_file::Image;
-use memory_core::Entry;
+use memory_core::{Limit, MemState};
 use std::alloc::Global;
 use std::marker::Model;
 use system_model::{Range, Translation};
 use tie_switch::Processor;
 
-/// The image, the input, the history and the ended processors of the last run, the numbers that it was made with: at most
-/// `budget` steps of a processor, at most `limit` entries, and the miss number of store conditionals; and what ran: the
+/// The image, the input, the memory, with its history, and the ended processors of the last run, the numbers that it was made with: at
+/// most `budget` steps of a processor, the limit of what is counted, and the miss number of store conditionals; and what ran: the
 /// translation, and the addresses that threads interpreted all the same.
 #[derive(Drop)]
 pub struct Kept {
     pub image: Option<Image>,
     pub input: Vec<u8>,
-    pub history: Vec<Entry>,
+    pub memory: Option<MemState>,
     pub processors: Vec<Processor>,
     pub budget: u64,
-    pub limit: u32,
+    pub limit: Limit,
     pub miss: u16,
     pub translation: Option<Translation>,
     pub ranges: Vec<Range>,
 }
 
 impl Model for Kept {
-    ghost use Rattle.vest_runs.specs.Kept.{KeptValue};
+    ghost use Rattle.vest_runs.specs.Kept.{KeptValue, history_of};
 
     ghost Value = { KeptValue };
 
-    ghost view = { λ k. record { image = k.image; input = k.input.items; history = k.history.items; processors = k.processors.items; budget = k.budget; limit = k.limit; miss = k.miss; translation = k.translation; ranges = k.ranges.items } };
+    ghost view = { λ k. record { image = k.image; input = k.input.items; history = history_of k.memory; processors = k.processors.items; budget = k.budget; limit = k.limit; miss = k.miss; translation = k.translation; ranges = k.ranges.items } };
 }
 
 impl Kept {
@@ -42,10 +42,10 @@ impl Kept {
         Kept {
             image: None,
             input: Vec::new(alloc),
-            history: Vec::new(alloc),
+            memory: None,
             processors: Vec::new(alloc),
             budget: 0,
-            limit: 0,
+            limit: Limit::Entries(0),
             miss: 0,
             translation: None,
             ranges: Vec::new(alloc),

@@ -15,6 +15,6 @@ mod order;
 pub use delivery::deliver;
 pub use generated::lines_of;
 pub use input::{input_limit_is_as_stated, read_input};
-pub use keeping::keep;
+pub use keeping::{keep, limit_of};
 pub use kept::Kept;
 pub use order::OrderRoom;

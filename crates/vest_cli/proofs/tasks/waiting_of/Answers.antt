@@ -1,8 +1,11 @@
 -- Behind the task memory may run out for the file of its order.
-use Rattle.std.proofs.Common.{ap, arith, refl}
+use Rattle.std.proofs.Common.{ap, arith, refl, subst, sym}
+use Rattle.std.specs.Prelude.{IfSome}
 use Rattle.std.proofs.lemmas.Result.{err_from_is_err_and}
 use Rattle.command_words.specs.Answers.{options_value}
 use Rattle.command_words.specs.declared.commands.Limits.{Limits}
+use Rattle.memory_core.specs.Limits.{KeepsEntries}
+use Rattle.vest_runs.specs.Keeping.{limit_of}
 use Rattle.vest_cli.specs.Run.{target_of}
 use Rattle.vest_cli.proofs.Halting.{stops_short}
 use Rattle.vest_cli.proofs.RunDecided.{runs_on}
@@ -12,6 +15,10 @@ pub order_file-requires-clause-events : goal.order_file-requires-clause-events
 order_file-requires-clause-events g c =
     let same = ap (λ (l : Limits). l.events) c.in_ok-task.ensures.task.same_limits in
     omega (arith, same, c.requires.events)
+
+pub order_file-requires-clause-kept : goal.order_file-requires-clause-kept
+order_file-requires-clause-kept g c =
+    subst (λ (l : Limits). IfSome (options_value c.args.options.now).order (λ _. KeepsEntries (limit_of l))) (sym c.in_ok-task.ensures.task.same_limits) c.requires.kept
 
 pub returns-in_err-order-clause-why : goal.returns-in_err-order-clause-why
 returns-in_err-order-clause-why g c =
