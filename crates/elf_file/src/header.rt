@@ -8,7 +8,7 @@ use crate::refusal::ElfRefusal;
 use image_file::word_at;
 
 /// Where the program begins, and where its program headers and its section headers stand, of what size, and how many.
-#[derive(Clone, Copy, Debug, PartialEq, Eq)]
+#[derive(Clone, Copy)]
 pub struct Header {
     pub entry: u32,
     pub programs_at: u32,

@@ -9,7 +9,7 @@ use std::alloc::{AllocError, AllocFailed};
 pub type Numbers = ArrayVec<u64, 4>;
 
 /// Why a file has no program, or no symbols that can be read: the first reason in the order of the checks.
-#[derive(Clone, Copy, Debug, PartialEq, Eq)]
+#[derive(Clone, Copy, Debug)]
 pub enum ElfRefusal {
     /// The file ends inside its header.
     Short { length: u64 },

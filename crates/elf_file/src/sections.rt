@@ -9,7 +9,7 @@ use image_file::word_at;
 use std::alloc::{AllocError, Global};
 
 /// A section header: of which type the section is, and where it stands in the file.
-#[derive(Clone, Copy, Debug, PartialEq, Eq)]
+#[derive(Clone, Copy)]
 pub struct SectionHeader {
     pub kind: u32,
     pub flags: u32,

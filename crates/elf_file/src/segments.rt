@@ -10,7 +10,7 @@ use image_file::word_at;
 use std::alloc::{AllocError, Global};
 
 /// A program header: where its bytes stand in the file and in memory, and how many there are in each.
-#[derive(Clone, Copy, Debug, PartialEq, Eq)]
+#[derive(Clone, Copy)]
 pub struct SegmentHeader {
     pub kind: u32,
     pub offset: u32,

@@ -16,7 +16,7 @@ use image_file::word_at;
 use std::alloc::{AllocError, Global};
 
 /// A symbol: its value, its type among other information, and the number of the section that defines it.
-#[derive(Clone, Copy, Debug, PartialEq, Eq)]
+#[derive(Clone, Copy)]
 pub struct Symbol {
     pub value: u32,
     pub info: u8,

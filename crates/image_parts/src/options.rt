@@ -2,7 +2,7 @@
 use std::marker::Model;
 
 /// Which of a file's symbols of functions become entries.
-#[derive(Clone, Copy, Debug, PartialEq, Eq)]
+#[derive(Clone, Copy, Debug)]
 pub enum Functions {
     /// All, as procedures that CALLS and CALLG call: each begins with two bytes that name registers.
     Procedures,

@@ -11,7 +11,7 @@ use std::alloc::{AllocError, AllocFailed};
 pub use elf_file::Numbers;
 
 /// Who refuses: the rules of ELF files and of the images that they give, the rules of parts, or the image format.
-#[derive(Clone, Copy, Debug, PartialEq, Eq)]
+#[derive(Clone, Copy, Debug)]
 pub enum Judge {
     OfElf,
     OfParts,
@@ -19,7 +19,7 @@ pub enum Judge {
 }
 
 /// Why no image is made: the first reason in the order of the checks.
-#[derive(Clone, Copy, Debug, PartialEq, Eq)]
+#[derive(Clone, Copy, Debug)]
 pub enum MakeRefusal {
     /// The file is no static executable for the VAX, or its symbols cannot be read.
     Elf(ElfRefusal),

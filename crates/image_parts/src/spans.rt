@@ -8,7 +8,7 @@ use std::alloc::{AllocError, Global};
 use vax_form::PAGE_SIZE;
 
 /// A part of memory, from the start of a page to `end`, which is behind it.
-#[derive(Clone, Copy, Debug, PartialEq, Eq)]
+#[derive(Clone, Copy)]
 pub struct Span {
     pub start: u32,
     pub end: u32,

@@ -45,11 +45,15 @@ section_line n s =
     codes "section" ++ number n ++ address_text s.start ++ codes " to" ++ address_text (s.start + s.size - 1)
     ++ rights_text s.writable ++ number (length s.stored) ++ 10 ∷ []
 
+-- an address of a table, behind the table's name and its number there
+abbrev pub address_line : (table : List ℕ) → ℕ → ℕ → List ℕ
+address_line table n address = table ++ number n ++ address_text address ++ 10 ∷ []
+
 abbrev pub entry_line : ℕ → ℕ → List ℕ
-entry_line n address = codes "entry" ++ number n ++ address_text address ++ 10 ∷ []
+entry_line = address_line (codes "entry")
 
 abbrev pub hint_line : ℕ → ℕ → List ℕ
-hint_line n address = codes "hint" ++ number n ++ address_text address ++ 10 ∷ []
+hint_line = address_line (codes "hint")
 
 -- ---- instructions
 

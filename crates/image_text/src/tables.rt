@@ -1,7 +1,7 @@
 // The lines of an image's tables, and of hints.
 ghost use Rattle.std.specs.Prelude.{◌≡◌, ◌<◌, ◌^◌, ◌+◌, ◌++◌, All, OnOk};
 ghost use Rattle.image_file.specs.Whole.{IsWhole};
-ghost use Rattle.image_text.specs.Lines.{entry_line, hint_line, numbered, register_text, rights_text, section_line, thread_line};
+ghost use Rattle.image_text.specs.Lines.{address_line, numbered, register_text, rights_text, section_line, thread_line};
 ghost use Rattle.image_text.specs.Text.{image_line, tables_text};
 
 use crate::put::{put_address, put_counted, put_digits, put_number};
@@ -79,21 +79,15 @@ fn put_section(out: &mut Vec<u8>, number: u64, section: &Section) -> Result<(), 
     Ok(())
 }
 
-fn put_entry(out: &mut Vec<u8>, number: u64, address: u32) -> Result<(), AllocError>
-    ensures { OnOk result (out.new.items ≡ out.old.items ++ entry_line number address) }
+fn put_address_line(
+    out: &mut Vec<u8>,
+    table: &[u8],
+    number: u64,
+    address: u32,
+) -> Result<(), AllocError>
+    ensures { OnOk result (out.new.items ≡ out.old.items ++ address_line table.now number address) }
 {
-    out.extend_from_slice(b"entry")?;
-    put_number(out, number)?;
-    put_address(out, address)?;
-    out.push(b'\n')?;
-    Ok(())
-}
-
-fn put_hint(out: &mut Vec<u8>, number: u64, address: u32) -> Result<(), AllocError>
-    ensures { OnOk result (out.new.items ≡ out.old.items ++ hint_line number address) }
-{
-    out.extend_from_slice(b"hint")?;
-    put_number(out, number)?;
+    put_counted(out, table, number)?;
     put_address(out, address)?;
     out.push(b'\n')?;
     Ok(())
@@ -118,20 +112,12 @@ fn put_sections(out: &mut Vec<u8>, sections: &[Section]) -> Result<(), AllocErro
     Ok(())
 }
 
-fn put_entries(out: &mut Vec<u8>, entries: &[u32]) -> Result<(), AllocError>
-    ensures { OnOk result (out.new.items ≡ out.old.items ++ numbered entry_line 0 entries.now) }
+// The lines of a table of addresses.
+fn put_address_lines(out: &mut Vec<u8>, table: &[u8], addresses: &[u32]) -> Result<(), AllocError>
+    ensures { OnOk result (out.new.items ≡ out.old.items ++ numbered (address_line table.now) 0 addresses.now) }
 {
-    for (number, address) in entries.iter().enumerate() {
-        put_entry(out, number as u64, *address)?;
-    }
-    Ok(())
-}
-
-fn put_hints(out: &mut Vec<u8>, hints: &[u32]) -> Result<(), AllocError>
-    ensures { OnOk result (out.new.items ≡ out.old.items ++ numbered hint_line 0 hints.now) }
-{
-    for (number, address) in hints.iter().enumerate() {
-        put_hint(out, number as u64, *address)?;
+    for (number, address) in addresses.iter().enumerate() {
+        put_address_line(out, table, number as u64, *address)?;
     }
     Ok(())
 }
@@ -145,7 +131,7 @@ pub fn put_tables(out: &mut Vec<u8>, image: &Image, hints: &[u32]) -> Result<(),
     put_image(out, image)?;
     put_threads(out, &image.threads)?;
     put_sections(out, &image.sections)?;
-    put_entries(out, &image.entries)?;
-    put_hints(out, hints)?;
+    put_address_lines(out, b"entry", &image.entries)?;
+    put_address_lines(out, b"hint", hints)?;
     Ok(())
 }

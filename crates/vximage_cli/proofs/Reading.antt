@@ -1,5 +1,5 @@
 -- Several reads of the desk, one after the other, seen from before the first.
-use Rattle.std.proofs.Common.{◌≡◌, ◌∙◌, refl, arith}
+use Rattle.std.proofs.Common.{◌∙◌, refl, arith}
 use Rattle.vt_outside.specs.Desk.{DeskMeaning}
 use Rattle.vest_stops.specs.Files.{SameFiles}
 

@@ -1,27 +1,10 @@
 -- Entries that a file lists: each line begins with an address, as `nm` prints them.
-use Rattle.std.specs.Prelude.{◌≡◌, ℕ, ◌+◌, ◌*◌, ◌==◌, ◌&&◌, ◌||◌, Bool, List, [], ◌∷◌, ◌++◌, Option, Some, None, option_and_then, length, position, take, unwrap_or, nat_le, nat_lt, Result, Ok, Err, if◌then◌else◌, Vec}
-use Rattle.std.specs.Char.{digit_value}
+use Rattle.std.specs.Prelude.{◌≡◌, ℕ, ◌+◌, ◌==◌, ◌||◌, Bool, List, [], ◌∷◌, ◌++◌, Option, Some, None, length, position, take, unwrap_or, Result, Ok, Err, if◌then◌else◌, Vec}
 use Rattle.std.specs.declared.alloc.Global.{Global}
+use Rattle.vximage_words.specs.Numbers.{hexadecimal}
 use Rattle.vximage_cli.specs.declared.entries.ListFault.{ListFault}
 use Rattle.vximage_cli.specs.declared.entries.ListFault.TheVariants.{NoAddress, WantOfMemory}
 
--- ---- hexadecimal numbers
--- at most eight digits, of either case, and no sign
-abbrev pub MOST_DIGITS : ℕ
-MOST_DIGITS = 8
-
-abbrev pub digit_of : ℕ → Option ℕ
-digit_of byte = if nat_lt (digit_value byte) 16 then Some (digit_value byte) else None
-
--- the number that digits go on to write
-abbrev pub digits_from : (value : ℕ) → List ℕ → Option ℕ
-digits_from value [] = Some value
-digits_from value (b ∷ bs) = option_and_then (λ digit. digits_from (16 * value + digit) bs) (digit_of b)
-
-abbrev pub hexadecimal : List ℕ → Option ℕ
-hexadecimal text = if nat_lt 0 (length text) && nat_le (length text) MOST_DIGITS then digits_from 0 text else None
-
--- ---- lines
 -- a line feed ends a line; behind the last one there is a line only where something stands
 abbrev pub LINE_FEED : ℕ
 LINE_FEED = 10

@@ -1,4 +1,3 @@
-pub mod Commands
 pub mod Entries
 pub mod Stopping
 pub mod Named

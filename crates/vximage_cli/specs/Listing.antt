@@ -17,7 +17,7 @@ use Rattle.vest_files.specs.Loading.{IsLoaded, StopsAtBytes, hints_in}
 use Rattle.vest_files.specs.Stages.{IsFile}
 use Rattle.vest_stops.specs.declared.status.Done.{Done}
 use Rattle.vest_stops.specs.declared.stop.Stop.{Stop}
-use Rattle.vximage_cli.specs.Commands.{ListingWanted}
+use Rattle.vximage_words.specs.Commands.{ListingWanted}
 use Rattle.vximage_cli.specs.Making.{StopsAtOptional}
 use Rattle.vximage_cli.specs.Names.{names_listed}
 use Rattle.vximage_cli.specs.Stopping.{StopsAtNamed}

@@ -18,7 +18,7 @@ use Rattle.vest_stops.specs.Refusal.{RefusalValue, told}
 use Rattle.vest_stops.specs.declared.status.Done.{Done}
 use Rattle.vest_stops.specs.declared.stop.Stop.{Stop}
 use Rattle.vest_stops.specs.declared.stop.Stop.TheVariants.{WantOfMemory}
-use Rattle.vximage_cli.specs.Commands.{PartsWanted, SectionWanted}
+use Rattle.vximage_words.specs.Commands.{PartsWanted, SectionWanted}
 use Rattle.vximage_cli.specs.Entries.{entries_listed}
 use Rattle.vximage_cli.specs.Stopping.{IsTold, StopsAtNamed}
 

@@ -11,7 +11,7 @@ use Rattle.vest_stops.specs.declared.status.Status.{Status}
 use Rattle.vest_stops.specs.declared.status.Status.TheVariants as status
 use Rattle.vest_stops.specs.declared.stop.Stop.{Stop}
 use Rattle.vest_stops.specs.declared.stop.Stop.TheVariants.{WantOfMemory}
-use Rattle.vximage_cli.specs.Commands.{CommandValue, ListingWanted, list, make_elf, make_parts, show}
+use Rattle.vximage_words.specs.Commands.{CommandValue, ListingWanted, list, make_elf, make_parts, show}
 use Rattle.vximage_cli.specs.Listing.{Lists, RefusesNames, StopsListing, names_line}
 use Rattle.vximage_cli.specs.Making.{MakesElf, MakesParts, StopsElf, StopsParts}
 use Rattle.vximage_cli.specs.Showing.{Shows, StopsShow}

@@ -1,10 +1,9 @@
 // Entries that a file lists.
-ghost use Rattle.std.specs.Prelude.{◌≡◌, ◌<◌, ◌≤◌, ◌∷◌, ℕ, List, IfErr, IfSome, Ok, OnOk, length, position, unwrap_or};
-ghost use Rattle.vximage_cli.specs.Entries.{ListGives, address_in, digit_of, entries_listed, hexadecimal, is_blank, IsFault, last_line, listed_from};
+ghost use Rattle.std.specs.Prelude.{◌≡◌, ◌≤◌, ◌∷◌, ℕ, List, IfErr, Ok, OnOk, length, position, unwrap_or};
+ghost use Rattle.vximage_cli.specs.Entries.{ListGives, address_in, entries_listed, is_blank, IsFault, last_line, listed_from};
 
 use std::alloc::{AllocError, AllocFailed, Global};
-
-const MOST_DIGITS: usize = 8;
+use vximage_words::hexadecimal;
 
 /// What ends a line.
 pub const LINE_FEED: u8 = b'\n';
@@ -35,27 +34,6 @@ impl From<AllocError> for ListFault {
     fn from(_: AllocError) -> ListFault {
         ListFault::WantOfMemory
     }
-}
-
-fn digit_of(byte: u8) -> Option<u32>
-    ensures value { result ≡ digit_of byte }
-    ensures bound { IfSome result (λ digit. digit < 16) }
-{
-    char::from(byte).to_digit(16)
-}
-
-/// The number that at most eight hexadecimal digits write.
-pub fn hexadecimal(text: &[u8]) -> Option<u32>
-    ensures { result ≡ hexadecimal text.now }
-{
-    if text.is_empty() || text.len() > MOST_DIGITS {
-        return None;
-    }
-    let mut value = 0;
-    for byte in text {
-        value = 16 * value + digit_of(*byte)?;
-    }
-    Some(value)
 }
 
 /// Whether a byte ends a field.

@@ -4,12 +4,11 @@ ghost use Rattle.dis_text.specs.Made.{name_value};
 ghost use Rattle.image_meaning.specs.declared.target.Target.TheVariants.{Original};
 ghost use Rattle.vest_files.specs.Loading.{IsLoaded, StopsAtBytes, hints_in};
 ghost use Rattle.vest_stops.specs.Files.{SameFiles};
-ghost use Rattle.vximage_cli.specs.Commands.{listing_wanted};
+ghost use Rattle.vximage_words.specs.Commands.{listing_wanted};
 ghost use Rattle.vximage_cli.specs.Listing.{AreNamed, IsListing, Lists, RefusesNames, StopsListing};
 ghost use Rattle.vximage_cli.specs.Making.{StopsAtOptional};
 ghost use Rattle.vximage_cli.specs.Named.{StopsAs};
 
-use crate::commands::ListingAsked;
 use crate::entries::ListFault;
 use crate::halt::{Fault, Halt, read_named};
 use crate::names::names_listed;
@@ -21,6 +20,7 @@ use vax_form::WantOfMemory;
 use vest_files::{Loaded, of_bytes};
 use vest_stops::{Done, Stop};
 use vt_outside::{Desk, Sink};
+use vximage_words::ListingAsked;
 
 // The listing of a file's bytes, by what they mean.
 fn listed(

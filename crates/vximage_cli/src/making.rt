@@ -11,13 +11,12 @@ ghost use Rattle.image_parts.specs.Program.{elf_bytes, stacks_of, starts_of};
 ghost use Rattle.vest_files.specs.Stages.{StopsWhere};
 ghost use Rattle.vest_files.specs.Translate.{Writes};
 ghost use Rattle.vest_stops.specs.Files.{SameFiles};
-ghost use Rattle.vximage_cli.specs.Commands.{parts_wanted, section_wanted};
+ghost use Rattle.vximage_words.specs.Commands.{parts_wanted, section_wanted};
 ghost use Rattle.vximage_cli.specs.Entries.{entries_listed};
 ghost use Rattle.vximage_cli.specs.Making.{AreListed, AreParts, IsSection, IsStored, MakesElf, MakesParts, RefusesLine, Refuses};
 ghost use Rattle.vximage_cli.specs.Making.{StopsAtList, StopsAtOptional, StopsAtParts, StopsAtSections, StopsElf, StopsParts};
 ghost use Rattle.vximage_cli.specs.Named.{name_told};
 
-use crate::commands::{PartsAsked, SectionAsked};
 use crate::entries::{ListFault, entries_listed};
 use crate::halt::{Halt, read_named, refused};
 use image_file::Section;
@@ -26,6 +25,7 @@ use report_text::Subject;
 use std::alloc::Global;
 use vest_stops::{Done, Refusal, Stop};
 use vt_outside::{Desk, DeskWrite};
+use vximage_words::{PartsAsked, SectionAsked};
 
 /// The number of the refusal of a line without an address.
 const NO_ADDRESS: u64 = 2;

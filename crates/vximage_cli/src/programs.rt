@@ -13,7 +13,27 @@ use std::rt::Files;
 use vest_stops::{Status, Stop};
 use vt_outside::{Desk, FileDesk, OutSink, Sink};
 
-// Obeys the words that were read. A word that is no text spells no command.
+// Obeys no words, since reading them failed. A word that is no text spells no command.
+fn obey_unread<D: Desk, K: Sink, E: Sink>(
+    alloc: Global,
+    error: &io::Error,
+    desk: &mut D,
+    out: &mut K,
+    report: &mut E,
+) -> Status
+    ensures { Ends result
+        (lent (D.meaning desk.old) (K.meaning out.old) (E.meaning report.old))
+        (lent (D.meaning desk.new) (K.meaning out.new) (E.meaning report.new)) }
+{
+    if error.kind() == ErrorKind::OutOfMemory {
+        say(&Halt::from(Stop::WantOfMemory), report);
+        Status::WantOfMemory
+    } else {
+        vximage(alloc, &[], desk, out, report)
+    }
+}
+
+// Obeys the words that were read.
 fn obey_read<D: Desk, K: Sink, E: Sink>(
     alloc: Global,
     words: io::Result<Vec<String>>,
@@ -27,11 +47,7 @@ fn obey_read<D: Desk, K: Sink, E: Sink>(
 {
     match words {
         Ok(words) => vximage(alloc, &words, desk, out, report),
-        Err(error) if error.kind() == ErrorKind::OutOfMemory => {
-            say(&Halt::from(Stop::WantOfMemory), report);
-            Status::WantOfMemory
-        }
-        Err(_) => vximage(alloc, &[], desk, out, report),
+        Err(error) => obey_unread(alloc, &error, desk, out, report),
     }
 }
 

@@ -2,19 +2,18 @@
 ghost use Rattle.std.specs.Prelude.{◌≡◌, IfErr, IfOk};
 ghost use Rattle.vt_outside.specs.Desk.{DeskMeaning};
 ghost use Rattle.vest_stops.specs.Files.{SameFiles};
-ghost use Rattle.vximage_cli.specs.Commands.{command_value};
+ghost use Rattle.vximage_words.specs.Commands.{command_value};
 ghost use Rattle.vximage_cli.specs.Named.{StopsAs};
 ghost use Rattle.vximage_cli.specs.Vximage.{DoesOnly, Ends, Obeys, StopsAt, StopsAtNames, lent};
 
-use crate::commands::Command;
 use crate::halt::{Fault, Halt, say, say_bad_name};
 use crate::listing::list;
 use crate::making::{make_elf, make_parts};
 use crate::showing::{send, show};
-use crate::words::{Told, read_words};
 use std::alloc::Global;
 use vest_stops::{Done, Status, Stop};
 use vt_outside::{Desk, Sink, write_all};
+use vximage_words::{Command, Told, read_words};
 
 // What the command does, or why it stops.
 fn done_by<'a, D: Desk, K: Sink>(
@@ -68,6 +67,21 @@ pub fn obey<D: Desk, K: Sink, E: Sink>(
     }
 }
 
+// Obeys a command that nothing needs any more.
+fn obey_last<D: Desk, K: Sink, E: Sink>(
+    alloc: Global,
+    command: Command<'_>,
+    desk: &mut D,
+    out: &mut K,
+    report: &mut E,
+) -> Status
+    ensures { Obeys (command_value command.entry) result
+        (lent (D.meaning desk.old) (K.meaning out.old) (E.meaning report.old))
+        (lent (D.meaning desk.new) (K.meaning out.new) (E.meaning report.new)) }
+{
+    obey(alloc, &command, desk, out, report)
+}
+
 // Help goes to `out`, and why no command was read to the report.
 fn tell<K: Sink, E: Sink>(told: &Told, out: &mut K, report: &mut E) -> Status
     ensures { (desk : DeskMeaning) → Ends result (lent desk (K.meaning out.old) (E.meaning report.old)) (lent desk (K.meaning out.new) (E.meaning report.new)) }
@@ -85,6 +99,13 @@ fn tell<K: Sink, E: Sink>(told: &Told, out: &mut K, report: &mut E) -> Status
     }
 }
 
+// Tells what nothing needs any more.
+fn tell_last<K: Sink, E: Sink>(told: Told, out: &mut K, report: &mut E) -> Status
+    ensures { (desk : DeskMeaning) → Ends result (lent desk (K.meaning out.old) (E.meaning report.old)) (lent desk (K.meaning out.new) (E.meaning report.new)) }
+{
+    tell(&told, out, report)
+}
+
 /// Obeys one command line. `words` are the words after the program's name.
 pub fn vximage<D: Desk, K: Sink, E: Sink>(
     alloc: Global,
@@ -98,7 +119,7 @@ pub fn vximage<D: Desk, K: Sink, E: Sink>(
         (lent (D.meaning desk.new) (K.meaning out.new) (E.meaning report.new)) }
 {
     match read_words(alloc, words) {
-        Ok(command) => obey(alloc, &command, desk, out, report),
-        Err(told) => tell(&told, out, report),
+        Ok(command) => obey_last(alloc, command, desk, out, report),
+        Err(told) => tell_last(told, out, report),
     }
 }

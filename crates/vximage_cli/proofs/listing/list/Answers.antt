@@ -1,7 +1,7 @@
 -- Behind the files, the bytes say why.
 use Rattle.std.proofs.Common.{rules, ◌≡◌, ℕ, List, None, inl, inr, subst, sym}
 use Rattle.vest_files.specs.Stages.{IsFile}
-use Rattle.vximage_cli.specs.Commands.{listing_wanted}
+use Rattle.vximage_words.specs.Commands.{listing_wanted}
 use Rattle.vximage_cli.specs.Listing.{StopsListing}
 use Rattle.vximage_cli.specs.Named.{name_told}
 use Rattle.vximage_cli.specs.declared.halt.Halt.{Halt}

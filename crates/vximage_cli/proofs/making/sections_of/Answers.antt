@@ -5,9 +5,9 @@ use Rattle.std.proofs.lemmas.List.{map_more}
 use Rattle.std.proofs.lemmas.Slice.Zip.{all_zipped_more}
 use Rattle.vt_outside.specs.Desk.{Files}
 use Rattle.image_file.specs.Values.{SectionValue}
-use Rattle.vximage_cli.specs.Commands.{SectionWanted, section_wanted}
+use Rattle.vximage_words.specs.Commands.{SectionWanted, section_wanted}
 use Rattle.vximage_cli.specs.Making.{IsSection}
-use Rattle.vximage_cli.specs.declared.commands.SectionAsked.{SectionAsked}
+use Rattle.vximage_words.specs.declared.commands.SectionAsked.{SectionAsked}
 use Rattle.vximage_cli.proofs.Reading.{same_both}
 use Rattle.vximage_cli.proofs.making.sections_of.Goals as goal
 

@@ -2,7 +2,7 @@
 use Rattle.std.proofs.Common.{map, take}
 use Rattle.std.specs.List.{AllZip}
 use Rattle.vest_stops.specs.Files.{SameFiles}
-use Rattle.vximage_cli.specs.Commands.{section_wanted}
+use Rattle.vximage_words.specs.Commands.{section_wanted}
 use Rattle.vximage_cli.specs.Making.{IsSection}
 use Rattle.vximage_cli.proofs.making.sections_of.Given as goal
 

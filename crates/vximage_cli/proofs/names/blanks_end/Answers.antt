@@ -1,6 +1,6 @@
 -- The first byte that is no blank is looked for from the begin on.
 use Rattle.std.proofs.Common.{rules, tests, ap, not, ◌∙◌, length}
-use Rattle.std.specs.Prelude.{position, unwrap_or}
+use Rattle.std.specs.Prelude.{unwrap_or}
 use Rattle.std.proofs.lemmas.Iterator.{YieldsList-from_slice}
 use Rattle.std.proofs.lemmas.Iterator.Search.{position_from_yields_List}
 use Rattle.vximage_cli.specs.Entries.{is_blank}

@@ -1,6 +1,6 @@
 -- The command does what it says, or it stops and says why.
 use Rattle.std.proofs.Common.{refl, subst}
-use Rattle.vximage_cli.specs.Commands.{command_value}
+use Rattle.vximage_words.specs.Commands.{command_value}
 use Rattle.vximage_cli.specs.Named.{StopsAs, name_told}
 use Rattle.vximage_cli.specs.Vximage.{StopsAt, StopsAtNames, done, refused_names, stopped}
 use Rattle.vximage_cli.specs.declared.halt.Fault.{Fault}

@@ -1,17 +1,14 @@
 // What the values of options write.
 use crate::commands::SectionAsked;
-use crate::entries::hexadecimal;
+use crate::numbers::hexadecimal;
 use image_file::{FIRST_REGISTERS, Start};
 use std::alloc::{AllocFailed, Global};
 
 /// Why the values of an option are not read.
-#[derive(Debug, Drop)]
+#[derive(Drop)]
 pub enum ValueFault<'a> {
     /// A value writes nothing that the option takes.
-    Bad {
-        option: &'static str,
-        value: &'a str,
-    },
+    Bad { option: &'a str, value: &'a str },
     WantOfMemory,
 }
 
@@ -22,11 +19,7 @@ impl<T: Drop> From<AllocFailed<T>> for ValueFault<'_> {
 }
 
 // What the value writes, if it writes something.
-fn written<'a, T>(
-    option: &'static str,
-    value: &'a str,
-    read: Option<T>,
-) -> Result<T, ValueFault<'a>> {
+fn written<'a, T>(option: &'a str, value: &'a str, read: Option<T>) -> Result<T, ValueFault<'a>> {
     match read {
         Some(read) => Ok(read),
         None => Err(ValueFault::Bad { option, value }),
@@ -38,24 +31,8 @@ fn number_in(text: &str) -> Option<u32> {
 }
 
 /// The number of an option.
-pub fn number_of<'a>(option: &'static str, value: &'a str) -> Result<u32, ValueFault<'a>> {
+pub fn number_of<'a>(option: &'a str, value: &'a str) -> Result<u32, ValueFault<'a>> {
     written(option, value, number_in(value))
-}
-
-/// The numbers of an option that may stand again, or not at all.
-pub fn numbers_of<'a>(
-    alloc: Global,
-    option: &'static str,
-    values: Option<&[&'a str]>,
-) -> Result<Vec<u32>, ValueFault<'a>> {
-    let mut numbers = Vec::new(alloc);
-    let Some(values) = values else {
-        return Ok(numbers);
-    };
-    for value in values {
-        numbers.push(number_of(option, value)?)?;
-    }
-    Ok(numbers)
 }
 
 // Whether the section may be written.
@@ -86,21 +63,6 @@ fn section_in(text: &str) -> Option<SectionAsked<'_>> {
         writable: rights_in(rights)?,
         file,
     })
-}
-
-/// The sections of `--section`.
-pub fn sections_of<'a>(
-    alloc: Global,
-    values: Option<&[&'a str]>,
-) -> Result<Vec<SectionAsked<'a>>, ValueFault<'a>> {
-    let mut sections = Vec::new(alloc);
-    let Some(values) = values else {
-        return Ok(sections);
-    };
-    for value in values {
-        sections.push(written("section", value, section_in(value))?)?;
-    }
-    Ok(sections)
 }
 
 // Rn=X.
@@ -137,17 +99,39 @@ fn thread_in(text: &str) -> Option<Start> {
     })
 }
 
-/// The threads of `--thread`.
-pub fn threads_of<'a>(
-    alloc: Global,
-    values: Option<&[&'a str]>,
-) -> Result<Vec<Start>, ValueFault<'a>> {
-    let mut threads = Vec::new(alloc);
-    let Some(values) = values else {
-        return Ok(threads);
-    };
-    for value in values {
-        threads.push(written("thread", value, thread_in(value))?)?;
+/// What the values of an option that may stand again write.
+pub trait FromText<'a>: Sized + Drop {
+    /// What a value writes, if it writes something.
+    fn from_text(value: &'a str) -> Option<Self>;
+}
+
+impl<'a> FromText<'a> for u32 {
+    fn from_text(value: &'a str) -> Option<u32> {
+        number_in(value)
     }
-    Ok(threads)
+}
+
+impl<'a> FromText<'a> for SectionAsked<'a> {
+    fn from_text(value: &'a str) -> Option<SectionAsked<'a>> {
+        section_in(value)
+    }
+}
+
+impl<'a> FromText<'a> for Start {
+    fn from_text(value: &'a str) -> Option<Start> {
+        thread_in(value)
+    }
+}
+
+/// What the values of an option write, which may stand again, or not at all.
+pub fn all_of<'a, T: FromText<'a>>(
+    alloc: Global,
+    option: &'a str,
+    values: Option<&[&'a str]>,
+) -> Result<Vec<T>, ValueFault<'a>> {
+    let mut all = Vec::new(alloc);
+    for value in values.unwrap_or(&[]) {
+        all.push(written(option, value, T::from_text(value))?)?;
+    }
+    Ok(all)
 }

@@ -3,11 +3,11 @@ use Rattle.std.specs.Prelude.{ℕ, Bool, List, Option, option_map, map}
 use Rattle.dis_text.specs.declared.pieces.Range.{Range}
 use Rattle.image_file.specs.declared.image.Start.{Start}
 use Rattle.image_parts.specs.Values.{OptionsValue}
-use Rattle.vximage_cli.specs.declared.commands.SectionAsked.{SectionAsked}
-use Rattle.vximage_cli.specs.declared.commands.ListingAsked.{ListingAsked}
-use Rattle.vximage_cli.specs.declared.commands.PartsAsked.{PartsAsked}
-use Rattle.vximage_cli.specs.declared.commands.Command.{Command}
-use Rattle.vximage_cli.specs.declared.commands.Command.TheVariants as words
+use Rattle.vximage_words.specs.declared.commands.SectionAsked.{SectionAsked}
+use Rattle.vximage_words.specs.declared.commands.ListingAsked.{ListingAsked}
+use Rattle.vximage_words.specs.declared.commands.PartsAsked.{PartsAsked}
+use Rattle.vximage_words.specs.declared.commands.Command.{Command}
+use Rattle.vximage_words.specs.declared.commands.Command.TheVariants as words
 
 -- a section that is asked for, with the name of the file of what it stores
 pub record SectionWanted : Type 0 where

@@ -1,7 +1,7 @@
 // The command that the words of a line spell.
 use crate::app::vximage_app;
 use crate::commands::{Command, ListingAsked, PartsAsked};
-use crate::values::{ValueFault, number_of, numbers_of, sections_of, threads_of};
+use crate::values::{ValueFault, all_of, number_of};
 use clap::error::ErrorKind;
 use clap::{ArgMatches, Error};
 use dis_text::Range;
@@ -12,7 +12,7 @@ use std::alloc::{AllocError, Global};
 const STACK: u32 = 0x4000;
 
 /// What is said in place of a command.
-#[derive(Debug, Drop)]
+#[derive(Drop)]
 pub enum Told {
     /// Help or the version, for which the words ask.
     Help(String),
@@ -28,9 +28,9 @@ impl From<AllocError> for Told {
 }
 
 fn parts_of<'a>(alloc: Global, matches: &ArgMatches<'a>) -> Result<PartsAsked<'a>, ValueFault<'a>> {
-    let sections = sections_of(alloc, matches.get_strs("section"))?;
-    let threads = threads_of(alloc, matches.get_strs("thread"))?;
-    let entries = numbers_of(alloc, "entry", matches.get_strs("entry"))?;
+    let sections = all_of(alloc, "section", matches.get_strs("section"))?;
+    let threads = all_of(alloc, "thread", matches.get_strs("thread"))?;
+    let entries = all_of(alloc, "entry", matches.get_strs("entry"))?;
     Ok(PartsAsked {
         threads,
         sections,
@@ -55,8 +55,8 @@ fn stack_of<'a>(matches: &ArgMatches<'a>) -> Result<u32, ValueFault<'a>> {
 }
 
 fn options_of<'a>(alloc: Global, matches: &ArgMatches<'a>) -> Result<Options, ValueFault<'a>> {
-    let starts = numbers_of(alloc, "start", matches.get_strs("start"))?;
-    let entries = numbers_of(alloc, "entry", matches.get_strs("entry"))?;
+    let starts = all_of(alloc, "start", matches.get_strs("start"))?;
+    let entries = all_of(alloc, "entry", matches.get_strs("entry"))?;
     Ok(Options {
         starts,
         stack: stack_of(matches)?,
@@ -89,7 +89,7 @@ fn read_show<'a>(matches: &ArgMatches<'a>) -> Command<'a> {
 // The number of an option, where it is there.
 fn number_or<'a>(
     matches: &ArgMatches<'a>,
-    option: &'static str,
+    option: &'a str,
     otherwise: u32,
 ) -> Result<u32, ValueFault<'a>> {
     match matches.get_str(option) {
@@ -198,6 +198,8 @@ fn read_by<'a>(
 
 /// The command that the words behind the program's name spell, or what is said in its place. It borrows its names from the words.
 pub fn read_words<'a>(alloc: Global, words: &'a [String]) -> Result<Command<'a>, Told> {
-    let mut app = vximage_app(alloc)?;
-    read_by(alloc, &mut app, words)
+    match vximage_app(alloc) {
+        Ok(mut app) => read_by(alloc, &mut app, words),
+        Err(_) => Err(Told::WantOfMemory),
+    }
 }

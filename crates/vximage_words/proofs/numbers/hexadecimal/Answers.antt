@@ -2,7 +2,7 @@
 use Rattle.std.proofs.Common.{◌≤◌, ◌^◌, arith}
 use native.Mathlib.Nat.{pow-le-pow_right}
 use lib.Dec.{lit<}
-use Rattle.vximage_cli.proofs.entries.hexadecimal.Goals as goal
+use Rattle.vximage_words.proofs.numbers.hexadecimal.Goals as goal
 
 pub overflow_mul-value : goal.overflow_mul-value
 overflow_mul-value c =

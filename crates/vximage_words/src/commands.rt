@@ -5,7 +5,7 @@ use image_parts::Options;
 
 /// A section that is asked for: where it begins, its bytes, 0 for as many as it stores, whether it may be written, and the
 /// file of what it stores.
-#[derive(Clone, Copy, Debug)]
+#[derive(Clone, Copy)]
 pub struct SectionAsked<'a> {
     pub start: u32,
     pub size: u32,
@@ -14,7 +14,7 @@ pub struct SectionAsked<'a> {
 }
 
 /// The parts that are asked for, in the order of the words, and the file with a further entry on each line.
-#[derive(Debug, Drop)]
+#[derive(Drop)]
 pub struct PartsAsked<'a> {
     pub threads: Vec<Start>,
     pub sections: Vec<SectionAsked<'a>>,
@@ -23,7 +23,7 @@ pub struct PartsAsked<'a> {
 }
 
 /// What is listed: whether with Alpha words, of which addresses, and the file with names.
-#[derive(Clone, Copy, Debug)]
+#[derive(Clone, Copy)]
 pub struct ListingAsked<'a> {
     pub with_words: bool,
     pub range: Range,
@@ -31,7 +31,7 @@ pub struct ListingAsked<'a> {
 }
 
 /// What a command line asks for. The names are words of the line.
-#[derive(Debug, Drop)]
+#[derive(Drop)]
 pub enum Command<'a> {
     /// `make OUT` with sections and threads: writes the image of these parts.
     MakeParts {
