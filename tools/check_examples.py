@@ -5,8 +5,8 @@ beside it. Status 1 where one is another.
 tools/check_examples.py VEST [VXIMAGE]
 
 NAME.hex has two hexadecimal digits a byte; from # on a line is a comment. NAME.out and NAME.err are what it writes, and NAME.in is its
-input, where there is one; NAME.hints, in digits too, is a hint file with which it is translated as well. With VXIMAGE the executable that
-GNU's assembler and linker made of crates/vximage_rows/data/sample.s is made an image, and run."""
+input, where there is one; NAME.hints, in digits too, is a hint file with which it is translated as well. NAME.elf, in digits, is an executable:
+with VXIMAGE its image is asked for that of NAME.hex."""
 import pathlib
 import subprocess
 import sys
@@ -14,7 +14,6 @@ import tempfile
 
 TOP = pathlib.Path(__file__).resolve().parent.parent
 EXAMPLES = TOP / "examples"
-EXECUTABLE = TOP / "crates/vximage_rows/data/linked.hex"
 WORDS = (["run", "x.img"], ["run", "x.vxt"], ["run", "x.img", "--interpret", "0:0-FFFFFFFF", "--interpret", "1:0-FFFFFFFF"])
 
 
@@ -47,15 +46,13 @@ def differences(program, path):
                 yield f"{path.name}, {' '.join(words)}: {found}, not {wanted}"
 
 
-def executable_differences(vest, vximage):
-    """How the run of the image of the executable differs from what its program does."""
+def executable_differences(program, path):
+    """Whether the image that is made of an executable is another than that of the example."""
     with tempfile.TemporaryDirectory() as room:
-        pathlib.Path(room, "sample").write_bytes(image_of(EXECUTABLE))
-        subprocess.run([vximage, "make", "x.img", "--elf", "sample"], cwd=room, check=True)
-        run = subprocess.run([vest, "run", "x.img"], cwd=room, capture_output=True, check=False)
-        found, wanted = (run.returncode, run.stdout, run.stderr), (0, b"\5", b"thread 0 exit 00000005\n")
-        if found != wanted:
-            yield f"{EXECUTABLE.name}: {found}, not {wanted}"
+        pathlib.Path(room, "x").write_bytes(image_of(path))
+        subprocess.run([program, "make", "x.img", "--elf", "x"], cwd=room, check=True)
+        if pathlib.Path(room, "x.img").read_bytes() != image_of(path.with_suffix(".hex")):
+            yield f"{path.name}: another image"
 
 
 def main():
@@ -64,7 +61,7 @@ def main():
     vest, *vximage = (pathlib.Path(word).resolve() for word in sys.argv[1:])
     paths = sorted(EXAMPLES.glob("*.hex"))
     lines = [line for path in paths for line in differences(vest, path)]
-    lines += [line for program in vximage for line in executable_differences(vest, program)]
+    lines += [line for program in vximage for path in sorted(EXAMPLES.glob("*.elf")) for line in executable_differences(program, path)]
     print("\n".join([*lines, f"{len(paths)} examples, {len(lines)} differences"]))
     sys.exit(1 if lines or not paths else 0)
 

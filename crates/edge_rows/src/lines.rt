@@ -1,6 +1,6 @@
 // Questions about command lines, in which `''` is the empty word, and `N*WORD` is N times the word.
 use anyhow::Result;
-use command_words::{Command, Limits, RunOptions, Target, WordsFault, read_words};
+use command_words::{Command, Keeping, Limits, RunOptions, Target, WordsFault, read_words};
 use row_tally::Given;
 use std::alloc::{AllocError, Global};
 use std::fmt::Write;
@@ -34,6 +34,14 @@ fn target_text(target: Target) -> &'static str {
     }
 }
 
+/// What stands behind the limits of a run for what it keeps.
+fn keeping_text(keeping: Keeping) -> &'static str {
+    match keeping {
+        Keeping::History => "",
+        Keeping::Nothing => " unkept",
+    }
+}
+
 /// A name, also the empty one.
 fn name_text(name: &str) -> &str {
     if name.is_empty() { "''" } else { name }
@@ -42,11 +50,13 @@ fn name_text(name: &str) -> &str {
 fn run_text(alloc: Global, name: &str, options: &RunOptions<'_>) -> Result<String, AllocError> {
     let Limits {
         budget,
+        keeping,
         events,
         miss,
     } = options.limits;
     let name = name_text(name);
     let mut text = format!(in alloc; "run {name} budget {budget} events {events} miss {miss}")?;
+    text.push_str(keeping_text(keeping))?;
     for range in &options.ranges {
         write!(text, " {}:{:X}-{:X}", range.thread, range.first, range.last)?;
     }

@@ -8,7 +8,7 @@ use crate::accesses::{request_of, write_reply};
 use crate::texts::parted;
 use anyhow::{Context, Result, anyhow, bail, ensure};
 use image_file::{Image, read_image};
-use memory_core::{Entry, Kind, MemState, Reply, Request};
+use memory_core::{Entry, Kind, Limit, MemState, Reply, Request};
 use row_tally::{Given, bytes, longword};
 use std::alloc::{AllocError, Global};
 
@@ -58,7 +58,7 @@ fn replies_of(alloc: Global, image: &Image, memory: &mut MemState, accesses: &st
 }
 
 /// A memory for three processors.
-fn memory_of(alloc: Global, image: &Image, limit: u32, miss: u16) -> Result<MemState>
+fn memory_of(alloc: Global, image: &Image, limit: Limit, miss: u16) -> Result<MemState>
     requires { IsWhole image.now }
     ensures image { IfOk result (λ memory. memory.set_up.image ≡ image.now) }
     ensures processors { IfOk result (λ memory. memory.processors ≡ 3) }
@@ -95,16 +95,24 @@ fn text_of(alloc: Global, entry: &Entry) -> Result<String, AllocError> {
     format!(in alloc; "{processor:X} {kind:?} {quad:X} {before:X} {after:X} {retired:X} {success}")
 }
 
-fn entry_text(alloc: Global, history: &[Entry], place: u32) -> Result<String> {
+fn entry_text(alloc: Global, memory: &MemState, place: u32) -> Result<String> {
+    let history = memory.history().context("a history")?;
     let entry = history.get(place as usize).context("an entry")?;
     Ok(text_of(alloc, entry)?)
+}
+
+fn entries_text(alloc: Global, memory: &MemState) -> Result<String, AllocError> {
+    match memory.history() {
+        Some(history) => format!(in alloc; "{:X}", history.len()),
+        None => String::from_str(alloc, "-"),
+    }
 }
 
 /// Answers a question with a number.
 fn answer_at(alloc: Global, memory: &MemState, question: &str, number: u32) -> Result<String> {
     match question {
         "page" => page_text(alloc, memory, number),
-        "entry" => entry_text(alloc, memory.history(), number),
+        "entry" => entry_text(alloc, memory, number),
         _ => bail!("no question: {question}"),
     }
 }
@@ -116,17 +124,25 @@ fn answer_of(alloc: Global, memory: &MemState, question: &str) -> Result<String>
     }
     let text = match question {
         "output" => hex::encode_upper(alloc, memory.output()),
-        "entries" => format!(in alloc; "{:X}", memory.history().len()),
+        "entries" => entries_text(alloc, memory),
         _ => bail!("no question: {question}"),
     };
     Ok(text?)
 }
 
-/// The numbers and the accesses of a history: the miss number, the limit, and the accesses.
-fn history_of(beside: &str) -> Result<(u16, u32, &str)> {
+/// A number of entries, or behind `puts/` of bytes that are put.
+fn limit_of(text: &str) -> Result<Limit> {
+    match text.strip_prefix("puts/") {
+        Some(most) => Ok(Limit::Puts(u64::from(longword(most)?))),
+        None => Ok(Limit::Entries(longword(text)?)),
+    }
+}
+
+/// What stands beside a row: the miss number, the limit, and the accesses.
+fn history_of(beside: &str) -> Result<(u16, Limit, &str)> {
     let (miss, rest) = parted(beside, ' ')?;
     let (limit, accesses) = rest.split_once(' ').unwrap_or((rest, ""));
-    Ok((u16::try_from(longword(miss)?)?, longword(limit)?, accesses))
+    Ok((u16::try_from(longword(miss)?)?, limit_of(limit)?, accesses))
 }
 
 /// What a memory of an image answers behind a history.

@@ -1,13 +1,13 @@
 // What rows do.
 use crate::call::call;
 use crate::cuts::{refuses_beginnings, refuses_changes, refuses_longer, refuses_prefixes};
-use crate::files::Files;
 use crate::left::Left;
 use crate::lent::{Lent, object_of};
-use crate::pieces::{first_word, parted, place_of, spelled};
 use crate::replays::is_replayed;
 use crate::turns::Turns;
+use crate::unkept::is_same_unkept;
 use anyhow::{Context, Result, bail};
+use row_files::{Files, first_word, parted, place_of, spelled};
 use row_tally::longword;
 use std::alloc::Global;
 use std::sync::Wait;
@@ -74,7 +74,8 @@ impl Bench {
         }
     }
 
-    // One call, and whether it leaves what is wanted, and a run is given again by `replay`, with hints where these are asked for.
+    // One call, and whether it leaves what is wanted, and a run is given again by `replay`, with hints where these are asked for, and is
+    // the same where it keeps no history.
     fn calls_once<R: Threads + Wait + Sync + Print>(
         &mut self,
         rt: &R,
@@ -84,10 +85,11 @@ impl Bench {
         hints: bool,
     ) -> Result<bool> {
         let replayed = is_replayed(rt, alloc, &self.lent, &self.files, line, hints)?;
+        let unkept = is_same_unkept(rt, alloc, &self.lent, &self.files, line, wanted)?;
         let left = call(rt, alloc, &self.lent, &mut self.files, line)?;
         let agrees = left.is_or_prints(rt, alloc, wanted)?;
         self.left = Some(left);
-        Ok(agrees && replayed)
+        Ok(agrees && replayed && unkept)
     }
 
     // LINE: STATUS OUT REPORT, so many times, the first of them with hints.

@@ -1,10 +1,9 @@
 // A call of `vest`, with what it is lent.
-use crate::files::Files;
 use crate::gates::Holds;
 use crate::left::{Left, Run, Steps};
 use crate::lent::{Lent, Object};
-use crate::pieces::words_of;
 use anyhow::Result;
+use row_files::{Files, words_of};
 use std::alloc::{AllocError, Global};
 use std::sync::Wait;
 use std::thread::Threads;
@@ -67,7 +66,7 @@ fn run_of<R: Threads + Wait + Sync>(
 fn seen(alloc: Global, status: Status, kept: Kept) -> Result<Run, AllocError> {
     let Kept {
         image,
-        history,
+        memory,
         processors,
         ranges,
         ..
@@ -77,7 +76,7 @@ fn seen(alloc: Global, status: Status, kept: Kept) -> Result<Run, AllocError> {
         image,
         ranges: ranges.len() as u64,
         steps: steps_of(alloc, &processors)?,
-        history,
+        memory,
     })
 }
 
@@ -135,7 +134,7 @@ fn call_with<R: Threads + Wait + Sync>(
 ) -> Result<Left> {
     let mut desk = files.desk(alloc, lent.fails_of(alloc, Object::Desk)?)?;
     let left = call_over(rt, alloc, lent, words, &mut desk)?;
-    files.take_all(alloc, &mut desk, words)?;
+    files.take(alloc, &mut desk, words)?;
     Ok(left)
 }
 

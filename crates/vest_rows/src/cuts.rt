@@ -1,9 +1,8 @@
 // Translated files that `translate` wrote, cut and changed, and orders cut.
 use crate::call::call;
-use crate::files::Files;
 use crate::lent::Lent;
-use crate::pieces::parted;
 use anyhow::{Context, Result};
+use row_files::{Files, parted};
 use std::alloc::{AllocError, Global};
 use std::sync::Wait;
 use std::thread::Threads;

@@ -1,8 +1,8 @@
 // What a call left, beside the files.
-use crate::pieces::{first_word, report_of};
 use anyhow::Result;
 use image_file::Image;
-use memory_core::Entry;
+use memory_core::{Entry, MemState};
+use row_files::{first_word, lines_of};
 use row_tally::{number, words};
 use std::alloc::{AllocError, Global};
 
@@ -16,19 +16,27 @@ pub struct Steps {
     pub interpreted: u64,
 }
 
-/// The status, and of a run that was kept the image, how many ranges of addresses, the threads and the history.
+/// The status, and of a run that was kept the image, how many ranges of addresses, the threads and the memory.
 #[derive(Drop)]
 pub struct Run {
     pub status: u64,
     pub image: Option<Image>,
     pub ranges: u64,
     pub steps: Vec<Steps>,
-    pub history: Vec<Entry>,
+    pub memory: Option<MemState>,
 }
 
 impl Run {
     pub fn is_kept(&self) -> bool {
         self.image.is_some()
+    }
+
+    /// The entries of its history, or none where it kept none.
+    pub fn history(&self) -> &[Entry] {
+        match &self.memory {
+            Some(memory) => memory.history().unwrap_or(&[]),
+            None => &[],
+        }
     }
 }
 
@@ -78,7 +86,7 @@ impl Left {
             return Ok(true);
         }
         for text in wanted.split(" or ") {
-            if self.report == report_of(alloc, text)? {
+            if self.report == lines_of(alloc, text)? {
                 return Ok(true);
             }
         }
@@ -114,11 +122,11 @@ impl Left {
     /// ENTRY ENTRY ..: whether the history has just these.
     pub fn has_history(&self, alloc: Global, wanted: &str) -> Result<bool> {
         let wanted = words(alloc, wanted)?;
-        for (entry, text) in self.run.history.iter().zip(&wanted) {
+        for (entry, text) in self.run.history().iter().zip(&wanted) {
             if entry_text(alloc, entry)?.as_str() != *text {
                 return Ok(false);
             }
         }
-        Ok(self.run.history.len() == wanted.len())
+        Ok(self.run.history().len() == wanted.len())
     }
 }

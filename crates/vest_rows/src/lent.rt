@@ -2,8 +2,8 @@
 ghost use Rattle.std.specs.Prelude.{◌≤◌};
 
 use crate::gates::{Access, Holds, Pair};
-use crate::pieces::parted;
 use anyhow::{Result, bail};
+use row_files::parted;
 use row_tally::number;
 use std::alloc::{AllocError, Global};
 use vt_outside::{MemorySink, MemorySource};

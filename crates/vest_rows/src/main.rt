@@ -1,28 +1,26 @@
 //! Calls `vest` with the command lines of data/calls.txt, over files and streams in memory, and says for each family of rows
 //! how many leave what stands there.
 //!
-//! `pieces` reads bytes, `files` keeps them by their names, `lent` and `gates` have what a call is lent beside the files,
-//! `call` makes the call, `left`, `numbers` and `memory` have what it left, `cuts` goes through beginnings and changes of a translated
-//! file, `turns` through the calls of an object that may fail, `replays` drives the order of each run again, and `bench` says which of
-//! these a row asks for.
+//! `lent` and `gates` have what a call is lent beside the files, `call` makes the call, `left`, `numbers` and `memory` have what it
+//! left, `cuts` goes through beginnings and changes of a translated file, `turns` through the calls of an object that may fail, `replays`
+//! drives the order of each run again, `unkept` makes each run without a history, and `bench` says which of these a row asks for.
 #![tactic(auto)]
 
 mod bench;
 mod call;
 mod cuts;
-mod files;
 mod gates;
 mod left;
 mod lent;
 mod memory;
 mod numbers;
-mod pieces;
 mod replays;
 mod turns;
+mod unkept;
 
 use crate::bench::{Bench, is_setting};
-use crate::pieces::first_word;
 use anyhow::{Context, Result};
+use row_files::first_word;
 use row_tally::{Families, Tally, rows};
 use std::fs;
 use std::sync::Wait;

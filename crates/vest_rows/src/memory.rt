@@ -11,7 +11,7 @@ impl Run {
     // The last access to a quadword, by its address.
     fn last_access(&self, quad: u32) -> Option<&Entry> {
         let mut last = None;
-        for entry in &self.history {
+        for entry in self.history() {
             if is_of_memory(entry) && entry.quad == quad {
                 last = Some(entry);
             }

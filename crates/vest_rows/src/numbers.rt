@@ -1,8 +1,8 @@
 // What a call left, in numbers.
 use crate::left::{Left, Steps};
-use crate::pieces::parted;
 use anyhow::{Context, Result, bail};
 use memory_core::{Entry, Kind};
+use row_files::parted;
 use row_tally::{number, words};
 use std::alloc::Global;
 
@@ -58,7 +58,7 @@ fn lines(out: &[u8]) -> u64 {
 
 impl Left {
     fn last(&self) -> Result<&Entry> {
-        self.run.history.last().context("an entry")
+        self.run.history().last().context("an entry")
     }
 
     fn steps_of(&self, thread: u64) -> Result<Steps> {
@@ -73,8 +73,8 @@ impl Left {
             "ranges" => Ok(self.run.ranges),
             "unread" => Ok(self.unread),
             "lines" => Ok(lines(&self.out)),
-            "entries" => Ok(self.run.history.len() as u64),
-            "locked" => Ok(count_of(&self.run.history, Which::Locked)),
+            "entries" => Ok(self.run.history().len() as u64),
+            "locked" => Ok(count_of(self.run.history(), Which::Locked)),
             _ => self.of_last(name),
         }
     }
@@ -94,8 +94,8 @@ impl Left {
     // A number of a thread.
     fn of_thread(&self, name: &str, thread: u64) -> Result<u64> {
         match name {
-            "counted" => Ok(count_of(&self.run.history, Which::Counted(thread))),
-            "failed" => Ok(count_of(&self.run.history, Which::Failed(thread))),
+            "counted" => Ok(count_of(self.run.history(), Which::Counted(thread))),
+            "failed" => Ok(count_of(self.run.history(), Which::Failed(thread))),
             "steps" => Ok(self.steps_of(thread)?.retired),
             "interpreted" => Ok(self.steps_of(thread)?.interpreted),
             _ => bail!("an unknown row"),
@@ -103,7 +103,7 @@ impl Left {
     }
 
     fn counted_at(&self, thread: u64, retired: u64) -> Result<u64> {
-        Ok(count_of(&self.run.history, Which::CountedAt(thread, retired)))
+        Ok(count_of(self.run.history(), Which::CountedAt(thread, retired)))
     }
 
     /// The number that a name stands for, alone, of a thread, or of a thread and how many instructions it had retired.

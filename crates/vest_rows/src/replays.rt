@@ -1,10 +1,9 @@
 // Runs whose order is stored, and driven again.
 use crate::call::call;
-use crate::files::Files;
 use crate::left::Left;
 use crate::lent::Lent;
-use crate::pieces::first_word;
 use anyhow::Result;
+use row_files::{Files, first_word};
 use std::alloc::Global;
 use std::sync::Wait;
 use std::thread::Threads;
@@ -29,7 +28,7 @@ fn has_come(left: &Left) -> bool {
 }
 
 /// What stands behind `run`, where the line is one of a run that stores no order: its name, and its options.
-fn run_of(line: &str) -> Option<&str> {
+pub fn run_of(line: &str) -> Option<&str> {
     let (verb, rest) = first_word(line);
     if verb == "run" && !rest.contains("--order") {
         Some(rest)
@@ -92,7 +91,7 @@ fn is_given_again<R: Threads + Wait + Sync>(
     }
     let replayed = call(rt, alloc, &Lent::sound(alloc), files, again.as_str())?;
     let same = replayed.has(left.run.status, &left.out, &left.report) && !replayed.run.is_kept();
-    let hints = hints && left.run.history.len() <= MOST_HINTED;
+    let hints = hints && left.run.history().len() <= MOST_HINTED;
     Ok(same && (!hints || is_hinted(rt, alloc, files, name, &left)?))
 }
 

@@ -1,9 +1,9 @@
 // Command lines in which each call of an object of the outside fails in turn.
 use crate::call::call;
-use crate::files::Files;
 use crate::left::Left;
 use crate::lent::{Fault, Lent, Object};
 use anyhow::Result;
+use row_files::Files;
 use row_tally::number;
 use std::alloc::Global;
 use std::sync::Wait;

@@ -1,9 +1,9 @@
 // What rows do.
 use crate::call::{Left, Lent, call};
-use crate::files::Files;
-use crate::pieces::{decoded, first_word, spelled, text_of, words_of};
+use crate::pieces::{decoded, text_of};
 use crate::turns::{is_cut_in_turn, stream_of};
 use anyhow::{Context, Result, bail, ensure};
+use row_files::{Files, first_word, spelled, words_of};
 use row_tally::number;
 use std::alloc::Global;
 use std::fs;

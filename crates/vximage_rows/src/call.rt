@@ -1,9 +1,8 @@
 // A call of `vximage`, with what it is lent, and what it left.
 ghost use Rattle.std.specs.Prelude.{◌≤◌};
 
-use crate::files::Files;
-use crate::pieces::words_of;
 use anyhow::Result;
+use row_files::{Files, words_of};
 use std::alloc::{AllocError, Global};
 use vt_outside::MemorySink;
 use vximage_cli::vximage;

@@ -1,19 +1,18 @@
 //! Calls `vximage` with the command lines of data/calls.txt, over files and streams in memory, and says for each family of rows
 //! how many leave what stands there.
 //!
-//! `pieces` reads bytes and texts, `files` keeps them by their names, `call` makes a call, `turns` has each call of a stream fail in
-//! turn, and `bench` says which of these a row asks for.
+//! `pieces` reads texts, `call` makes a call, `turns` has each call of a stream fail in turn, and `bench` says which of these a row
+//! asks for.
 #![tactic(auto)]
 
 mod bench;
 mod call;
-mod files;
 mod pieces;
 mod turns;
 
 use crate::bench::{Bench, is_setting};
-use crate::pieces::first_word;
 use anyhow::{Context, Result};
+use row_files::first_word;
 use row_tally::{Families, Tally, rows};
 use std::fs;
 

@@ -1,7 +1,7 @@
 // Command lines in which each call of a stream fails in turn.
 use crate::call::{Left, Lent, call};
-use crate::files::Files;
 use anyhow::{Result, bail};
+use row_files::Files;
 use std::alloc::Global;
 
 /// The status of a write that failed.

@@ -4,7 +4,7 @@ ghost use Rattle.std.specs.Prelude.{◌≤◌, length};
 ghost use Rattle.image_file.specs.Whole.{IsWhole};
 ghost use Rattle.run_files.specs.Fits.{Fits};
 
-use anyhow::{Result, bail};
+use anyhow::{Context, Result, bail};
 use image_file::Image;
 use memory_core::Entry;
 use run_files::{
@@ -154,7 +154,8 @@ pub fn check_replayed(alloc: Global, image: &Image, input: &[u8], world: &World)
     requires { IsWhole image.now }
 {
     let ends = ends_of(alloc, world.processors())?;
-    let mut bytes = bytes_of(alloc, world.memory().history(), input, &ends)?;
+    let history = world.memory().history().context("a history")?;
+    let mut bytes = bytes_of(alloc, history, input, &ends)?;
     check_bytes(alloc, image, &bytes)?;
     let picks = HEADER + PART * ends.len() + input.len();
     for place in 0..bytes.len() {

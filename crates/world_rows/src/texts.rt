@@ -1,6 +1,6 @@
 // Parts of what is left of a world, in text.
 use crate::report::Report;
-use anyhow::{Result, bail};
+use anyhow::{Context, Result, bail};
 use memory_core::MemState;
 use std::alloc::Global;
 use system_model::{End, order_of};
@@ -49,7 +49,8 @@ pub fn put_place(report: &mut Report, state: &VaxState) {
 
 /// The references of a world's history.
 pub fn order_in(alloc: Global, world: &World) -> Result<Vec<Pick>> {
-    match order_of(alloc, world.memory().history()) {
+    let history = world.memory().history().context("a history")?;
+    match order_of(alloc, history) {
         Ok(order) => Ok(order),
         Err(_) => bail!("want of memory"),
     }

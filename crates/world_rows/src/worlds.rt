@@ -5,6 +5,7 @@ ghost use Rattle.world_rows.specs.Ready.{CanRun, IsReady};
 
 use crate::programs::{Limits, Program};
 use anyhow::{Result, bail};
+use memory_core::Limit;
 use std::alloc::Global;
 use vest_core::{Turn, World};
 
@@ -16,7 +17,8 @@ pub fn world_of(alloc: Global, program: Program<'_>, input: &[u8], limits: Limit
 {
     let (image, miss) = (program.image, program.miss);
     let input = input.to_vec(alloc)?;
-    match World::new(alloc, image, input, limits.budget, limits.entries, miss) {
+    let limit = Limit::Entries(limits.entries);
+    match World::new(alloc, image, input, limits.budget, limit, miss) {
         Ok(world) => Ok(world),
         Err(_) => bail!("want of memory"),
     }

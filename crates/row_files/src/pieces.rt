@@ -79,11 +79,11 @@ pub fn spelled(alloc: Global, files: &Files, text: &str) -> Result<Vec<u8>> {
     Ok(into)
 }
 
-/// A line of a report, whose line ends are written |.
-pub fn report_of(alloc: Global, text: &str) -> Result<Vec<u8>> {
-    let mut report = Vec::new(alloc);
+/// The bytes of a text in which a line end is written |.
+pub fn lines_of(alloc: Global, text: &str) -> Result<Vec<u8>> {
+    let mut lines = Vec::new(alloc);
     for byte in text.as_bytes() {
-        report.push(if *byte == b'|' { b'\n' } else { *byte })?;
+        lines.push(if *byte == b'|' { b'\n' } else { *byte })?;
     }
-    Ok(report)
+    Ok(lines)
 }

@@ -3,8 +3,8 @@ use anyhow::{Context, Result, bail};
 use std::alloc::{AllocError, Global};
 use vt_outside::{Desk, DeskRead, MemoryDesk};
 
-/// The most bytes of a file.
-const MOST: usize = 50_331_649;
+/// The most bytes of a file of the rows. A command takes fewer.
+const MOST: usize = 67_108_864;
 
 /// How often a file is read at most, where one call may fail.
 const READS: usize = 2;
@@ -49,6 +49,10 @@ impl Files {
         None
     }
 
+    pub fn get(&self, name: &str) -> Result<&[u8]> {
+        self.find(name).context("no such file")
+    }
+
     pub fn copy(&self, alloc: Global) -> Result<Files, AllocError> {
         let mut files = Vec::new(alloc);
         for file in &self.files {
@@ -58,7 +62,7 @@ impl Files {
     }
 
     /// In the place of what the name had.
-    pub fn put(&mut self, alloc: Global, name: &str, bytes: Vec<u8>) -> Result<(), AllocError> {
+    pub fn put(&mut self, alloc: Global, name: &str, bytes: Vec<u8>) -> Result<()> {
         for file in &mut self.files {
             if file.0.as_str() == name {
                 file.1 = bytes;
@@ -74,16 +78,25 @@ impl Files {
         Ok(MemoryDesk::new(self.copy(alloc)?.files, fails))
     }
 
-    /// Takes what a desk has under the names of these files, and then under those names.
-    pub fn take(&mut self, alloc: Global, desk: &mut MemoryDesk, names: &[String]) -> Result<()> {
+    fn take_known(&mut self, alloc: Global, desk: &mut MemoryDesk) -> Result<()> {
         for file in &mut self.files {
             file.1 = read_back(alloc, desk, file.0.as_str())?.context("a file is gone")?;
         }
+        Ok(())
+    }
+
+    fn take_named(&mut self, alloc: Global, desk: &mut MemoryDesk, names: &[String]) -> Result<()> {
         for name in names {
             if let Some(bytes) = read_back(alloc, desk, name.as_str())? {
                 self.put(alloc, name.as_str(), bytes)?;
             }
         }
         Ok(())
+    }
+
+    /// Takes what a desk has under the names of these files, and then under those names.
+    pub fn take(&mut self, alloc: Global, desk: &mut MemoryDesk, names: &[String]) -> Result<()> {
+        self.take_known(alloc, desk)?;
+        self.take_named(alloc, desk, names)
     }
 }
