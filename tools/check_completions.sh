@@ -43,6 +43,8 @@ answers "run translate list generate replay" vest ""
 answers "translate" vest tr
 answers "--budget" vest run --b
 answers "" vest run x --miss ""
+answers "--unkept" vest run --u
+answers "sample.img" vest run --unkept sa
 answers "--target --hints" vest translate --
 answers "sample.img" vest translate x --hints sa
 answers "byteword" vest translate x --target b
@@ -81,6 +83,6 @@ cd - > /dev/null || exit
 
 mapfile -t words < <(grep -o 'codes "[a-z]*"' crates/command_words/specs/Commands.antt | cut -d '"' -f 2 | sort -u)
 stand vest "${words[@]}"
-mapfile -t words < <(grep -oE '(_arg|new)\(alloc, "[a-z]+"' crates/vximage_cli/src/app.rt | cut -d '"' -f 2 | sort -u)
+mapfile -t words < <(grep -oE '(label: |alloc, |ELF: &str = )"[a-z]+"' crates/vximage_words/src/app.rt | cut -d '"' -f 2 | sort -u)
 stand vximage "${words[@]}"
 exit $status

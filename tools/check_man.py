@@ -69,7 +69,7 @@ def of_vximage():
 # Of each program the sections of its page that have options, its tables, and the words that its code reads.
 PROGRAMS = {
     "vest": (["OPTIONS OF RUN"], of_vest, "crates/command_words/specs/Commands.antt", r'codes "([a-z]+)"'),
-    "vximage": (["OPTIONS OF MAKE", "OPTIONS OF DIS"], of_vximage, "crates/vximage_cli/src/app.rt", r'(?:_arg|new)\(alloc, "([a-z]+)"'),
+    "vximage": (["OPTIONS OF MAKE", "OPTIONS OF DIS"], of_vximage, "crates/vximage_words/src/app.rt", r'(?:label: |alloc, |ELF: &str = )"([a-z]+)"'),
 }
 
 

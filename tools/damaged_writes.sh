@@ -90,7 +90,7 @@ for call in $(echo "$calls" | grep -v -E '^(execve|exit_group)$' | sort -u); do
         case_of "killed at $call $number" "$call:signal=KILL:when=$number" kept
         tried=$((tried + 1))
         case $call in
-        open | openat | statx | newfstatat | write | f*sync | *chmod* | rename*)
+        open | openat | statx | newfstatat | read | pread64 | write | f*sync | *chmod* | rename*)
             case_of "$call $number failed" "$call:error=EIO:when=$number" removed
             tried=$((tried + 1))
             ;;

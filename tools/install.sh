@@ -1,10 +1,11 @@
 #!/usr/bin/env bash
 # Copies the proved program, its page, its completions and the examples below a folder, with a file that says what they were made of; the second
-# program too, where it was built. Status 1 where a program is older than a file of the crates or the tree isn't that of a commit, and where the
-# first example, run from the new place, writes another text.
+# program too, where it was built. Status 1 where a program is older than any file of the crates, where the tree isn't that of a commit, also by a
+# file that no commit has, and where the first example, run from the new place, writes another text.
 #
 # tools/install.sh PREFIX        behind `rt run` in crates/vest, and in crates/vximage for the second program
 set -euo pipefail
+umask 022
 prefix=${1:?"usage: tools/install.sh PREFIX"}
 top=$(cd "$(dirname "$0")/.." && pwd)
 
@@ -22,13 +23,13 @@ built() {
 install_program() {
     local program newer
     program=$(built "$1")
-    newer=$(find "$top/crates" "$top/crates.txt" -newer "$program" \( -name '*.rt' -o -name '*.antt' -o -name crates.txt \) -print -quit)
+    newer=$(find "$top/crates" "$top/crates.txt" -name out -prune -o -type f -newer "$program" -print -quit)
     [ -z "$newer" ] || stop "$1 is older than ${newer#"$top/"}"
     install -D "$program" "$prefix/bin/$1"
 }
 
 [ -x "$(built vest)" ] || stop "no program: rt run in crates/vest makes it"
-[ -z "$(git -C "$top" status --porcelain --untracked-files=no)" ] || stop "files are changed: commit them first"
+[ -z "$(git -C "$top" status --porcelain)" ] || stop "files are changed: commit them first"
 install_program vest
 if [ -x "$(built vximage)" ]; then
     install_program vximage

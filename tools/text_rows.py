@@ -2,13 +2,16 @@
 """Writes crates/text_vectors/data/instructions.txt and words.txt: bytes of VAX instructions and Alpha words, each with its text, as the
 VAX simulator SIMH and the GNU assembler for Alpha have it.
 
-tools/text_rows.py [SPELLINGS [SEED]]
+tools/text_rows.py [--check] [--objdump OBJDUMP] [SPELLINGS [SEED]]
 
-It writes as many spellings of each opcode (8 if it isn't said) with that seed (1), and four words of each row of the Alpha table. It needs
-`vax` (SIMH 3.8.1) and `alpha-linux-gnu-as` with its `objcopy`. SIMH prints each spelling (`examine -m`): there the marks B^, W^, L^ and I^
-have to be left out, and BCC and BCS are BGEQU and BLSSU. It assembles each text (`deposit -m`) to the same bytes, but for two kinds that
-it assembles otherwise: the deferred relative ones, and displacements of just 80 or 8000. The GNU assembler makes each word of its text.
+It writes as many spellings of each opcode (8 if it isn't said) with that seed (1), and four words of each row of the Alpha table. With --check it
+writes nothing. It needs `vax` (SIMH 3.8.1) and `alpha-linux-gnu-as` with its `objcopy`. SIMH prints each spelling (`examine -m`): there the marks
+B^, W^, L^ and I^ have to be left out, and BCC and BCS are BGEQU and BLSSU. It assembles each text (`deposit -m`) to the same bytes, but for two
+kinds that it assembles otherwise: the deferred relative ones, and displacements of just 80 or 8000. The GNU assembler makes each word of its text.
+OBJDUMP is GNU's for the VAX, which no package has (`tools/make_elf_rows.sh ROOM` builds ROOM/build/binutils/objdump). It ends each spelling where
+the text does, and its text in MACRO's syntax is the same but for the marks; CLRL, CLRQ and BCS are clrf, clrd and blssu there.
 Where one of these isn't so, nothing is written, and the status is 1."""
+import argparse
 import pathlib
 import random
 import re
@@ -28,6 +31,7 @@ LENGTHS = {"b": 1, "w": 2, "l": 4, "q": 8}
 REGISTERS = [f"R{n}" for n in range(12)] + ["AP", "FP", "SP"]
 MARKS = {1: "B^", 2: "W^", 4: "L^"}
 SIMULATORS_NAMES = {"BCC": "BGEQU", "BCS": "BLSSU"}
+OBJDUMPS_NAMES = {"CLRL": "CLRF", "CLRQ": "CLRD", "BCS": "BLSSU"}
 VALUES = [0, 1, 5, 0x3F, 0x40, 0x7F, 0x80, 0xFF, 0x1234, 0x7FFF, 0x8000]
 DISPLACEMENTS = [0, 1, -1, 0x7F, -0x80, 0x80, -0x81, 0x7FFF, -0x8000, 0x8000, -0x8001, 0x7FFF_FFFF, -0x8000_0000]
 WORKED = ["90 8F 05 52", "D0 50 A4 80", "D0 50 D4 0A 00", "9E AF 0C 51", "9A 81 50", "13 04", "BC 02", "11 F7", "BC 01"]
@@ -50,17 +54,17 @@ def shown(value):
 
 
 class Reader:
-    """The text of the instruction that bytes at ADDRESS spell."""
+    """The text of the instruction that bytes at an address spell."""
 
-    def __init__(self, code):
-        self.code, self.place = code, 0
+    def __init__(self, code, first=ADDRESS):
+        self.code, self.first, self.place = code, first, 0
 
     def number(self, size):
         self.place += size
         return int.from_bytes(self.code[self.place - size:self.place], "little")
 
     def address(self, distance):
-        return f"{(ADDRESS + self.place + distance) & 0xFFFF_FFFF:X}"
+        return f"{(self.first + self.place + distance) & 0xFFFF_FFFF:X}"
 
     def displaced(self, high, register):
         size, deferred = {5: 1, 6: 2, 7: 4}[high // 2], "@" if high % 2 else ""
@@ -160,21 +164,66 @@ def is_assembled_otherwise(text):
     return re.search(r"@[BWL]\^[0-9A-F]+(\[|,|$)|(?<![0-9A-F#-])80(00)?\(", text)
 
 
-def instruction_rows(count, seed):
-    table, rng = opcodes(), random.Random(seed)
-    codes = [bytes.fromhex(code) for code in WORKED]
-    codes += [spelling(rng, opcode, kinds) for opcode, (_, kinds) in sorted(table.items()) for _ in range(count)]
-    rows = [(code, Reader(code).text(table)) for code in codes]
+def unmarked(text, names):
+    """The text without its marks, with another's name of the opcode."""
+    name, _, operands = re.sub(r"[BWLI]\^", "", text).partition(" ")
+    return " ".join([names.get(name, name), *([operands] if operands else [])])
+
+
+def wrong_of_simulator(rows):
+    """How many rows SIMH prints or assembles otherwise."""
     answers = list(asked(rows))
     if len(answers) != len(rows):
         sys.exit("SIMH did not answer each question")
     wrong = 0
     for (code, text), (printed, made) in zip(rows, answers):
-        name, _, operands = re.sub(r"[BWLI]\^", "", text).partition(" ")
-        wanted = " ".join([SIMULATORS_NAMES.get(name, name), *([operands] if operands else [])])
-        if printed != wanted or made != code and not is_assembled_otherwise(text):
+        if printed != unmarked(text, SIMULATORS_NAMES) or made != code and not is_assembled_otherwise(text):
             print(f"{code.hex().upper()} {text}: SIMH prints {printed} and makes {made.hex().upper()}", file=sys.stderr)
             wrong += 1
+    return wrong
+
+
+# ---- GNU's objdump for the VAX
+
+def rewritten(text):
+    """Its text in MACRO's syntax. What it prints as *0x1000 is @#1000 or @1000; neither mark stands here."""
+    name, _, operands = text.partition(" ")
+    operands = re.sub(r"0x([0-9a-f]+)(\()?", lambda found: shown(signed(int(found[1], 16), 4)) + "(" if found[2] else f"{int(found[1], 16):X}", operands)
+    return f"{name} {operands.replace('$', '#').replace('*', '@')}".strip().upper()
+
+
+def dumped(objdump, code):
+    """By address the length and the text of what it reads at each ROOM bytes."""
+    with tempfile.NamedTemporaryFile(suffix=".bin") as file:
+        file.write(code)
+        file.flush()
+        words = [objdump, "-D", "-z", "-w", "-b", "binary", "-m", "vax", file.name]
+        said = subprocess.run(words, capture_output=True, text=True, check=True).stdout
+    for line in said.splitlines():
+        found = re.match(r"\s*([0-9a-f]+):\t([0-9a-f ]+)\t(.*)$", line)
+        if found and int(found[1], 16) % ROOM == 0:
+            yield int(found[1], 16), (len(found[2].split()), found[3].strip())
+
+
+def wrong_of_objdump(objdump, table, codes):
+    """How many spellings objdump ends elsewhere, or prints otherwise. Behind each NOPs fill ROOM bytes, so that it begins anew."""
+    answers, wrong = dict(dumped(objdump, b"".join(code.ljust(ROOM, b"\1") for code in codes))), 0
+    for number, code in enumerate(codes):
+        text = Reader(code, ROOM * number).text(table)
+        length, printed = answers.get(ROOM * number, (0, ""))
+        if (length, rewritten(printed)) != (len(code), unmarked(text, OBJDUMPS_NAMES).replace("@#", "@")):
+            print(f"{code.hex().upper()} {text}: objdump prints {printed} of {length} bytes", file=sys.stderr)
+            wrong += 1
+    return wrong
+
+
+def instruction_rows(count, seed, objdump):
+    """How many rows differ, and the rows."""
+    table, rng = opcodes(), random.Random(seed)
+    codes = [bytes.fromhex(code) for code in WORKED]
+    codes += [spelling(rng, opcode, kinds) for opcode, (_, kinds) in sorted(table.items()) for _ in range(count)]
+    rows = [(code, Reader(code).text(table)) for code in codes]
+    wrong = wrong_of_simulator(rows) + (wrong_of_objdump(objdump, table, codes) if objdump else 0)
     return wrong, [f"{code.hex().upper()} {text}" for code, text in rows]
 
 
@@ -262,13 +311,24 @@ WORDS_HEAD = """\
 """
 
 
+def words_of_the_line():
+    parser = argparse.ArgumentParser()
+    parser.add_argument("--check", action="store_true")
+    parser.add_argument("--objdump")
+    parser.add_argument("count", nargs="?", type=int, default=8)
+    parser.add_argument("seed", nargs="?", type=int, default=1)
+    return parser.parse_args()
+
+
 def main():
-    count, seed = int(sys.argv[1]) if sys.argv[1:] else 8, int(sys.argv[2]) if sys.argv[2:] else 1
-    wrong, instructions = instruction_rows(count, seed)
-    others, words = checked_words(4, seed)
+    asked_for = words_of_the_line()
+    wrong, instructions = instruction_rows(asked_for.count, asked_for.seed, asked_for.objdump)
+    others, words = checked_words(4, asked_for.seed)
     print(f"{len(instructions)} instructions, {wrong} differ; {len(words)} words, {others} differ")
     if wrong or others:
         return 1
+    if asked_for.check:
+        return 0
     DATA.mkdir(parents=True, exist_ok=True)
     (DATA / "instructions.txt").write_text(INSTRUCTIONS_HEAD + "\n" + "\n".join(instructions) + "\n")
     (DATA / "words.txt").write_text(WORDS_HEAD + "\n" + "\n".join(words) + "\n")

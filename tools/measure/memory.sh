@@ -13,7 +13,7 @@ ghost use Rattle.image_file.specs.Whole.{IsWhole};
 
 use anyhow::{Context, Result, bail};
 use image_file::{Image, read_image};
-use memory_core::{Change, Kind, MemState, Reply, Request};
+use memory_core::{Change, Kind, Limit, MemState, Reply, Request};
 use std::alloc::Global;
 use std::time::Instant;
 
@@ -51,7 +51,7 @@ fn measure_new(rt: &HostRuntime, name: &str, start: u32, size: u32) -> Result<()
     for _ in 0..ROUNDS {
         let start = Instant::now(rt)?;
         let input = Vec::new(rt.alloc());
-        let memory = MemState::new(rt.alloc(), &image, input, 16, 1, 0).ok().context("no memory")?;
+        let memory = MemState::new(rt.alloc(), &image, input, 16, Limit::Entries(1), 0).ok().context("no memory")?;
         fastest = fastest.min(start.elapsed(rt)?.as_micros());
         drop(memory);
     }
@@ -99,11 +99,11 @@ fn main(rt: HostRuntime) -> Result<()> {
     measure_new(&rt, "a small image with the last page", 0x7fff_fe00, 0x200)?;
     let image = image_of(rt.alloc(), 0x1000, 0x200)?;
     let input = Vec::new(rt.alloc());
-    let mut memory = MemState::new(rt.alloc(), &image, input, 16, ACCESSES, 0).ok().context("no memory")?;
+    let mut memory = MemState::new(rt.alloc(), &image, input, 16, Limit::Entries(ACCESSES), 0).ok().context("no memory")?;
     let start = Instant::now(&rt)?;
     let made = work(&image, &mut memory, ACCESSES);
     let accesses = start.elapsed(&rt)?.as_micros();
-    let entries = memory.history().len();
+    let entries = memory.history().unwrap_or(&[]).len();
     println!(rt; "{entries} accesses, of which {made} succeed: {accesses} microseconds")?;
     Ok(())
 }

@@ -14,7 +14,7 @@ mod threads;
 mod worker;
 
 use image_file::{Image, read_image};
-use memory_core::{Change, Kind, MemState, Reply, Request};
+use memory_core::{Change, Kind, Limit, MemState, Reply, Request};
 use std::io;
 use std::process::Abort;
 use std::rt::Clock;
@@ -66,7 +66,7 @@ fn not_shared(rt: &(impl AllocGlobal + Print + Clock)) -> io::Result<()> {
         return println!(rt; "no image");
     };
     let start = Instant::now(rt)?;
-    let Ok(mut memory) = MemState::new(rt.alloc(), &image, Vec::new(rt.alloc()), 1, ACCESSES, 0) else {
+    let Ok(mut memory) = MemState::new(rt.alloc(), &image, Vec::new(rt.alloc()), 1, Limit::Entries(ACCESSES), 0) else {
         return println!(rt; "no memory");
     };
     let made = added(&image, &mut memory, ACCESSES);
@@ -82,7 +82,7 @@ fn shared<R: Threads + Wait + Abort + Sync + AllocGlobal + Print + Clock>(rt: &R
     let start = Instant::now(rt)?;
     let end = count_up(rt, rt.alloc(), &OpenGate, plan, threads, ACCESSES);
     let time = start.elapsed(rt)?.as_millis();
-    let entries = end.memory.history().len();
+    let entries = end.memory.history().unwrap_or(&[]).len();
     println!(rt; "{entries} accesses by {threads} threads: {time} milliseconds")
 }
 

@@ -53,7 +53,7 @@ fn main(rt: HostRuntime) -> io::Result<()> {
             let start = Instant::now(&rt)?;
             let end = count_up(&rt, rt.alloc(), &Busy { steps }, plan, threads, ACCESSES);
             let time = start.elapsed(&rt)?.as_millis();
-            let entries = end.memory.history().len();
+            let entries = end.memory.history().unwrap_or(&[]).len();
             println!(rt; "{entries} accesses by {threads} threads, {steps} steps before each: {time} ms")?;
         }
     }
