@@ -9,7 +9,7 @@ use vximage_words::hexadecimal;
 pub const LINE_FEED: u8 = b'\n';
 
 /// Why a file lists no entries.
-#[derive(Clone, Copy, Debug, PartialEq, Eq)]
+#[derive(Clone, Copy)]
 pub enum ListFault {
     /// The first line, from 1, that begins with no address.
     NoAddress { line: u64 },

@@ -16,7 +16,7 @@ use vest_stops::{Refusal, Stop};
 use vt_outside::{Desk, Failed, Sink, write_all};
 
 /// Why a command stops, and the file at which it does, if it is at one.
-#[derive(Debug, Drop)]
+#[derive(Drop)]
 pub struct Halt<'a> {
     pub stop: Stop,
     pub name: Option<&'a str>,
@@ -47,7 +47,7 @@ impl<T: Drop> From<AllocFailed<T>> for Halt<'_> {
 }
 
 /// Why a command stops that reads names.
-#[derive(Debug, Drop)]
+#[derive(Drop)]
 pub enum Fault<'a> {
     Halted(Halt<'a>),
     /// The line, from 1, of the file of names begins with no address.

@@ -4,6 +4,7 @@ ghost use Rattle.dis_text.specs.Made.{name_value};
 ghost use Rattle.image_meaning.specs.declared.target.Target.TheVariants.{Original};
 ghost use Rattle.vest_files.specs.Loading.{IsLoaded, StopsAtBytes, hints_in};
 ghost use Rattle.vest_stops.specs.Files.{SameFiles};
+ghost use Rattle.vest_stops.specs.declared.stop.Stop.TheVariants.{WantOfMemory as NoMemory};
 ghost use Rattle.vximage_words.specs.Commands.{listing_wanted};
 ghost use Rattle.vximage_cli.specs.Listing.{AreNamed, IsListing, Lists, RefusesNames, StopsListing};
 ghost use Rattle.vximage_cli.specs.Making.{StopsAtOptional};
@@ -16,7 +17,6 @@ use crate::showing::{reached, send};
 use dis_text::{Code, Name, listing_text};
 use std::alloc::Global;
 use translate::Target;
-use vax_form::WantOfMemory;
 use vest_files::{Loaded, of_bytes};
 use vest_stops::{Done, Stop};
 use vt_outside::{Desk, Sink};
@@ -29,10 +29,11 @@ fn listed(
     loaded: &Loaded,
     names: &[Name],
     asked: &ListingAsked<'_>,
-) -> Result<Vec<u8>, WantOfMemory>
+) -> Result<Vec<u8>, Stop>
     requires loaded { IsLoaded Original bytes.now loaded.now.image loaded.now.target loaded.now.translation }
     requires hints { loaded.now.hints.items ≡ hints_in bytes.now }
-    ensures { IfOk result (λ text. IsListing text.items bytes.now (map name_value names.now) (listing_wanted asked.now)) }
+    ensures ok { IfOk result (λ text. IsListing text.items bytes.now (map name_value names.now) (listing_wanted asked.now)) }
+    ensures err { IfErr result (λ stop. stop ≡ NoMemory) }
 {
     let Loaded {
         image,
@@ -59,7 +60,7 @@ fn text_of(
     ensures err { IfErr result (λ stop. StopsAtBytes stop bytes.now) }
 {
     let loaded = of_bytes(alloc, bytes, Target::Original)?;
-    Ok(listed(alloc, bytes, &loaded, names, asked)?)
+    listed(alloc, bytes, &loaded, names, asked)
 }
 
 // The names of a file.

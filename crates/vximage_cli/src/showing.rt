@@ -7,6 +7,7 @@ ghost use Rattle.translate.specs.Refusal.{AreFew};
 ghost use Rattle.vest_files.specs.List.{Sends};
 ghost use Rattle.vest_files.specs.Loading.{IsLoaded, StopsAtBytes, hints_in};
 ghost use Rattle.vest_stops.specs.Files.{SameFiles};
+ghost use Rattle.vest_stops.specs.declared.stop.Stop.TheVariants.{WantOfMemory as NoMemory};
 ghost use Rattle.image_meaning.specs.declared.target.Target.TheVariants.{Original};
 ghost use Rattle.vximage_cli.specs.Named.{name_told};
 ghost use Rattle.vximage_cli.specs.Showing.{IsText, Shows, StopsShow, TellsOf, file_line, translated_line};
@@ -71,11 +72,12 @@ fn file_line(alloc: Global, bytes: &[u8], loaded: &Loaded) -> Result<Vec<u8>, Al
 }
 
 // What is said of a file's bytes, by what they mean.
-fn shown(alloc: Global, bytes: &[u8], loaded: &Loaded) -> Result<Vec<u8>, WantOfMemory>
+fn shown(alloc: Global, bytes: &[u8], loaded: &Loaded) -> Result<Vec<u8>, Stop>
     requires loaded { IsLoaded Original bytes.now loaded.now.image loaded.now.target loaded.now.translation }
     requires hints { loaded.now.hints.items ≡ hints_in bytes.now }
     requires whole { IsWhole loaded.now.image }
-    ensures { IfOk result (λ text. TellsOf text.items bytes.now loaded.now.image loaded.now.target loaded.now.translation) }
+    ensures ok { IfOk result (λ text. TellsOf text.items bytes.now loaded.now.image loaded.now.target loaded.now.translation) }
+    ensures err { IfErr result (λ stop. stop ≡ NoMemory) }
 {
     let Loaded {
         image,
@@ -96,7 +98,7 @@ fn text_of(alloc: Global, bytes: &[u8]) -> Result<Vec<u8>, Stop>
     ensures err { IfErr result (λ stop. StopsAtBytes stop bytes.now) }
 {
     let loaded = of_bytes(alloc, bytes, Target::Original)?;
-    Ok(shown(alloc, bytes, &loaded)?)
+    shown(alloc, bytes, &loaded)
 }
 
 pub fn send<K: Sink>(out: &mut K, text: &[u8]) -> Done

@@ -1,5 +1,5 @@
 -- The span before those that are done joins them.
-use Rattle.std.proofs.Common.{◌≡◌, ℕ, ◌+◌, ◌-◌, ◌<◌, List, ◌∷◌, ◌∙◌, false, drop, get_or, length, sym, ap, arith}
+use Rattle.std.proofs.Common.{◌≡◌, ◌+◌, ◌-◌, ◌<◌, ◌∷◌, ◌∙◌, false, drop, get_or, length, sym, ap, arith}
 use Rattle.std.proofs.lemmas.List.{at_drop_more}
 use Rattle.image_parts.specs.declared.spans.Span.{Span}
 use Rattle.image_parts.specs.Sections.{joined, all_joined}

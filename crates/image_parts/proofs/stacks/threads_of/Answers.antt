@@ -1,7 +1,6 @@
 -- The thread that is made is the first of those that are left.
 use Rattle.std.proofs.Common.{ℕ, ◌+◌, List, ◌∷◌, ◌++◌, [], ◌∙◌, drop, get_or, sym, append_assoc}
 use Rattle.std.proofs.lemmas.List.{at_drop_more}
-use Rattle.image_file.specs.declared.image.Start.{Start}
 use Rattle.image_parts.specs.Program.{thread_at, threads_from}
 use Rattle.image_parts.proofs.stacks.threads_of.Goals as goal
 
