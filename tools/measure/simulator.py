@@ -54,18 +54,18 @@ class Loop:
 REGISTERS = "D08F N 52  C05250 CC5051 D653 F552F5"
 LOOPS = [
     # MOVL #N,R2; ADDL2 R2,R0; XORL2 R0,R1; INCL R3; SOBGTR R2
-    Loop("registers", REGISTERS, 4, 2_000_000, aim=0.65),
+    Loop("registers", REGISTERS, 4, 2_000_000, simulated=10, aim=0.65),
     # CLRL R2; MOVL #N,R3; CMPL R2,R3; BLSS; BBS #0,R4; AOBLSS R3,R2
-    Loop("compares and branches", "D452 D08F N 53  D15253 1900 E0005400 F25352F3", 4, 2_000_000, aim=0.75),
+    Loop("compares and branches", "D452 D08F N 53  D15253 1900 E0005400 F25352F3", 4, 2_000_000, simulated=10, aim=0.75),
     # MOVL #N,R2; MOVAL @#1000,R3; MOVL (R3),R0; ADDL2 R0,4(R3); MOVL R0,(R3); SOBGTR R2
-    Loop("longwords in memory", "D08F N 52 DE9F0010000053  D06350 C050A304 D05063 F552F3", 4, 200_000, aim=0.2),
+    Loop("longwords in memory", "D08F N 52 DE9F0010000053  D06350 C050A304 D05063 F552F3", 4, 200_000, simulated=100, aim=0.2),
     # the same with MOVB and ADDB2
-    Loop("bytes in memory", "D08F N 52 DE9F0010000053  906350 8050A304 905063 F552F3", 4, 100_000, aim=0.12),
+    Loop("bytes in memory", "D08F N 52 DE9F0010000053  906350 8050A304 905063 F552F3", 4, 100_000, simulated=200, aim=0.12),
     # MOVL #N,R2; CALLS #0 of a procedure that is RET; SOBGTR R2
-    Loop("CALLS and RET", "D08F N 52  FB00AF05 F552F9", 3, 50_000),
+    Loop("CALLS and RET", "D08F N 52  FB00AF05 F552F9", 3, 50_000, simulated=200),
     # MOVL #N,R11; MOVC3 #4096,@#2000,@#4000; SOBGTR R11
     Loop("MOVC3 of 4,096 bytes", "D08F N 5B  288F00109F002000009F00400000 F55BEF", 2, 50, simulated=200),
-    Loop("registers, interpreted", REGISTERS, 4, 200_000, interpreted=True),
+    Loop("registers, interpreted", REGISTERS, 4, 200_000, simulated=100, interpreted=True),
     Loop("registers, 4 threads", REGISTERS, 4, 500_000, threads=4),
     # MOVL #N,R2; ADAWI #1,@#1000; SOBGTR R2
     Loop("ADAWI of one word, 4 threads", "D08F N 52  58019F00100000 F552F6", 2, 100_000, threads=4),
