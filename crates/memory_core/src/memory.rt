@@ -64,7 +64,7 @@ impl Memory for LiveState {
 
     ghost serves = { λ m p. p < m.contents.processors };
 
-    ghost same = { λ m n. (n.contents.set_up ≡ m.contents.set_up) × (n.contents.processors ≡ m.contents.processors) };
+    ghost same = { λ m n. (n.contents.set_up ≡ m.contents.set_up) × (n.contents.processors ≡ m.contents.processors) × (n.buffer ≡ m.buffer) × (n.sent ≡ m.sent) };
 
     ghost between = { λ _ entries. entries ≡ [] };
 
