@@ -38,10 +38,10 @@ abbrev pub BeginningsAreLegal : Type 0
 BeginningsAreLegal = (setting : Setting) (set_up : SetUp) (budget : ℕ) → setting.meaning.pages ≡ set_up.image.pages
     → IsLegal setting set_up budget [] (begun_from 0 set_up.image.threads)
 
--- a legal history with no processor spent stays legal from a set-up that goes on as the old one
+-- a legal history stays legal from a set-up that goes on as the old one, where each processor that is spent has no step left
 abbrev pub LegalGoesOn : Type 0
 LegalGoesOn = (setting : Setting) (old new : SetUp) (budget : ℕ) (entries : List Entry) (processors : List Processor)
-    → GoesOn entries old new → AllByRecursion (λ (p : Processor). p.mode ≢ Ended Spent) processors
+    → GoesOn entries old new → AllByRecursion (λ (p : Processor). p.mode ≡ Ended Spent → p.steps ≡ budget) processors
     → IsLegal setting old budget entries processors → IsLegal setting new budget entries processors
 
 -- ---- one processor, by its own entries

@@ -7,7 +7,7 @@ pub fn beginnings_are_legal()
     ensures { BeginningsAreLegal }
 {}
 
-/// A legal history with no processor spent stays legal from a set-up that goes on as the old one.
+/// A legal history stays legal from a set-up that goes on as the old one, where each processor that is spent has no step left.
 pub fn legal_goes_on()
     ensures { LegalGoesOn }
 {}
