@@ -1,8 +1,9 @@
 -- Words ready to be run.
-use Rattle.std.proofs.Common.{◌≡◌, ◌≢◌, ℕ, zero, suc, ◌+◌, ◌-◌, ◌^◌, ◌<◌, ◌≤◌, if◌then◌else◌, Bool, true, false, nat_lt, ltb-true, ltb-false, List, length, get_or, Option, Some, None, refl, sym, ap, ◌∙◌, subst, inl, inr, ◌⊎◌, ⊎_elim, arith}
+use Rattle.std.proofs.Common.{◌≡◌, ◌≢◌, ℕ, zero, suc, ◌+◌, ◌-◌, ◌%◌, ◌^◌, ◌<◌, ◌≤◌, if◌then◌else◌, Bool, true, false, nat_lt, ltb-true, ltb-false, List, length, get_or, Option, Some, None, refl, sym, ap, ◌∙◌, subst, inl, inr, ◌⊎◌, ⊎_elim, arith}
 use Rattle.std.specs.Int.{w32}
-use Rattle.std.specs.Prelude.{ℤ, ◌==◌, pos, negsuc, ◌≤ℤ◌, ◌<ℤ◌, FitsSigned, IfSome, is_some, not, option_and_then, slice_get}
+use Rattle.std.specs.Prelude.{ℤ, ◌==◌, pos, negsuc, ◌≤ℤ◌, ◌<ℤ◌, FitsSigned, is_some, not, option_and_then, slice_get}
 use Rattle.std.proofs.Math.ListN.{set}
+use Rattle.std.proofs.lemmas.Bool.{eqb-true}
 use Rattle.std.proofs.lemmas.Int.{ints}
 use Rattle.std.proofs.lemmas.List.{get_or-set_same, get_or-set_other, length-set}
 use Rattle.std.proofs.lemmas.Option.{slice_get-get_or, slice_get_read, slice_get_within}
@@ -11,10 +12,12 @@ use Rattle.alpha_encode.specs.declared.instr.AlphaInstr.{AlphaInstr}
 use Rattle.alpha_encode.specs.declared.instr.AlphaInstr.TheVariants.{Branch}
 use Rattle.alpha_encode.specs.declared.instr.BranchOp.{BranchOp}
 use Rattle.alpha_encode.specs.declared.instr.BranchOp.TheVariants as row
+use Rattle.alpha_encode.specs.declared.instr.OperateOp.TheVariants.{Bis}
 use Rattle.alpha_meaning.specs.Act.{links, link_of, taken, target_of}
+use Rattle.alpha_meaning.specs.Result.{result_of}
 use Rattle.alpha_meaning.specs.State.{Alpha, Regs, at_place, put, regs_of}
 use Rattle.block_law.specs.Translations.{Code, fetch_of}
-use Rattle.prepared_code.specs.Flats.{AreFlat, AreStraight, HasRegisters, IsAlone, IsFlat, IsFlatOf, IsItsWay, IsLanding, IsStraight, StaysBehind, effect}
+use Rattle.prepared_code.specs.Flats.{AreFlat, AreStraight, IsAlone, IsFlat, IsFlatOf, IsInForm, IsItsWay, IsLanding, IsNothing, IsStraight, StaysBehind, effect, operand}
 use Rattle.prepared_code.specs.Inside.{local_by, step_in, unless_begun}
 use Rattle.prepared_code.specs.Prepared.{AreEncodable, AreReady, IsNumber}
 use Rattle.prepared_code.specs.declared.flat.Flat.{Flat}
@@ -36,9 +39,9 @@ stays code c d i fetched does inside =
     ∙ ap (option_and_then (λ (e : Alpha). unless_begun (address_at code.map e.pc) e)) does
     ∙ ap (λ o. unless_begun o d) inside
 
-pub is_straight : (code : Code) (place : ℕ) (i : AlphaInstr) (f : Flat) → fetch_of code.words place ≡ Some i → address_at code.map (place + 1) ≡ None → HasRegisters f → IsFlatOf i f → IsStraight code place f
-is_straight code place i f fetched inside has is = record {
-  registers = has;
+pub is_straight : (code : Code) (place : ℕ) (i : AlphaInstr) (f : Flat) → fetch_of code.words place ≡ Some i → address_at code.map (place + 1) ≡ None → IsInForm f → IsFlatOf i f → IsStraight code place f
+is_straight code place i f fetched inside form is = record {
+  form = form;
   step = λ r. stays code (at_place (regs_of r) place) (at_place (effect f (regs_of r)) (place + 1)) i fetched (is r place) inside;
 }
 
@@ -125,18 +128,13 @@ pub some_begins : (ready : List Word) (word : ℕ) (w : Word) → word < length 
 some_begins ready word w within found begun code are = sym (is_mark code.map word w.block (ready_at code.words code.map ready word w are within found).block) ∙ begun
 
 -- a word that computes, and behind which no block begins
-pub is_alone : (code : Code) (place : ℕ) (i : AlphaInstr) (f : Flat) → fetch_of code.words place ≡ Some i → address_at code.map (place + 1) ≡ None → HasRegisters f → IsFlatOf i f → f.number ≡ 1 → f.way ≡ way.Other
+pub is_alone : (code : Code) (place : ℕ) (i : AlphaInstr) (f : Flat) → fetch_of code.words place ≡ Some i → address_at code.map (place + 1) ≡ None → IsInForm f → IsFlatOf i f → f.number ≡ 1 → f.way ≡ way.Other
     → IsAlone code place f
 is_alone code place i f fetched inside has is one none = record {
   few = omega (arith, one);
   straight = λ e. is_straight code place i f fetched inside has is;
   its_way = subst (IsItsWay code place f) (sym none) tt;
 }
-
-pub is_alone_if : (code : Code) (place : ℕ) (i : AlphaInstr) (f : Option Flat) → fetch_of code.words place ≡ Some i → address_at code.map (place + 1) ≡ None → IfSome f HasRegisters → IfSome f (IsFlatOf i)
-    → IfSome f (λ g. g.number ≡ 1) → IfSome f (λ g. g.way ≡ way.Other) → IfSome f (IsAlone code place)
-is_alone_if code place i None fetched inside has is one none = tt
-is_alone_if code place i (Some f) fetched inside has is one none = is_alone code place i f fetched inside has is one none
 
 -- ---- one more word in front
 same : {X : Type 0} (x y : X) → Some x ≡ Some y → x ≡ y
@@ -161,8 +159,11 @@ straight_still code old place first count g before are k f h found = are k f h (
 
 -- neither its number nor a guess says whether a word is straight
 counted : (code : Code) (place number within : ℕ) (f : Flat) → IsStraight code place f → IsStraight code place (record f { number = number; within = within })
-counted code place number within f is = record {
-  registers = record { a = is.registers.a; b = is.registers.b; c = is.registers.c };
+counted code place number within f is = let has = is.form.registers in record {
+  form = record {
+    registers = record { a = has.a; b = has.b; c = has.c; second = has.second };
+    zero = λ r31. let none = is.form.zero r31 in record { op = none.op; a = none.a; b = none.b; literal = none.literal };
+  };
   step = is.step;
 }
 
@@ -234,3 +235,26 @@ encodable words pairs ready are k w found = (are.each k w (omega (arith, slice_g
 pub fits_wider : (d : ℤ) → negsuc (2 ^ 20 - 1) ≤ℤ d → d <ℤ pos (2 ^ 20) → FitsSigned w32 d
 fits_wider (pos n) low high = record { sfits = grind (arith, ints) }
 fits_wider (negsuc n) low high = record { sfits = grind (arith, ints) }
+
+-- ---- the form in which a straight word runs
+-- the sum of a register and the literal is the one that is the operand
+pub second_is : (f : Flat) (r : List ℕ) (x : ℕ) → x ≡ regs_of r f.b → x < 2 ^ 64 → f.literal < 2 ^ 64 → (f.b ≡ 31) ⊎ (f.literal ≡ 0) → (x + f.literal) % 2 ^ 64 ≡ operand f (regs_of r)
+unfolding regs_of
+second_is f r x is fits few (inl r31) =
+    let none : x ≡ 0 = is ∙ ap (regs_of r) r31 in
+    let same : (x + f.literal) % 2 ^ 64 ≡ f.literal = omega (arith, none, few) in
+    same ∙ ap (λ b. if b == 31 then f.literal else regs_of r b) (sym r31)
+second_is f r x is fits few (inr none) = by (f.b == 31) refl
+  where
+    by : (b : Bool) → (f.b == 31) ≡ b → (x + f.literal) % 2 ^ 64 ≡ (if b then f.literal else regs_of r f.b)
+    by true e = let read : x ≡ 0 = is ∙ ap (regs_of r) (eqb-true f.b 31 e) in omega (arith, read, none)
+    by false e = let same : (x + f.literal) % 2 ^ 64 ≡ x = omega (arith, none, fits) in same ∙ is
+
+-- what is computed of R31 alone is 0
+pub nothing_is : (f : Flat) (r : List ℕ) (held : ℕ) → IsNothing f → result_of f.op (regs_of r f.a) (operand f (regs_of r)) held ≡ 0
+unfolding regs_of
+nothing_is f r held none =
+    ap (λ o. result_of o (regs_of r f.a) (operand f (regs_of r)) held) none.op
+    ∙ ap (λ a. result_of Bis (regs_of r a) (operand f (regs_of r)) held) none.a
+    ∙ ap (λ b. result_of Bis 0 (if b == 31 then f.literal else regs_of r b) held) none.b
+    ∙ ap (λ l. result_of Bis 0 l held) none.literal

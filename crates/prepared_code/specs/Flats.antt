@@ -5,6 +5,7 @@ use Rattle.address_map.specs.Pairs.{address_at}
 use Rattle.alpha_encode.specs.declared.instr.AlphaInstr.{AlphaInstr}
 use Rattle.alpha_encode.specs.declared.instr.BranchOp.{BranchOp}
 use Rattle.alpha_encode.specs.declared.instr.OperateOp.{OperateOp}
+use Rattle.alpha_encode.specs.declared.instr.OperateOp.TheVariants.{Bis}
 use Rattle.alpha_meaning.specs.Act.{act, links, taken}
 use Rattle.alpha_meaning.specs.Result.{result_of}
 use Rattle.alpha_meaning.specs.State.{Regs, put, at_place, regs_of}
@@ -16,7 +17,7 @@ use Rattle.prepared_code.specs.declared.flat.Way.{Way}
 use Rattle.prepared_code.specs.declared.flat.Way.TheVariants as way
 
 -- ---- straight words: the next one follows
--- the second operand: a register, or the literal
+-- the second operand: the literal, or a register
 abbrev pub operand : Flat → Regs → ℕ
 operand f regs = if f.b == 31 then f.literal else regs f.b
 
@@ -28,10 +29,24 @@ effect f regs = put regs f.c (result_of f.op (regs f.a) (operand f regs) (regs f
 abbrev pub by_literal : OperateOp → (a literal c : ℕ) → Flat
 by_literal op a literal c = record { op = op; a = a; b = 31; c = c; way = way.Other; number = 1; within = 0; literal = literal }
 
+-- the second operand is a register or the literal: one of them reads 0
 pub record HasRegisters (f : Flat) : Type 0 where
   pub a : f.a < 32
   pub b : f.b < 32
   pub c : f.c < 32
+  pub second : (f.b ≡ 31) ⊎ (f.literal ≡ 0)
+
+-- it computes 0, of R31 alone
+pub record IsNothing (f : Flat) : Type 0 where
+  pub op : f.op ≡ Bis
+  pub a : f.a ≡ 31
+  pub b : f.b ≡ 31
+  pub literal : f.literal ≡ 0
+
+-- the form in which it runs: nothing but 0 goes to R31
+pub record IsInForm (f : Flat) : Type 0 where
+  pub registers : HasRegisters f
+  pub zero : f.c ≡ 31 → IsNothing f
 
 -- an instruction does what a flat word says
 abbrev pub IsFlatOf : AlphaInstr → Flat → Type 0
@@ -39,7 +54,7 @@ IsFlatOf i f = (r : List ℕ) (pc : ℕ) → local (act i (at_place (regs_of r) 
 
 -- the word there does what a flat word says, and no block begins at the next
 pub record IsStraight (code : Code) (place : ℕ) (f : Flat) : Type 0 where
-  pub registers : HasRegisters f
+  pub form : IsInForm f
   pub step : (r : List ℕ) → step_in code (at_place (regs_of r) place) ≡ Some (at_place (effect f (regs_of r)) (place + 1))
 
 -- so do this many from there on

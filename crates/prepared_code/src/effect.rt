@@ -134,6 +134,19 @@ pub(crate) fn clear_31(cpu: &mut Cpu)
     cpu.r[31] = 0;
 }
 
+/// Writes a register. Into register 31 goes 0 alone.
+#[tactic(auto, unfolding(alpha_meaning::specs::State::regs_of))]
+#[inline(always)]
+pub(crate) fn write(cpu: &mut Cpu, register: u8, value: u64)
+    requires within { register < 32 }
+    requires zero { slice_index cpu.old.r 31 ≡ 0 }
+    requires same { register ≡ 31 → value ≡ 0 }
+    ensures is { state_of cpu.new ≡ at_place (put (regs_of cpu.old.r) register value) cpu.old.pc }
+    ensures zero { slice_index cpu.new.r 31 ≡ 0 }
+{
+    cpu.r[register as usize] = value;
+}
+
 /// Writes a register.
 #[tactic(auto, unfolding(alpha_meaning::specs::State::regs_of))]
 #[inline(always)]

@@ -3,6 +3,7 @@
 ghost use Rattle.std.specs.Prelude.{◌≡◌, ◌≢◌, ◌⊎◌, ◌+◌, ◌<◌, ◌≤◌, length, true, Some, None, IfOk, IfSome, is_some};
 ghost use Rattle.address_map.specs.Pairs.{address_at};
 ghost use Rattle.alpha_encode.specs.Words.{IsEncodable, IsSecond};
+ghost use Rattle.alpha_encode.specs.declared.instr.AlphaInstr.{AlphaInstr};
 ghost use Rattle.alpha_encode.specs.declared.instr.AlphaInstr.TheVariants.{Branch, Memory, Operate};
 ghost use Rattle.alpha_encode.specs.declared.instr.BranchOp.TheVariants.{Br};
 ghost use Rattle.alpha_meaning.specs.Act.{act};
@@ -10,7 +11,7 @@ ghost use Rattle.alpha_meaning.specs.Pieces.{most_words};
 ghost use Rattle.alpha_meaning.specs.State.{Alpha};
 ghost use Rattle.block_law.specs.Translations.{Code, fetch_of};
 ghost use Rattle.prepared_code.specs.Effects.{local};
-ghost use Rattle.prepared_code.specs.Flats.{AreFlat, by_literal, HasRegisters, IsAlone, IsFlatOf, StaysBehind};
+ghost use Rattle.prepared_code.specs.Flats.{AreFlat, by_literal, HasRegisters, IsAlone, IsFlatOf, IsInForm, StaysBehind};
 ghost use Rattle.prepared_code.specs.declared.flat.Way.TheVariants.{Other};
 ghost use Rattle.prepared_code.specs.Prepared.{AreEncodable, AreReady};
 
@@ -38,16 +39,17 @@ pub(crate) enum Way {
 #[derive(Clone, Copy, Debug, PartialEq, Eq)]
 pub(crate) struct Flat {
     pub op: OperateOp,
-    /// The registers of its operands and of its result. Where `b` is 31 the second operand is the literal.
+    /// The registers of its operands and of its result. The second operand is the sum of register `b` and the literal, one of
+    /// which is 0.
     pub a: u8,
     pub b: u8,
     pub c: u8,
     pub way: Way,
     /// How many words are straight from it on; 0 where it isn't.
-    pub number: u16,
+    pub number: u8,
     /// A guess, of which nothing rests but speed: within how many steps, all local, it comes to another block; 0 where it
     /// comes to none without an access or a PALcode call.
-    pub within: u16,
+    pub within: u8,
     pub literal: u64,
 }
 
@@ -68,6 +70,9 @@ const STOP: Flat = Flat {
     way: Way::Stops,
     ..OTHER
 };
+
+/// A straight word whose result no register keeps.
+const NOTHING: Flat = Flat { number: 1, ..OTHER };
 
 /// The operation with a second operand that the code fixes.
 fn by_literal(op: OperateOp, a: u8, literal: u64, c: u8) -> Flat
@@ -144,6 +149,23 @@ fn computation(instr: AlphaInstr) -> Option<Flat>
         AlphaInstr::Operate { op, ra, rb, rc } => Some(operation(op, ra, rb, rc)),
         AlphaInstr::Memory { op, ra, rb, disp } => sum(op, ra, rb, disp),
         AlphaInstr::Branch { .. } | AlphaInstr::Jump { .. } | AlphaInstr::Pal(_) => None,
+    }
+}
+
+/// A straight word in the form in which it runs: what register 31 doesn't keep isn't computed.
+fn in_form(flat: Flat) -> Flat
+    requires registers { HasRegisters flat }
+    requires number { flat.number ≡ 1 }
+    requires way { flat.way ≡ Other }
+    ensures form { IsInForm result }
+    ensures is { (instr : AlphaInstr) → IsFlatOf instr flat → IsFlatOf instr result }
+    ensures number { result.number ≡ 1 }
+    ensures way { result.way ≡ Other }
+{
+    if flat.c == registers::ZERO {
+        NOTHING
+    } else {
+        flat
     }
 }
 
@@ -238,7 +260,10 @@ fn computation_at(ready: &[Word], place: usize, instr: AlphaInstr) -> Option<Fla
         → IfSome result (IsAlone code place) }
 {
     if is_inside(ready, place + 1) {
-        computation(instr)
+        match computation(instr) {
+            Some(flat) => Some(in_form(flat)),
+            None => None,
+        }
     } else {
         None
     }
@@ -303,7 +328,7 @@ fn flat_at(ready: &[Word], place: usize) -> Flat
 }
 
 /// How many words are straight from one on, which for itself has that number, where so many are from the next on.
-fn straight_from(alone: u16, behind: u16) -> u16
+fn straight_from(alone: u8, behind: u8) -> u8
     ensures { (result ≡ 0) ⊎ ((alone ≢ 0) × (result ≤ behind + 1)) }
 {
     if alone == 0 {
@@ -314,7 +339,7 @@ fn straight_from(alone: u16, behind: u16) -> u16
 }
 
 /// Within how many steps a word is guessed to come to another block; 0 behind the words.
-fn guess_at(flats: &[Flat], place: usize) -> u16 {
+fn guess_at(flats: &[Flat], place: usize) -> u8 {
     match flats.get(place) {
         Some(flat) => flat.within,
         None => 0,
@@ -322,7 +347,7 @@ fn guess_at(flats: &[Flat], place: usize) -> u16 {
 }
 
 /// The same of a word before those that are known: by the next one, or by the ways of a branch to a later word.
-fn guess_of(flats: &[Flat], place: usize, flat: &Flat) -> u16
+fn guess_of(flats: &[Flat], place: usize, flat: &Flat) -> u8
     requires { place < length flats.now }
 {
     let behind = match flat.way {
@@ -346,7 +371,7 @@ pub(crate) fn flats_of(alloc: Global, ready: &[Word]) -> Result<Vec<Flat>, Alloc
     ensures flat { IfOk result (λ v. (code : Code) → AreReady code.words code.map ready.now (length code.words) → AreFlat code v.items) }
 {
     let mut flats = vec![in alloc; OTHER; ready.len()]?;
-    let mut straight: u16 = 0;
+    let mut straight: u8 = 0;
     for back in 0..ready.len() {
         let place = ready.len() - 1 - back;
         let flat = flat_at(ready, place);

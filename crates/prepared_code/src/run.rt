@@ -6,42 +6,38 @@ ghost use Rattle.alpha_meaning.specs.Pieces.{most_words};
 ghost use Rattle.alpha_meaning.specs.State.{at_place, regs_of};
 ghost use Rattle.block_law.specs.Translations.{Code};
 ghost use Rattle.prepared_code.specs.Effects.{behind};
-ghost use Rattle.prepared_code.specs.Flats.{AreStraight, HasRegisters, effect, operand};
+ghost use Rattle.prepared_code.specs.Flats.{AreStraight, IsInForm, effect, operand};
 ghost use Rattle.prepared_code.specs.declared.flat.Flat.{Flat};
 ghost use Rattle.prepared_code.specs.Inside.{Crosses, Lands, local_at, step_in, steps_in};
 
-use crate::effect::{Effect, clear_31, commit, effect_of, put, register};
+use crate::effect::{Effect, clear_31, commit, effect_of, register, write};
 use crate::flat::{Flat, Way};
 use crate::prepared::Prepared;
-use alpha_encode::{BranchOp, registers};
+use alpha_encode::BranchOp;
 use alpha_machine::Cpu;
 use alpha_meaning::{is_taken, result};
 
 /// The second operand of a straight word.
 #[inline(always)]
 fn operand(cpu: &Cpu, flat: &Flat) -> u64
-    requires within { flat.now.b < 32 }
+    requires form { IsInForm flat.now }
     requires zero { slice_index cpu.now.r 31 ≡ 0 }
     ensures { result ≡ operand flat.now (regs_of cpu.now.r) }
 {
-    if flat.b == registers::ZERO {
-        flat.literal
-    } else {
-        register(cpu, flat.b)
-    }
+    register(cpu, flat.b).wrapping_add(flat.literal)
 }
 
 /// Makes the step of a straight word, but for the program counter.
 #[inline(always)]
 fn operate(cpu: &mut Cpu, flat: &Flat)
-    requires registers { HasRegisters flat.now }
+    requires form { IsInForm flat.now }
     requires zero { slice_index cpu.old.r 31 ≡ 0 }
     ensures is { state_of cpu.new ≡ at_place (effect flat.now (regs_of cpu.old.r)) cpu.old.pc }
     ensures zero { slice_index cpu.new.r 31 ≡ 0 }
 {
     let (a, b) = (register(cpu, flat.a), operand(cpu, flat));
     let value = result(flat.op, a, b, register(cpu, flat.c));
-    put(cpu, flat.c, value);
+    write(cpu, flat.c, value);
 }
 
 /// Makes the steps of so many straight words.
@@ -50,7 +46,7 @@ fn go_straight(cpu: &mut Cpu, flats: &[Flat], count: usize)
     requires zero { slice_index cpu.old.r 31 ≡ 0 }
     requires few { length flats.now ≤ most_words }
     requires within { cpu.old.pc + count ≤ length flats.now }
-    requires registers { (k : ℕ) (f : Flat) → k < count → slice_get flats.now (cpu.old.pc + k) ≡ Some f → HasRegisters f }
+    requires form { (k : ℕ) (f : Flat) → k < count → slice_get flats.now (cpu.old.pc + k) ≡ Some f → IsInForm f }
     ensures zero { slice_index cpu.new.r 31 ≡ 0 }
     ensures ran { (code : Code) → AreStraight code flats.now cpu.old.pc count → steps_in code (state_of cpu.old) count ≡ Some (state_of cpu.new) }
 {

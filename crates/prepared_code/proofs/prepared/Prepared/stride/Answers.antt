@@ -11,11 +11,11 @@ go_straight-requires-clause-within c =
     let flat = flat_there c.args.self.now.code c.flats-flats.result.now c.args.cpu.now.pc c.in-Some.flat.now c.flats-flats.ensures.flat found.0 (found.1 c.in-Some.flat.now) in
     omega (arith, flat.within, c.min-count.ensures, c.from.ensures)
 
-pub go_straight-requires-clause-registers : goal.go_straight-requires-clause-registers
-go_straight-requires-clause-registers c = λ k f h there.
+pub go_straight-requires-clause-form : goal.go_straight-requires-clause-form
+go_straight-requires-clause-form c = λ k f h there.
     let found = c.in-Some.ensures.lookup.3 in
     let flat = flat_there c.args.self.now.code c.flats-flats.result.now c.args.cpu.now.pc c.in-Some.flat.now c.flats-flats.ensures.flat found.0 (found.1 c.in-Some.flat.now) in
-    (flat.straight k f (omega (arith, h, c.min-count.ensures, c.from.ensures)) there).registers
+    (flat.straight k f (omega (arith, h, c.min-count.ensures, c.from.ensures)) there).form
 
 pub returns-then-flat-gt0-clause-ran : goal.returns-then-flat-gt0-clause-ran
 returns-then-flat-gt0-clause-ran c =
