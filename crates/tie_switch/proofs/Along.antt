@@ -1,13 +1,22 @@
 -- Accesses on a course, and the turns along it.
-use Rattle.std.proofs.Common.{◌≡◌, ℕ, suc, ◌+◌, ◌<◌, ◌≤◌, inl, inr, Bool, true, List, refl, sym, ap, ◌∙◌, subst, arith}
-use Rattle.std.specs.Prelude.{MatchBool}
+use Rattle.std.proofs.Common.{◌≡◌, ℕ, suc, ◌+◌, ◌<◌, ◌≤◌, inl, inr, if◌then◌else◌, Bool, true, false, List, [], ◌∷◌, ◌++◌, refl, sym, ap, ◌∙◌, subst, arith}
+use Rattle.std.specs.Prelude.{MatchBool, reverse}
+use Rattle.std.proofs.lemmas.List.{append-nil, reverse-append}
 use Rattle.vt_words.proofs.Tests.{less_differs}
 use Rattle.block_law.specs.Translations.{Code}
 use Rattle.alpha_machine.specs.Step.{state_of}
 use Rattle.alpha_machine.specs.declared.cpu.Cpu.{Cpu}
 use Rattle.alpha_meaning.specs.State.{Alpha}
+use Rattle.alpha_meaning.specs.declared.access.AlphaKind.{AlphaKind}
+use Rattle.alpha_meaning.specs.declared.access.AlphaKind.TheVariants.{Load, LoadLocked, Store, StoreConditional}
+use Rattle.memory_core.specs.Contents.{entry_for}
+use Rattle.memory_core.specs.Kinds.{is_get, is_put}
+use Rattle.memory_core.specs.Limits.{CountsPuts, counts}
+use Rattle.memory_core.specs.Order.{gets}
 use Rattle.memory_core.specs.Seen.{IsNext, IsOver}
 use Rattle.memory_core.specs.declared.entry.Entry.{Entry}
+use Rattle.memory_core.specs.declared.entry.Limit.{Limit}
+use Rattle.memory_core.specs.declared.entry.Limit.TheVariants.{Entries, Puts}
 use Rattle.memory_core.specs.declared.entry.Request.{Request}
 use Rattle.memory_core.specs.declared.entry.SetUp.{SetUp}
 use Rattle.prepared_code.specs.Asks.{AsksInside}
@@ -16,13 +25,14 @@ use Rattle.prepared_code.specs.declared.asked.Asked.{Asked}
 use Rattle.system_model.specs.Legal.{spent}
 use Rattle.system_model.specs.Processors.{Processor, Runs, Turn, moment_of, turn}
 use Rattle.system_model.specs.Settings.{Setting}
-use Rattle.system_model.specs.Steps.{is_defined, request_for}
+use Rattle.system_model.specs.Steps.{is_defined, kind_of, request_for}
 use Rattle.system_model.specs.declared.translation.Range.{Range}
 use Rattle.vax_form.specs.declared.pages.Pages.{Pages}
 use Rattle.vax_form.specs.declared.state.VaxState.{VaxState}
 use Rattle.tie_switch.specs.Courses.{Goes, course_of}
 use Rattle.tie_switch.specs.ManyTurns.{IsTurns, NoTurn, Turns}
 use Rattle.tie_switch.specs.Asks.{HasCourseStep}
+use Rattle.tie_switch.specs.Live.{KeepsRead}
 use Rattle.tie_switch.specs.Processors.{CanStep, HasSteps, IsPlain, ProcessorValue, processor_of}
 use Rattle.tie_switch.specs.Settings.{image_setting}
 use Rattle.tie_switch.specs.Turns.{IsStill, Makes}
@@ -81,6 +91,40 @@ makes_none setting source a set_up may_come thread before interpreted steps old 
     let s = stands_at source a thread before interpreted steps old asks in
     subst (λ (t : Turn). Makes t set_up may_come p (spent p) seen seen') (sym (turn_is setting source a p s e defined))
     (inr (record { over = subst (λ (r : Request). IsOver set_up may_come r seen seen') same over; goes = refl }))
+
+-- neither asks for a byte of the input, or puts one out
+no_get : (kind : AlphaKind) → is_get (kind_of kind) ≡ false
+no_get Load = refl
+no_get LoadLocked = refl
+no_get Store = refl
+no_get StoreConditional = refl
+
+no_put : (kind : AlphaKind) → is_put (kind_of kind) ≡ false
+no_put Load = refl
+no_put LoadLocked = refl
+no_put Store = refl
+no_put StoreConditional = refl
+
+pub made_reads : (u : SetUp) (may_come : List Entry → Type 0) (request : Request) (kind : AlphaKind) (before : ℕ) (success : Bool) (old new : List Entry) → request.kind ≡ kind_of kind
+    → IsNext u may_come request before success old new → KeepsRead may_come old new
+made_reads u may_come request kind before success old new is n none =
+    let e = entry_for u (old ++ n.between) request in
+    let seen : new ≡ old ++ e ∷ [] = n.seen ∙ ap (λ (h : List Entry). h ++ e ∷ []) (ap (λ (b : List Entry). old ++ b) (none n.between n.come) ∙ append-nil old) in
+    let turned : reverse new ≡ e ∷ reverse old = ap reverse seen ∙ reverse-append old (e ∷ []) in
+    ap gets turned ∙ ap (λ b. if b then suc (gets (reverse old)) else gets (reverse old)) (ap is_get is ∙ no_get kind)
+
+pub refused_reads : (u : SetUp) (may_come : List Entry → Type 0) (request : Request) (old new : List Entry) → IsOver u may_come request old new → KeepsRead may_come old new
+refused_reads u may_come request old new over none =
+    ap (λ (h : List Entry). gets (reverse h)) (over.seen ∙ ap (λ (b : List Entry). old ++ b) (none over.between over.come) ∙ append-nil old)
+
+-- so where bytes that are put are counted, none is refused
+pub none_refused : (u : SetUp) (may_come : List Entry → Type 0) (request : Request) (kind : AlphaKind) (old new : List Entry) → request.kind ≡ kind_of kind → CountsPuts u.limit
+    → IsOver u may_come request old new → ⊥
+none_refused u may_come request kind old new is puts over = by u.limit puts over.counts
+  where
+    by : (limit : Limit) → CountsPuts limit → counts limit request.kind ≡ true → ⊥
+    by (Entries n) puts counted = puts
+    by (Puts n) puts counted = cc (counted, ap is_put is ∙ no_put kind)
 
 -- ---- along the course
 -- the code that was made ready is the translation's

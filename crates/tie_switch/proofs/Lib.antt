@@ -8,6 +8,9 @@ pub mod Playing
 pub mod Awaited
 pub mod Found
 pub mod Standing
+pub mod Waiting
+pub mod Reading
+pub mod Unspent
 pub mod Inside
 pub mod Courses
 pub mod Stopping

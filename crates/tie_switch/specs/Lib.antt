@@ -8,5 +8,6 @@ pub mod Turns
 pub mod Inside
 pub mod Courses
 pub mod ManyTurns
+pub mod Live
 pub mod Laws
 pub mod Known

@@ -1,9 +1,11 @@
 // Accesses inside a block, made with the registers in place.
-ghost use Rattle.std.specs.Prelude.{◌≡◌, ◌≤◌, ◌<◌, ◌+◌, ◌↔◌, ◌⊎◌, ℕ, false, true, Some, IfSome, IfNone};
+ghost use Rattle.std.specs.Prelude.{◌≡◌, ◌≢◌, ◌≤◌, ◌<◌, ◌+◌, ◌↔◌, ◌⊎◌, ℕ, false, true, Some, IfSome, IfNone};
+ghost use Rattle.memory_core.specs.Limits.{CountsPuts};
 ghost use Rattle.system_model.specs.Legal.{spent};
 ghost use Rattle.system_model.specs.Processors as model;
 ghost use Rattle.tie_switch.specs.Courses.{course_of};
 ghost use Rattle.tie_switch.specs.Asks.{HasCourseStep};
+ghost use Rattle.tie_switch.specs.Live.{KeepsRead};
 ghost use Rattle.tie_switch.specs.Processors.{HasMade, HasStep};
 ghost use Rattle.tie_switch.specs.Seen.{setting_of};
 ghost use Rattle.tie_switch.specs.Turns.{Makes, has_ended};
@@ -43,6 +45,8 @@ impl Course {
         ensures full { result ≡ Some Turn.Ended → (before : VaxState) (interpreted steps : ℕ) → Makes (model.turn (setting_of setting.entry) (course_of thread before interpreted self.old steps))
             (M.set_up memory.old) (M.between memory.old) (course_of thread before interpreted self.old steps) (spent (course_of thread before interpreted self.old steps)) (M.seen memory.old) (M.seen memory.new) }
         ensures ended { result ≡ Some Turn.Ended → self.new ≡ self.old }
+        ensures read { KeepsRead (M.between memory.old) (M.seen memory.old) (M.seen memory.new) }
+        ensures allowed { CountsPuts (M.set_up memory.old).limit → result ≢ Some Turn.Ended }
     {
         let Some(asked) = prepared.asked(&self.cpu) else {
             return None;

@@ -2,8 +2,8 @@
 //!
 //! `processor` keeps a thread between its turns, `next` gives what the word at which it stands does, `call` has the
 //! PALcode calls, `request` and `reference` the accesses to memory, `registers` what Alpha registers show of a VAX state,
-//! `interpreted` what a thread does at a state a reference at a time, `turn` makes one step over any memory, and `ready`
-//! makes a translation ready to be run.
+//! `interpreted` what a thread does at a state a reference at a time, `turn` makes one step over any memory, `many` and `live`
+//! many of them, and `ready` makes a translation ready to be run.
 #![tactic(auto)]
 
 mod access;
@@ -13,6 +13,7 @@ mod course;
 mod interpreted;
 mod known;
 pub mod laws;
+mod live;
 mod many;
 mod next;
 mod over;
@@ -30,6 +31,7 @@ mod turn;
 
 pub use interpreted::{Interpreted, Step};
 pub use known::KNOWN;
+pub use live::Pause;
 pub use place::Last;
 pub use played::Played;
 pub use processor::Processor;

@@ -1,8 +1,10 @@
 // Local steps and accesses inside blocks, in one course.
 ghost use Rattle.std.specs.Prelude.{◌≡◌, ◌<◌, ◌≤◌, ◌+◌, ◌^◌, ◌↔◌, ℕ, false, true, IfSome};
+ghost use Rattle.memory_core.specs.Limits.{CountsPuts};
 ghost use Rattle.system_model.specs.Legal.{spent};
 ghost use Rattle.system_model.specs.Processors as model;
 ghost use Rattle.tie_switch.specs.Courses.{HasOpcode, course_of};
+ghost use Rattle.tie_switch.specs.Live.{KeepsRead, is_spent};
 ghost use Rattle.tie_switch.specs.ManyTurns.{IsBehind, IsTurns, MayCome};
 ghost use Rattle.tie_switch.specs.Processors.{HasAdvanced, HasSteps, IsPlain};
 ghost use Rattle.tie_switch.specs.Seen.{setting_of};
@@ -73,6 +75,8 @@ impl Processor {
         ensures place { IsBehind M.same memory.old memory.new }
         ensures serves { (thread : ℕ) → M.serves memory.old thread ↔ M.serves memory.new thread }
         ensures retired { course.new.retired ≤ course.old.retired + result.0 }
+        ensures read { KeepsRead (MayCome M.same M.between memory.old) (M.seen memory.old) (M.seen memory.new) }
+        ensures allowed { CountsPuts (M.set_up memory.old).limit → result.1 ≡ Turn.Went }
         ensures went { result.1 ≡ Turn.Went → IsTurns (setting_of setting.entry) (M.set_up memory.old) (MayCome M.same M.between memory.old) self.now.budget (processor_of self.now) (M.seen memory.old)
             result.0 (course_of self.now.thread self.now.boundary self.now.interpreted course.new (self.now.steps + result.0)) (M.seen memory.new) }
         ensures ended { result.1 ≡ Turn.Ended → IsTurns (setting_of setting.entry) (M.set_up memory.old) (MayCome M.same M.between memory.old) self.now.budget (processor_of self.now) (M.seen memory.old)
@@ -117,6 +121,9 @@ impl Processor {
         ensures steps { result.1 ≡ Turn.Went → self.new.steps ≡ self.old.steps + result.0 }
         ensures few_steps { self.new.steps ≤ self.new.budget }
         ensures ended { result.1 ≡ Turn.Ended → has_ended (processor_of self.new).mode ≡ true }
+        ensures read { KeepsRead (MayCome M.same M.between memory.old) (M.seen memory.old) (M.seen memory.new) }
+        ensures allowed { CountsPuts (M.set_up memory.old).limit → result.1 ≡ Turn.Went }
+        ensures unspent { result.1 ≡ Turn.Went → is_spent (processor_of self.old).mode ≡ false → is_spent (processor_of self.new).mode ≡ false }
         ensures turned { (p : model.Processor) → StandsFor setting.entry.pages.now self.old p
             → HasAdvanced (setting_of setting.entry) (M.set_up memory.old) (MayCome M.same M.between memory.old) self.old.budget p result.0 self.new (M.seen memory.old) (M.seen memory.new) }
     {

@@ -1,11 +1,12 @@
 // The requests of Alpha code's accesses.
-ghost use Rattle.std.specs.Prelude.{◌≡◌, ◌+◌, ◌*◌, ◌≤◌, ◌<◌, ◌%◌, ◌^◌, true};
+ghost use Rattle.std.specs.Prelude.{◌≡◌, ◌+◌, ◌*◌, ◌≤◌, ◌<◌, ◌%◌, ◌^◌, ◌&&◌, true};
 ghost use Rattle.system_model.specs.Processors.{moment_of};
 ghost use Rattle.system_model.specs.Quadwords.{stored};
 ghost use Rattle.system_model.specs.Steps.{Moment, kind_of, change_of, is_defined, request_for};
 ghost use Rattle.tie_switch.specs.Accesses.{IsAccess, CanAsk};
 ghost use Rattle.tie_switch.specs.Seen.{setting_of};
 ghost use Rattle.memory_core.specs.Changes.{IsInRange};
+ghost use Rattle.memory_core.specs.Kinds.{is_get};
 ghost use Rattle.vax_form.specs.PageTable.{IsPageTable};
 
 use crate::processor::Processor;
@@ -59,6 +60,14 @@ fn page_table_rises(pages: &Pages)
     ensures { IsPageTable pages.now }
 {
     let _ = &pages.ranges;
+}
+
+/// Whether a request waits, where a GET does.
+#[inline(always)]
+pub(crate) fn awaits(waits: bool, request: &Request) -> bool
+    ensures { result ≡ (waits && is_get request.now.kind) }
+{
+    waits && matches!(request.kind, Kind::Get)
 }
 
 /// The request of an access by a thread that has retired so many instructions.

@@ -1,9 +1,10 @@
 // Interpreted steps.
-ghost use Rattle.std.specs.Prelude.{◌≡◌, ◌≤◌, ◌<◌, ◌+◌, ◌++◌, ◌∷◌, ◌↔◌, ◌⊎◌, [], ℕ, List, false};
+ghost use Rattle.std.specs.Prelude.{◌≡◌, ◌<◌, ◌+◌, ◌++◌, ◌∷◌, ◌↔◌, ◌⊎◌, ◌&&◌, [], ℕ, List, false, true};
 ghost use Rattle.system_model.specs.Processors.{Interprets, tied, turn_in};
 ghost use Rattle.system_model.specs.Processors as model;
 ghost use Rattle.tie_switch.specs.Interpreted.{IfWants, step_of};
 ghost use Rattle.tie_switch.specs.Known.{AreFound};
+ghost use Rattle.tie_switch.specs.Live.{asks_get};
 ghost use Rattle.tie_switch.specs.Processors.{CanInterpret, HasMade, IsGiven, IsInterpreting, IsMode};
 ghost use Rattle.tie_switch.specs.Seen.{setting_of};
 ghost use Rattle.tie_switch.specs.Turns.{has_ended};
@@ -15,6 +16,7 @@ ghost use Rattle.vax_long.specs.Pending.{moment_at};
 use crate::interpreted::Step;
 use crate::processor::{Mode, Processor};
 use crate::reference::reply_found;
+use crate::request::awaits;
 use crate::setting::Setting;
 use memory_core::{Memory, Reply};
 use vax_form::Instr;
@@ -76,13 +78,14 @@ impl Processor {
         }
     }
 
-    /// Makes one interpreted step, with at most one access.
+    /// Makes one interpreted step, with at most one access, or tells that it waits, where a GET does.
     pub(crate) fn tie_step<M: Memory>(
         &mut self,
         setting: Setting<'_>,
         known: &mut [Option<Instr>],
         memory: &mut M,
-    )
+        waits: bool,
+    ) -> bool
         requires known { AreFound setting.pages.now known.old }
         requires interprets { IsInterpreting self.old.mode }
         requires pages { (M.set_up memory.old).image.pages ≡ setting.pages.now }
@@ -95,14 +98,21 @@ impl Processor {
         ensures serves { (thread : ℕ) → M.serves memory.old thread ↔ M.serves memory.new thread }
         ensures budget { self.new.budget ≡ self.old.budget }
         ensures thread { self.new.thread ≡ self.old.thread }
-        ensures steps { has_ended (processor_of self.new).mode ≡ false → self.new.steps ≡ self.old.steps + 1 }
-        ensures turned { (before : model.Mode) (state : VaxState) (replies : List ℕ) → IsMode setting.entry.pages.now self.old.thread self.old.boundary self.old.mode (Interprets state replies)
+        ensures steps { result ≡ false → has_ended (processor_of self.new).mode ≡ false → self.new.steps ≡ self.old.steps + 1 }
+        ensures waits { (before : model.Mode) (state : VaxState) (replies : List ℕ) → IsMode setting.entry.pages.now self.old.thread self.old.boundary self.old.mode (Interprets state replies)
+            → result ≡ (waits && asks_get (turn_in (setting_of setting.entry) (in_mode self.old before) (Interprets state replies))) }
+        ensures stays { result ≡ true → memory.new ≡ memory.old }
+        ensures still { result ≡ true → (p : model.Processor) → StandsFor setting.entry.pages.now self.old p → StandsFor setting.entry.pages.now self.new p }
+        ensures turned { result ≡ false → (before : model.Mode) (state : VaxState) (replies : List ℕ) → IsMode setting.entry.pages.now self.old.thread self.old.boundary self.old.mode (Interprets state replies)
             → HasMade (setting_of setting.entry) (M.set_up memory.old) (M.between memory.old) (turn_in (setting_of setting.entry) (in_mode self.old before) (Interprets state replies))
             (in_mode self.old before) self.new (M.seen memory.old) (M.seen memory.new) }
     {
         match self.interpret(setting.pages, known) {
             Step::Wants(reference) => {
                 let request = self.reference_request(&reference);
+                if awaits(waits, &request) {
+                    return true;
+                }
                 match memory.access(&request) {
                     Reply::Made { before, success: _ } => {
                         self.take_reply(reply_found(&reference, before));
@@ -115,5 +125,6 @@ impl Processor {
                 self.leave(setting, last);
             }
         }
+        false
     }
 }

@@ -1,5 +1,5 @@
 // One turn of a processor.
-ghost use Rattle.std.specs.Prelude.{◌≡◌, ◌≢◌, ◌≤◌, ◌<◌, ◌+◌, ◌↔◌, ◌⊎◌, ℕ, false, true, length};
+ghost use Rattle.std.specs.Prelude.{◌≡◌, ◌≢◌, ◌≤◌, ◌<◌, ◌+◌, ◌↔◌, ◌⊎◌, ◌&&◌, ℕ, false, true, length};
 ghost use Rattle.alpha_machine.specs.Step.{state_of};
 ghost use Rattle.alpha_meaning.specs.Pieces.{most_words};
 ghost use Rattle.system_model.specs.Processors.{mode_of, alpha_turn, moment_of, placed, stepped};
@@ -8,6 +8,7 @@ ghost use Rattle.system_model.specs.Steps.{Stuck, next};
 ghost use Rattle.tie_switch.specs.Processors.{HasMade, HasStep, HasTurned, IsMode, IsStarted};
 ghost use Rattle.tie_switch.specs.Accesses.{Fits, IsFetched};
 ghost use Rattle.tie_switch.specs.Known.{AreFound};
+ghost use Rattle.tie_switch.specs.Live.{asks_get, at_boundary, next_asks_get};
 ghost use Rattle.tie_switch.specs.Seen.{place_behind, setting_of};
 ghost use Rattle.tie_switch.specs.Settings.{image_setting};
 ghost use Rattle.tie_switch.specs.Turns.{has_ended};
@@ -16,6 +17,7 @@ use crate::arrive::mode_at;
 use crate::next::finish_access;
 use crate::place::{Next, Wanted};
 use crate::processor::{Mode, Processor};
+use crate::request::awaits;
 use crate::setting::Setting;
 use alpha_machine::Cpu;
 use image_file::Image;
@@ -95,8 +97,14 @@ impl Processor {
         }
     }
 
-    // Makes one step in Alpha code, with at most one access.
-    fn alpha_step<M: Memory>(&mut self, setting: Setting<'_>, cpu: Cpu, memory: &mut M)
+    // Makes one step in Alpha code, with at most one access, or tells that it waits, where a GET does.
+    fn alpha_step<M: Memory>(
+        &mut self,
+        setting: Setting<'_>,
+        cpu: Cpu,
+        memory: &mut M,
+        waits: bool,
+    ) -> bool
         requires few { length setting.code.now.words ≤ most_words }
         requires pages { (M.set_up memory.old).image.pages ≡ setting.pages.now }
         requires serves { M.serves memory.old self.old.thread }
@@ -107,29 +115,39 @@ impl Processor {
         ensures serves { (thread : ℕ) → M.serves memory.old thread ↔ M.serves memory.new thread }
         ensures budget { self.new.budget ≡ self.old.budget }
         ensures thread { self.new.thread ≡ self.old.thread }
-        ensures steps { has_ended (processor_of self.new).mode ≡ false → self.new.steps ≡ self.old.steps + 1 }
-        ensures turned { (mode : model.Mode) → HasMade (setting_of setting.entry) (M.set_up memory.old) (M.between memory.old)
+        ensures steps { result ≡ false → has_ended (processor_of self.new).mode ≡ false → self.new.steps ≡ self.old.steps + 1 }
+        ensures waits { (mode : model.Mode) → result ≡ (waits && asks_get (alpha_turn (setting_of setting.entry) (in_mode self.old mode) (next (setting_of setting.entry) (moment_of (in_mode self.old mode)) (state_of cpu)))) }
+        ensures stays { result ≡ true → memory.new ≡ memory.old }
+        ensures still { result ≡ true → self.new ≡ self.old }
+        ensures turned { result ≡ false → (mode : model.Mode) → HasMade (setting_of setting.entry) (M.set_up memory.old) (M.between memory.old)
             (alpha_turn (setting_of setting.entry) (in_mode self.old mode) (next (setting_of setting.entry) (moment_of (in_mode self.old mode)) (state_of cpu)))
             (in_mode self.old mode) self.new (M.seen memory.old) (M.seen memory.new) }
     {
         match self.next(setting, cpu) {
             Next::Moves(place) => self.go_to(setting, place),
-            Next::Wants(request, wanted) => match memory.access(&request) {
-                Reply::Made { before, success } => {
-                    self.go_behind(setting, cpu, wanted, before, success);
+            Next::Wants(request, wanted) => {
+                if awaits(waits, &request) {
+                    return true;
                 }
-                Reply::Full => self.spend(),
-            },
+                match memory.access(&request) {
+                    Reply::Made { before, success } => {
+                        self.go_behind(setting, cpu, wanted, before, success);
+                    }
+                    Reply::Full => self.spend(),
+                }
+            }
         }
+        false
     }
 
-    // Makes the step that it has.
+    // Makes the step that it has, or tells that it waits, where a GET does.
     fn make_step<M: Memory>(
         &mut self,
         setting: Setting<'_>,
         known: &mut [Option<Instr>],
         memory: &mut M,
-    )
+        waits: bool,
+    ) -> bool
         requires known { AreFound setting.pages.now known.old }
         requires few { length setting.code.now.words ≤ most_words }
         requires pages { (M.set_up memory.old).image.pages ≡ setting.pages.now }
@@ -143,19 +161,61 @@ impl Processor {
         ensures serves { (thread : ℕ) → M.serves memory.old thread ↔ M.serves memory.new thread }
         ensures budget { self.new.budget ≡ self.old.budget }
         ensures thread { self.new.thread ≡ self.old.thread }
-        ensures steps { has_ended (processor_of self.new).mode ≡ false → self.new.steps ≡ self.old.steps + 1 }
-        ensures turned { (p : model.Processor) → StandsFor setting.entry.pages.now self.old p
+        ensures steps { result ≡ false → has_ended (processor_of self.new).mode ≡ false → self.new.steps ≡ self.old.steps + 1 }
+        ensures waits { (p : model.Processor) → StandsFor setting.entry.pages.now self.old p → result ≡ (waits && asks_get (model.turn (setting_of setting.entry) p)) }
+        ensures stays { result ≡ true → memory.new ≡ memory.old }
+        ensures still { result ≡ true → (p : model.Processor) → StandsFor setting.entry.pages.now self.old p → StandsFor setting.entry.pages.now self.new (at_boundary (setting_of setting.entry) p) }
+        ensures turned { result ≡ false → (p : model.Processor) → StandsFor setting.entry.pages.now self.old p
             → HasMade (setting_of setting.entry) (M.set_up memory.old) (M.between memory.old) (model.turn (setting_of setting.entry) p) p self.new (M.seen memory.old) (M.seen memory.new) }
     {
         self.start(setting);
         match self.mode {
-            Mode::Runs(cpu) => self.alpha_step(setting, cpu, memory),
-            Mode::Interprets(..) => self.tie_step(setting, known, memory),
+            Mode::Runs(cpu) => self.alpha_step(setting, cpu, memory, waits),
+            Mode::Interprets(..) => self.tie_step(setting, known, memory, waits),
             Mode::New | Mode::Ended(_) => unreachable!(),
         }
     }
 
+    /// Takes its turn, if it has not ended, or tells that it waits, where a GET does. It then stands at its first boundary, if it was new.
+    pub(crate) fn take_or_wait<M: Memory>(
+        &mut self,
+        setting: Setting<'_>,
+        known: &mut [Option<Instr>],
+        memory: &mut M,
+        waits: bool,
+    ) -> bool
+        requires known { AreFound setting.pages.now known.old }
+        requires few { length setting.code.now.words ≤ most_words }
+        requires pages { (M.set_up memory.old).image.pages ≡ setting.pages.now }
+        requires serves { M.serves memory.old self.old.thread }
+        requires has_step { HasStep (setting_of setting) (M.set_up memory.old) self.old }
+        ensures known { AreFound setting.entry.pages.now known.new }
+        ensures set_up { M.set_up memory.new ≡ M.set_up memory.old }
+        ensures place { (memory.new ≡ memory.old) ⊎ M.same memory.old memory.new }
+        ensures serves { (thread : ℕ) → M.serves memory.old thread ↔ M.serves memory.new thread }
+        ensures budget { self.new.budget ≡ self.old.budget }
+        ensures thread { self.new.thread ≡ self.old.thread }
+        ensures steps { result ≡ false → has_ended (processor_of self.new).mode ≡ false → self.new.steps ≡ self.old.steps + 1 }
+        ensures waits { (p : model.Processor) → StandsFor setting.entry.pages.now self.old p → result ≡ (waits && next_asks_get (setting_of setting.entry) self.old.budget p) }
+        ensures goes { waits ≡ false → result ≡ false }
+        ensures stays { result ≡ true → memory.new ≡ memory.old }
+        ensures going { result ≡ true → has_ended (processor_of self.old).mode ≡ false }
+        ensures still { result ≡ true → (p : model.Processor) → StandsFor setting.entry.pages.now self.old p → StandsFor setting.entry.pages.now self.new (at_boundary (setting_of setting.entry) p) }
+        ensures turned { result ≡ false → (p : model.Processor) → StandsFor setting.entry.pages.now self.old p
+            → HasTurned (setting_of setting.entry) (M.set_up memory.old) (M.between memory.old) self.old.budget p self.new (M.seen memory.old) (M.seen memory.new) }
+    {
+        if self.end().is_some() {
+            return false;
+        }
+        if self.steps == self.budget {
+            self.spend();
+            return false;
+        }
+        self.make_step(setting, known, memory, waits)
+    }
+
     // Takes its turn, if it has not ended.
+    #[inline(always)]
     fn take_turn<M: Memory>(
         &mut self,
         setting: Setting<'_>,
@@ -177,18 +237,11 @@ impl Processor {
         ensures turned { (p : model.Processor) → StandsFor setting.entry.pages.now self.old p
             → HasTurned (setting_of setting.entry) (M.set_up memory.old) (M.between memory.old) self.old.budget p self.new (M.seen memory.old) (M.seen memory.new) }
     {
-        if self.end().is_some() {
-            return;
-        }
-        if self.steps == self.budget {
-            self.spend();
-            return;
-        }
-        self.make_step(setting, known, memory);
+        self.take_or_wait(setting, known, memory, false);
     }
 
-    // What its last turn was.
-    fn turn_made(&self) -> Turn
+    /// What its last turn was.
+    pub(crate) fn turn_made(&self) -> Turn
         ensures few_steps { self.now.steps ≤ self.now.budget }
         ensures ended { (result ≡ Turn.Ended) ↔ (has_ended (processor_of self.now).mode ≡ true) }
     {

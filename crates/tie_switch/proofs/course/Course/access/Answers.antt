@@ -1,11 +1,12 @@
 -- The access is the turn of its word.
-use Rattle.std.proofs.Common.{refl, sym, subst}
+use Rattle.std.proofs.Common.{refl, sym, ap, subst}
 use Rattle.alpha_machine.specs.Step.{state_of}
+use Rattle.memory_core.specs.declared.entry.Request.{Request}
 use Rattle.system_model.specs.Processors.{moment_of}
 use Rattle.tie_switch.specs.Courses.{course_of}
 use Rattle.tie_switch.specs.Seen.{setting_of}
 use Rattle.tie_switch.proofs.Asks.{is_access, is_aligned}
-use Rattle.tie_switch.proofs.Along.{defined_at, makes_access, makes_none}
+use Rattle.tie_switch.proofs.Along.{defined_at, made_reads, makes_access, makes_none, none_refused, refused_reads}
 use Rattle.tie_switch.proofs.course.Course.access.Goals as goal
 
 pub request_by-request-requires-clause-access : goal.request_by-request-requires-clause-access
@@ -50,3 +51,24 @@ returns-in-Full-clause-full g c = λ ended before interpreted steps.
     makes_none setting c.args.prepared.now c.in-Some.asked set_up (g.M.Memory.between first) c.args.thread before interpreted steps c.args.self.now c.request_by-request.result
     (g.M.Memory.seen first) (g.M.Memory.seen c.access.new.self) c.requires.code c.in-Some.ensures.asks defined
     (c.request_by-request.ensures.request (moment_of (course_of c.args.thread before interpreted c.args.self.now steps)) refl refl) c.in-Full.ensures.reply
+
+pub returns-in-Made-clause-read : goal.returns-in-Made-clause-read
+returns-in-Made-clause-read g c =
+    let first = c.args.memory.now in
+    let h = c.requires.has_step in
+    let request = c.request_by-request.ensures.request (moment_of (course_of c.args.thread h.before h.interpreted c.args.self.now h.steps)) refl refl in
+    made_reads (g.M.Memory.set_up first) (g.M.Memory.between first) c.request_by-request.result ((c.in-Some.asked).access).kind c.in-Made.before c.in-Made.success (g.M.Memory.seen first)
+    (g.M.Memory.seen c.access.new.self) (ap (λ (r : Request). r.kind) request) c.in-Made.ensures.reply
+
+pub returns-in-Full-clause-read : goal.returns-in-Full-clause-read
+returns-in-Full-clause-read g c =
+    let first = c.args.memory.now in
+    refused_reads (g.M.Memory.set_up first) (g.M.Memory.between first) c.request_by-request.result (g.M.Memory.seen first) (g.M.Memory.seen c.access.new.self) c.in-Full.ensures.reply
+
+pub returns-in-Full-clause-allowed : goal.returns-in-Full-clause-allowed
+returns-in-Full-clause-allowed g c puts =
+    let first = c.args.memory.now in
+    let h = c.requires.has_step in
+    let request = c.request_by-request.ensures.request (moment_of (course_of c.args.thread h.before h.interpreted c.args.self.now h.steps)) refl refl in
+    absurd (none_refused (g.M.Memory.set_up first) (g.M.Memory.between first) c.request_by-request.result ((c.in-Some.asked).access).kind (g.M.Memory.seen first) (g.M.Memory.seen c.access.new.self)
+    (ap (λ (r : Request). r.kind) request) puts c.in-Full.ensures.reply)

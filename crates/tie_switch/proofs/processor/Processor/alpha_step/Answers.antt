@@ -15,7 +15,7 @@ pub access-requires-clause-request : goal.access-requires-clause-request
 access-requires-clause-request g c = c.in-Wants.ensures.can.can (g.M.Memory.set_up c.args.memory.now) c.requires.pages
 
 pub returns-in-Made-clause-turned : goal.returns-in-Made-clause-turned
-returns-in-Made-clause-turned g c mode =
+returns-in-Made-clause-turned g c goes mode =
     let setting = setting_of c.args.setting in
     let p = in_mode c.args.self.now mode in
     let moment = moment_of p in
@@ -33,7 +33,7 @@ returns-in-Made-clause-turned g c mode =
     })
 
 pub returns-in-Full-clause-turned : goal.returns-in-Full-clause-turned
-returns-in-Full-clause-turned g c mode =
+returns-in-Full-clause-turned g c goes mode =
     let setting = setting_of c.args.setting in
     let p = in_mode c.args.self.now mode in
     let set_up = g.M.Memory.set_up c.args.memory.now in

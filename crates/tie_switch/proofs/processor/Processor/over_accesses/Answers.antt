@@ -6,6 +6,7 @@ use Rattle.tie_switch.specs.ManyTurns.{IsTurns, MayCome, NoAccess, NoTurn}
 use Rattle.tie_switch.specs.Processors.{processor_of}
 use Rattle.tie_switch.specs.Seen.{setting_of}
 use Rattle.tie_switch.proofs.Standing.{plain_is}
+use Rattle.tie_switch.proofs.Unspent.{plain_unspent}
 use Rattle.tie_switch.proofs.processor.Processor.over_accesses.Goals as goal
 
 pub returns-in_default-clause-place : goal.returns-in_default-clause-place
@@ -37,3 +38,6 @@ returns-in-Ended-clause-turned g c p stands =
           subst (λ (x : Processor). IsTurns s u may k.budget x seen (ran.result.0 + 1) (spent q) last) (sym there)
           (subst (λ (x : Processor). IsTurns s u may k.budget (processor_of k) seen (ran.result.0 + 1) (spent x) last) (sym c.settle.ensures.is) (ran.ensures.ended c.in-Ended.is));
     }
+
+pub returns-in-Went-clause-unspent : goal.returns-in-Went-clause-unspent
+returns-in-Went-clause-unspent g c went before = plain_unspent c.settle.new.self c.settle.ensures.plain

@@ -1,5 +1,7 @@
 -- Local steps, and then each time an access and the local steps behind it.
 use Rattle.std.proofs.Common.{◌≡◌, ◌+◌, ◌<◌, ◌≤◌, Some, refl, sym, ap, ◌∙◌, subst, arith}
+use Rattle.memory_core.specs.Limits.{CountsPuts}
+use Rattle.memory_core.specs.declared.entry.SetUp.{SetUp}
 use Rattle.system_model.specs.Legal.{spent}
 use Rattle.system_model.specs.Processors.{turn}
 use Rattle.tie_switch.specs.Asks.{HasCourseStep}
@@ -34,6 +36,7 @@ loop-made-init g c =
       set_up = refl;
       behind = NoAccess;
       serves = λ thread. (λ a. a, λ a. a);
+      read = λ none. refl;
       opcode = ran.ensures.opcode;
       retired = ran.ensures.retired;
       came =
@@ -90,6 +93,7 @@ loop-made-preserved g c =
       set_up = access.ensures.set_up ∙ kept.set_up;
       behind = behind_turn g.M.Memory.same first l.memory access.new.memory kept.behind access.ensures.place;
       serves = λ thread. both (kept.serves thread) (access.ensures.serves thread);
+      read = λ none. access.ensures.read (λ entries come. none entries (record { memory = l.memory; behind = kept.behind; comes = come })) ∙ kept.read none;
       opcode = ran.ensures.opcode;
       retired = omega (arith, ran.ensures.retired, access.ensures.retired, kept.retired);
       came = came_on s u may k seen (l.made + 1) ran.result access.new.self ran.new.self mid came goes few;
@@ -122,3 +126,12 @@ returns-in-Some-Ended-clause-ended g c = λ ended.
     subst (λ (x : Course). IsTurns s u may k.budget (processor_of k) seen (l.made + 1) (spent (course_of k.thread k.boundary k.interpreted x (k.steps + l.made))) last) (sym (access.ensures.ended is))
     (came_by s u may k seen (g.M.Memory.set_up l.memory) (g.M.Memory.between l.memory) l.made l.course (spent (course_of k.thread k.boundary k.interpreted l.course (k.steps + l.made)))
     (g.M.Memory.seen l.memory) last kept.came within (λ entries come. record { memory = l.memory; behind = kept.behind; comes = come }) kept.set_up makes)
+
+pub returns-in-Some-Ended-clause-read : goal.returns-in-Some-Ended-clause-read
+returns-in-Some-Ended-clause-read g c none =
+    let l = c.loop-made in
+    c.access.ensures.read (λ entries come. none entries (record { memory = l.memory; behind = l.invariant.behind; comes = come })) ∙ l.invariant.read none
+
+pub returns-in-Some-Ended-clause-allowed : goal.returns-in-Some-Ended-clause-allowed
+returns-in-Some-Ended-clause-allowed g c puts =
+    absurd (c.access.ensures.allowed (subst (λ (u : SetUp). CountsPuts u.limit) (sym c.loop-made.invariant.set_up) puts) (c.in-Some-Ended.is ∙ ap Some c.in-Some-Ended.field-0-is))

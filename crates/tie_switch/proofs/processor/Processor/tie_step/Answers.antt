@@ -1,5 +1,6 @@
 -- An interpreted step is a turn of the model.
-use Rattle.std.proofs.Common.{◌≡◌, ℕ, [], ◌∷◌, ◌++◌, inl, inr, refl, sym, ap, ◌∙◌, subst}
+use Rattle.std.proofs.Common.{◌≡◌, ℕ, ◌&&◌, [], ◌∷◌, ◌++◌, inl, inr, refl, sym, ap, ◌∙◌, subst}
+use Rattle.memory_core.specs.Kinds.{is_get}
 use Rattle.memory_core.specs.Seen.{IsNext, IsOver}
 use Rattle.memory_core.specs.declared.entry.Request.{Request}
 use Rattle.system_model.specs.Legal.{spent}
@@ -8,14 +9,16 @@ use Rattle.system_model.specs.Quadwords.{reply_found}
 use Rattle.vax_form.specs.Tree.{Answer}
 use Rattle.vax_form.specs.declared.state.VaxState.{VaxState}
 use Rattle.tie_switch.specs.Interpreted.{IfWants}
+use Rattle.tie_switch.specs.Live.{asks_get}
 use Rattle.tie_switch.specs.Processors.{HasMade, IsMode, StandsFor, in_mode}
 use Rattle.tie_switch.specs.Seen.{last_of, setting_of}
 use Rattle.tie_switch.specs.declared.interpreted.Step.{Step}
 use Rattle.tie_switch.proofs.Standing.{wants_is, leaves_is}
+use Rattle.tie_switch.proofs.Waiting.{interpreting, stands_in}
 use Rattle.tie_switch.proofs.processor.Processor.tie_step.Goals as goal
 
 pub returns-in-Made-clause-turned : goal.returns-in-Made-clause-turned
-returns-in-Made-clause-turned g c before state replies h =
+returns-in-Made-clause-turned g c goes before state replies h =
     let setting = setting_of c.args.setting in
     let pages = c.args.setting.pages.now in
     let old = c.args.self.now in
@@ -47,7 +50,7 @@ returns-in-Made-clause-turned g c before state replies h =
     })
 
 pub returns-in-Full-clause-turned : goal.returns-in-Full-clause-turned
-returns-in-Full-clause-turned g c before state replies h =
+returns-in-Full-clause-turned g c goes before state replies h =
     let setting = setting_of c.args.setting in
     let pages = c.args.setting.pages.now in
     let old = c.args.self.now in
@@ -71,7 +74,7 @@ returns-in-Full-clause-turned g c before state replies h =
     })
 
 pub returns-in-Leaves-clause-turned : goal.returns-in-Leaves-clause-turned
-returns-in-Leaves-clause-turned g c before state replies h =
+returns-in-Leaves-clause-turned g c goes before state replies h =
     let setting = setting_of c.args.setting in
     let pages = c.args.setting.pages.now in
     let old = c.args.self.now in
@@ -88,3 +91,22 @@ returns-in-Leaves-clause-turned g c before state replies h =
       stands = subst (λ (x : Processor). StandsFor pages c.leave.new.self (left setting x (last_of last))) counted (c.leave.ensures.stands before);
       makes = record { processor = refl; seen = refl };
     })
+
+pub returns-then-awaits-clause-still : goal.returns-then-awaits-clause-still
+returns-then-awaits-clause-still g c waited p stands =
+    let pages = c.args.setting.pages.now in
+    let old = c.args.self.now in
+    let new = c.interpret.new.self in
+    let u = interpreting pages old.thread old.boundary old.mode p.mode c.requires.interprets stands.mode in
+    let at : IsMode pages old.thread old.boundary old.mode (Interprets old.boundary u.replies) = subst (λ (m : Mode). IsMode pages old.thread old.boundary old.mode m) u.is stands.mode in
+    let there = subst (λ (s : Step). IfWants s (IsMode pages old.thread old.boundary new.mode (Interprets old.boundary u.replies))) c.in-Wants.is (c.interpret.ensures.stands old.boundary u.replies at) in
+    stands_in pages old new p stands.same c.interpret.ensures.same (subst (λ (m : Mode). IsMode pages old.thread old.boundary new.mode m) (sym u.is) there)
+
+pub returns-in-Made-clause-waits : goal.returns-in-Made-clause-waits
+returns-in-Made-clause-waits g c before state replies h =
+    let setting = setting_of c.args.setting in
+    let p = in_mode c.args.self.now before in
+    let waits = c.args.waits in
+    let wants = wants_is _ c.in-Wants.reference (sym (c.interpret.ensures.answers state replies h) ∙ c.in-Wants.is) in
+    sym c.if-awaits.false ∙ c.awaits.ensures ∙ ap (λ (r : Request). waits && is_get r.kind) c.reference_request-request.ensures
+    ∙ sym (ap (λ (a : Answer). waits && asks_get (tie_turn setting p state replies a)) wants)
