@@ -3,3 +3,6 @@ mod ManyTurns
 mod Turns
 mod NewWorlds
 mod Rounds
+mod LiveTurns
+mod NewLive
+mod LiveGoingOn

@@ -1,2 +1,4 @@
 pub mod Worlds
 pub mod Views
+pub mod LiveWorlds
+pub mod LiveViews
