@@ -10,6 +10,7 @@ use Rattle.vax_form.specs.Pages.{first_bad}
 use Rattle.vax_form.specs.Parts.{parts}
 use Rattle.vax_form.specs.Ranges.{FitsPage}
 use Rattle.vax_form.specs.Tree as trees
+use Rattle.vax_form.specs.Tree.{Tree}
 use Rattle.vax_form.specs.declared.state.Exception.TheVariants.{ReservedOperand}
 use Rattle.alpha_encode.specs.declared.instr.AlphaInstr.TheVariants.{Branch, Pal}
 use Rattle.alpha_encode.specs.declared.instr.BranchOp.TheVariants.{Beq}
@@ -99,12 +100,12 @@ is_probed count c2 write site regs = refl
 is_probed count c4 write site regs = refl
 is_probed count c8 write site regs = refl
 
-module _ (p : Placement) (site : Site) where
+module _ (p : Placement) (site : Site) (onward : Left → Tree) where
   pub checks : (need pc place count : ℕ) (write : Bool) (rest : List Line) (known : Known) (standing : Standing) (regs : Regs) (course : Course Left)
       → Within p site.behind pc (plain (copy (holder place) 27) ∷ marked (Pal 0x80) (probing site count write) ∷ rest) → 1 ≤ length rest
       → check_fits known place count ≡ true → place < 6 → IsCount count → Holds p site known standing regs
-      → ((g : Regs) → first_bad p.pages write (standing.temps place) count ≡ None → Holds p site (behind_access (record known { checked = At place count write })) standing g → Always p None need (at_place g (pc + 2)) (tree p course))
-      → Always p None (2 + need) (at_place regs pc) (tree p (Check (standing.temps place) count write course))
+      → ((g : Regs) → first_bad p.pages write (standing.temps place) count ≡ None → Holds p site (behind_access (record known { checked = At place count write })) standing g → Always p None need (at_place g (pc + 2)) (tree onward course))
+      → Always p None (2 + need) (at_place regs pc) (tree onward (Check (standing.temps place) count write course))
   checks need pc place count write rest known standing regs course w some fits lt is h behind =
       let x = and_parts (is_count count) (place_fits known place) fits in
       let y = and_parts (not known.changed) (holds_longword known place) x.1 in
@@ -118,9 +119,9 @@ module _ (p : Placement) (site : Site) where
       roomy p None (need + 1 + 1) (2 + need) (at_place regs pc) _ (omega arith)
       (goes p None (need + 1) (at_place regs pc) (at_place (put regs 27 (bit_or (regs (21 + place)) 0)) (pc + 1)) (copy (holder place) 27) _ (stands p site.behind pc (copy (holder place) 27) None _ w) refl (omega arith)
       (is_inside p site.behind pc (pc + 1) _ w (omega arith) (omega arith))
-      (probes p None None need (standing.temps place) count write (at_place (put regs 27 (bit_or (regs (21 + place)) 0)) (pc + 1)) (tree p course) (probing site count write) (stands p site.behind (pc + 1) (Pal 0x80) (Some (probing site count write)) rest w1) w1.has.0.1
+      (probes p None None need (standing.temps place) count write (at_place (put regs 27 (bit_or (regs (21 + place)) 0)) (pc + 1)) (tree onward course) (probing site count write) (stands p site.behind (pc + 1) (Pal 0x80) (Some (probing site count write)) rest w1) w1.has.0.1
       (is_inside p site.behind pc (pc + 1 + 1) _ w (omega arith) (omega arith)) address_is (is_probed count is write site (put regs 27 (bit_or (regs (21 + place)) 0))) refl (λ spare round fits. fits)
-      (λ ok. subst (λ q. Always p None need (at_place (put regs 27 (bit_or (regs (21 + place)) 0)) q) (tree p course)) two
+      (λ ok. subst (λ q. Always p None need (at_place (put regs 27 (bit_or (regs (21 + place)) 0)) q) (tree onward course)) two
       (behind (put regs 27 (bit_or (regs (21 + place)) 0)) ok
       (unchanged p site known (behind_access (record known { checked = At place count write })) standing standing.temps regs (put regs 27 (bit_or (regs (21 + place)) 0))
       (record { changed = refl; committed = refl; codes = refl; psw = refl; ended = refl })
@@ -136,18 +137,18 @@ module _ (p : Placement) (site : Site) where
   pub refuses : (need pc when : ℕ) (rest : List Line) (known : Known) (standing : Standing) (regs : Regs) (course : Course Left)
       → Within p site.behind pc (plain (Branch Beq (holder when) (pos 1)) ∷ marked (Pal 0x83) (raising site 0x18) ∷ rest) → 1 ≤ length rest
       → (not known.changed && holds known when) ≡ true → when < 6 → Holds p site known standing regs
-      → ((standing.temps when == 0) ≡ true → Always p None need (at_place regs (pc + 2)) (tree p course))
-      → Always p None (2 + need) (at_place regs pc) (tree p (if standing.temps when == 0 then course else Fault ReservedOperand))
+      → ((standing.temps when == 0) ≡ true → Always p None need (at_place regs (pc + 2)) (tree onward course))
+      → Always p None (2 + need) (at_place regs pc) (tree onward (if standing.temps when == 0 then course else Fault ReservedOperand))
   refuses need pc when rest known standing regs course w some fits lt h behind = by (standing.temps when == 0) refl
     where
-      by : (b : Bool) → (standing.temps when == 0) ≡ b → Always p None (2 + need) (at_place regs pc) (tree p (if b then course else Fault ReservedOperand))
+      by : (b : Bool) → (standing.temps when == 0) ≡ b → Always p None (2 + need) (at_place regs pc) (tree onward (if b then course else Fault ReservedOperand))
       by true e =
           let end = w.high in
           let near = w.near in
           let v = held_value (held known when) (standing.temps when) (regs (21 + when)) (and_parts (not known.changed) (holds known when) fits).1 (h.temps when lt) in
           let jump : target_of pc (pos 1) ≡ pc + 2 = omega arith in
-          roomy p None (need + 1) (2 + need) (at_place regs pc) (tree p course) (omega arith)
-          (skips p None need (at_place regs pc) Beq (holder when) (pos 1) (pc + 2) (tree p course) (stands p site.behind pc (Branch Beq (holder when) (pos 1)) None _ w) refl (ap (λ n. n == 0) v.0 ∙ e) jump (omega arith)
+          roomy p None (need + 1) (2 + need) (at_place regs pc) (tree onward course) (omega arith)
+          (skips p None need (at_place regs pc) Beq (holder when) (pos 1) (pc + 2) (tree onward course) (stands p site.behind pc (Branch Beq (holder when) (pos 1)) None _ w) refl (ap (λ n. n == 0) v.0 ∙ e) jump (omega arith)
           (is_inside p site.behind pc (pc + 2) _ w (omega arith) (omega arith)) (behind e))
       by false e =
           let end = w.high in
@@ -180,13 +181,13 @@ locked_holds SetBit value r e lt = (e, omega arith)
 locked_holds ClearBit value r e lt = (e, omega arith)
 
 -- ---- a read
-module _ (p : Placement) (site : Site) (table : IsPageTable p.pages) (bytes_written : ℕ) (kinds : MoreKinds (needed site.byte_word bytes_written) p.kinds) where
+module _ (p : Placement) (site : Site) (table : IsPageTable p.pages) (bytes_written : ℕ) (kinds : MoreKinds (needed site.byte_word bytes_written) p.kinds) (onward : Left → Tree) where
   pub reads_operand : (need pc to place count : ℕ) (rest : List Line) (known : Known) (standing : Standing) (regs : Regs) (on : ℕ → Course Left)
       → Within p site.behind pc (map plain (read_by site.byte_word (holder place) count (holder to)) ++ rest) → 1 ≤ length rest
       → read_fits known to place count ≡ true → bytes.IsArgument (holder place) → bytes.IsArgument (holder to) → IsCount count → Holds p site known standing regs
       → ((value : ℕ) (g : Regs) → value < 2 ^ (8 * count) → Holds p site (behind_access (behind_write to (holding_of (nat_le count 4)) known)) (with_value to value standing) g
-      → Always p None need (at_place g (pc + length (read_by site.byte_word (holder place) count (holder to)))) (tree p (on value)))
-      → Always p None (length (read_by site.byte_word (holder place) count (holder to)) + need) (at_place regs pc) (tree p (read_parts (parts (standing.temps place) count) on))
+      → Always p None need (at_place g (pc + length (read_by site.byte_word (holder place) count (holder to)))) (tree onward (on value)))
+      → Always p None (length (read_by site.byte_word (holder place) count (holder to)) + need) (at_place regs pc) (tree onward (read_parts (parts (standing.temps place) count) on))
   reads_operand need pc to place count rest known standing regs on w some fits a_place a_to is h behind =
       let x = all_three (is_count count) (are_apart to place) (reference_fits known place count false) fits in
       let low = a_to.low in
@@ -201,9 +202,9 @@ module _ (p : Placement) (site : Site) (table : IsPageTable p.pages) (bytes_writ
       let near = w.near in
       let may : sequences.MayRead (loaded_of site.byte_word) (piece_terms p (loads_of site.byte_word)) (regs (21 + place)) count =
       subst (λ a. sequences.MayRead (loaded_of site.byte_word) (piece_terms p (loads_of site.byte_word)) a count) (sym v.1) (may_read p table site.byte_word (standing.temps place) count is v.0) in
-      runs p None need pc (length (read_by site.byte_word (21 + place) count (21 + to))) (sequences.Holds regs (21 + to) count) (loads_of site.byte_word) (λ value. tree p (on value)) None regs (read_plan (parts (regs (21 + place)) count)) _
+      runs p None need pc (length (read_by site.byte_word (21 + place) count (21 + to))) (sequences.Holds regs (21 + to) count) (loads_of site.byte_word) (λ value. tree onward (on value)) None regs (read_plan (parts (regs (21 + place)) count)) _
       w.low (omega arith) (λ q gt le. is_inside p site.behind pc q (map plain (read_by site.byte_word (21 + place) count (21 + to)) ++ rest) w gt (omega arith))
-      (subst (λ a. Begins (loads_of site.byte_word) p.kinds (λ value. tree p (on value)) None (read_plan (parts a count)) (tree p (read_parts (parts (standing.temps place) count) on)) None) (sym v.1) (begins_read p site.byte_word bytes_written kinds (standing.temps place) count on size.0))
+      (subst (λ a. Begins (loads_of site.byte_word) p.kinds (λ value. tree onward (on value)) None (read_plan (parts a count)) (tree onward (read_parts (parts (standing.temps place) count) on)) None) (sym v.1) (begins_read p site.byte_word bytes_written kinds onward (standing.temps place) count on size.0))
       (λ n. reads_by site.byte_word (21 + place) count (21 + to) is a_place a_to p.fetch (piece_terms p (loads_of site.byte_word)) pc regs (omega arith) may (row_words p site.behind pc (read_by site.byte_word (21 + place) count (21 + to)) rest w) n)
       (λ value g l. behind value g l.fits
       (unchanged p site known (behind_access (behind_write to (holding_of (nat_le count 4)) known)) standing (with_temp to value standing.temps) regs g
@@ -218,8 +219,8 @@ module _ (p : Placement) (site : Site) (table : IsPageTable p.pages) (bytes_writ
   pub writes_operand : (need pc place count source : ℕ) (rest : List Line) (known : Known) (standing : Standing) (regs : Regs) (on : Course Left)
       → Within p site.behind pc (map plain (write_by site.byte_word (holder place) count (holder source)) ++ rest) → 1 ≤ length rest
       → write_fits known place count source ≡ true → bytes.IsArgument (holder place) → bytes.IsArgument (holder source) → IsCount count → count ≡ bytes_written → Holds p site known standing regs
-      → ((g : Regs) → Holds p site (behind_access known) standing g → Always p None need (at_place g (pc + length (write_by site.byte_word (holder place) count (holder source)))) (tree p on))
-      → Always p None (length (write_by site.byte_word (holder place) count (holder source)) + need) (at_place regs pc) (tree p (write_parts (parts (standing.temps place) count) (standing.temps source) on))
+      → ((g : Regs) → Holds p site (behind_access known) standing g → Always p None need (at_place g (pc + length (write_by site.byte_word (holder place) count (holder source)))) (tree onward on))
+      → Always p None (length (write_by site.byte_word (holder place) count (holder source)) + need) (at_place regs pc) (tree onward (write_parts (parts (standing.temps place) count) (standing.temps source) on))
   writes_operand need pc place count source rest known standing regs on w some fits a_place a_source is all_bytes h behind =
       let x = all_four (is_count count) (are_apart place source) (holds known source) (reference_fits known place count true) fits in
       let place_high = a_place.high in
@@ -233,11 +234,11 @@ module _ (p : Placement) (site : Site) (table : IsPageTable p.pages) (bytes_writ
       let may : sequences.MayWrite (stored_of site.byte_word) (piece_terms p (stores_of site.byte_word (standing.temps place) count)) (regs (21 + place)) count =
       subst (λ a. sequences.MayWrite (stored_of site.byte_word) (piece_terms p (stores_of site.byte_word (standing.temps place) count)) a count) (sym v.1) (may_write p table site.byte_word (standing.temps place) count is v.0) in
       let each = write_kinds count p.kinds site.byte_word (subst (λ n. MoreKinds (needed site.byte_word n) p.kinds) (sym all_bytes) kinds) (standing.temps place) is in
-      runs p None need pc (length (write_by site.byte_word (21 + place) count (21 + source))) (sequences.Keeps regs) stores (λ done. tree p on) None regs (write_plan (parts (regs (21 + place)) count) (regs (21 + source))) _
+      runs p None need pc (length (write_by site.byte_word (21 + place) count (21 + source))) (sequences.Keeps regs) stores (λ done. tree onward on) None regs (write_plan (parts (regs (21 + place)) count) (regs (21 + source))) _
       w.low (omega arith) (λ q gt le. is_inside p site.behind pc q (map plain (write_by site.byte_word (21 + place) count (21 + source)) ++ rest) w gt (omega arith))
-      (subst (λ a. Begins stores p.kinds (λ (done : Unit {0}). tree p on) None (write_plan (parts a count) (regs (21 + source))) (tree p (write_parts (parts (standing.temps place) count) (standing.temps source) on)) None) (sym v.1)
-      (subst (λ value. Begins stores p.kinds (λ (done : Unit {0}). tree p on) None (write_plan (parts (standing.temps place) count) value) (tree p (write_parts (parts (standing.temps place) count) (standing.temps source) on)) None) (sym u.0)
-      (begins_write p site.byte_word bytes_written kinds stores (parts (standing.temps place) count) (standing.temps source) on each)))
+      (subst (λ a. Begins stores p.kinds (λ (done : Unit {0}). tree onward on) None (write_plan (parts a count) (regs (21 + source))) (tree onward (write_parts (parts (standing.temps place) count) (standing.temps source) on)) None) (sym v.1)
+      (subst (λ value. Begins stores p.kinds (λ (done : Unit {0}). tree onward on) None (write_plan (parts (standing.temps place) count) value) (tree onward (write_parts (parts (standing.temps place) count) (standing.temps source) on)) None) (sym u.0)
+      (begins_write p site.byte_word bytes_written kinds onward stores (parts (standing.temps place) count) (standing.temps source) on each)))
       (λ n. writes_by site.byte_word (21 + place) count (21 + source) is a_place a_source p.fetch (piece_terms p stores) pc regs (omega arith) may (row_words p site.behind pc (write_by site.byte_word (21 + place) count (21 + source)) rest w) n)
       (λ done g l. behind g
       (unchanged p site known (behind_access known) standing standing.temps regs g (access_changes known)
@@ -251,9 +252,9 @@ module _ (p : Placement) (site : Site) (table : IsPageTable p.pages) (bytes_writ
       → locked_fits known to place (locked_count kind) source ≡ true → bytes.IsArgument (holder place) → bytes.IsArgument (holder source) → bytes.IsArgument (holder to) → (place == to) ≡ false → (source == to) ≡ false
       → FitsPage p.pages (record { address = standing.temps place; count = locked_count kind; kind = locked_kind kind (standing.temps source) }) → Holds p site known standing regs
       → ((value : ℕ) (g : Regs) → value < 2 ^ (8 * locked_count kind) → Holds p site (behind_access (behind_write to Wide known)) (with_value to value standing) g
-      → Always p None need (at_place g (pc + length (locked_code kind (holder place) (holder source) (holder to)))) (tree p (on value)))
+      → Always p None need (at_place g (pc + length (locked_code kind (holder place) (holder source) (holder to)))) (tree onward (on value)))
       → Always p None (length (locked_code kind (holder place) (holder source) (holder to)) + need) (at_place regs pc)
-      (tree p (Ask (record { address = standing.temps place; count = locked_count kind; kind = locked_kind kind (standing.temps source) }) (λ reply. on (reply % 2 ^ (8 * locked_count kind)))))
+      (tree onward (Ask (record { address = standing.temps place; count = locked_count kind; kind = locked_kind kind (standing.temps source) }) (λ reply. on (reply % 2 ^ (8 * locked_count kind)))))
   locks_operand need pc to place kind source rest known standing regs on w some fits a_place a_source a_to place_apart source_apart page h behind =
       let x = all_five (are_apart to place) (are_apart place source) (are_apart source to) (holds known source) (reference_fits known place (locked_count kind) true) fits in
       let low = a_to.low in
@@ -270,11 +271,11 @@ module _ (p : Placement) (site : Site) (table : IsPageTable p.pages) (bytes_writ
       let lock = may_lock p table kind (standing.temps place) (standing.temps source) v.0 page in
       let may : sequences.MayLock (piece_terms p by_locks) kind (regs (21 + place)) (regs (21 + source)) =
       subst (λ a. sequences.MayLock (piece_terms p by_locks) kind a (regs (21 + source))) (sym v.1) (subst (λ n. sequences.MayLock (piece_terms p by_locks) kind (standing.temps place) n) (sym u.0) lock) in
-      runs p None need pc (length (locked_code kind (21 + place) (21 + source) (21 + to))) (sequences.Holds regs (21 + to) (locked_count kind)) by_locks (λ value. tree p (on value)) None regs (locked_plan kind (regs (21 + place)) (regs (21 + source))) _
+      runs p None need pc (length (locked_code kind (21 + place) (21 + source) (21 + to))) (sequences.Holds regs (21 + to) (locked_count kind)) by_locks (λ value. tree onward (on value)) None regs (locked_plan kind (regs (21 + place)) (regs (21 + source))) _
       w.low (omega arith) (λ q gt le. is_inside p site.behind pc q (map plain (locked_code kind (21 + place) (21 + source) (21 + to)) ++ rest) w gt (omega arith))
-      (subst (λ a. Begins by_locks p.kinds (λ value. tree p (on value)) None (locked_plan kind a (regs (21 + source))) (tree p (asked kind on)) None) (sym v.1)
-      (subst (λ n. Begins by_locks p.kinds (λ value. tree p (on value)) None (locked_plan kind (standing.temps place) n) (tree p (asked kind on)) None) (sym u.0)
-      (begins_locked p site.byte_word bytes_written kinds kind (standing.temps place) (standing.temps source) on lock.operand)))
+      (subst (λ a. Begins by_locks p.kinds (λ value. tree onward (on value)) None (locked_plan kind a (regs (21 + source))) (tree onward (asked kind on)) None) (sym v.1)
+      (subst (λ n. Begins by_locks p.kinds (λ value. tree onward (on value)) None (locked_plan kind (standing.temps place) n) (tree onward (asked kind on)) None) (sym u.0)
+      (begins_locked p site.byte_word bytes_written kinds onward kind (standing.temps place) (standing.temps source) on lock.operand)))
       (λ n. locks kind (21 + place) (21 + source) (21 + to) a_place a_source a_to (apart_of _ _ (shifted place to place_apart)) (apart_of _ _ (shifted source to source_apart)) p.fetch (piece_terms p by_locks) pc regs (omega arith) may
       (row_words p site.behind pc (locked_code kind (21 + place) (21 + source) (21 + to)) rest w) n)
       (λ value g l. behind value g l.fits

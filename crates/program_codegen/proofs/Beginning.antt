@@ -18,11 +18,11 @@ use Rattle.program_codegen.specs.Promises.{BeginsBy}
 
 module _ (site : Site) where
   -- the first of the lines, if any, has the rules before the instruction where it has a point
-  abbrev Starts : List Line → Type 0
+  abbrev pub Starts : List Line → Type 0
   Starts [] = Unit {0}
   Starts (line ∷ lines) = (unwrap_or line.point (point_of site)).rules ≡ site.before
 
-  before : (xs ys : List Line) → Starts xs → Starts ys → Starts (xs ++ ys)
+  pub before : (xs ys : List Line) → Starts xs → Starts ys → Starts (xs ++ ys)
   before [] ys x y = y
   before (line ∷ lines) ys x y = x
 
@@ -62,12 +62,12 @@ module _ (site : Site) where
   operation_starts codes (Leave exit) program =
       before (map plain codes) (trap_lines site exit ++ departing site exit) (row codes) (before (trap_lines site exit) (departing site exit) (trap exit) (depart exit))
 
-  program_starts : (codes : List AlphaInstr) (program : List Micro) → Starts (program_lines site codes program)
+  pub program_starts : (codes : List AlphaInstr) (program : List Micro) → Starts (program_lines site codes program)
   program_starts codes [] = tt
   program_starts codes (operation ∷ program) =
       before (lines_of site codes operation program) (program_lines site codes program) (operation_starts codes operation program) (program_starts codes program)
 
-  lines_begin : (lines : List Line) → Starts lines → BeginsBy site.before (block_of (with_first (point_of site) lines))
+  pub lines_begin : (lines : List Line) → Starts lines → BeginsBy site.before (block_of (with_first (point_of site) lines))
   lines_begin [] starts point e = absurd (cc e)
   lines_begin (line ∷ lines) starts point e = ap (λ (p : Point). p.rules) (sym (same_Some (unwrap_or line.point (point_of site)) point e)) ∙ starts
 

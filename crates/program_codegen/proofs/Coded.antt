@@ -140,7 +140,7 @@ temp_stays sources temp lt three four =
     high : (k : ℕ) → 27 ≤ k → ((21 + temp) == k) ≡ false
     high k le = grind (arith, nat_tests)
 
-registers_same : (old new : Regs) → ((n : ℕ) → n < 15 → new n ≡ old n) → registers_shown new ≡ registers_shown old
+pub registers_same : (old new : Regs) → ((n : ℕ) → n < 15 → new n ≡ old n) → registers_shown new ≡ registers_shown old
 registers_same old new same =
     rw (same 0 (lit< tt), same 1 (lit< tt), same 2 (lit< tt), same 3 (lit< tt), same 4 (lit< tt), same 5 (lit< tt), same 6 (lit< tt), same 7 (lit< tt), same 8 (lit< tt), same 9 (lit< tt), same 10 (lit< tt), same 11 (lit< tt), same 12 (lit< tt), same 13 (lit< tt), same 14 (lit< tt)) refl
 

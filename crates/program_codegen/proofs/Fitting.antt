@@ -1,5 +1,5 @@
 -- The operations of a program that fits have words.
-use Rattle.std.proofs.Common.{◌≡◌, ℕ, refl, sym, ◌∙◌, subst, arith, List, [], ◌∷◌, Bool, true, false, eqb-true}
+use Rattle.std.proofs.Common.{Some, ◌≡◌, ℕ, refl, sym, ◌∙◌, subst, arith, List, [], ◌∷◌, Bool, true, false, eqb-true}
 use Rattle.std.specs.Prelude.{◌==◌, ◌&&◌, ◌||◌, not, nat_lt, nat_le}
 use Rattle.std.proofs.lemmas.Bool.Decides.{nat_tests}
 use Rattle.std.proofs.lemmas.Bool.{and_parts, not-true, ltb-true}
@@ -14,7 +14,7 @@ use Rattle.micro_ops.specs.declared.program.Exit.{Exit}
 use Rattle.micro_ops.specs.declared.program.Exit.TheVariants.{Next, Fixed, Computed, Choice, Service, Breakpoint}
 use Rattle.micro_ops.specs.declared.program.Micro.{Micro}
 use Rattle.micro_ops.specs.declared.program.Micro.TheVariants.{Compute, Probe, Refuse, Read, Write, Locked, Commit, Codes, SetPsw, Leave}
-use Rattle.micro_ops.specs.Fits.{step, walk, is_ended, check_fits, computation_fits, argument_fits, read_fits, write_fits, locked_fits, commit_fits, codes_fit, exit_fits, sources_fit, place_fits, reference_fits, are_apart, is_count, holding_of, is_low_argument, is_low_exit, names_low, keeps_low, all_keep_low}
+use Rattle.micro_ops.specs.Fits.{step, walk, check_fits, computation_fits, argument_fits, read_fits, write_fits, locked_fits, commit_fits, codes_fit, exit_fits, sources_fit, place_fits, reference_fits, are_apart, is_count, holding_of, is_low_argument, is_low_exit, names_low, keeps_low, all_keep_low}
 use Rattle.micro_ops.specs.Known.{holds, is_committed, behind_write, behind_access, behind_commit}
 use Rattle.micro_ops.specs.LeftOut.{is_low, is_left_out}
 use Rattle.micro_ops.specs.Meaning.{locked_count}
@@ -24,8 +24,8 @@ use Rattle.compute_sequences.specs.Registers.{IsArgument}
 use Rattle.program_codegen.specs.Words.{holder}
 use Rattle.program_codegen.specs.Programs.{IsExit, IsRangedArgument, IsRangedExit, AllRanged, AllFitWords, AllHaveWords}
 use Rattle.program_codegen.proofs.Numbers.{all_three, all_four, all_five}
-use Rattle.program_codegen.proofs.Knowing.{walk_fits, nothing_behind, write_changes}
-use Rattle.program_codegen.proofs.Following.{opened}
+use Rattle.program_codegen.proofs.Knowing.{write_changes}
+use Rattle.program_codegen.proofs.Going.{opened, walk_some}
 
 count_is : (n : ℕ) → is_count n ≡ true → IsCount n
 count_is n e = by (n == 1) (n == 2) (n == 4) (n == 8) refl refl refl refl e
@@ -41,7 +41,7 @@ or_false_left : (a b : Bool) → a ≡ false → (a || b) ≡ true → b ≡ tru
 or_false_left true b f e = absurd (cc f)
 or_false_left false b f e = e
 
-argument_word : (known : Known) (a : Arg) → is_low_argument a ≡ true → argument_fits known a ≡ true → IsRangedArgument a → IsArgument a
+pub argument_word : (known : Known) (a : Arg) → is_low_argument a ≡ true → argument_fits known a ≡ true → IsRangedArgument a → IsArgument a
 argument_word known (Temp temp) low fits ranged = ltb-true temp 6 low
 argument_word known (Register number) low fits ranged = ltb-true number 15 (and_parts (nat_lt number 15) (not (is_committed known number)) fits).0
 argument_word known (Flag flag) low fits ranged = ltb-true flag 8 (all_three (nat_lt flag 8) (not known.codes) (not known.psw) fits).0
@@ -66,12 +66,12 @@ turned : (a b : ℕ) → (a == b) ≡ false → (b == a) ≡ false
 turned a b e = grind (arith, nat_tests, e)
 
 module _ (sources : CodeSources) where
-  pub fit_words : (program : List Micro) (known : Known) → known.ended ≡ false → is_ended (walk sources known program) ≡ true → all_keep_low sources program ≡ true → AllFitWords sources program
+  pub fit_words : (program : List Micro) (known last : Known) → known.ended ≡ false → walk sources known program ≡ Some last → all_keep_low sources program ≡ true → AllFitWords sources program
   unfolding step
-  fit_words [] known off e low = tt
-  fit_words (Compute to op size a b ∷ program) known off e low =
+  fit_words [] known last off e low = tt
+  fit_words (Compute to op size a b ∷ program) known last off e low =
       let same = write_changes to (holding_of (leaves_longword (Compute to op size a b))) known in
-      let x = walk_fits (computation_fits known to op a b) (behind_write to (holding_of (leaves_longword (Compute to op size a b))) known) (λ behind. walk sources behind program) (opened sources known (Compute to op size a b) program off e) in
+      let x = walk_some (computation_fits known to op a b) (behind_write to (holding_of (leaves_longword (Compute to op size a b))) known) last (λ behind. walk sources behind program) (opened sources known last (Compute to op size a b) program off e) in
       let y = and_parts (keeps_low sources (Compute to op size a b) program) (all_keep_low sources program) low in
       let fits = all_four (nat_lt to 64) (argument_fits known a) (is_unary op || argument_fits known b) (not (is_select op) || holds known to) x.0 in (
         λ ranged out.
@@ -81,58 +81,58 @@ module _ (sources : CodeSources) where
               argument_word known a z.1 fits.1 ranged.0,
               λ binary. argument_word known b (or_false_left (is_unary op) (is_low_argument b) binary z.2) (or_false_left (is_unary op) (argument_fits known b) binary fits.2) ranged.1,
             ),
-        fit_words program (behind_write to (holding_of (leaves_longword (Compute to op size a b))) known) (same.ended ∙ off) x.1 y.1,
+        fit_words program (behind_write to (holding_of (leaves_longword (Compute to op size a b))) known) last (same.ended ∙ off) x.1 y.1,
       )
-  fit_words (Probe place count write ∷ program) known off e low =
+  fit_words (Probe place count write ∷ program) known last off e low =
       let behind = behind_access (record known { checked = At place count write }) in
-      let x = walk_fits (check_fits known place count) behind (λ behind. walk sources behind program) (opened sources known (Probe place count write) program off e) in
+      let x = walk_some (check_fits known place count) behind last (λ behind. walk sources behind program) (opened sources known last (Probe place count write) program off e) in
       let y = and_parts (keeps_low sources (Probe place count write) program) (all_keep_low sources program) low in
-      (λ ranged. (ltb-true place 6 y.0, count_is count (and_parts (is_count count) (place_fits known place) x.0).0), fit_words program behind off x.1 y.1)
-  fit_words (Refuse when ∷ program) known off e low =
-      let x = walk_fits (not known.changed && holds known when) known (λ behind. walk sources behind program) (opened sources known (Refuse when) program off e) in
+      (λ ranged. (ltb-true place 6 y.0, count_is count (and_parts (is_count count) (place_fits known place) x.0).0), fit_words program behind last off x.1 y.1)
+  fit_words (Refuse when ∷ program) known last off e low =
+      let x = walk_some (not known.changed && holds known when) known last (λ behind. walk sources behind program) (opened sources known last (Refuse when) program off e) in
       let y = and_parts (keeps_low sources (Refuse when) program) (all_keep_low sources program) low in
-      (λ ranged. ltb-true when 6 y.0, fit_words program known off x.1 y.1)
-  fit_words (Read to place count ∷ program) known off e low =
+      (λ ranged. ltb-true when 6 y.0, fit_words program known last off x.1 y.1)
+  fit_words (Read to place count ∷ program) known last off e low =
       let behind = behind_access (behind_write to (holding_of (nat_le count 4)) known) in
       let same = write_changes to (holding_of (nat_le count 4)) known in
-      let x = walk_fits (read_fits known to place count) behind (λ behind. walk sources behind program) (opened sources known (Read to place count) program off e) in
+      let x = walk_some (read_fits known to place count) behind last (λ behind. walk sources behind program) (opened sources known last (Read to place count) program off e) in
       let y = and_parts (keeps_low sources (Read to place count) program) (all_keep_low sources program) low in
       let z = all_three (is_count count) (are_apart to place) (reference_fits known place count false) x.0 in
       let registers = among to place z.1 in
-      (λ ranged. (registers.1, registers.0, count_is count z.0), fit_words program behind (same.ended ∙ off) x.1 y.1)
-  fit_words (Write place count source ∷ program) known off e low =
-      let x = walk_fits (write_fits known place count source) (behind_access known) (λ behind. walk sources behind program) (opened sources known (Write place count source) program off e) in
+      (λ ranged. (registers.1, registers.0, count_is count z.0), fit_words program behind last (same.ended ∙ off) x.1 y.1)
+  fit_words (Write place count source ∷ program) known last off e low =
+      let x = walk_some (write_fits known place count source) (behind_access known) last (λ behind. walk sources behind program) (opened sources known last (Write place count source) program off e) in
       let y = and_parts (keeps_low sources (Write place count source) program) (all_keep_low sources program) low in
       let z = all_four (is_count count) (are_apart place source) (holds known source) (reference_fits known place count true) x.0 in
       let registers = among place source z.1 in
-      (λ ranged. (registers.0, registers.1, count_is count z.0), fit_words program (behind_access known) off x.1 y.1)
-  fit_words (Locked to place kind source ∷ program) known off e low =
+      (λ ranged. (registers.0, registers.1, count_is count z.0), fit_words program (behind_access known) last off x.1 y.1)
+  fit_words (Locked to place kind source ∷ program) known last off e low =
       let behind = behind_access (behind_write to Wide known) in
       let same = write_changes to Wide known in
-      let x = walk_fits (locked_fits known to place (locked_count kind) source) behind (λ behind. walk sources behind program) (opened sources known (Locked to place kind source) program off e) in
+      let x = walk_some (locked_fits known to place (locked_count kind) source) behind last (λ behind. walk sources behind program) (opened sources known last (Locked to place kind source) program off e) in
       let y = and_parts (keeps_low sources (Locked to place kind source) program) (all_keep_low sources program) low in
       let z = all_five (are_apart to place) (are_apart place source) (are_apart source to) (holds known source) (reference_fits known place (locked_count kind) true) x.0 in
       let first = among to place z.0 in
       let second = among source to z.2 in
-      (λ ranged. (first.1, second.0, first.0, turned to place first.2, second.2), fit_words program behind (same.ended ∙ off) x.1 y.1)
-  fit_words (Commit number source ∷ program) known off e low =
-      let x = walk_fits (commit_fits known number source) (behind_commit number known) (λ behind. walk sources behind program) (opened sources known (Commit number source) program off e) in
+      (λ ranged. (first.1, second.0, first.0, turned to place first.2, second.2), fit_words program behind last (same.ended ∙ off) x.1 y.1)
+  fit_words (Commit number source ∷ program) known last off e low =
+      let x = walk_some (commit_fits known number source) (behind_commit number known) last (λ behind. walk sources behind program) (opened sources known last (Commit number source) program off e) in
       let y = and_parts (keeps_low sources (Commit number source) program) (all_keep_low sources program) low in
       let z = all_three (nat_lt number 15) (holds known source) (not (is_committed known number)) x.0 in
-      (λ ranged. (ltb-true number 15 z.0, ltb-true source 6 y.0), fit_words program (behind_commit number known) off x.1 y.1)
-  fit_words (Codes n z v c ∷ program) known off e low =
-      let x = walk_fits (codes_fit known n z v c) (record known { codes = true; changed = true }) (λ behind. walk sources behind program) (opened sources known (Codes n z v c) program off e) in
-      (λ ranged. tt, fit_words program (record known { codes = true; changed = true }) off x.1 (and_parts (keeps_low sources (Codes n z v c) program) (all_keep_low sources program) low).1)
-  fit_words (SetPsw source ∷ program) known off e low =
-      let x = walk_fits (not known.psw && holds known source) (record known { psw = true; changed = true }) (λ behind. walk sources behind program) (opened sources known (SetPsw source) program off e) in
+      (λ ranged. (ltb-true number 15 z.0, ltb-true source 6 y.0), fit_words program (behind_commit number known) last off x.1 y.1)
+  fit_words (Codes n z v c ∷ program) known last off e low =
+      let x = walk_some (codes_fit known n z v c) (record known { codes = true; changed = true }) last (λ behind. walk sources behind program) (opened sources known last (Codes n z v c) program off e) in
+      (λ ranged. tt, fit_words program (record known { codes = true; changed = true }) last off x.1 (and_parts (keeps_low sources (Codes n z v c) program) (all_keep_low sources program) low).1)
+  fit_words (SetPsw source ∷ program) known last off e low =
+      let x = walk_some (not known.psw && holds known source) (record known { psw = true; changed = true }) last (λ behind. walk sources behind program) (opened sources known last (SetPsw source) program off e) in
       let y = and_parts (keeps_low sources (SetPsw source) program) (all_keep_low sources program) low in
-      (λ ranged. ltb-true source 6 y.0, fit_words program (record known { psw = true; changed = true }) off x.1 y.1)
-  fit_words (Leave exit ∷ program) known off e low =
-      let x = walk_fits (exit_fits known exit && sources_fit sources known) (record known { ended = true }) (λ behind. walk sources behind program) (opened sources known (Leave exit) program off e) in
+      (λ ranged. ltb-true source 6 y.0, fit_words program (record known { psw = true; changed = true }) last off x.1 y.1)
+  fit_words (Leave exit ∷ program) known last off e low =
+      let x = walk_some (exit_fits known exit && sources_fit sources known) (record known { ended = true }) last (λ behind. walk sources behind program) (opened sources known last (Leave exit) program off e) in
       let y = and_parts (keeps_low sources (Leave exit) program) (all_keep_low sources program) low in
-      (λ ranged. exit_word exit y.0 ranged, nothing program (nothing_behind sources (record known { ended = true }) program refl x.1))
+      (λ ranged. exit_word exit y.0 ranged, nothing program x.1)
     where
-      nothing : (program : List Micro) → program ≡ [] → AllFitWords sources program
+      nothing : (program : List Micro) → walk sources (record known { ended = true }) program ≡ Some last → AllFitWords sources program
       nothing [] e = tt
       nothing (operation ∷ program) e = absurd (cc e)
 

@@ -48,7 +48,7 @@ use Rattle.program_codegen.specs.Words.{plain, marked, holder, copy, probing, ra
 use Rattle.program_codegen.specs.Programs.{HasWords, IsExit, ReadsReady, LeavesReady, rule_of}
 use Rattle.program_codegen.proofs.Knowing.{walk_fits, nothing_behind, write_changes}
 use Rattle.program_codegen.proofs.Walk.{Within, next, row_rest, row_length}
-use Rattle.program_codegen.proofs.Holding.{Setting, Holds, HoldsAs, LeavingFollows, ProgramFollows, found, tree}
+use Rattle.program_codegen.proofs.Holding.{Setting, Holds, HoldsAs, LeavingFollows, ProgramFollows, ends, found, tree}
 use Rattle.program_codegen.proofs.Computing.{unchanged, computes, checks_written}
 use Rattle.program_codegen.proofs.Operands.{count_some, read_value, write_done, locked_value}
 use Rattle.program_codegen.proofs.Accessing.{checks, refuses, reads_operand, writes_operand, locks_operand}
@@ -125,7 +125,7 @@ module _ (p : Placement) (site : Site) (codes : List AlphaInstr) (setting : Sett
 
   -- the rest of a course stays in range, and its codes come from the sources
   abbrev Good : Course Left → Type 0
-  Good course = IsInRange p.pages (tree p course) × AtLeaves (CodesComeFrom site.sources p.begun) course
+  Good course = IsInRange p.pages (tree (ends p) course) × AtLeaves (CodesComeFrom site.sources p.begun) course
 
   opens : (reference : Reference) (on : ℕ → Course Left) (reply : ℕ) → Good (Ask reference on) → Answers reference reply → Good (on reply)
   opens reference on reply good ok = (good.0.1 reply ok, good.1 reply ok)
@@ -135,8 +135,8 @@ module _ (p : Placement) (site : Site) (codes : List AlphaInstr) (setting : Sett
   passed true P course fault e h = h
   passed false P course fault e h = absurd (cc e)
 
-  passed_range : (standing : Standing) (when : ℕ) (program : List Micro) → (standing.temps when == 0) ≡ true → IsInRange p.pages (tree p (Course_of (Refuse when ∷ program) standing)) → IsInRange p.pages (tree p (Course_of program standing))
-  passed_range standing when program e h = passed (standing.temps when == 0) (λ course. IsInRange p.pages (tree p course)) (Course_of program standing) (Fault ReservedOperand) e h
+  passed_range : (standing : Standing) (when : ℕ) (program : List Micro) → (standing.temps when == 0) ≡ true → IsInRange p.pages (tree (ends p) (Course_of (Refuse when ∷ program) standing)) → IsInRange p.pages (tree (ends p) (Course_of program standing))
+  passed_range standing when program e h = passed (standing.temps when == 0) (λ course. IsInRange p.pages (tree (ends p) course)) (Course_of program standing) (Fault ReservedOperand) e h
 
   passed_agree : (standing : Standing) (when : ℕ) (program : List Micro) → (standing.temps when == 0) ≡ true → AtLeaves (CodesComeFrom site.sources p.begun) (Course_of (Refuse when ∷ program) standing) → AtLeaves (CodesComeFrom site.sources p.begun) (Course_of program standing)
   passed_agree standing when program e h = passed (standing.temps when == 0) (AtLeaves (CodesComeFrom site.sources p.begun)) (Course_of program standing) (Fault ReservedOperand) e h
@@ -187,9 +187,9 @@ module _ (p : Placement) (site : Site) (codes : List AlphaInstr) (setting : Sett
       → Within p site.behind pc (leaving site codes exit ++ program_lines site codes program)
       → IsExit exit → exit_fits known exit ≡ true → sources_fit site.sources known ≡ true → LeavesReady site.behind (Leave exit ∷ program) → Holds p site known standing regs
       → AtLeaves (CodesComeFrom site.sources p.begun) (leaves_by exit (found p site) standing)
-      → Always p None (length (leaving site codes exit ++ program_lines site codes program)) (at_place regs pc) (tree p (leaves_by exit (found p site) standing))
+      → Always p None (length (leaving site codes exit ++ program_lines site codes program)) (at_place regs pc) (tree (ends p) (leaves_by exit (found p site) standing))
   ending_follows exit [] known standing regs pc e w is fits come ready h agree =
-      subst (λ xs. Always p None (length xs) (at_place regs pc) (tree p (leaves_by exit (found p site) standing))) (sym (append-nil (leaving site codes exit)))
+      subst (λ xs. Always p None (length xs) (at_place regs pc) (tree (ends p) (leaves_by exit (found p site) standing))) (sym (append-nil (leaving site codes exit)))
       (leaves exit known standing regs pc (subst (Within p site.behind pc) (append-nil (leaving site codes exit)) w) is fits come ready h agree)
   ending_follows exit (operation ∷ program) known standing regs pc e w is fits come ready h agree = absurd (cc e)
 
@@ -209,7 +209,7 @@ module _ (p : Placement) (site : Site) (codes : List AlphaInstr) (setting : Sett
       let behind = behind_write to (holding_of (leaves_longword (Compute to op size a b))) known in
       let x = walk_fits (computation_fits known to op a b) behind (λ behind. walk site.sources behind program) (opened site.sources known (Compute to op size a b) program off e) in
       let off' = (write_changes to (holding_of (leaves_longword (Compute to op size a b))) known).ended ∙ off in
-      computing_follows to op size a b program known standing regs pc (tree p (Course_of (Compute to op size a b ∷ program) standing)) w (lines_some site codes program behind off' x.1) x.0 words.0
+      computing_follows to op size a b program known standing regs pc (tree (ends p) (Course_of (Compute to op size a b ∷ program) standing)) w (lines_some site codes program behind off' x.1) x.0 words.0
       (λ flag lt is. reads flag lt (or_left (reads_flag flag (Compute to op size a b)) (list_any (reads_flag flag) program) is)) h
       (λ regs' pc' w' h'. follows program behind _ regs' pc' w' (later_sized (Compute to op size a b) program sized) words.1 (later_flags (Compute to op size a b) program reads) ready off' x.1 h' range agree)
   follows (Probe place count write ∷ program) known standing regs pc w sized words reads ready off e h range agree =
@@ -219,7 +219,7 @@ module _ (p : Placement) (site : Site) (codes : List AlphaInstr) (setting : Sett
       let w1 = next p site.behind pc (copy (holder place) 27) None (marked (Pal 0x80) (probing site count write) ∷ lines) w in
       let w2 = subst (λ q. Within p site.behind q lines) (two_words pc) (next p site.behind (pc + 1) (Pal 0x80) (Some (probing site count write)) lines w1) in
       roomy p None (2 + length lines) (length (lines_of site codes (Probe place count write) program ++ lines)) (at_place regs pc) _ (omega arith)
-      (checks p site (length lines) pc place count write lines known standing regs (Course_of program standing) w (lines_some site codes program behind off x.1) x.0 words.0.0 words.0.1 h
+      (checks p site (ends p) (length lines) pc place count write lines known standing regs (Course_of program standing) w (lines_some site codes program behind off x.1) x.0 words.0.0 words.0.1 h
       (λ g ok h'. follows program behind standing g (pc + 2) w2 (later_sized (Probe place count write) program sized) words.1 (later_flags (Probe place count write) program reads) ready off x.1 h' (range ok) agree))
   follows (Refuse when ∷ program) known standing regs pc w sized words reads ready off e h range agree =
       let x = walk_fits (not known.changed && holds known when) known (λ behind. walk site.sources behind program) (opened site.sources known (Refuse when) program off e) in
@@ -227,7 +227,7 @@ module _ (p : Placement) (site : Site) (codes : List AlphaInstr) (setting : Sett
       let w1 = next p site.behind pc (Branch Beq (holder when) (pos 1)) None (marked (Pal 0x83) (raising site 0x18) ∷ lines) w in
       let w2 = subst (λ q. Within p site.behind q lines) (two_words pc) (next p site.behind (pc + 1) (Pal 0x83) (Some (raising site 0x18)) lines w1) in
       roomy p None (2 + length lines) (length (lines_of site codes (Refuse when) program ++ lines)) (at_place regs pc) _ (omega arith)
-      (refuses p site (length lines) pc when lines known standing regs (Course_of program standing) w (lines_some site codes program known off x.1) x.0 words.0 h
+      (refuses p site (ends p) (length lines) pc when lines known standing regs (Course_of program standing) w (lines_some site codes program known off x.1) x.0 words.0 h
       (λ zero_is. follows program known standing regs (pc + 2) w2 (later_sized (Refuse when) program sized) words.1 (later_flags (Refuse when) program reads) ready off x.1 h
       (passed_range standing when program zero_is range) (passed_agree standing when program zero_is agree)))
   follows (Read to place count ∷ program) known standing regs pc w sized words reads ready off e h range agree =
@@ -238,7 +238,7 @@ module _ (p : Placement) (site : Site) (codes : List AlphaInstr) (setting : Sett
       let size = count_some words.0.2 in
       let length_is = row_length p site.behind (read_by site.byte_word (21 + place) count (21 + to)) lines in
       roomy p None (length (read_by site.byte_word (21 + place) count (21 + to)) + length lines) (length (map plain (read_by site.byte_word (21 + place) count (21 + to)) ++ lines)) (at_place regs pc) _ (omega arith)
-      (reads_operand p site setting.pages setting.bytes setting.kinds (length lines) pc to place count lines known standing regs (λ value. Course_of program (with_value to value standing)) w (lines_some site codes program behind off' x.1) x.0 words.0.0 words.0.1 words.0.2 h
+      (reads_operand p site setting.pages setting.bytes setting.kinds (ends p) (length lines) pc to place count lines known standing regs (λ value. Course_of program (with_value to value standing)) w (lines_some site codes program behind off' x.1) x.0 words.0.0 words.0.1 words.0.2 h
       (λ value g fits h'.
       let good = read_value Good opens (standing.temps place) count value (λ value. Course_of program (with_value to value standing)) size.0 size.1 fits (range, agree) in
       follows program behind (with_value to value standing) g (pc + length (read_by site.byte_word (21 + place) count (21 + to))) (row_rest p site.behind pc (read_by site.byte_word (21 + place) count (21 + to)) lines w) (later_sized (Read to place count) program sized) words.1 (later_flags (Read to place count) program reads) ready off' x.1 h' good.0 good.1))
@@ -248,7 +248,7 @@ module _ (p : Placement) (site : Site) (codes : List AlphaInstr) (setting : Sett
       let length_is = row_length p site.behind (write_by site.byte_word (21 + place) count (21 + source)) lines in
       let good = write_done Good opens (parts (standing.temps place) count) (standing.temps source) (Course_of program standing) (range, agree) in
       roomy p None (length (write_by site.byte_word (21 + place) count (21 + source)) + length lines) (length (map plain (write_by site.byte_word (21 + place) count (21 + source)) ++ lines)) (at_place regs pc) _ (omega arith)
-      (writes_operand p site setting.pages setting.bytes setting.kinds (length lines) pc place count source lines known standing regs (Course_of program standing) w (lines_some site codes program (behind_access known) off x.1) x.0 words.0.0 words.0.1 words.0.2 (eqb-true count setting.bytes (and_parts (count == setting.bytes) (list_all (has_bytes setting.bytes) program) sized).0) h
+      (writes_operand p site setting.pages setting.bytes setting.kinds (ends p) (length lines) pc place count source lines known standing regs (Course_of program standing) w (lines_some site codes program (behind_access known) off x.1) x.0 words.0.0 words.0.1 words.0.2 (eqb-true count setting.bytes (and_parts (count == setting.bytes) (list_all (has_bytes setting.bytes) program) sized).0) h
       (λ g h'. follows program (behind_access known) standing g (pc + length (write_by site.byte_word (21 + place) count (21 + source))) (row_rest p site.behind pc (write_by site.byte_word (21 + place) count (21 + source)) lines w) (later_sized (Write place count source) program sized) words.1 (later_flags (Write place count source) program reads) ready off x.1 h' good.0 good.1))
   follows (Locked to place kind source ∷ program) known standing regs pc w sized words reads ready off e h range agree =
       let behind = behind_access (behind_write to Wide known) in
@@ -257,7 +257,7 @@ module _ (p : Placement) (site : Site) (codes : List AlphaInstr) (setting : Sett
       let lines = program_lines site codes program in
       let length_is = row_length p site.behind (locked_code kind (21 + place) (21 + source) (21 + to)) lines in
       roomy p None (length (locked_code kind (21 + place) (21 + source) (21 + to)) + length lines) (length (map plain (locked_code kind (21 + place) (21 + source) (21 + to)) ++ lines)) (at_place regs pc) _ (omega arith)
-      (locks_operand p site setting.pages setting.bytes setting.kinds (length lines) pc to place kind source lines known standing regs (λ value. Course_of program (with_value to value standing)) w (lines_some site codes program behind off' x.1) x.0
+      (locks_operand p site setting.pages setting.bytes setting.kinds (ends p) (length lines) pc to place kind source lines known standing regs (λ value. Course_of program (with_value to value standing)) w (lines_some site codes program behind off' x.1) x.0
       words.0.0 words.0.1 words.0.2 words.0.3 words.0.4 range.0 h
       (λ value g fits h'.
       let good = locked_value Good opens kind (standing.temps place) (standing.temps source) value (λ value. Course_of program (with_value to value standing)) fits (range, agree) in
@@ -266,7 +266,7 @@ module _ (p : Placement) (site : Site) (codes : List AlphaInstr) (setting : Sett
       let x = walk_fits (commit_fits known number source) (behind_commit number known) (λ behind. walk site.sources behind program) (opened site.sources known (Commit number source) program off e) in
       let lines = program_lines site codes program in
       roomy p None (1 + length lines) (length (lines_of site codes (Commit number source) program ++ lines)) (at_place regs pc) _ (omega arith)
-      (commits p site (length lines) pc number source lines known standing regs (tree p (Course_of (Commit number source ∷ program) standing)) w (lines_some site codes program (behind_commit number known) off x.1) x.0 words.0.0 words.0.1 h
+      (commits p site (length lines) pc number source lines known standing regs (tree (ends p) (Course_of (Commit number source ∷ program) standing)) w (lines_some site codes program (behind_commit number known) off x.1) x.0 words.0.0 words.0.1 h
       (λ g h'. follows program (behind_commit number known) _ g (pc + 1) (next p site.behind pc (Operate row.Addl (holder source) (Literal 0) number) None lines w) (later_sized (Commit number source) program sized) words.1 (later_flags (Commit number source) program reads) ready off x.1 h' range agree))
   follows (Codes n z v c ∷ program) known standing regs pc w sized words reads ready off e h range agree =
       let x = walk_fits (codes_fit known n z v c) (record known { codes = true; changed = true }) (λ behind. walk site.sources behind program) (opened site.sources known (Codes n z v c) program off e) in
@@ -275,7 +275,7 @@ module _ (p : Placement) (site : Site) (codes : List AlphaInstr) (setting : Sett
       let x = walk_fits (not known.psw && holds known source) (record known { psw = true; changed = true }) (λ behind. walk site.sources behind program) (opened site.sources known (SetPsw source) program off e) in
       let lines = program_lines site codes program in
       roomy p None (1 + length lines) (length (lines_of site codes (SetPsw source) program ++ lines)) (at_place regs pc) _ (omega arith)
-      (sets_psw p site (length lines) pc source lines known standing regs (tree p (Course_of (SetPsw source ∷ program) standing)) w (lines_some site codes program (record known { psw = true; changed = true }) off x.1) (and_parts (not known.psw) (holds known source) x.0).1 words.0 h
+      (sets_psw p site (length lines) pc source lines known standing regs (tree (ends p) (Course_of (SetPsw source ∷ program) standing)) w (lines_some site codes program (record known { psw = true; changed = true }) off x.1) (and_parts (not known.psw) (holds known source) x.0).1 words.0 h
       (λ g h'. follows program (record known { psw = true; changed = true }) _ g (pc + 1) (next p site.behind pc (Operate row.And (holder source) (Literal 0xF0) 20) None lines w) (later_sized (SetPsw source) program sized) words.1 (later_flags (SetPsw source) program reads) ready off x.1 h' range agree))
   follows (Leave exit ∷ program) known standing regs pc w sized words reads ready off e h range agree =
       let x = walk_fits (exit_fits known exit && sources_fit site.sources known) (record known { ended = true }) (λ behind. walk site.sources behind program) (opened site.sources known (Leave exit) program off e) in

@@ -52,9 +52,13 @@ pub record Setting (p : Placement) (site : Site) (codes : List AlphaInstr) : Typ
 abbrev pub found : Placement → Site → Found
 found p site = record { state = p.begun; after = site.after }
 
--- the tree of a course
-abbrev pub tree : Placement → Course Left → Tree
-tree p course = continued course (λ left. departed p.serve left.departure)
+-- how the tree of an instruction goes on where its program leaves
+abbrev pub ends : Placement → Left → Tree
+ends p left = departed p.serve left.departure
+
+-- the tree of a course, with what comes where it leaves
+abbrev pub tree : (end : Left → Tree) → Course Left → Tree
+tree end course = continued course end
 
 -- ---- the registers
 -- a temporary that holds something has its value in its register
@@ -95,9 +99,9 @@ ProgramFollows p site codes bytes =
     → list_all (has_bytes bytes) program ≡ true → AllHaveWords site.sources program → ReadsReady site.before program → LeavesReady site.behind program
     → known.ended ≡ false → is_ended (walk site.sources known program) ≡ true
     → Holds p site known standing regs
-    → IsInRange p.pages (tree p (course_of program (found p site) standing))
+    → IsInRange p.pages (tree (ends p) (course_of program (found p site) standing))
     → AtLeaves (CodesComeFrom site.sources p.begun) (course_of program (found p site) standing)
-    → Always p None (length (program_lines site codes program)) (at_place regs pc) (tree p (course_of program (found p site) standing))
+    → Always p None (length (program_lines site codes program)) (at_place regs pc) (tree (ends p) (course_of program (found p site) standing))
 
 -- from where a program leaves, the words behind follow the rest of its tree
 abbrev pub LeavingFollows : Placement → Site → List AlphaInstr → Type 0
@@ -107,4 +111,4 @@ LeavingFollows p site codes =
     → IsExit exit → exit_fits known exit ≡ true → sources_fit site.sources known ≡ true → LeavesReady site.behind (Leave exit ∷ [])
     → Holds p site known standing regs
     → AtLeaves (CodesComeFrom site.sources p.begun) (leaves_by exit (found p site) standing)
-    → Always p None (length (leaving site codes exit)) (at_place regs pc) (tree p (leaves_by exit (found p site) standing))
+    → Always p None (length (leaving site codes exit)) (at_place regs pc) (tree (ends p) (leaves_by exit (found p site) standing))

@@ -1,4 +1,5 @@
 pub mod Numbers
+pub mod Pushing
 pub mod Knowing
 pub mod Walk
 pub mod Holding
@@ -8,6 +9,25 @@ pub mod Operands
 pub mod Accessing
 pub mod Committing
 pub mod Following
+pub mod Going
+pub mod Frame
+pub mod Checking
+pub mod Storing
+pub mod Valuing
+pub mod PushLaws
+pub mod Entry
+pub mod FrameLeft
+pub mod Composed
+pub mod Middle
+pub mod CallTrees
+pub mod CallScripts
+pub mod CallEnds
+pub mod CallBodies
+pub mod CallFront
+pub mod CallOperations
+pub mod CallKnown
+pub mod CallShapes
+pub mod CallFacts
 pub mod Starting
 pub mod Compiled
 pub mod Shapes
@@ -26,3 +46,5 @@ pub mod Departures
 pub mod Beginning
 pub mod Promised
 pub mod Targets
+pub mod CallCompiled
+pub mod CallPromised

@@ -52,7 +52,7 @@ allowed_low (r ∷ rs) lowest address write rising e = by (λ is. allowed_low rs
     by later (inl is) = below (address / 512) (r.first + r.count) (nat_le r.first (address / 512)) (not write || r.writable) rising.2 is
     by later (inr is) = later is
 
-in_space : (pages : Pages) (address : ℕ) (write : Bool) → IsPageTable pages → is_allowed pages address write ≡ true → address < 2 ^ 31
+pub in_space : (pages : Pages) (address : ℕ) (write : Bool) → IsPageTable pages → is_allowed pages address write ≡ true → address < 2 ^ 31
 in_space pages address write is e = let lt = allowed_low pages.ranges 0 address write is.rising e in omega arith
 
 -- what may be written may be read
@@ -167,21 +167,21 @@ module _ (p : Placement) (table : IsPageTable p.pages) where
       record { within = within_space p.pages table true address count x.0 x.1 usage; pages = parts_usable p.pages table true address count x.0 x.1 usage; readable = λ quad e. readable p.pages quad e; stores = may_store (stores_of byte_word address count) (stored_of byte_word address count) (store_kinds byte_word address count) }
 
 -- ---- references by the plans of accesses
-module _ (p : Placement) (byte_word : Bool) (bytes : ℕ) (kinds : MoreKinds (needed byte_word bytes) p.kinds) where
+module _ (p : Placement) (byte_word : Bool) (bytes : ℕ) (kinds : MoreKinds (needed byte_word bytes) p.kinds) (onward : Left → Tree) where
   abbrev onto : (ℕ → Course Left) → ℕ → Tree
-  onto on value = tree p (on value)
+  onto on value = tree onward (on value)
 
-  pub begins_read : (address count : ℕ) (on : ℕ → Course Left) → 0 < count → Begins (loads_of byte_word) p.kinds (onto on) None (read_plan (parts address count)) (tree p (read_parts (parts address count) on)) None
+  pub begins_read : (address count : ℕ) (on : ℕ → Course Left) → 0 < count → Begins (loads_of byte_word) p.kinds (onto on) None (read_plan (parts address count)) (tree onward (read_parts (parts address count) on)) None
   begins_read address count on some = by (count == 0) (nat_le count (8 - address % 8)) refl
     where
       by : (none in_one : Bool) → (count == 0) ≡ none
           → Begins (loads_of byte_word) p.kinds (onto on) None (read_plan (if none then [] else if in_one then (address, count) ∷ [] else (address, 8 - address % 8) ∷ ((address + (8 - address % 8)) % 2 ^ 32, count - (8 - address % 8)) ∷ []))
-          (tree p (read_parts (if none then [] else if in_one then (address, count) ∷ [] else (address, 8 - address % 8) ∷ ((address + (8 - address % 8)) % 2 ^ 32, count - (8 - address % 8)) ∷ []) on)) None
+          (tree onward (read_parts (if none then [] else if in_one then (address, count) ∷ [] else (address, 8 - address % 8) ∷ ((address + (8 - address % 8)) % 2 ^ 32, count - (8 - address % 8)) ∷ []) on)) None
       by true in_one e = absurd (zero_not count some e)
         where
           zero_not : (n : ℕ) → 0 < n → (n == 0) ≡ true → ⊥
           zero_not n lt e = let is = eqb-true n 0 e in omega arith
-      by false true e = (refl, read_kinds byte_word bytes p.kinds kinds _ _, λ before lt. (refl, (ap (λ v. tree p (on v)) (mod-mod (before / 2 ^ (8 * (address % 8))) (2 ^ (8 * count))), refl)))
+      by false true e = (refl, read_kinds byte_word bytes p.kinds kinds _ _, λ before lt. (refl, (ap (λ v. tree onward (on v)) (mod-mod (before / 2 ^ (8 * (address % 8))) (2 ^ (8 * count))), refl)))
       by false false e =
           let c = 8 - address % 8 in
           let next = (address + (8 - address % 8)) % 2 ^ 32 in (
@@ -195,8 +195,8 @@ module _ (p : Placement) (byte_word : Bool) (bytes : ℕ) (kinds : MoreKinds (ne
                 λ before' lt'. (
                   refl,
                   (
-                    ap (λ v. tree p (on (v + field_of before' (next % 8) (count - c) % 2 ^ (8 * (count - c)) * 2 ^ (8 * c)))) (mod-mod (before / 2 ^ (8 * (address % 8))) (2 ^ (8 * c)))
-                        ∙ ap (λ v. tree p (on (field_of before (address % 8) c + v * 2 ^ (8 * c)))) (mod-mod (before' / 2 ^ (8 * (next % 8))) (2 ^ (8 * (count - c)))),
+                    ap (λ v. tree onward (on (v + field_of before' (next % 8) (count - c) % 2 ^ (8 * (count - c)) * 2 ^ (8 * c)))) (mod-mod (before / 2 ^ (8 * (address % 8))) (2 ^ (8 * c)))
+                        ∙ ap (λ v. tree onward (on (field_of before (address % 8) c + v * 2 ^ (8 * c)))) (mod-mod (before' / 2 ^ (8 * (next % 8))) (2 ^ (8 * (count - c)))),
                     refl,
                   ),
                 ),
@@ -204,7 +204,7 @@ module _ (p : Placement) (byte_word : Bool) (bytes : ℕ) (kinds : MoreKinds (ne
             ),
           )
 
-  pub begins_write : (stores : Kinds) (xs : List (ℕ × ℕ)) (value : ℕ) (on : Course Left) → Each stores p.kinds xs → Begins stores p.kinds (λ (done : Unit {0}). tree p on) None (write_plan xs value) (tree p (write_parts xs value on)) None
+  pub begins_write : (stores : Kinds) (xs : List (ℕ × ℕ)) (value : ℕ) (on : Course Left) → Each stores p.kinds xs → Begins stores p.kinds (λ (done : Unit {0}). tree onward on) None (write_plan xs value) (tree onward (write_parts xs value on)) None
   begins_write stores [] value on each = (refl, refl)
   begins_write stores (part ∷ xs) value on each =
       (refl, each.0 _, λ before lt. (sym (changed_low before (part.0 % 8) part.1 value), begins_write stores xs (value / 2 ^ (8 * part.1)) on each.1))
@@ -212,23 +212,23 @@ module _ (p : Placement) (byte_word : Bool) (bytes : ℕ) (kinds : MoreKinds (ne
   abbrev locked_ask : LockedOp → (address from : ℕ) → (ℕ → Course Left) → Course Left
   locked_ask kind address from on = Ask (record { address = address; count = locked_count kind; kind = locked_kind kind from }) (λ reply. on (reply % 2 ^ (8 * locked_count kind)))
 
-  pub begins_locked : (kind : LockedOp) (address from : ℕ) (on : ℕ → Course Left) → IsLockable kind address from → Begins by_locks p.kinds (onto on) None (locked_plan kind address from) (tree p (locked_ask kind address from on)) None
+  pub begins_locked : (kind : LockedOp) (address from : ℕ) (on : ℕ → Course Left) → IsLockable kind address from → Begins by_locks p.kinds (onto on) None (locked_plan kind address from) (tree onward (locked_ask kind address from on)) None
   begins_locked AddWord address from on is = (
     refl,
     lock_kinds byte_word bytes p.kinds kinds AddWord address from,
     λ before lt. (
       let same : (field_of before (address % 8) 2 + from) % 2 ^ 16 ≡ (field_of before (address % 8) 2 + from % 2 ^ 16) % 2 ^ 16 = sums (field_of before (address % 8) 2) from in
           sym (changed_low before (address % 8) 2 (field_of before (address % 8) 2 + from)) ∙ ap (with_field_of before (address % 8) 2) same,
-      (ap (λ v. tree p (on v)) (mod-mod (before / 2 ^ (8 * (address % 8))) (2 ^ 16)), refl),
+      (ap (λ v. tree onward (on v)) (mod-mod (before / 2 ^ (8 * (address % 8))) (2 ^ 16)), refl),
     ),
   )
     where
       sums : (a b : ℕ) → (a + b) % 2 ^ 16 ≡ (a + b % 2 ^ 16) % 2 ^ 16
       sums a b = omega arith
   begins_locked SetBit address from on is =
-      (refl, lock_kinds byte_word bytes p.kinds kinds SetBit address from, λ before lt. (refl, (ap (λ v. tree p (on v)) (mod-mod (before / 2 ^ (8 * (address % 8))) (2 ^ 8)), refl)))
+      (refl, lock_kinds byte_word bytes p.kinds kinds SetBit address from, λ before lt. (refl, (ap (λ v. tree onward (on v)) (mod-mod (before / 2 ^ (8 * (address % 8))) (2 ^ 8)), refl)))
   begins_locked ClearBit address from on is =
-      (refl, lock_kinds byte_word bytes p.kinds kinds ClearBit address from, λ before lt. (ap (with_field_of before (address % 8) 1) (clears (before / 2 ^ (8 * (address % 8))) from is), (ap (λ v. tree p (on v)) (mod-mod (before / 2 ^ (8 * (address % 8))) (2 ^ 8)), refl)))
+      (refl, lock_kinds byte_word bytes p.kinds kinds ClearBit address from, λ before lt. (ap (with_field_of before (address % 8) 1) (clears (before / 2 ^ (8 * (address % 8))) from is), (ap (λ v. tree onward (on v)) (mod-mod (before / 2 ^ (8 * (address % 8))) (2 ^ 8)), refl)))
     where
       by_mask : (y k k' : ℕ) → bit_and 255 k ≡ bit_and 255 k' → bit_and (y % 2 ^ 8) k ≡ bit_and (y % 2 ^ 8) k'
       by_mask y k k' e =

@@ -1,5 +1,5 @@
 -- What the block of a program that fits promises.
-use Rattle.std.proofs.Common.{◌≡◌, ℕ, ◌+◌, ◌^◌, ◌<◌, ◌≤◌, refl, ap, ◌∙◌, arith, List, [], ◌∷◌, length, map, Bool, true, false, lit<, lit≤, Result, Ok, Err}
+use Rattle.std.proofs.Common.{◌≡◌, ℕ, ◌+◌, ◌^◌, ◌<◌, ◌≤◌, refl, ap, ◌∙◌, arith, List, [], ◌∷◌, length, map, Option, Some, None, Bool, true, false, lit<, lit≤, Result, Ok, Err}
 use Rattle.std.specs.Prelude.{All, IfOk, nat_le}
 use Rattle.std.proofs.lemmas.Bool.Decides.{nat_tests}
 use Rattle.vax_form.specs.declared.instr.Instr.{Instr}
@@ -10,6 +10,7 @@ use Rattle.micro_ops.specs.declared.codes.CodeSources.{CodeSources}
 use Rattle.micro_ops.specs.declared.program.Micro.{Micro}
 use Rattle.micro_ops.specs.Fits.{fits, walk, is_ended, all_keep_low, most_words}
 use Rattle.micro_ops.specs.Known.{at_start}
+use Rattle.micro_ops.specs.declared.known.Known.{Known}
 use Rattle.micro_ops.specs.WordCounts.{program_words}
 use Rattle.block_law.specs.Blocks.{IsBlockOf}
 use Rattle.block_law.specs.CodeWords.{LeavesCodes}
@@ -36,12 +37,17 @@ if_ok_both (Ok a) P R Q f h k = f a h k
 if_ok_both (Err e) P R Q f h k = h
 
 -- ---- a program that fits
+ended_some : (walked : Option Known) → is_ended walked ≡ true → (known : Known) × (walked ≡ Some known)
+ended_some None e = absurd (cc e)
+ended_some (Some known) e = (known, refl)
+
 pub all_fit : (sources : CodeSources) (program : List Micro) → fits sources program ≡ true → AllFitWords sources program
 all_fit sources program e =
     let x = all_three (is_ended (walk sources at_start program)) (all_keep_low sources program) (nat_le (program_words sources program) most_words) e in
-    fit_words sources program at_start refl x.0 x.1
+    let last = ended_some (walk sources at_start program) x.0 in
+    fit_words sources program at_start last.0 refl last.1 x.1
 
-same_targets : (site : Site) (lines : List Line) → targets (with_first (point_of site) lines) ≡ targets lines
+pub same_targets : (site : Site) (lines : List Line) → targets (with_first (point_of site) lines) ≡ targets lines
 same_targets site [] = refl
 same_targets site (line ∷ lines) = refl
 

@@ -49,17 +49,17 @@ use Rattle.program_codegen.proofs.Endings.{leave_shape, above_codes, below_codes
 
 module _ (site : Site) where
   -- ---- the lines of operations that may fault
-  abbrev Faulting : ℕ → List Line → Type 0
+  abbrev pub Faulting : ℕ → List Line → Type 0
   Faulting most lines = Front site lines × (list_all is_free (words_of lines) ≡ true) × (length lines ≤ most)
 
-  faulting_row : (most : ℕ) (is : List AlphaInstr) → All IsEncodable is → list_all is_own is ≡ true → length is ≤ most → Faulting most (map plain is)
+  pub faulting_row : (most : ℕ) (is : List AlphaInstr) → All IsEncodable is → list_all is_own is ≡ true → length is ≤ most → Faulting most (map plain is)
   faulting_row most is encodable own few = (
     row_front site is encodable own,
     ap (list_all is_free) (row_words_are is) ∙ list_all_of is_own is_free own_free is own,
     let count = plain_length is in omega arith,
   )
 
-  probe_lines : (place count : ℕ) (write : Bool) → place < 6 → Faulting 2 (plain (copy (holder place) 27) ∷ marked (Pal 0x80) (probing site count write) ∷ [])
+  pub probe_lines : (place count : ℕ) (write : Bool) → place < 6 → Faulting 2 (plain (copy (holder place) 27) ∷ marked (Pal 0x80) (probing site count write) ∷ [])
   probe_lines place count write lt = (
     front_append site (plain (copy (holder place) 27) ∷ []) (marked (Pal 0x80) (probing site count write) ∷ [])
         (line_front site (plain (copy (holder place) 27)) refl (plain_fits site (copy (holder place) 27) (omega arith, lit< tt, lit< tt) refl) (λ r low high. above_codes 27 r (lit≤ tt) high))
@@ -78,10 +78,10 @@ module _ (site : Site) where
   )
 
   -- ---- those of changes
-  abbrev Changing : ℕ → List Line → Type 0
+  abbrev pub Changing : ℕ → List Line → Type 0
   Changing most lines = Front site lines × (list_any may_fault (words_of lines) ≡ false) × (length lines ≤ most)
 
-  commit_lines : (number source : ℕ) → number < 15 → source < 6 → Changing 1 (plain (Operate row.Addl (holder source) (Literal 0) number) ∷ [])
+  pub commit_lines : (number source : ℕ) → number < 15 → source < 6 → Changing 1 (plain (Operate row.Addl (holder source) (Literal 0) number) ∷ [])
   commit_lines number source lt source_lt = (
     line_front site (plain (Operate row.Addl (holder source) (Literal 0) number)) refl (plain_fits site (Operate row.Addl (holder source) (Literal 0) number) (omega arith, lit< tt, omega arith) refl) (λ r low high. below_codes number r (omega arith) low),
     refl,

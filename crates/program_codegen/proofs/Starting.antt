@@ -67,7 +67,7 @@ upper_of_shown upper codes lt =
     ∙ (let e : upper / 16 % 16 ≡ upper / 16 = omega arith in e)
 
 -- R0 to R14 show what they hold
-shown_at : (regs : Regs) (n : ℕ) → n < 15 → slice_index (registers_shown regs) n ≡ regs n % 2 ^ 32
+pub shown_at : (regs : Regs) (n : ℕ) → n < 15 → slice_index (registers_shown regs) n ≡ regs n % 2 ^ 32
 shown_at regs n lt =
     ap (λ (xs : List ℕ). slice_index xs n) (sym (registers_kept regs (put regs n (regs n)) (λ m _. same m)) ∙ registers_put regs n (regs n) lt)
     ∙ get_or-set_same (registers_shown regs) n (regs n % 2 ^ 32) 0 lt

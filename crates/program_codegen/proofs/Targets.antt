@@ -1,17 +1,25 @@
 -- The points of a block are the same with the byte-word extension and without it, but for the words at which they stand.
-use Rattle.std.proofs.Common.{◌≡◌, ℕ, ◌+◌, refl, sym, ap, ◌∙◌, List, [], ◌∷◌, ◌++◌, map, Bool, true, false, Option, Some, None, cond}
+use Rattle.std.proofs.Common.{◌≡◌, ℕ, zero, suc, ◌+◌, length, refl, sym, ap, ◌∙◌, List, [], ◌∷◌, ◌++◌, map, Bool, true, false, Option, Some, None, cond}
 use Rattle.std.specs.Prelude.{◌==◌, unwrap_or}
 use Rattle.vax_form.specs.declared.instr.Instr.{Instr}
+use Rattle.vax_form.specs.declared.operation.LongOperation.TheVariants.{CallStack}
+use Rattle.vax_form.specs.declared.pages.Pages.{Pages}
 use Rattle.alpha_encode.specs.declared.instr.AlphaInstr.{AlphaInstr}
+use Rattle.alpha_encode.specs.declared.instr.AlphaInstr.TheVariants.{Memory}
+use Rattle.alpha_encode.specs.declared.instr.MemoryOp.TheVariants.{Lda}
+use Rattle.exception_records.specs.Codes.{all_ready}
 use Rattle.exception_records.specs.declared.points.Point.{Point}
 use Rattle.exception_records.specs.declared.rules.Rules.{Rules}
+use Rattle.micro_ops.specs.Sources.{sources_of_long}
 use Rattle.micro_ops.specs.declared.codes.CodeSources.{CodeSources}
 use Rattle.micro_ops.specs.declared.program.Micro.{Micro}
 use Rattle.micro_ops.specs.declared.program.Micro.TheVariants.{Compute, Probe, Refuse, Read, Write, Locked, Commit, Codes, SetPsw, Leave}
 use Rattle.byte_sequences.specs.Words.{byte_read, unaligned_read, read_code, bw_word_read, bw_read_code, write_code, bw_write_code}
+use Rattle.program_codegen.specs.declared.calls.Call.{Call}
 use Rattle.program_codegen.specs.declared.lines.Line.{Line}
 use Rattle.program_codegen.specs.declared.points.Site.{Site}
-use Rattle.program_codegen.specs.Words.{block_lines, holder, lines_of, plain, point_of, points_alone, points_from, program_block, program_lines, read_by, site_of, with_entry, with_first, write_by}
+use Rattle.program_codegen.specs.Calls.{align_frame, call_at, call_block, call_lines, call_site, check_lines, checks_from, count_lines, displacement, entry_words, frame_of, frame_program, front_program, list_program, pushes_from, steps_of}
+use Rattle.program_codegen.specs.Words.{block_of, exit_lines, holder, lines_of, plain, point_of, points_alone, points_from, program_block, program_lines, read_by, site_of, with_entry, with_first, write_by}
 
 -- ---- the points of lines
 abbrev with_point : Option Point → List Point → List Point
@@ -151,15 +159,52 @@ module _ (instr : Instr) (sources : CodeSources) (before behind : Rules) (byte_w
       by None = refl
       by (Some own) = refl
 
-  pub block_points : (program : List Micro)
-      → points_alone (program_block instr sources program codes before behind byte_word).points ≡ points_alone (program_block instr sources program codes before behind other).points
-  block_points program =
-      let alike = program_alike program in
-      let lines = program_lines here codes program in
-      let more = program_lines there codes program in
-      alone_from 0 (block_lines here codes program)
+  points_alike : (lines more : List Line) → Alike lines more
+      → points_alone (block_of (with_first (point_of here) lines)).points ≡ points_alone (block_of (with_first (point_of there) more)).points
+  points_alike lines more alike =
+      alone_from 0 (with_first (point_of here) lines)
       ∙ (with_first_in (point_of here) lines
       ∙ (ap (λ o. by_first (point_of here) o (points_in lines)) alike.first
       ∙ (ap (by_first (point_of here) (first_of more)) alike.points
       ∙ (sym (with_first_in (point_of there) more)
-      ∙ sym (alone_from 0 (block_lines there codes program))))))
+      ∙ sym (alone_from 0 (with_first (point_of there) more))))))
+
+  pub block_points : (program : List Micro)
+      → points_alone (program_block instr sources program codes before behind byte_word).points ≡ points_alone (program_block instr sources program codes before behind other).points
+  block_points program = points_alike (program_lines here codes program) (program_lines there codes program) (program_alike program)
+
+-- ---- calls
+module _ (instr : Instr) (before : Rules) (byte_word other : Bool) where
+  abbrev this_site : Site
+  this_site = call_site instr before byte_word
+
+  abbrev that_site : Site
+  that_site = call_site instr before other
+
+  checks_alike : (number count : ℕ) → Alike (checks_from this_site number count) (checks_from that_site number count)
+  checks_alike number zero = are_same []
+  checks_alike number (suc count) =
+      both_alike (check_lines this_site number) (check_lines that_site number) (checks_from this_site (number + 1) count) (checks_from that_site (number + 1) count)
+      (are_same (check_lines this_site number)) (checks_alike (number + 1) count)
+
+  counts_alike : (stack : Bool) → Alike (count_lines this_site stack) (count_lines that_site stack)
+  counts_alike true = plain_alike (write_by byte_word 23 4 21) (write_by other 23 4 21) (writes_some byte_word 23 4 21) (writes_some other 23 4 21)
+  counts_alike false = are_same []
+
+  programs_alike : (program : List Micro) → Alike (program_lines this_site [] program) (program_lines that_site [] program)
+  programs_alike program = program_alike instr (sources_of_long CallStack) before all_ready byte_word other [] program
+
+  call_alike : (call : Call) → Alike (call_lines this_site call) (call_lines that_site call)
+  call_alike call =
+      let pushes = pushes_from instr.after call (steps_of call) 1 (frame_of call.mask) in
+      let ending = plain (Memory Lda 24 24 (displacement (length (frame_of call.mask)))) ∷ (program_lines this_site [] frame_program ++ (map plain (entry_words call.mask) ++ exit_lines call.entry)) in
+      let commits = list_program call.stack (steps_of call) in
+      let checks = checks_alike 1 (length (frame_of call.mask)) in
+      both_alike (program_lines this_site [] (front_program call)) (program_lines that_site [] (front_program call)) _ _ (programs_alike (front_program call))
+      (both_alike (plain align_frame ∷ []) (plain align_frame ∷ []) _ _ (are_same (plain align_frame ∷ []))
+      (both_alike (checks_from this_site 1 (length (frame_of call.mask))) (checks_from that_site 1 (length (frame_of call.mask))) _ _ checks
+      (both_alike (count_lines this_site call.stack) (count_lines that_site call.stack) _ _ (counts_alike call.stack)
+      (both_alike pushes pushes _ _ (are_same pushes) (both_alike (program_lines this_site [] commits) (program_lines that_site [] commits) ending ending (programs_alike commits) (are_same ending))))))
+
+  pub call_points : (pages : Pages) → points_alone (call_block instr pages before byte_word).points ≡ points_alone (call_block instr pages before other).points
+  call_points pages = points_alike instr (sources_of_long CallStack) before all_ready byte_word other [] (call_lines this_site (call_at instr pages)) (call_lines that_site (call_at instr pages)) (call_alike (call_at instr pages))

@@ -1,4 +1,6 @@
 pub mod Words
+pub mod Calls
 pub mod Programs
 pub mod Accesses
 pub mod Promises
+pub mod CallPromises

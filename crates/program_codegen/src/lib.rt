@@ -4,9 +4,13 @@
 #![tactic(auto)]
 
 mod blocks;
+mod calls;
+mod entering;
+mod frames;
 mod leaving;
 mod lines;
 mod operations;
 mod points;
 
 pub use blocks::block;
+pub use entering::long_block;

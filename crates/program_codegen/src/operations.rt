@@ -19,7 +19,7 @@ use vax_form::WantOfMemory;
 /// Bits 7:4 of the processor status word.
 const STATUS_BITS: u8 = 0xF0;
 
-const PROBE: AlphaInstr = AlphaInstr::Pal(pal::PROBE);
+pub(crate) const PROBE: AlphaInstr = AlphaInstr::Pal(pal::PROBE);
 
 fn push_line(lines: &mut Vec<Line>, line: Line) -> Result<(), WantOfMemory>
     ensures { OnOk result (lines.new.items ≡ lines.old.items ++ (line ∷ [])) }
@@ -54,7 +54,7 @@ fn read_by(
     }
 }
 
-fn write_by(
+pub(crate) fn write_by(
     alloc: Global,
     byte_word: bool,
     place: u8,
