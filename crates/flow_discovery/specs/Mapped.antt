@@ -1,14 +1,28 @@
 -- Which addresses of an image are mapped: those that have a block in its translation.
-use Rattle.std.specs.Prelude.{◌≡◌, ℕ, Bool, true, false, List}
+use Rattle.std.specs.Prelude.{◌≡◌, ◌&&◌, ◌||◌, ℕ, Bool, true, false, List, Option, Some}
 use Rattle.std.specs.Option.{option_map_or}
 use Rattle.vax_form.specs.Row.{class_at, is_translated}
 use Rattle.vax_form.specs.declared.instr.Instr.{Instr}
+use Rattle.vax_form.specs.declared.operation.LongOperation.{LongOperation}
+use Rattle.vax_form.specs.declared.operation.LongOperation.TheVariants.{CallGeneral, CallStack}
 use Rattle.vax_form.specs.declared.pages.Pages.{Pages}
+use Rattle.vax_long.specs.Instructions.{long_at}
+use Rattle.vax_long.specs.LongForms.{is_long_form}
 use Rattle.flow_discovery.specs.Reach.{Member, instruction_at}
 
--- an instruction has a block where its class is Translated, and else is left to the interpreter
+abbrev pub is_call : Option LongOperation → Bool
+is_call (Some CallGeneral) = true
+is_call (Some CallStack) = true
+is_call operation = false
+
+-- a call of long form
+abbrev pub has_call_block : Instr → Pages → Bool
+has_call_block instr pages = is_call (long_at instr.opcode) && is_long_form instr pages
+
+-- an instruction has a block where its class is Translated, or where it is a call of long form; else it is left to the
+-- interpreter
 abbrev pub has_block : Instr → Pages → Bool
-has_block instr pages = is_translated (class_at instr.opcode)
+has_block instr pages = is_translated (class_at instr.opcode) || has_call_block instr pages
 
 -- an instruction stands at the address, and has a block
 abbrev pub has_block_at : Pages → ℕ → Bool

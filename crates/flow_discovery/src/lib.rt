@@ -3,6 +3,7 @@
 #![tactic(auto)]
 
 mod flow;
+mod mapped;
 mod members;
 
 ghost use Rattle.std.specs.Prelude.{◌≡◌, ◌≢◌, ◌<◌, ◌≤◌, ◌^◌, All, IfErr, IfOk, length, map};
@@ -14,6 +15,7 @@ ghost use Rattle.flow_discovery.specs.Starts.{starts};
 use exact_lists::list_of;
 pub use flow::goes_on;
 use image_file::{Image, Start};
+pub use mapped::{has_block, has_call_block};
 use std::alloc::{AllocError, Global};
 use vax_form::{Class, Instr};
 

@@ -104,4 +104,4 @@ same_mapped target other pages starts a b is is' =
 
 pub is_function : IsFunction
 is_function target pages starts a b is is' =
-    is.made.laid ∙ ap (λ (instrs : List Instr). layout (blocks_of target instrs)) (same_mapped target target pages starts a b is is') ∙ sym is'.made.laid
+    is.made.laid ∙ ap (λ (instrs : List Instr). layout (blocks_of target pages instrs)) (same_mapped target target pages starts a b is is') ∙ sym is'.made.laid

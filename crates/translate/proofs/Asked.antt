@@ -21,7 +21,7 @@ use Rattle.micro_ops.specs.declared.codes.CodeSource.TheVariants.{Kept}
 use Rattle.micro_ops.specs.declared.program.Micro.{Micro}
 use Rattle.exception_records.specs.declared.rules.CodeRule.{CodeRule}
 use Rattle.exception_records.specs.declared.rules.Rules.{Rules}
-use Rattle.code_runs.specs.Ready.{AreReady, can_have_block}
+use Rattle.code_runs.specs.Ready.{AreReady}
 use Rattle.code_runs.specs.Rules.{rule_behind, rule_of}
 use Rattle.cc_liveness.specs.Uses.{use_of}
 use Rattle.code_runs.specs.Codes.{code_sources, codes_at, live_at, rules_before}
@@ -32,16 +32,13 @@ use Rattle.micro_lower.specs.Lowering.{IsLowered}
 use Rattle.program_codegen.specs.Programs.{KeepsTogether, ReadsReady, is_narrow}
 use Rattle.std.specs.Prelude.{All}
 use Rattle.std.proofs.lemmas.List.{get_or-map, length-map}
-use Rattle.vax_form.specs.Row.{class_at, class_where}
-use Rattle.vax_form.specs.declared.row.Class.TheVariants.{Translated}
 use Rattle.vax_form.specs.declared.pages.Pages.{Pages}
 use Rattle.code_runs.specs.Promises.{CanHaveBlocks}
 use Rattle.code_runs.proofs.Meeting.{rules_always_meet}
-use Rattle.code_runs.proofs.Ready.{translated_can}
 use Rattle.translate.specs.Compiled.{AreAlwaysReady, AreReadyFor}
-use Rattle.micro_lower.specs.Rows.{has_program}
-use Rattle.micro_lower.proofs.Instructions.{programs_are_translated}
 use Rattle.flow_discovery.specs.Mapped.{has_block}
+use Rattle.vax_long.specs.LongForms.{is_long_form}
+use Rattle.translate.proofs.Calls.{block_can}
 
 -- ---- where N, Z and V are kept, so is C
 binary_together : (operation : BinaryOperation) (width : Width)
@@ -136,21 +133,9 @@ reads_ready instr program before lowered ready (suc (suc zero)) lt e = ready cod
 reads_ready instr program before lowered ready (suc (suc (suc zero))) lt e = ready code.carry (lowered.keeps.reads 3 lt e)
 reads_ready instr program before lowered ready (suc (suc (suc (suc flag)))) lt e = absurd (omega arith)
 
--- ---- an instruction that has a block is translated
-abbrev pub AreTranslated : List Instr → Type 0
-AreTranslated instrs = All (λ instr. class_at instr.opcode ≡ Translated) instrs
-
-pub are_translated : (pages : Pages) (instrs : List Instr) → All (λ instr. has_block instr pages ≡ true) instrs → AreTranslated instrs
-unfolding has_program
-are_translated pages instrs built k d lt = (programs_are_translated (get_or instrs k d)).0 (built k d lt)
-
--- and one that is translated can have a block
-can_have : (o : Option Operation) → class_where o ≡ Translated → option_map_or can_have_block o false ≡ true
-can_have None h = absurd (cc h)
-can_have (Some operation) h = translated_can operation h
-
-pub can_have_blocks : (instrs : List Instr) → AreTranslated instrs → CanHaveBlocks instrs
-can_have_blocks instrs translated k d lt = can_have (operation_at (get_or instrs k d).opcode) (translated k d lt)
+-- ---- an instruction that has a block can have one
+pub can_have_blocks : (pages : Pages) (instrs : List Instr) → All (λ instr. has_block instr pages ≡ true) instrs → CanHaveBlocks instrs
+can_have_blocks pages instrs built k d lt = block_can (operation_at (get_or instrs k d).opcode) (is_long_form (get_or instrs k d) pages) (built k d lt)
 
 -- ---- all that is asked along runs
 pub ready_for : (instrs : List Instr) (order : AreInOrder instrs) → CanHaveBlocks instrs → (place : ℕ) → place < length instrs → AreReadyFor (instr_at instrs place) (codes_at instrs place)

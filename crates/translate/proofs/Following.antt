@@ -76,9 +76,9 @@ bytes_agree : (pages : Pages) (instr : Instr) (operation : Operation) → ArePag
 bytes_agree pages instr operation are fits stands e = ap bytes_by (opcode_at pages instr are fits stands) ∙ ap bytes_of_operation e
 
 -- ---- from the program to the instruction
-module _ (target : Target) (instr : Instr) (program : List Micro) (before behind : Rules) (block : BlockValue) (lowered : IsLowered instr program) (written : WritesOperand instr program) (translated : class_at instr.opcode ≡ Translated) where
-  pub compiles : CompilesProgram instr (code_sources instr) program before behind (has_byte_word target) block → Compiles target instr before behind block
-  compiles follows pages are stands code first thread n state held regs few in_place lt is_state pc form shows lead =
+module _ (target : Target) (pages : Pages) (instr : Instr) (program : List Micro) (before behind : Rules) (block : BlockValue) (lowered : IsLowered instr program) (written : WritesOperand instr program) (translated : class_at instr.opcode ≡ Translated) where
+  pub compiles : CompilesProgram instr (code_sources instr) program before behind (has_byte_word target) block → Compiles target pages instr before behind block
+  compiles follows are stands code first thread n state held regs few in_place lt is_state pc form shows lead =
       let of = has_operation instr translated in
       let fits : instr.at < 2 ^ 32 = subst (λ a. a < 2 ^ 32) pc is_state.pc in
       let same = sources_are instr of.operation of.is in

@@ -1,6 +1,7 @@
 pub mod Trees
 pub mod Above
 pub mod Permitted
+pub mod Calls
 pub mod Following
 pub mod Asked
 pub mod Placing

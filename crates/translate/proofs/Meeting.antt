@@ -39,14 +39,14 @@ target_begins : (instrs : List Instr) (address place : ℕ) → place < length i
 unfolding joined_at
 target_begins instrs address place lt e = ap (λ b. cond b None (only (ending_at address 0 instrs))) (any_at instrs address place lt e)
 
-module _ (target : Target) (pages : Pages) (instrs : List Instr) (blocks : List Placed) (code : Code) (are : AreCompiled target instrs blocks) (layout : IsLayout blocks code) (stand : AreFound pages instrs) (pages_are : ArePages pages) (meet : runs.RulesMeet instrs) where
+module _ (target : Target) (pages : Pages) (instrs : List Instr) (blocks : List Placed) (code : Code) (are : AreCompiled target pages instrs blocks) (layout : IsLayout blocks code) (stand : AreFound pages instrs) (pages_are : ArePages pages) (meet : runs.RulesMeet instrs) where
   -- the instruction of a mapped address
   pub record IsOf (address first : ℕ) : Type 0 where
     pub place : ℕ
     pub block : Placed
     pub within : place < length instrs
     pub its : (instr_at instrs place).at ≡ address
-    pub compiled : IsCompiled target (instr_at instrs place) (codes_at instrs place) block
+    pub compiled : IsCompiled target pages (instr_at instrs place) (codes_at instrs place) block
     pub laid : IsLaid code (instr_at instrs place).at block.1
     pub first_is : laid.first ≡ first
 
@@ -133,10 +133,10 @@ module _ (target : Target) (pages : Pages) (instrs : List Instr) (blocks : List 
       let compiled = are.each place block at in
       λ number exit has_exit. rules_at place (omega arith) exit.1 (All_at (λ (e : Exit). GoesTo (instr_at instrs place) e.1) block.1.exits number exit compiled.exits has_exit)
 
-  pub its_rules : HasItsRules target instrs code
+  pub its_rules : HasItsRules target pages instrs code
   its_rules = record {
     first = λ place lt. rules_first place lt (word_at code.map (instr_at instrs place).at) refl;
-    onward = λ place block at. rules_onward place block (subst (λ (bs : List Placed). slice_get bs place ≡ Some block) (sym (are_of target instrs blocks are)) at);
+    onward = λ place block at. rules_onward place block (subst (λ (bs : List Placed). slice_get bs place ≡ Some block) (sym (are_of target pages instrs blocks are)) at);
   }
 
   block_at : (address first : ℕ) (of : IsOf address first) → IsBlock (image_meaning pages) (permit_of target pages) code (instr_at instrs of.place).at of.laid.first
@@ -145,7 +145,7 @@ module _ (target : Target) (pages : Pages) (instrs : List Instr) (blocks : List 
       let at = (instr_at instrs of.place).at in
       is_block (image_meaning pages) (permit_of target pages) code at of.block.1 shape of.laid
       (λ thread n state held regs lt is_state pc form shows.
-      of.compiled.means pages pages_are (stand of.place no_instr of.within) code of.laid.first thread n state held regs
+      of.compiled.means pages_are (stand of.place no_instr of.within) code of.laid.first thread n state held regs
       layout.few of.laid.stands lt is_state pc form
       (subst (λ (rules : Rules). Shows regs at rules held state) (of.compiled.first shape.first shape.has_first) shows)
       (of.laid.leads (image_meaning pages) (permit_of target pages) thread state held (codes_at instrs of.place).behind

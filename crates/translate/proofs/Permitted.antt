@@ -109,3 +109,18 @@ pub permitted : (target : Target) (pages : Pages) (address bytes : ℕ) → byte
 permitted Original pages address bytes is = λ reference kind n may. are_whole reference.kind kind n may
 permitted ByteWord pages address bytes is = λ reference kind n may.
     subst (λ m. (if is_whole m reference then by_store reference.count else any_kinds address reference) kind n ≡ true) (sym is) (by_whole address bytes reference kind n may)
+
+-- where no operand is stored as a whole, a longword is written by the same accesses
+pub permitted_call : (target : Target) (pages : Pages) (address : ℕ) → bytes_written pages address ≡ 0 → MoreKinds (needed (has_byte_word target) 4) (kinds_of target pages address)
+permitted_call Original pages address is = λ reference kind n may. are_whole reference.kind kind n may
+permitted_call ByteWord pages address is = λ reference kind n may.
+    subst (λ m. (if is_whole m reference then by_store reference.count else any_kinds address reference) kind n ≡ true) (sym is)
+    (subst (λ whole. (if whole then by_store reference.count else any_kinds address reference) kind n ≡ true) (sym (none_whole reference)) refl)
+  where
+    by : (a b d : Bool) → (a && b && (0 == 1 || 0 == 2) && d) ≡ false
+    by true true d = refl
+    by true false d = refl
+    by false b d = refl
+
+    none_whole : (reference : Reference) → is_whole 0 reference ≡ false
+    none_whole reference = by (is_write reference.kind) (reference.count == 0) (reference.address % 0 == 0)

@@ -5,6 +5,7 @@ use Rattle.std.proofs.lemmas.List.{ext_get_or, get_or-map, get_or_append_left, g
 use Rattle.std.proofs.lemmas.List.FromFn.{get_or-map-range_with_len, length-map-range_with_len}
 use Rattle.std.proofs.lemmas.Option.{slice_get-get_or, slice_get_within, get_or_from_slice_get}
 use Rattle.vax_form.specs.declared.instr.Instr.{Instr}
+use Rattle.vax_form.specs.declared.pages.Pages.{Pages}
 use Rattle.address_map.specs.Pairs.{Pair}
 use Rattle.block_law.specs.Blocks.{IsBlockOf}
 use Rattle.branch_layout.specs.Layouts.{Placed, AddressesRise, IsPlaced, AreBlocks, places}
@@ -16,14 +17,14 @@ use Rattle.image_meaning.specs.declared.target.Target.{Target}
 use Rattle.translate.specs.Compiled.{IsCompiled, AreCompiled, AreCompiledTo, addresses, block_of, blocks_of}
 
 -- one more instruction is compiled
-pub compiled_more : (target : Target) (instrs : List Instr) (count : ℕ) (blocks blocks' : List Placed) (block : Placed) → blocks' ≡ blocks ++ block ∷ [] → AreCompiledTo target instrs count blocks → IsCompiled target (instr_at instrs count) (codes_at instrs count) block
-    → AreCompiledTo target instrs (count + 1) blocks'
-compiled_more target instrs count blocks blocks' block is h one = record {
+pub compiled_more : (target : Target) (pages : Pages) (instrs : List Instr) (count : ℕ) (blocks blocks' : List Placed) (block : Placed) → blocks' ≡ blocks ++ block ∷ [] → AreCompiledTo target pages instrs count blocks → IsCompiled target pages (instr_at instrs count) (codes_at instrs count) block
+    → AreCompiledTo target pages instrs (count + 1) blocks'
+compiled_more target pages instrs count blocks blocks' block is h one = record {
   many = ap length is ∙ length_push blocks block ∙ ap (λ k. k + 1) h.many;
   each = λ place b e. by place b (subst (λ (bs : List Placed). slice_get bs place ≡ Some b) is e) (nat_lt place count) refl;
 }
   where
-    by : (place : ℕ) (b : Placed) → slice_get (blocks ++ block ∷ []) place ≡ Some b → (c : Bool) → nat_lt place count ≡ c → IsCompiled target (instr_at instrs place) (codes_at instrs place) b
+    by : (place : ℕ) (b : Placed) → slice_get (blocks ++ block ∷ []) place ≡ Some b → (c : Bool) → nat_lt place count ≡ c → IsCompiled target pages (instr_at instrs place) (codes_at instrs place) b
     by place b e true t =
         let low : place < length blocks = let lt = ltb-true place count t in let many = h.many in omega arith in
         let its : get_or blocks place b ≡ b = sym (get_or_append_left blocks (block ∷ []) b place low) ∙ get_or_from_slice_get (blocks ++ block ∷ []) place b b e in
@@ -35,19 +36,19 @@ compiled_more target instrs count blocks blocks' block is h one = record {
         let many = h.many in
         let same : count ≡ place = omega arith in
         let its : block ≡ b = sym (get_or_push blocks block b place (many ∙ same)) ∙ get_or_from_slice_get (blocks ++ block ∷ []) place b b e in
-        subst (λ (x : Placed). IsCompiled target (instr_at instrs place) (codes_at instrs place) x) its (subst (λ k. IsCompiled target (instr_at instrs k) (codes_at instrs k) block) same one)
+        subst (λ (x : Placed). IsCompiled target pages (instr_at instrs place) (codes_at instrs place) x) its (subst (λ k. IsCompiled target pages (instr_at instrs k) (codes_at instrs k) block) same one)
 
-module _ (target : Target) (instrs : List Instr) (blocks : List Placed) (are : AreCompiled target instrs blocks) where
+module _ (target : Target) (pages : Pages) (instrs : List Instr) (blocks : List Placed) (are : AreCompiled target pages instrs blocks) where
   -- they are those of the instructions
-  pub are_of : blocks ≡ blocks_of target instrs
+  pub are_of : blocks ≡ blocks_of target pages instrs
   are_of =
       let none : Placed = (0, record { words = []; exits = []; points = [] }) in
       let many = are.many in
-      ext_get_or none blocks (blocks_of target instrs) (many ∙ sym (length-map-range_with_len (λ place. block_of target (instr_at instrs place) (codes_at instrs place)) 0 (length instrs)))
+      ext_get_or none blocks (blocks_of target pages instrs) (many ∙ sym (length-map-range_with_len (λ place. block_of target pages (instr_at instrs place) (codes_at instrs place)) 0 (length instrs)))
       (λ place lt.
       let same : 0 + place ≡ place = omega arith in
       (are.each place (get_or blocks place none) (slice_get-get_or blocks place none lt)).value
-      ∙ sym (get_or-map-range_with_len (λ place. block_of target (instr_at instrs place) (codes_at instrs place)) 0 (length instrs) place place none (omega arith) same))
+      ∙ sym (get_or-map-range_with_len (λ place. block_of target pages (instr_at instrs place) (codes_at instrs place)) 0 (length instrs) place place none (omega arith) same))
 
   -- what a layout asks of blocks
   pub are_blocks : AreBlocks blocks

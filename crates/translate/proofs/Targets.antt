@@ -1,19 +1,23 @@
 -- A translation's points are the same for every target, but for the words at which they stand.
-use Rattle.std.proofs.Common.{◌≡◌, ℕ, ◌+◌, refl, sym, ap, ◌∙◌, List, [], ◌∷◌, ◌++◌, length, map}
-use Rattle.std.specs.Prelude.{unwrap_or}
+use Rattle.std.proofs.Common.{◌≡◌, ℕ, ◌+◌, refl, sym, ap, ◌∙◌, Bool, true, false, List, [], ◌∷◌, ◌++◌, length, map}
+use Rattle.std.specs.Prelude.{if◌then◌else◌, unwrap_or}
 use Rattle.std.specs.List.{range_with_len}
 use Rattle.vax_form.specs.declared.instr.Instr.{Instr}
+use Rattle.vax_form.specs.declared.pages.Pages.{Pages}
 use Rattle.exception_records.specs.Points.{Entry}
 use Rattle.block_law.specs.Translations.{Code}
 use Rattle.branch_layout.specs.Layouts.{Placed, laid_points, layout, shifted}
+use Rattle.program_codegen.specs.Calls.{call_block}
 use Rattle.program_codegen.specs.Words.{points_alone}
-use Rattle.program_codegen.proofs.Targets.{block_points}
+use Rattle.program_codegen.proofs.Targets.{block_points, call_points}
 use Rattle.code_runs.specs.Codes.{code_sources, codes_at}
 use Rattle.code_runs.specs.Runs.{instr_at}
+use Rattle.code_runs.specs.declared.codes.InstrCodes.{InstrCodes}
+use Rattle.flow_discovery.specs.Mapped.{has_call_block}
 use Rattle.flag_codegen.specs.Words.{code_words}
 use Rattle.micro_lower.specs.Rows.{program_for}
 use Rattle.image_meaning.specs.declared.target.Target.{Target}
-use Rattle.translate.specs.Compiled.{HaveLikePoints, block_of, blocks_of, has_byte_word}
+use Rattle.translate.specs.Compiled.{HaveLikePoints, block_of, blocks_of, has_byte_word, short_block}
 use Rattle.translate.proofs.Alone.{same_mapped}
 
 -- ---- blocks one behind the other
@@ -31,25 +35,29 @@ laid_alone first block blocks =
     alone_both (shifted first block.1.points) (laid_points (first + length block.1.words) blocks)
     ∙ ap (λ ps. ps ++ points_alone (laid_points (first + length block.1.words) blocks)) (alone_shifted first block.1.points)
 
-module _ (target other : Target) (instrs : List Instr) where
+module _ (target other : Target) (pages : Pages) (instrs : List Instr) where
   -- the blocks of the instructions at these places
   abbrev blocks_at : Target → List ℕ → List Placed
-  blocks_at kind places = map (λ place. block_of kind (instr_at instrs place) (codes_at instrs place)) places
+  blocks_at kind places = map (λ place. block_of kind pages (instr_at instrs place) (codes_at instrs place)) places
 
   one_alike : (place : ℕ)
-      → points_alone (block_of target (instr_at instrs place) (codes_at instrs place)).1.points ≡ points_alone (block_of other (instr_at instrs place) (codes_at instrs place)).1.points
+      → points_alone (block_of target pages (instr_at instrs place) (codes_at instrs place)).1.points ≡ points_alone (block_of other pages (instr_at instrs place) (codes_at instrs place)).1.points
   unfolding block_of
-  one_alike place =
-      let instr = instr_at instrs place in
-      let codes = codes_at instrs place in
-      block_points instr (code_sources instr) codes.before codes.behind (has_byte_word target) (has_byte_word other) (code_words (code_sources instr) codes.live) (unwrap_or (program_for instr) [])
+  one_alike place = by (instr_at instrs place) (codes_at instrs place) (has_call_block (instr_at instrs place) pages)
+    where
+      by : (instr : Instr) (codes : InstrCodes) (call : Bool)
+          → points_alone (if call then call_block instr pages codes.before (has_byte_word target) else short_block target instr codes).points
+          ≡ points_alone (if call then call_block instr pages codes.before (has_byte_word other) else short_block other instr codes).points
+      by instr codes true = call_points instr codes.before (has_byte_word target) (has_byte_word other) pages
+      by instr codes false =
+          block_points instr (code_sources instr) codes.before codes.behind (has_byte_word target) (has_byte_word other) (code_words (code_sources instr) codes.live) (unwrap_or (program_for instr) [])
 
   laid_alike : (first first' : ℕ) (places : List ℕ)
       → points_alone (laid_points first (blocks_at target places)) ≡ points_alone (laid_points first' (blocks_at other places))
   laid_alike first first' [] = refl
   laid_alike first first' (place ∷ places) =
-      let here = block_of target (instr_at instrs place) (codes_at instrs place) in
-      let there = block_of other (instr_at instrs place) (codes_at instrs place) in
+      let here = block_of target pages (instr_at instrs place) (codes_at instrs place) in
+      let there = block_of other pages (instr_at instrs place) (codes_at instrs place) in
       let next = first + length here.1.words in
       let next' = first' + length there.1.words in
       laid_alone first here (blocks_at target places)
@@ -57,13 +65,13 @@ module _ (target other : Target) (instrs : List Instr) where
       ∙ (ap (λ ps. points_alone there.1.points ++ ps) (laid_alike next next' places)
       ∙ sym (laid_alone first' there (blocks_at other places))))
 
-  layout_alike : points_alone (layout (blocks_of target instrs)).points ≡ points_alone (layout (blocks_of other instrs)).points
+  layout_alike : points_alone (layout (blocks_of target pages instrs)).points ≡ points_alone (layout (blocks_of other pages instrs)).points
   unfolding layout
   layout_alike = laid_alike 0 0 (range_with_len 0 (length instrs))
 
 pub have_like_points : HaveLikePoints
 have_like_points target other pages starts a b is is' =
     ap (λ (code : Code). points_alone code.points) is.made.laid
-    ∙ (layout_alike target other is.instrs
-    ∙ (ap (λ (instrs : List Instr). points_alone (layout (blocks_of other instrs)).points) (same_mapped target other pages starts a b is is')
+    ∙ (layout_alike target other pages is.instrs
+    ∙ (ap (λ (instrs : List Instr). points_alone (layout (blocks_of other pages instrs)).points) (same_mapped target other pages starts a b is is')
     ∙ ap (λ (code : Code). points_alone code.points) (sym is'.made.laid)))

@@ -1,5 +1,5 @@
 -- The blocks of a list of instructions.
-use Rattle.std.specs.Prelude.{◌≡◌, ℕ, ◌<◌, ◌≤◌, ◌↔◌, Bool, true, false, All, IsTrue, List, [], Some, length, map, slice_get, unwrap_or}
+use Rattle.std.specs.Prelude.{◌≡◌, ℕ, ◌<◌, ◌≤◌, ◌↔◌, Bool, true, false, All, IsTrue, List, [], Some, length, map, slice_get, unwrap_or, if◌then◌else◌}
 use Rattle.std.specs.List.{AllAdjacentBelow, range_with_len}
 use Rattle.vax_form.specs.Grammar.{instruction}
 use Rattle.vax_form.specs.GrammarFound.{found}
@@ -40,11 +40,12 @@ use Rattle.code_runs.specs.Codes.{AreCodes, code_sources, codes_at, instruction_
 use Rattle.code_runs.specs.Runs.{AreInOrder, instr_at}
 use Rattle.code_runs.specs.declared.codes.InstrCodes.{InstrCodes}
 use Rattle.exception_records.specs.Codes.{all_ready}
+use Rattle.program_codegen.specs.Calls.{call_block}
 use Rattle.program_codegen.specs.Programs.{KeepsTogether, is_narrow}
 use Rattle.micro_lower.specs.Lowering.{GoesTo}
 use Rattle.program_codegen.specs.Promises.{BeginsBy, HasRules}
 use Rattle.program_codegen.specs.Words.{points_alone, program_block}
-use Rattle.flow_discovery.specs.Mapped.{Mapped}
+use Rattle.flow_discovery.specs.Mapped.{Mapped, has_call_block}
 use Rattle.micro_lower.specs.Rows.{program_for}
 
 -- each stands in the pages at its address
@@ -67,25 +68,28 @@ has_byte_word ByteWord = true
 -- Wherever the block stands in the code of an image that has the instruction, it follows what that means, by accesses that
 -- code for the processors may make: from registers in form that show the state by the rules before it, where its exits lead to
 -- their addresses by those behind it.
-abbrev pub Compiles : Target → Instr → (before behind : Rules) → BlockValue → Type 0
-Compiles target instr before behind block =
-    (pages : Pages) → ArePages pages → found pages instr.at ≡ instruction instr
+abbrev pub Compiles : Target → Pages → Instr → (before behind : Rules) → BlockValue → Type 0
+Compiles target pages instr before behind block =
+    ArePages pages → found pages instr.at ≡ instruction instr
     → (code : Code) (first thread n : ℕ) (state : VaxState) (held : Flags) (regs : Regs)
     → length code.words ≤ most_words → Stands code block first → thread < 256 → IsState state → state.pc ≡ instr.at
     → InForm regs → Shows regs instr.at before held state
     → ExitsLead (placed (image_meaning pages) (permit_of target pages) code thread state held first) block.exits first behind
     → Follows (placed (image_meaning pages) (permit_of target pages) code thread state held first) n Plain block_steps new_round (at_place regs first) ((image_meaning pages).tree thread state)
 
+-- the block of an instruction's program, with these codes along its run
+abbrev pub short_block : Target → Instr → InstrCodes → BlockValue
+short_block target instr codes =
+    program_block instr (code_sources instr) (unwrap_or (program_for instr) []) (code_words (code_sources instr) codes.live) codes.before codes.behind (has_byte_word target)
+
 -- the block of an instruction that has these codes along its run, with its address
-unfoldable pub block_of : Target → Instr → InstrCodes → Placed
-block_of target instr codes = (
-  instr.at,
-  program_block instr (code_sources instr) (unwrap_or (program_for instr) []) (code_words (code_sources instr) codes.live) codes.before codes.behind (has_byte_word target),
-)
+unfoldable pub block_of : Target → Pages → Instr → InstrCodes → Placed
+block_of target pages instr codes =
+    (instr.at, if has_call_block instr pages then call_block instr pages codes.before (has_byte_word target) else short_block target instr codes)
 
 -- an instruction with its block, which has these codes along its run
-pub record IsCompiled (target : Target) (instr : Instr) (codes : InstrCodes) (block : Placed) : Type 0 where
-  pub value : block ≡ block_of target instr codes
+pub record IsCompiled (target : Target) (pages : Pages) (instr : Instr) (codes : InstrCodes) (block : Placed) : Type 0 where
+  pub value : block ≡ block_of target pages instr codes
   pub address : block.0 ≡ instr.at
   pub shape : IsBlockOf false instr.at block.1
   pub exits : All (λ exit. GoesTo instr exit.1) block.1.exits
@@ -93,15 +97,15 @@ pub record IsCompiled (target : Target) (instr : Instr) (codes : InstrCodes) (bl
   pub rules : All (HasRules codes.before codes.behind) block.1.points
   -- it writes the register of a code just where the instruction writes the code, and that is live or has no rule
   pub written : codes_written block.1.words ≡ codes_made (code_sources instr) codes.live
-  pub means : Compiles target instr codes.before codes.behind block.1
+  pub means : Compiles target pages instr codes.before codes.behind block.1
 
 -- so many instructions are compiled, each with its codes
-pub record AreCompiledTo (target : Target) (instrs : List Instr) (count : ℕ) (blocks : List Placed) : Type 0 where
+pub record AreCompiledTo (target : Target) (pages : Pages) (instrs : List Instr) (count : ℕ) (blocks : List Placed) : Type 0 where
   pub many : length blocks ≡ count
-  pub each : (place : ℕ) (block : Placed) → slice_get blocks place ≡ Some block → IsCompiled target (instr_at instrs place) (codes_at instrs place) block
+  pub each : (place : ℕ) (block : Placed) → slice_get blocks place ≡ Some block → IsCompiled target pages (instr_at instrs place) (codes_at instrs place) block
 
-abbrev pub AreCompiled : Target → List Instr → List Placed → Type 0
-AreCompiled target instrs blocks = AreCompiledTo target instrs (length instrs) blocks
+abbrev pub AreCompiled : Target → Pages → List Instr → List Placed → Type 0
+AreCompiled target pages instrs blocks = AreCompiledTo target pages instrs (length instrs) blocks
 
 -- along its run the instruction has codes of which a block can be made: those that it reads are ready before it, all are
 -- where it ends, and V is not that of a sum or difference of quadwords
@@ -134,30 +138,30 @@ pub record IsLaidOut (blocks : List Placed) (code : Code) : Type 0 where
   pub value : code ≡ layout blocks
 
 -- the block of each instruction
-abbrev pub blocks_of : Target → List Instr → List Placed
-blocks_of target instrs = map (λ place. block_of target (instr_at instrs place) (codes_at instrs place)) (range_with_len 0 (length instrs))
+abbrev pub blocks_of : Target → Pages → List Instr → List Placed
+blocks_of target pages instrs = map (λ place. block_of target pages (instr_at instrs place) (codes_at instrs place)) (range_with_len 0 (length instrs))
 
 -- The rules at the first word of each instruction's block are those before it in its run. Those behind it are the rules at
 -- each address to which its block leads.
-pub record HasItsRules (target : Target) (instrs : List Instr) (code : Code) : Type 0 where
+pub record HasItsRules (target : Target) (pages : Pages) (instrs : List Instr) (code : Code) : Type 0 where
   pub first : (place : ℕ) → place < length instrs → RulesAt code (word_at code.map (instr_at instrs place).at) (codes_at instrs place).before
-  pub onward : (place : ℕ) (block : Placed) → slice_get (blocks_of target instrs) place ≡ Some block → RulesMeet code block.1.exits (codes_at instrs place).behind
+  pub onward : (place : ℕ) (block : Placed) → slice_get (blocks_of target pages instrs) place ≡ Some block → RulesMeet code block.1.exits (codes_at instrs place).behind
 
 -- the code is that of the blocks of the instructions
-pub record AreLaidOut (target : Target) (instrs : List Instr) (code : Code) : Type 0 where
+pub record AreLaidOut (target : Target) (pages : Pages) (instrs : List Instr) (code : Code) : Type 0 where
   pub order : AreInOrder instrs
   -- along each run its codes
   pub codes : AreCodes instrs (instruction_codes instrs)
-  pub compiled : AreCompiled target instrs (blocks_of target instrs)
-  pub rules : HasItsRules target instrs code
-  pub laid : code ≡ layout (blocks_of target instrs)
+  pub compiled : AreCompiled target pages instrs (blocks_of target pages instrs)
+  pub rules : HasItsRules target pages instrs code
+  pub laid : code ≡ layout (blocks_of target pages instrs)
 
 -- the mapped instructions of an image in their order, and their blocks one behind the other
 pub record IsTranslation (target : Target) (pages : Pages) (starts : List ℕ) (code : Code) : Type 0 where
   pub instrs : List Instr
   pub found : AreFound pages instrs
   pub mapped : (address : ℕ) → IsTrue (has (addresses instrs) address) ↔ Mapped pages starts address
-  pub made : AreLaidOut target instrs code
+  pub made : AreLaidOut target pages instrs code
 
 -- the translation of an image is a function of the target, its pages and the starts
 abbrev pub IsFunction : Type 0

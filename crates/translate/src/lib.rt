@@ -25,12 +25,11 @@ ghost use Rattle.translate.specs.Refusal.{AreFew, IsRefused};
 use crate::blocks::compiled;
 use branch_layout::lay_out;
 use exception_records::Block;
-use flow_discovery::reach;
+use flow_discovery::{has_block, reach};
 use image_file::Image;
 pub use image_meaning::Target;
 use laws::pages_law;
 pub use laws::{ready_law, translation_law};
-use micro_lower::has_program;
 pub use refusal::{Numbers, TranslateRefusal};
 use std::alloc::Global;
 use system_model::Translation;
@@ -66,19 +65,11 @@ fn translate_instrs(
     requires built { All (λ instr. has_block instr pages.now ≡ true) instrs.now }
     ensures meets { IfOk result (Meets (image_meaning pages.now) (permit_of target pages.now)) }
     ensures mapped { IfOk result (λ code. map (λ pair. pair.0) code.map ≡ addresses instrs.now) }
-    ensures blocks { IfOk result (AreLaidOut target instrs.now) }
+    ensures blocks { IfOk result (AreLaidOut target pages.now instrs.now) }
 {
     pages_law(pages);
-    let blocks = compiled(alloc, instrs, target)?;
+    let blocks = compiled(alloc, pages, instrs, target)?;
     laid_out(alloc, &blocks)
-}
-
-/// Whether the instruction has a block.
-#[tactic(auto, unfolding(micro_lower::specs::Rows::has_program))]
-fn has_block(instr: &Instr, _pages: &Pages) -> bool
-    ensures { result ≡ has_block instr.now _pages.now }
-{
-    has_program(instr)
 }
 
 // Drops those that have no block.

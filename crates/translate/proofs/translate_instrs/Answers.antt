@@ -9,7 +9,7 @@ use Rattle.code_runs.proofs.Along.{are_codes}
 use Rattle.code_runs.proofs.Meeting.{rules_always_meet}
 use Rattle.translate.specs.Compiled.{AreCompiled, CanBeLaid, IsLaidOut}
 use Rattle.translate.proofs.Above.{goes_on_above, is_spelled}
-use Rattle.translate.proofs.Asked.{are_translated, can_have_blocks}
+use Rattle.translate.proofs.Asked.{can_have_blocks}
 use Rattle.translate.proofs.Meeting.{its_rules, meets}
 use Rattle.translate.proofs.Placing.{are_blocks, are_of, blocks_rise, map_addresses}
 use Rattle.translate.proofs.translate_instrs.Goals as goal
@@ -23,9 +23,6 @@ compiled-requires-clause-order c = record {
 pub compiled-requires-clause-spelled : goal.compiled-requires-clause-spelled
 compiled-requires-clause-spelled c = λ k d lt. is_spelled c.args.pages.now (get_or c.args.instrs.now k d) c.pages_law.ensures (c.requires.found k d lt)
 
-pub compiled-requires-clause-translated : goal.compiled-requires-clause-translated
-compiled-requires-clause-translated c = are_translated c.args.pages.now c.args.instrs.now c.requires.built
-
 pub laid_out-requires : goal.laid_out-requires
 laid_out-requires c =
     let order : AreInOrder c.args.instrs.now = record {
@@ -37,7 +34,7 @@ laid_out-requires c =
     let many = are.many in
     let few = c.requires.few in
     subst CanBeLaid (sym c.deref.ensures.value)
-    (record { few = omega arith; rising = blocks_rise c.args.target c.args.instrs.now blocks are order; are_blocks = are_blocks c.args.target c.args.instrs.now blocks are })
+    (record { few = omega arith; rising = blocks_rise c.args.target c.args.pages.now c.args.instrs.now blocks are order; are_blocks = are_blocks c.args.target c.args.pages.now c.args.instrs.now blocks are })
 
 pub returns-clause-meets : goal.returns-clause-meets
 returns-clause-meets c =
@@ -48,14 +45,14 @@ returns-clause-meets c =
     } in
     let blocks = c.in_ok-blocks.blocks.items in
     IfOk-weaker c.laid_out.result (IsLaidOut blocks) _
-    (λ code laid. meets c.args.target c.args.pages.now instrs blocks code c.in_ok-blocks.ensures laid.laid c.requires.found c.pages_law.ensures (rules_always_meet instrs order (can_have_blocks instrs (are_translated c.args.pages.now instrs c.requires.built))))
+    (λ code laid. meets c.args.target c.args.pages.now instrs blocks code c.in_ok-blocks.ensures laid.laid c.requires.found c.pages_law.ensures (rules_always_meet instrs order (can_have_blocks c.args.pages.now instrs c.requires.built)))
     (subst (λ (bs : List Placed). IfOk c.laid_out.result (IsLaidOut bs)) c.deref.ensures.value c.laid_out.ensures)
 
 pub returns-clause-mapped : goal.returns-clause-mapped
 returns-clause-mapped c =
     let blocks = c.in_ok-blocks.blocks.items in
     IfOk-weaker c.laid_out.result (IsLaidOut blocks) _
-    (λ code laid. ap (map (λ (pair : Pair). pair.0)) laid.laid.places ∙ map_addresses c.args.target c.args.instrs.now blocks c.in_ok-blocks.ensures)
+    (λ code laid. ap (map (λ (pair : Pair). pair.0)) laid.laid.places ∙ map_addresses c.args.target c.args.pages.now c.args.instrs.now blocks c.in_ok-blocks.ensures)
     (subst (λ (bs : List Placed). IfOk c.laid_out.result (IsLaidOut bs)) c.deref.ensures.value c.laid_out.ensures)
 
 pub returns-clause-blocks : goal.returns-clause-blocks
@@ -70,8 +67,8 @@ returns-clause-blocks c =
     (λ code laid. record {
       order = order;
       codes = are_codes instrs order (instruction_codes instrs) refl;
-      compiled = subst (AreCompiled c.args.target instrs) (are_of c.args.target instrs blocks c.in_ok-blocks.ensures) c.in_ok-blocks.ensures;
-      rules = its_rules c.args.target c.args.pages.now instrs blocks code c.in_ok-blocks.ensures laid.laid c.requires.found c.pages_law.ensures (rules_always_meet instrs order (can_have_blocks instrs (are_translated c.args.pages.now instrs c.requires.built)));
-      laid = laid.value ∙ ap layout (are_of c.args.target instrs blocks c.in_ok-blocks.ensures);
+      compiled = subst (AreCompiled c.args.target c.args.pages.now instrs) (are_of c.args.target c.args.pages.now instrs blocks c.in_ok-blocks.ensures) c.in_ok-blocks.ensures;
+      rules = its_rules c.args.target c.args.pages.now instrs blocks code c.in_ok-blocks.ensures laid.laid c.requires.found c.pages_law.ensures (rules_always_meet instrs order (can_have_blocks c.args.pages.now instrs c.requires.built));
+      laid = laid.value ∙ ap layout (are_of c.args.target c.args.pages.now instrs blocks c.in_ok-blocks.ensures);
     })
     (subst (λ (bs : List Placed). IfOk c.laid_out.result (IsLaidOut bs)) c.deref.ensures.value c.laid_out.ensures)

@@ -21,7 +21,7 @@ compiled_instr-requires-clause-ready c =
     let instrs = c.args.instrs.now in
     let place = c.loop-place.place in
     let found = codes_found instrs c.requires.order c.args.codes.now c.requires.codes place c.loop-place-test.true in
-    subst (λ (codes : InstrCodes). AreReadyFor (instr_at instrs place) codes) (sym found) (ready_for instrs c.requires.order (can_have_blocks instrs c.requires.translated) place c.loop-place-test.true)
+    subst (λ (codes : InstrCodes). AreReadyFor (instr_at instrs place) codes) (sym found) (ready_for instrs c.requires.order (can_have_blocks c.args.pages.now instrs c.requires.built) place c.loop-place-test.true)
 
 pub loop-place-preserved : goal.loop-place-preserved
 loop-place-preserved c =
@@ -29,5 +29,5 @@ loop-place-preserved c =
     let place = c.loop-place.place in
     let found = codes_found instrs c.requires.order c.args.codes.now c.requires.codes place c.loop-place-test.true in
     let grown = rw (← c.in_ok-map_err.ensures.variant) at c.push.ensures.items in
-    compiled_more c.args.target instrs place c.loop-place.blocks.items c.push.new.self.items c.in_ok-block.block grown c.loop-place.invariant
-    (subst (λ (codes : InstrCodes). IsCompiled c.args.target (instr_at instrs place) codes c.in_ok-block.block) found c.in_ok-block.ensures)
+    compiled_more c.args.target c.args.pages.now instrs place c.loop-place.blocks.items c.push.new.self.items c.in_ok-block.block grown c.loop-place.invariant
+    (subst (λ (codes : InstrCodes). IsCompiled c.args.target c.args.pages.now (instr_at instrs place) codes c.in_ok-block.block) found c.in_ok-block.ensures)

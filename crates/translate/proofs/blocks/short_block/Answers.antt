@@ -1,5 +1,5 @@
 use Rattle.std.proofs.Common.{◌≡◌, ◌∙◌, ℕ, Bool, List, [], Option, Some, map, refl, sym, ap, subst, All}
-use Rattle.std.specs.Prelude.{unwrap_or}
+use Rattle.std.specs.Prelude.{if◌then◌else◌, unwrap_or}
 use Rattle.vax_form.specs.Operation.{operation_at}
 use Rattle.micro_ops.specs.declared.codes.CodeSources.{CodeSources}
 use Rattle.micro_ops.specs.declared.program.Micro.{Micro}
@@ -12,15 +12,16 @@ use Rattle.exception_records.specs.Blocks.{BlockValue}
 use Rattle.flag_codegen.specs.Words.{code_words}
 use Rattle.code_runs.specs.Codes.{code_sources}
 use Rattle.micro_ops.specs.Exits.{addresses_of}
+use Rattle.program_codegen.specs.Calls.{call_block}
 use Rattle.program_codegen.specs.Programs.{KeepsTogether, LeavesReady, ReadsReady}
 use Rattle.program_codegen.specs.Promises.{CompilesProgram}
 use Rattle.program_codegen.specs.Words.{program_block}
-use Rattle.translate.specs.Compiled.{block_of, has_byte_word}
+use Rattle.translate.specs.Compiled.{block_of, has_byte_word, short_block}
 use Rattle.micro_lower.specs.Rows.{program_for}
 use Rattle.micro_lower.specs.Lowering.{GoesTo}
 use Rattle.translate.proofs.Asked.{all_of_map, keeps_together, reads_ready}
 use Rattle.translate.proofs.Following.{compiles, sources_are}
-use Rattle.translate.proofs.blocks.compiled_instr.Goals as goal
+use Rattle.translate.proofs.blocks.short_block.Goals as goal
 
 pub block-requires-clause-codes : goal.block-requires-clause-codes
 block-requires-clause-codes c =
@@ -71,7 +72,9 @@ returns c =
     ∙ ap (λ (o : Option (List Micro)). program_block instr (code_sources instr) (unwrap_or o []) (code_words (code_sources instr) codes.live) codes.before codes.behind c.has_byte_word.result) (sym c.in_ok-program.ensures.value)
     ∙ ap (λ (has : Bool). program_block instr (code_sources instr) (unwrap_or (program_for instr) []) (code_words (code_sources instr) codes.live) codes.before codes.behind has) c.has_byte_word.ensures in
     record {
-      value = ap (λ (b : BlockValue). (instr.at, b)) value;
+      value =
+          ap (λ (b : BlockValue). (instr.at, b)) value
+          ∙ ap (λ (call : Bool). (instr.at, if call then call_block instr c.args.pages.now codes.before (has_byte_word target) else short_block target instr codes)) (sym c.requires.short);
       address = refl;
       shape = made.shape;
       exits = all_of_map (GoesTo instr) (λ (exit : Exit). exit.1) block.exits (subst (λ (addresses : List ℕ). All (GoesTo instr) addresses) left c.in_ok-program.ensures.lowered.keeps.exits);
@@ -81,5 +84,5 @@ returns c =
           made.written
           ∙ ap codes_written c.deref-2.ensures.value
           ∙ c.in_ok-words.ensures.writes;
-      means = compiles target instr program codes.before codes.behind block c.in_ok-program.ensures.lowered c.in_ok-program.ensures.written c.requires.translated means;
+      means = compiles target c.args.pages.now instr program codes.before codes.behind block c.in_ok-program.ensures.lowered c.in_ok-program.ensures.written c.requires.translated means;
     }

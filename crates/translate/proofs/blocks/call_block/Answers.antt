@@ -1,0 +1,44 @@
+-- The block of a call, with what is asked of it in a translation.
+use Rattle.std.proofs.Common.{◌∙◌, ℕ, Bool, List, [], refl, sym, ap, subst, All}
+use Rattle.std.specs.Prelude.{if◌then◌else◌}
+use Rattle.std.proofs.lemmas.List.Elements.{All-cons, All-nil}
+use Rattle.vax_form.specs.Targets.{behind_mask}
+use Rattle.block_law.specs.Blocks.{Exit}
+use Rattle.exception_records.specs.Blocks.{BlockValue}
+use Rattle.exception_records.specs.declared.rules.Rules.{Rules}
+use Rattle.micro_lower.specs.Lowering.{GoesTo}
+use Rattle.program_codegen.specs.CallPromises.{CompilesCall}
+use Rattle.program_codegen.specs.Calls.{call_block, destination_of}
+use Rattle.program_codegen.specs.Promises.{HasRules}
+use Rattle.translate.specs.Compiled.{Compiles, block_of, has_byte_word, short_block}
+use Rattle.translate.proofs.Asked.{all_of_map}
+use Rattle.translate.proofs.Calls.{call_goes, compiles_in_place, fixed_call, made_by_call, ready_behind_call}
+use Rattle.translate.proofs.blocks.call_block.Goals as goal
+
+pub long_block-requires : goal.long_block-requires
+long_block-requires c = record { fixed = fixed_call c.args.instr.now c.args.pages.now c.requires.spelled c.requires.call }
+
+pub returns : goal.returns
+unfolding block_of
+returns c =
+    let instr = c.args.instr.now in
+    let pages = c.args.pages.now in
+    let codes = c.args.codes.now in
+    let target = c.args.target in
+    let block = c.in_ok-block.block in
+    let made = c.in_ok-block.ensures in
+    let ready = c.requires.ready.behind ∙ ready_behind_call instr pages codes.live codes.before c.requires.call in
+    let means : CompilesCall instr pages codes.before (has_byte_word target) block = subst (λ (has : Bool). CompilesCall instr pages codes.before has block) c.has_byte_word.ensures made.means in
+    record {
+      value =
+          ap (λ (b : BlockValue). (instr.at, b)) (made.words ∙ ap (λ (has : Bool). call_block instr pages codes.before has) c.has_byte_word.ensures)
+          ∙ ap (λ (call : Bool). (instr.at, if call then call_block instr pages codes.before (has_byte_word target) else short_block target instr codes)) (sym c.requires.call);
+      address = refl;
+      shape = made.shape;
+      exits = all_of_map (GoesTo instr) (λ (exit : Exit). exit.1) block.exits
+          (subst (λ (addresses : List ℕ). All (GoesTo instr) addresses) (sym made.exits) (All-cons (GoesTo instr) (behind_mask (destination_of instr)) [] (call_goes instr pages c.requires.call) (All-nil (GoesTo instr))));
+      first = made.first;
+      rules = subst (λ (rules : Rules). All (HasRules codes.before rules) block.points) (sym ready) made.rules;
+      written = made.written ∙ sym (made_by_call instr pages codes.live c.requires.call);
+      means = subst (λ (rules : Rules). Compiles target pages instr codes.before rules block) (sym ready) (compiles_in_place target pages instr codes.before block c.requires.call means);
+    }
