@@ -5,6 +5,7 @@ use Rattle.std.proofs.Math.Bool.{and-false}
 use Rattle.std.proofs.lemmas.List.{get_or-replicate}
 use Rattle.std.proofs.lemmas.Bool.{cases_eq, eq-eqb, ne_eqb}
 use Rattle.vax_form.specs.declared.instr.Instr.{Instr}
+use Rattle.vax_form.specs.declared.pages.Pages.{Pages}
 use Rattle.image_text.specs.Text.{has_opcode, is_interpreted}
 
 one_in : (p : Instr → Bool) (xs : List Instr) (i : ℕ) (d : Instr) → i < length xs → p (get_or xs i d) ≡ true → length (filter p (drop i xs)) ≡ 1 + length (filter p (drop (i + 1) xs))
@@ -24,8 +25,8 @@ one_out p (x ∷ xs) (suc i) d h t =
     one_out p xs i d (omega arith) t ∙ ap (λ n. length (filter p (drop n (x ∷ xs)))) next
 
 -- before the first instruction
-pub none_counted : (counts : List ℕ) (xs : List Instr) (k : ℕ) → counts ≡ replicate 256 0 → k < 256 → get_or counts k 0 + length (filter (has_opcode k) xs) ≡ length (filter (has_opcode k) xs)
-none_counted counts xs k zeros h =
+pub none_counted : (pages : Pages) (counts : List ℕ) (xs : List Instr) (k : ℕ) → counts ≡ replicate 256 0 → k < 256 → get_or counts k 0 + length (filter (has_opcode pages k) xs) ≡ length (filter (has_opcode pages k) xs)
+none_counted pages counts xs k zeros h =
     let none : get_or counts k 0 ≡ 0 = ap (λ v. get_or v k 0) zeros ∙ get_or-replicate 256 k 0 0 h in
     omega (arith, none)
 
@@ -35,28 +36,28 @@ none_yet counts k zeros h =
     omega (arith, none)
 
 -- an instruction that has a block
-pub left_out : (counts : List ℕ) (xs : List Instr) (i k all : ℕ) (d : Instr) → i < length xs → is_interpreted (get_or xs i d) ≡ false
-    → get_or counts k 0 + length (filter (has_opcode k) (drop i xs)) ≡ all → get_or counts k 0 + length (filter (has_opcode k) (drop (i + 1) xs)) ≡ all
-left_out counts xs i k all d h t before =
-    let none : has_opcode k (get_or xs i d) ≡ false = ap (λ b. nat_eq (get_or xs i d).opcode k && b) t ∙ and-false (nat_eq (get_or xs i d).opcode k) in
-    ap (λ n. get_or counts k 0 + n) (sym (one_out (has_opcode k) xs i d h none)) ∙ before
+pub left_out : (pages : Pages) (counts : List ℕ) (xs : List Instr) (i k all : ℕ) (d : Instr) → i < length xs → is_interpreted pages (get_or xs i d) ≡ false
+    → get_or counts k 0 + length (filter (has_opcode pages k) (drop i xs)) ≡ all → get_or counts k 0 + length (filter (has_opcode pages k) (drop (i + 1) xs)) ≡ all
+left_out pages counts xs i k all d h t before =
+    let none : has_opcode pages k (get_or xs i d) ≡ false = ap (λ b. nat_eq (get_or xs i d).opcode k && b) t ∙ and-false (nat_eq (get_or xs i d).opcode k) in
+    ap (λ n. get_or counts k 0 + n) (sym (one_out (has_opcode pages k) xs i d h none)) ∙ before
 
 -- one without
-pub counted : (counts : List ℕ) (xs : List Instr) (i k all opcode : ℕ) (d : Instr) → i < length xs → is_interpreted (get_or xs i d) ≡ true → opcode ≡ (get_or xs i d).opcode
+pub counted : (pages : Pages) (counts : List ℕ) (xs : List Instr) (i k all opcode : ℕ) (d : Instr) → i < length xs → is_interpreted pages (get_or xs i d) ≡ true → opcode ≡ (get_or xs i d).opcode
     → opcode < length counts
-    → get_or counts k 0 + length (filter (has_opcode k) (drop i xs)) ≡ all
-    → get_or (slice_set counts opcode (get_or counts opcode 0 + 1)) k 0 + length (filter (has_opcode k) (drop (i + 1) xs)) ≡ all
-counted counts xs i k all opcode d h t is within before = elim (cases_eq opcode k) [
+    → get_or counts k 0 + length (filter (has_opcode pages k) (drop i xs)) ≡ all
+    → get_or (slice_set counts opcode (get_or counts opcode 0 + 1)) k 0 + length (filter (has_opcode pages k) (drop (i + 1) xs)) ≡ all
+counted pages counts xs i k all opcode d h t is within before = elim (cases_eq opcode k) [
   | inl same ↦ (
-      let has : has_opcode k (get_or xs i d) ≡ true = ap₂ (λ a b. a && b) (eq-eqb (get_or xs i d).opcode k (sym is ∙ same)) t in
+      let has : has_opcode pages k (get_or xs i d) ≡ true = ap₂ (λ a b. a && b) (eq-eqb (get_or xs i d).opcode k (sym is ∙ same)) t in
       let here : get_or (slice_set counts opcode (get_or counts opcode 0 + 1)) k 0 ≡ get_or counts k 0 + 1 =
       ap (λ n. get_or (slice_set counts opcode (get_or counts opcode 0 + 1)) n 0) (sym same)
       ∙ get_or-set_same counts opcode (get_or counts opcode 0 + 1) 0 within ∙ ap (λ n. get_or counts n 0 + 1) same in
-      omega (arith, here, before, one_in (has_opcode k) xs i d h has))
+      omega (arith, here, before, one_in (has_opcode pages k) xs i d h has))
   | inr apart ↦ (
       let other : k ≢ opcode = λ e. apart (sym e) in
-      let none : has_opcode k (get_or xs i d) ≡ false = ap (λ b. b && is_interpreted (get_or xs i d)) (ne_eqb (get_or xs i d).opcode k (λ e. apart (is ∙ e))) in
-      ap₂ (λ m n. m + n) (get_or-set_other counts opcode k (get_or counts opcode 0 + 1) 0 other) (sym (one_out (has_opcode k) xs i d h none)) ∙ before)
+      let none : has_opcode pages k (get_or xs i d) ≡ false = ap (λ b. b && is_interpreted pages (get_or xs i d)) (ne_eqb (get_or xs i d).opcode k (λ e. apart (is ∙ e))) in
+      ap₂ (λ m n. m + n) (get_or-set_other counts opcode k (get_or counts opcode 0 + 1) 0 other) (sym (one_out (has_opcode pages k) xs i d h none)) ∙ before)
 ]
 
 pub most_counted : (counts : List ℕ) (k opcode most : ℕ) → opcode < length counts → get_or counts opcode 0 ≤ most → get_or counts k 0 ≤ most

@@ -3,8 +3,9 @@ use Rattle.std.specs.Prelude.{ℕ, Bool, ◌==◌, ◌&&◌, not, List, [], ◌�
 use Rattle.std.specs.List.{flat_map, range_with_len}
 use Rattle.image_file.specs.Spelling.{spelling}
 use Rattle.image_file.specs.Values.{ImageValue}
-use Rattle.vax_form.specs.Row.{class_at, is_translated}
 use Rattle.vax_form.specs.declared.instr.Instr.{Instr}
+use Rattle.vax_form.specs.declared.pages.Pages.{Pages}
+use Rattle.flow_discovery.specs.Mapped.{has_block}
 use Rattle.vax_text.specs.Names.{name_of}
 use Rattle.image_text.specs.Lines.{number, counted, thread_line, section_line, entry_line, hint_line, numbered, open_line, stop_lines, service_line}
 
@@ -12,16 +13,16 @@ abbrev pub image_line : ImageValue → List ℕ
 image_line image = codes "image version" ++ number image.version ++ codes " bytes" ++ number (length (spelling image)) ++ 10 ∷ []
 
 -- a reached instruction that has no block
-abbrev pub is_interpreted : Instr → Bool
-is_interpreted instr = not (is_translated (class_at instr.opcode))
+abbrev pub is_interpreted : Pages → Instr → Bool
+is_interpreted pages instr = not (has_block instr pages)
 
-abbrev pub reached_line : List Instr → (mapped words : ℕ) → List ℕ
-reached_line instrs mapped words =
-    counted (codes "reached") (length instrs) ++ counted (codes " mapped") mapped ++ counted (codes " interpreted") (length (filter is_interpreted instrs)) ++ counted (codes " words") words ++ 10 ∷ []
+abbrev pub reached_line : Pages → List Instr → (mapped words : ℕ) → List ℕ
+reached_line pages instrs mapped words =
+    counted (codes "reached") (length instrs) ++ counted (codes " mapped") mapped ++ counted (codes " interpreted") (length (filter (is_interpreted pages) instrs)) ++ counted (codes " words") words ++ 10 ∷ []
 
 -- of an opcode whose instructions have no block, how many are reached
-abbrev pub has_opcode : ℕ → Instr → Bool
-has_opcode opcode instr = (instr.opcode == opcode) && is_interpreted instr
+abbrev pub has_opcode : Pages → ℕ → Instr → Bool
+has_opcode pages opcode instr = (instr.opcode == opcode) && is_interpreted pages instr
 
 abbrev pub opcode_line : ℕ → (count : ℕ) → List ℕ
 opcode_line opcode count = codes "interpreted " ++ counted (name_of opcode) count ++ 10 ∷ []
@@ -29,8 +30,8 @@ opcode_line opcode count = codes "interpreted " ++ counted (name_of opcode) coun
 abbrev pub opcode_text : ℕ → (count : ℕ) → List ℕ
 opcode_text opcode count = if count == 0 then [] else opcode_line opcode count
 
-abbrev pub interpreted_line : List Instr → ℕ → List ℕ
-interpreted_line instrs opcode = opcode_text opcode (length (filter (has_opcode opcode) instrs))
+abbrev pub interpreted_line : Pages → List Instr → ℕ → List ℕ
+interpreted_line pages instrs opcode = opcode_text opcode (length (filter (has_opcode pages opcode) instrs))
 
 -- all opcodes
 unfoldable pub opcodes : List ℕ
@@ -44,7 +45,7 @@ tables_text image hints =
 -- the reached instructions, by what is told of each
 unfoldable pub flow_text : ImageValue → List Instr → (mapped words : ℕ) → List ℕ
 flow_text image instrs mapped words =
-    reached_line instrs mapped words ++ flat_map (interpreted_line instrs) opcodes
+    reached_line image.pages instrs mapped words ++ flat_map (interpreted_line image.pages instrs) opcodes
     ++ flat_map open_line instrs ++ flat_map (stop_lines image.pages) instrs ++ flat_map service_line instrs
 
 -- the whole text of an image, of a translation's hints, of the reached instructions, and of the numbers of mapped addresses and of words

@@ -8,28 +8,29 @@ ghost use Rattle.image_text.specs.Text.{flow_text, has_opcode, interpreted_line,
 use crate::instructions::{put_open, put_service, put_stops};
 use crate::put::put_counted;
 use crate::tables::put_tables;
+use flow_discovery::has_block;
 use image_file::Image;
 use std::alloc::{AllocError, Global};
-use vax_form::{Class, Instr, Pages, class_of};
+use vax_form::{Instr, Pages};
 use vax_text::name_of;
 
 /// How many opcodes there are.
 const OPCODES: usize = 256;
 
-fn is_interpreted(instr: &Instr) -> bool
-    ensures { result ≡ is_interpreted instr.now }
+fn is_interpreted(pages: &Pages, instr: &Instr) -> bool
+    ensures { result ≡ is_interpreted pages.now instr.now }
 {
-    class_of(instr.opcode) != Class::Translated
+    !has_block(instr, pages)
 }
 
 /// How many of the instructions have no block.
-fn interpreted(instrs: &[Instr]) -> u64
-    ensures value { result ≡ length (filter is_interpreted instrs.now) }
+fn interpreted(pages: &Pages, instrs: &[Instr]) -> u64
+    ensures value { result ≡ length (filter (is_interpreted pages.now) instrs.now) }
     ensures most { result ≤ length instrs.now }
 {
     let mut count = 0;
     for instr in instrs {
-        if is_interpreted(instr) {
+        if is_interpreted(pages, instr) {
             count += 1;
         }
     }
@@ -45,12 +46,12 @@ fn place_of(instr: &Instr) -> usize
 }
 
 /// Of each opcode, how many of those there are.
-fn of_opcodes(instrs: &[Instr]) -> [u64; OPCODES]
-    ensures { (k : ℕ) → k < OPCODES → slice_index result k ≡ length (filter (has_opcode k) instrs.now) }
+fn of_opcodes(pages: &Pages, instrs: &[Instr]) -> [u64; OPCODES]
+    ensures { (k : ℕ) → k < OPCODES → slice_index result k ≡ length (filter (has_opcode pages.now k) instrs.now) }
 {
     let mut counts = [0; OPCODES];
     for instr in instrs {
-        if is_interpreted(instr) {
+        if is_interpreted(pages, instr) {
             counts[place_of(instr)] += 1;
         }
     }
@@ -59,15 +60,16 @@ fn of_opcodes(instrs: &[Instr]) -> [u64; OPCODES]
 
 fn put_reached(
     out: &mut Vec<u8>,
+    pages: &Pages,
     instrs: &[Instr],
     mapped: u64,
     words: u64,
 ) -> Result<(), AllocError>
-    ensures { OnOk result (out.new.items ≡ out.old.items ++ reached_line instrs.now mapped words) }
+    ensures { OnOk result (out.new.items ≡ out.old.items ++ reached_line pages.now instrs.now mapped words) }
 {
     put_counted(out, b"reached", instrs.len() as u64)?;
     put_counted(out, b" mapped", mapped)?;
-    put_counted(out, b" interpreted", interpreted(instrs))?;
+    put_counted(out, b" interpreted", interpreted(pages, instrs))?;
     put_counted(out, b" words", words)?;
     out.push(b'\n')?;
     Ok(())
@@ -91,10 +93,10 @@ fn put_opcode(out: &mut Vec<u8>, opcode: u8, count: u64) -> Result<(), AllocErro
     Ok(())
 }
 
-fn put_opcodes(out: &mut Vec<u8>, instrs: &[Instr]) -> Result<(), AllocError>
-    ensures { OnOk result (out.new.items ≡ out.old.items ++ flat_map (interpreted_line instrs.now) opcodes) }
+fn put_opcodes(out: &mut Vec<u8>, pages: &Pages, instrs: &[Instr]) -> Result<(), AllocError>
+    ensures { OnOk result (out.new.items ≡ out.old.items ++ flat_map (interpreted_line pages.now instrs.now) opcodes) }
 {
-    let counts = of_opcodes(instrs);
+    let counts = of_opcodes(pages, instrs);
     for opcode in 0..OPCODES {
         put_opcode(out, opcode as u8, counts[opcode])?;
     }
@@ -144,8 +146,8 @@ fn put_flow(
 ) -> Result<(), AllocError>
     ensures { OnOk result (out.new.items ≡ out.old.items ++ flow_text image.now instrs.now mapped words) }
 {
-    put_reached(out, instrs, mapped, words)?;
-    put_opcodes(out, instrs)?;
+    put_reached(out, &image.pages, instrs, mapped, words)?;
+    put_opcodes(out, &image.pages, instrs)?;
     put_opens(out, instrs)?;
     put_all_stops(alloc, out, &image.pages, instrs)?;
     put_services(out, instrs)?;

@@ -15,12 +15,13 @@ use crate::marks::Marks;
 use crate::refusal::ReplayRefusal;
 use crate::replay::{Trail, walked};
 use address_map::AddressMap;
+use flow_discovery::has_block;
 use image_file::Image;
 use run_files::OrderFile;
 use std::alloc::{AllocError, Global};
 use translated_file::MOST_HINTS;
 use vax_decode::{Decoded, decode_at};
-use vax_form::{Class, PAGE_SIZE, PageRange, Pages, class_of};
+use vax_form::{PAGE_SIZE, PageRange, Pages};
 
 /// What a replayed order gave, and the found addresses: rising, and not more than a hint file may have.
 #[derive(Debug, Drop)]
@@ -60,7 +61,7 @@ fn has_block_at(pages: &Pages, address: u32) -> bool
     ensures { result ≡ has_block_at pages.now address }
 {
     match decode_at(pages, address) {
-        Decoded::Instr(instr) => matches!(class_of(instr.opcode), Class::Translated),
+        Decoded::Instr(instr) => has_block(&instr, pages),
         Decoded::Reserved | Decoded::BadMode | Decoded::Past(_) => false,
     }
 }

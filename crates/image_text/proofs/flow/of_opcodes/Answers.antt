@@ -9,7 +9,7 @@ use Rattle.image_text.proofs.flow.of_opcodes.Goals.{then-is_interpreted, else-is
 pub loop-instr-init : goal.loop-instr-init
 loop-instr-init c = record {
   room = refl;
-  values = λ k h. none_counted _ c.args.instrs.now k refl h;
+  values = λ k h. none_counted c.args.pages.now _ c.args.instrs.now k refl h;
   most = λ k h. none_yet _ k refl h;
 }
 
@@ -24,8 +24,8 @@ loop-instr-preserved c = elim c.if-is_interpreted.branch [
       let within = subst (λ n. place < n) (sym invariant.room) w.place_of.ensures.within in
       record {
         room = ap length w.counts-is ∙ length-set before _ _ ∙ invariant.room;
-        values = λ k h. ap (λ v. get_or v k 0 + length (filter (has_opcode k) (drop (index + 1) instrs))) w.counts-is
-            ∙ counted before instrs index k _ place _ c.loop-instr-test.true (sym c.is_interpreted.ensures ∙ w.if-is_interpreted.true) w.place_of.ensures.value within (invariant.values k h);
+        values = λ k h. ap (λ v. get_or v k 0 + length (filter (has_opcode c.args.pages.now k) (drop (index + 1) instrs))) w.counts-is
+            ∙ counted c.args.pages.now before instrs index k _ place _ c.loop-instr-test.true (sym c.is_interpreted.ensures ∙ w.if-is_interpreted.true) w.place_of.ensures.value within (invariant.values k h);
         most = λ k h. subst (λ v. get_or v k 0 ≤ index + 1) (sym w.counts-is) (most_counted before k place index within (invariant.most place w.place_of.ensures.within) (invariant.most k h));
       })
   | else-is_interpreted w ↦ (
@@ -34,8 +34,8 @@ loop-instr-preserved c = elim c.if-is_interpreted.branch [
       let invariant = c.loop-instr.invariant in
       record {
         room = ap length w.counts-is ∙ invariant.room;
-        values = λ k h. ap (λ v. get_or v k 0 + length (filter (has_opcode k) (drop (index + 1) instrs))) w.counts-is
-            ∙ left_out c.loop-instr.counts instrs index k _ _ c.loop-instr-test.true (sym c.is_interpreted.ensures ∙ w.if-is_interpreted.false) (invariant.values k h);
+        values = λ k h. ap (λ v. get_or v k 0 + length (filter (has_opcode c.args.pages.now k) (drop (index + 1) instrs))) w.counts-is
+            ∙ left_out c.args.pages.now c.loop-instr.counts instrs index k _ _ c.loop-instr-test.true (sym c.is_interpreted.ensures ∙ w.if-is_interpreted.false) (invariant.values k h);
         most = λ k h. (
             let before = invariant.most k h in
             subst (λ v. get_or v k 0 ≤ index + 1) (sym w.counts-is) (omega (arith, before)));

@@ -13,10 +13,10 @@ returns c =
     let image = c.args.image.now in
     let instrs = c.args.instrs.now in
     let pages = ap (λ (i : ImageValue). i.pages) c.image.view_is in
-    five c.args.out.now.items (reached_line instrs c.args.mapped c.args.words) (flat_map (interpreted_line instrs) opcodes) (flat_map open_line instrs) (flat_map (stop_lines image.pages) instrs) (flat_map service_line instrs)
+    five c.args.out.now.items (reached_line image.pages instrs c.args.mapped c.args.words) (flat_map (interpreted_line image.pages instrs) opcodes) (flat_map open_line instrs) (flat_map (stop_lines image.pages) instrs) (flat_map service_line instrs)
     c.put_reached.new.out.items c.put_opcodes.new.out.items c.put_opens.new.out.items c.put_all_stops.new.out.items _
-    c.in_ok-put_reached.ensures
-    c.in_ok-put_opcodes.ensures
+    (c.in_ok-put_reached.ensures ∙ ap (λ (p : PageTable). c.args.out.now.items ++ reached_line p instrs c.args.mapped c.args.words) pages)
+    (c.in_ok-put_opcodes.ensures ∙ ap (λ (p : PageTable). c.put_reached.new.out.items ++ flat_map (interpreted_line p instrs) opcodes) pages)
     c.in_ok-put_opens.ensures
     (c.in_ok-put_all_stops.ensures ∙ ap (λ (p : PageTable). c.put_opens.new.out.items ++ flat_map (stop_lines p) instrs) pages)
     c.in_ok-put_services.ensures

@@ -8,7 +8,7 @@ use Rattle.image_text.proofs.flow.put_reached.Goals as goal
 pub returns : goal.returns
 returns c =
     let instrs = c.args.instrs.now in
-    five c.args.out.now.items (counted (codes "reached") (length instrs)) (counted (codes " mapped") c.args.mapped) (counted (codes " interpreted") (length (filter is_interpreted instrs))) (counted (codes " words") c.args.words) (10 ∷ [])
+    five c.args.out.now.items (counted (codes "reached") (length instrs)) (counted (codes " mapped") c.args.mapped) (counted (codes " interpreted") (length (filter (is_interpreted c.args.pages.now) instrs))) (counted (codes " words") c.args.words) (10 ∷ [])
     c.put_counted.new.out.items c.put_counted-2.new.out.items c.put_counted-3.new.out.items c.put_counted-4.new.out.items _
     c.in_ok-put_counted.ensures
     c.in_ok-put_counted-2.ensures
