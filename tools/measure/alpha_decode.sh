@@ -1,10 +1,33 @@
 #!/usr/bin/env bash
 # Measures how long `decode` of alpha_encode takes a word: eight words again and again, each instruction looked at. `alpha_decode.sh COMMIT..`
 # measures alpha_encode as it stands at each commit, `here` for as it stands here, one beside the other in each of five rounds; without one,
-# as it stands here. Processor time counts. Where the linker puts the code can make a fifth more or less of it, so a ratio near 1 says nothing.
+# as it stands here. Processor time counts. Where the linker puts the code can make a fifth more or less of it, so each is built in so many
+# layouts as LAYOUTS says (4 where it isn't set), with one more function in front of the loop in each, and the means of their medians count.
 set -euo pipefail
 top=$(cd "$(dirname "$0")/../.." && pwd)
 turns=40000000
+layouts=${LAYOUTS:-4}
+# So many functions that stand in front of the loop.
+padding() {
+    local number
+    for ((number = 0; number < $1; number++)); do
+        cat <<PADDING
+#[inline(never)]
+fn padding_$number(x: u64) -> u64 {
+    (x ^ (x << 13)).wrapping_mul(0x9e37_79b9_0000_000$((2 * number + 1)))
+}
+
+PADDING
+    done
+}
+# The calls of these, of a sum.
+padded() {
+    local number calls=sum
+    for ((number = 0; number < $1; number++)); do
+        calls="padding_$number($calls)"
+    done
+    echo "$calls"
+}
 program() {
     cat <<PROGRAM
 //! Decodes eight words of Alpha again and again.
@@ -29,6 +52,8 @@ fn looked_at(instr: AlphaInstr) -> u64 {
     }
 }
 
+$(padding "$1")
+
 // In each turn a bit of Rb in one word is turned round.
 fn sum_of(turns: u64) -> u64 {
     let mut code = CODE;
@@ -46,34 +71,59 @@ fn sum_of(turns: u64) -> u64 {
 
 fn main(rt: HostRuntime) -> io::Result<()> {
     let sum = sum_of($turns);
+    let sum = $(padded "$1");
     println!(rt; "{sum}")
 }
 PROGRAM
 }
-# Builds the program over alpha_encode as it stands at a commit, and leaves it under that name.
+# Builds the program over alpha_encode as it stands at a commit, in a layout, and leaves it under that name.
 build() {
     (
         . "$top/tools/measure/scratch.sh"
-        scratch "alpha_encode" < <(program)
+        scratch "alpha_encode" < <(program "$2")
         if [ "$1" != here ]; then
             rm -rf ../alpha_encode
             git -C "$top" archive "$1" crates/alpha_encode | tar -C ../.. -xf -
         fi
         rt run > log 2>&1 || { tail -n 20 log; exit 1; }
-        cp out/measure "$built/$1"
+        cp out/measure "$built/$1-$2"
     )
 }
 built=$(mktemp -d)
 trap 'rm -rf "$built"' EXIT
 [ $# -gt 0 ] || set -- here
 for commit in "$@"; do
-    build "$commit"
+    for ((layout = 0; layout < layouts; layout++)); do
+        build "$commit" "$layout"
+    done
 done
 TIMEFORMAT=%U
 for round in 1 2 3 4 5; do
-    for commit in "$@"; do
-        seconds=$({ time "$built/$commit" > /dev/null; } 2>&1)
-        awk -v round="$round" -v commit="$commit" -v seconds="$seconds" -v words=$((8 * turns)) \
-            'BEGIN { printf "round %d, %s: %.2f ns a word\n", round, commit, seconds * 1e9 / words }'
+    for ((layout = 0; layout < layouts; layout++)); do
+        for commit in "$@"; do
+            seconds=$({ time "$built/$commit-$layout" > /dev/null; } 2>&1)
+            echo "$commit $layout $round $seconds"
+        done
     done
-done
+done | awk -v words=$((8 * turns)) '
+    { nanoseconds[$1, $2, $3] = $4 * 1e9 / words; commits[$1]; if ($2 >= layouts) layouts = $2 + 1; rounds = $3 }
+    function median(commit, layout,    at, other, below) {
+        for (at = 1; at <= rounds; at++) {
+            below = 0
+            for (other = 1; other <= rounds; other++)
+                if (nanoseconds[commit, layout, other] < nanoseconds[commit, layout, at] ||
+                    (nanoseconds[commit, layout, other] == nanoseconds[commit, layout, at] && other < at)) below++
+            if (below == int(rounds / 2)) return nanoseconds[commit, layout, at]
+        }
+    }
+    END {
+        for (commit in commits) {
+            printf "%s:", commit
+            sum = 0
+            for (layout = 0; layout < layouts; layout++) {
+                sum += median(commit, layout)
+                printf " %.2f", median(commit, layout)
+            }
+            printf " ns a word, %.2f in the mean\n", sum / layouts
+        }
+    }'
