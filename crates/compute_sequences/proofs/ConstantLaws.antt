@@ -59,7 +59,7 @@ module _ (to : ℕ) (real : eqb to 31 ≡ false) (f : Regs) (zero : f 31 ≡ 0) 
       by true e = ap (low size) (small_is value (ltb-true value (2 ^ 15) e))
       by false e = of_size_low value lt size
 
-half_fits : (n : ℕ) → FitsSigned w16 (cast_signed w16 (n % 2 ^ 16))
+pub half_fits : (n : ℕ) → FitsSigned w16 (cast_signed w16 (n % 2 ^ 16))
 half_fits n = search rules
 
 module _ (may : ℕ → Bool) (to : ℕ) (register : to < 32) (target : may to ≡ true) where

@@ -20,10 +20,10 @@ half_high l le lt =
     ap (λ x. cast_unsigned w64 (cast_signed w16 x)) is ∙ ap (cast_unsigned w64) (to_z-neg w16 (2 ^ 16 - 1 - l) few) ∙ omega arith
 
 -- a half as the quadword of the number that it spells
-abbrev Half : ℕ → ℕ → Type 0
+abbrev pub Half : ℕ → ℕ → Type 0
 Half l x = ((l < 2 ^ 15) × (x ≡ l)) ⊎ ((2 ^ 15 ≤ l) × (x ≡ 2 ^ 64 - 2 ^ 16 + l))
 
-half : (l : ℕ) → l < 2 ^ 16 → Half l (cast_unsigned w64 (cast_signed w16 l))
+pub half : (l : ℕ) → l < 2 ^ 16 → Half l (cast_unsigned w64 (cast_signed w16 l))
 half l lt = by (nat_lt l (2 ^ 15)) refl
   where
     by : (b : Bool) → nat_lt l (2 ^ 15) ≡ b → Half l (cast_unsigned w64 (cast_signed w16 l))

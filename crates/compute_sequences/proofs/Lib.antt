@@ -10,6 +10,10 @@ pub mod Choosing
 pub mod Placing
 pub mod ComputeLaws
 pub mod SelectLaws
+pub mod RegisterLaws
+pub mod LiteralNumbers
+pub mod LiteralLaws
+pub mod LiteralFine
 pub mod WholeLaws
 pub mod Overflowing
 pub mod OverflowLaws

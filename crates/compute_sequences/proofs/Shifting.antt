@@ -36,7 +36,7 @@ bits_most Quad = lit≤ tt
 pub not_below : (a b : ℕ) → nat_lt a b ≡ false → b ≤ a
 not_below a b e = grind (arith, nat_tests, e)
 
-within : (size : Size) (b : ℕ) → nat_lt (low size b) (bits_of size) ≡ true → b % 64 ≡ low size b
+pub within : (size : Size) (b : ℕ) → nat_lt (low size b) (bits_of size) ≡ true → b % 64 ≡ low size b
 within size b e = let lt = ltb-true (low size b) (bits_of size) e in let most = bits_most size in count_low size b (omega arith)
 
 -- nothing is left where the count is too great
@@ -159,7 +159,7 @@ low_top Long q lt = omega arith
 low_top Quad q lt = omega arith
 
 -- a number with the sign of its size
-abbrev with_sign : (positive : Bool) → Size → (n : ℕ) → ℕ
+abbrev pub with_sign : (positive : Bool) → Size → (n : ℕ) → ℕ
 with_sign positive size n = if positive then n else n + (2 ^ 64 - limit_of size)
 
 pub extended_is : (size : Size) (a : ℕ) → sign_extended a (bits_of size) ≡ with_sign (nat_lt (low size a) (limit_of size / 2)) size (low size a)
@@ -289,3 +289,13 @@ pub signed_low : (size : Size) (a count : ℕ)
 signed_low size a count =
     ap (λ v. low size (result_of row.Sra (result_of row.Sra v count 0) (minus (one_if (nat_lt (low size count) 64)) 1) 0)) (extended_is size a)
     ∙ shifted_by size (low size a) (low_below size a) (nat_lt (low size a) (limit_of size / 2)) count refl (nat_lt (low size count) 64) refl
+
+-- a shift by a count below the size's bits
+pub signed_low_by : (size : Size) (a count : ℕ) → nat_lt (low size count) (bits_of size) ≡ true
+    → low size (arithmetic_right (sign_extended a (bits_of size)) (count % 64)) ≡ signed_right size (low size a) (low size count)
+signed_low_by size a count few =
+    let positive = nat_lt (low size a) (limit_of size / 2) in
+    ap (λ v. low size (arithmetic_right v (count % 64))) (extended_is size a)
+    ∙ (ap (λ k. low size (arithmetic_right (with_sign positive size (low size a)) k)) (within size count few)
+    ∙ (floor_low size (low size a) (low_below size a) positive (low size count) refl
+    ∙ sym (signed_right_is size (low size a) (low size count) (low_below size a))))

@@ -1,110 +1,278 @@
 -- Computations as a whole: what their words leave, how many they are, and their encodings.
-use Rattle.std.proofs.Common.{◌≡◌, ℕ, ◌+◌, ◌<◌, ◌≤◌, refl, arith, [], ◌∷◌, ◌++◌, length, Bool, true, false, lit<}
-use Rattle.std.specs.Prelude.{pos, All, if◌then◌else◌}
+use Rattle.std.proofs.Common.{◌≡◌, ℕ, ◌^◌, ◌<◌, ◌≤◌, refl, sym, ap, ◌∙◌, arith, List, [], ◌∷◌, ◌++◌, length, Bool, true, false, eqb, eqb-true, ne_eqb, lit<, lit≤}
+use Rattle.std.specs.Prelude.{All, ◌&&◌, nat_lt, if◌then◌else◌}
 use Rattle.std.specs.List.{list_all}
+use Rattle.std.proofs.lemmas.Bool.{ltb-true}
 use Rattle.std.proofs.lemmas.List.{length-append}
 use Rattle.vax_form.specs.declared.instr.Size.{Size}
 use Rattle.vax_form.specs.declared.instr.Size.TheVariants.{Byte, Word, Long, Quad}
 use Rattle.alpha_encode.specs.declared.instr.AlphaInstr.{AlphaInstr}
-use Rattle.alpha_encode.specs.declared.instr.AlphaInstr.TheVariants.{Branch, Operate}
-use Rattle.alpha_encode.specs.declared.instr.BranchOp.TheVariants.{Beq}
-use Rattle.alpha_encode.specs.declared.instr.OperateOp.TheVariants as row
-use Rattle.alpha_encode.specs.declared.instr.Second.TheVariants.{Register}
 use Rattle.alpha_encode.specs.Words.{IsEncodable}
+use Rattle.alpha_meaning.specs.State.{Regs}
 use Rattle.micro_ops.specs.declared.program.Arg.{Arg}
+use Rattle.micro_ops.specs.declared.program.Arg.TheVariants as arguments
 use Rattle.micro_ops.specs.declared.program.Micro.TheVariants.{Compute}
 use Rattle.micro_ops.specs.declared.program.MicroOp.{MicroOp}
-use Rattle.micro_ops.specs.declared.program.MicroOp.TheVariants.{Move, SignExtend, ZeroExtend, SelectNonzero}
+use Rattle.micro_ops.specs.declared.program.MicroOp.TheVariants.{Move, Add, AndNot, Sub, Less, LessUnsigned, SignExtend, ZeroExtend}
 use Rattle.micro_ops.specs.Uses.{is_unary}
-use Rattle.micro_ops.specs.Values.{value_from}
-use Rattle.micro_ops.specs.WordCounts.{operation_words, argument_words, words_of}
-use Rattle.compute_sequences.specs.Registers.{IsTarget, IsArgument, register_at, is_loaded, may_change}
-use Rattle.compute_sequences.specs.Words.{narrow, load_code, first_register, second_target, second_register, binary_code, chosen, select_code, behind_first, compute_code}
-use Rattle.compute_sequences.specs.Promises.{IsComputed, LeavesComputed, changes_only}
-use Rattle.compute_sequences.proofs.Straight.{Fine, Each, each_append, each_map, all_of, all_writes, fine_writes, straight}
-use Rattle.compute_sequences.proofs.ConstantLaws.{target_fits, may_target}
-use Rattle.compute_sequences.proofs.FineLaws.{fine_narrow, load_length, unary_length, binary_length, scratch_may}
-use Rattle.compute_sequences.proofs.Placing.{first_fits}
-use Rattle.compute_sequences.proofs.ComputeLaws.{first_fine, unary_words_fine, narrowed, extends, two_fine, two_leave}
-use Rattle.compute_sequences.proofs.SelectLaws.{short_leaves, quad_leaves, chosen_encodable, chosen_writes}
+use Rattle.micro_ops.specs.Values.{limit_of, low, value_from}
+use Rattle.micro_ops.specs.WordCounts.{argument_words, by_size, words_of}
+use Rattle.compute_sequences.specs.Registers.{IsTarget, IsArgument, register_at, value_at, may_change}
+use Rattle.compute_sequences.specs.Constants.{low_long, load_short}
+use Rattle.compute_sequences.specs.Words.{load_code, first_register, is_constant, is_zero, constant_of, is_short, is_displacement, takes_literal, takes_zero, is_moved, is_sum, is_clearing, is_low_bytes, low_cleared, displaced, literal_form, zero_form, register_code, compute_code}
+use Rattle.compute_sequences.specs.Promises.{IsComputed, LeavesComputed, LeavesAt, changes_only}
+use Rattle.compute_sequences.proofs.Straight.{Fine, Each, each_append, each_encodable, each_writes, all_of, all_writes, afters, afters_append, straight}
+use Rattle.compute_sequences.proofs.ConstantLaws.{target_real, target_fits, may_target}
+use Rattle.compute_sequences.proofs.FineLaws.{load_length}
+use Rattle.compute_sequences.proofs.Placing.{first_placed, first_fits, only_first}
+use Rattle.compute_sequences.proofs.ComputeLaws.{first_fine}
+use Rattle.compute_sequences.proofs.LiteralLaws.{literal_is, displaced_is, cleared_is, short_is, zero_is}
+use Rattle.compute_sequences.proofs.LiteralFine.{literal_fine, displaced_fine, cleared_fine, short_fine, zero_fine, literal_length, displaced_length, zero_length}
+use Rattle.compute_sequences.proofs.RegisterLaws.{leaves_by_registers, registers_length, registers_encodable, registers_writes}
 
--- ---- what they leave
+-- ---- tests
+both : (a b : Bool) → (a && b) ≡ true → (a ≡ true) × (b ≡ true)
+both true b e = (refl, e)
+both false b e = cc
+
+constant_is : (has : ℕ → Bool) (arg : Arg) → is_constant has arg ≡ true → has (constant_of arg) ≡ true
+constant_is has (arguments.Const value) e = e
+constant_is has arg e = cc
+
+constant_value : (has : ℕ → Bool) (arg : Arg) → is_constant has arg ≡ true → (f : Regs) → value_at f arg ≡ constant_of arg
+constant_value has (arguments.Const value) e f = refl
+constant_value has arg e f = cc
+
+constant_words : (has : ℕ → Bool) (arg : Arg) → is_constant has arg ≡ true → (size : Size) → argument_words arg size ≡ by_size size 1 2 5
+constant_words has (arguments.Const value) e size = refl
+constant_words has arg e size = cc
+
+literal_two : (op : MicroOp) (size : Size) (value : ℕ) → takes_literal op size value ≡ true → is_unary op ≡ false
+literal_two Move size value e = cc
+literal_two SignExtend size value e = cc
+literal_two ZeroExtend size value e = cc
+literal_two op size value e = refl
+
+zero_two : (op : MicroOp) → takes_zero op ≡ true → is_unary op ≡ false
+zero_two Sub e = refl
+zero_two Less e = refl
+zero_two LessUnsigned e = refl
+zero_two op e = cc
+
+-- the words have a property where those of each form have it
+module _ (P : List AlphaInstr → Type 0) (op : MicroOp) (size : Size) (a b : Arg) (to : ℕ) where
+  abbrev Short : Type 0
+  Short = is_moved op ≡ true → is_constant (is_short size) a ≡ true → P (load_short to (low_long (constant_of a)) ∷ [])
+
+  abbrev Displaced : Type 0
+  Displaced = is_sum op ≡ true → is_constant (is_displacement size) b ≡ true → P (load_code size a 27 ++ displaced size (first_register size a) (constant_of b) to)
+
+  abbrev Cleared : Type 0
+  Cleared = is_clearing op ≡ true → is_constant is_low_bytes b ≡ true → P (load_code size a 27 ++ low_cleared size (first_register size a) (constant_of b) to)
+
+  abbrev ByLiteral : Type 0
+  ByLiteral = is_constant (takes_literal op size) b ≡ true → P (load_code size a 27 ++ literal_form op size (first_register size a) (constant_of b) to)
+
+  abbrev FromZero : Type 0
+  FromZero = takes_zero op ≡ true → is_constant is_zero a ≡ true → P (load_code size b 27 ++ zero_form op size (first_register size b) to)
+
+  each_form : Short → Displaced → Cleared → ByLiteral → FromZero → P (register_code op size a b to) → P (compute_code op size a b to)
+  each_form short sum clear literal zero others = first (is_moved op && is_constant (is_short size) a) refl
+    where
+      fourth : (t : Bool) → (takes_zero op && is_constant is_zero a) ≡ t
+          → P (if t then load_code size b 27 ++ zero_form op size (first_register size b) to else register_code op size a b to)
+      fourth true e = let x = both (takes_zero op) (is_constant is_zero a) e in zero x.0 x.1
+      fourth false e = others
+
+      third : (t : Bool) → is_constant (takes_literal op size) b ≡ t
+          → P (if t then load_code size a 27 ++ literal_form op size (first_register size a) (constant_of b) to
+          else if takes_zero op && is_constant is_zero a then load_code size b 27 ++ zero_form op size (first_register size b) to
+          else register_code op size a b to)
+      third true e = literal e
+      third false e = fourth (takes_zero op && is_constant is_zero a) refl
+
+      between : (t : Bool) → (is_clearing op && is_constant is_low_bytes b) ≡ t
+          → P (if t then load_code size a 27 ++ low_cleared size (first_register size a) (constant_of b) to
+          else if is_constant (takes_literal op size) b then load_code size a 27 ++ literal_form op size (first_register size a) (constant_of b) to
+          else if takes_zero op && is_constant is_zero a then load_code size b 27 ++ zero_form op size (first_register size b) to
+          else register_code op size a b to)
+      between true e = let x = both (is_clearing op) (is_constant is_low_bytes b) e in clear x.0 x.1
+      between false e = third (is_constant (takes_literal op size) b) refl
+
+      second : (t : Bool) → (is_sum op && is_constant (is_displacement size) b) ≡ t
+          → P (if t then load_code size a 27 ++ displaced size (first_register size a) (constant_of b) to
+          else if is_clearing op && is_constant is_low_bytes b then load_code size a 27 ++ low_cleared size (first_register size a) (constant_of b) to
+          else if is_constant (takes_literal op size) b then load_code size a 27 ++ literal_form op size (first_register size a) (constant_of b) to
+          else if takes_zero op && is_constant is_zero a then load_code size b 27 ++ zero_form op size (first_register size b) to
+          else register_code op size a b to)
+      second true e = let x = both (is_sum op) (is_constant (is_displacement size) b) e in sum x.0 x.1
+      second false e = between (is_clearing op && is_constant is_low_bytes b) refl
+
+      first : (t : Bool) → (is_moved op && is_constant (is_short size) a) ≡ t
+          → P (if t then load_short to (low_long (constant_of a)) ∷ []
+          else if is_sum op && is_constant (is_displacement size) b then load_code size a 27 ++ displaced size (first_register size a) (constant_of b) to
+          else if is_clearing op && is_constant is_low_bytes b then load_code size a 27 ++ low_cleared size (first_register size a) (constant_of b) to
+          else if is_constant (takes_literal op size) b then load_code size a 27 ++ literal_form op size (first_register size a) (constant_of b) to
+          else if takes_zero op && is_constant is_zero a then load_code size b 27 ++ zero_form op size (first_register size b) to
+          else register_code op size a b to)
+      first true e = let x = both (is_moved op) (is_constant (is_short size) a) e in short x.0 x.1
+      first false e = second (is_sum op && is_constant (is_displacement size) b) refl
+
+module _ (to : ℕ) (is : IsTarget to) where
+  -- ---- words behind those of an argument
+  module _ (size : Size) (a : Arg) (a_is : IsArgument a) where
+    x_fits : first_register size a < 32
+    x_fits = first_fits size a a to is (λ n. 0) refl a_is (lit< tt)
+
+    behind_fine : (words : List AlphaInstr) → Each (Fine (may_change to)) words → Each (Fine (may_change to)) (load_code size a 27 ++ words)
+    behind_fine words fine = each_append (Fine (may_change to)) (load_code size a 27) words (first_fine size a to is a_is) fine
+
+    -- what they leave of the low bytes of the argument
+    behind_is : (words : List AlphaInstr) (wanted : ℕ → ℕ) (f : Regs) → f 31 ≡ 0 → f (register_at a) < 2 ^ 64
+        → ((g : Regs) → g 31 ≡ 0 → g (first_register size a) < 2 ^ 64 → afters words g to ≡ wanted (low size (g (first_register size a))))
+        → afters (load_code size a 27 ++ words) f to ≡ wanted (low size (value_at f a))
+    behind_is words wanted f zero fits law =
+        let placed = first_placed size a a to is f zero a_is fits in
+        let g = afters (load_code size a 27) f in
+        ap (λ (h : Regs). h to) (afters_append (load_code size a 27) words f)
+        ∙ (law g (only_first size a a to is f zero a_is fits 31 refl ∙ zero) placed.fits ∙ ap wanted placed.low_bytes)
+
+  apart : eqb 31 to ≡ false
+  apart = let high = is.high in ne_eqb 31 to (λ (e : 31 ≡ to). absurd (omega (arith, high, e)))
+
+  zero_is_low : (value : ℕ) → is_zero value ≡ true → value ≡ 0
+  zero_is_low value e = eqb-true value 0 e
+
+  -- ---- what they leave
+  module _ (a b : Arg) (a_is : IsArgument a) where
+    moved_leaves : (op : MicroOp) (size : Size) → is_moved op ≡ true → is_constant (is_short size) a ≡ true → (f : Regs) → f 31 ≡ 0
+        → LeavesAt (IsComputed op size a b to f) to (load_short to (low_long (constant_of a)) ∷ []) f
+    unfolding value_from
+    moved_leaves Move size m e f zero =
+        let x = both (nat_lt (constant_of a) (limit_of size)) (nat_lt (constant_of a) (2 ^ 15)) (constant_is (is_short size) a e) in
+        straight (IsComputed Move size a b to f) to (load_short to (low_long (constant_of a)) ∷ []) f
+        (short_fine (may_change to) to to (target_fits to is) (target_fits to is) (may_target to) (constant_of a))
+        (short_is f to to (target_real to is) size (constant_of a) zero (ltb-true (constant_of a) (2 ^ 15) x.1) (ltb-true (constant_of a) (limit_of size) x.0)
+        ∙ ap (low size) (sym (constant_value (is_short size) a e f)))
+    moved_leaves ZeroExtend size m e f zero =
+        let x = both (nat_lt (constant_of a) (limit_of size)) (nat_lt (constant_of a) (2 ^ 15)) (constant_is (is_short size) a e) in
+        straight (IsComputed ZeroExtend size a b to f) to (load_short to (low_long (constant_of a)) ∷ []) f
+        (short_fine (may_change to) to to (target_fits to is) (target_fits to is) (may_target to) (constant_of a))
+        (short_is f to to (target_real to is) size (constant_of a) zero (ltb-true (constant_of a) (2 ^ 15) x.1) (ltb-true (constant_of a) (limit_of size) x.0)
+        ∙ ap (low size) (sym (constant_value (is_short size) a e f)))
+    moved_leaves op size m e f zero = cc
+
+    displaced_leaves : (op : MicroOp) (size : Size) → is_sum op ≡ true → is_constant (is_displacement size) b ≡ true → (f : Regs) → f 31 ≡ 0 → f (register_at a) < 2 ^ 64
+        → LeavesAt (IsComputed op size a b to f) to (load_code size a 27 ++ displaced size (first_register size a) (constant_of b) to) f
+    displaced_leaves Add size m e f zero fits =
+        straight (IsComputed Add size a b to f) to (load_code size a 27 ++ displaced size (first_register size a) (constant_of b) to) f
+        (behind_fine size a a_is (displaced size (first_register size a) (constant_of b) to) (displaced_fine (may_change to) (first_register size a) to (x_fits size a a_is) (target_fits to is) (may_target to) size (constant_of b)))
+        (behind_is size a a_is (displaced size (first_register size a) (constant_of b) to) (λ n. value_from Add size n (low size (constant_of b)) (f to)) f zero fits
+        (λ g z lt. displaced_is g (first_register size a) to (target_real to is) size (constant_of b) (f to) (constant_is (is_displacement size) b e))
+        ∙ ap (λ v. value_from Add size (low size (value_at f a)) (low size v) (f to)) (sym (constant_value (is_displacement size) b e f)))
+    displaced_leaves op size m e f zero fits = cc
+
+    cleared_leaves : (op : MicroOp) (size : Size) → is_clearing op ≡ true → is_constant is_low_bytes b ≡ true → (f : Regs) → f 31 ≡ 0 → f (register_at a) < 2 ^ 64
+        → LeavesAt (IsComputed op size a b to f) to (load_code size a 27 ++ low_cleared size (first_register size a) (constant_of b) to) f
+    cleared_leaves AndNot size m e f zero fits =
+        straight (IsComputed AndNot size a b to f) to (load_code size a 27 ++ low_cleared size (first_register size a) (constant_of b) to) f
+        (behind_fine size a a_is (low_cleared size (first_register size a) (constant_of b) to) (cleared_fine (may_change to) (first_register size a) to (x_fits size a a_is) (target_fits to is) (may_target to) size (constant_of b)))
+        (behind_is size a a_is (low_cleared size (first_register size a) (constant_of b) to) (λ n. value_from AndNot size n (low size (constant_of b)) (f to)) f zero fits
+        (λ g z lt. cleared_is g (first_register size a) to (target_real to is) size (constant_of b) (f to) (constant_is is_low_bytes b e))
+        ∙ ap (λ v. value_from AndNot size (low size (value_at f a)) (low size v) (f to)) (sym (constant_value is_low_bytes b e f)))
+    cleared_leaves op size m e f zero fits = cc
+
+    literal_leaves : (op : MicroOp) (size : Size) → is_constant (takes_literal op size) b ≡ true → (f : Regs) → f 31 ≡ 0 → f (register_at a) < 2 ^ 64
+        → LeavesAt (IsComputed op size a b to f) to (load_code size a 27 ++ literal_form op size (first_register size a) (constant_of b) to) f
+    literal_leaves op size e f zero fits =
+        let takes = constant_is (takes_literal op size) b e in
+        straight (IsComputed op size a b to f) to (load_code size a 27 ++ literal_form op size (first_register size a) (constant_of b) to) f
+        (behind_fine size a a_is (literal_form op size (first_register size a) (constant_of b) to) (literal_fine (may_change to) (first_register size a) to (x_fits size a a_is) (target_fits to is) (may_target to) op size (constant_of b) takes))
+        (behind_is size a a_is (literal_form op size (first_register size a) (constant_of b) to) (λ n. value_from op size n (low size (constant_of b)) (f to)) f zero fits
+        (λ g z lt. literal_is g (first_register size a) to (target_real to is) op size (constant_of b) (f to) takes lt)
+        ∙ ap (λ v. value_from op size (low size (value_at f a)) (low size v) (f to)) (sym (constant_value (takes_literal op size) b e f)))
+
+    zero_leaves : (op : MicroOp) (size : Size) → takes_zero op ≡ true → is_constant is_zero a ≡ true → IsArgument b → (f : Regs) → f 31 ≡ 0 → f (register_at b) < 2 ^ 64
+        → LeavesAt (IsComputed op size a b to f) to (load_code size b 27 ++ zero_form op size (first_register size b) to) f
+    zero_leaves op size takes e b_is f zero fits =
+        straight (IsComputed op size a b to f) to (load_code size b 27 ++ zero_form op size (first_register size b) to) f
+        (behind_fine size b b_is (zero_form op size (first_register size b) to) (zero_fine (may_change to) (first_register size b) to (x_fits size b b_is) (target_fits to is) (may_target to) op size))
+        (behind_is size b b_is (zero_form op size (first_register size b) to) (λ n. value_from op size (low size 0) n (f to)) f zero fits
+        (λ g z lt. zero_is g (first_register size b) to (target_real to is) apart (x_fits size b b_is) (target_fits to is) z lt op size (f to) takes)
+        ∙ ap (λ v. value_from op size (low size v) (low size (value_at f b)) (f to))
+        (sym (constant_value is_zero a e f ∙ zero_is_low (constant_of a) (constant_is is_zero a e))))
+
 module _ (a b : Arg) (to : ℕ) (a_is : IsArgument a) (is : IsTarget to) where
   pub leaves_computed : (op : MicroOp) (size : Size) → (is_unary op ≡ false → IsArgument b) → LeavesComputed op size a b to (compute_code op size a b to)
-  unfolding value_from
-  leaves_computed Move size b_is f may = straight (IsComputed Move size a b to f) to (compute_code Move size a b to) f (unary_words_fine size a to is a_is Move) (narrowed size a to is a_is f may.zero may.first)
-  leaves_computed ZeroExtend size b_is f may = straight (IsComputed ZeroExtend size a b to f) to (compute_code ZeroExtend size a b to) f (unary_words_fine size a to is a_is ZeroExtend) (narrowed size a to is a_is f may.zero may.first)
-  leaves_computed SignExtend size b_is f may = straight (IsComputed SignExtend size a b to f) to (compute_code SignExtend size a b to) f (unary_words_fine size a to is a_is SignExtend) (extends size a to is a_is f may.zero may.first)
-  leaves_computed SelectNonzero Byte b_is f may = short_leaves Byte a b to is a_is (b_is refl) f may.zero may.first (may.second refl)
-  leaves_computed SelectNonzero Word b_is f may = short_leaves Word a b to is a_is (b_is refl) f may.zero may.first (may.second refl)
-  leaves_computed SelectNonzero Long b_is f may = short_leaves Long a b to is a_is (b_is refl) f may.zero may.first (may.second refl)
-  leaves_computed SelectNonzero Quad b_is f may = quad_leaves a b to is a_is (b_is refl) f may.zero may.first (may.second refl) (may.held refl)
-  leaves_computed op size b_is f may = two_leave size a to is a_is b (b_is refl) op refl f may.zero may.first (may.second refl)
+  leaves_computed op size b_is f may =
+      each_form (λ words. LeavesAt (IsComputed op size a b to f) to words f) op size a b to
+      (λ m e. moved_leaves to is a b a_is op size m e f may.zero)
+      (λ m e. displaced_leaves to is a b a_is op size m e f may.zero may.first)
+      (λ m e. cleared_leaves to is a b a_is op size m e f may.zero may.first)
+      (λ e. literal_leaves to is a b a_is op size e f may.zero may.first)
+      (λ t e. zero_leaves to is a b a_is op size t e (b_is (zero_two op t)) f may.zero (may.second (zero_two op t)))
+      (leaves_by_registers a b to a_is is op size b_is f may)
 
--- ---- how many they are
-chosen_length : (size : Size) (r : ℕ) (b : Arg) (to : ℕ) → length (chosen size r b to) ≤ 1 + argument_words b size
-chosen_length size r b to = by (is_loaded size b)
-  where
-    by : (l : Bool) → length (if l then Branch Beq r (pos (length (load_code size b to))) ∷ load_code size b to else Operate row.Cmovne r (Register (register_at b)) to ∷ []) ≤ 1 + argument_words b size
-    by true = let le = load_length size b to in omega arith
-    by false = omega arith
-
-select_length : (size : Size) (x : ℕ) (b : Arg) (to : ℕ) → length (select_code size x b to) ≤ operation_words SelectNonzero size + argument_words b size
-select_length Quad x b to = chosen_length Quad x b to
-select_length Byte x b to = let le = chosen_length Byte 27 b to in let e = length-append (chosen Byte 27 b to) (narrow Byte to to ∷ []) in omega arith
-select_length Word x b to = let le = chosen_length Word 27 b to in let e = length-append (chosen Word 27 b to) (narrow Word to to ∷ []) in omega arith
-select_length Long x b to = let le = chosen_length Long 27 b to in let e = length-append (chosen Long 27 b to) (narrow Long to to ∷ []) in omega arith
-
-two_length : (op : MicroOp) (size : Size) (b : Arg) (target x y to : ℕ) → length (load_code size b target ++ binary_code op size x y to) ≤ operation_words op size + argument_words b size
-two_length op size b target x y to =
-    let load = load_length size b target in
-    let operation = binary_length op size x y to in
-    let e = length-append (load_code size b target) (binary_code op size x y to) in
-    omega arith
-
-behind_length : (op : MicroOp) (size : Size) (a b : Arg) (to : ℕ) → length (behind_first op size a b to) ≤ operation_words op size + (if is_unary op then 0 else argument_words b size)
-behind_length Move size a b to = let le = unary_length Move size (first_register size a) to in omega arith
-behind_length ZeroExtend size a b to = let le = unary_length ZeroExtend size (first_register size a) to in omega arith
-behind_length SignExtend size a b to = let le = unary_length SignExtend size (first_register size a) to in omega arith
-behind_length SelectNonzero size a b to = select_length size (first_register size a) b to
-behind_length op size a b to = two_length op size b (second_target size a to) (first_register size a) (second_register size a b to) to
-
-pub computed_length : (op : MicroOp) (size : Size) (a b : Arg) (to : ℕ) → length (compute_code op size a b to) ≤ words_of (Compute to op size a b)
-computed_length op size a b to =
-    let load = load_length size a 27 in
-    let behind = behind_length op size a b to in
-    let e = length-append (load_code size a 27) (behind_first op size a b to) in
-    omega arith
-
--- ---- their encodings, and what they write
-module _ (a b : Arg) (to : ℕ) (a_is : IsArgument a) (is : IsTarget to) where
-  first_narrow : (size : Size) (x : ℕ) → x < 32 → Fine (may_change to) (narrow size x 27)
-  first_narrow size x fits = fine_narrow (may_change to) size x 27 fits (lit< tt) (scratch_may to 0 is)
-
-  last_narrow : (size : Size) → Fine (may_change to) (narrow size to to)
-  last_narrow size = fine_narrow (may_change to) size to to (target_fits to is) (target_fits to is) (may_target to)
-
-  -- by any property of instructions that those which run one after another have
-  select_each : (P : AlphaInstr → Type 0) → ((i : AlphaInstr) → Fine (may_change to) i → P i) → ((size : Size) (r : ℕ) → r < 32 → Each P (chosen size r b to)) → (size : Size) (x : ℕ) → x < 32 → Each P (select_code size x b to)
-  select_each P of chosen_each Quad x fits = chosen_each Quad x fits
-  select_each P of chosen_each size x fits =
-      (of (narrow size x 27) (first_narrow size x fits), each_append P (chosen size 27 b to) (narrow size to to ∷ []) (chosen_each size 27 (lit< tt)) (of (narrow size to to) (last_narrow size), tt))
-
-  computed_each : (P : AlphaInstr → Type 0) → ((i : AlphaInstr) → Fine (may_change to) i → P i) → (IsArgument b → (size : Size) (r : ℕ) → r < 32 → Each P (chosen size r b to))
-      → (op : MicroOp) (size : Size) → (is_unary op ≡ false → IsArgument b) → Each P (compute_code op size a b to)
-  computed_each P of chosen_each Move size b_is = each_map (Fine (may_change to)) P of (compute_code Move size a b to) (unary_words_fine size a to is a_is Move)
-  computed_each P of chosen_each ZeroExtend size b_is = each_map (Fine (may_change to)) P of (compute_code ZeroExtend size a b to) (unary_words_fine size a to is a_is ZeroExtend)
-  computed_each P of chosen_each SignExtend size b_is = each_map (Fine (may_change to)) P of (compute_code SignExtend size a b to) (unary_words_fine size a to is a_is SignExtend)
-  computed_each P of chosen_each SelectNonzero size b_is =
-      each_append P (load_code size a 27) (select_code size (first_register size a) b to)
-      (each_map (Fine (may_change to)) P of (load_code size a 27) (first_fine size a to is a_is))
-      (select_each P of (chosen_each (b_is refl)) size (first_register size a) (first_fits size a a to is (λ n. 0) refl a_is (lit< tt)))
-  computed_each P of chosen_each op size b_is = each_map (Fine (may_change to)) P of (compute_code op size a b to) (two_fine size a to is a_is b (b_is refl) op)
+  -- ---- their encodings, and what they write
+  fine_forms : (P : List AlphaInstr → Type 0) → ((words : List AlphaInstr) → Each (Fine (may_change to)) words → P words) → (op : MicroOp) (size : Size) → (is_unary op ≡ false → IsArgument b)
+      → P (register_code op size a b to) → P (compute_code op size a b to)
+  fine_forms P of op size b_is others =
+      each_form P op size a b to
+      (λ m e. of _ (short_fine (may_change to) to to (target_fits to is) (target_fits to is) (may_target to) (constant_of a)))
+      (λ m e. of _ (behind_fine to is size a a_is _ (displaced_fine (may_change to) (first_register size a) to (x_fits to is size a a_is) (target_fits to is) (may_target to) size (constant_of b))))
+      (λ m e. of _ (behind_fine to is size a a_is _ (cleared_fine (may_change to) (first_register size a) to (x_fits to is size a a_is) (target_fits to is) (may_target to) size (constant_of b))))
+      (λ e. of _ (behind_fine to is size a a_is _ (literal_fine (may_change to) (first_register size a) to (x_fits to is size a a_is) (target_fits to is) (may_target to) op size (constant_of b) (constant_is (takes_literal op size) b e))))
+      (λ t e. let is_b = b_is (zero_two op t) in of _ (behind_fine to is size b is_b _ (zero_fine (may_change to) (first_register size b) to (x_fits to is size b is_b) (target_fits to is) (may_target to) op size)))
+      others
 
   pub computed_encodable : (op : MicroOp) (size : Size) → (is_unary op ≡ false → IsArgument b) → All IsEncodable (compute_code op size a b to)
   computed_encodable op size b_is =
-      all_of IsEncodable (compute_code op size a b to) (computed_each IsEncodable (λ i fine. fine.encodable) (λ is_b size r fits. chosen_encodable size a b to is a_is is_b r fits) op size b_is)
+      fine_forms (All IsEncodable) (λ words fine. all_of IsEncodable words (each_encodable (may_change to) words fine)) op size b_is (registers_encodable a b to a_is is op size b_is)
 
   pub computed_writes : (op : MicroOp) (size : Size) → (is_unary op ≡ false → IsArgument b) → list_all (changes_only (may_change to)) (compute_code op size a b to) ≡ true
   computed_writes op size b_is =
-      all_writes (may_change to) (compute_code op size a b to) (computed_each (λ i. changes_only (may_change to) i ≡ true) (λ i fine. fine_writes (may_change to) i fine.local fine.target) (λ is_b size r fits. chosen_writes size a b to is a_is is_b r) op size b_is)
+      fine_forms (λ words. list_all (changes_only (may_change to)) words ≡ true) (λ words fine. all_writes (may_change to) words (each_writes (may_change to) words fine)) op size b_is (registers_writes a b to a_is is op size b_is)
+
+-- ---- how many they are
+one_of_size : (size : Size) → 1 ≤ by_size size 1 2 5
+one_of_size Byte = lit≤ tt
+one_of_size Word = lit≤ tt
+one_of_size Long = lit≤ tt
+one_of_size Quad = lit≤ tt
+
+pub computed_length : (op : MicroOp) (size : Size) (a b : Arg) (to : ℕ) → length (compute_code op size a b to) ≤ words_of (Compute to op size a b)
+computed_length op size a b to =
+    each_form (λ words. length words ≤ words_of (Compute to op size a b)) op size a b to
+    (λ m e. let one = one_of_size size in let words = constant_words (is_short size) a e size in omega arith)
+    (λ m e. sum_length op m (constant_words (is_displacement size) b e size))
+    (λ m e. clear_length op m (constant_words is_low_bytes b e size))
+    (λ e. let load = load_length size a 27 in
+    let form = literal_length op size (first_register size a) (constant_of b) to in
+    let words = constant_words (takes_literal op size) b e size in
+    let two = literal_two op size (constant_of b) (constant_is (takes_literal op size) b e) in
+    let joined = length-append (load_code size a 27) (literal_form op size (first_register size a) (constant_of b) to) in
+    rw two (omega (arith, load, form, words, joined)))
+    (λ t e. let load = load_length size b 27 in
+    let form = zero_length op t size (first_register size b) to in
+    let words = constant_words is_zero a e size in
+    let joined = length-append (load_code size b 27) (zero_form op size (first_register size b) to) in
+    rw (zero_two op t) (omega (arith, load, form, words, joined)))
+    (registers_length op size a b to)
+  where
+    sum_length : (op : MicroOp) → is_sum op ≡ true → argument_words b size ≡ by_size size 1 2 5
+        → length (load_code size a 27 ++ displaced size (first_register size a) (constant_of b) to) ≤ words_of (Compute to op size a b)
+    sum_length Add m words =
+        let load = load_length size a 27 in
+        let form = displaced_length size (first_register size a) (constant_of b) to in
+        let joined = length-append (load_code size a 27) (displaced size (first_register size a) (constant_of b) to) in
+        omega (arith, load, form, words, joined)
+    sum_length op m words = cc
+
+    clear_length : (op : MicroOp) → is_clearing op ≡ true → argument_words b size ≡ by_size size 1 2 5
+        → length (load_code size a 27 ++ low_cleared size (first_register size a) (constant_of b) to) ≤ words_of (Compute to op size a b)
+    clear_length AndNot m words =
+        let load = load_length size a 27 in
+        let one = one_of_size size in
+        let joined = length-append (load_code size a 27) (low_cleared size (first_register size a) (constant_of b) to) in
+        omega (arith, load, one, words, joined)
+    clear_length op m words = cc

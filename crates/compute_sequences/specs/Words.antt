@@ -1,24 +1,26 @@
 -- The words of computations.
 -- Alpha Architecture Reference Manual, 4.4 "Integer Arithmetic Instructions", 4.5 "Logical and Shift Instructions", 4.6
 -- "Byte Manipulation Instructions": all of them work on quadwords, and ZAPNOT keeps the low bytes.
-use Rattle.std.specs.Prelude.{ℕ, pos, ◌-◌, ◌==◌, List, [], ◌∷◌, ◌++◌, length, nat_lt, if◌then◌else◌}
+use Rattle.std.specs.Prelude.{ℕ, pos, ◌+◌, ◌-◌, ◌%◌, ◌^◌, ◌==◌, ◌&&◌, ◌||◌, Bool, true, false, List, [], ◌∷◌, ◌++◌, length, nat_lt, if◌then◌else◌}
 use Rattle.vax_form.specs.declared.instr.Size.{Size}
 use Rattle.vax_form.specs.declared.instr.Size.TheVariants.{Byte, Word, Long, Quad}
 use Rattle.alpha_encode.specs.declared.instr.BranchOp.TheVariants.{Beq}
+use Rattle.alpha_encode.specs.declared.instr.MemoryOp.TheVariants.{Lda}
 use Rattle.alpha_encode.specs.declared.instr.OperateOp.{OperateOp}
 use Rattle.alpha_encode.specs.declared.instr.OperateOp.TheVariants as row
 use Rattle.alpha_encode.specs.declared.instr.Second.TheVariants.{Register, Literal}
 use Rattle.alpha_encode.specs.declared.instr.AlphaInstr.{AlphaInstr}
-use Rattle.alpha_encode.specs.declared.instr.AlphaInstr.TheVariants.{Branch, Operate}
-use Rattle.alpha_encode.specs.Registers.{STATUS, ADDRESS}
+use Rattle.alpha_encode.specs.declared.instr.AlphaInstr.TheVariants.{Memory, Branch, Operate}
+use Rattle.alpha_encode.specs.Halves.{low_half}
+use Rattle.alpha_encode.specs.Registers.{STATUS, ADDRESS, ZERO}
 use Rattle.micro_ops.specs.declared.program.Arg.{Arg}
 use Rattle.micro_ops.specs.declared.program.Arg.TheVariants as arguments
 use Rattle.micro_ops.specs.declared.program.MicroOp.{MicroOp}
 use Rattle.micro_ops.specs.declared.program.MicroOp.TheVariants.{Move, Add, Sub, Mul, And, Or, Xor, AndNot, ShiftLeft, ShiftRight, ShiftSigned, SignExtend, ZeroExtend, Equal, Less, LessUnsigned, SelectNonzero, MulHigh}
 use Rattle.micro_ops.specs.Uses.{is_quad}
-use Rattle.micro_ops.specs.Values.{bits_of}
+use Rattle.micro_ops.specs.Values.{bits_of, limit_of}
 use Rattle.compute_sequences.specs.Registers.{register_at, is_loaded}
-use Rattle.compute_sequences.specs.Constants.{constant_code}
+use Rattle.compute_sequences.specs.Constants.{low_long, load_short, constant_code}
 
 -- ---- parts
 -- the bytes of a size
@@ -156,8 +158,116 @@ abbrev pub select_code : Size → (x : ℕ) → Arg → (to : ℕ) → List Alph
 select_code Quad x b to = chosen Quad x b to
 select_code size x b to = narrow size x ADDRESS ∷ (chosen size ADDRESS b to ++ (narrow size to to ∷ []))
 
+-- ---- constants in instructions
+-- a constant with that property
+abbrev pub is_constant : (has : ℕ → Bool) → Arg → Bool
+is_constant has (arguments.Const value) = has value
+is_constant has arg = false
+
+abbrev pub constant_of : Arg → ℕ
+constant_of (arguments.Const value) = value
+constant_of arg = 0
+
+-- a number that one LDA leaves as it is, at a size that it fits
+abbrev pub is_short : Size → (value : ℕ) → Bool
+is_short size value = nat_lt value (limit_of size) && nat_lt value (2 ^ 15)
+
+-- a signed displacement of 16 bits has its low bytes
+abbrev pub is_displacement : Size → (value : ℕ) → Bool
+is_displacement Byte value = true
+is_displacement Word value = true
+is_displacement Long value = nat_lt ((value + 2 ^ 15) % 2 ^ 32) (2 ^ 16)
+is_displacement Quad value = nat_lt ((value + 2 ^ 15) % 2 ^ 64) (2 ^ 16)
+
+-- The constants that are the literal of an operation's instruction, as its second argument: of a shift the counts that
+-- leave something, and of a comparison with signs the numbers that are positive at each size.
+abbrev pub takes_literal : MicroOp → Size → (value : ℕ) → Bool
+takes_literal Sub size value = nat_lt value 256
+takes_literal Mul size value = nat_lt value 256
+takes_literal And size value = nat_lt value 256
+takes_literal Or size value = nat_lt value 256
+takes_literal Xor size value = nat_lt value 256
+takes_literal AndNot size value = nat_lt value 256
+takes_literal ShiftLeft size value = nat_lt value (bits_of size)
+takes_literal ShiftRight size value = nat_lt value (bits_of size)
+takes_literal ShiftSigned size value = nat_lt value (bits_of size)
+takes_literal Equal size value = nat_lt value 256
+takes_literal Less size value = nat_lt value 128
+takes_literal LessUnsigned size value = nat_lt value 256
+takes_literal op size value = false
+
+-- one instruction, of whose result the low bytes are kept
+abbrev pub lowered_one : Size → AlphaInstr → (to : ℕ) → List AlphaInstr
+lowered_one Quad instr to = instr ∷ []
+lowered_one size instr to = instr ∷ narrow size to to ∷ []
+
+-- an operation on the zero-extended number
+abbrev pub unsigned_by : OperateOp → Size → (x literal to : ℕ) → List AlphaInstr
+unsigned_by op Quad x literal to = Operate op x (Literal literal) to ∷ []
+unsigned_by op size x literal to = narrow size x to ∷ Operate op to (Literal literal) to ∷ []
+
+-- and on the number with its sign
+abbrev pub signed_by : OperateOp → Size → (x literal to : ℕ) → List AlphaInstr
+signed_by op Quad x literal to = Operate op x (Literal literal) to ∷ []
+signed_by op size x literal to = extend size x to ++ (Operate op to (Literal literal) to ∷ [])
+
+abbrev pub by_literal : OperateOp → Size → (x literal to : ℕ) → List AlphaInstr
+by_literal op size x literal to = lowered_one size (Operate op x (Literal literal) to) to
+
+-- a displacement, with its sign, is added
+abbrev pub add_short : (to x value : ℕ) → AlphaInstr
+add_short to x value = Memory Lda to x (low_half (low_long value))
+
+-- the sum with a constant that is one
+abbrev pub displaced : Size → (x value to : ℕ) → List AlphaInstr
+displaced size x value to = lowered_one size (add_short to x value) to
+
+abbrev pub literal_form : MicroOp → Size → (x literal to : ℕ) → List AlphaInstr
+literal_form Sub size x literal to = by_literal row.Subq size x literal to
+literal_form Mul size x literal to = by_literal row.Mulq size x literal to
+literal_form And size x literal to = Operate row.And x (Literal literal) to ∷ []
+literal_form Or size x literal to = by_literal row.Bis size x literal to
+literal_form Xor size x literal to = by_literal row.Xor size x literal to
+literal_form AndNot size x literal to = by_literal row.Bic size x literal to
+literal_form ShiftLeft size x literal to = by_literal row.Sll size x literal to
+literal_form ShiftRight size x literal to = unsigned_by row.Srl size x literal to
+literal_form ShiftSigned size x literal to = signed_by row.Sra size x literal to ++ (narrow size to to ∷ [])
+literal_form Equal size x literal to = unsigned_by row.Cmpeq size x literal to
+literal_form Less size x literal to = signed_by row.Cmplt size x literal to
+literal_form LessUnsigned size x literal to = unsigned_by row.Cmpult size x literal to
+literal_form op size x literal to = []
+
+-- the low byte or the low word is cleared
+abbrev pub is_clearing : MicroOp → Bool
+is_clearing AndNot = true
+is_clearing op = false
+
+abbrev pub is_low_bytes : (value : ℕ) → Bool
+is_low_bytes value = value == 0xff || value == 0xffff
+
+abbrev pub kept_mask : Size → (value : ℕ) → ℕ
+kept_mask size value = mask_of size - (if value == 0xff then 0x01 else 0x03)
+
+abbrev pub low_cleared : Size → (x value to : ℕ) → List AlphaInstr
+low_cleared size x value to = Operate row.Zapnot x (Literal (kept_mask size value)) to ∷ []
+
+-- 0 as the first argument is R31
+abbrev pub takes_zero : MicroOp → Bool
+takes_zero Sub = true
+takes_zero Less = true
+takes_zero LessUnsigned = true
+takes_zero op = false
+
+abbrev pub is_zero : (value : ℕ) → Bool
+is_zero value = value == 0
+
+abbrev pub zero_form : MicroOp → Size → (y to : ℕ) → List AlphaInstr
+zero_form Less size y to = extend size y to ++ (Operate row.Cmplt ZERO (Register to) to ∷ [])
+zero_form LessUnsigned size y to = narrow size y to ∷ Operate row.Cmpult ZERO (Register to) to ∷ []
+zero_form op size y to = lowered_one size (Operate row.Subq ZERO (Register y) to) to
+
 -- ---- the whole
--- behind the words of the first argument
+-- behind the words of the first argument, where the second has a register or words of its own
 abbrev pub behind_first : MicroOp → Size → (a b : Arg) (to : ℕ) → List AlphaInstr
 behind_first Move size a b to = unary_code Move size (first_register size a) to
 behind_first SignExtend size a b to = unary_code SignExtend size (first_register size a) to
@@ -166,5 +276,29 @@ behind_first SelectNonzero size a b to = select_code size (first_register size a
 behind_first op size a b to =
     load_code size b (second_target size a to) ++ binary_code op size (first_register size a) (second_register size a b to) to
 
+abbrev pub register_code : MicroOp → Size → (a b : Arg) (to : ℕ) → List AlphaInstr
+register_code op size a b to = load_code size a ADDRESS ++ behind_first op size a b to
+
+-- a constant that is moved
+abbrev pub is_moved : MicroOp → Bool
+is_moved Move = true
+is_moved ZeroExtend = true
+is_moved op = false
+
+abbrev pub is_sum : MicroOp → Bool
+is_sum Add = true
+is_sum op = false
+
 abbrev pub compute_code : MicroOp → Size → (a b : Arg) (to : ℕ) → List AlphaInstr
-compute_code op size a b to = load_code size a ADDRESS ++ behind_first op size a b to
+compute_code op size a b to =
+    if is_moved op && is_constant (is_short size) a
+    then load_short to (low_long (constant_of a)) ∷ []
+    else if is_sum op && is_constant (is_displacement size) b
+    then load_code size a ADDRESS ++ displaced size (first_register size a) (constant_of b) to
+    else if is_clearing op && is_constant is_low_bytes b
+    then load_code size a ADDRESS ++ low_cleared size (first_register size a) (constant_of b) to
+    else if is_constant (takes_literal op size) b
+    then load_code size a ADDRESS ++ literal_form op size (first_register size a) (constant_of b) to
+    else if takes_zero op && is_constant is_zero a
+    then load_code size b ADDRESS ++ zero_form op size (first_register size b) to
+    else register_code op size a b to

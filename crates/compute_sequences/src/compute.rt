@@ -5,16 +5,21 @@ ghost use Rattle.alpha_encode.specs.Words.{IsEncodable};
 ghost use Rattle.micro_ops.specs.Uses.{is_unary, is_select};
 ghost use Rattle.micro_ops.specs.WordCounts.{words_of};
 ghost use Rattle.compute_sequences.specs.Registers.{IsTarget, IsArgument, may_change};
-ghost use Rattle.compute_sequences.specs.Words.{chosen, select_code, binary_code, behind_first, compute_code};
+ghost use Rattle.compute_sequences.specs.Words.{chosen, select_code, binary_code, behind_first, register_code, compute_code};
 ghost use Rattle.compute_sequences.specs.Promises.{LeavesComputed, changes_only};
 
 use crate::arguments::{
     SCRATCH, first_register, free_of, is_loaded, load_words, other_of, push_load, register_at,
     second_register, second_target,
 };
+use crate::constants::{load_short, low_long};
 use crate::forms::{
     Registers, push_compared, push_high_product, push_left_shift, push_lowered, push_right_shift,
     push_signed_shift,
+};
+use crate::literals::{
+    begins_with_zero, cleared, displacement, literal, moved_constant, push_displaced,
+    push_literal_form, push_low_cleared, push_zero_form,
 };
 use crate::parts::{narrow, push_extended};
 use alpha_encode::{AlphaInstr, BranchOp, OperateOp, operate};
@@ -135,6 +140,22 @@ fn push_behind_first(
     }
 }
 
+fn push_register_code(
+    words: &mut Vec<AlphaInstr>,
+    op: MicroOp,
+    size: Size,
+    a: Arg,
+    b: Arg,
+    to: u8,
+) -> Result<(), AllocError>
+    requires a { IsArgument a }
+    requires b { is_unary op ≡ false → IsArgument b }
+    ensures { OnOk result (words.new.items ≡ words.old.items ++ register_code op size a b to) }
+{
+    push_load(words, size, a, SCRATCH)?;
+    push_behind_first(words, op, size, a, b, to)
+}
+
 fn compute_code(
     alloc: Global,
     op: MicroOp,
@@ -148,8 +169,23 @@ fn compute_code(
     ensures { IfOk result (λ words. words.items ≡ compute_code op size a b to) }
 {
     let mut words = Vec::new(alloc);
-    push_load(&mut words, size, a, SCRATCH)?;
-    push_behind_first(&mut words, op, size, a, b, to)?;
+    if let Some(value) = moved_constant(op, size, a) {
+        words.push(load_short(to, low_long(value)))?;
+    } else if let Some(value) = displacement(op, size, b) {
+        push_load(&mut words, size, a, SCRATCH)?;
+        push_displaced(&mut words, size, first_register(size, a), value, to)?;
+    } else if let Some(value) = cleared(op, b) {
+        push_load(&mut words, size, a, SCRATCH)?;
+        push_low_cleared(&mut words, size, first_register(size, a), value, to)?;
+    } else if let Some(literal) = literal(op, size, b) {
+        push_load(&mut words, size, a, SCRATCH)?;
+        push_literal_form(&mut words, op, size, first_register(size, a), literal, to)?;
+    } else if begins_with_zero(op, a) {
+        push_load(&mut words, size, b, SCRATCH)?;
+        push_zero_form(&mut words, op, size, first_register(size, b), to)?;
+    } else {
+        push_register_code(&mut words, op, size, a, b, to)?;
+    }
     Ok(words)
 }
 

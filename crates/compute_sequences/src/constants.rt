@@ -5,6 +5,7 @@ ghost use Rattle.alpha_encode.specs.Words.{IsEncodable};
 ghost use Rattle.micro_ops.specs.WordCounts.{argument_words};
 ghost use Rattle.compute_sequences.specs.Registers.{IsTarget, may_change};
 ghost use Rattle.compute_sequences.specs.Constants.{low_long, high_long, load_short, add_high, least_size, constant_code};
+ghost use Rattle.compute_sequences.specs.Words.{add_short};
 ghost use Rattle.compute_sequences.specs.Promises.{LeavesConstant, changes_only};
 
 use alpha_encode::registers::ZERO;
@@ -15,7 +16,7 @@ use micro_ops::Arg;
 use std::alloc::{AllocError, Global};
 use vax_form::{Size, WantOfMemory};
 
-fn low_long(value: u64) -> u32
+pub(crate) fn low_long(value: u64) -> u32
     ensures { result ≡ low_long value }
 {
     (value % (1 << 32)) as u32
@@ -43,7 +44,7 @@ fn based_on(instr: AlphaInstr, base: u8) -> AlphaInstr
     }
 }
 
-fn load_short(to: u8, value: u32) -> AlphaInstr
+pub(crate) fn load_short(to: u8, value: u32) -> AlphaInstr
     ensures { result ≡ load_short to value }
 {
     based_on(load_low(to, value), ZERO)
@@ -53,6 +54,13 @@ fn add_high(to: u8, value: u32) -> AlphaInstr
     ensures { result ≡ add_high to value }
 {
     based_on(load_high(to, value), to)
+}
+
+/// The low 16 bits of a value, with their sign, are added to a register.
+pub(crate) fn add_short(to: u8, x: u8, value: u64) -> AlphaInstr
+    ensures { result ≡ add_short to x value }
+{
+    based_on(load_low(to, low_long(value)), x)
 }
 
 /// A number below 2^15 is one displacement, whatever the size.

@@ -7,6 +7,7 @@ mod compute;
 mod constants;
 mod forms;
 mod laws;
+mod literals;
 mod overflow;
 mod parts;
 

@@ -22,7 +22,7 @@ pub(crate) fn bits_of(size: Size) -> u8
 }
 
 /// ZAPNOT's mask: a bit for each byte.
-fn mask_of(size: Size) -> u8
+pub(crate) fn mask_of(size: Size) -> u8
     ensures { result ≡ mask_of size }
 {
     match size {
