@@ -1,6 +1,6 @@
 -- The program of each operation keeps to its instruction.
 use Rattle.std.proofs.Common.{◌≡◌, ℕ, ◌%◌, ◌^◌, Bool, true, false, List, [], ◌∷◌, ◌++◌, Option, Some, None, refl, sym, subst, lit≤}
-use Rattle.std.specs.Prelude.{nat_lt}
+use Rattle.std.specs.Prelude.{nat_lt, if◌then◌else◌}
 use Rattle.std.proofs.lemmas.Option.{same_Some}
 use Rattle.vax_form.specs.Grammar.{IsSpelled}
 use Rattle.vax_form.specs.Operation.{operation_at}
@@ -35,11 +35,11 @@ use Rattle.micro_ops.specs.declared.program.MicroOp.TheVariants as ops
 use Rattle.operand_programs.specs.Operands.{IsTarget}
 use Rattle.micro_lower.specs.Lowering.{AreLongOperands, KeepsTo, computes_address}
 use Rattle.micro_lower.specs.Plans.{Plan, program_of, unary}
-use Rattle.micro_lower.specs.Programs.{flags_of, flag_test, inversion, branch_if_program, subroutine_program, return_program, plain_program_of}
+use Rattle.micro_lower.specs.Programs.{flags_of, is_negated, flag_test, condition_exit, branch_if_program, subroutine_program, return_program, plain_program_of}
 use Rattle.micro_lower.specs.Rows.{move_row, arithmetic_row, control_row, own_program_of, row_program_of, branch_exit, move_plan, clear_plan, move_zero_extended_plan, move_complemented_plan, move_negated_plan, convert_plan, move_address_plan, push_address_plan, push_long_plan, compare_plan, test_plan, bit_test_plan, by_one_plan, two_operands_plan, three_operands_plan, low_bit_plan, subtract_one_plan, add_one_plan, add_compare_plan, jump_plan, jump_to_subroutine_plan, add_with_carry_plan, change_mode_plan, subtract_with_carry_plan, rotate_plan, arithmetic_shift_plan, shifted_by, overflow_of_shift_by, before_shift, behind_shift, before_rotation, change_psw_plan, bit_tested, bit_stored, byte_program, before_bit, literal_position, masked, mask_stored, mask_program, byte_of, before_literal, before_bit_at, bit_exit, bit_branch_plan, before_aligned, add_aligned_plan, move_psl_plan}
 use Rattle.micro_lower.proofs.Covered.{targeted}
 use Rattle.micro_lower.proofs.Inner.{IsInner, joined}
-use Rattle.micro_lower.proofs.Keeping.{Ends, ExitKeeps, keeps, ends_here, next_keeps, breakpoint_keeps, branch_fixed, fixed_keeps, choice_keeps, choice_kept, computed_keeps, jump_computes_for, jump_keeps, plan_keeps}
+use Rattle.micro_lower.proofs.Keeping.{Ends, ExitKeeps, IsFixed, keeps, ends_here, next_keeps, breakpoint_keeps, branch_fixed, fixed_keeps, choice_keeps, choice_kept, computed_keeps, jump_computes_for, jump_keeps, plan_keeps}
 use Rattle.micro_lower.proofs.Lowered.{slots_of, second, third, fourth}
 use Rattle.micro_lower.proofs.ProductLower.{product_keeps}
 use Rattle.micro_lower.proofs.Spelled.{Given, given}
@@ -60,20 +60,37 @@ displaced instr width operation spelled is row =
     subst (λ i. IsTarget (operand i 0)) (sym t.1) tt
 
 -- a program that is an exit alone, or a test and an exit
-branch_if_ends : (condition : Condition) (taken after : _) → Ends (code_use_of (operations.BranchIf condition)).reads (exits.Choice 0 taken after) (branch_if_program condition taken after)
+branch_if_ends : (condition : Condition) (taken after : _) → Ends (code_use_of (operations.BranchIf condition)).reads (condition_exit condition taken after) (branch_if_program condition taken after)
 unfolding code_use_of tested_by
-branch_if_ends conditions.NotEqual taken after = ends_here _ (exits.Choice 0 taken after) (flag_test (flags_of conditions.NotEqual) ∷ inversion ∷ []) refl
+branch_if_ends conditions.NotEqual taken after = ends_here _ (exits.Choice 0 after taken) (flag_test (flags_of conditions.NotEqual) ∷ []) refl
 branch_if_ends conditions.Equal taken after = ends_here _ (exits.Choice 0 taken after) (flag_test (flags_of conditions.Equal) ∷ []) refl
-branch_if_ends conditions.Greater taken after = ends_here _ (exits.Choice 0 taken after) (flag_test (flags_of conditions.Greater) ∷ inversion ∷ []) refl
+branch_if_ends conditions.Greater taken after = ends_here _ (exits.Choice 0 after taken) (flag_test (flags_of conditions.Greater) ∷ []) refl
 branch_if_ends conditions.LessOrEqual taken after = ends_here _ (exits.Choice 0 taken after) (flag_test (flags_of conditions.LessOrEqual) ∷ []) refl
-branch_if_ends conditions.GreaterOrEqual taken after = ends_here _ (exits.Choice 0 taken after) (flag_test (flags_of conditions.GreaterOrEqual) ∷ inversion ∷ []) refl
+branch_if_ends conditions.GreaterOrEqual taken after = ends_here _ (exits.Choice 0 after taken) (flag_test (flags_of conditions.GreaterOrEqual) ∷ []) refl
 branch_if_ends conditions.Less taken after = ends_here _ (exits.Choice 0 taken after) (flag_test (flags_of conditions.Less) ∷ []) refl
-branch_if_ends conditions.GreaterUnsigned taken after = ends_here _ (exits.Choice 0 taken after) (flag_test (flags_of conditions.GreaterUnsigned) ∷ inversion ∷ []) refl
+branch_if_ends conditions.GreaterUnsigned taken after = ends_here _ (exits.Choice 0 after taken) (flag_test (flags_of conditions.GreaterUnsigned) ∷ []) refl
 branch_if_ends conditions.LessOrEqualUnsigned taken after = ends_here _ (exits.Choice 0 taken after) (flag_test (flags_of conditions.LessOrEqualUnsigned) ∷ []) refl
-branch_if_ends conditions.OverflowClear taken after = ends_here _ (exits.Choice 0 taken after) (flag_test (flags_of conditions.OverflowClear) ∷ inversion ∷ []) refl
+branch_if_ends conditions.OverflowClear taken after = ends_here _ (exits.Choice 0 after taken) (flag_test (flags_of conditions.OverflowClear) ∷ []) refl
 branch_if_ends conditions.OverflowSet taken after = ends_here _ (exits.Choice 0 taken after) (flag_test (flags_of conditions.OverflowSet) ∷ []) refl
-branch_if_ends conditions.CarryClear taken after = ends_here _ (exits.Choice 0 taken after) (flag_test (flags_of conditions.CarryClear) ∷ inversion ∷ []) refl
+branch_if_ends conditions.CarryClear taken after = ends_here _ (exits.Choice 0 after taken) (flag_test (flags_of conditions.CarryClear) ∷ []) refl
 branch_if_ends conditions.CarrySet taken after = ends_here _ (exits.Choice 0 taken after) (flag_test (flags_of conditions.CarrySet) ∷ []) refl
+
+-- the exit of a conditional branch goes nowhere else
+condition_computes : (condition : Condition) (taken after : _) → leaves_computed (Leave (condition_exit condition taken after)) ≡ false
+condition_computes condition taken after = by (is_negated condition)
+  where
+    by : (b : Bool) → leaves_computed (Leave (if b then exits.Choice 0 after taken else exits.Choice 0 taken after)) ≡ false
+    by true = refl
+    by false = refl
+
+condition_keeps : (condition : Condition) (instr : Instr) (address : _) → operation_at instr.opcode ≡ Some (operations.BranchIf condition) → IsFixed instr address
+    → ExitKeeps instr (condition_exit condition address instr.after)
+unfolding code_use_of tested_by
+condition_keeps condition instr address is fixed = by (is_negated condition)
+  where
+    by : (b : Bool) → ExitKeeps instr (if b then exits.Choice 0 instr.after address else exits.Choice 0 address instr.after)
+    by true = choice_kept (operations.BranchIf condition) instr is refl 0 address fixed
+    by false = choice_keeps (operations.BranchIf condition) instr is refl 0 address fixed
 
 subroutine_ends : (set : Flags) (to after : ℕ) → Ends set (exits.Fixed to) (subroutine_program to after)
 subroutine_ends set to after =
@@ -98,7 +115,7 @@ plain_keep (operations.Branch width) instr program spelled long is made =
 plain_keep (operations.BranchIf condition) instr program spelled long is made =
     let fixed = branch_fixed instr 0 (displaced instr Byte _ spelled is refl) in
     let to = target (operand instr 0) in
-    subst (KeepsTo instr) (same_Some _ _ made) (keeps (operations.BranchIf condition) instr (exits.Choice 0 to instr.after) _ is (branch_if_ends condition to instr.after) refl (choice_keeps _ instr is refl 0 to fixed))
+    subst (KeepsTo instr) (same_Some _ _ made) (keeps (operations.BranchIf condition) instr (condition_exit condition to instr.after) _ is (branch_if_ends condition to instr.after) (condition_computes condition to instr.after) (condition_keeps condition instr to is fixed))
 plain_keep (operations.BranchToSubroutine width) instr program spelled long is made =
     let fixed = branch_fixed instr 0 (displaced instr (size_of width) _ spelled is refl) in
     let to = target (operand instr 0) in

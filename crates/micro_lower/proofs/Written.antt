@@ -17,17 +17,19 @@ use Rattle.vax_form.specs.declared.operation.BinaryOperation.TheVariants as bina
 use Rattle.vax_form.specs.declared.operation.BitStore.{BitStore}
 use Rattle.vax_form.specs.declared.operation.BitStore.TheVariants as stores
 use Rattle.vax_form.specs.declared.operation.Condition.{Condition}
-use Rattle.vax_form.specs.declared.operation.Condition.TheVariants as conditions
 use Rattle.vax_form.specs.declared.operation.Operation.{Operation}
 use Rattle.vax_form.specs.declared.operation.Operation.TheVariants as operations
+use Rattle.vax_meaning.specs.Branches.{target}
 use Rattle.vax_meaning.specs.Evaluation.{operand}
 use Rattle.micro_ops.specs.Sources.{sources_of}
+use Rattle.micro_ops.specs.declared.program.Exit.{Exit}
 use Rattle.micro_ops.specs.declared.program.Micro.{Micro}
+use Rattle.micro_ops.specs.declared.program.Micro.TheVariants.{Leave}
 use Rattle.micro_ops.specs.declared.program.MicroOp.TheVariants as ops
 use Rattle.operand_programs.specs.InOrder.{operands_program, steps_behind_all, no_steps}
 use Rattle.micro_lower.specs.Lowering.{ProgramsWriteOperands, WritesOperand}
 use Rattle.micro_lower.specs.Plans.{Plan, specifiers_from, rest_program, program_of}
-use Rattle.micro_lower.specs.Programs.{branch_if_program, plain_program_of}
+use Rattle.micro_lower.specs.Programs.{flags_of, flag_test, condition_exit, branch_if_program, plain_program_of}
 use Rattle.micro_lower.specs.Rows.{move_row, arithmetic_row, control_row, own_program_of, row_program_of, program_of_operation, program_for, register_target, before_aligned, add_aligned_plan, behind_binary, low_bit_plan, subtract_one_plan, add_one_plan, bit_tested, bit_stored, byte_program, before_bit, bit_target, literal_position, masked, mask_stored, mask_program, byte_of, before_literal, before_bit_at, bit_branch_plan, factors, product_program, extended_multiply_plan, extended_multiply_program, move_plan, move_zero_extended_plan, clear_plan, move_complemented_plan, move_negated_plan, convert_plan, move_address_plan, push_address_plan, push_long_plan, compare_plan, test_plan, bit_test_plan, two_operands_plan, three_operands_plan, by_one_plan, add_compare_plan, jump_plan, jump_to_subroutine_plan, add_with_carry_plan, subtract_with_carry_plan, arithmetic_shift_plan, rotate_plan, shifted_by, overflow_of_shift_by, before_shift, behind_shift, before_rotation, move_psl_plan, change_psw_plan, change_mode_plan}
 use Rattle.micro_lower.proofs.Bytes.{HaveBytes, TargetHas, joined, plan_has, push_has, quiet_has, replacement_has, rest_have, result_has}
 use Rattle.micro_lower.proofs.Quiet.{operands_quiet}
@@ -221,16 +223,19 @@ rows_have operations.ChangeMode instr = by_plan operations.ChangeMode change_mod
 rows_have _ instr = λ program made. cc
 
 -- ---- operations that evaluate no operand specifier
+test_has : (flags : ℕ × Option ℕ) (exit : Exit) → HaveBytes 0 (flag_test flags ∷ Leave exit ∷ [])
+test_has (first, None) exit = refl
+test_has (first, Some second) exit = refl
+
 branch_if_has : (condition : Condition) (target after : ℕ) → HaveBytes 0 (branch_if_program condition target after)
-branch_if_has conditions.NotEqual target after = refl
-branch_if_has _ target after = refl
+branch_if_has condition target after = test_has (flags_of condition) (condition_exit condition target after)
 
 plain_have : (operation : Operation) (instr : Instr) → ProgramHas (written_bytes operation) (plain_program_of operation instr)
 unfolding plain_program_of written_bytes
 plain_have operations.NoOperation instr program made = subst (HaveBytes 0) (same_Some _ _ made) refl
 plain_have operations.Breakpoint instr program made = subst (HaveBytes 0) (same_Some _ _ made) refl
 plain_have (operations.Branch width) instr program made = subst (HaveBytes 0) (same_Some _ _ made) refl
-plain_have (operations.BranchIf condition) instr program made = subst (HaveBytes 0) (same_Some _ _ made) (branch_if_has condition _ instr.after)
+plain_have (operations.BranchIf condition) instr program made = subst (HaveBytes 0) (same_Some _ _ made) (branch_if_has condition (target (operand instr 0)) instr.after)
 plain_have (operations.BranchToSubroutine width) instr program made = subst (HaveBytes (bytes_of Long)) (same_Some _ _ made) refl
 plain_have operations.ReturnFromSubroutine instr program made = subst (HaveBytes 0) (same_Some _ _ made) refl
 plain_have _ instr program made = cc

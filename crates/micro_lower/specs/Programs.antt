@@ -10,7 +10,8 @@ use Rattle.vax_form.specs.declared.operation.Operation.TheVariants.{NoOperation,
 use Rattle.vax_form.specs.declared.operation.Condition.TheVariants.{NotEqual, Equal, Greater, LessOrEqual, GreaterOrEqual, Less, GreaterUnsigned, LessOrEqualUnsigned, OverflowClear, OverflowSet, CarryClear, CarrySet}
 use Rattle.vax_meaning.specs.Branches.{target}
 use Rattle.vax_meaning.specs.Evaluation.{operand}
-use Rattle.micro_ops.specs.declared.program.Arg.TheVariants.{Temp, Register, Flag, Const}
+use Rattle.micro_ops.specs.declared.program.Arg.TheVariants.{Register, Flag, Const}
+use Rattle.micro_ops.specs.declared.program.Exit.{Exit}
 use Rattle.micro_ops.specs.declared.program.Exit.TheVariants.{Next, Fixed, Computed, Choice, Breakpoint}
 use Rattle.micro_ops.specs.declared.program.Micro.{Micro}
 use Rattle.micro_ops.specs.declared.program.Micro.TheVariants.{Compute, Probe, Read, Write, Commit, Leave}
@@ -58,16 +59,13 @@ abbrev pub flag_test : ℕ × Option ℕ → Micro
 flag_test (first, None) = Compute 0 ops.Move Byte (Flag first) (Const 0)
 flag_test (first, Some second) = Compute 0 ops.Or Byte (Flag first) (Flag second)
 
--- 1 for 0, and 0 for 1
-abbrev pub inversion : Micro
-inversion = Compute 0 ops.Xor Byte (Temp 0) (Const 1)
+-- a condition that holds where none of its flags is set goes elsewhere where one is
+abbrev pub condition_exit : Condition → (target after : ℕ) → Exit
+condition_exit condition target after = if is_negated condition then Choice 0 after target else Choice 0 target after
 
 -- BNEQ to BCS
 abbrev pub branch_if_program : Condition → (target after : ℕ) → List Micro
-branch_if_program condition target after =
-    if is_negated condition
-    then flag_test (flags_of condition) ∷ inversion ∷ Leave (Choice 0 target after) ∷ []
-    else flag_test (flags_of condition) ∷ Leave (Choice 0 target after) ∷ []
+branch_if_program condition target after = flag_test (flags_of condition) ∷ Leave (condition_exit condition target after) ∷ []
 
 -- BSB
 abbrev pub subroutine_program : (target after : ℕ) → List Micro

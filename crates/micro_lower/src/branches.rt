@@ -3,10 +3,9 @@
 ghost use Rattle.std.specs.Prelude.{◌≡◌, ◌∷◌, [], IfOk, MatchOption};
 ghost use Rattle.vax_meaning.specs.Branches.{target};
 ghost use Rattle.vax_meaning.specs.Evaluation.{operand};
-ghost use Rattle.micro_lower.specs.Programs.{flags_of, is_negated, flag_test, branch_if_program, subroutine_program, return_program, plain_program_of};
+ghost use Rattle.micro_lower.specs.Programs.{flags_of, is_negated, flag_test, condition_exit, branch_if_program, subroutine_program, return_program, plain_program_of};
 
 use crate::micros::{binary, unary};
-use crate::rows::INVERTED;
 use micro_ops::{Arg, Exit, Micro, MicroOp};
 use std::alloc::{AllocError, Global};
 use vax_form::{Condition, Instr, Operation, SP, Size};
@@ -65,6 +64,22 @@ fn leave(alloc: Global, exit: Exit) -> Result<Vec<Micro>, AllocError>
     Ok(vec![in alloc; Micro::Leave(exit)]?)
 }
 
+/// A condition that holds where none of its flags is set goes elsewhere where one is.
+fn condition_exit(condition: Condition, target: u32, after: u32) -> Exit
+    ensures { result ≡ condition_exit condition target after }
+{
+    let (taken, other) = if is_negated(condition) {
+        (after, target)
+    } else {
+        (target, after)
+    };
+    Exit::Choice {
+        when: 0,
+        taken,
+        other,
+    }
+}
+
 /// BNEQ to BCS.
 fn conditional_branch(
     alloc: Global,
@@ -74,16 +89,8 @@ fn conditional_branch(
     ensures { IfOk result (λ p. p.items ≡ branch_if_program condition (target (operand instr.now 0)) instr.now.after) }
 {
     let test = flag_test(flags_of(condition));
-    let leave = Micro::Leave(Exit::Choice {
-        when: 0,
-        taken: target(instr.operands[0]),
-        other: instr.after,
-    });
-    if is_negated(condition) {
-        Ok(vec![in alloc; test, INVERTED, leave]?)
-    } else {
-        Ok(vec![in alloc; test, leave]?)
-    }
+    let exit = condition_exit(condition, target(instr.operands[0]), instr.after);
+    Ok(vec![in alloc; test, Micro::Leave(exit)]?)
 }
 
 const STACK: Arg = Arg::Register(SP);
