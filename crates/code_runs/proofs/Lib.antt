@@ -7,4 +7,3 @@ pub mod Alone
 pub mod Meeting
 pub mod Searched
 pub mod Entering
-pub mod LongCodes

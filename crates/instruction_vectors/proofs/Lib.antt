@@ -1,1 +1,2 @@
 mod Simulator
+mod LongForms

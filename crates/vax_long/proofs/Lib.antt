@@ -2,7 +2,6 @@ pub mod Stops
 pub mod RegisterSteps
 pub mod StringSteps
 pub mod PageSteps
-pub mod LongForms
 pub mod TreesAt
 pub mod Seeing
 pub mod Deliveries

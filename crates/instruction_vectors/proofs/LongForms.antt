@@ -22,7 +22,7 @@ abbrev form : List ℕ → Option Bool
 form bytes = form_in (page_of bytes) (found (page_of bytes) 0x200)
 
 -- CALLS #0 and CALLG (R1) to a destination that is fixed
-pub calls_to_fixed :
+calls_to_fixed :
     (form (0xFB ∷ 0x00 ∷ 0x9F ∷ 0x10 ∷ 0x02 ∷ 0x00 ∷ 0x00 ∷ []) ≡ Some true)
     × (form (0xFB ∷ 0x00 ∷ 0xAF ∷ 0x10 ∷ []) ≡ Some true)
     × (form (0xFB ∷ 0x00 ∷ 0xEF ∷ 0x10 ∷ 0x00 ∷ 0x00 ∷ 0x00 ∷ []) ≡ Some true)
@@ -32,7 +32,7 @@ unfolding found fetched found_in mode_of is_reserved_mode is_reserved_base exten
 calls_to_fixed = (refl, refl, refl, refl, refl)
 
 -- to one that is deferred, indexed or by a register
-pub calls_to_computed :
+calls_to_computed :
     (form (0xFB ∷ 0x00 ∷ 0xBF ∷ 0x10 ∷ []) ≡ Some false)
     × (form (0xFB ∷ 0x00 ∷ 0x42 ∷ 0x9F ∷ 0x10 ∷ 0x02 ∷ 0x00 ∷ 0x00 ∷ []) ≡ Some false)
     × (form (0xFB ∷ 0x00 ∷ 0x62 ∷ []) ≡ Some false)
@@ -46,7 +46,7 @@ unfolding found fetched found_in mode_of is_reserved_mode is_reserved_base exten
 calls_to_computed = (refl, refl, refl, refl, refl, refl, refl, refl, refl)
 
 -- the entry masks CFFF, 1000 and 2000 behind the instruction, and at the last bytes of the page
-pub entry_masks :
+entry_masks :
     (form (0xFB ∷ 0x00 ∷ 0xAF ∷ 0x00 ∷ 0xFF ∷ 0xCF ∷ []) ≡ Some true)
     × (form (0xFB ∷ 0x00 ∷ 0xAF ∷ 0x00 ∷ 0x00 ∷ 0x10 ∷ []) ≡ Some false)
     × (form (0xFB ∷ 0x00 ∷ 0xAF ∷ 0x00 ∷ 0x00 ∷ 0x20 ∷ []) ≡ Some false)
@@ -57,7 +57,7 @@ unfolding found fetched found_in mode_of is_reserved_mode is_reserved_base exten
 entry_masks = (refl, refl, refl, refl, refl, refl)
 
 -- MOVC3, MOVC5, RET and NOP
-pub others :
+others :
     (form (0x28 ∷ 0x04 ∷ 0x61 ∷ 0x62 ∷ []) ≡ Some true)
     × (form (0x2C ∷ 0x04 ∷ 0x61 ∷ 0x00 ∷ 0x04 ∷ 0x62 ∷ []) ≡ Some false)
     × (form (0x04 ∷ []) ≡ Some false)
