@@ -1,7 +1,7 @@
 -- Words ready to be run.
-use Rattle.std.proofs.Common.{◌≡◌, ◌≢◌, ℕ, zero, suc, ◌+◌, ◌-◌, ◌%◌, ◌^◌, ◌<◌, ◌≤◌, if◌then◌else◌, Bool, true, false, nat_lt, ltb-true, ltb-false, List, length, get_or, Option, Some, None, refl, sym, ap, ◌∙◌, subst, inl, inr, ◌⊎◌, ⊎_elim, arith}
+use Rattle.std.proofs.Common.{◌≡◌, ◌≢◌, ℕ, ◌+◌, ◌-◌, ◌%◌, ◌^◌, ◌<◌, ◌≤◌, if◌then◌else◌, Bool, true, false, List, length, get_or, Option, Some, None, refl, sym, ap, ◌∙◌, subst, inl, inr, ◌⊎◌, arith}
 use Rattle.std.specs.Int.{w32}
-use Rattle.std.specs.Prelude.{ℤ, ◌==◌, pos, negsuc, ◌≤ℤ◌, ◌<ℤ◌, FitsSigned, is_some, not, option_and_then, slice_get}
+use Rattle.std.specs.Prelude.{ℤ, ◌==◌, pos, negsuc, ◌≤ℤ◌, ◌<ℤ◌, FitsSigned, is_some, option_and_then, slice_get}
 use Rattle.std.proofs.Math.ListN.{set}
 use Rattle.std.proofs.lemmas.Bool.{eqb-true}
 use Rattle.std.proofs.lemmas.Int.{ints}
@@ -13,23 +13,33 @@ use Rattle.alpha_encode.specs.declared.instr.AlphaInstr.TheVariants.{Branch}
 use Rattle.alpha_encode.specs.declared.instr.BranchOp.{BranchOp}
 use Rattle.alpha_encode.specs.declared.instr.BranchOp.TheVariants as row
 use Rattle.alpha_encode.specs.declared.instr.OperateOp.TheVariants.{Bis}
-use Rattle.alpha_meaning.specs.Act.{links, link_of, taken, target_of}
+use Rattle.alpha_meaning.specs.Act.{act, links, link_of, taken, target_of}
 use Rattle.alpha_meaning.specs.Result.{result_of}
 use Rattle.alpha_meaning.specs.State.{Alpha, Regs, at_place, put, regs_of}
 use Rattle.block_law.specs.Translations.{Code, fetch_of}
-use Rattle.prepared_code.specs.Flats.{AreFlat, AreStraight, IsAlone, IsFlat, IsFlatOf, IsInForm, IsItsWay, IsLanding, IsNothing, IsStraight, StaysBehind, effect, operand}
+use Rattle.prepared_code.specs.Effects.{local}
+use Rattle.prepared_code.specs.Flats.{AreFlat, IsFlat, IsInForm, IsItsWay, IsLanding, IsNothing, IsStraight, effect, operand}
 use Rattle.prepared_code.specs.Inside.{local_by, step_in, unless_begun}
-use Rattle.prepared_code.specs.Prepared.{AreEncodable, AreReady, IsNumber}
+use Rattle.prepared_code.specs.Prepared.{AreEncodable, AreReady}
 use Rattle.prepared_code.specs.declared.flat.Flat.{Flat}
 use Rattle.prepared_code.specs.declared.flat.Way.{Way}
 use Rattle.prepared_code.specs.declared.flat.Way.TheVariants as way
-use Rattle.prepared_code.proofs.Words.{is_mark, ready_at}
 use Rattle.prepared_code.specs.declared.prepared.Word.{Word}
 
--- no block begins at a word whose number is 0
-pub none_begins : (ready : List Word) (word : ℕ) (w : Word) → word < length ready → w ≡ get_or ready word w → w.block ≡ 0 → (code : Code) → AreReady code.words code.map ready (length code.words) → address_at code.map word ≡ None
-none_begins ready word w within found none code are =
-    subst (IsNumber code.map word) none (ready_at code.words code.map ready word w are within found).block
+-- ---- what is told of a word for itself
+-- an instruction does what a flat word says
+abbrev pub IsFlatOf : AlphaInstr → Flat → Type 0
+IsFlatOf i f = (r : List ℕ) (pc : ℕ) → local (act i (at_place (regs_of r) pc)) ≡ Some (at_place (effect f (regs_of r)) (pc + 1))
+
+-- a branch writes no register, and no block begins at the next word where it may go there
+abbrev pub StaysBehind : Code → (place : ℕ) → BranchOp → (a : ℕ) → Type 0
+StaysBehind code place op a = ((links op ≡ true) × (a ≡ 31)) ⊎ ((links op ≡ false) × (address_at code.map (place + 1) ≡ None))
+
+-- a word for itself: those behind it aren't counted
+pub record IsAlone (code : Code) (place : ℕ) (f : Flat) : Type 0 where
+  pub few : f.number ≤ 1
+  pub straight : f.number ≡ 1 → IsStraight code place f
+  pub its_way : IsItsWay code place f f.way
 
 -- ---- one word
 -- the next local step, where the word's instruction is known
@@ -95,14 +105,21 @@ is_branch code place op f disp fetched none it a target there inside behind =
       step = branches code place op f.a f.literal disp fetched there inside behind;
     })
 
-pub is_landing : (code : Code) (place a : ℕ) (f : Flat) (disp : ℤ) → fetch_of code.words place ≡ Some (Branch row.Br a disp) → a ≡ 31 → f.number ≡ 0 → f.way ≡ way.Lands → f.literal < 2 ^ 32 → f.literal ≡ target_of place disp
-    → is_some (address_at code.map f.literal) ≡ true → IsAlone code place f
-is_landing code place a f disp fetched r31 none it target there begins =
+-- where a branch is taken whatever the registers hold, and writes R31
+goes_there : (op : BranchOp) (place a target : ℕ) (disp : ℤ) → links op ≡ true → a ≡ 31 → target ≡ target_of place disp → (regs : Regs)
+    → local_by (Some (Branch op a disp)) (at_place regs place) ≡ Some (at_place regs target)
+goes_there row.Br place a target disp always r31 there regs =
+    ap (λ n. local_by (Some (Branch row.Br n disp)) (at_place regs place)) r31 ∙ ap (λ n. Some (at_place regs n)) (sym there)
+goes_there row.Bsr place a target disp always r31 there regs =
+    ap (λ n. local_by (Some (Branch row.Bsr n disp)) (at_place regs place)) r31 ∙ ap (λ n. Some (at_place regs n)) (sym there)
+goes_there op place a target disp always r31 there regs = cc always
+
+pub is_landing : (code : Code) (place a : ℕ) (op : BranchOp) (f : Flat) (disp : ℤ) → fetch_of code.words place ≡ Some (Branch op a disp) → links op ≡ true → a ≡ 31 → f.number ≡ 0 → f.way ≡ way.Lands → f.literal < 2 ^ 32
+    → f.literal ≡ target_of place disp → is_some (address_at code.map f.literal) ≡ true → IsAlone code place f
+is_landing code place a op f disp fetched always r31 none it target there begins =
     its_way code place f way.Lands none it (record {
       target = target;
-      goes = λ regs.
-          ap (λ o. local_by o (at_place regs place)) (fetched ∙ ap (λ n. Some (Branch row.Br n disp)) r31)
-          ∙ ap (λ n. Some (at_place regs n)) (sym there);
+      goes = λ regs. ap (λ o. local_by o (at_place regs place)) fetched ∙ goes_there op place a f.literal disp always r31 there regs;
       begins = begins;
     })
 
@@ -123,10 +140,6 @@ lands_outside code place f is regs = ap (option_and_then (λ (e : Alpha). unless
     by None e = cc e
     by (Some address) e = refl
 
-pub some_begins : (ready : List Word) (word : ℕ) (w : Word) → word < length ready → w ≡ get_or ready word w → not (w.block == 0) ≡ true → (code : Code) → AreReady code.words code.map ready (length code.words)
-    → is_some (address_at code.map word) ≡ true
-some_begins ready word w within found begun code are = sym (is_mark code.map word w.block (ready_at code.words code.map ready word w are within found).block) ∙ begun
-
 -- a word that computes, and behind which no block begins
 pub is_alone : (code : Code) (place : ℕ) (i : AlphaInstr) (f : Flat) → fetch_of code.words place ≡ Some i → address_at code.map (place + 1) ≡ None → IsInForm f → IsFlatOf i f → f.number ≡ 1 → f.way ≡ way.Other
     → IsAlone code place f
@@ -136,16 +149,16 @@ is_alone code place i f fetched inside has is one none = record {
   its_way = subst (IsItsWay code place f) (sym none) tt;
 }
 
--- ---- one more word in front
+-- ---- one word put in, and looked up
 same : {X : Type 0} (x y : X) → Some x ≡ Some y → x ≡ y
 same x y e = cc e
 
 -- the word that was put in, and the others as they were
-put_in : (old : List Flat) (place : ℕ) (g f : Flat) → place < length old → slice_get (set old place g) place ≡ Some f → g ≡ f
+pub put_in : (old : List Flat) (place : ℕ) (g f : Flat) → place < length old → slice_get (set old place g) place ≡ Some f → g ≡ f
 put_in old place g f within found =
     same g f (sym (ap Some (get_or-set_same old place g g within)) ∙ sym (slice_get-get_or (set old place g) place g (omega (arith, within, length-set old place g))) ∙ found)
 
-others : (old : List Flat) (place k : ℕ) (g f : Flat) → k ≢ place → slice_get (set old place g) k ≡ Some f → slice_get old k ≡ Some f
+pub others : (old : List Flat) (place k : ℕ) (g f : Flat) → k ≢ place → slice_get (set old place g) k ≡ Some f → slice_get old k ≡ Some f
 others old place k g f apart found =
     let within = slice_get_within (set old place g) k f found in
     slice_get-get_or old k f (omega (arith, within, length-set old place g))
@@ -153,12 +166,8 @@ others old place k g f apart found =
     ∙ sym (slice_get-get_or (set old place g) k f within)
     ∙ found
 
--- what is straight behind the word is so still
-pub straight_still : (code : Code) (old : List Flat) (place first count : ℕ) (g : Flat) → place < first → AreStraight code old first count → AreStraight code (set old place g) first count
-straight_still code old place first count g before are k f h found = are k f h (others old place (first + k) g f (λ e. omega (arith, before, e)) found)
-
 -- neither its number nor a guess says whether a word is straight
-counted : (code : Code) (place number within : ℕ) (f : Flat) → IsStraight code place f → IsStraight code place (record f { number = number; within = within })
+pub counted : (code : Code) (place number within : ℕ) (f : Flat) → IsStraight code place f → IsStraight code place (record f { number = number; within = within })
 counted code place number within f is = let has = is.form.registers in record {
   form = record {
     registers = record { a = has.a; b = has.b; c = has.c; second = has.second };
@@ -168,57 +177,11 @@ counted code place number within f is = let has = is.form.registers in record {
 }
 
 -- nor what else it does
-counted_way : (code : Code) (place number within : ℕ) (f : Flat) (w : Way) → IsItsWay code place f w → IsItsWay code place (record f { number = number; within = within }) w
+pub counted_way : (code : Code) (place number within : ℕ) (f : Flat) (w : Way) → IsItsWay code place f w → IsItsWay code place (record f { number = number; within = within }) w
 counted_way code place number within f way.Other is = tt
 counted_way code place number within f way.Stops is = is
 counted_way code place number within f way.Lands is = record { target = is.target; goes = is.goes; begins = is.begins }
 counted_way code place number within f (way.Branches op) is = record { register = is.register; target = is.target; step = is.step }
-
-pub one_more_straight : (code : Code) (old : List Flat) (place run number within : ℕ) (f : Flat) → place < length old → IsAlone code place f → AreStraight code old (place + 1) run
-    → (number ≡ 0) ⊎ ((f.number ≢ 0) × (number ≤ run + 1)) → AreStraight code (set old place (record f { number = number; within = within })) place number
-one_more_straight code old place run number within f here alone are (inl none) k h l found = absurd (omega (arith, l, none))
-one_more_straight code old place run number within f here alone are (inr (some, few)) zero h l found =
-    let same : place + 0 ≡ place = omega arith in
-    subst (λ i. IsStraight code i h) (sym same)
-    (subst (IsStraight code place) (put_in old place (record f { number = number; within = within }) h here (ap (slice_get (set old place (record f { number = number; within = within }))) (sym same) ∙ found))
-    (counted code place number within f (alone.straight (omega (arith, some, alone.few)))))
-one_more_straight code old place run number within f here alone are (inr (some, few)) (suc k) h l found =
-    let there : place + suc k ≡ place + 1 + k = omega arith in
-    let g : Flat = record f { number = number; within = within } in
-    subst (λ i. IsStraight code i h) (sym there)
-    (are k h (omega (arith, l, few)) (others old place (place + 1 + k) g h (λ e. omega (arith, e)) (ap (slice_get (set old place g)) (sym there) ∙ found)))
-
--- so many words from the end on
-pub record AreFlatFrom (code : Code) (flats : List Flat) (from straight : ℕ) : Type 0 where
-  pub run : AreStraight code flats from straight
-  pub each : (k : ℕ) (f : Flat) → from ≤ k → slice_get flats k ≡ Some f → IsFlat code flats k f
-
-pub one_more_flat : (code : Code) (old : List Flat) (place run number within : ℕ) (f : Flat) → place < length old → place + 1 + run ≤ length old → IsAlone code place f → AreFlatFrom code old (place + 1) run
-    → (number ≡ 0) ⊎ ((f.number ≢ 0) × (number ≤ run + 1)) → AreFlatFrom code (set old place (record f { number = number; within = within })) place number
-one_more_flat code old place run number within f here fits alone are few =
-    let g : Flat = record f { number = number; within = within } in
-    let new = set old place g in
-    let straight = one_more_straight code old place run number within f here alone are.run few in
-    let counted = length-set old place g in
-    let inside : place + number ≤ length new = (⊎_elim (λ e. omega (arith, e, here, counted)) (λ (p : (f.number ≢ 0) × (number ≤ run + 1)). omega (arith, p.1, fits, counted)) few) in
-    let it : IsFlat code new place g = record { within = inside; straight = straight; its_way = counted_way code place number within f f.way alone.its_way } in
-    record {
-      run = straight;
-      each = λ k h l found. by k h l found (nat_lt place k) refl it;
-    }
-  where
-    by : (k : ℕ) (h : Flat) → place ≤ k → slice_get (set old place (record f { number = number; within = within })) k ≡ Some h → (b : Bool) → nat_lt place k ≡ b
-        → IsFlat code (set old place (record f { number = number; within = within })) place (record f { number = number; within = within }) → IsFlat code (set old place (record f { number = number; within = within })) k h
-    by k h l found true e it =
-        let g : Flat = record f { number = number; within = within } in
-        let behind = ltb-true place k e in
-        let before = are.each k h (omega (arith, behind)) (others old place k g h (λ q. omega (arith, behind, q)) found) in
-        let counted = length-set old place g in
-        record { within = omega (arith, before.within, counted); straight = straight_still code old place k h.number g behind before.straight; its_way = before.its_way }
-    by k h l found false e it =
-        let at : place ≡ k = omega (arith, l, ltb-false place k e) in
-        subst (λ i. IsFlat code (set old place (record f { number = number; within = within })) i h) at
-        (subst (IsFlat code (set old place (record f { number = number; within = within })) place) (put_in old place (record f { number = number; within = within }) h here (ap (slice_get (set old place (record f { number = number; within = within }))) at ∙ found)) it)
 
 -- a word that is looked up
 pub flat_there : (code : Code) (flats : List Flat) (place : ℕ) (f : Flat) → AreFlat code flats → place < length flats → f ≡ get_or flats place f → IsFlat code flats place f

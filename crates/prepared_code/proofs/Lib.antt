@@ -2,3 +2,4 @@ pub mod Steps
 pub mod Words
 pub mod Flats
 pub mod Landed
+pub mod Known

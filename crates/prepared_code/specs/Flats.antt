@@ -1,16 +1,13 @@
 -- Words ready to be run: an operation on registers each, or a branch, that goes on inside its block whatever the registers
 -- hold.
-use Rattle.std.specs.Prelude.{◌≡◌, ◌⊎◌, true, false, ℕ, ◌+◌, ◌^◌, ◌<◌, ◌≤◌, ◌==◌, if◌then◌else◌, List, length, slice_get, Some, None, is_some}
+use Rattle.std.specs.Prelude.{◌≡◌, ◌⊎◌, true, ℕ, ◌+◌, ◌^◌, ◌<◌, ◌≤◌, ◌==◌, if◌then◌else◌, List, length, slice_get, Some, None, is_some}
 use Rattle.address_map.specs.Pairs.{address_at}
-use Rattle.alpha_encode.specs.declared.instr.AlphaInstr.{AlphaInstr}
 use Rattle.alpha_encode.specs.declared.instr.BranchOp.{BranchOp}
-use Rattle.alpha_encode.specs.declared.instr.OperateOp.{OperateOp}
 use Rattle.alpha_encode.specs.declared.instr.OperateOp.TheVariants.{Bis}
-use Rattle.alpha_meaning.specs.Act.{act, links, taken}
+use Rattle.alpha_meaning.specs.Act.{taken}
 use Rattle.alpha_meaning.specs.Result.{result_of}
 use Rattle.alpha_meaning.specs.State.{Regs, put, at_place, regs_of}
 use Rattle.block_law.specs.Translations.{Code}
-use Rattle.prepared_code.specs.Effects.{local}
 use Rattle.prepared_code.specs.Inside.{local_at, step_in}
 use Rattle.prepared_code.specs.declared.flat.Flat.{Flat}
 use Rattle.prepared_code.specs.declared.flat.Way.{Way}
@@ -24,10 +21,6 @@ operand f regs = if f.b == 31 then f.literal else regs f.b
 -- the registers behind it
 abbrev pub effect : Flat → Regs → Regs
 effect f regs = put regs f.c (result_of f.op (regs f.a) (operand f regs) (regs f.c))
-
--- an operation whose second operand the code fixes
-abbrev pub by_literal : OperateOp → (a literal c : ℕ) → Flat
-by_literal op a literal c = record { op = op; a = a; b = 31; c = c; way = way.Other; number = 1; within = 0; literal = literal }
 
 -- the second operand is a register or the literal: one of them reads 0
 pub record HasRegisters (f : Flat) : Type 0 where
@@ -48,10 +41,6 @@ pub record IsInForm (f : Flat) : Type 0 where
   pub registers : HasRegisters f
   pub zero : f.c ≡ 31 → IsNothing f
 
--- an instruction does what a flat word says
-abbrev pub IsFlatOf : AlphaInstr → Flat → Type 0
-IsFlatOf i f = (r : List ℕ) (pc : ℕ) → local (act i (at_place (regs_of r) pc)) ≡ Some (at_place (effect f (regs_of r)) (pc + 1))
-
 -- the word there does what a flat word says, and no block begins at the next
 pub record IsStraight (code : Code) (place : ℕ) (f : Flat) : Type 0 where
   pub form : IsInForm f
@@ -62,10 +51,6 @@ abbrev pub AreStraight : Code → List Flat → (first count : ℕ) → Type 0
 AreStraight code flats first count = (k : ℕ) (f : Flat) → k < count → slice_get flats (first + k) ≡ Some f → IsStraight code (first + k) f
 
 -- ---- branches
--- a branch writes no register, and no block begins at the next word where it may go there
-abbrev pub StaysBehind : Code → (place : ℕ) → BranchOp → (a : ℕ) → Type 0
-StaysBehind code place op a = ((links op ≡ true) × (a ≡ 31)) ⊎ ((links op ≡ false) × (address_at code.map (place + 1) ≡ None))
-
 -- the word there goes to the literal where the branch is taken, else to the next, and no block begins at either
 pub record IsBranch (code : Code) (place : ℕ) (f : Flat) (op : BranchOp) : Type 0 where
   pub register : f.a < 32
@@ -90,12 +75,6 @@ IsItsWay code place f way.Other = Unit {0}
 IsItsWay code place f way.Stops = IsStop code place
 IsItsWay code place f way.Lands = IsLanding code place f
 IsItsWay code place f (way.Branches op) = IsBranch code place f op
-
--- a word for itself: those behind it aren't counted
-pub record IsAlone (code : Code) (place : ℕ) (f : Flat) : Type 0 where
-  pub few : f.number ≤ 1
-  pub straight : f.number ≡ 1 → IsStraight code place f
-  pub its_way : IsItsWay code place f f.way
 
 -- a word whose number says how many are straight from it on
 pub record IsFlat (code : Code) (flats : List Flat) (place : ℕ) (f : Flat) : Type 0 where

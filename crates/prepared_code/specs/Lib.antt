@@ -2,6 +2,7 @@ pub mod Effects
 pub mod Sources
 pub mod Inside
 pub mod Flats
+pub mod Known
 pub mod Prepared
 pub mod Landings
 pub mod Asks

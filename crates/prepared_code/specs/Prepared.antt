@@ -5,7 +5,7 @@ use Rattle.alpha_encode.specs.Words.{IsEncodable}
 use Rattle.alpha_meaning.specs.Pieces.{most_words}
 use Rattle.block_law.specs.Translations.{fetch_of}
 use Rattle.prepared_code.specs.Sources.{Source, block_of}
-use Rattle.prepared_code.specs.Flats.{AreFlat}
+use Rattle.prepared_code.specs.Known.{AreKnown}
 use Rattle.prepared_code.specs.declared.blocks.Block.{Block}
 use Rattle.prepared_code.specs.declared.flat.Flat.{Flat}
 use Rattle.prepared_code.specs.declared.prepared.Word.{Word}
@@ -46,4 +46,4 @@ pub record IsPrepared (source : Source) (made : List Block) (ready : List Word) 
   pub words : AreReady source.code.words source.code.map ready (length source.code.words)
   pub blocks : made ≡ map (block_of source.code.points source.pages) source.code.map
   pub few_flats : length flats ≤ most_words
-  pub flat : AreFlat source.code flats
+  pub known : AreKnown source.code flats

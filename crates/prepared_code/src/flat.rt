@@ -1,18 +1,10 @@
 // Words ready to be run: an operation on registers each, or a branch, that goes on inside its block whatever the registers
 // hold.
-ghost use Rattle.std.specs.Prelude.{◌≡◌, ◌≢◌, ◌⊎◌, ◌+◌, ◌<◌, ◌≤◌, length, true, Some, None, IfOk, IfSome, is_some};
-ghost use Rattle.address_map.specs.Pairs.{address_at};
-ghost use Rattle.alpha_encode.specs.Words.{IsEncodable, IsSecond};
-ghost use Rattle.alpha_encode.specs.declared.instr.AlphaInstr.{AlphaInstr};
-ghost use Rattle.alpha_encode.specs.declared.instr.AlphaInstr.TheVariants.{Branch, Memory, Operate};
-ghost use Rattle.alpha_encode.specs.declared.instr.BranchOp.TheVariants.{Br};
-ghost use Rattle.alpha_meaning.specs.Act.{act};
+ghost use Rattle.std.specs.Prelude.{◌≡◌, ◌≢◌, ◌+◌, ◌<◌, ◌≤◌, length, min, IfOk, IfSome};
+ghost use Rattle.alpha_encode.specs.Words.{IsEncodable};
 ghost use Rattle.alpha_meaning.specs.Pieces.{most_words};
-ghost use Rattle.alpha_meaning.specs.State.{Alpha};
 ghost use Rattle.block_law.specs.Translations.{Code, fetch_of};
-ghost use Rattle.prepared_code.specs.Effects.{local};
-ghost use Rattle.prepared_code.specs.Flats.{AreFlat, by_literal, HasRegisters, IsAlone, IsFlatOf, IsInForm, StaysBehind};
-ghost use Rattle.prepared_code.specs.declared.flat.Way.TheVariants.{Other};
+ghost use Rattle.prepared_code.specs.Known.{AreKnown, branch_at, by_literal, flat_at, flat_by, in_form, is_begun, is_inside, lands_at, memory_at, most_straight, operation, stays_behind, stays_inside, straight_at, sum, with_literal};
 ghost use Rattle.prepared_code.specs.Prepared.{AreEncodable, AreReady};
 
 use crate::effect::target_of;
@@ -45,7 +37,7 @@ pub(crate) struct Flat {
     pub b: u8,
     pub c: u8,
     pub way: Way,
-    /// How many words are straight from it on; 0 where it isn't.
+    /// How many words are straight from it on, as far as a byte counts; 0 where it isn't.
     pub number: u8,
     /// A guess, of which nothing rests but speed: within how many steps, all local, it comes to another block; 0 where it
     /// comes to none without an access or a PALcode call.
@@ -88,15 +80,19 @@ fn by_literal(op: OperateOp, a: u8, literal: u64, c: u8) -> Flat
     }
 }
 
-#[tactic(auto, unfolding(alpha_meaning::specs::State::regs_of))]
+/// The operation with a literal. ZAPNOT and ZAP keep and clear the bytes that a mask names.
+fn with_literal(op: OperateOp, a: u8, literal: u8, c: u8) -> Flat
+    ensures { result ≡ with_literal op a literal c }
+{
+    match op {
+        OperateOp::Zapnot => by_literal(OperateOp::And, a, spread(literal), c),
+        OperateOp::Zap => by_literal(OperateOp::Bic, a, spread(literal), c),
+        _ => by_literal(op, a, u64::from(literal), c),
+    }
+}
+
 fn operation(op: OperateOp, a: u8, second: Second, c: u8) -> Flat
-    requires a { a < 32 }
-    requires second { IsSecond second }
-    requires c { c < 32 }
-    ensures registers { HasRegisters result }
-    ensures is { IsFlatOf (Operate op a second c) result }
-    ensures number { result.number ≡ 1 }
-    ensures way { result.way ≡ Other }
+    ensures { result ≡ operation op a second c }
 {
     match second {
         Second::Register(b) => Flat {
@@ -107,60 +103,21 @@ fn operation(op: OperateOp, a: u8, second: Second, c: u8) -> Flat
             number: 1,
             ..OTHER
         },
-        Second::Literal(mask) => match op {
-            OperateOp::Zapnot => by_literal(OperateOp::And, a, spread(mask), c),
-            OperateOp::Zap => by_literal(OperateOp::Bic, a, spread(mask), c),
-            _ => by_literal(op, a, u64::from(mask), c),
-        },
+        Second::Literal(literal) => with_literal(op, a, literal, c),
     }
 }
 
-/// LDA and LDAH, which add a literal.
-#[tactic(auto, unfolding(alpha_meaning::specs::State::regs_of))]
-fn sum(op: MemoryOp, a: u8, base: u8, disp: i16) -> Option<Flat>
-    requires a { a < 32 }
-    requires base { base < 32 }
-    ensures registers { IfSome result HasRegisters }
-    ensures is { IfSome result (IsFlatOf (Memory op a base disp)) }
-    ensures number { IfSome result (λ f. f.number ≡ 1) }
-    ensures way { IfSome result (λ f. f.way ≡ Other) }
+/// LDA and LDAH, which add a displacement.
+fn sum(op: MemoryOp, a: u8, base: u8, disp: i16) -> Flat
+    ensures { result ≡ sum op a base disp }
 {
     let offset = i64::from(disp).cast_unsigned();
-    match op {
-        MemoryOp::Lda | MemoryOp::Ldah => Some(by_literal(
-            OperateOp::Addq,
-            base,
-            offset.wrapping_mul(scale_of(op)),
-            a,
-        )),
-        _ => None,
-    }
-}
-
-/// An instruction that computes and does nothing else.
-fn computation(instr: AlphaInstr) -> Option<Flat>
-    requires { IsEncodable instr }
-    ensures registers { IfSome result HasRegisters }
-    ensures is { IfSome result (IsFlatOf instr) }
-    ensures number { IfSome result (λ f. f.number ≡ 1) }
-    ensures way { IfSome result (λ f. f.way ≡ Other) }
-{
-    match instr {
-        AlphaInstr::Operate { op, ra, rb, rc } => Some(operation(op, ra, rb, rc)),
-        AlphaInstr::Memory { op, ra, rb, disp } => sum(op, ra, rb, disp),
-        AlphaInstr::Branch { .. } | AlphaInstr::Jump { .. } | AlphaInstr::Pal(_) => None,
-    }
+    by_literal(OperateOp::Addq, base, offset.wrapping_mul(scale_of(op)), a)
 }
 
 /// A straight word in the form in which it runs: what register 31 doesn't keep isn't computed.
 fn in_form(flat: Flat) -> Flat
-    requires registers { HasRegisters flat }
-    requires number { flat.number ≡ 1 }
-    requires way { flat.way ≡ Other }
-    ensures form { IsInForm result }
-    ensures is { (instr : AlphaInstr) → IsFlatOf instr flat → IsFlatOf instr result }
-    ensures number { result.number ≡ 1 }
-    ensures way { result.way ≡ Other }
+    ensures { result ≡ in_form flat }
 {
     if flat.c == registers::ZERO {
         NOTHING
@@ -169,20 +126,9 @@ fn in_form(flat: Flat) -> Flat
     }
 }
 
-/// Whether an instruction is left to others: an access, or a PALcode call.
-fn is_left(instr: AlphaInstr) -> bool
-    ensures { result ≡ true → (c : Alpha) → local (act instr c) ≡ None }
-{
-    match instr {
-        AlphaInstr::Memory { op, .. } => kind_of(op).is_some(),
-        AlphaInstr::Pal(_) => true,
-        AlphaInstr::Branch { .. } | AlphaInstr::Operate { .. } | AlphaInstr::Jump { .. } => false,
-    }
-}
-
 /// Whether a word is one of these at which no block begins.
 fn is_inside(ready: &[Word], word: usize) -> bool
-    ensures { result ≡ true → (code : Code) → AreReady code.words code.map ready.now (length code.words) → address_at code.map word ≡ None }
+    ensures { (code : Code) → AreReady code.words code.map ready.now (length code.words) → result ≡ is_inside code word }
 {
     match ready.get(word) {
         Some(there) => there.block == 0,
@@ -192,7 +138,7 @@ fn is_inside(ready: &[Word], word: usize) -> bool
 
 /// Whether a word is one of these at which a block begins.
 fn is_begun(ready: &[Word], word: usize) -> bool
-    ensures { result ≡ true → (code : Code) → AreReady code.words code.map ready.now (length code.words) → is_some (address_at code.map word) ≡ true }
+    ensures { (code : Code) → AreReady code.words code.map ready.now (length code.words) → result ≡ is_begun code word }
 {
     match ready.get(word) {
         Some(there) => there.block != 0,
@@ -200,29 +146,40 @@ fn is_begun(ready: &[Word], word: usize) -> bool
     }
 }
 
-/// BR to a block.
-fn landing_at(ready: &[Word], place: usize, a: u8, disp: i32) -> Option<Flat>
+/// An operation, where no block begins at the next word.
+fn straight_at(ready: &[Word], place: usize, flat: Flat) -> Flat
     requires place { place < length ready.now }
-    requires few { length ready.now ≤ most_words }
-    ensures { (code : Code) → AreReady code.words code.map ready.now (length code.words) → fetch_of code.words place ≡ Some (Branch Br a disp)
-        → IfSome result (IsAlone code place) }
+    ensures { (code : Code) → AreReady code.words code.map ready.now (length code.words) → result ≡ straight_at code place flat }
 {
-    let target = target_of(place as u32, disp);
-    if a == registers::ZERO && is_begun(ready, target as usize) {
-        Some(Flat {
-            way: Way::Lands,
-            literal: u64::from(target),
-            ..OTHER
-        })
+    if is_inside(ready, place + 1) {
+        in_form(flat)
     } else {
-        None
+        OTHER
     }
+}
+
+/// An instruction of the memory format: an access, or an operation.
+fn memory_at(ready: &[Word], place: usize, op: MemoryOp, a: u8, base: u8, disp: i16) -> Flat
+    requires place { place < length ready.now }
+    ensures { (code : Code) → AreReady code.words code.map ready.now (length code.words) → result ≡ memory_at code place op a base disp }
+{
+    match kind_of(op) {
+        Some(_) => STOP,
+        None => straight_at(ready, place, sum(op, a, base, disp)),
+    }
+}
+
+/// Whether a branch goes to a block whatever the registers hold, and writes none.
+fn lands_at(ready: &[Word], op: BranchOp, a: u8, target: u32) -> bool
+    ensures { (code : Code) → AreReady code.words code.map ready.now (length code.words) → result ≡ lands_at code op a target }
+{
+    links(op) && a == registers::ZERO && is_begun(ready, target as usize)
 }
 
 /// Whether a branch writes no register, and stays in its block where it isn't taken.
 fn stays_behind(ready: &[Word], place: usize, op: BranchOp, a: u8) -> bool
     requires place { place < length ready.now }
-    ensures { result ≡ true → (code : Code) → AreReady code.words code.map ready.now (length code.words) → StaysBehind code place op a }
+    ensures { (code : Code) → AreReady code.words code.map ready.now (length code.words) → result ≡ stays_behind code place op a }
 {
     if links(op) {
         a == registers::ZERO
@@ -231,59 +188,55 @@ fn stays_behind(ready: &[Word], place: usize, op: BranchOp, a: u8) -> bool
     }
 }
 
-/// A branch that leaves its block neither where it is taken nor where it isn't.
-fn branch_inside(ready: &[Word], place: usize, op: BranchOp, a: u8, disp: i32) -> Option<Flat>
+/// Whether a branch leaves its block neither where it is taken nor where it isn't, and writes no register.
+fn stays_inside(ready: &[Word], place: usize, op: BranchOp, a: u8, target: u32) -> bool
+    requires place { place < length ready.now }
+    ensures { (code : Code) → AreReady code.words code.map ready.now (length code.words) → result ≡ stays_inside code place op a target }
+{
+    stays_behind(ready, place, op, a) && is_inside(ready, target as usize)
+}
+
+/// A branch.
+fn branch_at(ready: &[Word], place: usize, op: BranchOp, a: u8, disp: i32) -> Flat
     requires place { place < length ready.now }
     requires few { length ready.now ≤ most_words }
-    requires a { a < 32 }
-    ensures { (code : Code) → AreReady code.words code.map ready.now (length code.words) → fetch_of code.words place ≡ Some (Branch op a disp)
-        → IfSome result (IsAlone code place) }
+    ensures { (code : Code) → AreReady code.words code.map ready.now (length code.words) → result ≡ branch_at code place op a disp }
 {
     let target = target_of(place as u32, disp);
-    if stays_behind(ready, place, op, a) && is_inside(ready, target as usize) {
-        Some(Flat {
+    let literal = u64::from(target);
+    if lands_at(ready, op, a, target) {
+        Flat {
+            way: Way::Lands,
+            literal,
+            ..OTHER
+        }
+    } else if stays_inside(ready, place, op, a, target) {
+        Flat {
             a,
             way: Way::Branches(op),
-            literal: u64::from(target),
+            literal,
             ..OTHER
-        })
-    } else {
-        None
-    }
-}
-
-/// An instruction that computes, and behind which no block begins.
-fn computation_at(ready: &[Word], place: usize, instr: AlphaInstr) -> Option<Flat>
-    requires place { place < length ready.now }
-    requires encodable { IsEncodable instr }
-    ensures { (code : Code) → AreReady code.words code.map ready.now (length code.words) → fetch_of code.words place ≡ Some instr
-        → IfSome result (IsAlone code place) }
-{
-    if is_inside(ready, place + 1) {
-        match computation(instr) {
-            Some(flat) => Some(in_form(flat)),
-            None => None,
         }
     } else {
-        None
+        OTHER
     }
 }
 
-/// A branch of which anything is told.
-fn branch_at(ready: &[Word], place: usize, op: BranchOp, a: u8, disp: i32) -> Option<Flat>
+/// The word of an instruction, for itself.
+fn flat_by(ready: &[Word], place: usize, instr: AlphaInstr) -> Flat
     requires place { place < length ready.now }
     requires few { length ready.now ≤ most_words }
-    requires a { a < 32 }
-    ensures { (code : Code) → AreReady code.words code.map ready.now (length code.words) → fetch_of code.words place ≡ Some (Branch op a disp)
-        → IfSome result (IsAlone code place) }
+    requires encodable { IsEncodable instr }
+    ensures { (code : Code) → AreReady code.words code.map ready.now (length code.words) → result ≡ flat_by code place instr }
 {
-    let landing = match op {
-        BranchOp::Br => landing_at(ready, place, a, disp),
-        _ => None,
-    };
-    match landing {
-        Some(flat) => Some(flat),
-        None => branch_inside(ready, place, op, a, disp),
+    match instr {
+        AlphaInstr::Memory { op, ra, rb, disp } => memory_at(ready, place, op, ra, rb, disp),
+        AlphaInstr::Branch { op, ra, disp } => branch_at(ready, place, op, ra, disp),
+        AlphaInstr::Operate { op, ra, rb, rc } => {
+            straight_at(ready, place, operation(op, ra, rb, rc))
+        }
+        AlphaInstr::Jump { .. } => OTHER,
+        AlphaInstr::Pal(_) => STOP,
     }
 }
 
@@ -297,39 +250,23 @@ fn instr_of(ready: &[Word], place: usize) -> Option<AlphaInstr>
     ready[place].instr
 }
 
-/// A word of which anything is told, for itself.
-fn known_at(ready: &[Word], place: usize) -> Option<Flat>
-    requires place { place < length ready.now }
-    requires few { length ready.now ≤ most_words }
-    requires encodable { AreEncodable ready.now }
-    ensures { (code : Code) → AreReady code.words code.map ready.now (length code.words) → IfSome result (IsAlone code place) }
-{
-    let instr = instr_of(ready, place)?;
-    if let AlphaInstr::Branch { op, ra, disp } = instr {
-        return branch_at(ready, place, op, ra, disp);
-    }
-    if is_left(instr) {
-        return Some(STOP);
-    }
-    computation_at(ready, place, instr)
-}
-
 /// A word, for itself.
 fn flat_at(ready: &[Word], place: usize) -> Flat
     requires place { place < length ready.now }
     requires few { length ready.now ≤ most_words }
     requires encodable { AreEncodable ready.now }
-    ensures { (code : Code) → AreReady code.words code.map ready.now (length code.words) → IsAlone code place result }
+    ensures { (code : Code) → AreReady code.words code.map ready.now (length code.words) → result ≡ flat_at code place }
 {
-    match known_at(ready, place) {
-        Some(flat) => flat,
+    match instr_of(ready, place) {
+        Some(instr) => flat_by(ready, place, instr),
         None => OTHER,
     }
 }
 
 /// How many words are straight from one on, which for itself has that number, where so many are from the next on.
 fn straight_from(alone: u8, behind: u8) -> u8
-    ensures { (result ≡ 0) ⊎ ((alone ≢ 0) × (result ≤ behind + 1)) }
+    ensures none { alone ≡ 0 → result ≡ 0 }
+    ensures more { alone ≢ 0 → result ≡ min (behind + 1) most_straight }
 {
     if alone == 0 {
         0
@@ -368,7 +305,7 @@ pub(crate) fn flats_of(alloc: Global, ready: &[Word]) -> Result<Vec<Flat>, Alloc
     requires few { length ready.now ≤ most_words }
     requires encodable { AreEncodable ready.now }
     ensures counted { IfOk result (λ v. length v.items ≡ length ready.now) }
-    ensures flat { IfOk result (λ v. (code : Code) → AreReady code.words code.map ready.now (length code.words) → AreFlat code v.items) }
+    ensures known { IfOk result (λ v. (code : Code) → AreReady code.words code.map ready.now (length code.words) → AreKnown code v.items) }
 {
     let mut flats = vec![in alloc; OTHER; ready.len()]?;
     let mut straight: u8 = 0;

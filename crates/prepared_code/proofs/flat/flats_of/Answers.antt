@@ -1,29 +1,48 @@
--- One more word, in front of those that are flat.
-use Rattle.std.proofs.Common.{◌≡◌, ◌≢◌, ◌+◌, ◌-◌, ◌≤◌, subst, ◌∙◌, ⊎_elim, length, arith}
+-- One more word, in front of those that are known.
+use Rattle.std.proofs.Common.{◌≡◌, ◌+◌, ◌-◌, length, sym, ap, ◌∙◌, subst, arith}
 use Rattle.std.proofs.Math.ListN.{set}
 use Rattle.std.proofs.lemmas.List.{length-set}
-use Rattle.prepared_code.proofs.Flats.{AreFlatFrom, one_more_flat}
+use Rattle.std.proofs.lemmas.Option.{slice_get_within}
+use Rattle.prepared_code.specs.Known.{most_straight, straight_words}
+use Rattle.prepared_code.specs.declared.flat.Flat.{Flat}
+use Rattle.prepared_code.proofs.Known.{AreKnownFrom, none_behind, one_more_known, one_more_number}
 use Rattle.prepared_code.proofs.flat.flats_of.Goals as goal
+
+pub loop-back-init : goal.loop-back-init
+loop-back-init c =
+    let counted : length c.in_ok-flats.flats.items ≡ length c.args.ready.now = omega (arith, c.in_ok-flats.ensures.len, c.in_ok-flats.flats.ok.0) in
+    record {
+      counted = counted;
+      straight = λ code are. sym (none_behind code (length c.args.ready.now - 0) (omega (arith, are.counted)));
+      known = λ code are k f l found. absurd (omega (arith, l, counted, slice_get_within c.in_ok-flats.flats.items k f found));
+    }
 
 pub loop-back-preserved : goal.loop-back-preserved
 loop-back-preserved c =
     let n = length c.args.ready.now in
     let flats = c.loop-back.flats.items in
     let place = n - 1 - c.loop-back.back in
-    let straight = c.loop-back.straight in
+    let flat = c.flat_at-flat.result in
     let number = c.straight_from-straight.result in
     let guess = c.guess_of.result in
     let before : n - c.loop-back.back ≡ place + 1 = omega (arith, c.loop-back-test.true) in
     let behind : place ≡ n - (c.loop-back.back + 1) = omega (arith, c.loop-back-test.true) in
-    let within = c.loop-back.invariant.within in
     record {
       counted = length-set flats place _ ∙ c.loop-back.invariant.counted;
-      within = ⊎_elim (λ (e : number ≡ 0). omega (arith, e)) (λ (p : (c.flat_at-flat.result.number ≢ 0) × (number ≤ straight + 1)). omega (arith, p.1, within, c.loop-back-test.true)) c.straight_from-straight.ensures;
-      flat = λ code are.
-          subst (λ k. AreFlatFrom code (set flats place (record c.flat_at-flat.result { number = number; within = guess })) k number) behind
-          (one_more_flat code flats place straight number guess c.flat_at-flat.result (omega (arith, c.loop-back.invariant.counted, c.loop-back-test.true)) (omega (arith, within, before, c.loop-back.invariant.counted))
-          (c.flat_at-flat.ensures code are) (subst (λ k. AreFlatFrom code flats k straight) before (c.loop-back.invariant.flat code are)) c.straight_from-straight.ensures);
+      straight = λ code are.
+          one_more_number code place flat.number c.loop-back.straight number (ap (λ (f : Flat). f.number) (c.flat_at-flat.ensures code are))
+          (c.loop-back.invariant.straight code are ∙ ap (λ k. straight_words code k most_straight) before) c.straight_from-straight.ensures.none c.straight_from-straight.ensures.more
+          ∙ ap (λ k. straight_words code k most_straight) behind;
+      known = λ code are.
+          subst (λ k. AreKnownFrom code (set flats place (record flat { number = number; within = guess })) k) behind
+          (one_more_known code flats place number guess flat (omega (arith, c.loop-back.invariant.counted, c.loop-back-test.true)) (c.flat_at-flat.ensures code are)
+          (one_more_number code place flat.number c.loop-back.straight number (ap (λ (f : Flat). f.number) (c.flat_at-flat.ensures code are))
+          (c.loop-back.invariant.straight code are ∙ ap (λ k. straight_words code k most_straight) before) c.straight_from-straight.ensures.none c.straight_from-straight.ensures.more)
+          (subst (AreKnownFrom code flats) before (c.loop-back.invariant.known code are)));
     }
 
-pub returns-clause-flat : goal.returns-clause-flat
-returns-clause-flat c = λ code are k f found. (c.loop-back.invariant.flat code are).each k f (omega (arith, c.loop-back-test.false)) found
+pub returns-clause-known : goal.returns-clause-known
+returns-clause-known c = λ code are. record {
+  counted = c.loop-back.invariant.counted ∙ are.counted;
+  each = λ k f found. c.loop-back.invariant.known code are k f (omega (arith, c.loop-back-test.false)) found;
+}

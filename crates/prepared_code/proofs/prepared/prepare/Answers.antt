@@ -24,7 +24,7 @@ invariant_of-result c =
       words = ready;
       blocks = c.in_ok-blocks_of.ensures ∙ ap (map (block_of c.args.points.now c.args.pages.now)) c.pairs-pairs.ensures.pairs;
       few_flats = omega (arith, c.in_ok-flats.ensures.counted, ap (λ (ws : List Word). length ws) same, ready.counted, c.requires.few);
-      flat =
-          c.in_ok-flats.ensures.flat (source_of words c.args.map.now c.args.points.now c.args.pages.now).code
+      known =
+          c.in_ok-flats.ensures.known (source_of words c.args.map.now c.args.points.now c.args.pages.now).code
           (subst (λ (ws : List Word). AreReady words c.args.map.now ws (length words)) (sym same) ready);
     }
