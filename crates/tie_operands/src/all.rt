@@ -1,6 +1,8 @@
-// All operands of an instruction that is gone through. Places that are not used are passed over, and registers and literals are
-// found at once.
-ghost use Rattle.std.specs.Prelude.{◌≡◌};
+// All operands of an instruction that is gone through. Places that are not used are passed over, where the last four are not at once,
+// and registers and literals are found at once.
+ghost use Rattle.std.specs.Prelude.{◌≡◌, true};
+ghost use Rattle.vax_form.specs.declared.instr.Access.TheVariants.{Read};
+ghost use Rattle.vax_form.specs.declared.instr.Operand.TheVariants.{Unused};
 ghost use Rattle.vax_meaning.specs.Evaluation.{evaluate, nothings, operands_from};
 ghost use Rattle.vax_meaning.specs.Play.{Plays, Uses};
 
@@ -53,6 +55,30 @@ fn evaluated(
     }
 }
 
+/// Whether a place is not used.
+#[inline(always)]
+fn is_unused(access: Access, operand: &Operand) -> bool
+    ensures { result ≡ true → (access ≡ Read) × (operand.now ≡ Unused) }
+{
+    matches!((access, operand), (Access::Read, Operand::Unused))
+}
+
+/// Passes over a place that is not used.
+#[inline(always)]
+#[tactic(auto, unfolding(vax_meaning::specs::Evaluation::find, vax_meaning::specs::Evaluation::obtain, vax_meaning::specs::Evaluation::read_found, vax_meaning::specs::Operands::locate))]
+fn passed_over(
+    cursor: &mut Cursor,
+    access: Access,
+    size: Size,
+    operand: Operand,
+) -> Result<Evaluated, Stop>
+    requires unused { (access ≡ Read) × (operand ≡ Unused) }
+    ensures plays { Plays (evaluate access size operand) cursor.old result cursor.new }
+    ensures few { Uses 4 cursor.old result cursor.new }
+{
+    Ok(NOTHING)
+}
+
 /// Evaluates the operands from left to right.
 #[inline(always)]
 #[tactic(auto, unfolding(vax_meaning::specs::Evaluation::operands_from))]
@@ -62,6 +88,17 @@ pub fn all_operands(cursor: &mut Cursor, row: &Row, instr: &Instr) -> Result<[Ev
 {
     let v0 = evaluated(cursor, row.access[0], row.size[0], instr.operands[0])?;
     let v1 = evaluated(cursor, row.access[1], row.size[1], instr.operands[1])?;
+    if is_unused(row.access[2], &instr.operands[2])
+        && is_unused(row.access[3], &instr.operands[3])
+        && is_unused(row.access[4], &instr.operands[4])
+        && is_unused(row.access[5], &instr.operands[5])
+    {
+        let v2 = passed_over(cursor, row.access[2], row.size[2], instr.operands[2])?;
+        let v3 = passed_over(cursor, row.access[3], row.size[3], instr.operands[3])?;
+        let v4 = passed_over(cursor, row.access[4], row.size[4], instr.operands[4])?;
+        let v5 = passed_over(cursor, row.access[5], row.size[5], instr.operands[5])?;
+        return Ok([v0, v1, v2, v3, v4, v5]);
+    }
     let v2 = evaluated(cursor, row.access[2], row.size[2], instr.operands[2])?;
     let v3 = evaluated(cursor, row.access[3], row.size[3], instr.operands[3])?;
     let v4 = evaluated(cursor, row.access[4], row.size[4], instr.operands[4])?;
