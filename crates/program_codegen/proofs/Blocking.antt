@@ -8,7 +8,7 @@ use Rattle.alpha_encode.specs.declared.instr.AlphaInstr.{AlphaInstr}
 use Rattle.exception_records.specs.Points.{Entry, point_at}
 use Rattle.exception_records.specs.declared.points.Point.{Point}
 use Rattle.block_law.specs.Blocks.{IsBlockOf, IsPointOf, is_exit_word, is_past_exit, is_quiet}
-use Rattle.block_law.specs.Tidy.{may_fault, keeps_until}
+use Rattle.block_law.specs.Tidy.{keeps_to, keeps_until}
 use Rattle.block_law.specs.Translations.{done_at}
 use Rattle.program_codegen.specs.declared.lines.Line.{Line}
 use Rattle.program_codegen.specs.declared.points.Site.{Site}
@@ -138,7 +138,7 @@ line_of (l ∷ lines) w word point e = by (λ e. line_of lines (w + 1) word poin
     by later (Some q) is e = here later q (w == word) is refl e
 
 -- ---- a block
-module _ (site : Site) (lines : List Line) (each : EachFits site 0 lines) (some : 1 ≤ length lines) (few : length lines ≤ 256) (keeps : keeps_until may_fault (words_of lines) ≡ true) where
+module _ (loops : Bool) (site : Site) (lines : List Line) (each : EachFits site 0 lines) (some : 1 ≤ length lines) (few : length lines ≤ 256) (keeps : keeps_until (keeps_to loops) (words_of lines) ≡ true) where
   abbrev all : List Line
   all = with_first (point_of site) lines
 
@@ -170,13 +170,13 @@ module _ (site : Site) (lines : List Line) (each : EachFits site 0 lines) (some 
         done = its.1 ∙ ap done_at (sym (word_of_line all word x.line is));
       }
 
-  pub block_shape : IsBlockOf false site.at (block_of all)
+  pub block_shape : IsBlockOf loops site.at (block_of all)
   block_shape =
       let first = first_has lines some in
       let count = size in
       let inside = exits_within site 0 0 (length (words_of all)) all all_each (let c = words_length all in omega arith) in
       record {
-        tidy = record { some = omega arith; few = omega arith; keeps = ap (keeps_until may_fault) (first_words (point_of site) lines) ∙ keeps; translated = all_translated site 0 all all_each };
+        tidy = record { some = omega arith; few = omega arith; keeps = ap (keeps_until (keeps_to loops)) (first_words (point_of site) lines) ∙ keeps; translated = all_translated site 0 all all_each };
         encodable = encoded site 0 all all_each;
         exits = inside;
         exits_apart = λ k d lt. let next : suc k ≡ k + 1 = omega arith in subst (λ n. (get_or (exits_from 0 all) k d).0 + 3 ≤ (get_or (exits_from 0 all) n d).0) next (exits_rise site 0 0 k d all all_each (omega arith));

@@ -72,7 +72,7 @@ readable at bytes operand (Describes.constant_address d l is b o) long = rw o (m
 readable at bytes operand (Describes.place base locates o) long = rw o (subst IsLongOperand o long)
 readable at bytes operand (Describes.indexed x base more lt locates free b o) long = rw o (subst IsLongOperand o long)
 
-in_memory : (at : ℕ) (bytes : List ℕ) (operand : Operand) → Describes Address Byte at bytes operand → IsLongOperand operand → IsFor Address operand
+pub in_memory : (at : ℕ) (bytes : List ℕ) (operand : Operand) → Describes Address Byte at bytes operand → IsLongOperand operand → IsFor Address operand
 in_memory at bytes operand (Describes.literal v lt is b o) long = absurd (cc is)
 in_memory at bytes operand (Describes.register n has not b o) long = absurd (not refl)
 in_memory at bytes operand (Describes.immediate d l is b o) long = absurd (cc is)
@@ -98,7 +98,7 @@ record Operands (stack : Bool) (instr : Instr) : Type 0 where
   pub bytes : List ℕ
   pub described : Specifies (first_access stack) (first_size stack) at bytes (operand_of instr 0)
 
-long_operands : (opcode : ℕ) (operation : LongOperation) → long_at opcode ≡ Some operation → operation_at opcode ≡ Some (operations.Long operation)
+pub long_operands : (opcode : ℕ) (operation : LongOperation) → long_at opcode ≡ Some operation → operation_at opcode ≡ Some (operations.Long operation)
 unfolding long_operation
 long_operands opcode operation is = by (operation_at opcode) is
   where

@@ -28,12 +28,12 @@ use Rattle.program_codegen.specs.Calls.{argument_temp, first_specifier, front_pr
 use Rattle.program_codegen.proofs.Middle.{IsReadyToPush, pushing}
 
 -- ---- from what is known at least
-is_longword : (holding : Holding) → IsNoMore Longword holding → holding ≡ Longword
+pub is_longword : (holding : Holding) → IsNoMore Longword holding → holding ≡ Longword
 is_longword Nothing no_more = absurd no_more
 is_longword Wide no_more = absurd no_more
 is_longword Longword no_more = refl
 
-never : (b : Bool) → (b ≡ true → false ≡ true) → b ≡ false
+pub never : (b : Bool) → (b ≡ true → false ≡ true) → b ≡ false
 never true implies = absurd (cc (implies refl))
 never false implies = refl
 

@@ -124,10 +124,10 @@ reads_none flag (operation ∷ program) all =
     rw (either_reads flag operation x.0, reads_none flag program x.1) refl
 
 -- ---- operands
-joined : (P : Micro → Bool) (xs ys : List Micro) → list_all P xs ≡ true → list_all P ys ≡ true → list_all P (xs ++ ys) ≡ true
+pub joined : (P : Micro → Bool) (xs ys : List Micro) → list_all P xs ≡ true → list_all P ys ≡ true → list_all P (xs ++ ys) ≡ true
 joined P xs ys a b = list_all-append P xs ys ∙ rw (a, b) refl
 
-sum_is : (to : ℕ) (register : Option ℕ) (offset : ℕ) → is_low to ≡ true → is_evaluation (sum_into to register offset) ≡ true
+pub sum_is : (to : ℕ) (register : Option ℕ) (offset : ℕ) → is_low to ≡ true → is_evaluation (sum_into to register offset) ≡ true
 sum_is to None offset low = rw low refl
 sum_is to (Some n) offset low = by (offset == 0)
   where
@@ -151,7 +151,7 @@ index_is (Some x) Word steps place low = rw (sum_is 4 (Some x) (slice_index step
 index_is (Some x) Long steps place low = rw (sum_is 4 (Some x) (slice_index steps x) refl, low) refl
 index_is (Some x) Quad steps place low = rw (sum_is 4 (Some x) (slice_index steps x) refl, low) refl
 
-place_is : (base : Base) (index : Option ℕ) (size : Size) (steps : List ℕ) (place spare : ℕ) → is_low place ≡ true → is_low spare ≡ true → list_all is_evaluation (place_program base index size steps place spare) ≡ true
+pub place_is : (base : Base) (index : Option ℕ) (size : Size) (steps : List ℕ) (place spare : ℕ) → is_low place ≡ true → is_low spare ≡ true → list_all is_evaluation (place_program base index size steps place spare) ≡ true
 place_is base index size steps place spare low spare_low =
     joined is_evaluation (address_program (pointer_of base (bytes_of size) steps) place spare) (index_program index size (steps_behind base (bytes_of size) steps) place)
     (address_is (pointer_of base (bytes_of size) steps) place spare low spare_low) (index_is index size (steps_behind base (bytes_of size) steps) place low)

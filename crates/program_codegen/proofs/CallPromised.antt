@@ -43,7 +43,7 @@ use Rattle.program_codegen.proofs.CallOperations.{front_is_low, front_is_short, 
 use Rattle.program_codegen.proofs.CallShapes.{call_shape}
 
 -- ---- words
-keeps_low : (codes : CodeSources) (program : List Micro) → IsLowPiece program → all_keep_low codes program ≡ true
+pub keeps_low : (codes : CodeSources) (program : List Micro) → IsLowPiece program → all_keep_low codes program ≡ true
 keeps_low codes program low = ap (all_keep_low codes) (sym (append-nil program)) ∙ piece_keeps_low codes program [] low
 
 module _ (instr : Instr) (pages : Pages) (facts : CallFacts instr pages) where
@@ -95,7 +95,7 @@ module _ (instr : Instr) (pages : Pages) (facts : CallFacts instr pages) where
     all_each = first_each site lines shape.each
 
     pub is_block : IsBlockOf false instr.at (call_block instr pages rules byte_word)
-    is_block = block_shape site lines shape.each some short shape.kept
+    is_block = block_shape false site lines shape.each some short shape.kept
 
     pub goes_there : map (λ (exit : ℕ × ℕ). exit.1) (call_block instr pages rules byte_word).exits ≡ behind_mask (destination_of instr) ∷ []
     goes_there = exits_go 0 (with_first (point_of site) lines) ∙ (same_targets site lines ∙ shape.goes)

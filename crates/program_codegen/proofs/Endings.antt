@@ -275,7 +275,7 @@ module _ (site : Site) (codes : List AlphaInstr) (after_fits : site.after < 2 ^ 
       let no_trap : trap_lines site exits.Breakpoint ≡ [] = untrapped kept.1 in
       let words : words_of (leaving site codes exits.Breakpoint) ≡ codes ++ (Pal 0x83 ∷ []) =
       words_append (map plain codes) (rest_of exits.Breakpoint) ∙ (ap (λ is. is ++ words_of (rest_of exits.Breakpoint)) (row_words_are codes) ∙ ap (λ lines. codes ++ words_of (lines ++ departing site exits.Breakpoint)) no_trap) in
-      ap (keeps_until may_fault) words ∙ free_keeps codes (Pal 0x83 ∷ []) free refl
+      ap (keeps_until may_fault) words ∙ free_keeps may_fault codes (Pal 0x83 ∷ []) free refl
     where
       untrapped : may_overflow site.sources.nzv ≡ false → trap_lines site exits.Breakpoint ≡ []
       untrapped e = rw e refl

@@ -52,7 +52,7 @@ below_status : (n : ℕ) → n < 15 → is_status n ≡ false
 below_status n lt = grind (arith, nat_tests)
 
 -- a code's register
-of_code : (P : ℕ → Type 0) (n : ℕ) → 16 ≤ n → n < 20 → P 16 → P 17 → P 18 → P 19 → P n
+pub of_code : (P : ℕ → Type 0) (n : ℕ) → 16 ≤ n → n < 20 → P 16 → P 17 → P 18 → P 19 → P n
 of_code P n le lt a b c d = by (n == 16) (n == 17) (n == 18) refl refl refl
   where
     by : (x y z : Bool) → (n == 16) ≡ x → (n == 17) ≡ y → (n == 18) ≡ z → P n

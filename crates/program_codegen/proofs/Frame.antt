@@ -16,10 +16,6 @@ use Rattle.program_codegen.proofs.Operands.{first_passes, in_space}
 abbrev pub place_of : (frame number : ℕ) → ℕ
 place_of frame number = (frame + (2 ^ 32 - 4 * number)) % 2 ^ 32
 
--- the most pushes of a frame
-abbrev pub most_pushes : ℕ
-most_pushes = 17
-
 pub half_high : (l : ℕ) → 2 ^ 15 ≤ l → l < 2 ^ 16 → cast_unsigned w64 (cast_signed w16 l) ≡ 2 ^ 64 - 2 ^ 16 + l
 half_high l le lt =
     let is : l ≡ 2 ^ 16 - suc (2 ^ 16 - 1 - l) = omega arith in

@@ -75,11 +75,11 @@ abbrev pub KeptBy : (changed : Bool) → List AlphaInstr → Type 0
 KeptBy true is = list_any may_fault is ≡ false
 KeptBy false is = keeps_until may_fault is ≡ true
 
-quiet_keeps : (is : List AlphaInstr) → list_any may_fault is ≡ false → keeps_until may_fault is ≡ true
-quiet_keeps [] e = refl
-quiet_keeps (i ∷ is) e = by (may_fault i) (list_any may_fault is) refl e (quiet_keeps is)
+pub quiet_keeps : (may : AlphaInstr → Bool) (is : List AlphaInstr) → list_any may is ≡ false → keeps_until may is ≡ true
+quiet_keeps may [] e = refl
+quiet_keeps may (i ∷ is) e = by (may i) (list_any may is) refl e (quiet_keeps may is)
   where
-    by : (a b : Bool) → list_any may_fault is ≡ b → (a || b) ≡ false → (list_any may_fault is ≡ false → keeps_until may_fault is ≡ true) → (not (is_kept (register_written i) && list_any may_fault is) && keeps_until may_fault is) ≡ true
+    by : (a b : Bool) → list_any may is ≡ b → (a || b) ≡ false → (list_any may is ≡ false → keeps_until may is ≡ true) → (not (is_kept (register_written i) && list_any may is) && keeps_until may is) ≡ true
     by true b f e rest = absurd (cc e)
     by false true f e rest = absurd (cc e)
     by false false f e rest = rw (f, rest f) (last (is_kept (register_written i)))
@@ -90,15 +90,15 @@ quiet_keeps (i ∷ is) e = by (may_fault i) (list_any may_fault is) refl e (quie
 
 pub quiet_kept : (changed : Bool) (is : List AlphaInstr) → list_any may_fault is ≡ false → KeptBy changed is
 quiet_kept true is e = e
-quiet_kept false is e = quiet_keeps is e
+quiet_kept false is e = quiet_keeps may_fault is e
 
-pub free_keeps : (is js : List AlphaInstr) → list_all is_free is ≡ true → keeps_until may_fault js ≡ true → keeps_until may_fault (is ++ js) ≡ true
-free_keeps [] js e k = k
-free_keeps (i ∷ is) js e k =
+pub free_keeps : (may : AlphaInstr → Bool) (is js : List AlphaInstr) → list_all is_free is ≡ true → keeps_until may js ≡ true → keeps_until may (is ++ js) ≡ true
+free_keeps may [] js e k = k
+free_keeps may (i ∷ is) js e k =
     let x = and_parts (is_free i) (list_all is_free is) e in
-    by (is_kept (register_written i)) x.0 (free_keeps is js x.1 k)
+    by (is_kept (register_written i)) x.0 (free_keeps may is js x.1 k)
   where
-    by : (kept : Bool) → not kept ≡ true → keeps_until may_fault (is ++ js) ≡ true → (not (kept && list_any may_fault (is ++ js)) && keeps_until may_fault (is ++ js)) ≡ true
+    by : (kept : Bool) → not kept ≡ true → keeps_until may (is ++ js) ≡ true → (not (kept && list_any may (is ++ js)) && keeps_until may (is ++ js)) ≡ true
     by true e k = absurd (cc e)
     by false e k = k
 
@@ -175,14 +175,14 @@ module _ (site : Site) (codes : List AlphaInstr) (addresses : List ℕ) where
 
       by : (changed : Bool) → KeptBy changed (words_of ys) → KeptBy changed (words_of (map plain is ++ ys))
       by true kept = ap (list_any may_fault) words ∙ (list_any-append may_fault is (words_of ys) ∙ or_from (list_any may_fault is) (list_any may_fault (words_of ys)) (silent_quiet is silent) kept)
-      by false kept = ap (keeps_until may_fault) words ∙ free_keeps is (words_of ys) (list_all_of is_own is_free own_free is (list_all_of is_silent is_own silent_own is silent)) kept
+      by false kept = ap (keeps_until may_fault) words ∙ free_keeps may_fault is (words_of ys) (list_all_of is_own is_free own_free is (list_all_of is_silent is_own silent_own is silent)) kept
 
   -- words that may fault, where nothing was changed
   pub free_front : (changed : Bool) (n most most' : ℕ) (xs ys : List Line) → changed ≡ false → Front site xs → list_all is_free (words_of xs) ≡ true → length xs ≤ n → n + most ≤ most'
       → Shape site changed codes addresses most ys → Shape site changed codes addresses most' (xs ++ ys)
   free_front true n most most' xs ys unchanged front free few room shape = absurd (cc unchanged)
   free_front false n most most' xs ys unchanged front free few room shape =
-      behind_front false false n most most' xs ys front (ap (keeps_until may_fault) (words_append xs ys) ∙ free_keeps (words_of xs) (words_of ys) free shape.kept) few room shape
+      behind_front false false n most most' xs ys front (ap (keeps_until may_fault) (words_append xs ys) ∙ free_keeps may_fault (words_of xs) (words_of ys) free shape.kept) few room shape
 
   -- a change
   pub change_front : (changed : Bool) (n most most' : ℕ) (xs ys : List Line) → Front site xs → list_any may_fault (words_of xs) ≡ false → length xs ≤ n → n + most ≤ most'

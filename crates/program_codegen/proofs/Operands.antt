@@ -86,7 +86,7 @@ first_passes pages write address count e = by (is_allowed pages address write) r
     by true is e = (refl, e)
     by false is e = absurd (cc e)
 
-each_byte : (pages : Pages) (write : Bool) (count address i : ℕ) → address < 2 ^ 32 → i < count → first_bad pages write address count ≡ None → is_allowed pages ((address + i) % 2 ^ 32) write ≡ true
+pub each_byte : (pages : Pages) (write : Bool) (count address i : ℕ) → address < 2 ^ 32 → i < count → first_bad pages write address count ≡ None → is_allowed pages ((address + i) % 2 ^ 32) write ≡ true
 each_byte pages write zero address i small lt e = absurd (omega arith)
 each_byte pages write (suc count) address zero small lt e =
     let here : (address + 0) % 2 ^ 32 ≡ address = omega arith in

@@ -80,7 +80,7 @@ module _ (site : Site) (program : List Micro) (codes : List AlphaInstr) (fit : f
   all_each = first_each site (program_lines site codes program) shape.each
 
   pub is_block : IsBlockOf false site.at (block_of (block_lines site codes program))
-  is_block = block_shape site (program_lines site codes program) shape.each (lines_some site codes program at_start refl ended) short shape.kept
+  is_block = block_shape false site (program_lines site codes program) shape.each (lines_some site codes program at_start refl ended) short shape.kept
 
   pub goes_there : map (λ (exit : ℕ × ℕ). exit.1) (block_of (block_lines site codes program)).exits ≡ addresses_of site.after program
   goes_there = exits_go 0 (block_lines site codes program) ∙ (same_targets site (program_lines site codes program) ∙ shape.goes)

@@ -2,7 +2,7 @@
 use Rattle.std.proofs.Common.{◌≡◌, ℕ, zero, suc, ◌+◌, length, refl, sym, ap, ◌∙◌, List, [], ◌∷◌, ◌++◌, map, Bool, true, false, Option, Some, None, cond}
 use Rattle.std.specs.Prelude.{◌==◌, unwrap_or}
 use Rattle.vax_form.specs.declared.instr.Instr.{Instr}
-use Rattle.vax_form.specs.declared.operation.LongOperation.TheVariants.{CallStack}
+use Rattle.vax_form.specs.declared.operation.LongOperation.TheVariants.{CallStack, MoveCharacters}
 use Rattle.vax_form.specs.declared.pages.Pages.{Pages}
 use Rattle.alpha_encode.specs.declared.instr.AlphaInstr.{AlphaInstr}
 use Rattle.alpha_encode.specs.declared.instr.AlphaInstr.TheVariants.{Memory}
@@ -18,6 +18,7 @@ use Rattle.byte_sequences.specs.Words.{byte_read, unaligned_read, read_code, bw_
 use Rattle.program_codegen.specs.declared.calls.Call.{Call}
 use Rattle.program_codegen.specs.declared.lines.Line.{Line}
 use Rattle.program_codegen.specs.declared.points.Site.{Site}
+use Rattle.program_codegen.specs.Strings.{behind_words, move_words, operands_of, steps_of as steps_of_move, string_block, string_check, string_lines, string_site}
 use Rattle.program_codegen.specs.Calls.{align_frame, call_at, call_block, call_lines, call_site, check_lines, checks_from, count_lines, displacement, entry_words, frame_of, frame_program, front_program, list_program, pushes_from, steps_of}
 use Rattle.program_codegen.specs.Words.{block_of, exit_lines, holder, lines_of, plain, point_of, points_alone, points_from, program_block, program_lines, read_by, site_of, with_entry, with_first, write_by}
 
@@ -208,3 +209,31 @@ module _ (instr : Instr) (before : Rules) (byte_word other : Bool) where
 
   pub call_points : (pages : Pages) → points_alone (call_block instr pages before byte_word).points ≡ points_alone (call_block instr pages before other).points
   call_points pages = points_alike instr (sources_of_long CallStack) before all_ready byte_word other [] (call_lines this_site (call_at instr pages)) (call_lines that_site (call_at instr pages)) (call_alike (call_at instr pages))
+
+-- ---- MOVC3
+module _ (instr : Instr) (before : Rules) (byte_word other : Bool) where
+  abbrev move_site : Site
+  move_site = string_site instr before byte_word
+
+  abbrev other_site : Site
+  other_site = string_site instr before other
+
+  abbrev state_lines : List Line
+  state_lines = map plain (behind_words (steps_of_move instr))
+
+  string_alike : Alike (string_lines move_site instr) (string_lines other_site instr)
+  string_alike =
+      let source = string_check move_site 1 false in
+      let destination = string_check move_site 2 true in
+      let moves = map plain (move_words byte_word) ++ exit_lines instr.after in
+      let moves' = map plain (move_words other) ++ exit_lines instr.after in
+      both_alike (program_lines move_site [] (operands_of instr)) (program_lines other_site [] (operands_of instr)) (source ++ (destination ++ (state_lines ++ moves))) (source ++ (destination ++ (state_lines ++ moves')))
+      (program_alike instr (sources_of_long MoveCharacters) before all_ready byte_word other [] (operands_of instr))
+      (both_alike source source (destination ++ (state_lines ++ moves)) (destination ++ (state_lines ++ moves')) (are_same source)
+      (both_alike destination destination (state_lines ++ moves) (state_lines ++ moves') (are_same destination)
+      (both_alike state_lines state_lines moves moves' (are_same state_lines)
+      (both_alike (map plain (move_words byte_word)) (map plain (move_words other)) (exit_lines instr.after) (exit_lines instr.after)
+      (plain_alike (move_words byte_word) (move_words other) refl refl) (are_same (exit_lines instr.after))))))
+
+  pub string_points : points_alone (string_block instr before byte_word).points ≡ points_alone (string_block instr before other).points
+  string_points = points_alike instr (sources_of_long MoveCharacters) before all_ready byte_word other [] (string_lines move_site instr) (string_lines other_site instr) string_alike

@@ -11,6 +11,8 @@ mod leaving;
 mod lines;
 mod operations;
 mod points;
+mod strings;
 
 pub use blocks::block;
 pub use entering::long_block;
+pub use strings::string_block;

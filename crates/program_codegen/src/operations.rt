@@ -35,7 +35,7 @@ fn push_two(lines: &mut Vec<Line>, first: Line, second: Line) -> Result<(), Want
     Ok(())
 }
 
-fn read_by(
+pub(crate) fn read_by(
     alloc: Global,
     byte_word: bool,
     place: u8,
