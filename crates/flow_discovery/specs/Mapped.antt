@@ -4,7 +4,7 @@ use Rattle.std.specs.Option.{option_map_or}
 use Rattle.vax_form.specs.Row.{class_at, is_translated}
 use Rattle.vax_form.specs.declared.instr.Instr.{Instr}
 use Rattle.vax_form.specs.declared.operation.LongOperation.{LongOperation}
-use Rattle.vax_form.specs.declared.operation.LongOperation.TheVariants.{CallGeneral, CallStack}
+use Rattle.vax_form.specs.declared.operation.LongOperation.TheVariants.{CallGeneral, CallStack, MoveCharacters}
 use Rattle.vax_form.specs.declared.pages.Pages.{Pages}
 use Rattle.vax_long.specs.Instructions.{long_at}
 use Rattle.vax_long.specs.LongForms.{is_long_form}
@@ -19,10 +19,17 @@ is_call operation = false
 abbrev pub has_call_block : Instr → Pages → Bool
 has_call_block instr pages = is_call (long_at instr.opcode) && is_long_form instr pages
 
--- an instruction has a block where its class is Translated, or where it is a call of long form; else it is left to the
--- interpreter
+abbrev pub is_string_move : Option LongOperation → Bool
+is_string_move (Some MoveCharacters) = true
+is_string_move operation = false
+
+-- MOVC3
+abbrev pub has_string_block : Instr → Bool
+has_string_block instr = is_string_move (long_at instr.opcode)
+
+-- an instruction has a block where its class is Translated, or where it is of long form; else it is left to the interpreter
 abbrev pub has_block : Instr → Pages → Bool
-has_block instr pages = is_translated (class_at instr.opcode) || has_call_block instr pages
+has_block instr pages = is_translated (class_at instr.opcode) || is_long_form instr pages
 
 -- an instruction stands at the address, and has a block
 abbrev pub has_block_at : Pages → ℕ → Bool

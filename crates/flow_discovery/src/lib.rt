@@ -15,7 +15,7 @@ ghost use Rattle.flow_discovery.specs.Starts.{starts};
 use exact_lists::list_of;
 pub use flow::goes_on;
 use image_file::{Image, Start};
-pub use mapped::{has_block, has_call_block};
+pub use mapped::{has_block, has_call_block, has_string_block};
 use std::alloc::{AllocError, Global};
 use vax_form::{Class, Instr};
 

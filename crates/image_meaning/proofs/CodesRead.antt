@@ -1,5 +1,5 @@
 -- Each code that an operation is said to read has an effect: a row for each.
-use Rattle.std.proofs.Common.{◌≡◌, ℕ, ◌<◌, ◌∷◌, [], List, refl, ap, Bool, true, false, eqb, lit<}
+use Rattle.std.proofs.Common.{◌≡◌, ℕ, ◌<◌, ◌∷◌, [], List, refl, ap, Bool, true, eqb, lit<}
 use Rattle.std.specs.Prelude.{◌/◌, ◌==◌, slice_index}
 use Rattle.std.proofs.lemmas.Bool.{false≢true, true≢false}
 use Rattle.vax_form.specs.Codes.{Code, negative, zero_code, overflow, carry, holds, none}

@@ -1,5 +1,5 @@
 -- Instructions, states and pages that show what an operation does.
-use Rattle.std.proofs.Common.{◌≡◌, ℕ, ◌+◌, ◌<◌, ◌∷◌, [], ◌++◌, List, refl, sym, subst, Some, true, false, arith, lit<}
+use Rattle.std.proofs.Common.{◌≡◌, ℕ, ◌<◌, ◌∷◌, [], ◌++◌, List, refl, sym, subst, Some, true, false, arith, lit<}
 use Rattle.std.specs.Prelude.{replicate}
 use Rattle.std.proofs.lemmas.List.Elements.{All-append, All-cons, All-nil, All-replicate}
 use Rattle.vax_form.specs.Codes.{holds}

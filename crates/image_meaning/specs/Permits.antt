@@ -1,24 +1,38 @@
--- By which accesses to memory code for each of the processors may make the references of an instruction.
+-- By which accesses to memory code for each of the processors may make the references of an instruction, and which blocks have a loop.
 use Rattle.std.specs.Prelude.{ℕ, ◌%◌, ◌==◌, ◌&&◌, ◌||◌, Bool, true, false, Option, Some, None, if◌then◌else◌}
 use Rattle.vax_form.specs.Operation.{operation_at}
 use Rattle.vax_form.specs.Pages.{code_byte_at}
 use Rattle.vax_form.specs.Written.{written_bytes}
+use Rattle.vax_form.specs.declared.operation.LongOperation.TheVariants.{MoveCharacters}
 use Rattle.vax_form.specs.declared.operation.Operation.{Operation}
+use Rattle.vax_form.specs.declared.operation.Operation.TheVariants as operations
 use Rattle.vax_form.specs.declared.pages.Pages.{Pages}
 use Rattle.vax_form.specs.declared.state.Reference.{Reference}
 use Rattle.vax_form.specs.declared.state.RefKind.{RefKind}
 use Rattle.vax_form.specs.declared.state.RefKind.TheVariants.{Write}
 use Rattle.alpha_meaning.specs.declared.access.AlphaKind.TheVariants.{Store}
 use Rattle.alpha_meaning.specs.Pieces.{Kinds}
+use Rattle.block_law.specs.Rounds.{block_steps}
 use Rattle.block_law.specs.Sound.{AllowsFew}
 use Rattle.block_law.specs.Translations.{Code, Meaning, Meets, Permit}
 use Rattle.image_meaning.specs.declared.target.Target.{Target}
 use Rattle.image_meaning.specs.declared.target.Target.TheVariants.{Original, ByteWord}
 
--- no instruction's block has a loop
-abbrev pub no_bonus : (address : ℕ) → ℕ
-no_bonus address = 0
+-- ---- loops
+-- MOVC3 moves its bytes in a loop: each access that counts allows the steps of a block
+abbrev pub bonus_of_operation : Option Operation → ℕ
+bonus_of_operation (Some (operations.Long MoveCharacters)) = block_steps
+bonus_of_operation operation = 0
 
+abbrev pub bonus_by : (opcode : Option ℕ) → ℕ
+bonus_by None = 0
+bonus_by (Some opcode) = bonus_of_operation (operation_at opcode)
+
+-- how many steps more an access of the instruction at an address allows, which its opcode tells
+abbrev pub loop_bonus : Pages → (address : ℕ) → ℕ
+loop_bonus pages address = bonus_by (code_byte_at pages address)
+
+-- ---- kinds of accesses
 -- any access, for every reference
 abbrev pub any_kinds : (address : ℕ) → Reference → Kinds
 any_kinds address reference kind bytes = true
@@ -68,11 +82,11 @@ kinds_of ByteWord pages = byte_word_kinds pages
 
 -- what the block of the instruction at an address may do on these processors
 abbrev pub permit_of : Target → Pages → Permit
-permit_of target pages = record { kinds = kinds_of target pages; bonus = no_bonus }
+permit_of target pages = record { kinds = kinds_of target pages; bonus = loop_bonus pages }
 
 -- and on any
 abbrev pub any_permit : Pages → Permit
-any_permit pages = record { kinds = any_kinds; bonus = no_bonus }
+any_permit pages = record { kinds = any_kinds; bonus = loop_bonus pages }
 
 -- ---- laws
 abbrev pub PermitsAllowFew : Type 0

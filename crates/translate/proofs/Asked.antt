@@ -37,7 +37,6 @@ use Rattle.code_runs.specs.Promises.{CanHaveBlocks}
 use Rattle.code_runs.proofs.Meeting.{rules_always_meet}
 use Rattle.translate.specs.Compiled.{AreAlwaysReady, AreReadyFor}
 use Rattle.flow_discovery.specs.Mapped.{has_block}
-use Rattle.vax_long.specs.LongForms.{is_long_form}
 use Rattle.translate.proofs.Calls.{block_can}
 
 -- ---- where N, Z and V are kept, so is C
@@ -135,7 +134,7 @@ reads_ready instr program before lowered ready (suc (suc (suc (suc flag)))) lt e
 
 -- ---- an instruction that has a block can have one
 pub can_have_blocks : (pages : Pages) (instrs : List Instr) → All (λ instr. has_block instr pages ≡ true) instrs → CanHaveBlocks instrs
-can_have_blocks pages instrs built k d lt = block_can (operation_at (get_or instrs k d).opcode) (is_long_form (get_or instrs k d) pages) (built k d lt)
+can_have_blocks pages instrs built k d lt = block_can (operation_at (get_or instrs k d).opcode) (get_or instrs k d) pages (built k d lt)
 
 -- ---- all that is asked along runs
 pub ready_for : (instrs : List Instr) (order : AreInOrder instrs) → CanHaveBlocks instrs → (place : ℕ) → place < length instrs → AreReadyFor (instr_at instrs place) (codes_at instrs place)

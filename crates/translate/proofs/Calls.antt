@@ -46,13 +46,13 @@ use Rattle.code_runs.specs.Codes.{code_sources}
 use Rattle.code_runs.specs.Ready.{can_have_block, long_can_have_block}
 use Rattle.code_runs.specs.Rules.{rules_behind}
 use Rattle.flag_codegen.specs.Made.{codes_made}
-use Rattle.flow_discovery.specs.Mapped.{has_block, has_call_block, is_call}
+use Rattle.flow_discovery.specs.Mapped.{has_block, has_call_block, has_string_block, is_call, is_string_move}
 use Rattle.micro_lower.specs.Lowering.{GoesTo}
 use Rattle.program_codegen.specs.Calls.{destination_of}
 use Rattle.program_codegen.specs.CallPromises.{CompilesCall, IsCallOperation, IsFixedCall}
 use Rattle.translate.specs.Compiled.{Compiles, has_byte_word}
 use Rattle.translate.proofs.Above.{opcode_at}
-use Rattle.translate.proofs.Permitted.{permitted_call}
+use Rattle.translate.proofs.Permitted.{permitted_long}
 
 -- ---- the operation of a call
 pub record IsCall (instr : Instr) (pages : Pages) : Type 0 where
@@ -62,7 +62,7 @@ pub record IsCall (instr : Instr) (pages : Pages) : Type 0 where
   pub is : is_call (Some operation) ≡ true
   pub form : is_long_form instr pages ≡ true
 
-long_there : (o : Option Operation) (operation : LongOperation) → long_operation o ≡ Some operation → o ≡ Some (operations.Long operation)
+pub long_there : (o : Option Operation) (operation : LongOperation) → long_operation o ≡ Some operation → o ≡ Some (operations.Long operation)
 unfolding long_operation
 long_there None operation e = absurd (cc e)
 long_there (Some (operations.Long other)) operation e = let same : other ≡ operation = cc in ap (λ (l : LongOperation). Some (operations.Long l)) same
@@ -103,7 +103,7 @@ call_sources_are instr pages has =
     let call = its_call instr pages has in
     ap (λ (o : Option Operation). option_map_or sources_of o (from Kept Kept)) call.opcode ∙ sources_by call.operation call.is
 
-ready_either : (live : Bool) → (if live then Ready else Ready) ≡ Ready
+pub ready_either : (live : Bool) → (if live then Ready else Ready) ≡ Ready
 ready_either true = refl
 ready_either false = refl
 
@@ -113,7 +113,7 @@ ready_behind_call instr pages live before has =
     ap (λ (s : CodeSources). rules_behind s live before) (call_sources_are instr pages has)
     ∙ rw (ready_either live.n, ready_either live.z, ready_either live.v, ready_either live.c) refl
 
-made_either : (live : Bool) → (live || true) ≡ true
+pub made_either : (live : Bool) → (live || true) ≡ true
 made_either true = refl
 made_either false = refl
 
@@ -182,33 +182,43 @@ compiles_in_place target pages instr before block has follows are stands code fi
     ∙ (ap (λ (o : Option LongOperation). instruction_tree pages (either_script o instr thread) state) call.at ∙ sym (ap (λ (o : Option LongOperation). instruction_tree pages (long_script_where o instr) state) call.at)) in
     let bytes : bytes_written pages instr.at ≡ 0 = ap bytes_by (opcode_at pages instr are fits stands) ∙ (ap bytes_of_operation call.opcode ∙ nothing_written call.operation call.is) in
     subst (λ (t : Tree). Follows (placed (image_meaning pages) (permit_of target pages) code thread state held first) n Plain block_steps new_round (at_place regs first) t) (sym tree)
-    (follows (image_meaning pages) (permit_of target pages) (record { table = are.table; its_pages = refl; kinds = permitted_call target pages instr.at bytes }) code first thread n state held regs few in_place pc is_state form shows lead)
+    (follows (image_meaning pages) (permit_of target pages) (record { table = are.table; its_pages = refl; kinds = permitted_long target pages instr.at 4 bytes }) code first thread n state held regs few in_place pc is_state form shows lead)
 
 -- ---- which instructions have blocks
 translated_is : (class : Class) → is_translated class ≡ true → class ≡ Translated
 translated_is Translated is = refl
 translated_is _ is = absurd (cc is)
 
--- one that is no call has a program
-pub short_translated : (instr : Instr) (pages : Pages) → has_block instr pages ≡ true → has_call_block instr pages ≡ false → class_at instr.opcode ≡ Translated
-short_translated instr pages has short = by (is_translated (class_at instr.opcode)) refl (has_call_block instr pages) has short
-  where
-    by : (b : Bool) → is_translated (class_at instr.opcode) ≡ b → (call : Bool) → (b || call) ≡ true → call ≡ false → class_at instr.opcode ≡ Translated
-    by true is call h f = translated_is (class_at instr.opcode) is
-    by false is true h f = absurd (cc f)
-    by false is false h f = absurd (cc h)
+-- one that is not of long form has a program
+neither : (o : Option LongOperation) (form : Bool) (instr : Instr) (pages : Pages) → (is_call o && form) ≡ false → is_string_move o ≡ false → option_map_or (λ operation. has_long_form operation instr pages) o false ≡ form → form ≡ true → ⊥
+unfolding has_long_form
+neither None form instr pages call string is has = cc
+neither (Some long.CallGeneral) form instr pages call string is has = cc
+neither (Some long.CallStack) form instr pages call string is has = cc
+neither (Some long.MoveCharacters) form instr pages call string is has = cc
+neither (Some _) form instr pages call string is has = cc
 
-call_can : (operation : LongOperation) (form : Bool) → (is_call (Some operation) && form) ≡ true → long_can_have_block operation ≡ true
-call_can long.CallGeneral form h = refl
-call_can long.CallStack form h = refl
-call_can _ form h = absurd (cc h)
+pub short_translated : (instr : Instr) (pages : Pages) → has_block instr pages ≡ true → has_call_block instr pages ≡ false → has_string_block instr ≡ false → class_at instr.opcode ≡ Translated
+short_translated instr pages has short moves = by (is_translated (class_at instr.opcode)) refl (is_long_form instr pages) refl has
+  where
+    by : (b : Bool) → is_translated (class_at instr.opcode) ≡ b → (form : Bool) → is_long_form instr pages ≡ form → (b || form) ≡ true → class_at instr.opcode ≡ Translated
+    by true is form f h = translated_is (class_at instr.opcode) is
+    by false is true f h = absurd (neither (long_at instr.opcode) (is_long_form instr pages) instr pages short moves refl f)
+    by false is false f h = absurd (cc h)
+
+long_can : (operation : LongOperation) (instr : Instr) (pages : Pages) → has_long_form operation instr pages ≡ true → long_can_have_block operation ≡ true
+unfolding has_long_form
+long_can long.CallGeneral instr pages h = refl
+long_can long.CallStack instr pages h = refl
+long_can long.MoveCharacters instr pages h = refl
+long_can _ instr pages h = absurd (cc h)
 
 or_false : (b : Bool) → (b || false) ≡ true → b ≡ true
 or_false true e = refl
 or_false false e = absurd (cc e)
 
-pub block_can : (o : Option Operation) (form : Bool) → (is_translated (class_where o) || (is_call (long_operation o) && form)) ≡ true → option_map_or can_have_block o false ≡ true
+pub block_can : (o : Option Operation) (instr : Instr) (pages : Pages) → (is_translated (class_where o) || option_map_or (λ operation. has_long_form operation instr pages) (long_operation o) false) ≡ true → option_map_or can_have_block o false ≡ true
 unfolding can_have_block class_of_operation long_operation
-block_can None form h = absurd (cc h)
-block_can (Some (operations.Long operation)) form h = call_can operation form h
-block_can (Some operation) form h = or_false (is_translated (class_of_operation operation)) h
+block_can None instr pages h = absurd (cc h)
+block_can (Some (operations.Long operation)) instr pages h = long_can operation instr pages h
+block_can (Some operation) instr pages h = or_false (is_translated (class_of_operation operation)) h

@@ -2,6 +2,7 @@ pub mod Trees
 pub mod Above
 pub mod Permitted
 pub mod Calls
+pub mod Strings
 pub mod Following
 pub mod Asked
 pub mod Placing

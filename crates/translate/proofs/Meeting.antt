@@ -1,5 +1,5 @@
 -- Compiled blocks that are laid out do what their instructions mean.
-use Rattle.std.proofs.Common.{◌≡◌, ℕ, zero, suc, ◌<◌, refl, sym, ◌∙◌, ap, subst, arith, List, [], ◌∷◌, length, get_or, true, Option, Some, None, cond, inl, inr}
+use Rattle.std.proofs.Common.{All, Bool, ◌^◌, ◌≡◌, ℕ, zero, suc, ◌<◌, refl, sym, ◌∙◌, ap, subst, arith, List, [], ◌∷◌, length, get_or, true, Option, Some, None, cond, inl, inr}
 use Rattle.std.specs.Prelude.{slice_get}
 use Rattle.std.proofs.lemmas.Option.{slice_get-get_or, slice_get_within}
 use Rattle.std.proofs.Math.Bool.{or-true}
@@ -10,8 +10,8 @@ use Rattle.exception_records.specs.Points.{point_at}
 use Rattle.exception_records.specs.Shown.{Shows}
 use Rattle.exception_records.specs.declared.points.Point.{Point}
 use Rattle.exception_records.specs.declared.rules.Rules.{Rules}
-use Rattle.block_law.specs.Blocks.{Exit, RulesAt, RulesMeet, IsLaid}
-use Rattle.block_law.specs.Translations.{Code, IsBlock, Meets}
+use Rattle.block_law.specs.Blocks.{Exit, IsBlockOf, RulesAt, RulesMeet, IsLaid}
+use Rattle.block_law.specs.Translations.{Code, IsBlock, Meets, has_loop}
 use Rattle.block_law.proofs.Laid.{first_point, is_block}
 use Rattle.image_meaning.specs.Meant.{image_meaning}
 use Rattle.image_meaning.specs.Permits.{permit_of}
@@ -27,6 +27,7 @@ use Rattle.vax_form.specs.Targets.{fixed_targets, has}
 use Rattle.code_runs.specs.Runs.{instr_at, is_target, joined_at, joined_to, no_instr, only, ending_at}
 use Rattle.translate.specs.Compiled.{AreCompiled, AreFound, ArePages, HasItsRules, IsCompiled}
 use Rattle.translate.proofs.Placing.{are_of}
+use Rattle.translate.proofs.Strings.{loops_there}
 
 -- ---- fixed targets
 any_at : (instrs : List Instr) (address place : ℕ) → place < length instrs → has (fixed_targets (instr_at instrs place)) address ≡ true → is_target instrs address ≡ true
@@ -39,7 +40,7 @@ target_begins : (instrs : List Instr) (address place : ℕ) → place < length i
 unfolding joined_at
 target_begins instrs address place lt e = ap (λ b. cond b None (only (ending_at address 0 instrs))) (any_at instrs address place lt e)
 
-module _ (target : Target) (pages : Pages) (instrs : List Instr) (blocks : List Placed) (code : Code) (are : AreCompiled target pages instrs blocks) (layout : IsLayout blocks code) (stand : AreFound pages instrs) (pages_are : ArePages pages) (meet : runs.RulesMeet instrs) where
+module _ (target : Target) (pages : Pages) (instrs : List Instr) (blocks : List Placed) (code : Code) (are : AreCompiled target pages instrs blocks) (layout : IsLayout blocks code) (stand : AreFound pages instrs) (longs : All (λ (i : Instr). i.at < 2 ^ 32) instrs) (pages_are : ArePages pages) (meet : runs.RulesMeet instrs) where
   -- the instruction of a mapped address
   pub record IsOf (address first : ℕ) : Type 0 where
     pub place : ℕ
@@ -68,6 +69,11 @@ module _ (target : Target) (pages : Pages) (instrs : List Instr) (blocks : List 
         first_is = some_same (sym laid.mapped ∙ ap (word_at code.map) its ∙ e);
       }
 
+  -- its block has a loop where it may
+  loops_as : (address first : ℕ) (of : IsOf address first) → IsBlockOf (has_loop (permit_of target pages) (instr_at instrs of.place).at) (instr_at instrs of.place).at of.block.1
+  loops_as address first of =
+      subst (λ (loops : Bool). IsBlockOf loops (instr_at instrs of.place).at of.block.1) (sym (loops_there target pages (instr_at instrs of.place) pages_are (longs of.place no_instr of.within) (stand of.place no_instr of.within))) of.compiled.shape
+
   -- an instruction's address is mapped
   mapped : (place : ℕ) → place < length instrs → word_at code.map (instr_at instrs place).at ≡ None → ⊥
   mapped place lt e =
@@ -84,7 +90,7 @@ module _ (target : Target) (pages : Pages) (instrs : List Instr) (blocks : List 
   -- the rules at the first word of an instruction's block are those before it
   begins_by : (address first : ℕ) (of : IsOf address first) (point : Point) → point_at code.points first ≡ Some point → point.rules ≡ (codes_at instrs of.place).before
   begins_by address first of point has_point =
-      let shape = of.compiled.shape in
+      let shape = loops_as address first of in
       let there = first_point (image_meaning pages) (permit_of target pages) code (instr_at instrs of.place).at of.block.1 shape of.laid in
       let here : point_at code.points of.laid.first ≡ Some point = subst (λ w. point_at code.points w ≡ Some point) (sym of.first_is) has_point in
       let same : shape.first ≡ point = some_same (sym there ∙ here) in
@@ -141,7 +147,7 @@ module _ (target : Target) (pages : Pages) (instrs : List Instr) (blocks : List 
 
   block_at : (address first : ℕ) (of : IsOf address first) → IsBlock (image_meaning pages) (permit_of target pages) code (instr_at instrs of.place).at of.laid.first
   block_at address first of =
-      let shape = of.compiled.shape in
+      let shape = loops_as address first of in
       let at = (instr_at instrs of.place).at in
       is_block (image_meaning pages) (permit_of target pages) code at of.block.1 shape of.laid
       (λ thread n state held regs lt is_state pc form shows.

@@ -110,10 +110,10 @@ permitted Original pages address bytes is = λ reference kind n may. are_whole r
 permitted ByteWord pages address bytes is = λ reference kind n may.
     subst (λ m. (if is_whole m reference then by_store reference.count else any_kinds address reference) kind n ≡ true) (sym is) (by_whole address bytes reference kind n may)
 
--- where no operand is stored as a whole, a longword is written by the same accesses
-pub permitted_call : (target : Target) (pages : Pages) (address : ℕ) → bytes_written pages address ≡ 0 → MoreKinds (needed (has_byte_word target) 4) (kinds_of target pages address)
-permitted_call Original pages address is = λ reference kind n may. are_whole reference.kind kind n may
-permitted_call ByteWord pages address is = λ reference kind n may.
+-- where no operand is stored as a whole, so many bytes are written by the same accesses
+pub permitted_long : (target : Target) (pages : Pages) (address bytes : ℕ) → bytes_written pages address ≡ 0 → MoreKinds (needed (has_byte_word target) bytes) (kinds_of target pages address)
+permitted_long Original pages address bytes is = λ reference kind n may. are_whole reference.kind kind n may
+permitted_long ByteWord pages address bytes is = λ reference kind n may.
     subst (λ m. (if is_whole m reference then by_store reference.count else any_kinds address reference) kind n ≡ true) (sym is)
     (subst (λ whole. (if whole then by_store reference.count else any_kinds address reference) kind n ≡ true) (sym (none_whole reference)) refl)
   where

@@ -8,6 +8,7 @@ use Rattle.vax_form.specs.declared.instr.Instr.{Instr}
 use Rattle.vax_form.specs.declared.pages.Pages.{Pages}
 use Rattle.address_map.specs.Pairs.{Pair}
 use Rattle.block_law.specs.Blocks.{IsBlockOf}
+use Rattle.flow_discovery.specs.Mapped.{has_string_block}
 use Rattle.branch_layout.specs.Layouts.{Placed, AddressesRise, IsPlaced, AreBlocks, places}
 use Rattle.branch_layout.proofs.Filling.{All_by}
 use Rattle.branch_layout.proofs.Places.{size}
@@ -54,7 +55,7 @@ module _ (target : Target) (pages : Pages) (instrs : List Instr) (blocks : List 
   pub are_blocks : AreBlocks blocks
   are_blocks =
       All_by IsPlaced blocks
-      (λ k block e. let r = are.each k block e in (false, subst (λ n. IsBlockOf false n block.1) (sym r.address) r.shape))
+      (λ k block e. let r = are.each k block e in (has_string_block (instr_at instrs k), subst (λ n. IsBlockOf (has_string_block (instr_at instrs k)) n block.1) (sym r.address) r.shape))
 
   its_address : (k : ℕ) (d : Placed) → k < length blocks → (get_or blocks k d).0 ≡ (instr_at instrs k).at
   its_address k d lt = (are.each k (get_or blocks k d) (slice_get-get_or blocks k d lt)).address

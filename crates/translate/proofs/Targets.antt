@@ -8,12 +8,13 @@ use Rattle.exception_records.specs.Points.{Entry}
 use Rattle.block_law.specs.Translations.{Code}
 use Rattle.branch_layout.specs.Layouts.{Placed, laid_points, layout, shifted}
 use Rattle.program_codegen.specs.Calls.{call_block}
+use Rattle.program_codegen.specs.Strings.{string_block}
 use Rattle.program_codegen.specs.Words.{points_alone}
-use Rattle.program_codegen.proofs.Targets.{block_points, call_points}
+use Rattle.program_codegen.proofs.Targets.{block_points, call_points, string_points}
 use Rattle.code_runs.specs.Codes.{code_sources, codes_at}
 use Rattle.code_runs.specs.Runs.{instr_at}
 use Rattle.code_runs.specs.declared.codes.InstrCodes.{InstrCodes}
-use Rattle.flow_discovery.specs.Mapped.{has_call_block}
+use Rattle.flow_discovery.specs.Mapped.{has_call_block, has_string_block}
 use Rattle.flag_codegen.specs.Words.{code_words}
 use Rattle.micro_lower.specs.Rows.{program_for}
 use Rattle.image_meaning.specs.declared.target.Target.{Target}
@@ -43,13 +44,14 @@ module _ (target other : Target) (pages : Pages) (instrs : List Instr) where
   one_alike : (place : ℕ)
       → points_alone (block_of target pages (instr_at instrs place) (codes_at instrs place)).1.points ≡ points_alone (block_of other pages (instr_at instrs place) (codes_at instrs place)).1.points
   unfolding block_of
-  one_alike place = by (instr_at instrs place) (codes_at instrs place) (has_call_block (instr_at instrs place) pages)
+  one_alike place = by (instr_at instrs place) (codes_at instrs place) (has_call_block (instr_at instrs place) pages) (has_string_block (instr_at instrs place))
     where
-      by : (instr : Instr) (codes : InstrCodes) (call : Bool)
-          → points_alone (if call then call_block instr pages codes.before (has_byte_word target) else short_block target instr codes).points
-          ≡ points_alone (if call then call_block instr pages codes.before (has_byte_word other) else short_block other instr codes).points
-      by instr codes true = call_points instr codes.before (has_byte_word target) (has_byte_word other) pages
-      by instr codes false =
+      by : (instr : Instr) (codes : InstrCodes) (call moves : Bool)
+          → points_alone (if call then call_block instr pages codes.before (has_byte_word target) else if moves then string_block instr codes.before (has_byte_word target) else short_block target instr codes).points
+          ≡ points_alone (if call then call_block instr pages codes.before (has_byte_word other) else if moves then string_block instr codes.before (has_byte_word other) else short_block other instr codes).points
+      by instr codes true moves = call_points instr codes.before (has_byte_word target) (has_byte_word other) pages
+      by instr codes false true = string_points instr codes.before (has_byte_word target) (has_byte_word other)
+      by instr codes false false =
           block_points instr (code_sources instr) codes.before codes.behind (has_byte_word target) (has_byte_word other) (code_words (code_sources instr) codes.live) (unwrap_or (program_for instr) [])
 
   laid_alike : (first first' : ℕ) (places : List ℕ)

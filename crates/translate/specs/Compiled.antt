@@ -41,11 +41,12 @@ use Rattle.code_runs.specs.Runs.{AreInOrder, instr_at}
 use Rattle.code_runs.specs.declared.codes.InstrCodes.{InstrCodes}
 use Rattle.exception_records.specs.Codes.{all_ready}
 use Rattle.program_codegen.specs.Calls.{call_block}
+use Rattle.program_codegen.specs.Strings.{string_block}
 use Rattle.program_codegen.specs.Programs.{KeepsTogether, is_narrow}
 use Rattle.micro_lower.specs.Lowering.{GoesTo}
 use Rattle.program_codegen.specs.Promises.{BeginsBy, HasRules}
 use Rattle.program_codegen.specs.Words.{points_alone, program_block}
-use Rattle.flow_discovery.specs.Mapped.{Mapped, has_call_block}
+use Rattle.flow_discovery.specs.Mapped.{Mapped, has_call_block, has_string_block}
 use Rattle.micro_lower.specs.Rows.{program_for}
 
 -- each stands in the pages at its address
@@ -84,14 +85,18 @@ short_block target instr codes =
 
 -- the block of an instruction that has these codes along its run, with its address
 unfoldable pub block_of : Target → Pages → Instr → InstrCodes → Placed
-block_of target pages instr codes =
-    (instr.at, if has_call_block instr pages then call_block instr pages codes.before (has_byte_word target) else short_block target instr codes)
+block_of target pages instr codes = (
+  instr.at,
+  if has_call_block instr pages then call_block instr pages codes.before (has_byte_word target)
+      else if has_string_block instr then string_block instr codes.before (has_byte_word target)
+      else short_block target instr codes,
+)
 
 -- an instruction with its block, which has these codes along its run
 pub record IsCompiled (target : Target) (pages : Pages) (instr : Instr) (codes : InstrCodes) (block : Placed) : Type 0 where
   pub value : block ≡ block_of target pages instr codes
   pub address : block.0 ≡ instr.at
-  pub shape : IsBlockOf false instr.at block.1
+  pub shape : IsBlockOf (has_string_block instr) instr.at block.1
   pub exits : All (λ exit. GoesTo instr exit.1) block.1.exits
   pub first : BeginsBy codes.before block.1
   pub rules : All (HasRules codes.before codes.behind) block.1.points

@@ -3,7 +3,7 @@ ghost use Rattle.std.specs.Prelude.{◌≡◌, All, IfOk, Some, false, true};
 ghost use Rattle.vax_form.specs.Grammar.{IsSpelled};
 ghost use Rattle.vax_form.specs.Row.{class_at};
 ghost use Rattle.vax_form.specs.declared.row.Class.TheVariants.{Translated};
-ghost use Rattle.flow_discovery.specs.Mapped.{has_block, has_call_block};
+ghost use Rattle.flow_discovery.specs.Mapped.{has_block, has_call_block, has_string_block};
 ghost use Rattle.code_runs.specs.Codes.{instruction_codes};
 ghost use Rattle.code_runs.specs.Runs.{AreInOrder};
 ghost use Rattle.micro_lower.specs.Lowering.{IsLowered, WritesOperand};
@@ -13,11 +13,11 @@ ghost use Rattle.translate.specs.Compiled.{AreCompiled, AreReadyFor, IsCompiled,
 use code_runs::{InstrCodes, instruction_codes};
 use exception_records::Block;
 use flag_codegen::code_words;
-use flow_discovery::has_call_block;
+use flow_discovery::{has_call_block, has_string_block};
 use image_meaning::Target;
 use micro_lower::lower;
 use micro_ops::{Micro, sources_of};
-use program_codegen::{block, long_block};
+use program_codegen::{block, long_block, string_block};
 use std::alloc::Global;
 use vax_form::{Instr, Pages, WantOfMemory, operation_of};
 
@@ -52,6 +52,7 @@ fn short_block(
     requires spelled { IsSpelled instr.now }
     requires translated { class_at instr.now.opcode ≡ Translated }
     requires short { has_call_block instr.now pages.now ≡ false }
+    requires still { has_string_block instr.now ≡ false }
     requires ready { AreReadyFor instr.now codes.now }
     ensures { IfOk result (IsCompiled target pages.now instr.now codes.now) }
 {
@@ -91,6 +92,24 @@ fn call_block(
     Ok((instr.at, block))
 }
 
+/// The block of MOVC3.
+fn move_block(
+    alloc: Global,
+    pages: &Pages,
+    instr: &Instr,
+    codes: &InstrCodes,
+    target: Target,
+) -> Result<(u32, Block), WantOfMemory>
+    requires spelled { IsSpelled instr.now }
+    requires no_call { has_call_block instr.now pages.now ≡ false }
+    requires moves { has_string_block instr.now ≡ true }
+    requires ready { AreReadyFor instr.now codes.now }
+    ensures { IfOk result (IsCompiled target pages.now instr.now codes.now) }
+{
+    let block = string_block(alloc, has_byte_word(target), instr, codes.before)?;
+    Ok((instr.at, block))
+}
+
 /// The block of an instruction, with its address, by the codes that it has along its run.
 #[tactic(auto, using(crate::proofs::Calls::short_translated))]
 fn compiled_instr(
@@ -107,6 +126,8 @@ fn compiled_instr(
 {
     if has_call_block(instr, pages) {
         call_block(alloc, pages, instr, codes, target)
+    } else if has_string_block(instr) {
+        move_block(alloc, pages, instr, codes, target)
     } else {
         short_block(alloc, pages, instr, codes, target)
     }

@@ -45,7 +45,7 @@ returns-clause-meets c =
     } in
     let blocks = c.in_ok-blocks.blocks.items in
     IfOk-weaker c.laid_out.result (IsLaidOut blocks) _
-    (λ code laid. meets c.args.target c.args.pages.now instrs blocks code c.in_ok-blocks.ensures laid.laid c.requires.found c.pages_law.ensures (rules_always_meet instrs order (can_have_blocks c.args.pages.now instrs c.requires.built)))
+    (λ code laid. meets c.args.target c.args.pages.now instrs blocks code c.in_ok-blocks.ensures laid.laid c.requires.found c.requires.longwords c.pages_law.ensures (rules_always_meet instrs order (can_have_blocks c.args.pages.now instrs c.requires.built)))
     (subst (λ (bs : List Placed). IfOk c.laid_out.result (IsLaidOut bs)) c.deref.ensures.value c.laid_out.ensures)
 
 pub returns-clause-mapped : goal.returns-clause-mapped
@@ -68,7 +68,7 @@ returns-clause-blocks c =
       order = order;
       codes = are_codes instrs order (instruction_codes instrs) refl;
       compiled = subst (AreCompiled c.args.target c.args.pages.now instrs) (are_of c.args.target c.args.pages.now instrs blocks c.in_ok-blocks.ensures) c.in_ok-blocks.ensures;
-      rules = its_rules c.args.target c.args.pages.now instrs blocks code c.in_ok-blocks.ensures laid.laid c.requires.found c.pages_law.ensures (rules_always_meet instrs order (can_have_blocks c.args.pages.now instrs c.requires.built));
+      rules = its_rules c.args.target c.args.pages.now instrs blocks code c.in_ok-blocks.ensures laid.laid c.requires.found c.requires.longwords c.pages_law.ensures (rules_always_meet instrs order (can_have_blocks c.args.pages.now instrs c.requires.built));
       laid = laid.value ∙ ap layout (are_of c.args.target c.args.pages.now instrs blocks c.in_ok-blocks.ensures);
     })
     (subst (λ (bs : List Placed). IfOk c.laid_out.result (IsLaidOut bs)) c.deref.ensures.value c.laid_out.ensures)

@@ -3,16 +3,19 @@ use Rattle.std.proofs.Common.{◌∙◌, ℕ, Bool, List, [], refl, sym, ap, sub
 use Rattle.std.specs.Prelude.{if◌then◌else◌}
 use Rattle.std.proofs.lemmas.List.Elements.{All-cons, All-nil}
 use Rattle.vax_form.specs.Targets.{behind_mask}
-use Rattle.block_law.specs.Blocks.{Exit}
+use Rattle.block_law.specs.Blocks.{Exit, IsBlockOf}
+use Rattle.flow_discovery.specs.Mapped.{has_string_block}
 use Rattle.exception_records.specs.Blocks.{BlockValue}
 use Rattle.exception_records.specs.declared.rules.Rules.{Rules}
 use Rattle.micro_lower.specs.Lowering.{GoesTo}
 use Rattle.program_codegen.specs.CallPromises.{CompilesCall}
 use Rattle.program_codegen.specs.Calls.{call_block, destination_of}
 use Rattle.program_codegen.specs.Promises.{HasRules}
+use Rattle.program_codegen.specs.Strings.{string_block}
 use Rattle.translate.specs.Compiled.{Compiles, block_of, has_byte_word, short_block}
 use Rattle.translate.proofs.Asked.{all_of_map}
 use Rattle.translate.proofs.Calls.{call_goes, compiles_in_place, fixed_call, made_by_call, ready_behind_call}
+use Rattle.translate.proofs.Strings.{call_is_no_move}
 use Rattle.translate.proofs.blocks.call_block.Goals as goal
 
 pub long_block-requires : goal.long_block-requires
@@ -32,9 +35,9 @@ returns c =
     record {
       value =
           ap (λ (b : BlockValue). (instr.at, b)) (made.words ∙ ap (λ (has : Bool). call_block instr pages codes.before has) c.has_byte_word.ensures)
-          ∙ ap (λ (call : Bool). (instr.at, if call then call_block instr pages codes.before (has_byte_word target) else short_block target instr codes)) (sym c.requires.call);
+          ∙ ap (λ (call : Bool). (instr.at, if call then call_block instr pages codes.before (has_byte_word target) else if has_string_block instr then string_block instr codes.before (has_byte_word target) else short_block target instr codes)) (sym c.requires.call);
       address = refl;
-      shape = made.shape;
+      shape = subst (λ (loops : Bool). IsBlockOf loops instr.at block) (sym (call_is_no_move instr pages c.requires.call)) made.shape;
       exits = all_of_map (GoesTo instr) (λ (exit : Exit). exit.1) block.exits
           (subst (λ (addresses : List ℕ). All (GoesTo instr) addresses) (sym made.exits) (All-cons (GoesTo instr) (behind_mask (destination_of instr)) [] (call_goes instr pages c.requires.call) (All-nil (GoesTo instr))));
       first = made.first;

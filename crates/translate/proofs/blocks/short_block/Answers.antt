@@ -5,7 +5,8 @@ use Rattle.micro_ops.specs.declared.codes.CodeSources.{CodeSources}
 use Rattle.micro_ops.specs.declared.program.Micro.{Micro}
 use Rattle.alpha_encode.specs.declared.instr.AlphaInstr.{AlphaInstr}
 use Rattle.exception_records.specs.declared.rules.Rules.{Rules}
-use Rattle.block_law.specs.Blocks.{Exit}
+use Rattle.block_law.specs.Blocks.{Exit, IsBlockOf}
+use Rattle.flow_discovery.specs.Mapped.{has_string_block}
 use Rattle.block_law.specs.CodeWords.{LeavesCodes}
 use Rattle.block_law.specs.Tidy.{codes_written}
 use Rattle.exception_records.specs.Blocks.{BlockValue}
@@ -15,6 +16,7 @@ use Rattle.micro_ops.specs.Exits.{addresses_of}
 use Rattle.program_codegen.specs.Calls.{call_block}
 use Rattle.program_codegen.specs.Programs.{KeepsTogether, LeavesReady, ReadsReady}
 use Rattle.program_codegen.specs.Promises.{CompilesProgram}
+use Rattle.program_codegen.specs.Strings.{string_block}
 use Rattle.program_codegen.specs.Words.{program_block}
 use Rattle.translate.specs.Compiled.{block_of, has_byte_word, short_block}
 use Rattle.micro_lower.specs.Rows.{program_for}
@@ -74,9 +76,10 @@ returns c =
     record {
       value =
           ap (λ (b : BlockValue). (instr.at, b)) value
-          ∙ ap (λ (call : Bool). (instr.at, if call then call_block instr c.args.pages.now codes.before (has_byte_word target) else short_block target instr codes)) (sym c.requires.short);
+          ∙ (ap (λ (moves : Bool). (instr.at, if moves then string_block instr codes.before (has_byte_word target) else short_block target instr codes)) (sym c.requires.still)
+          ∙ ap (λ (call : Bool). (instr.at, if call then call_block instr c.args.pages.now codes.before (has_byte_word target) else if has_string_block instr then string_block instr codes.before (has_byte_word target) else short_block target instr codes)) (sym c.requires.short));
       address = refl;
-      shape = made.shape;
+      shape = subst (λ (loops : Bool). IsBlockOf loops instr.at block) (sym c.requires.still) made.shape;
       exits = all_of_map (GoesTo instr) (λ (exit : Exit). exit.1) block.exits (subst (λ (addresses : List ℕ). All (GoesTo instr) addresses) left c.in_ok-program.ensures.lowered.keeps.exits);
       first = made.first;
       rules = made.rules;
