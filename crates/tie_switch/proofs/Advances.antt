@@ -1,5 +1,5 @@
 -- Turns one after the other, local ones and others, over memories that accesses lead to.
-use Rattle.std.proofs.Common.{◌≡◌, ℕ, suc, ◌+◌, ◌-◌, ◌<◌, ◌≤◌, ◌↔◌, ◌⊎◌, inl, inr, Bool, true, false, List, refl, sym, ◌∙◌, subst, arith}
+use Rattle.std.proofs.Common.{◌≡◌, ℕ, suc, ◌+◌, ◌-◌, ◌<◌, ◌↔◌, ◌⊎◌, inl, inr, Bool, true, false, List, refl, sym, ◌∙◌, subst, arith}
 use Rattle.std.specs.Prelude.{MatchBool}
 use Rattle.memory_core.specs.Seen.{IsNext}
 use Rattle.memory_core.specs.declared.entry.Entry.{Entry}
@@ -136,11 +136,3 @@ has_more s u v may_come some most m k j old mid steps made among same as_many =
           (steps.can (m + n) q new within
           (joined s u may_come k.budget steps.processor old m there.processor mid there.turned (more_turns s u some may_come among k.budget there.processor mid more)));
     }
-
--- or fewer
-pub has_fewer : (s : Setting) (u : SetUp) (may_come : List Entry → Type 0) (most few : ℕ) (k : ProcessorValue) (old : List Entry) → few ≤ most → HasSteps s u may_come most k old → HasSteps s u may_come few k old
-has_fewer s u may_come most few k old within steps = record {
-  processor = steps.processor;
-  stands = steps.stands;
-  can = λ n q new fewer. steps.can n q new (omega (arith, fewer, within));
-}

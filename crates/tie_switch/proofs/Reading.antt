@@ -115,17 +115,6 @@ reads_behind s budget k j m n waits ended u there same turned none is lasts read
     reads_on s m.contents.set_up budget there.processor next.processor m.contents.history n.contents.history waits ended count next.turned (none there.processor there.stands) is lasts read in
     subst (λ (u : SetUp). gets (reverse n.contents.history) ≤ length u.input) (sym same) few
 
--- where it waits, the input has not ended and no byte is there
-pub waits_for : (waits ended asks : Bool) (m : Contents) → (waits && asks) ≡ true → waits ≡ (not ended && wants_input m) → (ended ≡ false) × (wants_input m ≡ true)
-waits_for waits ended asks m waited is =
-    let both : (not ended && wants_input m) ≡ true = sym is ∙ (and_parts waits asks waited).0 in
-    let parts = and_parts (not ended) (wants_input m) both in
-    (lasts ended parts.0, parts.1)
-  where
-    lasts : (b : Bool) → not b ≡ true → b ≡ false
-    lasts true e = absurd (cc e)
-    lasts false e = refl
-
 -- it has paused before a turn that asks
 pub paused : (s : Setting) (u : SetUp) (budget n : ℕ) (p : Processor) (k j : ProcessorValue) (old new new' : List Entry) (waits : Bool) → HasAdvanced s u AreNone budget p n k old new → new' ≡ new
     → ((q : Processor) → StandsFor s.meaning.pages k q → StandsFor s.meaning.pages j q) → ((q : Processor) → StandsFor s.meaning.pages k q → (waits && next_asks_get s budget q) ≡ true)

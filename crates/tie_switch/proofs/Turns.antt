@@ -108,11 +108,11 @@ get_other (z ∷ zs) zero (suc m) y h = refl
 get_other (z ∷ zs) (suc n) zero y h = refl
 get_other (z ∷ zs) (suc n) (suc m) y h = get_other zs n m y (λ e. h (ap suc e))
 
-newest : (history : List Entry) (e : Entry) → reverse (history ++ e ∷ []) ≡ e ∷ reverse history
+pub newest : (history : List Entry) (e : Entry) → reverse (history ++ e ∷ []) ≡ e ∷ reverse history
 newest history e = reverse-append history (e ∷ [])
 
 -- ---- the entry of a request
-same_entry : (set_up : SetUp) (history : List Entry) (request : Request) (before : ℕ) (success : Bool) → before ≡ (entry_for set_up history request).before → success ≡ (entry_for set_up history request).success
+pub same_entry : (set_up : SetUp) (history : List Entry) (request : Request) (before : ℕ) (success : Bool) → before ≡ (entry_for set_up history request).before → success ≡ (entry_for set_up history request).success
     → entry_for set_up history request ≡ entry_by request before success
 same_entry set_up history request before success e k =
     sym (ap (λ x. entry_by request x success) e ∙ ap (λ x. entry_by request (entry_for set_up history request).before x) k)

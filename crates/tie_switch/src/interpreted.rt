@@ -7,6 +7,7 @@ ghost use Rattle.vax_form.specs.GrammarFound.{found};
 ghost use Rattle.vax_form.specs.declared.state.Pending.TheVariants.{Nothing};
 
 use crate::arrive::settled;
+use crate::known::there;
 use crate::pending::PendingTie;
 use crate::place::Last;
 use crate::played::Played;
@@ -123,14 +124,18 @@ impl Interpreted {
         &mut self,
         before: &VaxState,
         pages: &Pages,
+        known: &mut [Option<Instr>],
         thread: u8,
         reply: Option<u64>,
     ) -> Step
+        requires known { AreFound pages.now known.old }
         requires long { IsLong (found pages.now before.now.pc) }
+        ensures known { AreFound pages.now known.new }
         ensures answers { before.now.pending ≡ Nothing → result ≡ step_of (answer pages.now (moment_at pages.now thread before.now) (list_of reply)) }
         ensures stands { before.now.pending ≡ Nothing → IfWants result (Stands pages.now thread self.new before.now (list_of reply)) }
     {
-        let mut tie = LongTie::begin(before, pages, thread);
+        let decoded = there(pages, known, before.pc);
+        let mut tie = LongTie::begin_decoded(before, &decoded, thread);
         let step = Step::handled(tie.step(pages, reply));
         *self = Interpreted::Long(tie);
         step
@@ -156,7 +161,7 @@ impl Interpreted {
                 Some(step) => step,
                 None => {
                     let (before, thread) = (played.before, played.thread);
-                    self.begin_strings(&before, pages, thread, reply)
+                    self.begin_strings(&before, pages, known, thread, reply)
                 }
             },
             Interpreted::Long(tie) => Step::handled(tie.step(pages, reply)),

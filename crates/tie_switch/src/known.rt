@@ -41,3 +41,17 @@ pub(crate) fn decoded_at(pages: &Pages, known: &mut [Option<Instr>], address: u3
     }
     decoded
 }
+
+/// What stands at an address, by what is known where it is known.
+pub(crate) fn there(pages: &Pages, known: &mut [Option<Instr>], address: u32) -> Decoded
+    requires known { AreFound pages.now known.old }
+    ensures known { AreFound pages.now known.new }
+    ensures found { found_of result ≡ found pages.now address }
+{
+    if let Some(Some(instr)) = known.get(place_of(address)) {
+        if instr.at == address {
+            return Decoded::Instr(*instr);
+        }
+    }
+    decoded_at(pages, known, address)
+}

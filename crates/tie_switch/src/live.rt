@@ -10,7 +10,6 @@ ghost use Rattle.tie_switch.specs.Seen.{setting_of};
 ghost use Rattle.tie_switch.specs.Settings.{image_setting};
 ghost use Rattle.tie_switch.specs.Turns.{has_ended};
 
-use crate::known::KNOWN;
 use crate::processor::{Mode, Processor};
 use crate::setting::Setting;
 use crate::turn::Turn;
@@ -109,24 +108,28 @@ impl Processor {
 
     /// Makes turns over a live memory, one after the other as `advance` makes them: as many as are asked for, or fewer where the
     /// processor has ended, where the next turn asks for a byte of the input and none is there, or where as many bytes were put as
-    /// may be, so that none is refused. Where the input has ended a turn that asks for a byte is made. Tells how many were made,
-    /// and why it stopped.
+    /// may be, so that none is refused. Where the input has ended a turn that asks for a byte is made. `known` has instructions that
+    /// were decoded before, at the places of their addresses as far as it has such places. Tells how many were made, and why it
+    /// stopped.
     pub fn advance_live(
         &mut self,
         image: &Image,
         translation: &Translation,
         prepared: &Prepared<'_>,
         ranges: &[Range],
+        known: &mut [Option<Instr>],
         memory: &mut LiveState,
         input_ended: bool,
         most: u64,
     ) -> (u64, Pause)
+        requires known { AreFound image.now.pages known.old }
         requires few { length translation.now.words ≤ most_words }
         requires code { prepared.now.code ≡ translation.now }
         requires image { prepared.now.pages ≡ image.now.pages }
         requires pages { memory.old.contents.set_up.image.pages ≡ image.now.pages }
         requires serves { self.old.thread < memory.old.contents.processors }
         requires has_steps { HasSteps (image_setting image.now.pages translation.now ranges.now) memory.old.contents.set_up AreNone most self.old memory.old.contents.history }
+        ensures known { AreFound image.now.pages known.new }
         ensures most { result.0 ≤ most }
         ensures all { result.1 ≡ Pause.Most → result.0 ≡ most }
         ensures memory { IsSameMemory memory.old memory.new }
@@ -149,11 +152,10 @@ impl Processor {
             code: translation,
             ranges,
         };
-        let mut known = [None; KNOWN];
-        self.advance_waiting(setting, prepared, &mut known, memory, input_ended, most)
+        self.advance_waiting(setting, prepared, known, memory, input_ended, most)
     }
 
-    // The same, by the instructions that are known.
+    // The same of a setting.
     fn advance_waiting(
         &mut self,
         setting: Setting<'_>,
@@ -170,6 +172,7 @@ impl Processor {
         requires pages { memory.old.contents.set_up.image.pages ≡ setting.pages.now }
         requires serves { self.old.thread < memory.old.contents.processors }
         requires has_steps { HasSteps (setting_of setting) memory.old.contents.set_up AreNone most self.old memory.old.contents.history }
+        ensures known { AreFound setting.entry.pages.now known.new }
         ensures most { result.0 ≤ most }
         ensures all { result.1 ≡ Pause.Most → result.0 ≡ most }
         ensures memory { IsSameMemory memory.old memory.new }

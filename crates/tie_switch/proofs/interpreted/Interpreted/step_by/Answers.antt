@@ -10,10 +10,9 @@ use Rattle.tie_switch.specs.Interpreted.{HasStrings}
 use Rattle.tie_switch.proofs.Playing.{strings_answer, strings_are_long, strings_stand}
 use Rattle.tie_switch.proofs.interpreted.Interpreted.step_by.Goals as goal
 
-pub begin_strings-requires : goal.begin_strings-requires
-begin_strings-requires c = record {
-  long = strings_are_long _ (subst (λ (s : VaxState). HasStrings (found c.args.pages.now s.pc)) (sym c.step.ensures.before) c.in-None.ensures.strings);
-}
+pub begin_strings-requires-clause-long : goal.begin_strings-requires-clause-long
+begin_strings-requires-clause-long c =
+    strings_are_long _ (subst (λ (s : VaxState). HasStrings (found c.args.pages.now s.pc)) (sym c.step.ensures.before) c.in-None.ensures.strings)
 
 pub returns-in-Some-clause-answers : goal.returns-in-Some-clause-answers
 returns-in-Some-clause-answers c = λ thread state replies stands. c.in-Some.ensures.answers thread state replies (rw c.in-Plays.is at stands)
