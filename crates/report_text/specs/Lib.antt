@@ -2,6 +2,7 @@ pub mod Digits
 pub mod Numbers
 pub mod Report
 pub mod Offer
+pub mod Progress
 pub mod Refused
 pub mod Generated
 pub mod Generating

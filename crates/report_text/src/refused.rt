@@ -16,6 +16,7 @@ pub enum Subject {
     Flow,
     Order,
     Hints,
+    Live,
     Elf,
     Parts,
 }
@@ -44,6 +45,7 @@ fn push_subject(line: &mut Line, subject: Subject)
         Subject::Flow => b"flow",
         Subject::Order => b"order",
         Subject::Hints => b"hints",
+        Subject::Live => b"live",
         Subject::Elf => b"elf",
         Subject::Parts => b"parts",
     });
