@@ -6,3 +6,7 @@ mod Rounds
 mod LiveTurns
 mod NewLive
 mod LiveGoingOn
+mod OnlySteps
+mod Telling
+mod Pauses
+mod Reporting

@@ -1,5 +1,5 @@
 -- Turns of the only processor of a live world.
-use Rattle.std.proofs.Common.{◌≡◌, ℕ, suc, ◌≤◌, ◌+◌, ◌==◌, ◌&&◌, ◌⊎◌, inl, inr, if◌then◌else◌, Bool, false, true, not, List, [], ◌∷◌, ◌++◌, length, refl, sym, ap, ◌∙◌, subst, arith}
+use Rattle.std.proofs.Common.{◌≡◌, ℕ, suc, ◌≤◌, ◌==◌, ◌&&◌, ◌⊎◌, inl, inr, if◌then◌else◌, Bool, false, true, not, List, [], ◌∷◌, ◌++◌, length, refl, sym, ap, ◌∙◌, subst, arith}
 use Rattle.std.specs.Prelude.{MatchBool, reverse, take}
 use Rattle.std.proofs.lemmas.List.{append-nil, append_assoc, length-append, reverse-append, take-append-le}
 use Rattle.memory_core.specs.Contents.{bytes_put, entry_for, output_of}
@@ -146,19 +146,19 @@ none_made s u budget p old NoTurn none = refl
 none_made s u budget p old (Turns before last) none = absurd (cc none)
 
 -- ---- one that has ended stays
-ended_by : (s : Setting) (u : SetUp) (budget : ℕ) (p q : Processor) (old new : List Entry) (end : End) → p.mode ≡ Ended end → IsTurn s u AreNone budget p q old new → q ≡ p
-ended_by s u budget p q old new end is turned =
+pub ended_still : (s : Setting) (u : SetUp) (budget : ℕ) (p q : Processor) (old new : List Entry) (end : End) → p.mode ≡ Ended end → IsTurn s u AreNone budget p q old new → IsStill p q old new
+ended_still s u budget p q old new end is turned =
     let out : is_out budget p ≡ false = ap (λ (m : Mode). goes_on m && (p.steps == budget)) is in
     let over : turn s p ≡ Over = ap (λ (m : Mode). turn_in s p (mode_of s p m)) is in
     let makes : Makes (turn s p) u AreNone p q old new = subst (λ b. MatchBool b (IsStill (spent p) q old new) (Makes (turn s p) u AreNone p q old new)) out turned in
-    (subst (λ (t : Turn). Makes t u AreNone p q old new) over makes).processor
+    subst (λ (t : Turn). Makes t u AreNone p q old new) over makes
 
 ended_stays : (s : Setting) (u : SetUp) (budget : ℕ) (p : Processor) (old : List Entry) (end : End) → p.mode ≡ Ended end
     → {n : ℕ} {q : Processor} {new : List Entry} → IsTurns s u AreNone budget p old n q new → q ≡ p
 ended_stays s u budget p old end is NoTurn = refl
 ended_stays s u budget p old end is (Turns {p = x} {q = y} {old = mid} {new = after} before last) =
     let same : x ≡ p = ended_stays s u budget p old end is before in
-    ended_by s u budget x y mid after end (ap (λ (z : Processor). z.mode) same ∙ is) last ∙ same
+    (ended_still s u budget x y mid after end (ap (λ (z : Processor). z.mode) same ∙ is) last).processor ∙ same
 
 pub spent_mode : (mode : Mode) → is_spent mode ≡ true → mode ≡ Ended ends.Spent
 spent_mode New is = absurd (cc is)

@@ -1,6 +1,6 @@
 -- A world of one processor, turn by turn to its end.
 use Rattle.std.proofs.Common.{◌≡◌, ℕ, ◌+◌, ◌-◌, ◌<◌, ◌≤◌, ◌⊎◌, inl, inr, if◌then◌else◌, Bool, true, false, List, [], ◌∷◌, Some, length, refl, sym, ap, ◌∙◌, subst, arith}
-use Rattle.std.specs.Prelude.{map, option_map, slice_get, slice_set}
+use Rattle.std.specs.Prelude.{map, option_map, slice_get}
 use Rattle.std.specs.List.{AllByRecursion, AllZip}
 use Rattle.std.proofs.lemmas.Option.{slice_get_within}
 use Rattle.image_file.specs.Start.{start_state}
@@ -39,7 +39,7 @@ ended_at [] k at = absurd (cc at)
 ended_at (x ∷ rest) k at = let same : x ≡ k = cc at in ap (λ (y : ProcessorValue). has_ended (processor_of y).mode) same
 
 -- its steps are at most the budget
-steps_within : (setting : Setting) (budget : ℕ) (limit : Limit) (entries : List Entry) (thread : ℕ) (start : VaxState) (p : Processor) → IsReached setting budget limit entries thread start p → p.steps ≤ budget
+pub steps_within : (setting : Setting) (budget : ℕ) (limit : Limit) (entries : List Entry) (thread : ℕ) (start : VaxState) (p : Processor) → IsReached setting budget limit entries thread start p → p.steps ≤ budget
 steps_within setting budget limit entries thread start p reached = go reached.now
   where
     go : ((p ≡ reached.was) ⊎ IsSpent setting budget limit entries reached.was p) → p.steps ≤ budget

@@ -7,9 +7,11 @@ ghost use Rattle.image_meaning.specs.Meant.{image_meaning};
 ghost use Rattle.image_meaning.specs.Permits.{any_permit};
 ghost use Rattle.legal_history.specs.Law.{IsRun};
 ghost use Rattle.memory_core.specs.Live.{all_sent, given, unsent, wants_input};
+ghost use Rattle.system_model.specs.Processors as model;
 ghost use Rattle.system_model.specs.Settings.{Setting};
-ghost use Rattle.tie_switch.specs.Live.{HasRead, IsSameMemory, is_full, is_spent};
-ghost use Rattle.tie_switch.specs.Processors.{processor_of};
+ghost use Rattle.tie_switch.specs.Known.{AreFound};
+ghost use Rattle.tie_switch.specs.Live.{AreNone, HasRead, IsSameMemory, is_full, is_spent};
+ghost use Rattle.tie_switch.specs.Processors.{HasAdvanced, StandsFor, processor_of};
 ghost use Rattle.tie_switch.specs.Settings.{image_setting};
 ghost use Rattle.tie_switch.specs.Turns.{has_ended};
 ghost use Rattle.vest_core.specs.LiveWorlds.{IsAskedFor, IsExplainedLive, IsLegalLive, IsNewLive, NextAsks, sent_of};
@@ -26,7 +28,7 @@ use system_model::laws::{beginnings_are_legal, legal_goes_on};
 use system_model::{Range, Translation};
 use tie_switch::laws::turns_stay_legal;
 use tie_switch::{Pause, Processor};
-use vax_form::WantOfMemory;
+use vax_form::{Instr, WantOfMemory};
 
 /// The number of the only processor.
 const ALONE: u8 = 0;
@@ -84,22 +86,26 @@ impl LiveWorld {
     }
 
     /// Gives the processor turns, so many at most: fewer where it has ended, where its next turn asks for a byte of the input and none
-    /// is there, or where the buffer of the output is full. Where the input has ended a turn that asks for a byte is made. It takes no
-    /// memory. Tells how many turns it made, and why it stopped.
+    /// is there, or where the buffer of the output is full. Where the input has ended a turn that asks for a byte is made. `known` is
+    /// a table of decoded instructions, as `advance_live` of tie_switch takes it. It takes no memory. Tells how many turns it made, and
+    /// why it stopped.
     pub fn advance(
         &mut self,
         image: &Image,
         translation: &Translation,
         prepared: &Prepared<'_>,
         ranges: &[Range],
+        known: &mut [Option<Instr>],
         input_ended: bool,
         most: u64,
     ) -> (u64, Pause)
+        requires known { AreFound image.now.pages known.old }
         requires image { self.old.memory.contents.set_up.image ≡ image.now }
         requires code { prepared.now.code ≡ translation.now }
         requires pages { prepared.now.pages ≡ image.now.pages }
         requires meets { Meets (image_meaning image.now.pages) (any_permit image.now.pages) translation.now }
         requires legal { IsLegalLive (image_setting image.now.pages translation.now ranges.now) self.old }
+        ensures known { AreFound image.now.pages known.new }
         ensures most { result.0 ≤ most }
         ensures all { result.1 ≡ Pause.Most → result.0 ≡ most }
         ensures steps { has_ended (processor_of self.new.processor).mode ≡ false → self.new.processor.steps ≡ self.old.processor.steps + result.0 }
@@ -110,6 +116,9 @@ impl LiveWorld {
         ensures unmade { result.0 ≡ 0 → self.new.memory ≡ self.old.memory }
         ensures legal { IsLegalLive (image_setting image.now.pages translation.now ranges.now) self.new }
         ensures headline { IsExplainedLive (image_setting image.now.pages translation.now ranges.now) self.new }
+        // It goes on from whatever processor it stood for.
+        ensures turned { (p : model.Processor) → StandsFor image.now.pages self.old.processor p
+            → HasAdvanced (image_setting image.now.pages translation.now ranges.now) self.old.memory.contents.set_up AreNone self.old.budget p result.0 self.new.processor self.old.memory.contents.history self.new.memory.contents.history }
         ensures ended { (result.1 ≡ Pause.Ended) ↔ (has_ended (processor_of self.new.processor).mode ≡ true) }
         ensures wants { result.1 ≡ Pause.WantsInput → (input_ended ≡ false) × (wants_input self.new.memory.contents ≡ true) }
         // A byte that is given then is asked for.
@@ -129,6 +138,7 @@ impl LiveWorld {
             translation,
             prepared,
             ranges,
+            known,
             &mut self.memory,
             input_ended,
             most,

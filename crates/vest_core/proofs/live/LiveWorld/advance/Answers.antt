@@ -1,5 +1,5 @@
 -- The turns of its processor keep a live world legal.
-use Rattle.std.proofs.Common.{◌∷◌, [], reverse, refl, sym, ap, ◌∙◌, subst}
+use Rattle.std.proofs.Common.{ℕ, ◌∷◌, [], reverse, refl, sym, ap, ◌∙◌, subst}
 use Rattle.image_file.specs.Values.{ImageValue}
 use Rattle.image_meaning.specs.Permits.{any_permit}
 use Rattle.image_meaning.proofs.Permits.{any_permit_allows_few}
@@ -7,6 +7,7 @@ use Rattle.legal_history.specs.Law.{IsRun}
 use Rattle.memory_core.specs.Limits.{CountsPuts}
 use Rattle.memory_core.specs.declared.entry.SetUp.{SetUp}
 use Rattle.tie_switch.specs.Live.{AreNone}
+use Rattle.tie_switch.specs.Processors.{HasAdvanced, StandsFor}
 use Rattle.tie_switch.specs.Settings.{image_setting}
 use Rattle.vest_core.specs.LiveViews.{live_world_of}
 use Rattle.vest_core.specs.LiveWorlds.{IsAskedFor, IsLegalLive, LiveWorldValue, sent_of}
@@ -74,6 +75,17 @@ returns-clause-headline c = λ permit few meets legal.
     let memory = c.advance_live.new.memory in
     c.legal_has_headline.ensures setting permit memory.contents.set_up c.self.inside.budget (reverse memory.contents.history) (legal.processor ∷ []) sound few meets
     (subst IsRun (sym (c.advance_live.ensures.memory).set_up) c.self.invariant.run) legal.legal
+
+pub returns-clause-turned : goal.returns-clause-turned
+returns-clause-turned c p stands =
+    let setting = image_setting c.args.image.now.pages c.args.translation.now c.args.ranges.now in
+    let e = c.advance_live.ensures in
+    let memory = c.advance_live.new.memory in
+    subst (λ (w : LiveWorldValue). StandsFor setting.meaning.pages w.processor p
+    → HasAdvanced setting w.memory.contents.set_up AreNone w.budget p c.advance_live.result.0 c.advance_live.new.self w.memory.contents.history memory.contents.history) c.self.view_is
+    (λ was. subst (λ (b : ℕ). HasAdvanced setting c.self.inside.memory.contents.set_up AreNone b p c.advance_live.result.0 c.advance_live.new.self c.self.inside.memory.contents.history memory.contents.history)
+    (c.self.invariant.own).budget (e.turned p was))
+    stands
 
 pub returns-clause-asks : goal.returns-clause-asks
 returns-clause-asks c waits =

@@ -1,6 +1,6 @@
 -- The set-up goes on with a byte more.
 use Rattle.std.proofs.Common.{sym, ap, ◌∙◌, subst, arith}
-use Rattle.memory_core.specs.Live.{LiveContents, given, wants_input}
+use Rattle.memory_core.specs.Live.{LiveContents, wants_input}
 use Rattle.vest_core.specs.LiveViews.{live_world_of}
 use Rattle.vest_core.specs.LiveWorlds.{IsLegalLive, IsMannedLive, LiveWorldValue, NextAsks}
 use Rattle.vest_core.proofs.LiveGoingOn.{byte_asked, given_run, legal_goes, with_memory}
