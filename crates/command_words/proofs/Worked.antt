@@ -4,7 +4,7 @@ use Rattle.std.specs.Str.{chars}
 use Rattle.command_words.specs.Parts.{parts_of}
 use Rattle.command_words.specs.declared.commands.Keeping.TheVariants.{History, Nothing}
 use Rattle.command_words.specs.declared.commands.Target.TheVariants.{Original, ByteWord}
-use Rattle.command_words.specs.Commands.{forms, list, replay, run, spells, translate}
+use Rattle.command_words.specs.Commands.{forms, list, live, replay, run, spells, translate}
 
 pub run_alone : spells forms (codes "run" ∷ codes "a" ∷ []) ≡ Some (run (codes "a") (record { limits = record { budget = 100000000; keeping = History; events = 4194304; miss = 0 }; ranges = []; target = Original; order = None }))
 unfolding parts_of chars
@@ -157,3 +157,67 @@ unkept_of_another_command = refl
 pub replayed_unkept : spells forms (codes "replay" ∷ codes "a" ∷ codes "o" ∷ codes "--unkept" ∷ []) ≡ None
 unfolding parts_of chars
 replayed_unkept = refl
+
+pub talked_with : spells forms (codes "run" ∷ codes "x" ∷ codes "--live" ∷ []) ≡ Some (live (codes "x") (record { budget = 100000000; miss = 0; ranges = []; target = Original; progress = None }))
+unfolding parts_of chars
+talked_with = refl
+
+pub talked_with_by_options : spells forms (codes "run" ∷ codes "--live" ∷ codes "--miss=2" ∷ codes "x" ∷ codes "--budget" ∷ codes "1000000000000" ∷ codes "--target=byteword" ∷ codes "--interpret=0:200-2ff" ∷ []) ≡ Some (live (codes "x") (record { budget = 1000000000000; miss = 2; ranges = record { thread = 0; first = 512; last = 767 } ∷ []; target = ByteWord; progress = None }))
+unfolding parts_of chars
+talked_with_by_options = refl
+
+pub live_twice : spells forms (codes "run" ∷ codes "x" ∷ codes "--live" ∷ codes "--live" ∷ []) ≡ None
+unfolding parts_of chars
+live_twice = refl
+
+pub live_with_a_value : spells forms (codes "run" ∷ codes "x" ∷ codes "--live=" ∷ []) ≡ None
+unfolding parts_of chars
+live_with_a_value = refl
+
+pub live_unkept : spells forms (codes "run" ∷ codes "x" ∷ codes "--live" ∷ codes "--unkept" ∷ []) ≡ None
+unfolding parts_of chars
+live_unkept = refl
+
+pub live_with_order : spells forms (codes "run" ∷ codes "x" ∷ codes "--order=o" ∷ codes "--live" ∷ []) ≡ None
+unfolding parts_of chars
+live_with_order = refl
+
+pub live_with_events : spells forms (codes "run" ∷ codes "--live" ∷ codes "x" ∷ codes "--events" ∷ codes "4194304" ∷ []) ≡ None
+unfolding parts_of chars
+live_with_events = refl
+
+pub live_with_too_many_steps : spells forms (codes "run" ∷ codes "--live" ∷ codes "x" ∷ codes "--budget" ∷ codes "1000000000001" ∷ []) ≡ None
+unfolding parts_of chars
+live_with_too_many_steps = refl
+
+pub live_of_another_command : spells forms (codes "list" ∷ codes "x" ∷ codes "--live" ∷ []) ≡ None
+unfolding parts_of chars
+live_of_another_command = refl
+
+pub with_progress : spells forms (codes "run" ∷ codes "x" ∷ codes "--progress" ∷ codes "1000000" ∷ codes "--live" ∷ []) ≡ Some (live (codes "x") (record { budget = 100000000; miss = 0; ranges = []; target = Original; progress = Some 1000000 }))
+unfolding parts_of chars
+with_progress = refl
+
+pub with_most_progress : spells forms (codes "run" ∷ codes "--live" ∷ codes "--progress=1000000000000" ∷ codes "x" ∷ []) ≡ Some (live (codes "x") (record { budget = 100000000; miss = 0; ranges = []; target = Original; progress = Some 1000000000000 }))
+unfolding parts_of chars
+with_most_progress = refl
+
+pub progress_too_often : spells forms (codes "run" ∷ codes "x" ∷ codes "--live" ∷ codes "--progress" ∷ codes "999999" ∷ []) ≡ None
+unfolding parts_of chars
+progress_too_often = refl
+
+pub progress_too_seldom : spells forms (codes "run" ∷ codes "x" ∷ codes "--live" ∷ codes "--progress" ∷ codes "1000000000001" ∷ []) ≡ None
+unfolding parts_of chars
+progress_too_seldom = refl
+
+pub progress_twice : spells forms (codes "run" ∷ codes "x" ∷ codes "--live" ∷ codes "--progress=1000000" ∷ codes "--progress=1000000" ∷ []) ≡ None
+unfolding parts_of chars
+progress_twice = refl
+
+pub progress_without_live : spells forms (codes "run" ∷ codes "x" ∷ codes "--progress" ∷ codes "1000000" ∷ []) ≡ None
+unfolding parts_of chars
+progress_without_live = refl
+
+pub progress_of_another_command : spells forms (codes "list" ∷ codes "x" ∷ codes "--progress=1000000" ∷ []) ≡ None
+unfolding parts_of chars
+progress_of_another_command = refl

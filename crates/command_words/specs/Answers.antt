@@ -1,6 +1,7 @@
 -- An answer beside what the words spell.
 use Rattle.std.specs.Prelude.{◌≡◌, Option, Some, None, Result, MatchResult, option_map}
-use Rattle.command_words.specs.Commands.{CommandValue, OptionsValue, generate, list, replay, run, translate}
+use Rattle.command_words.specs.Commands.{CommandValue, LiveOptionsValue, OptionsValue, generate, list, live, replay, run, translate}
+use Rattle.command_words.specs.declared.commands.LiveOptions.{LiveOptions}
 use Rattle.command_words.specs.declared.commands.RunOptions.{RunOptions}
 use Rattle.command_words.specs.declared.commands.Command.{Command}
 use Rattle.command_words.specs.declared.commands.Command.TheVariants as command
@@ -10,9 +11,13 @@ use Rattle.command_words.specs.declared.WordsFault.TheVariants.{Usage}
 abbrev pub options_value : RunOptions → OptionsValue
 options_value options = record { limits = options.limits; ranges = options.ranges.items; target = options.target; order = option_map (λ s. s.now) options.order }
 
+abbrev pub live_options_value : LiveOptions → LiveOptionsValue
+live_options_value options = record { budget = options.budget; miss = options.miss; ranges = options.ranges.items; target = options.target; progress = options.progress }
+
 -- the command with its names as texts
 abbrev pub command_value : Command → CommandValue
 command_value (command.Run name options) = run name.now (options_value options)
+command_value (command.Live name options) = live name.now (live_options_value options)
 command_value (command.Translate image out target hints) = translate image.now out.now target (option_map (λ s. s.now) hints)
 command_value (command.List name) = list name.now
 command_value (command.Generate number) = generate number

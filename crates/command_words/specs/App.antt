@@ -48,9 +48,17 @@ limited_app = with_rule (with_rule (with_rule (plain_app (codes "run"))
 abbrev pub unkept_app : App
 unkept_app = with_rule limited_app (flag_arg (codes "unkept"))
 
+-- and with what is talked with
+abbrev pub live_app : App
+live_app = with_rule unkept_app (flag_arg (codes "live"))
+
+-- and with how often it tells how far it has come
+abbrev pub progress_app : App
+progress_app = with_rule live_app (option_arg (codes "progress"))
+
 -- and with the target
 abbrev pub targeted_app : App
-targeted_app = with_rule unkept_app (option_arg (codes "target"))
+targeted_app = with_rule progress_app (option_arg (codes "target"))
 
 -- and with the file of its order
 abbrev pub ordered_app : App

@@ -1,5 +1,5 @@
 -- The commands, and the one that words spell.
-use Rattle.std.specs.Prelude.{◌==◌, ◌&&◌, ◌||◌, ℕ, Bool, true, false, List, [], ◌∷◌, Option, Some, None}
+use Rattle.std.specs.Prelude.{◌==◌, ◌&&◌, ◌||◌, not, ℕ, Bool, true, false, List, [], ◌∷◌, Option, Some, None}
 use Rattle.std.specs.Prelude.{if◌then◌else◌, codes, is_some, nat_le}
 use Rattle.std.specs.Str.{bytes_eq}
 use Rattle.command_words.specs.declared.commands.Keeping.{Keeping}
@@ -19,9 +19,19 @@ pub record OptionsValue : Type 0 where
   pub target : Target
   pub order : Option Text
 
+-- what the options of a live run say
+pub record LiveOptionsValue : Type 0 where
+  pub budget : ℕ
+  pub miss : ℕ
+  pub ranges : List Range
+  pub target : Target
+  -- after how many steps more a line tells how far the thread has come, where lines are told
+  pub progress : Option ℕ
+
 -- a command with what is behind it
 pub data CommandValue : Type 0 where
   run : (name : Text) → OptionsValue → CommandValue
+  live : (name : Text) → LiveOptionsValue → CommandValue
   translate : (image out : Text) → Target → (hints : Option Text) → CommandValue
   list : (name : Text) → CommandValue
   generate : (number : ℕ) → CommandValue
@@ -47,7 +57,7 @@ plain_form title = record { title = title; choices = [] }
 abbrev pub run_form : Form
 run_form = record {
   title = codes "run";
-  choices = once (codes "budget") ∷ once (codes "events") ∷ once (codes "miss") ∷ flag (codes "unkept") ∷ once (codes "target") ∷ once (codes "order") ∷ often (codes "interpret") ∷ [];
+  choices = once (codes "budget") ∷ once (codes "events") ∷ once (codes "miss") ∷ flag (codes "unkept") ∷ flag (codes "live") ∷ once (codes "progress") ∷ once (codes "target") ∷ once (codes "order") ∷ often (codes "interpret") ∷ [];
 }
 
 -- `translate`
@@ -75,20 +85,47 @@ number_of label default parts = number_or default (first_of (values_in label par
 abbrev pub is_miss : ℕ → Bool
 is_miss n = n == 0 || (nat_le 2 n && nat_le n 1000)
 
+-- from 1,000,000 to 10^12
+abbrev pub is_progress : ℕ → Bool
+is_progress n = nat_le 1000000 n && nat_le n 1000000000000
+
 -- the limits of a run where no option gives others
 abbrev pub DEFAULT_LIMITS : Limits
 DEFAULT_LIMITS = record { budget = 100000000; keeping = History; events = 4194304; miss = 0 }
 
+-- the option stands among the parts
+abbrev pub has_option : Text → List Part → Bool
+has_option label parts = is_some (first_of (values_in label parts))
+
 -- what a run keeps, by `--unkept`
 abbrev pub keeping_of : List Part → Keeping
-keeping_of parts = if is_some (first_of (values_in (codes "unkept") parts)) then Nothing else History
+keeping_of parts = if has_option (codes "unkept") parts then Nothing else History
 
--- the limits of a run, by `--budget`, up to 10^12, by `--unkept`, by `--events`, up to 4,194,304, and by `--miss`
+-- the most steps of a processor, by `--budget`, up to 10^12
+abbrev pub budget_of : List Part → Option ℕ
+budget_of parts = within (λ n. nat_le n 1000000000000) (number_of (codes "budget") DEFAULT_LIMITS.budget parts)
+
+-- by which number store conditionals miss, by `--miss`
+abbrev pub miss_of : List Part → Option ℕ
+miss_of parts = within is_miss (number_of (codes "miss") DEFAULT_LIMITS.miss parts)
+
+-- the number of steps that a value writes, where there is one
+abbrev pub progress_by : Option Text → Option (Option ℕ)
+progress_by None = Some None
+progress_by (Some text) = do
+  steps ← within is_progress (number_in text)
+  Some (Some steps)
+
+-- after how many steps more a line is told, by `--progress`
+abbrev pub progress_of : List Part → Option (Option ℕ)
+progress_of parts = progress_by (first_of (values_in (codes "progress") parts))
+
+-- the limits of a run, by `--budget`, by `--unkept`, by `--events`, up to 4,194,304, and by `--miss`
 abbrev pub limits_of : List Part → Option Limits
 limits_of parts = do
-  budget ← within (λ n. nat_le n 1000000000000) (number_of (codes "budget") DEFAULT_LIMITS.budget parts)
+  budget ← budget_of parts
   events ← within (λ n. nat_le n 4194304) (number_of (codes "events") DEFAULT_LIMITS.events parts)
-  miss ← within is_miss (number_of (codes "miss") DEFAULT_LIMITS.miss parts)
+  miss ← miss_of parts
   Some (record { budget = budget; keeping = keeping_of parts; events = events; miss = miss })
 
 -- the target that a value names, in just these letters
@@ -112,21 +149,46 @@ order_by History name = Some name
 order_by Nothing None = Some None
 order_by Nothing (Some name) = None
 
--- the options of `run`, with ranges by `--interpret`, and a file by `--order`
+-- the options of `run`, with ranges by `--interpret`, and a file by `--order`; `--progress` goes with `--live` alone
 abbrev pub options_of : List Part → Option OptionsValue
 options_of parts = do
   limits ← limits_of parts
   target ← target_of parts
   order ← order_by limits.keeping (first_of (values_in (codes "order") parts))
   ranges ← few_ranges (values_in (codes "interpret") parts)
-  Some (record { limits = limits; ranges = ranges; target = target; order = order })
+  if has_option (codes "progress") parts then None else Some (record { limits = limits; ranges = ranges; target = target; order = order })
+
+-- options that don't go with `--live`
+abbrev pub has_none_beside_live : List Part → Bool
+has_none_beside_live parts = not (has_option (codes "unkept") parts || has_option (codes "events") parts || has_option (codes "order") parts)
+
+-- the options of `run --live`
+abbrev pub live_options_of : List Part → Option LiveOptionsValue
+live_options_of parts = do
+  budget ← budget_of parts
+  miss ← miss_of parts
+  target ← target_of parts
+  progress ← progress_of parts
+  ranges ← few_ranges (values_in (codes "interpret") parts)
+  if has_none_beside_live parts then Some (record { budget = budget; miss = miss; ranges = ranges; target = target; progress = progress }) else None
 
 -- `run NAME`
-abbrev pub run_of : List Part → Option CommandValue
-run_of parts = do
+abbrev pub kept_of : List Part → Option CommandValue
+kept_of parts = do
   name ← only_name (names_in parts)
   options ← options_of parts
   Some (run name options)
+
+-- `run NAME --live`
+abbrev pub live_of : List Part → Option CommandValue
+live_of parts = do
+  name ← only_name (names_in parts)
+  options ← live_options_of parts
+  Some (live name options)
+
+-- `run`, by `--live`
+abbrev pub run_of : List Part → Option CommandValue
+run_of parts = if has_option (codes "live") parts then live_of parts else kept_of parts
 
 -- `translate IMAGE OUT`, with the hints of a file by `--hints`
 abbrev pub translate_of : List Part → Option CommandValue

@@ -68,12 +68,28 @@ fn unkept_app<'a>(alloc: Global) -> Result<Command<'a>, AllocError>
     limited_app(alloc)?.arg(flag_arg(alloc, "unkept"))
 }
 
+// And with what is talked with.
+fn live_app<'a>(alloc: Global) -> Result<Command<'a>, AllocError>
+    ensures app { IfOk result (λ c. app_of c ≡ spec.live_app) }
+    ensures local { IfOk result (λ c. (fields_of c).has_globals ≡ false) }
+{
+    unkept_app(alloc)?.arg(flag_arg(alloc, "live"))
+}
+
+// And with how often it tells how far it has come.
+fn progress_app<'a>(alloc: Global) -> Result<Command<'a>, AllocError>
+    ensures app { IfOk result (λ c. app_of c ≡ spec.progress_app) }
+    ensures local { IfOk result (λ c. (fields_of c).has_globals ≡ false) }
+{
+    live_app(alloc)?.arg(option_arg(alloc, "progress"))
+}
+
 // And with the target.
 fn targeted_app<'a>(alloc: Global) -> Result<Command<'a>, AllocError>
     ensures app { IfOk result (λ c. app_of c ≡ spec.targeted_app) }
     ensures local { IfOk result (λ c. (fields_of c).has_globals ≡ false) }
 {
-    unkept_app(alloc)?.arg(option_arg(alloc, "target"))
+    progress_app(alloc)?.arg(option_arg(alloc, "target"))
 }
 
 // And with the file of its order.

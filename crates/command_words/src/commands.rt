@@ -5,7 +5,7 @@ ghost use Rattle.clap.specs.Words.{found_of, rows_of};
 ghost use Rattle.command_words.specs.App.{HoldsParts, names_id};
 ghost use Rattle.command_words.specs.Answers.{AnswersTo, Reads};
 ghost use Rattle.command_words.specs.Parts.{Part, first_of, values_in};
-ghost use Rattle.command_words.specs.Numbers.{within, few_ranges};
+ghost use Rattle.command_words.specs.Numbers.{within, few_ranges, number_in as spec_number_in};
 ghost use Rattle.command_words.specs.Commands as spec;
 
 use crate::WordsFault;
@@ -28,6 +28,11 @@ const MOST_EVENTS: u64 = 4_194_304;
 const MISS: u64 = 0;
 
 const MOST_MISS: u64 = 1_000;
+
+/// The fewest steps from one line that tells how far a thread has come to the next.
+const LEAST_PROGRESS: u64 = 1_000_000;
+
+const MOST_PROGRESS: u64 = 1_000_000_000_000;
 
 /// The greatest number of a generated image.
 const MOST_GENERATED: u64 = 32_000;
@@ -81,6 +86,20 @@ pub struct RunOptions<'a> {
     pub order: Option<&'a str>,
 }
 
+/// What the options of `run --live` say.
+#[derive(Debug, Drop)]
+pub struct LiveOptions {
+    /// How many steps the processor makes at most: up to 10^12.
+    pub budget: u64,
+    /// The number by which store conditionals miss: 0 for never, else 2 to 1,000.
+    pub miss: u16,
+    /// At most 64.
+    pub ranges: Vec<Range>,
+    pub target: Target,
+    /// After how many steps more a line tells how far the thread has come: 10^6 to 10^12, or none is told.
+    pub progress: Option<u64>,
+}
+
 /// What a command line asks for. The names are words of the line.
 #[derive(Debug, Drop)]
 pub enum Command<'a> {
@@ -88,6 +107,12 @@ pub enum Command<'a> {
     Run {
         name: &'a str,
         options: RunOptions<'a>,
+    },
+    /// `run NAME --live`, with `--budget`, `--miss`, `--progress`, `--target` and `--interpret` behind it: runs an image that is talked
+    /// with.
+    Live {
+        name: &'a str,
+        options: LiveOptions,
     },
     /// `translate IMAGE OUT`, with `--target` and `--hints` behind it: writes the translated file.
     Translate {
@@ -138,7 +163,7 @@ fn number_within(matches: &ArgMatches<'_>, label: &str, default: u64, most: u64)
 
 fn miss_of(matches: &ArgMatches<'_>) -> Option<u16>
     ensures { (parts : List Part) → HoldsParts parts (rows_of (found_of matches.now))
-        → result ≡ within spec.is_miss (spec.number_of (codes "miss") MISS parts) }
+        → result ≡ spec.miss_of parts }
 {
     let miss = number_of(matches, "miss", MISS)?;
     if miss == 0 || (miss >= 2 && miss <= MOST_MISS) {
@@ -148,13 +173,54 @@ fn miss_of(matches: &ArgMatches<'_>) -> Option<u16>
     }
 }
 
+// Whether an option stands among the words.
+fn has_option(matches: &ArgMatches<'_>, label: &str) -> bool
+    requires { bytes_eq names_id label.now ≡ false }
+    ensures { (parts : List Part) → HoldsParts parts (rows_of (found_of matches.now))
+        → result ≡ spec.has_option label.now parts }
+{
+    value_of(matches, label).is_some()
+}
+
 fn keeping_of(matches: &ArgMatches<'_>) -> Keeping
     ensures { (parts : List Part) → HoldsParts parts (rows_of (found_of matches.now))
         → result ≡ spec.keeping_of parts }
 {
-    match value_of(matches, "unkept") {
-        Some(_) => Keeping::Nothing,
-        None => Keeping::History,
+    if has_option(matches, "unkept") {
+        Keeping::Nothing
+    } else {
+        Keeping::History
+    }
+}
+
+fn budget_of(matches: &ArgMatches<'_>) -> Option<u64>
+    ensures { (parts : List Part) → HoldsParts parts (rows_of (found_of matches.now))
+        → result ≡ spec.budget_of parts }
+{
+    number_within(matches, "budget", BUDGET, MOST_BUDGET)
+}
+
+fn progress_in(text: &str) -> Option<u64>
+    ensures { result ≡ within spec.is_progress (spec_number_in text.now) }
+{
+    let steps = number_in(text)?;
+    if steps >= LEAST_PROGRESS && steps <= MOST_PROGRESS {
+        Some(steps)
+    } else {
+        None
+    }
+}
+
+fn progress_of(matches: &ArgMatches<'_>) -> Option<Option<u64>>
+    ensures { (parts : List Part) → HoldsParts parts (rows_of (found_of matches.now))
+        → result ≡ spec.progress_of parts }
+{
+    match value_of(matches, "progress") {
+        Some(text) => {
+            let steps = progress_in(text)?;
+            Some(Some(steps))
+        }
+        None => Some(None),
     }
 }
 
@@ -162,7 +228,7 @@ fn limits_of(matches: &ArgMatches<'_>) -> Option<Limits>
     ensures { (parts : List Part) → HoldsParts parts (rows_of (found_of matches.now))
         → result ≡ spec.limits_of parts }
 {
-    let budget = number_within(matches, "budget", BUDGET, MOST_BUDGET)?;
+    let budget = budget_of(matches)?;
     let events = number_within(matches, "events", EVENTS, MOST_EVENTS)?;
     let miss = miss_of(matches)?;
     Some(Limits {
@@ -216,14 +282,17 @@ fn order_by<'a>(matches: &ArgMatches<'a>, keeping: Keeping) -> Option<Option<&'a
     }
 }
 
-pub fn read_run<'a>(alloc: Global, matches: &ArgMatches<'a>) -> Result<Command<'a>, WordsFault>
+fn read_kept<'a>(alloc: Global, matches: &ArgMatches<'a>) -> Result<Command<'a>, WordsFault>
     ensures { (parts : List Part) → HoldsParts parts (rows_of (found_of matches.now))
-        → AnswersTo (spec.run_of parts) result }
+        → AnswersTo (spec.kept_of parts) result }
 {
     let name = only_name(matches).ok_or(WordsFault::Usage)?;
     let limits = limits_of(matches).ok_or(WordsFault::Usage)?;
     let target = target_of(matches).ok_or(WordsFault::Usage)?;
     let order = order_by(matches, limits.keeping).ok_or(WordsFault::Usage)?;
+    if has_option(matches, "progress") {
+        return Err(WordsFault::Usage);
+    }
     match ranges_of(alloc, matches) {
         Ok(Some(ranges)) => Ok(Command::Run {
             name,
@@ -236,6 +305,55 @@ pub fn read_run<'a>(alloc: Global, matches: &ArgMatches<'a>) -> Result<Command<'
         }),
         Ok(None) => Err(WordsFault::Usage),
         Err(_) => Err(WordsFault::WantOfMemory),
+    }
+}
+
+// Whether no option stands that doesn't go with `--live`.
+fn has_none_beside_live(matches: &ArgMatches<'_>) -> bool
+    ensures { (parts : List Part) → HoldsParts parts (rows_of (found_of matches.now))
+        → result ≡ spec.has_none_beside_live parts }
+{
+    !(has_option(matches, "unkept")
+        || has_option(matches, "events")
+        || has_option(matches, "order"))
+}
+
+fn read_live<'a>(alloc: Global, matches: &ArgMatches<'a>) -> Result<Command<'a>, WordsFault>
+    ensures { (parts : List Part) → HoldsParts parts (rows_of (found_of matches.now))
+        → AnswersTo (spec.live_of parts) result }
+{
+    let name = only_name(matches).ok_or(WordsFault::Usage)?;
+    let budget = budget_of(matches).ok_or(WordsFault::Usage)?;
+    let miss = miss_of(matches).ok_or(WordsFault::Usage)?;
+    let target = target_of(matches).ok_or(WordsFault::Usage)?;
+    let progress = progress_of(matches).ok_or(WordsFault::Usage)?;
+    if !has_none_beside_live(matches) {
+        return Err(WordsFault::Usage);
+    }
+    match ranges_of(alloc, matches) {
+        Ok(Some(ranges)) => Ok(Command::Live {
+            name,
+            options: LiveOptions {
+                budget,
+                miss,
+                ranges,
+                target,
+                progress,
+            },
+        }),
+        Ok(None) => Err(WordsFault::Usage),
+        Err(_) => Err(WordsFault::WantOfMemory),
+    }
+}
+
+pub fn read_run<'a>(alloc: Global, matches: &ArgMatches<'a>) -> Result<Command<'a>, WordsFault>
+    ensures { (parts : List Part) → HoldsParts parts (rows_of (found_of matches.now))
+        → AnswersTo (spec.run_of parts) result }
+{
+    if has_option(matches, "live") {
+        read_live(alloc, matches)
+    } else {
+        read_kept(alloc, matches)
     }
 }
 

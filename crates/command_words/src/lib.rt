@@ -17,7 +17,7 @@ mod values;
 
 use clap::ArgMatches;
 use clap::error::ErrorKind;
-pub use commands::{Command, DEFAULT_LIMITS, Keeping, Limits, RunOptions, Target};
+pub use commands::{Command, DEFAULT_LIMITS, Keeping, Limits, LiveOptions, RunOptions, Target};
 pub use numbers::Range;
 use std::alloc::Global;
 
