@@ -50,6 +50,7 @@ module _ (first old : DeskMeaning) (same : SameFiles first old) where
       (subst (λ n. Rose n new.write_faults) same.write_faults h.0, subst (λ (o : Option Files). BothTold o new.files (λ f g. PutsPart f g name bytes)) same.files h.1)
   writes_sooner done.Exception name bytes new h = absurd h
   writes_sooner done.Spent name bytes new h = absurd h
+  writes_sooner done.ReadFault name bytes new h = absurd h
 
 pub same_both : (a b c : DeskMeaning) → SameFiles a b → SameFiles b c → SameFiles a c
 same_both a b c ab bc = record { files = bc.files ∙ ab.files; write_faults = bc.write_faults ∙ ab.write_faults; read_faults = let x = ab.read_faults in let y = bc.read_faults in omega arith }

@@ -114,7 +114,7 @@ runs_driven world counts (Some made) driven h = by (runs_from world.threads made
         subst (λ (d : Driven). runs_from world.threads d.made 0 counts ≡ Some d.runs) same is
 
 -- so its processor's steps are few
-few_steps : (setting : Setting) (permit : Permit) (of : SetUp) (entries : List Entry) (processors : List Processor) → HasHeadline setting permit of entries processors
+pub few_steps : (setting : Setting) (permit : Permit) (of : SetUp) (entries : List Entry) (processors : List Processor) → HasHeadline setting permit of entries processors
     → (thread : ℕ) (p : Processor) → slice_get processors thread ≡ Some p → HasFewSteps p (own thread entries)
 few_steps setting permit of entries processors headline thread p at =
     let counts = map (λ (q : Processor). q.retired) processors in

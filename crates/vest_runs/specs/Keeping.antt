@@ -4,6 +4,7 @@ use Rattle.command_words.specs.declared.commands.Keeping.{Keeping}
 use Rattle.command_words.specs.declared.commands.Keeping.TheVariants.{History, Nothing}
 use Rattle.command_words.specs.declared.commands.Limits.{Limits}
 use Rattle.image_file.specs.Values.{ImageValue}
+use Rattle.memory_core.specs.Contents.{Contents}
 use Rattle.memory_core.specs.declared.entry.Limit.{Limit}
 use Rattle.memory_core.specs.declared.entry.Limit.TheVariants.{Entries, Puts}
 use Rattle.memory_core.specs.declared.entry.SetUp.{SetUp}
@@ -14,7 +15,7 @@ use Rattle.system_model.specs.Processors.{Processor}
 use Rattle.system_model.specs.Settings.{Setting}
 use Rattle.system_model.specs.declared.translation.Range.{Range}
 use Rattle.tie_switch.specs.Settings.{image_setting}
-use Rattle.tie_switch.specs.Processors.{processor_of}
+use Rattle.tie_switch.specs.Processors.{ProcessorValue, processor_of}
 use Rattle.vest_runs.specs.Kept.{KeptValue}
 use Rattle.vest_runs.specs.Threads.{HasRun}
 
@@ -50,3 +51,19 @@ pub record HasKept (image : ImageValue) (target : Target) (code : Code) (taken :
   -- the history and the processors are a legal run, in which all threads have ended, and so what the VAX threads do, by
   -- accesses that code for the target may make
   pub has_run : HasRun (setting_of image code kept) (permit_of target image.pages) (set_up_of image kept) kept.budget kept.history (processors_of kept)
+
+-- ---- a run that was talked with
+
+-- its input and its limit are those that its memory has at last
+abbrev pub live_kept : ImageValue → Code → (budget miss : ℕ) → List Range → Contents → List ProcessorValue → KeptValue
+live_kept image code budget miss interpreted memory processors = record {
+  image = Some image;
+  input = memory.set_up.input;
+  history = memory.history;
+  processors = processors;
+  budget = budget;
+  limit = memory.set_up.limit;
+  miss = miss;
+  translation = Some code;
+  ranges = interpreted;
+}

@@ -4,7 +4,7 @@ ghost use Rattle.system_model.specs.Interpreted.{has_raised};
 ghost use Rattle.tie_switch.specs.Processors.{processor_of};
 ghost use Rattle.report_text.specs.Offer.{Offers};
 ghost use Rattle.vt_outside.specs.Taking.{TookAll, TookSome};
-ghost use Rattle.vest_runs.specs.Delivery.{DeliversRun};
+ghost use Rattle.vest_runs.specs.Delivery.{DeliversRun, ReportsRun};
 ghost use Rattle.vest_runs.specs.Report.{is_spent, lines_of, report_of, done_by_ends};
 
 use report_text::{Offered, offer};
@@ -25,6 +25,13 @@ pub fn deliver<K: Sink, E: Sink>(
     if write_all(out, output).is_err() {
         return Done::WriteFault;
     }
+    report_ends(processors, report)
+}
+
+/// Writes the report of the processors, which have ended, in their order.
+pub fn report_ends<E: Sink>(processors: &[Processor], report: &mut E) -> Done
+    ensures { ReportsRun result (map processor_of processors.now) (E.meaning report.old) (E.meaning report.new) }
+{
     if write_report(processors, report).is_err() {
         return Done::WriteFault;
     }

@@ -4,13 +4,14 @@ ghost use Rattle.image_meaning.specs.Permits.{permit_of};
 ghost use Rattle.image_meaning.specs.declared.target.Target.{Target};
 ghost use Rattle.tie_switch.specs.Processors.{processor_of};
 ghost use Rattle.tie_switch.specs.Settings.{image_setting};
-ghost use Rattle.vest_runs.specs.Keeping.{HasKept, limit_of};
+ghost use Rattle.vest_runs.specs.Keeping.{HasKept, limit_of, live_kept};
 ghost use Rattle.vest_runs.specs.Threads.{HasRun};
 
-use crate::kept::Kept;
+use crate::kept::{Kept, KeptMemory};
 use command_words::{Keeping, Limits};
 use image_file::Image;
-use memory_core::{Limit, MemState};
+use memory_core::{Limit, LiveState, MemState};
+use std::alloc::Global;
 use system_model::{Range, Translation};
 use tie_switch::Processor;
 
@@ -45,11 +46,39 @@ pub fn keep(
     *kept = Kept {
         image: Some(image),
         input,
-        memory: Some(memory),
+        memory: Some(KeptMemory::Plain(memory)),
         processors,
         budget: limits.budget,
         limit: limit_of(limits),
         miss: limits.miss,
+        translation: Some(translation),
+        ranges,
+    };
+}
+
+/// Keeps a run that was talked with, of an image with its translation, by at most `budget` steps and this miss number, in which the
+/// thread interprets these ranges: its memory, with the input and the limit, and its processor. It takes no memory.
+pub fn keep_live(
+    alloc: Global,
+    image: Image,
+    translation: Translation,
+    budget: u64,
+    miss: u16,
+    ranges: Vec<Range>,
+    memory: LiveState,
+    processors: Vec<Processor>,
+    kept: &mut Kept,
+)
+    ensures { kept.new ≡ live_kept image translation budget miss ranges.items memory.contents processors.items }
+{
+    *kept = Kept {
+        image: Some(image),
+        input: Vec::new(alloc),
+        memory: Some(KeptMemory::Live(memory)),
+        processors,
+        budget,
+        limit: Limit::Puts(0),
+        miss,
         translation: Some(translation),
         ranges,
     };

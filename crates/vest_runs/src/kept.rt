@@ -1,11 +1,19 @@
 // What is kept of a call that made a run.
 
 use image_file::Image;
-use memory_core::{Limit, MemState};
+use memory_core::{Limit, LiveState, MemState};
 use std::alloc::Global;
 use std::marker::Model;
 use system_model::{Range, Translation};
 use tie_switch::Processor;
+
+/// The memory that a run left.
+#[derive(Drop)]
+pub enum KeptMemory {
+    Plain(MemState),
+    /// Of a run that was talked with: it has the input and the limit, which grow while it runs.
+    Live(LiveState),
+}
 
 /// The image, the input, the memory, with its history, and the ended processors of the last run, the numbers that it was made with: at
 /// most `budget` steps of a processor, the limit of what is counted, and the miss number of store conditionals; and what ran: the
@@ -14,7 +22,7 @@ use tie_switch::Processor;
 pub struct Kept {
     pub image: Option<Image>,
     pub input: Vec<u8>,
-    pub memory: Option<MemState>,
+    pub memory: Option<KeptMemory>,
     pub processors: Vec<Processor>,
     pub budget: u64,
     pub limit: Limit,
@@ -24,11 +32,11 @@ pub struct Kept {
 }
 
 impl Model for Kept {
-    ghost use Rattle.vest_runs.specs.Kept.{KeptValue, history_of};
+    ghost use Rattle.vest_runs.specs.Kept.{KeptValue, history_of, input_in, limit_in};
 
     ghost Value = { KeptValue };
 
-    ghost view = { λ k. record { image = k.image; input = k.input.items; history = history_of k.memory; processors = k.processors.items; budget = k.budget; limit = k.limit; miss = k.miss; translation = k.translation; ranges = k.ranges.items } };
+    ghost view = { λ k. record { image = k.image; input = input_in k.input.items k.memory; history = history_of k.memory; processors = k.processors.items; budget = k.budget; limit = limit_in k.limit k.memory; miss = k.miss; translation = k.translation; ranges = k.ranges.items } };
 }
 
 impl Kept {

@@ -12,9 +12,9 @@ mod kept;
 pub mod laws;
 mod order;
 
-pub use delivery::deliver;
+pub use delivery::{deliver, report_ends};
 pub use generated::lines_of;
 pub use input::{input_limit_is_as_stated, read_input};
-pub use keeping::{keep, limit_of};
-pub use kept::Kept;
+pub use keeping::{keep, keep_live, limit_of};
+pub use kept::{Kept, KeptMemory};
 pub use order::OrderRoom;

@@ -18,6 +18,7 @@ abbrev pub status_of_done : Done → Status
 status_of_done done.Ok = status.Ok
 status_of_done done.Exception = status.Exception
 status_of_done done.Spent = status.Spent
+status_of_done done.ReadFault = status.ReadFault
 status_of_done done.WriteFault = status.WriteFault
 
 -- the exit code of the program

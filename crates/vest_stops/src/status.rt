@@ -40,6 +40,8 @@ pub enum Done {
     Ok,
     Exception,
     Spent,
+    /// A read of the input failed while the thread ran, maybe behind output.
+    ReadFault,
     WriteFault,
 }
 
@@ -53,6 +55,7 @@ impl Done {
             Done::Ok => Status::Ok,
             Done::Exception => Status::Exception,
             Done::Spent => Status::Spent,
+            Done::ReadFault => Status::ReadFault,
             Done::WriteFault => Status::WriteFault,
         }
     }
