@@ -283,6 +283,7 @@ module _ (law : HeadlineIsReplayed) (unique : IsFunction) where
     sent_by dones.Ok sent (is, out, report) = (is ∙ sym (done_is ps over), record { out = out; report = subst (λ (l : List ℕ). TookAll old.report new.report l) (sym lines) report })
     sent_by dones.Exception sent (is, out, report) = (is ∙ sym (done_is ps over), record { out = out; report = subst (λ (l : List ℕ). TookAll old.report new.report l) (sym lines) report })
     sent_by dones.Spent sent (is, out, report) = (is ∙ sym (done_is ps over), record { out = out; report = subst (λ (l : List ℕ). TookAll old.report new.report l) (sym lines) report })
+    sent_by dones.ReadFault sent (is, out, report) = (is ∙ sym (done_is ps over), record { out = out; report = subst (λ (l : List ℕ). TookAll old.report new.report l) (sym lines) report })
     sent_by dones.WriteFault sent h' = absurd (sent refl)
 
     -- its desk has the order's file, and the first file as it was
@@ -380,6 +381,8 @@ module _ (name file : List ℕ) (hints : Option (List ℕ)) (result again : Stat
       same_again (is ∙ ap status_of_done decided ∙ sym left.came_to) left.replayed.output (report_text left.replayed.ends) left.took (record { out = out; report = report })
   ends_again dones.Spent is (decided, out, report) =
       same_again (is ∙ ap status_of_done decided ∙ sym left.came_to) left.replayed.output (report_text left.replayed.ends) left.took (record { out = out; report = report })
+  ends_again dones.ReadFault is (decided, out, report) =
+      same_again (is ∙ ap status_of_done decided ∙ sym left.came_to) left.replayed.output (report_text left.replayed.ends) left.took (record { out = out; report = report })
 
   -- where the sinks took all
   took_again : (sent : Done) → sent ≢ dones.WriteFault
@@ -388,6 +391,7 @@ module _ (name file : List ℕ) (hints : Option (List ℕ)) (result again : Stat
   took_again dones.Ok well (decided, out, report) = record { out = out; report = report }
   took_again dones.Exception well (decided, out, report) = record { out = out; report = report }
   took_again dones.Spent well (decided, out, report) = record { out = out; report = report }
+  took_again dones.ReadFault well (decided, out, report) = record { out = out; report = report }
 
   -- behind that the hints were stored, where a file is named for them
   stores_again : (to : Option (List ℕ)) → hints ≡ to → (end sent : Done) (image : ImageValue) (order : OrderValue) (map : List Pair) → again ≡ status_of_done end

@@ -1,5 +1,5 @@
 -- Words spell bounded limits of a run, and a number for which an image can be generated.
-use Rattle.std.proofs.Common.{◌≡◌, ◌≤◌, ◌&&◌, ℕ, Bool, true, false, cond, codes, nat_le, List, Option, Some, None, refl, subst, sym, arith}
+use Rattle.std.proofs.Common.{◌≡◌, ◌≤◌, ◌&&◌, ℕ, Bool, true, false, cond, if◌then◌else◌, codes, nat_le, List, Option, Some, None, refl, subst, sym, arith}
 use Rattle.std.proofs.lemmas.Bool.Decides.{nat_tests}
 use Rattle.std.specs.Prelude.{IfSome, option_and_then}
 use Rattle.std.specs.Str.{bytes_eq}
@@ -11,7 +11,7 @@ use Rattle.command_words.specs.declared.numbers.Range.{Range}
 use Rattle.command_words.specs.Parts.{Part, Text, first_of, names_in, only_name, two_names, values_in}
 use Rattle.command_words.specs.Forms.{Form, line_of}
 use Rattle.command_words.specs.Numbers.{few_ranges, number_in, within}
-use Rattle.command_words.specs.Commands.{CommandValue, DEFAULT_LIMITS, command_of, forms, generate, generate_of, is_miss, keeping_of, limits_of, list, list_of, number_of, order_by, replay, replay_of, run, run_of, spells, target_of, translate, translate_of}
+use Rattle.command_words.specs.Commands.{CommandValue, DEFAULT_LIMITS, command_of, forms, budget_of, generate, generate_of, has_none_beside_live, has_option, is_miss, keeping_of, kept_of, limits_of, list, list_of, live, live_of, miss_of, number_of, order_by, progress_of, replay, replay_of, run, run_of, spells, target_of, translate, translate_of}
 use Rattle.memory_core.specs.Limits.{KeepsEntries}
 use Rattle.vest_runs.specs.Keeping.{limit_by}
 use Rattle.vest_cli.specs.Words.{CanBeObeyed}
@@ -71,29 +71,59 @@ if_any (Some x) k = k
 
 -- an order is asked for of a history that is kept
 module _ (name : Text) (limits : Limits) (target : Target) (few : IsFew limits) where
-  ordered : (keeping : Keeping) → limits.keeping ≡ keeping → (order : Option Text) (ranges : Option (List Range))
-      → Obeyable (option_and_then (λ o. Some (run name o)) (option_and_then (λ to. option_and_then (λ r. Some (record { limits = limits; ranges = r; target = target; order = to })) ranges) (order_by keeping order)))
-  ordered History is order None = tt
-  ordered History is order (Some r) = record {
+  ordered : (progress : Bool) (keeping : Keeping) → limits.keeping ≡ keeping → (order : Option Text) (ranges : Option (List Range))
+      → Obeyable (option_and_then (λ o. Some (run name o)) (option_and_then (λ to. option_and_then (λ r. if progress then None else Some (record { limits = limits; ranges = r; target = target; order = to })) ranges) (order_by keeping order)))
+  ordered progress History is order None = tt
+  ordered true History is order (Some r) = tt
+  ordered false History is order (Some r) = record {
     budget = few.steps;
     events = few.entries;
     kept = if_any order (subst (λ (k : Keeping). KeepsEntries (limit_by k limits.events)) (sym is) tt);
   }
-  ordered Nothing is None None = tt
-  ordered Nothing is None (Some r) = record { budget = few.steps; events = few.entries; kept = tt }
-  ordered Nothing is (Some to) ranges = tt
+  ordered progress Nothing is None None = tt
+  ordered true Nothing is None (Some r) = tt
+  ordered false Nothing is None (Some r) = record { budget = few.steps; events = few.entries; kept = tt }
+  ordered progress Nothing is (Some to) ranges = tt
 
-run_can : (parts : List Part) → Obeyable (run_of parts)
-run_can parts =
-    go (only_name (names_in parts)) (limits_of parts) (target_of parts) (few_ranges (values_in (codes "interpret") parts))
+kept_can : (parts : List Part) → Obeyable (kept_of parts)
+kept_can parts =
+    go (has_option (codes "progress") parts) (only_name (names_in parts)) (limits_of parts) (target_of parts) (few_ranges (values_in (codes "interpret") parts))
     (limits_bounded (keeping_of parts) (number_of (codes "budget") DEFAULT_LIMITS.budget parts) (number_of (codes "events") DEFAULT_LIMITS.events parts) (within is_miss (number_of (codes "miss") DEFAULT_LIMITS.miss parts)))
   where
-    go : (name : Option Text) (limits : Option Limits) (target : Option Target) (ranges : Option (List Range)) → IfSome limits IsFew
-        → Obeyable (option_and_then (λ n. option_and_then (λ o. Some (run n o)) (option_and_then (λ l. option_and_then (λ t. option_and_then (λ to. option_and_then (λ r. Some (record { limits = l; ranges = r; target = t; order = to })) ranges) (order_by l.keeping (first_of (values_in (codes "order") parts)))) target) limits)) name)
-    go None limits target ranges few = tt
-    go (Some n) None target ranges few = tt
-    go (Some n) (Some l) None ranges few = tt
-    go (Some n) (Some l) (Some t) ranges few = ordered n l t few l.keeping refl (first_of (values_in (codes "order") parts)) ranges
+    go : (progress : Bool) (name : Option Text) (limits : Option Limits) (target : Option Target) (ranges : Option (List Range)) → IfSome limits IsFew
+        → Obeyable (option_and_then (λ n. option_and_then (λ o. Some (run n o)) (option_and_then (λ l. option_and_then (λ t. option_and_then (λ to. option_and_then (λ r. if progress then None else Some (record { limits = l; ranges = r; target = t; order = to })) ranges) (order_by l.keeping (first_of (values_in (codes "order") parts)))) target) limits)) name)
+    go progress None limits target ranges few = tt
+    go progress (Some n) None target ranges few = tt
+    go progress (Some n) (Some l) None ranges few = tt
+    go progress (Some n) (Some l) (Some t) ranges few = ordered n l t few progress l.keeping refl (first_of (values_in (codes "order") parts)) ranges
+
+live_can : (parts : List Part) → Obeyable (live_of parts)
+live_can parts =
+    go (only_name (names_in parts)) (number_of (codes "budget") DEFAULT_LIMITS.budget parts) (miss_of parts) (target_of parts) (progress_of parts) (few_ranges (values_in (codes "interpret") parts)) (has_none_beside_live parts)
+  where
+    lived : (n : Text) (b m : ℕ) (t : Target) (e : Option ℕ) (r : List Range) (alone : Bool) → b ≤ 1000000000000
+        → Obeyable (option_and_then (λ o. Some (live n o)) (if alone then Some (record { budget = b; miss = m; ranges = r; target = t; progress = e }) else None))
+    lived n b m t e r true few = few
+    lived n b m t e r false few = tt
+
+    behind : (n : Text) (b : ℕ) (miss : Option ℕ) (target : Option Target) (progress : Option (Option ℕ)) (ranges : Option (List Range)) (alone : Bool) → b ≤ 1000000000000
+        → Obeyable (option_and_then (λ o. Some (live n o)) (option_and_then (λ m. option_and_then (λ t. option_and_then (λ e. option_and_then (λ r. if alone then Some (record { budget = b; miss = m; ranges = r; target = t; progress = e }) else None) ranges) progress) target) miss))
+    behind n b None target progress ranges alone few = tt
+    behind n b (Some m) None progress ranges alone few = tt
+    behind n b (Some m) (Some t) None ranges alone few = tt
+    behind n b (Some m) (Some t) (Some e) None alone few = tt
+    behind n b (Some m) (Some t) (Some e) (Some r) alone few = lived n b m t e r alone few
+
+    within_budget : (n : Text) (b : ℕ) (fits : Bool) → few_steps b ≡ fits → (miss : Option ℕ) (target : Option Target) (progress : Option (Option ℕ)) (ranges : Option (List Range)) (alone : Bool)
+        → Obeyable (option_and_then (λ o. Some (live n o)) (option_and_then (λ b. option_and_then (λ m. option_and_then (λ t. option_and_then (λ e. option_and_then (λ r. if alone then Some (record { budget = b; miss = m; ranges = r; target = t; progress = e }) else None) ranges) progress) target) miss) (if fits then Some b else None)))
+    within_budget n b true is miss target progress ranges alone = behind n b miss target progress ranges alone (steps_bound b is)
+    within_budget n b false is miss target progress ranges alone = tt
+
+    go : (name : Option Text) (budget miss : Option ℕ) (target : Option Target) (progress : Option (Option ℕ)) (ranges : Option (List Range)) (alone : Bool)
+        → Obeyable (option_and_then (λ n. option_and_then (λ o. Some (live n o)) (option_and_then (λ b. option_and_then (λ m. option_and_then (λ t. option_and_then (λ e. option_and_then (λ r. if alone then Some (record { budget = b; miss = m; ranges = r; target = t; progress = e }) else None) ranges) progress) target) miss) (within few_steps budget))) name)
+    go None budget miss target progress ranges alone = tt
+    go (Some n) None miss target progress ranges alone = tt
+    go (Some n) (Some b) miss target progress ranges alone = within_budget n b (few_steps b) refl miss target progress ranges alone
 
 translate_can : (parts : List Part) → Obeyable (translate_of parts)
 translate_can parts = go (two_names (names_in parts)) (target_of parts)
@@ -142,6 +172,9 @@ generate_can parts = go (only_name (names_in parts))
 chosen : (b : Bool) (one other : Option CommandValue) → Obeyable one → Obeyable other → Obeyable (cond b one other)
 chosen true one other h k = h
 chosen false one other h k = k
+
+run_can : (parts : List Part) → Obeyable (run_of parts)
+run_can parts = chosen (has_option (codes "live") parts) (live_of parts) (kept_of parts) (live_can parts) (kept_can parts)
 
 command_can : (f : Form) (parts : List Part) → Obeyable (command_of (f, parts))
 command_can f parts =

@@ -1,14 +1,17 @@
 -- Where no call of the outside failed, no fault is told.
-use Rattle.std.proofs.Common.{◌≡◌, ◌<◌, ◌≤◌, ◌∙◌, ℕ, Bool, true, false, List, Option, None, Some, Result, Ok, Err, IfOk, refl, sym, subst, arith, inl, inr}
+use Rattle.std.proofs.Common.{◌≡◌, ◌<◌, ◌≤◌, ◌∙◌, ℕ, Bool, true, false, if◌then◌else◌, map, List, Option, None, Some, Result, Ok, Err, IfOk, refl, sym, subst, arith, inl, inr}
 use Rattle.std.specs.Prelude.{MatchBool}
+use Rattle.std.specs.List.{list_any}
 use Rattle.vt_outside.specs.Causes.{Rose, one_more}
+use Rattle.vt_outside.specs.Sink.{SinkMeaning}
 use Rattle.vt_outside.specs.Desk.{DeskMeaning, Files}
 use Rattle.address_map.specs.Pairs.{Pair}
 use Rattle.image_file.specs.Values.{ImageValue}
 use Rattle.memory_core.specs.Contents.{output_of}
 use Rattle.report_text.specs.Generated.{generated_image}
+use Rattle.system_model.specs.Interpreted.{has_raised}
 use Rattle.system_model.specs.Processors.{Processor}
-use Rattle.command_words.specs.Commands.{CommandValue, run, translate, list, generate, replay}
+use Rattle.command_words.specs.Commands.{CommandValue, LiveOptionsValue, run, live, translate, list, generate, replay}
 use Rattle.vest_stops.specs.Decided.{Decision}
 use Rattle.vest_files.specs.Loading.{StopsAtImageFile, StopsAtLoad, StopsAtTranslatedFile, is_translated}
 use Rattle.vest_stops.specs.Status.{status_of, status_of_done}
@@ -24,12 +27,18 @@ use Rattle.vest_runs.specs.Delivery.{Delivers, DeliversRun}
 use Rattle.vest_runs.specs.Generate.{lines_of}
 use Rattle.vest_runs.specs.Kept.{KeptValue}
 use Rattle.vest_cli.specs.Lent.{Lent}
-use Rattle.vest_runs.specs.Keeping.{processors_of, set_up_of}
+use Rattle.vest_runs.specs.Keeping.{processors_of, set_up_of, setting_of}
 use Rattle.run_files.specs.Spelling.{order_bytes}
 use Rattle.run_files.specs.Values.{OrderValue}
 use Rattle.vest_runs.specs.Order.{order_kept}
 use Rattle.vest_runs.specs.Report as reports
 use Rattle.vest_cli.specs.Hints.{StoresHints}
+use Rattle.stored_runs.specs.Ends.{is_raised, is_spent}
+use Rattle.stored_runs.specs.Replay.{EndValue}
+use Rattle.vest_core.specs.Talks.{HasTalked}
+use Rattle.vest_core.specs.declared.talking.TalkEnd.{TalkEnd}
+use Rattle.vest_core.specs.declared.talking.TalkEnd.TheVariants as talks
+use Rattle.vest_cli.specs.Live.{Closes, Lives}
 use Rattle.vest_cli.specs.Replay.{StopsReplay, done_of}
 use Rattle.vest_cli.specs.Run.{StopsRun, target_of}
 use Rattle.vest_cli.specs.Storing as storing
@@ -81,6 +90,23 @@ replay_rose name file desk desk' (inr (image, target, code, loads, inl (inl h)))
 replay_rose name file desk desk' (inr (image, target, code, loads, inl (inr (bytes, stored, h)))) = absurd h
 replay_rose name file desk desk' (inr (image, target, code, loads, inr (order, stored, h))) = absurd h
 
+-- ends decide no fault
+never_read : (ps : List Processor) → dones.ReadFault ≡ reports.done_by_ends ps → ⊥
+never_read ps = go (list_any (λ (p : Processor). has_raised p.mode) ps) (list_any (λ (p : Processor). reports.is_spent p.mode) ps)
+  where
+    go : (raised spent : Bool) → dones.ReadFault ≡ (if raised then dones.Exception else if spent then dones.Spent else dones.Ok) → ⊥
+    go true spent e = cc e
+    go false true e = cc e
+    go false false e = cc e
+
+never_read_of : (ends : List EndValue) → dones.ReadFault ≡ done_of ends → ⊥
+never_read_of es = go (list_any is_raised (map (λ (e : EndValue). e.0) es)) (list_any is_spent (map (λ (e : EndValue). e.0) es))
+  where
+    go : (raised spent : Bool) → dones.ReadFault ≡ (if raised then dones.Exception else if spent then dones.Spent else dones.Ok) → ⊥
+    go true spent e = cc e
+    go false true e = cc e
+    go false false e = cc e
+
 module _ (old new : Lent) (kept : KeptValue) (none : NoneFailed old new) where
   no_desk_read : Rose old.desk.read_faults new.desk.read_faults → ⊥
   no_desk_read h = stood old.desk.read_faults new.desk.read_faults none.desk_reads h
@@ -91,6 +117,8 @@ module _ (old new : Lent) (kept : KeptValue) (none : NoneFailed old new) where
 
   command_reads : (command : CommandValue) → StopsAt command ReadFault old.desk new.desk old.input new.input → ⊥
   command_reads (run name options) h = run_reads (target_of options.target) name h
+  command_reads (live name options) (inl h, same) = no_desk_read (load_rose name old.desk new.desk h)
+  command_reads (live name options) (inr (image, target, code, loads, h), same) = h
   command_reads (translate image to target hints) h = no_desk_read (translate_rose image hints old.desk new.desk h.0)
   command_reads (list name) h = no_desk_read (load_rose name old.desk new.desk h.0)
   command_reads (generate number) h = let same : ReadFault ≡ WantOfMemory = h.0 in cc same
@@ -107,16 +135,54 @@ module _ (old new : Lent) (kept : KeptValue) (none : NoneFailed old new) where
   stop_reads command TooLong e h = cc e
   stop_reads command WantOfMemory e h = cc e
 
-  done_reads : (end : Done) → status_of_done end ≡ status.ReadFault → ⊥
-  done_reads dones.Ok e = cc e
-  done_reads dones.Exception e = cc e
-  done_reads dones.Spent e = cc e
-  done_reads dones.WriteFault e = cc e
+  -- a run doesn't come to it by its ends
+  stored_reads : (made : Done) (to : Option (List ℕ)) (bytes output lines : List ℕ) (decided : Done) → (dones.ReadFault ≡ decided → ⊥) → Stores dones.ReadFault made to bytes old.desk new.desk
+      → Delivers made output lines decided old.out new.out old.report new.report → ⊥
+  stored_reads made to bytes output lines decided never (storing.left why is same) h =
+      never (subst (λ (d : Done). Delivers d output lines decided old.out new.out old.report new.report) (sym is) h).0
+  stored_reads made to bytes output lines decided never (storing.stored name asked sent is writes) h =
+      never (subst (λ (d : Done). Delivers d output lines decided old.out new.out old.report new.report) (sym is) h).0
+  stored_reads made to bytes output lines decided never (storing.failed name asked sent is writes) h = cc is
+
+  hints_reads : (image : ImageValue) (order : OrderValue) (map : List Pair) (to : Option (List ℕ)) (made : Done) (output lines : List ℕ) (decided : Done) → (dones.ReadFault ≡ decided → ⊥)
+      → StoresHints image order map to dones.ReadFault made old.desk new.desk → Delivers made output lines decided old.out new.out old.report new.report → ⊥
+  hints_reads image order map None made output lines decided never stored h =
+      never (subst (λ (d : Done). Delivers d output lines decided old.out new.out old.report new.report) (sym stored.0) h).0
+  hints_reads image order map (Some name) made output lines decided never (bytes, hinted, stores) h = stored_reads made (Some name) bytes output lines decided never stores h
+
+  -- a talk comes to it where the source failed
+  live_reads : (name : List ℕ) (options : LiveOptionsValue) → Lives dones.ReadFault name options old new kept → ⊥
+  live_reads name options h = by h.end h.talked h.closes
+    where
+      by : (end : TalkEnd) → HasTalked end (setting_of h.image h.code kept) (set_up_of h.image kept) kept.budget kept.history h.k old.input new.input old.out new.out options.progress old.report h.behind
+          → Closes end dones.ReadFault (processors_of kept) h.behind new.report → ⊥
+      by talks.Ended talked closes = never_read (processors_of kept) closes.0
+      by talks.ReadFault talked closes = stood old.input.faults new.input.faults none.input talked.stands_at.1
+      by talks.WriteFault talked closes = cc closes.0
+      by talks.ReportFault talked closes = cc closes.0
+
+  done_by : (command : CommandValue) → Does command dones.ReadFault old new kept → ⊥
+  done_by (run name options) h =
+      stored_reads h.run options.order (order_bytes (order_kept kept)) (output_of kept.history) (reports.report_of (processors_of kept)) (reports.done_by_ends (processors_of kept)) (never_read (processors_of kept)) h.stored h.delivered
+  done_by (live name options) h = live_reads name options h
+  done_by (translate image to target hints) h = h.translates.written
+  done_by (list name) h = h.lists.sent
+  done_by (generate number) h = never_read (processors_of kept) h.generates.delivered.0
+  done_by (replay name file hints) h =
+      let its = h.replays in
+      hints_reads its.gives.image its.gives.order its.gives.code.map hints its.sent its.replayed.output (report_text its.replayed.ends) (done_of its.replayed.ends) (never_read_of its.replayed.ends) its.stored its.delivered
+
+  done_reads : (command : CommandValue) (end : Done) → status_of_done end ≡ status.ReadFault → Does command end old new kept → ⊥
+  done_reads command dones.Ok e h = cc e
+  done_reads command dones.Exception e h = cc e
+  done_reads command dones.Spent e h = cc e
+  done_reads command dones.ReadFault e h = done_by command h
+  done_reads command dones.WriteFault e h = cc e
 
   no_read_fault : (command : Option CommandValue) (result : Status) → Ends command result old new kept → result ≡ status.ReadFault → ⊥
   no_read_fault command result (unspelled never is untouched left) e = let same : status.Usage ≡ status.ReadFault = sym is ∙ e in cc same
   no_read_fault command result (stopped stop is why left) e = stop_reads command stop (sym is ∙ e) why
-  no_read_fault command result (done spelled end so is does) e = done_reads end (sym is ∙ e)
+  no_read_fault command result (done spelled end so is does) e = done_reads spelled end (sym is ∙ e) does
 
   -- ---- and a write fault from a write of the desk, of out or of report
   no_out : Rose old.out.faults new.out.faults → ⊥
@@ -143,8 +209,22 @@ module _ (old new : Lent) (kept : KeptValue) (none : NoneFailed old new) where
       delivery_writes output lines decided (subst (λ (d : Done). Delivers d output lines decided old.out new.out old.report new.report) (sym stored.0) h)
   hints_writes image order map (Some name) made output lines decided (bytes, hinted, stored) h = stored_writes made (Some name) bytes output lines decided stored h
 
+  live_writes : (name : List ℕ) (options : LiveOptionsValue) → Lives dones.WriteFault name options old new kept → ⊥
+  live_writes name options h = by h.end h.talked h.closes
+    where
+      rises : (a b c : ℕ) → a ≤ b → Rose b c → Rose a c
+      rises a b c low more = grind (arith, low, more)
+
+      by : (end : TalkEnd) → HasTalked end (setting_of h.image h.code kept) (set_up_of h.image kept) kept.budget kept.history h.k old.input new.input old.out new.out options.progress old.report h.behind
+          → Closes end dones.WriteFault (processors_of kept) h.behind new.report → ⊥
+      by talks.Ended talked closes = stood old.report.faults new.report.faults none.report (rises old.report.faults h.behind.faults new.report.faults talked.told.later closes.failed)
+      by talks.ReadFault talked closes = cc closes.0
+      by talks.WriteFault talked closes = no_out talked.sent.failed
+      by talks.ReportFault talked closes = stood old.report.faults new.report.faults none.report (subst (λ (r : SinkMeaning). Rose old.report.faults r.faults) (sym closes.1) talked.told.failed)
+
   command_writes : (command : CommandValue) → Does command dones.WriteFault old new kept → ⊥
   command_writes (run name options) h = stored_writes h.run options.order (order_bytes (order_kept kept)) (output_of kept.history) (reports.report_of (processors_of kept)) (reports.done_by_ends (processors_of kept)) h.stored h.delivered
+  command_writes (live name options) h = live_writes name options h
   command_writes (translate image to target hints) h = stood old.desk.write_faults new.desk.write_faults none.desk_writes h.translates.written.0
   command_writes (list name) h = no_out h.lists.sent.failed
   command_writes (generate number) h =
@@ -164,6 +244,7 @@ module _ (old new : Lent) (kept : KeptValue) (none : NoneFailed old new) where
   done_writes command dones.Ok e h = cc e
   done_writes command dones.Exception e h = cc e
   done_writes command dones.Spent e h = cc e
+  done_writes command dones.ReadFault e h = cc e
   done_writes command dones.WriteFault e h = command_writes command h
 
   no_write_fault : (command : Option CommandValue) (result : Status) → Ends command result old new kept → result ≡ status.WriteFault → ⊥

@@ -1,6 +1,6 @@
 -- What the meaning of a call says of its status.
 use Rattle.std.proofs.Common.{◌≡◌, ◌≢◌, ◌∙◌, Option, Some, refl, sym, ap, subst}
-use Rattle.command_words.specs.Commands.{CommandValue, run, translate, list, generate, replay}
+use Rattle.command_words.specs.Commands.{CommandValue, run, live, translate, list, generate, replay}
 use Rattle.vest_stops.specs.Decided.{Decision, goes_on, StopsAsDecided}
 use Rattle.vest_stops.specs.Status.{status_of, status_of_done}
 use Rattle.vest_stops.specs.declared.status.Done.{Done}
@@ -26,22 +26,32 @@ ends_well : (command : CommandValue) (end : Done) (old new : Lent) (kept : KeptV
 ends_well (run name options) dones.Ok old new kept h = tt
 ends_well (run name options) dones.Exception old new kept h = tt
 ends_well (run name options) dones.Spent old new kept h = tt
+ends_well (run name options) dones.ReadFault old new kept h = tt
 ends_well (run name options) dones.WriteFault old new kept h = tt
+ends_well (live name options) dones.Ok old new kept h = tt
+ends_well (live name options) dones.Exception old new kept h = tt
+ends_well (live name options) dones.Spent old new kept h = tt
+ends_well (live name options) dones.ReadFault old new kept h = tt
+ends_well (live name options) dones.WriteFault old new kept h = tt
 ends_well (translate image to target hints) dones.Ok old new kept h = refl
 ends_well (translate image to target hints) dones.Exception old new kept h = absurd h.translates.written
 ends_well (translate image to target hints) dones.Spent old new kept h = absurd h.translates.written
+ends_well (translate image to target hints) dones.ReadFault old new kept h = tt
 ends_well (translate image to target hints) dones.WriteFault old new kept h = tt
 ends_well (list name) dones.Ok old new kept h = refl
 ends_well (list name) dones.Exception old new kept h = absurd h.lists.sent
 ends_well (list name) dones.Spent old new kept h = absurd h.lists.sent
+ends_well (list name) dones.ReadFault old new kept h = tt
 ends_well (list name) dones.WriteFault old new kept h = tt
 ends_well (generate number) dones.Ok old new kept h = tt
 ends_well (generate number) dones.Exception old new kept h = tt
 ends_well (generate number) dones.Spent old new kept h = tt
+ends_well (generate number) dones.ReadFault old new kept h = tt
 ends_well (generate number) dones.WriteFault old new kept h = tt
 ends_well (replay name file hints) dones.Ok old new kept h = tt
 ends_well (replay name file hints) dones.Exception old new kept h = tt
 ends_well (replay name file hints) dones.Spent old new kept h = tt
+ends_well (replay name file hints) dones.ReadFault old new kept h = tt
 ends_well (replay name file hints) dones.WriteFault old new kept h = tt
 
 pub done_as : (spelled : Option CommandValue) (command : CommandValue) (end : Done) (old new : Lent) (kept : KeptValue) (d : Decision)
@@ -62,6 +72,7 @@ pub done_no_usage : (end : Done) → status_of_done end ≢ status.Usage
 done_no_usage dones.Ok = λ e. cc e
 done_no_usage dones.Exception = λ e. cc e
 done_no_usage dones.Spent = λ e. cc e
+done_no_usage dones.ReadFault = λ e. cc e
 done_no_usage dones.WriteFault = λ e. cc e
 
 -- ---- a status that comes behind a run

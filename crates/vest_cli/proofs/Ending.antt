@@ -1,7 +1,7 @@
 -- How a call ends, by its words and by what its command came to.
 use Rattle.std.proofs.Common.{◌≡◌, ◌⊎◌, ◌∙◌, List, Option, None, Some, Result, Ok, Err, IfErr, IfOk, refl, sym, subst, inl, inr, arith}
 use Rattle.std.specs.Prelude.{ℕ}
-use Rattle.command_words.specs.Commands.{CommandValue, generate, list, replay, run, translate}
+use Rattle.command_words.specs.Commands.{CommandValue, generate, list, live, replay, run, translate}
 use Rattle.command_words.specs.declared.WordsFault.{WordsFault}
 use Rattle.command_words.specs.declared.WordsFault.TheVariants.{Usage}
 use Rattle.command_words.specs.declared.WordsFault.TheVariants as faults
@@ -112,6 +112,7 @@ module _ (spelled : Option CommandValue) where
       stops_short : (c : Option CommandValue) → vest.Stops c WantOfMemory desk desk input input
       stops_short None = record { same_desk = refl; same_input = refl }
       stops_short (Some (run name options)) = inl (inl tt, refl)
+      stops_short (Some (live name options)) = (inl (inl tt), refl)
       stops_short (Some (translate image to target hints)) = (inl tt, refl)
       stops_short (Some (list name)) = (inl tt, refl)
       stops_short (Some (generate number)) = (refl, record { same_desk = refl; same_input = refl })

@@ -1,7 +1,7 @@
 -- What a run that waits comes to.
 use Rattle.std.proofs.Common.{◌≡◌, ◌≤◌, ◌⊎◌, ◌∙◌, arith, zero-le, List, Option, None, Some, Result, Ok, Err, IfErr, IfOk, refl, sym, ap, subst, inr}
 use Rattle.std.specs.Prelude.{ℕ, []}
-use Rattle.command_words.specs.Commands.{CommandValue, OptionsValue, DEFAULT_LIMITS, generate, list, replay, run, translate}
+use Rattle.command_words.specs.Commands.{CommandValue, OptionsValue, DEFAULT_LIMITS, generate, list, live, replay, run, translate}
 use Rattle.command_words.specs.declared.commands.Limits.{Limits}
 use Rattle.vt_outside.specs.Desk.{DeskMeaning, Files}
 use Rattle.vt_outside.specs.Sink.{SinkMeaning}
@@ -198,6 +198,7 @@ module _ (spelled : Option CommandValue) (waiting : Waiting) (result : Status) (
 
   waits_short : (command : CommandValue) → WaitsAt command waiting old.desk mid.desk old.input mid.input → StopsAt command WantOfMemory old.desk mid.desk old.input mid.input
   waits_short (run name options) h = stops_short name options old.desk mid.desk old.input mid.input waiting.task h.is.task
+  waits_short (live name options) h = absurd h
   waits_short (translate image to target hints) h = absurd h
   waits_short (list name) h = absurd h
   waits_short (generate number) h = (refl, h.1)
@@ -215,6 +216,7 @@ module _ (spelled : Option CommandValue) (waiting : Waiting) (result : Status) (
       → Gives end waiting.task waiting.puts (name_of waiting.order) mid.desk desk mid.out out mid.report report kept → Does command end old new kept
   does_so end (run name options) h g =
       runs_so end name options old new mid.desk kept waiting.task h.is.task w.leaves.desk (gives_put end Output options.order h.is.puts h.is.order g)
+  does_so end (live name options) h g = absurd h
   does_so end (translate image to target hints) h g = absurd h
   does_so end (list name) h g = absurd h
   does_so end (generate number) h g = record {

@@ -10,3 +10,4 @@ mod OrderFiles
 mod StoredOrders
 mod Again
 mod Mapped
+mod Lived

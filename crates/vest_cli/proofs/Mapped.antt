@@ -176,6 +176,7 @@ module _ (read_back : WrittenHintsAreRead) (maps : FoundIsMapped) (name file hin
       written_by asked before after over made after.files refl (subst (λ (o : Option Files). BothTold o after.files (λ was now. Puts was now to made.file)) over made.written)
   translated_by asked dones.Exception is before after over made = absurd (cc is)
   translated_by asked dones.Spent is before after over made = absurd (cc is)
+  translated_by asked dones.ReadFault is before after over made = absurd (cc is)
   translated_by asked dones.WriteFault is before after over made = absurd (cc is)
 
   stops_not_well : (stop : Stop) → status.Ok ≡ status_of stop → ⊥

@@ -1,8 +1,8 @@
 -- What each command does and why it stops, as the top call says it.
-use Rattle.std.proofs.Common.{◌≡◌, List, Option, Result, Ok, Err, IfErr, IfOk, refl, sym, ap, subst, arith}
+use Rattle.std.proofs.Common.{◌≡◌, List, Option, Result, Ok, Err, IfErr, IfOk, ◌∙◌, refl, sym, ap, subst, arith}
 use Rattle.std.specs.Prelude.{ℕ}
 use Rattle.std.proofs.lemmas.Result.{IfErr-weaker, IfOk-weaker}
-use Rattle.command_words.specs.Commands.{CommandValue, OptionsValue, generate, run}
+use Rattle.command_words.specs.Commands.{CommandValue, LiveOptionsValue, OptionsValue, generate, live, run}
 use Rattle.image_meaning.specs.declared.target.Target.{Target}
 use Rattle.vt_outside.specs.Desk.{DeskMeaning, Files}
 use Rattle.vt_outside.specs.Sink.{SinkMeaning}
@@ -18,7 +18,9 @@ use Rattle.vest_runs.specs.Kept.{KeptValue, nothing_kept}
 use Rattle.vest_cli.specs.Lent.{Lent, lent}
 use Rattle.vest_cli.specs.Leaving.{LeavesAll}
 use Rattle.vest_cli.specs.Decided.{DecidesOn}
+use Rattle.vest_cli.specs.Live.{StopsLive}
 use Rattle.vest_cli.specs.Replay.{Replays}
+use Rattle.vest_cli.specs.Run.{target_of}
 use Rattle.vest_cli.specs.Vest.{Does, OnlyGenerates, OnlyLists, OnlyReplays, OnlyTranslates, StopsAt}
 use Rattle.vest_cli.specs.Waiting.{HaltsAt, HaltsGenerate, HaltsRun, IsHaltDecided, WaitsReady, or_halt}
 use Rattle.vest_cli.specs.declared.halt.Halt.{Halt}
@@ -142,3 +144,15 @@ pub run_why : (r : Result Done Halt) (name : List ℕ) (options : OptionsValue) 
 run_why (Ok end) name options desk desk' input input' h = tt
 run_why (Err (Stops stop)) name options desk desk' input input' h = h
 run_why (Err (Waits waiting)) name options desk desk' input input' h = h
+
+-- ---- of `run --live`
+pub live_why : (r : Result Done Stop) (name : List ℕ) (options : LiveOptionsValue) (desk desk' : DeskMeaning) (input input' : SourceMeaning)
+    → IfErr r (λ stop. StopsLive stop (target_of options.target) name desk desk') → IfErr r (λ _. input' ≡ input)
+    → IfErr r (λ stop. StopsAt (live name options) stop desk desk' input input')
+live_why (Ok end) name options desk desk' input input' why unasked = tt
+live_why (Err stop) name options desk desk' input input' why unasked = (why, unasked)
+
+pub live_leaves : (r : Result Done Stop) (old new : Lent) (before kept : KeptValue) → before ≡ nothing_kept → SameFiles old.desk new.desk → IfErr r (λ _. new.out ≡ old.out)
+    → IfErr r (λ _. new.report ≡ old.report) → IfErr r (λ _. kept ≡ before) → IfErr r (λ _. LeavesAll old new kept)
+live_leaves (Ok end) old new before kept nothing same unsent unsaid unkept = tt
+live_leaves (Err stop) old new before kept nothing same unsent unsaid unkept = record { desk = same; out = unsent; report = unsaid; kept_nothing = unkept ∙ nothing }

@@ -14,7 +14,7 @@ use Rattle.vest_runs.specs.Keeping.{HasKept, limit_of, processors_of, set_up_of}
 use Rattle.vest_runs.specs.Kept.{KeptValue}
 use Rattle.vest_stops.specs.Files.{SameFiles}
 use Rattle.vest_stops.specs.declared.status.Done.{Done}
-use Rattle.vest_stops.specs.declared.status.Done.TheVariants.{Ok, Exception, Spent, WriteFault}
+use Rattle.vest_stops.specs.declared.status.Done.TheVariants.{Ok, Exception, Spent, ReadFault, WriteFault}
 use Rattle.vest_cli.specs.Made.{HasMade}
 use Rattle.vest_cli.specs.Storing.{Stores, has_failed}
 use Rattle.vest_cli.specs.Storing as storing
@@ -26,6 +26,7 @@ pub failed_is : (d : Done) → has_failed d ≡ true → d ≡ WriteFault
 failed_is Ok e = absurd cc
 failed_is Exception e = absurd cc
 failed_is Spent e = absurd cc
+failed_is ReadFault e = absurd cc
 failed_is WriteFault e = refl
 
 pub not_failed : (d : Done) → has_failed d ≡ false → d ≢ WriteFault

@@ -63,6 +63,7 @@ pub sent : (r : Done) (ends : List EndValue) (output lines : List ℕ) (out out'
 sent dones.Ok es output lines out out' report report' is first second = (is, first, second)
 sent dones.Exception es output lines out out' report report' is first second = (is, first, second)
 sent dones.Spent es output lines out out' report report' is first second = (is, first, second)
+sent dones.ReadFault es output lines out out' report report' is first second = (is, first, second)
 sent dones.WriteFault es output lines out out' report report' is first second = absurd (never_fault es is)
 
 -- ---- a file that is read behind another, told from before the first

@@ -1,6 +1,6 @@
 -- What the words, the files and the input decide on the status, with the checks in their order.
 use Rattle.std.specs.Prelude.{◌≡◌, ◌<◌, ℕ, List, Option, None, Some}
-use Rattle.command_words.specs.Commands.{CommandValue, generate, list, replay, run, translate}
+use Rattle.command_words.specs.Commands.{CommandValue, generate, list, live, replay, run, translate}
 use Rattle.vt_outside.specs.Causes.{one_more}
 use Rattle.vt_outside.specs.Desk.{Files}
 use Rattle.vest_stops.specs.Decided.{Decision, stops, goes_on}
@@ -9,12 +9,14 @@ use Rattle.vest_files.specs.Translate.{DecidesTranslate}
 use Rattle.vest_stops.specs.declared.status.Status.{Status}
 use Rattle.vest_stops.specs.declared.status.Status.TheVariants as status
 use Rattle.vest_cli.specs.Lent.{Lent}
+use Rattle.vest_cli.specs.Live.{DecidesLive}
 use Rattle.vest_cli.specs.Replay.{DecidesReplay}
 use Rattle.vest_cli.specs.Run.{DecidesRun}
 
 -- what a command comes to; what is not told decides nothing, and on `generate` nothing has to be told
 abbrev pub DecidesOn : CommandValue → Option Files → (input : Option (List ℕ)) → Decision → Type 0
 DecidesOn (run name options) files input decision = DecidesRun files name input decision
+DecidesOn (live name options) files input decision = DecidesLive files name decision
 DecidesOn (translate image to target hints) files input decision = DecidesTranslate files image hints decision
 DecidesOn (list name) files input decision = DecidesLoad files name decision
 DecidesOn (generate number) files input decision = decision ≡ goes_on
@@ -35,6 +37,7 @@ EndsARun result = ⊥
 abbrev pub EndsWell : Option CommandValue → Status → Type 0
 EndsWell None result = ⊥
 EndsWell (Some (run name options)) result = EndsARun result
+EndsWell (Some (live name options)) result = EndsARun result
 EndsWell (Some (generate number)) result = EndsARun result
 EndsWell (Some (replay name file hints)) result = EndsARun result
 EndsWell (Some command) result = result ≡ status.Ok

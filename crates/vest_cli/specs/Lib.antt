@@ -8,6 +8,7 @@ pub mod Run
 pub mod Generate
 pub mod Hints
 pub mod Replay
+pub mod Live
 pub mod Vest
 pub mod Decided
 pub mod Waiting

@@ -8,7 +8,7 @@ use Rattle.vest_runs.specs.Keeping.{limit_of}
 use Rattle.vest_runs.specs.Order.{HasRoom}
 use Rattle.vest_stops.specs.Files.{SameFiles}
 use Rattle.vest_stops.specs.declared.status.Done.{Done}
-use Rattle.vest_stops.specs.declared.status.Done.TheVariants.{Ok, Exception, Spent, WriteFault}
+use Rattle.vest_stops.specs.declared.status.Done.TheVariants.{Ok, Exception, Spent, ReadFault, WriteFault}
 use Rattle.vest_cli.specs.declared.execute.Task.{Task}
 use Rattle.vest_cli.specs.declared.storing.OrderFile.{OrderFile}
 
@@ -17,6 +17,7 @@ abbrev pub has_failed : Done → Bool
 has_failed Ok = false
 has_failed Exception = false
 has_failed Spent = false
+has_failed ReadFault = false
 has_failed WriteFault = true
 
 -- behind output and report, which came to `run`: nothing was asked for, or a sink failed; or the file was written; or its write failed

@@ -1,6 +1,6 @@
 -- What one call of `vest` does.
 use Rattle.std.specs.Prelude.{◌≡◌, ℕ, List, Option, None, Some}
-use Rattle.command_words.specs.Commands.{CommandValue, generate, list, replay, run, translate}
+use Rattle.command_words.specs.Commands.{CommandValue, generate, list, live, replay, run, translate}
 use Rattle.image_meaning.specs.declared.target.Target.{Target}
 use Rattle.vt_outside.specs.Desk.{DeskMeaning}
 use Rattle.vt_outside.specs.Source.{SourceMeaning}
@@ -18,6 +18,7 @@ use Rattle.vest_stops.specs.declared.stop.Stop.TheVariants.{WantOfMemory}
 use Rattle.vest_cli.specs.Generate.{Generates}
 use Rattle.vest_runs.specs.Kept.{KeptValue, nothing_kept}
 use Rattle.vest_cli.specs.Lent.{Lent}
+use Rattle.vest_cli.specs.Live.{Lives, StopsLive}
 use Rattle.vest_cli.specs.Replay.{Replays, StopsReplay}
 use Rattle.vest_cli.specs.Run.{Runs, StopsRun, target_of}
 use Rattle.vest_cli.specs.Stopping.{Stopped, usage_line}
@@ -31,9 +32,10 @@ pub record Untouched (desk desk' : DeskMeaning) (input input' : SourceMeaning) :
 abbrev pub StopsGenerate : Stop → DeskMeaning → DeskMeaning → SourceMeaning → SourceMeaning → Type 0
 StopsGenerate stop desk desk' input input' = (stop ≡ WantOfMemory) × Untouched desk desk' input input'
 
--- why a command stops; `translate`, `list` and `replay` leave the input
+-- why a command stops; all but `run` leave the input
 abbrev pub StopsAt : CommandValue → Stop → DeskMeaning → DeskMeaning → SourceMeaning → SourceMeaning → Type 0
 StopsAt (run name options) stop desk desk' input input' = StopsRun stop (target_of options.target) name desk desk' input input'
+StopsAt (live name options) stop desk desk' input input' = StopsLive stop (target_of options.target) name desk desk' × (input' ≡ input)
 StopsAt (translate image to target hints) stop desk desk' input input' = StopsTranslate stop image hints desk desk' × (input' ≡ input)
 StopsAt (list name) stop desk desk' input input' = StopsAtLoad stop name desk desk' × (input' ≡ input)
 StopsAt (generate number) stop desk desk' input input' = StopsGenerate stop desk desk' input input'
@@ -76,6 +78,7 @@ pub record OnlyReplays (result : Done) (name file : List ℕ) (hints : Option (L
 -- what a command does
 abbrev pub Does : CommandValue → Done → Lent → Lent → KeptValue → Type 0
 Does (run name options) result old new kept = Runs result name options old new kept
+Does (live name options) result old new kept = Lives result name options old new kept
 Does (translate image to target hints) result old new kept = OnlyTranslates (target_of target) result image to hints old new kept
 Does (list name) result old new kept = OnlyLists result name old new kept
 Does (generate number) result old new kept = OnlyGenerates result number old new kept

@@ -1,6 +1,6 @@
 -- Runs that are yet to be made, and what they come to.
 use Rattle.std.specs.Prelude.{◌≡◌, ◌≤◌, ◌<◌, ℕ, List, [], Option, None, Some, Result, Ok, Err, length}
-use Rattle.command_words.specs.Commands.{CommandValue, OptionsValue, generate, list, replay, run, translate}
+use Rattle.command_words.specs.Commands.{CommandValue, OptionsValue, generate, list, live, replay, run, translate}
 use Rattle.command_words.specs.Commands.{DEFAULT_LIMITS}
 use Rattle.vt_outside.specs.Desk.{DeskMeaning, Files}
 use Rattle.vt_outside.specs.Sink.{SinkMeaning}
@@ -127,9 +127,10 @@ abbrev pub HaltsGenerate : Halt → (number : ℕ) → Type 0
 HaltsGenerate (Stops stop) number = stop ≡ stops.WantOfMemory
 HaltsGenerate (Waits waiting) number = WaitsToGenerate waiting number
 
--- ---- of each command; `translate`, `list` and `replay` never wait
+-- ---- of each command; only `run` and `generate` wait
 abbrev pub WaitsAt : CommandValue → Waiting → DeskMeaning → DeskMeaning → SourceMeaning → SourceMeaning → Type 0
 WaitsAt (run name options) waiting desk desk' input input' = WaitsToRun waiting name options desk.files input input'
+WaitsAt (live name options) waiting desk desk' input input' = ⊥
 WaitsAt (translate image to target hints) waiting desk desk' input input' = ⊥
 WaitsAt (list name) waiting desk desk' input input' = ⊥
 WaitsAt (generate number) waiting desk desk' input input' = WaitsToGenerate waiting number × Untouched desk desk' input input'

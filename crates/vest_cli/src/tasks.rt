@@ -21,7 +21,10 @@ use vest_stops::Stop;
 use vt_outside::{Desk, Source};
 
 // The addresses that threads interpret, of the words.
-fn ranges_of(alloc: Global, ranges: &[command_words::Range]) -> Result<Vec<Range>, AllocError>
+pub(crate) fn ranges_of(
+    alloc: Global,
+    ranges: &[command_words::Range],
+) -> Result<Vec<Range>, AllocError>
     ensures { IfOk result (λ v. v.items ≡ map range_of ranges.now) }
 {
     list_of(

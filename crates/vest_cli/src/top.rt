@@ -13,6 +13,7 @@ ghost use Rattle.vest_cli.specs.Waiting.{CallWaits, HaltsAt, IsHaltDecided, Wait
 use crate::conclude::{conclude, refuse_words};
 use crate::generating::generate;
 use crate::halt::{Halt, or_halt};
+use crate::living::live;
 use crate::replaying::replay;
 use crate::running::run;
 use crate::tasks::target_of;
@@ -128,6 +129,9 @@ fn obey<D: Desk, I: Source, K: Sink, E: Sink>(
     match command {
         Command::Run { name, options } => {
             run(alloc, name, &options, desk, input, out, report, kept)
+        }
+        Command::Live { name, options } => {
+            or_halt(live(alloc, name, &options, desk, input, out, report, kept))
         }
         Command::Translate {
             image,

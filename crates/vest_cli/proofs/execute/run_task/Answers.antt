@@ -1,5 +1,5 @@
 -- The history and the processors are a legal run, and so what the threads did.
-use Rattle.std.proofs.Common.{ℕ, List, map, reverse, refl, ap, ◌∙◌, subst}
+use Rattle.std.proofs.Common.{◌≡◌, ℕ, List, map, reverse, refl, ap, ◌∙◌, subst}
 use Rattle.std.specs.Prelude.{Result, Ok, Err, IfOk}
 use Rattle.image_meaning.specs.Meant.{image_meaning}
 use Rattle.run_threads.specs.Runs.{RunningValue}
@@ -32,3 +32,9 @@ returns-clause-ran g c =
     (subst (λ (ranges : List Range). IsLegal (image_setting image.pages code ranges) start.set_up start.budget (reverse r.0.history) (map processor_of r.1.items)) c.deref-4.ensures.value
     (subst (λ (of : RunningValue). IsLegal (image_setting image.pages code c.deref-4.result.now) of.set_up of.budget (reverse r.0.history) (map processor_of r.1.items)) (c.in_ok-running.ensures ∙ ap (λ (input : List ℕ). running_of image input task.limits) c.deref.ensures.value) legal))
     ended) c.go.ensures.legal c.go.ensures.ended
+
+pub returns-clause-set_up : goal.returns-clause-set_up
+returns-clause-set_up g c =
+    let task = c.args.task.now in
+    let begun = c.in_ok-running.ensures ∙ ap (λ (input : List ℕ). running_of task.loaded.image input task.limits) c.deref.ensures.value in
+    subst (λ (of : RunningValue). IfOk c.go.result (λ r. r.0.set_up ≡ of.set_up)) begun c.go.ensures.set_up

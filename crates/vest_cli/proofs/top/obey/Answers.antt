@@ -1,8 +1,8 @@
 -- The command is the one that was read.
 use Rattle.std.proofs.Common.{IfOk, ap, subst}
 use Rattle.std.specs.Prelude.{option_map}
-use Rattle.command_words.specs.Answers.{command_value, options_value}
-use Rattle.command_words.specs.Commands.{generate, list, replay, run, translate}
+use Rattle.command_words.specs.Answers.{command_value, live_options_value, options_value}
+use Rattle.command_words.specs.Commands.{generate, list, live, replay, run, translate}
 use Rattle.image_meaning.specs.declared.target.Target.{Target}
 use Rattle.vest_files.specs.Loading.{StopsAtLoad}
 use Rattle.vest_files.specs.Translate.{StopsTranslate, Translates}
@@ -12,7 +12,7 @@ use Rattle.vest_cli.specs.Replay.{StopsReplay}
 use Rattle.vest_cli.specs.Run.{target_of}
 use Rattle.vest_cli.specs.Vest.{Does}
 use Rattle.vest_cli.specs.Words.{CanBeObeyed}
-use Rattle.vest_cli.proofs.Obeying.{decided_as, decided_so, does_as, err_so, generate_leaves, generate_why, halts_as, input_stays, list_leaves, ok_so, only_generates, only_lists, only_replays, only_translates, ready_so, replay_leaves, run_why, translate_leaves, why_so}
+use Rattle.vest_cli.proofs.Obeying.{decided_as, decided_so, does_as, err_so, generate_leaves, generate_why, halts_as, input_stays, list_leaves, live_leaves, live_why, ok_so, only_generates, only_lists, only_replays, only_translates, ready_so, replay_leaves, run_why, translate_leaves, why_so}
 use Rattle.vest_cli.proofs.Halting.{generate_decided}
 use Rattle.vest_cli.proofs.StoredOrders.{replay_decided}
 use Rattle.vest_cli.proofs.top.obey.Goals as goal
@@ -41,32 +41,32 @@ returns-in-Run-clause-decided g c =
 
 pub returns-in-Translate-clause-does : goal.returns-in-Translate-clause-does
 returns-in-Translate-clause-does g c =
-    does_as c.or_halt.result (command_value c.args.command) (translate c.in-Translate.image.now c.in-Translate.to.now c.in-Translate.target (option_map (λ s. s.now) c.in-Translate.hints))
+    does_as c.or_halt-in-Translate.result (command_value c.args.command) (translate c.in-Translate.image.now c.in-Translate.to.now c.in-Translate.target (option_map (λ s. s.now) c.in-Translate.hints))
     (lent (g.D.Desk.meaning c.args.desk.now) (g.I.Source.meaning c.args.input.now) (g.K.Sink.meaning c.args.out.now) (g.E.Sink.meaning c.args.report.now))
     (lent (g.D.Desk.meaning c.translate_file.new.desk) (g.I.Source.meaning c.args.input.now) (g.K.Sink.meaning c.args.out.now) (g.E.Sink.meaning c.args.report.now))
     c.args.kept.now (ap command_value c.in-Translate.is)
-    (ok_so c.translate_file.result c.or_halt.result c.or_halt.ensures (λ end. Does (translate c.in-Translate.image.now c.in-Translate.to.now c.in-Translate.target (option_map (λ s. s.now) c.in-Translate.hints)) end (lent (g.D.Desk.meaning c.args.desk.now) (g.I.Source.meaning c.args.input.now) (g.K.Sink.meaning c.args.out.now) (g.E.Sink.meaning c.args.report.now)) (lent (g.D.Desk.meaning c.translate_file.new.desk) (g.I.Source.meaning c.args.input.now) (g.K.Sink.meaning c.args.out.now) (g.E.Sink.meaning c.args.report.now)) c.args.kept.now)
+    (ok_so c.translate_file.result c.or_halt-in-Translate.result c.or_halt-in-Translate.ensures (λ end. Does (translate c.in-Translate.image.now c.in-Translate.to.now c.in-Translate.target (option_map (λ s. s.now) c.in-Translate.hints)) end (lent (g.D.Desk.meaning c.args.desk.now) (g.I.Source.meaning c.args.input.now) (g.K.Sink.meaning c.args.out.now) (g.E.Sink.meaning c.args.report.now)) (lent (g.D.Desk.meaning c.translate_file.new.desk) (g.I.Source.meaning c.args.input.now) (g.K.Sink.meaning c.args.out.now) (g.E.Sink.meaning c.args.report.now)) c.args.kept.now)
     (only_translates c.translate_file.result (g.I.Source.meaning c.args.input.now) (g.E.Sink.meaning c.args.report.now) c.args.kept.now c.requires.nothing (target_of c.in-Translate.target) c.in-Translate.image.now c.in-Translate.to.now (option_map (λ s. s.now) c.in-Translate.hints) (g.D.Desk.meaning c.args.desk.now) (g.D.Desk.meaning c.translate_file.new.desk) (g.K.Sink.meaning c.args.out.now) (subst (λ (t : Target). IfOk c.translate_file.result (λ end. Translates t end c.in-Translate.image.now c.in-Translate.to.now (option_map (λ s. s.now) c.in-Translate.hints) (g.D.Desk.meaning c.args.desk.now) (g.D.Desk.meaning c.translate_file.new.desk))) c.target_of.ensures c.translate_file.ensures.does)))
 
 pub returns-in-Translate-clause-why : goal.returns-in-Translate-clause-why
 returns-in-Translate-clause-why g c =
-    halts_as c.or_halt.result (command_value c.args.command) (translate c.in-Translate.image.now c.in-Translate.to.now c.in-Translate.target (option_map (λ s. s.now) c.in-Translate.hints))
+    halts_as c.or_halt-in-Translate.result (command_value c.args.command) (translate c.in-Translate.image.now c.in-Translate.to.now c.in-Translate.target (option_map (λ s. s.now) c.in-Translate.hints))
     (g.D.Desk.meaning c.args.desk.now) (g.D.Desk.meaning c.translate_file.new.desk) (g.I.Source.meaning c.args.input.now) (g.I.Source.meaning c.args.input.now) (ap command_value c.in-Translate.is)
-    (why_so c.translate_file.result c.or_halt.result c.or_halt.ensures (translate c.in-Translate.image.now c.in-Translate.to.now c.in-Translate.target (option_map (λ s. s.now) c.in-Translate.hints))
+    (why_so c.translate_file.result c.or_halt-in-Translate.result c.or_halt-in-Translate.ensures (translate c.in-Translate.image.now c.in-Translate.to.now c.in-Translate.target (option_map (λ s. s.now) c.in-Translate.hints))
     (g.D.Desk.meaning c.args.desk.now) (g.D.Desk.meaning c.translate_file.new.desk) (g.I.Source.meaning c.args.input.now) (g.I.Source.meaning c.args.input.now)
     (input_stays c.translate_file.result (λ stop. StopsTranslate stop c.in-Translate.image.now (option_map (λ s. s.now) c.in-Translate.hints) (g.D.Desk.meaning c.args.desk.now) (g.D.Desk.meaning c.translate_file.new.desk)) (g.I.Source.meaning c.args.input.now) c.translate_file.ensures.why))
 
 pub returns-in-Translate-clause-ready : goal.returns-in-Translate-clause-ready
-returns-in-Translate-clause-ready g c = ready_so c.translate_file.result c.or_halt.result c.or_halt.ensures
+returns-in-Translate-clause-ready g c = ready_so c.translate_file.result c.or_halt-in-Translate.result c.or_halt-in-Translate.ensures
 
 pub returns-in-Translate-clause-decided : goal.returns-in-Translate-clause-decided
 returns-in-Translate-clause-decided g c =
-    decided_as c.or_halt.result (command_value c.args.command) (translate c.in-Translate.image.now c.in-Translate.to.now c.in-Translate.target (option_map (λ s. s.now) c.in-Translate.hints))
-    (g.D.Desk.meaning c.args.desk.now).files (g.I.Source.meaning c.args.input.now).left (ap command_value c.in-Translate.is) (λ d on. decided_so c.translate_file.result c.or_halt.result c.or_halt.ensures d (c.translate_file.ensures.decided d on))
+    decided_as c.or_halt-in-Translate.result (command_value c.args.command) (translate c.in-Translate.image.now c.in-Translate.to.now c.in-Translate.target (option_map (λ s. s.now) c.in-Translate.hints))
+    (g.D.Desk.meaning c.args.desk.now).files (g.I.Source.meaning c.args.input.now).left (ap command_value c.in-Translate.is) (λ d on. decided_so c.translate_file.result c.or_halt-in-Translate.result c.or_halt-in-Translate.ensures d (c.translate_file.ensures.decided d on))
 
 pub returns-in-Translate-clause-leaves : goal.returns-in-Translate-clause-leaves
 returns-in-Translate-clause-leaves g c =
-    err_so c.translate_file.result c.or_halt.result c.or_halt.ensures
+    err_so c.translate_file.result c.or_halt-in-Translate.result c.or_halt-in-Translate.ensures
     (LeavesAll (lent (g.D.Desk.meaning c.args.desk.now) (g.I.Source.meaning c.args.input.now) (g.K.Sink.meaning c.args.out.now) (g.E.Sink.meaning c.args.report.now)) (lent (g.D.Desk.meaning c.translate_file.new.desk) (g.I.Source.meaning c.args.input.now) (g.K.Sink.meaning c.args.out.now) (g.E.Sink.meaning c.args.report.now)) c.args.kept.now)
     (translate_leaves c.translate_file.result (g.I.Source.meaning c.args.input.now) (g.E.Sink.meaning c.args.report.now) c.args.kept.now c.requires.nothing (g.D.Desk.meaning c.args.desk.now) (g.D.Desk.meaning c.translate_file.new.desk) (g.K.Sink.meaning c.args.out.now) c.translate_file.ensures.stays)
 
@@ -124,6 +124,44 @@ pub returns-in-Generate-clause-leaves : goal.returns-in-Generate-clause-leaves
 returns-in-Generate-clause-leaves g c =
     generate_leaves c.generate.result (g.D.Desk.meaning c.args.desk.now) (g.D.Desk.meaning c.generate.new.desk) (g.I.Source.meaning c.args.input.now) (g.K.Sink.meaning c.args.out.now) (g.K.Sink.meaning c.generate.new.out) (g.E.Sink.meaning c.args.report.now) (g.E.Sink.meaning c.generate.new.report) c.generate.new.kept
     c.generate.ensures.desk c.generate.ensures.unsent c.generate.ensures.unsaid c.generate.ensures.unkept
+
+pub live-requires : goal.live-requires
+live-requires g c = record { few = subst CanBeObeyed (ap command_value c.in-Live.is) c.requires.few }
+
+pub returns-in-Live-clause-does : goal.returns-in-Live-clause-does
+returns-in-Live-clause-does g c =
+    let command = live c.in-Live.name.now (live_options_value c.in-Live.options) in
+    let old = lent (g.D.Desk.meaning c.args.desk.now) (g.I.Source.meaning c.args.input.now) (g.K.Sink.meaning c.args.out.now) (g.E.Sink.meaning c.args.report.now) in
+    let new = lent (g.D.Desk.meaning c.live.new.desk) (g.I.Source.meaning c.live.new.input) (g.K.Sink.meaning c.live.new.out) (g.E.Sink.meaning c.live.new.report) in
+    does_as c.or_halt.result (command_value c.args.command) command old new c.live.new.kept (ap command_value c.in-Live.is)
+    (ok_so c.live.result c.or_halt.result c.or_halt.ensures (λ end. Does command end old new c.live.new.kept) c.live.ensures.lives)
+
+pub returns-in-Live-clause-why : goal.returns-in-Live-clause-why
+returns-in-Live-clause-why g c =
+    let command = live c.in-Live.name.now (live_options_value c.in-Live.options) in
+    let desk = g.D.Desk.meaning c.args.desk.now in
+    let desk' = g.D.Desk.meaning c.live.new.desk in
+    let input = g.I.Source.meaning c.args.input.now in
+    let input' = g.I.Source.meaning c.live.new.input in
+    halts_as c.or_halt.result (command_value c.args.command) command desk desk' input input' (ap command_value c.in-Live.is)
+    (why_so c.live.result c.or_halt.result c.or_halt.ensures command desk desk' input input'
+    (live_why c.live.result c.in-Live.name.now (live_options_value c.in-Live.options) desk desk' input input' c.live.ensures.why c.live.ensures.unasked))
+
+pub returns-in-Live-clause-ready : goal.returns-in-Live-clause-ready
+returns-in-Live-clause-ready g c = ready_so c.live.result c.or_halt.result c.or_halt.ensures
+
+pub returns-in-Live-clause-decided : goal.returns-in-Live-clause-decided
+returns-in-Live-clause-decided g c =
+    decided_as c.or_halt.result (command_value c.args.command) (live c.in-Live.name.now (live_options_value c.in-Live.options))
+    (g.D.Desk.meaning c.args.desk.now).files (g.I.Source.meaning c.args.input.now).left (ap command_value c.in-Live.is)
+    (λ d on. decided_so c.live.result c.or_halt.result c.or_halt.ensures d (c.live.ensures.decided d on))
+
+pub returns-in-Live-clause-leaves : goal.returns-in-Live-clause-leaves
+returns-in-Live-clause-leaves g c =
+    let old = lent (g.D.Desk.meaning c.args.desk.now) (g.I.Source.meaning c.args.input.now) (g.K.Sink.meaning c.args.out.now) (g.E.Sink.meaning c.args.report.now) in
+    let new = lent (g.D.Desk.meaning c.live.new.desk) (g.I.Source.meaning c.live.new.input) (g.K.Sink.meaning c.live.new.out) (g.E.Sink.meaning c.live.new.report) in
+    err_so c.live.result c.or_halt.result c.or_halt.ensures (LeavesAll old new c.live.new.kept)
+    (live_leaves c.live.result old new c.args.kept.now c.live.new.kept c.requires.nothing c.live.ensures.stays c.live.ensures.unsent c.live.ensures.unsaid c.live.ensures.unkept)
 
 pub returns-in-Replay-clause-does : goal.returns-in-Replay-clause-does
 returns-in-Replay-clause-does g c =
