@@ -40,7 +40,7 @@ spelled block = (map word_of block.words, block.exits, block.points)
 abbrev point : (word done count : ℕ) (write : Bool) (raises : ℕ) → Rules → Entry
 point word done count write raises rules = (word, record { vax_pc = 0x200; done = done; count = count; write = write; raises = raises; rules = rules })
 
-row1 : spelled (block false (sources_of (op.Move sizes.Long)) ((Compute 1 compute.Move sizes.Long (Register 1) (Const 0)) ∷ (Probe 1 4 false) ∷ (Read 0 1 4) ∷ (Compute 2 compute.Move sizes.Long (Temp 0) (Const 0)) ∷ (Compute 5 compute.Add sizes.Long (Register 1) (Const 4)) ∷ (Commit 1 5) ∷ (Commit 2 2) ∷ (Compute 6 compute.ShiftRight sizes.Long (Temp 2) (Const 31)) ∷ (Compute 7 compute.Equal sizes.Long (Temp 2) (Const 0)) ∷ (Compute 8 compute.Move sizes.Byte (Const 0) (Const 0)) ∷ (Codes 6 7 8 None) ∷ (Leave Next) ∷ []) (codes true true true true)) ≡ (0x4821F636 ∷ 0x46C0141B ∷ 0x00000080 ∷ 0x46C0F01A ∷ 0x4340B3BA ∷ 0x2F360000 ∷ 0x4B3604D9 ∷ 0xF7400003 ∷ 0x2F560003 ∷ 0x4B560D5A ∷ 0x473A0419 ∷ 0x47201415 ∷ 0x4AA1F637 ∷ 0x237F0004 ∷ 0x403B041A ∷ 0x4B41F63A ∷ 0x43401001 ∷ 0x42E01002 ∷ 0x47FF0412 ∷ 0x4AE3F690 ∷ 0x42E015B1 ∷ 0x47FF041F ∷ 0x47FF041F ∷ 0x47FF041F ∷ [], (0x15, 0x204) ∷ [], point 0x0 0 0 false 0x0 all_ready ∷ point 0x2 0 4 false 0x0 all_ready ∷ [])
+row1 : spelled (block false (sources_of (op.Move sizes.Long)) ((Compute 1 compute.Move sizes.Long (Register 1) (Const 0)) ∷ (Probe 1 4 false) ∷ (Read 0 1 4) ∷ (Compute 2 compute.Move sizes.Long (Temp 0) (Const 0)) ∷ (Compute 5 compute.Add sizes.Long (Register 1) (Const 4)) ∷ (Commit 1 5) ∷ (Commit 2 2) ∷ (Compute 6 compute.ShiftRight sizes.Long (Temp 2) (Const 31)) ∷ (Compute 7 compute.Equal sizes.Long (Temp 2) (Const 0)) ∷ (Compute 8 compute.Move sizes.Byte (Const 0) (Const 0)) ∷ (Codes 6 7 8 None) ∷ (Leave Next) ∷ []) (codes true true true true)) ≡ (0x4821F636 ∷ 0x46C0141B ∷ 0x00000080 ∷ 0x46C0F01A ∷ 0x4340B3BA ∷ 0x2F360000 ∷ 0x4B3604D9 ∷ 0xF7400003 ∷ 0x2F560003 ∷ 0x4B560D5A ∷ 0x473A0419 ∷ 0x47201415 ∷ 0x4AA1F637 ∷ 0x23410004 ∷ 0x4B41F63A ∷ 0x43401001 ∷ 0x42E01002 ∷ 0x47FF0412 ∷ 0x4AE3F690 ∷ 0x42E015B1 ∷ 0x47FF041F ∷ 0x47FF041F ∷ 0x47FF041F ∷ [], (0x14, 0x204) ∷ [], point 0x0 0 0 false 0x0 all_ready ∷ point 0x2 0 4 false 0x0 all_ready ∷ [])
 unfolding sources_of
 row1 = refl
 
@@ -48,7 +48,7 @@ row2 : spelled (block false (sources_of (op.TwoOperands Add Long)) ((Compute 0 c
 unfolding sources_of
 row2 = refl
 
-row3 : spelled (block false (sources_of (op.SubtractOneBranch false)) ((Compute 2 compute.Move sizes.Long (Register 1) (Const 0)) ∷ (Compute 2 compute.Sub sizes.Long (Temp 2) (Const 1)) ∷ (Compute 3 compute.Equal sizes.Long (Temp 2) (Const 2147483647)) ∷ (Compute 0 compute.Less sizes.Long (Const 0) (Temp 2)) ∷ (Commit 1 2) ∷ (Compute 6 compute.ShiftRight sizes.Long (Temp 2) (Const 31)) ∷ (Compute 7 compute.Equal sizes.Long (Temp 2) (Const 0)) ∷ (Codes 6 7 3 None) ∷ (Leave (Choice 0 520 516)) ∷ []) (codes false false false false)) ≡ (0x4821F637 ∷ 0x237F0001 ∷ 0x42FB0537 ∷ 0x4AE1F637 ∷ 0x277F8000 ∷ 0x237BFFFF ∷ 0x4AE41738 ∷ 0x4B64173B ∷ 0x431B05B8 ∷ 0x237F0000 ∷ 0x4B64173B ∷ 0x4AE41735 ∷ 0x437509B5 ∷ 0x42E01001 ∷ 0x47F80412 ∷ 0x4AE3F690 ∷ 0x42E015B1 ∷ 0x4684101B ∷ 0xE7600009 ∷ 0xE6400008 ∷ 0xE6A00003 ∷ 0x275F0000 ∷ 0x235A0208 ∷ 0xC3E00002 ∷ 0x275F0000 ∷ 0x235A0204 ∷ 0x22BF0001 ∷ 0x00000084 ∷ 0xE6A00003 ∷ 0x47FF041F ∷ 0x47FF041F ∷ 0x47FF041F ∷ 0x47FF041F ∷ 0x47FF041F ∷ 0x47FF041F ∷ [], (0x1D, 0x208) ∷ (0x20, 0x204) ∷ [], point 0x0 0 0 false 0x0 all_ready ∷ point 0x1B 1 0 false 0x0 all_ready ∷ [])
+row3 : spelled (block false (sources_of (op.SubtractOneBranch false)) ((Compute 2 compute.Move sizes.Long (Register 1) (Const 0)) ∷ (Compute 2 compute.Sub sizes.Long (Temp 2) (Const 1)) ∷ (Compute 3 compute.Equal sizes.Long (Temp 2) (Const 2147483647)) ∷ (Compute 0 compute.Less sizes.Long (Const 0) (Temp 2)) ∷ (Commit 1 2) ∷ (Compute 6 compute.ShiftRight sizes.Long (Temp 2) (Const 31)) ∷ (Compute 7 compute.Equal sizes.Long (Temp 2) (Const 0)) ∷ (Codes 6 7 3 None) ∷ (Leave (Choice 0 520 516)) ∷ []) (codes false false false false)) ≡ (0x4821F637 ∷ 0x42E03537 ∷ 0x4AE1F637 ∷ 0x277F8000 ∷ 0x237BFFFF ∷ 0x4AE41738 ∷ 0x4B64173B ∷ 0x431B05B8 ∷ 0x42E01015 ∷ 0x43F509B5 ∷ 0x42E01001 ∷ 0x47F80412 ∷ 0x4AE3F690 ∷ 0x42E015B1 ∷ 0x4684101B ∷ 0xE7600009 ∷ 0xE6400008 ∷ 0xE6A00003 ∷ 0x275F0000 ∷ 0x235A0208 ∷ 0xC3E00002 ∷ 0x275F0000 ∷ 0x235A0204 ∷ 0x22BF0001 ∷ 0x00000084 ∷ 0xE6A00003 ∷ 0x47FF041F ∷ 0x47FF041F ∷ 0x47FF041F ∷ 0x47FF041F ∷ 0x47FF041F ∷ 0x47FF041F ∷ [], (0x1A, 0x208) ∷ (0x1D, 0x204) ∷ [], point 0x0 0 0 false 0x0 all_ready ∷ point 0x18 1 0 false 0x0 all_ready ∷ [])
 unfolding sources_of
 row3 = refl
 

@@ -1,6 +1,8 @@
 // Questions about command lines, in which `''` is the empty word, and `N*WORD` is N times the word.
 use anyhow::Result;
-use command_words::{Command, Keeping, Limits, RunOptions, Target, WordsFault, read_words};
+use command_words::{
+    Command, Keeping, Limits, LiveOptions, Range, RunOptions, Target, WordsFault, read_words,
+};
 use row_tally::Given;
 use std::alloc::{AllocError, Global};
 use std::fmt::Write;
@@ -47,6 +49,14 @@ fn name_text(name: &str) -> &str {
     if name.is_empty() { "''" } else { name }
 }
 
+/// The addresses that threads interpret.
+fn push_ranges(text: &mut String, ranges: &[Range]) -> Result<(), AllocError> {
+    for range in ranges {
+        write!(text, " {}:{:X}-{:X}", range.thread, range.first, range.last)?;
+    }
+    Ok(())
+}
+
 fn run_text(alloc: Global, name: &str, options: &RunOptions<'_>) -> Result<String, AllocError> {
     let Limits {
         budget,
@@ -57,13 +67,28 @@ fn run_text(alloc: Global, name: &str, options: &RunOptions<'_>) -> Result<Strin
     let name = name_text(name);
     let mut text = format!(in alloc; "run {name} budget {budget} events {events} miss {miss}")?;
     text.push_str(keeping_text(keeping))?;
-    for range in &options.ranges {
-        write!(text, " {}:{:X}-{:X}", range.thread, range.first, range.last)?;
-    }
+    push_ranges(&mut text, &options.ranges)?;
     text.push_str(target_text(options.target))?;
     if let Some(order) = options.order {
         let order = name_text(order);
         write!(text, " order {order}")?;
+    }
+    Ok(text)
+}
+
+fn live_text(alloc: Global, name: &str, options: &LiveOptions) -> Result<String, AllocError> {
+    let LiveOptions {
+        budget,
+        miss,
+        progress,
+        ..
+    } = options;
+    let name = name_text(name);
+    let mut text = format!(in alloc; "live {name} budget {budget} miss {miss}")?;
+    push_ranges(&mut text, &options.ranges)?;
+    text.push_str(target_text(options.target))?;
+    if let Some(steps) = progress {
+        write!(text, " progress {steps}")?;
     }
     Ok(text)
 }
@@ -80,6 +105,7 @@ fn push_hints(text: &mut String, hints: &Option<&str>) -> Result<(), AllocError>
 fn command_text(alloc: Global, command: &Command<'_>) -> Result<String, AllocError> {
     match command {
         Command::Run { name, options } => run_text(alloc, name, options),
+        Command::Live { name, options } => live_text(alloc, name, options),
         Command::Translate {
             image,
             out,

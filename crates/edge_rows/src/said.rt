@@ -144,6 +144,7 @@ fn subject_of(word: &str) -> Result<Subject> {
         "flow" => Ok(Subject::Flow),
         "order" => Ok(Subject::Order),
         "hints" => Ok(Subject::Hints),
+        "live" => Ok(Subject::Live),
         _ => bail!("no subject: {word}"),
     }
 }

@@ -446,11 +446,11 @@ sources39 : sources_of op.Breakpoint ≡ from source.Kept source.Kept
 unfolding sources_of
 sources39 = refl
 
-fits40 : fits (from source.Kept source.Kept) ((Compute 0 compute.Or sizes.Byte (Flag 3) (Flag 1)) ∷ (Compute 0 compute.Xor sizes.Byte (Temp 0) (Const 1)) ∷ (Leave (Choice 0 520 516)) ∷ []) ≡ true
+fits40 : fits (from source.Kept source.Kept) ((Compute 0 compute.Or sizes.Byte (Flag 3) (Flag 1)) ∷ (Leave (Choice 0 520 516)) ∷ []) ≡ true
 unfolding step
 fits40 = refl
 
-words40 : program_words (from source.Kept source.Kept) ((Compute 0 compute.Or sizes.Byte (Flag 3) (Flag 1)) ∷ (Compute 0 compute.Xor sizes.Byte (Temp 0) (Const 1)) ∷ (Leave (Choice 0 520 516)) ∷ []) ≡ 5
+words40 : program_words (from source.Kept source.Kept) ((Compute 0 compute.Or sizes.Byte (Flag 3) (Flag 1)) ∷ (Leave (Choice 0 520 516)) ∷ []) ≡ 2
 words40 = refl
 
 sources40 : sources_of (op.BranchIf GreaterUnsigned) ≡ from source.Kept source.Kept

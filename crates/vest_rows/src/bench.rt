@@ -4,6 +4,7 @@ use crate::cuts::{refuses_beginnings, refuses_changes, refuses_longer, refuses_p
 use crate::left::Left;
 use crate::lent::{Lent, object_of};
 use crate::replays::is_replayed;
+use crate::talks::is_same_live;
 use crate::turns::Turns;
 use crate::unkept::is_same_unkept;
 use anyhow::{Context, Result, bail};
@@ -75,7 +76,7 @@ impl Bench {
     }
 
     // One call, and whether it leaves what is wanted, and a run is given again by `replay`, with hints where these are asked for, and is
-    // the same where it keeps no history.
+    // the same where it keeps no history, and where it is talked with.
     fn calls_once<R: Threads + Wait + Sync + Print>(
         &mut self,
         rt: &R,
@@ -87,9 +88,10 @@ impl Bench {
         let replayed = is_replayed(rt, alloc, &self.lent, &self.files, line, hints)?;
         let unkept = is_same_unkept(rt, alloc, &self.lent, &self.files, line, wanted)?;
         let left = call(rt, alloc, &self.lent, &mut self.files, line)?;
+        let live = is_same_live(rt, alloc, &self.lent, &self.files, line, wanted, &left)?;
         let agrees = left.is_or_prints(rt, alloc, wanted)?;
         self.left = Some(left);
-        Ok(agrees && replayed && unkept)
+        Ok(agrees && replayed && unkept && live)
     }
 
     // LINE: STATUS OUT REPORT, so many times, the first of them with hints.

@@ -1,16 +1,17 @@
 // What a call left, beside the files.
 use anyhow::Result;
 use image_file::Image;
-use memory_core::{Entry, MemState};
+use memory_core::Entry;
 use row_files::{first_word, lines_of};
 use row_tally::{number, words};
 use std::alloc::{AllocError, Global};
+use vest_cli::KeptMemory;
 
 /// Stands for anything.
 const ANY: &str = "*";
 
 /// The steps of a thread: how many instructions it retired, and how many of the steps were interpreted.
-#[derive(Clone, Copy)]
+#[derive(Clone, Copy, PartialEq, Eq)]
 pub struct Steps {
     pub retired: u64,
     pub interpreted: u64,
@@ -23,7 +24,7 @@ pub struct Run {
     pub image: Option<Image>,
     pub ranges: u64,
     pub steps: Vec<Steps>,
-    pub memory: Option<MemState>,
+    pub memory: Option<KeptMemory>,
 }
 
 impl Run {
@@ -34,8 +35,8 @@ impl Run {
     /// The entries of its history, or none where it kept none.
     pub fn history(&self) -> &[Entry] {
         match &self.memory {
-            Some(memory) => memory.history().unwrap_or(&[]),
-            None => &[],
+            Some(KeptMemory::Plain(memory)) => memory.history().unwrap_or(&[]),
+            Some(KeptMemory::Live(_)) | None => &[],
         }
     }
 }

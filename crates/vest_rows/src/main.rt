@@ -3,7 +3,8 @@
 //!
 //! `lent` and `gates` have what a call is lent beside the files, `call` makes the call, `left`, `numbers` and `memory` have what it
 //! left, `cuts` goes through beginnings and changes of a translated file, `turns` through the calls of an object that may fail, `replays`
-//! drives the order of each run again, `unkept` makes each run without a history, and `bench` says which of these a row asks for.
+//! drives the order of each run again, `unkept` makes each run without a history, `talks` talks with each run, and `bench` says which of
+//! these a row asks for.
 #![tactic(auto)]
 
 mod bench;
@@ -15,6 +16,7 @@ mod lent;
 mod memory;
 mod numbers;
 mod replays;
+mod talks;
 mod turns;
 mod unkept;
 

@@ -9,7 +9,7 @@ use std::sync::Wait;
 use std::thread::Threads;
 
 /// The options of a run that leaves something else without a history, or can't be without one.
-const OPTIONS: [&str; 2] = ["--events", "--unkept"];
+const OPTIONS: [&str; 3] = ["--events", "--unkept", "--live"];
 
 /// Whether a line is no run without these options, or one that leaves the same status, output and report where it keeps no history.
 pub fn is_same_unkept<R: Threads + Wait + Sync + Print>(
