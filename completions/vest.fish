@@ -18,6 +18,8 @@ complete -c vest -n '__fish_seen_subcommand_from run; and not __vest_options_end
 complete -c vest -n '__fish_seen_subcommand_from run; and not __vest_options_end' -x -l events -d 'the most entries of the history'
 complete -c vest -n '__fish_seen_subcommand_from run; and not __vest_options_end' -x -l miss -d 'every so many-th store conditional fails'
 complete -c vest -n '__fish_seen_subcommand_from run; and not __vest_options_end' -l unkept -d 'the history is not kept'
+complete -c vest -n '__fish_seen_subcommand_from run; and not __vest_options_end' -l live -d 'the program is talked with'
+complete -c vest -n '__fish_seen_subcommand_from run; and not __vest_options_end' -x -l progress -d 'after how many steps more a line tells how far it has come'
 complete -c vest -n '__fish_seen_subcommand_from run; and not __vest_options_end' -r -F -l order -d 'the file for the order of the references'
 complete -c vest -n '__fish_seen_subcommand_from run; and not __vest_options_end' -x -l interpret -d 'a thread and the addresses that it interprets'
 complete -c vest -n '__fish_seen_subcommand_from translate; and not __vest_options_end' -r -F -l hints -d 'a file of addresses from which code is looked for'

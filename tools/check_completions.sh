@@ -44,6 +44,8 @@ answers "translate" vest tr
 answers "--budget" vest run --b
 answers "" vest run x --miss ""
 answers "--unkept" vest run --u
+answers "--live" vest run --l
+answers "--progress" vest run --p
 answers "sample.img" vest run --unkept sa
 answers "--target --hints" vest translate --
 answers "sample.img" vest translate x --hints sa

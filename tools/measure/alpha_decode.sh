@@ -3,9 +3,11 @@
 # measures alpha_encode as it stands at each commit, `here` for as it stands here, one beside the other in each of five rounds; without one,
 # as it stands here. Processor time counts. Where the linker puts the code can make a fifth more or less of it, so each is built in so many
 # layouts as LAYOUTS says (4 where it isn't set), with one more function in front of the loop in each, and the means of their medians count.
+# With COUNTED=1 it counts machine instructions in the place of time, by `valgrind`: what so many more turns take, of which no layout changes much.
 set -euo pipefail
 top=$(cd "$(dirname "$0")/../.." && pwd)
 turns=40000000
+fewer=100000
 layouts=${LAYOUTS:-4}
 # So many functions that stand in front of the loop.
 padding() {
@@ -70,38 +72,51 @@ fn sum_of(turns: u64) -> u64 {
 }
 
 fn main(rt: HostRuntime) -> io::Result<()> {
-    let sum = sum_of($turns);
+    let sum = sum_of($2);
     let sum = $(padded "$1");
     println!(rt; "{sum}")
 }
 PROGRAM
 }
-# Builds the program over alpha_encode as it stands at a commit, in a layout, and leaves it under that name.
+# Builds the program over alpha_encode as it stands at a commit, in a layout, with so many turns, and leaves it under that name.
 build() {
     (
         . "$top/tools/measure/scratch.sh"
-        scratch "alpha_encode" < <(program "$2")
+        scratch "alpha_encode" < <(program "$2" "$3")
         if [ "$1" != here ]; then
             rm -rf ../alpha_encode
             git -C "$top" archive "$1" crates/alpha_encode | tar -C ../.. -xf -
         fi
         rt run > log 2>&1 || { tail -n 20 log; exit 1; }
-        cp out/measure "$built/$1-$2"
+        cp out/measure "$built/$1-$2-$3"
     )
+}
+# How many machine instructions the program of a commit takes with so many turns.
+counted() {
+    build "$1" 0 "$2" >&2
+    valgrind --tool=cachegrind --cache-sim=no --cachegrind-out-file=/dev/null "$built/$1-0-$2" 2>&1 | sed -n 's/,//g; s/.*I *refs: *//p'
 }
 built=$(mktemp -d)
 trap 'rm -rf "$built"' EXIT
 [ $# -gt 0 ] || set -- here
+if [ -n "${COUNTED:-}" ]; then
+    for commit in "$@"; do
+        few=$(counted "$commit" "$fewer")
+        many=$(counted "$commit" $((2 * fewer)))
+        awk -v commit="$commit" -v more=$((many - few)) -v words=$((8 * fewer)) 'BEGIN { printf "%s: %.1f machine instructions a word\n", commit, more / words }'
+    done
+    exit
+fi
 for commit in "$@"; do
     for ((layout = 0; layout < layouts; layout++)); do
-        build "$commit" "$layout"
+        build "$commit" "$layout" "$turns"
     done
 done
 TIMEFORMAT=%U
 for round in 1 2 3 4 5; do
     for ((layout = 0; layout < layouts; layout++)); do
         for commit in "$@"; do
-            seconds=$({ time "$built/$commit-$layout" > /dev/null; } 2>&1)
+            seconds=$({ time "$built/$commit-$layout-$turns" > /dev/null; } 2>&1)
             echo "$commit $layout $round $seconds"
         done
     done
