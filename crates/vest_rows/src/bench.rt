@@ -175,7 +175,8 @@ impl Bench {
     fn has_memory(&self, alloc: Global, rest: &str) -> Result<bool> {
         let (address, pieces) = first_word(rest);
         let wanted = spelled(alloc, &self.files, pieces)?;
-        Ok(self.left()?.run.has_memory(longword(address)?, &wanted))
+        let run = &self.left()?.run;
+        Ok(run.has_memory(alloc, longword(address)?, &wanted)?)
     }
 
     // A row about what stands.
