@@ -31,7 +31,7 @@ use Rattle.exception_records.specs.declared.points.Point.{{Point}}
 use Rattle.exception_records.specs.declared.rules.Rules.{{Rules}}
 use Rattle.code_runs.specs.Rules.{{rules_behind}}
 use Rattle.flag_codegen.specs.Words.{{code_words}}
-use Rattle.program_codegen.specs.Words.{{program_block}}
+use Rattle.program_codegen.specs.Blocks.{{program_block}}
 
 -- an instruction at 200, behind which stands 204
 abbrev instr : Instr

@@ -13,7 +13,7 @@ use Rattle.byte_sequences.specs.Words.{locked_code}
 use Rattle.compute_sequences.specs.Words.{compute_code}
 use Rattle.program_codegen.specs.declared.lines.Line.{Line}
 use Rattle.program_codegen.specs.declared.points.Site.{Site}
-use Rattle.program_codegen.specs.Words.{block_lines, block_of, departing, holder, lines_of, may_trap, overflow_lines, overflow_made, plain, point_of, program_lines, tested_lines, trap_lines, with_first, read_by, write_by}
+use Rattle.program_codegen.specs.Words.{block_of, departing, holder, lines_of, may_trap, overflow_lines, overflow_made, plain, point_of, program_lines, tested_lines, trap_lines, with_first, read_by, write_by}
 use Rattle.program_codegen.specs.Promises.{BeginsBy}
 
 module _ (site : Site) where
@@ -26,18 +26,18 @@ module _ (site : Site) where
   before [] ys x y = y
   before (line ∷ lines) ys x y = x
 
-  row : (words : List AlphaInstr) → Starts (map plain words)
+  pub row : (words : List AlphaInstr) → Starts (map plain words)
   row [] = tt
   row (word ∷ words) = refl
 
-  trap : (exit : Exit) → Starts (trap_lines site exit)
+  pub trap : (exit : Exit) → Starts (trap_lines site exit)
   trap exit = by (may_trap site)
     where
       by : (b : Bool) → Starts (if b then tested_lines site.behind.v (overflow_made site.behind.v) (overflow_lines site exit) else [])
       by true = refl
       by false = tt
 
-  depart : (exit : Exit) → Starts (departing site exit)
+  pub depart : (exit : Exit) → Starts (departing site exit)
   depart Next = refl
   depart (Fixed address) = refl
   depart (Computed temp) = refl
@@ -70,6 +70,3 @@ module _ (site : Site) where
   pub lines_begin : (lines : List Line) → Starts lines → BeginsBy site.before (block_of (with_first (point_of site) lines))
   lines_begin [] starts point e = absurd (cc e)
   lines_begin (line ∷ lines) starts point e = ap (λ (p : Point). p.rules) (sym (same_Some (unwrap_or line.point (point_of site)) point e)) ∙ starts
-
-  pub begins : (codes : List AlphaInstr) (program : List Micro) → BeginsBy site.before (block_of (block_lines site codes program))
-  begins codes program = lines_begin (program_lines site codes program) (program_starts codes program)

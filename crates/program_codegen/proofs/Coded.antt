@@ -9,6 +9,7 @@ use Rattle.vt_words.specs.Values.{bit}
 use Rattle.vax_form.specs.State.{with_core, with_pc}
 use Rattle.vax_form.specs.Tree.{Tree}
 use Rattle.vax_form.specs.declared.state.Flags.{Flags}
+use Rattle.vax_form.specs.declared.state.VaxState.{VaxState}
 use Rattle.alpha_encode.specs.declared.instr.AlphaInstr.{AlphaInstr}
 use Rattle.alpha_meaning.specs.Loops.{is_operate, fine, written, effects}
 use Rattle.alpha_meaning.specs.Pieces.{Only}
@@ -23,8 +24,8 @@ use Rattle.micro_ops.specs.Fits.{same, sources_fit, signs_are_held, carry_is_hel
 use Rattle.micro_ops.specs.Known.{held, holds}
 use Rattle.micro_ops.specs.Leaving.{SignsComeFrom, CarryComesFrom, CodesComeFrom, state_left}
 use Rattle.micro_ops.specs.Meaning.{Temps, Standing, Departure}
-use Rattle.block_law.specs.CodeWords.{temps_in, codes_in, may_be_written}
-use Rattle.micro_ops.specs.Sources.{is_written}
+use Rattle.block_law.specs.CodeWords.{temps_in, codes_in, may_be_written, ShowCodes}
+use Rattle.micro_ops.specs.Sources.{is_written, codes_written_by}
 use Rattle.block_law.specs.Placements.{Placement, InForm, state_behind}
 use Rattle.block_law.specs.Tidy.{is_kept}
 use Rattle.block_law.proofs.Rules.{Always, operates}
@@ -64,7 +65,7 @@ psw_back psw upper e lt =
     rw (bit_of (psw / 8 % 2) (omega arith), bit_of (psw / 4 % 2) (omega arith), bit_of (psw / 2 % 2) (omega arith), bit_of (psw / 1 % 2) (omega arith)) (joined psw upper e lt)
 
 -- ---- codes by the temporaries that hold something
-signs_by : (source : CodeSource) (psw psw' : ℕ) (temps other : Temps) (known : Known) → ((temp : ℕ) → temp < 6 → holds known temp ≡ true → other temp ≡ temps temp) → signs_are_held known source ≡ true
+pub signs_by : (source : CodeSource) (psw psw' : ℕ) (temps other : Temps) (known : Known) → ((temp : ℕ) → temp < 6 → holds known temp ≡ true → other temp ≡ temps temp) → signs_are_held known source ≡ true
     → SignsComeFrom source psw psw' temps → SignsComeFrom source psw psw' other
 signs_by Kept psw psw' temps other known same e h = h
 signs_by Zero psw psw' temps other known same e h = h
@@ -85,7 +86,7 @@ signs_by (Computed size) psw psw' temps other known same e h =
     rw (same 2 (lit< tt) x.0, same 3 (lit< tt) x.1) h
 signs_by Psw psw psw' temps other known same e h = rw (same 2 (lit< tt) e) h
 
-carry_by : (source : CodeSource) (psw psw' : ℕ) (temps other : Temps) (known : Known) → ((temp : ℕ) → temp < 6 → holds known temp ≡ true → other temp ≡ temps temp) → carry_is_held known source ≡ true
+pub carry_by : (source : CodeSource) (psw psw' : ℕ) (temps other : Temps) (known : Known) → ((temp : ℕ) → temp < 6 → holds known temp ≡ true → other temp ≡ temps temp) → carry_is_held known source ≡ true
     → CarryComesFrom source psw psw' temps → CarryComesFrom source psw psw' other
 carry_by Kept psw psw' temps other known same e h = h
 carry_by Zero psw psw' temps other known same e h = h
@@ -114,20 +115,20 @@ none_written false true = refl
 none_written false false = refl
 
 -- but for these it writes none
-others_stay : (sources : CodeSources) (n : ℕ) → (n == 24) ≡ false → (n == 25) ≡ false → (n == 16) ≡ false → (n == 17) ≡ false → (n == 18) ≡ false → (n == 28) ≡ false → (n == 29) ≡ false → (n == 19) ≡ false → (n == 15) ≡ false → (n == 30) ≡ false
+pub others_stay : (sources : CodeSources) (n : ℕ) → (n == 24) ≡ false → (n == 25) ≡ false → (n == 16) ≡ false → (n == 17) ≡ false → (n == 18) ≡ false → (n == 28) ≡ false → (n == 29) ≡ false → (n == 19) ≡ false → (n == 15) ≡ false → (n == 30) ≡ false
     → may_be_written sources n ≡ false
 others_stay sources n a b c d e f g h i j = rw (a, b, c, d, e, f, g, h, i, j) (none_written (is_written sources.nzv) (is_written sources.c))
 
-low_stays : (sources : CodeSources) (n : ℕ) → n < 15 → may_be_written sources n ≡ false
+pub low_stays : (sources : CodeSources) (n : ℕ) → n < 15 → may_be_written sources n ≡ false
 low_stays sources n lt = others_stay sources n (no 24 (lit≤ tt)) (no 25 (lit≤ tt)) (no 16 (lit≤ tt)) (no 17 (lit≤ tt)) (no 18 (lit≤ tt)) (no 28 (lit≤ tt)) (no 29 (lit≤ tt)) (no 19 (lit≤ tt)) (no 15 (lit≤ tt)) (no 30 (lit≤ tt))
   where
     no : (k : ℕ) → 15 ≤ k → (n == k) ≡ false
     no k le = grind (arith, nat_tests)
 
-status_stays : (sources : CodeSources) → may_be_written sources 20 ≡ false
+pub status_stays : (sources : CodeSources) → may_be_written sources 20 ≡ false
 status_stays sources = others_stay sources 20 refl refl refl refl refl refl refl refl refl refl
 
-temp_stays : (sources : CodeSources) (temp : ℕ) → temp < 6 → (temp == 3) ≡ false → (temp == 4) ≡ false → may_be_written sources (21 + temp) ≡ false
+pub temp_stays : (sources : CodeSources) (temp : ℕ) → temp < 6 → (temp == 3) ≡ false → (temp == 4) ≡ false → may_be_written sources (21 + temp) ≡ false
 temp_stays sources temp lt three four =
     others_stay sources (21 + temp) (shifted 3 three) (shifted 4 four) (low 16 (lit≤ tt)) (low 17 (lit≤ tt)) (low 18 (lit≤ tt)) (high 28 (lit≤ tt)) (high 29 (lit≤ tt)) (low 19 (lit≤ tt)) (low 15 (lit≤ tt)) (high 30 (lit≤ tt))
   where
@@ -144,7 +145,7 @@ pub registers_same : (old new : Regs) → ((n : ℕ) → n < 15 → new n ≡ ol
 registers_same old new same =
     rw (same 0 (lit< tt), same 1 (lit< tt), same 2 (lit< tt), same 3 (lit< tt), same 4 (lit< tt), same 5 (lit< tt), same 6 (lit< tt), same 7 (lit< tt), same 8 (lit< tt), same 9 (lit< tt), same 10 (lit< tt), same 11 (lit< tt), same 12 (lit< tt), same 13 (lit< tt), same 14 (lit< tt)) refl
 
-fine_operates : (may : ℕ → Bool) (is : List AlphaInstr) → list_all (fine may) is ≡ true → list_all is_operate is ≡ true
+pub fine_operates : (may : ℕ → Bool) (is : List AlphaInstr) → list_all (fine may) is ≡ true → list_all is_operate is ≡ true
 fine_operates may [] e = refl
 fine_operates may (i ∷ is) e = by (is_operate i) (may (written i)) (list_all (fine may) is) refl e (fine_operates may is)
   where
@@ -155,7 +156,7 @@ fine_operates may (i ∷ is) e = by (is_operate i) (may (written i)) (list_all (
     by false b c f e rest = absurd (cc e)
 
 -- what a boundary shows is not written where the codes are kept
-unwritten : (sources : CodeSources) (n : ℕ) → is_written sources.nzv ≡ false → is_written sources.c ≡ false → is_kept n ≡ true → may_be_written sources n ≡ false
+pub unwritten : (sources : CodeSources) (n : ℕ) → is_written sources.nzv ≡ false → is_written sources.c ≡ false → is_kept n ≡ true → may_be_written sources n ≡ false
 unwritten sources n signs carry kept = by (may_be_written sources n) refl
   where
     by : (b : Bool) → may_be_written sources n ≡ b → b ≡ false
@@ -163,18 +164,13 @@ unwritten sources n signs carry kept = by (may_be_written sources n) refl
     by false e = refl
 
 module _ (p : Placement) (site : Site) (codes : List AlphaInstr) (setting : Setting p site codes) where
-  -- ---- the words for the codes
-  pub coded : (known : Known) (standing : Standing) (regs : Regs) (departure : Departure) → sources_fit site.sources known ≡ true → (state_left departure).psw ≡ standing.state.psw
-      → CodesComeFrom site.sources p.begun (record { departure = departure; temps = standing.temps }) → Holds p site known standing regs → Coded p site known standing (effects codes regs)
-  coded known standing regs departure fits left come h =
-      let g = effects codes regs in
-      let parts = sources_parts site.sources known fits in
-      let stay = effects_only codes (may_be_written site.sources) regs regs setting.leaves.only (λ n out. refl) in
-      let in_registers : (temp : ℕ) → temp < 6 → holds known temp ≡ true → regs (21 + temp) ≡ standing.temps temp = λ temp lt some. (held_value (held known temp) (standing.temps temp) (regs (21 + temp)) some (h.temps temp lt)).0 in
-      let shows = setting.leaves.leaves regs p.held p.begun departure (record { zero = h.form.zero; hold = h.form.codes; codes = h.codes }) (record {
-        signs = signs_by site.sources.nzv p.begun.psw (state_left departure).psw standing.temps (temps_in regs) known in_registers parts.2 come.signs;
-        carry = carry_by site.sources.c p.begun.psw (state_left departure).psw standing.temps (temps_in regs) known in_registers parts.3 come.carry;
-      }) in
+  -- ---- words for the codes
+  -- those that write only what may be written, and leave the codes by the rules behind
+  pub coded_by : (words : List AlphaInstr) (known : Known) (standing : Standing) (regs : Regs) (left : VaxState) → list_all (fine (may_be_written site.sources)) words ≡ true
+      → same known.codes (is_from_values site.sources.nzv) ≡ true → same known.psw (is_from_psw site.sources.nzv) ≡ true → left.psw ≡ standing.state.psw
+      → ShowCodes (effects words regs) site.behind (still_held p.held (codes_written_by site.sources)) left → Holds p site known standing regs → Coded p site known standing (effects words regs)
+  coded_by words known standing regs left only by_values by_psw is shows h =
+      let stay = effects_only words (may_be_written site.sources) regs regs only (λ n out. refl) in
       record {
         form = record {
           longwords = λ n lt. let e = stay n (low_stays site.sources n lt) in subst (λ x. sign_extended x 32 ≡ x) (sym e) (h.form.longwords n lt);
@@ -183,16 +179,27 @@ module _ (p : Placement) (site : Site) (codes : List AlphaInstr) (setting : Sett
           status_only = let e = stay 20 (status_stays site.sources) in subst (λ x. x % 16 ≡ 0) (sym e) h.form.status_only;
           zero = shows.zero;
         };
-        temps = λ temp lt three four. held_still (held known temp) (standing.temps temp) (regs (21 + temp)) (effects codes regs (21 + temp)) (λ some. stay (21 + temp) (temp_stays site.sources temp lt three four)) (h.temps temp lt);
-        state = h.state ∙ ap (λ (rs : List ℕ). with_core p.begun rs p.begun.pc standing.state.psw) (sym (registers_same regs (effects codes regs) (λ n lt. stay n (low_stays site.sources n lt))));
+        temps = λ temp lt three four. held_still (held known temp) (standing.temps temp) (regs (21 + temp)) (effects words regs (21 + temp)) (λ some. stay (21 + temp) (temp_stays site.sources temp lt three four)) (h.temps temp lt);
+        state = h.state ∙ ap (λ (rs : List ℕ). with_core p.begun rs p.begun.pc standing.state.psw) (sym (registers_same regs (effects words regs) (λ n lt. stay n (low_stays site.sources n lt))));
         upper = h.upper ∙ ap (λ x. x / 16) (sym (stay 20 (status_stays site.sources)));
         before = λ no_codes no_psw.
-            let values = same_false (is_from_values site.sources.nzv) (subst (λ b. same b (is_from_values site.sources.nzv) ≡ true) no_codes parts.0) in
-            let from_psw = same_false (is_from_psw site.sources.nzv) (subst (λ b. same b (is_from_psw site.sources.nzv) ≡ true) no_psw parts.1) in
+            let values = same_false (is_from_values site.sources.nzv) (subst (λ b. same b (is_from_values site.sources.nzv) ≡ true) no_codes by_values) in
+            let from_psw = same_false (is_from_psw site.sources.nzv) (subst (λ b. same b (is_from_psw site.sources.nzv) ≡ true) no_psw by_psw) in
             let kept = (kept_source site.sources.nzv values from_psw).0 in
-            codes_kept regs (effects codes regs) site.before p.held (λ n is. stay n (unwritten site.sources n kept (setting.together kept) is)) ∙ (h.codes ∙ ap codes_in (sym (h.same_psw no_codes no_psw)));
-        codes = ap (λ (now : Flags). codes_shown (effects codes regs) site.behind (still_held p.held now)) setting.written ∙ (shows.codes ∙ ap codes_in left);
+            codes_kept regs (effects words regs) site.before p.held (λ n is. stay n (unwritten site.sources n kept (setting.together kept) is)) ∙ (h.codes ∙ ap codes_in (sym (h.same_psw no_codes no_psw)));
+        codes = ap (λ (now : Flags). codes_shown (effects words regs) site.behind (still_held p.held now)) setting.written ∙ (shows.codes ∙ ap codes_in is);
       }
+
+  pub coded : (known : Known) (standing : Standing) (regs : Regs) (departure : Departure) → sources_fit site.sources known ≡ true → (state_left departure).psw ≡ standing.state.psw
+      → CodesComeFrom site.sources p.begun (record { departure = departure; temps = standing.temps }) → Holds p site known standing regs → Coded p site known standing (effects codes regs)
+  coded known standing regs departure fits left come h =
+      let parts = sources_parts site.sources known fits in
+      let in_registers : (temp : ℕ) → temp < 6 → holds known temp ≡ true → regs (21 + temp) ≡ standing.temps temp = λ temp lt some. (held_value (held known temp) (standing.temps temp) (regs (21 + temp)) some (h.temps temp lt)).0 in
+      coded_by codes known standing regs (state_left departure) setting.leaves.only parts.0 parts.1 left
+      (setting.leaves.leaves regs p.held p.begun departure (record { zero = h.form.zero; hold = h.form.codes; codes = h.codes }) (record {
+        signs = signs_by site.sources.nzv p.begun.psw (state_left departure).psw standing.temps (temps_in regs) known in_registers parts.2 come.signs;
+        carry = carry_by site.sources.c p.begun.psw (state_left departure).psw standing.temps (temps_in regs) known in_registers parts.3 come.carry;
+      })) h
 
   pub codes_run : (need pc : ℕ) (rest : List Line) (regs : Regs) (t : Tree) → Within p site.behind pc (map plain codes ++ rest) → 1 ≤ length rest
       → (Within p site.behind (pc + length codes) rest → Always p None need (at_place (effects codes regs) (pc + length codes)) t) → Always p None (length codes + need) (at_place regs pc) t

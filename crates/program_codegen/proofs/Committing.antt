@@ -32,7 +32,7 @@ use Rattle.program_codegen.proofs.Walk.{Within, stands, is_inside}
 use Rattle.program_codegen.proofs.Holding.{Holds}
 use Rattle.program_codegen.proofs.Computing.{held_value, held_still}
 
-above : (r n : ℕ) → r < 15 → 15 ≤ n → (n == r) ≡ false
+pub above : (r n : ℕ) → r < 15 → 15 ≤ n → (n == r) ≡ false
 above r n lt le = greater_differs n r (omega arith)
 
 -- ---- a register

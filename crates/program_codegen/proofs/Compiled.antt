@@ -24,14 +24,15 @@ use Rattle.alpha_meaning.specs.Pieces.{most_words}
 use Rattle.block_law.specs.Translations.{Meaning, Permit, Code, placed, fetch_of}
 use Rattle.program_codegen.specs.declared.lines.Line.{Line}
 use Rattle.program_codegen.specs.declared.points.Site.{Site}
-use Rattle.program_codegen.specs.Words.{point_of, with_first, words_of, with_entry, points_from, exits_from, block_of, block_lines, program_lines, site_of}
+use Rattle.program_codegen.specs.Words.{point_of, with_first, words_of, with_entry, points_from, exits_from, block_of, site_of}
+use Rattle.program_codegen.specs.Blocks.{block_lines, chosen_lines}
 use Rattle.program_codegen.specs.Programs.{AllHaveWords, ReadsReady, LeavesReady, KeepsTogether, is_narrow}
 use Rattle.program_codegen.specs.Accesses.{needed}
 use Rattle.program_codegen.specs.Promises.{CompilesProgram}
 use Rattle.program_codegen.proofs.Walk.{IsMarked, HasLine, HasLines, Within}
 use Rattle.program_codegen.proofs.Holding.{Setting, LeavingFollows}
 use Rattle.program_codegen.proofs.Starting.{fetched, holds_at_start, IsWhole, lines_stand}
-use Rattle.program_codegen.proofs.Following.{follows}
+use Rattle.program_codegen.proofs.Chosen.{chosen_follows}
 
 -- ---- words and points of lines
 pub word_of_line : (lines : List Line) (k : ℕ) (line : Line) → slice_get lines k ≡ Some line → slice_get (words_of lines) k ≡ Some line.instr
@@ -140,7 +141,7 @@ module _ (instr : Instr) (sources : CodeSources) (program : List Micro) (codes :
 
   pub compiles : LeavesCodes sources before behind codes → KeepsTogether sources → is_narrow behind.v ≡ true → instr.after < 2 ^ 32
       → AllHaveWords sources program → ReadsReady before program → LeavesReady behind program → is_ended (walk sources at_start program) ≡ true
-      → IsWhole 0 (block_lines site codes program) → length (program_lines site codes program) ≤ 256
+      → IsWhole 0 (block_lines site codes program) → length (chosen_lines site codes program) ≤ 256
       → ((p : Placement) → Setting p site codes → LeavingFollows p site codes)
       → CompilesProgram instr sources program before behind byte_word (block_of (block_lines site codes program))
   compiles leaves together narrow after words reads ready ended whole short leaving bytes sized meaning permit writes code first thread n state held regs few stands at form shows leads range agree =
@@ -155,6 +156,6 @@ module _ (instr : Instr) (sources : CodeSources) (program : List Micro) (codes :
         narrow = narrow;
         after = after;
       } in
-      follows p site codes setting (leaving p setting) program at_start (started state) regs first
-      (within_block meaning permit code thread state held first behind (point_of site) (program_lines site codes program) few whole stands leads)
-      sized words reads ready refl ended (holds_at_start p site instr.at regs form shows) range agree n block_steps new_round short
+      chosen_follows p site codes setting (leaving p setting) program (started state) regs first
+      (within_block meaning permit code thread state held first behind (point_of site) (chosen_lines site codes program) few whole stands leads)
+      sized words reads ready ended (holds_at_start p site instr.at regs form shows) range agree n block_steps new_round short

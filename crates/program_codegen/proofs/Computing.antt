@@ -162,7 +162,7 @@ computed_same SelectNonzero size a a' b b' held held' ea eb eh = rw (ea, eb refl
 computed_same op size a a' b b' held held' ea eb eh = rw (ea, eb refl) refl
 
 -- what is computed is held as is known
-computed_holds : (op : MicroOp) (to : ℕ) (size : Size) (a b : Arg) (x y held r : ℕ) → r ≡ computed op size x y held → HoldsAs (holding_of (leaves_longword (Compute to op size a b))) (computed op size x y held) r
+pub computed_holds : (op : MicroOp) (to : ℕ) (size : Size) (a b : Arg) (x y held r : ℕ) → r ≡ computed op size x y held → HoldsAs (holding_of (leaves_longword (Compute to op size a b))) (computed op size x y held) r
 computed_holds SignExtend to Byte a b x y held r e = (e, computed_fits SignExtend Byte x y held)
 computed_holds SignExtend to Word a b x y held r e = (e, computed_fits SignExtend Word x y held)
 computed_holds SignExtend to Long a b x y held r e = (e, computed_fits SignExtend Long x y held)
@@ -205,16 +205,31 @@ value_written known to value holding temps old new lt here temp was other = by (
 abbrev pub any_kind : Kinds
 any_kind = λ kind bytes. true
 
-kept_apart : (to n : ℕ) → 21 ≤ to → to ≤ 26 → is_kept n ≡ true → may_change to n ≡ false
+pub kept_apart : (to n : ℕ) → 21 ≤ to → to ≤ 26 → is_kept n ≡ true → may_change to n ≡ false
 kept_apart to n low high e = grind (arith, nat_tests, e)
 
-zero_apart : (to : ℕ) → 21 ≤ to → to ≤ 26 → may_change to 31 ≡ false
+pub zero_apart : (to : ℕ) → 21 ≤ to → to ≤ 26 → may_change to 31 ≡ false
 zero_apart to low high = grind (arith, nat_tests)
 
-temp_apart : (to temp : ℕ) → temp < 6 → (temp == to) ≡ false → may_change (21 + to) (21 + temp) ≡ false
+pub temp_apart : (to temp : ℕ) → temp < 6 → (temp == to) ≡ false → may_change (21 + to) (21 + temp) ≡ false
 temp_apart to temp lt e = grind (arith, nat_tests, e)
 
 module _ (p : Placement) (site : Site) where
+  -- its words, wherever they stand
+  pub computation_runs : (need pc to : ℕ) (op : MicroOp) (size : Size) (a b : Arg) (rest : List Line) (regs : Regs) (t : Tree)
+      → Within p site.behind pc (map plain (compute_code op size a b (holder to)) ++ rest) → 1 ≤ length rest
+      → IsTarget (holder to) → IsArgument a → (is_unary op ≡ false → IsArgument b) → MayCompute op a b (holder to) regs
+      → ((done : Unit {0}) (g : Regs) → Leaves (IsComputed op size a b (holder to) regs) (holder to) regs done g → Always p None need (at_place g (pc + length (compute_code op size a b (holder to)))) t)
+      → Always p None (length (compute_code op size a b (holder to)) + need) (at_place regs pc) t
+  computation_runs need pc to op size a b rest regs t w some target a_is b_is may behind =
+      let count = row_length p site.behind (compute_code op size a b (21 + to)) rest in
+      let end = w.high in
+      let near = w.near in
+      runs p None need pc (length (compute_code op size a b (21 + to))) (Leaves (IsComputed op size a b (21 + to) regs) (21 + to) regs) any_kind (λ done. t) None regs (Over tt) t
+      w.low (omega arith) (λ q gt le. is_inside p site.behind pc q (map plain (compute_code op size a b (21 + to)) ++ rest) w gt (omega arith)) (refl, refl)
+      (λ n. leaves_computed a b (21 + to) a_is target op size b_is regs may p.fetch _ pc n (omega arith) (row_words p site.behind pc (compute_code op size a b (21 + to)) rest w))
+      (λ done g l. behind done g l)
+
   pub computes : (need pc to : ℕ) (op : MicroOp) (size : Size) (a b : Arg) (rest : List Line) (known : Known) (standing : Standing) (regs : Regs) (t : Tree)
       → Within p site.behind pc (map plain (compute_code op size a b (holder to)) ++ rest) → 1 ≤ length rest
       → computation_fits known to op a b ≡ true → IsTarget (holder to) → IsArgument a → (is_unary op ≡ false → IsArgument b)
@@ -229,9 +244,6 @@ module _ (p : Placement) (site : Site) where
       let low = target.low in
       let high = target.high in
       let to_lt : to < 6 = omega arith in
-      let count = row_length p site.behind (compute_code op size a b (21 + to)) rest in
-      let end = w.high in
-      let near = w.near in
       let b_fits : is_unary op ≡ false → argument_fits known b ≡ true = λ e. or_left (is_unary op) (argument_fits known b) e x.2 in
       let to_held : is_select op ≡ true → holds known to ≡ true = λ e. or_not (is_select op) (holds known to) e x.3 in
       let held_to : is_select op ≡ true → (regs (21 + to) ≡ standing.temps to) × (standing.temps to < 2 ^ 64) = λ e. held_value (held known to) (standing.temps to) (regs (21 + to)) (to_held e) (h.temps to to_lt) in
@@ -241,9 +253,7 @@ module _ (p : Placement) (site : Site) where
         second = λ e. argument_quad p site known standing regs h b (b_is e) (b_fits e);
         held = λ e. subst (λ n. n < 2 ^ 64) (sym (held_to e).0) (held_to e).1;
       } in
-      runs p None need pc (length (compute_code op size a b (21 + to))) (Leaves (IsComputed op size a b (21 + to) regs) (21 + to) regs) any_kind (λ done. t) None regs (Over tt) t
-      w.low (omega arith) (λ q gt le. is_inside p site.behind pc q (map plain (compute_code op size a b (21 + to)) ++ rest) w gt (omega arith)) (refl, refl)
-      (λ n. leaves_computed a b (21 + to) a_is target op size b_is regs may p.fetch _ pc n (omega arith) (row_words p site.behind pc (compute_code op size a b (21 + to)) rest w))
+      computation_runs need pc to op size a b rest regs t w some target a_is b_is may
       (λ done g l. behind g
       (unchanged p site known (behind_write to (holding_of (leaves_longword (Compute to op size a b))) known) standing _ regs g
       (write_changes to _ known)

@@ -30,7 +30,7 @@ use Rattle.program_codegen.proofs.Trapping.{Overflows, ExitHolds}
 use Rattle.program_codegen.proofs.Testing.{trap_or, traps_first}
 
 -- a trap leaves the same status word
-same_psw : (standing : Standing) (pc : ℕ) (onward : Departure) (b : Bool) → (state_left onward).psw ≡ standing.state.psw
+pub same_psw : (standing : Standing) (pc : ℕ) (onward : Departure) (b : Bool) → (state_left onward).psw ≡ standing.state.psw
     → (state_left (if b then Ended (Trap 1 (with_pc pc standing.state)) else onward)).psw ≡ standing.state.psw
 same_psw standing pc onward true e = refl
 same_psw standing pc onward false e = e
@@ -48,7 +48,7 @@ module _ (p : Placement) (site : Site) (codes : List AlphaInstr) (setting : Sett
         signs = subst (λ psw. SignsComeFrom site.sources.nzv p.begun.psw psw standing.temps) left come.signs;
       }
 
-  departs_some : (exit : Exit) → 1 ≤ length (departing site exit)
+  pub departs_some : (exit : Exit) → 1 ≤ length (departing site exit)
   departs_some exits.Next = lit≤ tt
   departs_some (exits.Fixed address) = lit≤ tt
   departs_some (exits.Computed temp) = lit≤ tt

@@ -40,26 +40,26 @@ use Rattle.program_codegen.proofs.Rows.{is_free, is_own, is_silent, list_all_of,
 use Rattle.program_codegen.proofs.Fronts.{targets, targets_append, row_targets, words_append, row_words_are, any_neither, SparesCodes, KeptBy, quiet_kept, free_keeps, Front, row_front, front_append, spares_append, no_front, line_front, Shape}
 
 -- ---- silent lines
-record Silent (site : Site) (most : ℕ) (lines : List Line) : Type 0 where
-  front : Front site lines
-  quiet : list_any may_fault (words_of lines) ≡ false
-  few : length lines ≤ most
+pub record Silent (site : Site) (most : ℕ) (lines : List Line) : Type 0 where
+  pub front : Front site lines
+  pub quiet : list_any may_fault (words_of lines) ≡ false
+  pub few : length lines ≤ most
 
-silent_append : (site : Site) (n m : ℕ) (xs ys : List Line) → Silent site n xs → Silent site m ys → Silent site (n + m) (xs ++ ys)
+pub silent_append : (site : Site) (n m : ℕ) (xs ys : List Line) → Silent site n xs → Silent site m ys → Silent site (n + m) (xs ++ ys)
 silent_append site n m xs ys a b = record {
   front = front_append site xs ys a.front b.front;
   quiet = any_neither may_fault xs ys a.quiet b.quiet;
   few = let count = length-append xs ys in let x = a.few in let y = b.few in omega arith;
 }
 
-silent_row : (site : Site) (most : ℕ) (is : List AlphaInstr) → All IsEncodable is → list_all is_silent is ≡ true → length is ≤ most → Silent site most (map plain is)
+pub silent_row : (site : Site) (most : ℕ) (is : List AlphaInstr) → All IsEncodable is → list_all is_silent is ≡ true → length is ≤ most → Silent site most (map plain is)
 silent_row site most is encodable silent few = record {
   front = row_front site is encodable (list_all_of is_silent is_own silent_own is silent);
   quiet = ap (list_any may_fault) (row_words_are is) ∙ silent_quiet is silent;
   few = let count = plain_length is in omega arith;
 }
 
-one_word : (i : AlphaInstr) → IsEncodable i → All IsEncodable (i ∷ [])
+pub one_word : (i : AlphaInstr) → IsEncodable i → All IsEncodable (i ∷ [])
 one_word i is = All-cons IsEncodable i [] is (All-nil IsEncodable)
 
 pub above_codes : (n r : ℕ) → 20 ≤ n → r < 20 → (n == r) ≡ false
@@ -135,7 +135,7 @@ module _ (site : Site) where
       (silent_append site 9 9 (map plain (overflow_made rule)) _ (silent_row site 9 (overflow_made rule) (made_encodable rule) (made_silent rule) made)
       (silent_append site 1 8 (plain (test_word rule (length trap)) ∷ []) trap (silent_row site 1 (test_word rule (length trap) ∷ []) (one_word _ (branch_encodable Beq (overflow_register rule) (length trap) (overflow_register_fits rule) (omega arith))) refl (lit≤ tt)) silent)))
 
-  traps_silent : (exit : Exit) → IsExit exit → Silent site 20 (trap_lines site exit)
+  pub traps_silent : (exit : Exit) → IsExit exit → Silent site 20 (trap_lines site exit)
   traps_silent exit is = by (may_trap site)
     where
       by : (b : Bool) → Silent site 20 (if b then tested_lines site.behind.v (overflow_made site.behind.v) (overflow_lines site exit) else [])
@@ -143,11 +143,11 @@ module _ (site : Site) where
       by false = record { front = no_front site; quiet = refl; few = lit≤ tt }
 
 -- ---- the exits
-exit_spares : (address : ℕ) → SparesCodes (words_of (exit_lines address))
+pub exit_spares : (address : ℕ) → SparesCodes (words_of (exit_lines address))
 exit_spares address r low high = let other = above_codes 31 r (lit≤ tt) high in rw other refl
 
 module _ (site : Site) (after_fits : site.after < 2 ^ 32) where
-  departing_each : (exit : Exit) → IsExit exit → EachFits site 0 (departing site exit)
+  pub departing_each : (exit : Exit) → IsExit exit → EachFits site 0 (departing site exit)
   departing_each exits.Next is = exit_each site site.after after_fits
   departing_each (exits.Fixed address) is = exit_each site address is
   departing_each (exits.Computed temp) is = (
@@ -165,7 +165,7 @@ module _ (site : Site) (after_fits : site.after < 2 ^ 32) where
   )
   departing_each exits.Breakpoint is = (call_fits site 0x83 (raising site 0x2C) (lit≤ tt) (lit≤ tt) refl refl refl refl, refl)
 
-  departing_goes : (exit : Exit) → targets (departing site exit) ≡ exit_addresses site.after exit
+  pub departing_goes : (exit : Exit) → targets (departing site exit) ≡ exit_addresses site.after exit
   departing_goes exits.Next = refl
   departing_goes (exits.Fixed address) = refl
   departing_goes (exits.Computed temp) = refl
@@ -173,7 +173,7 @@ module _ (site : Site) (after_fits : site.after < 2 ^ 32) where
   departing_goes (exits.Service temp) = refl
   departing_goes exits.Breakpoint = refl
 
-  departing_spares : (exit : Exit) → SparesCodes (words_of (departing site exit))
+  pub departing_spares : (exit : Exit) → SparesCodes (words_of (departing site exit))
   departing_spares exits.Next r low high = exit_spares site.after r low high
   departing_spares (exits.Fixed address) r low high = exit_spares address r low high
   departing_spares (exits.Computed temp) r low high = rw (above_codes 26 r (lit≤ tt) high, above_codes 31 r (lit≤ tt) high) refl
@@ -181,7 +181,7 @@ module _ (site : Site) (after_fits : site.after < 2 ^ 32) where
   departing_spares (exits.Service temp) r low high = rw (above_codes 21 r (lit≤ tt) high, above_codes 26 r (lit≤ tt) high, below_codes 0 r (lit< tt) low, above_codes 31 r (lit≤ tt) high) refl
   departing_spares exits.Breakpoint r low high = rw (above_codes 31 r (lit≤ tt) high) refl
 
-  departing_short : (exit : Exit) → length (departing site exit) ≤ 7
+  pub departing_short : (exit : Exit) → length (departing site exit) ≤ 7
   departing_short exits.Next = lit≤ tt
   departing_short (exits.Fixed address) = lit≤ tt
   departing_short (exits.Computed temp) = lit≤ tt
@@ -190,7 +190,7 @@ module _ (site : Site) (after_fits : site.after < 2 ^ 32) where
   departing_short exits.Breakpoint = lit≤ tt
 
 -- ---- the words that leave the codes
-codes_local : (may : ℕ → Bool) (i : AlphaInstr) → fine may i ≡ true → is_local i ≡ true
+pub codes_local : (may : ℕ → Bool) (i : AlphaInstr) → fine may i ≡ true → is_local i ≡ true
 codes_local may (Operate op ra rb rc) e = refl
 codes_local may (Memory op ra rb disp) e = absurd (cc e)
 codes_local may (Branch op ra disp) e = absurd (cc e)
@@ -204,7 +204,7 @@ codes_free may free (Branch op ra disp) e = absurd (cc e)
 codes_free may free (Jump ra rb) e = absurd (cc e)
 codes_free may free (Pal number) e = absurd (cc e)
 
-codes_quiet : (may : ℕ → Bool) (is : List AlphaInstr) → list_all (fine may) is ≡ true → list_any may_fault is ≡ false
+pub codes_quiet : (may : ℕ → Bool) (is : List AlphaInstr) → list_all (fine may) is ≡ true → list_any may_fault is ≡ false
 codes_quiet may [] e = refl
 codes_quiet may (i ∷ is) e = by (fine may i) (list_all (fine may) is) (one i) (codes_quiet may is) e
   where
@@ -248,7 +248,7 @@ free_when_kept sources e f n may = by (is_written sources.nzv) (is_written sourc
     by false true e f may = absurd (cc f)
 
 -- ---- the whole end
-or_nothing : (b : Bool) → (b || false) ≡ b
+pub or_nothing : (b : Bool) → (b || false) ≡ b
 or_nothing true = refl
 or_nothing false = refl
 

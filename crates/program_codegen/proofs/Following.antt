@@ -67,7 +67,7 @@ pub opened : (sources : CodeSources) (known : Known) (operation : Micro) (progra
     → is_ended (option_and_then (λ behind. walk sources behind program) (step sources known operation)) ≡ true
 opened sources known operation program off e = unless known.ended (option_and_then (λ behind. walk sources behind program) (step sources known operation)) off e
 
-departs : (site : Site) (exit : Exit) → 1 ≤ length (departing site exit)
+pub departs : (site : Site) (exit : Exit) → 1 ≤ length (departing site exit)
 departs site Next = lit≤ tt
 departs site (Fixed address) = lit≤ tt
 departs site (Computed temp) = lit≤ tt

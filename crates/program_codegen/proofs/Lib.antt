@@ -44,6 +44,16 @@ pub mod Trapping
 pub mod Testing
 pub mod Departures
 pub mod Beginning
+pub mod HomeNumbers
+pub mod HomeCodes
+pub mod HomeShapes
+pub mod HomeHolding
+pub mod HomeComputing
+pub mod HomeEnding
+pub mod HomeFollowing
+pub mod HomeShaping
+pub mod Chosen
+pub mod HomePushing
 pub mod Promised
 pub mod Targets
 pub mod CallCompiled

@@ -18,17 +18,17 @@ use Rattle.block_law.specs.Tidy.{codes_written}
 use Rattle.micro_ops.specs.Exits.{addresses_of}
 use Rattle.program_codegen.specs.declared.lines.Line.{Line}
 use Rattle.program_codegen.specs.declared.points.Site.{Site}
-use Rattle.program_codegen.specs.Words.{point_of, with_first, words_of, block_of, block_lines, program_lines, site_of, program_block}
+use Rattle.program_codegen.specs.Words.{point_of, with_first, words_of, block_of, site_of}
+use Rattle.program_codegen.specs.Blocks.{block_lines, chosen_lines, program_block}
 use Rattle.program_codegen.specs.Programs.{AllRanged, AllFitWords, AllHaveWords, ReadsReady, LeavesReady, KeepsTogether, is_narrow}
 use Rattle.program_codegen.specs.Promises.{HasRules, CompilesProgram}
 use Rattle.program_codegen.proofs.Numbers.{all_three}
 use Rattle.program_codegen.proofs.Starting.{flags_same}
-use Rattle.program_codegen.proofs.Following.{lines_some}
+use Rattle.program_codegen.proofs.Chosen.{chosen_shape, chosen_some}
 use Rattle.program_codegen.proofs.Compiled.{first_length, compiles, first_words}
 use Rattle.program_codegen.proofs.Shapes.{EachFits, first_each, each_whole, has_rules}
 use Rattle.program_codegen.proofs.Blocking.{block_shape}
 use Rattle.program_codegen.proofs.Fronts.{targets, exits_go, Shape}
-use Rattle.program_codegen.proofs.Shaping.{program_shape}
 use Rattle.program_codegen.proofs.Fitting.{fit_words, have_words}
 use Rattle.program_codegen.proofs.Departures.{leaving_follows}
 
@@ -61,10 +61,10 @@ module _ (site : Site) (program : List Micro) (codes : List AlphaInstr) (fit : f
   pub all_have : AllHaveWords site.sources program
   all_have = have_words site.sources program (all_fit site.sources program fit) ranged
 
-  shape : Shape site false codes (addresses_of site.after program) (program_words site.sources program + 59) (program_lines site codes program)
-  shape = program_shape site codes after encodable leaves.few leaves.only together program at_start refl ended all_have (λ e. (refl, refl))
+  shape : Shape site false codes (addresses_of site.after program) (program_words site.sources program + 59) (chosen_lines site codes program)
+  shape = chosen_shape site codes after encodable leaves.few leaves.only together program ended all_have
 
-  short : length (program_lines site codes program) ≤ 256
+  short : length (chosen_lines site codes program) ≤ 256
   short =
       let few : program_words site.sources program ≤ 192 = room (program_words site.sources program) parts.2 in
       let most = shape.short in
@@ -74,24 +74,24 @@ module _ (site : Site) (program : List Micro) (codes : List AlphaInstr) (fit : f
       room n e = grind (arith, nat_tests, e)
 
   pub few_lines : length (block_lines site codes program) ≤ 256
-  few_lines = let count = first_length (point_of site) (program_lines site codes program) in let le = short in omega arith
+  few_lines = let count = first_length (point_of site) (chosen_lines site codes program) in let le = short in omega arith
 
   all_each : EachFits site 0 (block_lines site codes program)
-  all_each = first_each site (program_lines site codes program) shape.each
+  all_each = first_each site (chosen_lines site codes program) shape.each
 
   pub is_block : IsBlockOf false site.at (block_of (block_lines site codes program))
-  is_block = block_shape false site (program_lines site codes program) shape.each (lines_some site codes program at_start refl ended) short shape.kept
+  is_block = block_shape false site (chosen_lines site codes program) shape.each (chosen_some site codes program ended) short shape.kept
 
   pub goes_there : map (λ (exit : ℕ × ℕ). exit.1) (block_of (block_lines site codes program)).exits ≡ addresses_of site.after program
-  goes_there = exits_go 0 (block_lines site codes program) ∙ (same_targets site (program_lines site codes program) ∙ shape.goes)
+  goes_there = exits_go 0 (block_lines site codes program) ∙ (same_targets site (chosen_lines site codes program) ∙ shape.goes)
 
   pub rules_are : All (HasRules site.before site.behind) (block_of (block_lines site codes program)).points
   rules_are = has_rules site 0 0 (block_lines site codes program) all_each
 
   pub writes_codes : codes_written (block_of (block_lines site codes program)).words ≡ codes_written codes
   writes_codes =
-      ap codes_written (first_words (point_of site) (program_lines site codes program))
-      ∙ flags_same (codes_written (words_of (program_lines site codes program))) (codes_written codes)
+      ap codes_written (first_words (point_of site) (chosen_lines site codes program))
+      ∙ flags_same (codes_written (words_of (chosen_lines site codes program))) (codes_written codes)
       (shape.writes 16 (lit≤ tt) (lit< tt)) (shape.writes 17 (lit≤ tt) (lit< tt)) (shape.writes 18 (lit≤ tt) (lit< tt)) (shape.writes 19 (lit≤ tt) (lit< tt))
 
 pub compiles_program : (instr : Instr) (sources : CodeSources) (program : List Micro) (codes : List AlphaInstr) (before behind : Rules) (byte_word : Bool) → fits sources program ≡ true → LeavesCodes sources before behind codes → All IsEncodable codes

@@ -1,6 +1,7 @@
 -- The points of a block are the same with the byte-word extension and without it, but for the words at which they stand.
-use Rattle.std.proofs.Common.{◌≡◌, ℕ, zero, suc, ◌+◌, length, refl, sym, ap, ◌∙◌, List, [], ◌∷◌, ◌++◌, map, Bool, true, false, Option, Some, None, cond}
-use Rattle.std.specs.Prelude.{◌==◌, unwrap_or}
+use Rattle.std.proofs.Common.{◌≡◌, ℕ, zero, suc, ◌+◌, length, refl, sym, ap, ◌∙◌, subst, List, [], ◌∷◌, ◌++◌, map, Bool, true, false, Option, Some, None, cond}
+use Rattle.std.specs.Prelude.{◌==◌, option_and_then, option_map, unwrap_or}
+use Rattle.std.proofs.lemmas.Option.{same_Some}
 use Rattle.vax_form.specs.declared.instr.Instr.{Instr}
 use Rattle.vax_form.specs.declared.operation.LongOperation.TheVariants.{CallStack, MoveCharacters}
 use Rattle.vax_form.specs.declared.pages.Pages.{Pages}
@@ -12,15 +13,20 @@ use Rattle.exception_records.specs.declared.points.Point.{Point}
 use Rattle.exception_records.specs.declared.rules.Rules.{Rules}
 use Rattle.micro_ops.specs.Sources.{sources_of_long}
 use Rattle.micro_ops.specs.declared.codes.CodeSources.{CodeSources}
+use Rattle.micro_ops.specs.declared.program.Exit.{Exit}
+use Rattle.micro_ops.specs.declared.program.Exit.TheVariants.{Next, Fixed, Computed, Choice, Service, Breakpoint}
 use Rattle.micro_ops.specs.declared.program.Micro.{Micro}
 use Rattle.micro_ops.specs.declared.program.Micro.TheVariants.{Compute, Probe, Refuse, Read, Write, Locked, Commit, Codes, SetPsw, Leave}
 use Rattle.byte_sequences.specs.Words.{byte_read, unaligned_read, read_code, bw_word_read, bw_read_code, write_code, bw_write_code}
 use Rattle.program_codegen.specs.declared.calls.Call.{Call}
+use Rattle.program_codegen.specs.declared.homes.Homes.{Homes}
 use Rattle.program_codegen.specs.declared.lines.Line.{Line}
 use Rattle.program_codegen.specs.declared.points.Site.{Site}
 use Rattle.program_codegen.specs.Strings.{behind_words, move_words, operands_of, steps_of as steps_of_move, string_block, string_check, string_lines, string_site}
+use Rattle.program_codegen.specs.Blocks.{chosen_lines, program_block}
+use Rattle.program_codegen.specs.Homes.{direct_end, direct_lines, direct_step, end_at, no_homes}
 use Rattle.program_codegen.specs.Calls.{align_frame, call_at, call_block, call_lines, call_site, check_lines, checks_from, count_lines, displacement, entry_words, frame_of, frame_program, front_program, list_program, pushes_from, steps_of}
-use Rattle.program_codegen.specs.Words.{block_of, exit_lines, holder, lines_of, plain, point_of, points_alone, points_from, program_block, program_lines, read_by, site_of, with_entry, with_first, write_by}
+use Rattle.program_codegen.specs.Words.{block_of, exit_lines, holder, lines_of, plain, point_of, points_alone, points_from, program_lines, read_by, site_of, with_entry, with_first, write_by}
 
 -- ---- the points of lines
 abbrev with_point : Option Point → List Point → List Point
@@ -170,9 +176,46 @@ module _ (instr : Instr) (sources : CodeSources) (before behind : Rules) (byte_w
       ∙ (sym (with_first_in (point_of there) more)
       ∙ sym (alone_from 0 (with_first (point_of there) more))))))
 
+  -- where operands are used where they stand, the lines are the same
+  end_same : (homes : Homes) (commit : Option (ℕ × ℕ)) (exit : Exit) → direct_end here codes homes commit exit ≡ direct_end there codes homes commit exit
+  end_same homes commit Next = refl
+  end_same homes commit (Fixed address) = refl
+  end_same homes commit (Computed temp) = refl
+  end_same homes commit (Choice when taken other) = refl
+  end_same homes commit (Service temp) = refl
+  end_same homes commit Breakpoint = refl
+
+  ends_same : (homes : Homes) (o : Option (Option (ℕ × ℕ) × Exit))
+      → option_and_then (λ (end : Option (ℕ × ℕ) × Exit). direct_end here codes homes end.0 end.1) o ≡ option_and_then (λ (end : Option (ℕ × ℕ) × Exit). direct_end there codes homes end.0 end.1) o
+  ends_same homes None = refl
+  ends_same homes (Some end) = end_same homes end.0 end.1
+
+  direct_same : (program : List Micro) (homes : Homes) → direct_lines here codes homes program ≡ direct_lines there codes homes program
+  direct_same [] homes = refl
+  direct_same (Compute to op size a b ∷ program) homes = by (λ (h : Homes). direct_same program h) (direct_step sources homes to op size a b program)
+    where
+      by : ((h : Homes) → direct_lines here codes h program ≡ direct_lines there codes h program) → (o : Option (Homes × List AlphaInstr))
+          → option_and_then (λ (step : Homes × List AlphaInstr). option_map (λ (lines : List Line). map plain step.1 ++ lines) (direct_lines here codes step.0 program)) o
+          ≡ option_and_then (λ (step : Homes × List AlphaInstr). option_map (λ (lines : List Line). map plain step.1 ++ lines) (direct_lines there codes step.0 program)) o
+      by same None = refl
+      by same (Some step) = ap (option_map (λ (lines : List Line). map plain step.1 ++ lines)) (same step.0)
+  direct_same (Commit number source ∷ program) homes = ends_same homes (end_at sources (Commit number source) program)
+  direct_same (Codes n z v c ∷ program) homes = ends_same homes (end_at sources (Codes n z v c) program)
+  direct_same (Leave exit ∷ program) homes = end_same homes None exit
+  direct_same (operation ∷ program) homes = refl
+
+  chosen_alike : (program : List Micro) → Alike (chosen_lines here codes program) (chosen_lines there codes program)
+  chosen_alike program = by (direct_lines here codes no_homes program) (direct_lines there codes no_homes program) (direct_same program no_homes)
+    where
+      by : (o q : Option (List Line)) → o ≡ q → Alike (unwrap_or o (program_lines here codes program)) (unwrap_or q (program_lines there codes program))
+      by None None e = program_alike program
+      by (Some lines) (Some more) e = subst (Alike lines) (same_Some lines more e) (are_same lines)
+      by None (Some more) e = absurd (cc e)
+      by (Some lines) None e = absurd (cc e)
+
   pub block_points : (program : List Micro)
       → points_alone (program_block instr sources program codes before behind byte_word).points ≡ points_alone (program_block instr sources program codes before behind other).points
-  block_points program = points_alike (program_lines here codes program) (program_lines there codes program) (program_alike program)
+  block_points program = points_alike (chosen_lines here codes program) (chosen_lines there codes program) (chosen_alike program)
 
 -- ---- calls
 module _ (instr : Instr) (before : Rules) (byte_word other : Bool) where

@@ -1,4 +1,6 @@
 pub mod Words
+pub mod Homes
+pub mod Blocks
 pub mod Calls
 pub mod Strings
 pub mod Programs

@@ -207,14 +207,6 @@ exits_from word (line ∷ lines) = with_entry line.exit word (exits_from (word +
 abbrev pub block_of : List Line → BlockValue
 block_of lines = record { words = words_of lines; exits = exits_from 0 lines; points = points_from 0 lines }
 
-abbrev pub block_lines : Site → (codes : List AlphaInstr) → List Micro → List Line
-block_lines site codes program = with_first (point_of site) (program_lines site codes program)
-
 abbrev pub site_of : Instr → CodeSources → (before behind : Rules) → (byte_word : Bool) → Site
 site_of instr sources before behind byte_word =
     record { at = instr.at; after = instr.after; sources = sources; before = before; behind = behind; byte_word = byte_word }
-
--- the block of an instruction's program
-abbrev pub program_block : Instr → CodeSources → List Micro → (codes : List AlphaInstr) → (before behind : Rules) → (byte_word : Bool) → BlockValue
-program_block instr sources program codes before behind byte_word =
-    block_of (block_lines (site_of instr sources before behind byte_word) codes program)

@@ -6,11 +6,13 @@ ghost use Rattle.block_law.specs.Blocks.{IsBlockOf};
 ghost use Rattle.block_law.specs.CodeWords.{LeavesCodes};
 ghost use Rattle.block_law.specs.Tidy.{codes_written};
 ghost use Rattle.micro_ops.specs.Exits.{addresses_of};
-ghost use Rattle.program_codegen.specs.Words.{block_lines, block_of, program_block};
-ghost use Rattle.program_codegen.specs.Programs.{AllRanged, AllFitWords, ReadsReady, LeavesReady, KeepsTogether, is_narrow};
+ghost use Rattle.program_codegen.specs.Blocks.{block_lines, chosen_lines, program_block};
+ghost use Rattle.program_codegen.specs.Words.{block_of};
+ghost use Rattle.program_codegen.specs.Programs.{IsRanged, AllRanged, AllFitWords, ReadsReady, LeavesReady, KeepsTogether, is_narrow};
 ghost use Rattle.program_codegen.specs.Promises.{BeginsBy, HasRules, CompilesProgram};
 
-use crate::lines::{block_of, mark_first};
+use crate::direct::direct_lines;
+use crate::lines::{Line, block_of, mark_first};
 use crate::operations::program_lines;
 use crate::points::{Site, point_of};
 use alpha_encode::AlphaInstr;
@@ -18,6 +20,38 @@ use exception_records::{Block, Rules};
 use micro_ops::{CodeSources, Micro};
 use std::alloc::Global;
 use vax_form::{Instr, WantOfMemory};
+
+fn operation_is_ranged(operation: Micro)
+    ensures { IsRanged operation }
+{
+    let _operation = operation;
+}
+
+/// The numbers in a program are those of their types.
+fn program_is_ranged(program: &[Micro])
+    ensures { AllRanged program.now }
+{
+    for i in 0..program.len() {
+        operation_is_ranged(program[i]);
+    }
+}
+
+/// The lines of a program: operands are used where they stand, if they can be.
+fn chosen_lines(
+    alloc: Global,
+    site: Site,
+    codes: &[AlphaInstr],
+    program: &[Micro],
+) -> Result<Vec<Line>, WantOfMemory>
+    requires words { AllFitWords site.sources program.now }
+    requires narrow { is_narrow site.behind.v ≡ true }
+    ensures { IfOk result (λ lines. lines.items ≡ chosen_lines site codes.now program.now) }
+{
+    match direct_lines(alloc, site, codes, program)? {
+        Some(lines) => Ok(lines),
+        None => program_lines(alloc, site, codes, program),
+    }
+}
 
 fn block_in(
     alloc: Global,
@@ -32,7 +66,8 @@ fn block_in(
     ensures ranged { IfOk result (λ block. AllRanged program.now) }
     ensures after { site.after < 2 ^ 32 }
 {
-    let mut lines = program_lines(alloc, site, codes, program)?;
+    program_is_ranged(program);
+    let mut lines = chosen_lines(alloc, site, codes, program)?;
     mark_first(&mut lines, point_of(site));
     Ok(block_of(alloc, &lines)?)
 }

@@ -168,7 +168,7 @@ fn may_trap(site: Site) -> bool
     may_overflow(site.sources.nzv) && tells_overflow(site.behind.v)
 }
 
-fn push_trap(
+pub(crate) fn push_trap(
     alloc: Global,
     lines: &mut Vec<Line>,
     site: Site,
@@ -209,7 +209,7 @@ fn push_choice(lines: &mut Vec<Line>, when: u8, taken: u32, other: u32) -> Resul
     push_exit(lines, other)
 }
 
-fn push_departing(lines: &mut Vec<Line>, site: Site, exit: Exit) -> Result<(), AllocError>
+pub(crate) fn push_departing(lines: &mut Vec<Line>, site: Site, exit: Exit) -> Result<(), AllocError>
     requires { IsExit exit }
     ensures { OnOk result (lines.new.items ≡ lines.old.items ++ departing site exit) }
 {

@@ -5,8 +5,10 @@
 
 mod blocks;
 mod calls;
+mod direct;
 mod entering;
 mod frames;
+mod homes;
 mod leaving;
 mod lines;
 mod operations;

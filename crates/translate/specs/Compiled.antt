@@ -45,7 +45,8 @@ use Rattle.program_codegen.specs.Strings.{string_block}
 use Rattle.program_codegen.specs.Programs.{KeepsTogether, is_narrow}
 use Rattle.micro_lower.specs.Lowering.{GoesTo}
 use Rattle.program_codegen.specs.Promises.{BeginsBy, HasRules}
-use Rattle.program_codegen.specs.Words.{points_alone, program_block}
+use Rattle.program_codegen.specs.Blocks.{program_block}
+use Rattle.program_codegen.specs.Words.{points_alone}
 use Rattle.flow_discovery.specs.Mapped.{Mapped, has_call_block, has_string_block}
 use Rattle.micro_lower.specs.Rows.{program_for}
 

@@ -4,10 +4,11 @@ use Rattle.exception_records.specs.Blocks.{BlockValue}
 use Rattle.block_law.specs.Blocks.{IsBlockOf}
 use Rattle.block_law.specs.Tidy.{codes_written}
 use Rattle.micro_ops.specs.Exits.{addresses_of}
-use Rattle.program_codegen.specs.Words.{block_of, block_lines, site_of}
+use Rattle.program_codegen.specs.Blocks.{block_lines}
+use Rattle.program_codegen.specs.Words.{block_of, site_of}
 use Rattle.program_codegen.specs.Programs.{AllRanged}
 use Rattle.program_codegen.specs.Promises.{BeginsBy, HasRules, CompilesProgram}
-use Rattle.program_codegen.proofs.Beginning.{begins}
+use Rattle.program_codegen.proofs.Chosen.{begins}
 use Rattle.program_codegen.proofs.Promised.{if_ok_both, all_fit, few_lines, is_block, goes_there, rules_are, writes_codes, compiles_program}
 use Rattle.program_codegen.proofs.blocks.block.Goals as goal
 

@@ -17,7 +17,7 @@ use Rattle.program_codegen.specs.Calls.{call_block}
 use Rattle.program_codegen.specs.Programs.{KeepsTogether, LeavesReady, ReadsReady}
 use Rattle.program_codegen.specs.Promises.{CompilesProgram}
 use Rattle.program_codegen.specs.Strings.{string_block}
-use Rattle.program_codegen.specs.Words.{program_block}
+use Rattle.program_codegen.specs.Blocks.{program_block}
 use Rattle.translate.specs.Compiled.{block_of, has_byte_word, short_block}
 use Rattle.micro_lower.specs.Rows.{program_for}
 use Rattle.micro_lower.specs.Lowering.{GoesTo}

@@ -1,0 +1,263 @@
+-- Words that leave the codes, over the homes of the temporaries that they read.
+use Rattle.std.proofs.Common.{◌≡◌, ℕ, ◌+◌, ◌-◌, ◌/◌, ◌%◌, ◌^◌, ◌<◌, ◌≤◌, refl, sym, ap, ◌∙◌, subst, arith, List, [], ◌∷◌, length, suc, Option, Some, None, Bool, true, false, lit≤, eqb-true}
+use Rattle.std.specs.Prelude.{◌==◌, ◌&&◌, ◌||◌, not, nat_lt, All, bit_or, option_map, option_and_then, if◌then◌else◌}
+use Rattle.std.specs.List.{list_all}
+use Rattle.std.proofs.lemmas.Bool.Decides.{nat_tests}
+use Rattle.std.proofs.lemmas.Bool.{and_parts, ltb-true}
+use Rattle.std.proofs.lemmas.Nat.{or_mod}
+use Rattle.std.proofs.lemmas.Option.{same_Some}
+use Rattle.vt_words.specs.Quad.{left}
+use Rattle.alpha_encode.specs.Words.{IsEncodable}
+use Rattle.alpha_encode.specs.declared.instr.AlphaInstr.{AlphaInstr}
+use Rattle.alpha_encode.specs.declared.instr.AlphaInstr.TheVariants.{Memory, Branch, Operate, Jump, Pal}
+use Rattle.alpha_encode.specs.declared.instr.OperateOp.{OperateOp}
+use Rattle.alpha_encode.specs.declared.instr.OperateOp.TheVariants as row
+use Rattle.alpha_encode.specs.declared.instr.Second.{Second}
+use Rattle.alpha_encode.specs.declared.instr.Second.TheVariants.{Register, Literal}
+use Rattle.alpha_meaning.specs.Act.{second_value}
+use Rattle.alpha_meaning.specs.Loops.{effect, effects, fine, is_operate, written}
+use Rattle.alpha_meaning.specs.Result.{one_if, result_of}
+use Rattle.alpha_meaning.specs.State.{Regs, put}
+use Rattle.alpha_meaning.proofs.Registers.{put_same, put_other}
+use Rattle.block_law.specs.CodeWords.{may_be_written}
+use Rattle.block_law.specs.Tidy.{register_written, writes_register}
+use Rattle.micro_ops.specs.declared.codes.CodeSources.{CodeSources}
+use Rattle.program_codegen.specs.Homes.{AreHomes, IsHome, home_at, is_choice, is_operand, is_operand_second, moved_both, moved_by, moved_first, moved_operand, moved_word, moved_words, second_home, unmoved, when}
+use Rattle.program_codegen.specs.declared.homes.Homes.{Homes}
+use Rattle.program_codegen.proofs.Coded.{low_stays, others_stay, temp_stays}
+use Rattle.program_codegen.proofs.HomeNumbers.{IsExtended, extended_below, extended_equal, extended_sign, extended_zero, raised_low}
+
+-- ---- words
+pub when_some : (b : Bool) (word j : AlphaInstr) → when b word ≡ Some j → (b ≡ true) × (word ≡ j)
+when_some true word j e = (refl, same_Some word j e)
+when_some false word j e = absurd (cc e)
+
+not_either : (a b c : Bool) → not (a || b || c) ≡ true → (a ≡ false) × (b ≡ false) × (c ≡ false)
+not_either false false false e = (refl, refl, refl)
+not_either true b c e = absurd (cc e)
+not_either false true c e = absurd (cc e)
+not_either false false true e = absurd (cc e)
+
+not_false : (b : Bool) → not b ≡ true → b ≡ false
+not_false false e = refl
+not_false true e = absurd (cc e)
+
+-- only a conditional move reads what it writes
+held_unread : (op : OperateOp) (a b h h' : ℕ) → is_choice op ≡ false → result_of op a b h ≡ result_of op a b h'
+held_unread row.Cmoveq a b h h' e = absurd (cc e)
+held_unread row.Cmovne a b h h' e = absurd (cc e)
+held_unread op a b h h' e = refl
+
+-- ---- registers that no word for the codes writes
+abbrev pub home_register_of : (temp : ℕ) → ℕ
+home_register_of temp = 21 + temp
+
+pub home_is : (homes : Homes) → AreHomes homes → (n r : ℕ) → home_at homes n ≡ Some r → IsHome (Some r)
+home_is homes are n r e = by (n == 21) (n == 22) (n == 23) e
+  where
+    picked : (o : Option ℕ) → IsHome o → o ≡ Some r → IsHome (Some r)
+    picked o is same = subst IsHome same is
+
+    by : (a b c : Bool) → (if a then homes.first else if b then homes.second else if c then homes.result else None) ≡ Some r → IsHome (Some r)
+    by true b c e = picked homes.first are.0 e
+    by false true c e = picked homes.second are.1 e
+    by false false true e = picked homes.result are.2 e
+    by false false false e = absurd (cc e)
+
+pub home_stays : (sources : CodeSources) (r : ℕ) → IsHome (Some r) → may_be_written sources r ≡ false
+home_stays sources r is = by (nat_lt r 15) refl
+  where
+    by : (b : Bool) → nat_lt r 15 ≡ b → may_be_written sources r ≡ false
+    by true e = low_stays sources r (ltb-true r 15 e)
+    by false e =
+        let low = is.1 e in
+        let high = is.0 in
+        let same : 21 + (r - 21) ≡ r = omega arith in
+        let three : (r - 21 == 3) ≡ false = grind (arith, nat_tests) in
+        let four : (r - 21 == 4) ≡ false = grind (arith, nat_tests) in
+        subst (λ n. may_be_written sources n ≡ false) same (temp_stays sources (r - 21) (omega arith) three four)
+
+pub zero_stays : (sources : CodeSources) → may_be_written sources 31 ≡ false
+zero_stays sources = others_stay sources 31 refl refl refl refl refl refl refl refl refl refl
+
+pub apart : (sources : CodeSources) (c r : ℕ) → may_be_written sources c ≡ true → may_be_written sources r ≡ false → (r == c) ≡ false
+apart sources c r may stays = by (r == c) refl
+  where
+    by : (b : Bool) → (r == c) ≡ b → b ≡ false
+    by true e = let same : false ≡ true = sym stays ∙ (ap (may_be_written sources) (eqb-true r c e) ∙ may) in absurd (cc same)
+    by false e = refl
+
+-- the temporaries' own registers stay, too
+own_stays : (sources : CodeSources) (homes : Homes) (c : ℕ) → may_be_written sources c ≡ true → home_at homes c ≡ None
+own_stays sources homes c may =
+    rw (flip 21 (apart sources c 21 may (temp_stays sources 0 (lit≤ tt) refl refl)), flip 22 (apart sources c 22 may (temp_stays sources 1 (lit≤ tt) refl refl)), flip 23 (apart sources c 23 may (temp_stays sources 2 (lit≤ tt) refl refl))) refl
+  where
+    flip : (k : ℕ) → (k == c) ≡ false → (c == k) ≡ false
+    flip k e = grind (arith, nat_tests, e)
+
+-- ---- two files of registers
+-- In the second the temporaries stand in their homes; the operands of rules have the same low longwords in both, and all other
+-- registers are the same.
+pub record Moved (homes : Homes) (own placed : Regs) : Type 0 where
+  pub same : (n : ℕ) → is_operand n ≡ false → home_at homes n ≡ None → own n ≡ placed n
+  pub loose : (n : ℕ) → is_operand n ≡ true → own n % 2 ^ 32 ≡ placed n % 2 ^ 32
+  pub there : (n r : ℕ) → home_at homes n ≡ Some r → (own n ≡ placed r % 2 ^ 32) × IsExtended (placed r)
+
+module _ (sources : CodeSources) (homes : Homes) (are : AreHomes homes) where
+  -- a register is written alike
+  written_alike : (c x y : ℕ) (own placed : Regs) → may_be_written sources c ≡ true → x % 2 ^ 32 ≡ y % 2 ^ 32 → (is_operand c ≡ false → x ≡ y) → Moved homes own placed → Moved homes (put own c x) (put placed c y)
+  written_alike c x y own placed may low same m = record {
+    same = λ n not_so none. sames n not_so none (n == c) refl;
+    loose = λ n is. looses n is (n == c) refl;
+    there = λ n r e.
+        let other : (n == c) ≡ false = apart sources c n may (owned n r e) in
+        let home : (r == c) ≡ false = apart sources c r may (home_stays sources r (home_is homes are n r e)) in
+        let found = m.there n r e in
+        let kept = put_other placed c y r home in (
+          put_other own c x n other ∙ (found.0 ∙ ap (λ v. v % 2 ^ 32) (sym kept)),
+          subst IsExtended (sym kept) found.1,
+        );
+  }
+    where
+      not_zero : (c == 31) ≡ false
+      not_zero = flip (apart sources c 31 may (zero_stays sources))
+        where
+          flip : (31 == c) ≡ false → (c == 31) ≡ false
+          flip e = grind (arith, nat_tests, e)
+
+      owned : (n r : ℕ) → home_at homes n ≡ Some r → may_be_written sources n ≡ false
+      owned n r e = by (n == 21) refl (n == 22) refl (n == 23) refl e
+        where
+          by : (a : Bool) → (n == 21) ≡ a → (b : Bool) → (n == 22) ≡ b → (d : Bool) → (n == 23) ≡ d
+              → (if a then homes.first else if b then homes.second else if d then homes.result else None) ≡ Some r → may_be_written sources n ≡ false
+          by true e b f d g h = subst (λ n. may_be_written sources n ≡ false) (sym (eqb-true n 21 e)) (temp_stays sources 0 (lit≤ tt) refl refl)
+          by false e true f d g h = subst (λ n. may_be_written sources n ≡ false) (sym (eqb-true n 22 f)) (temp_stays sources 1 (lit≤ tt) refl refl)
+          by false e false f true g h = subst (λ n. may_be_written sources n ≡ false) (sym (eqb-true n 23 g)) (temp_stays sources 2 (lit≤ tt) refl refl)
+          by false e false f false g h = absurd (cc h)
+
+      here : (f : Regs) (v n : ℕ) → (n == c) ≡ true → put f c v n ≡ v
+      here f v n e = subst (λ k. put f c v k ≡ v) (sym (eqb-true n c e)) (put_same f c v not_zero)
+
+      sames : (n : ℕ) → is_operand n ≡ false → home_at homes n ≡ None → (b : Bool) → (n == c) ≡ b → put own c x n ≡ put placed c y n
+      sames n not_so none true e = here own x n e ∙ (same (subst (λ k. is_operand k ≡ false) (eqb-true n c e) not_so) ∙ sym (here placed y n e))
+      sames n not_so none false e = put_other own c x n e ∙ (m.same n not_so none ∙ sym (put_other placed c y n e))
+
+      looses : (n : ℕ) → is_operand n ≡ true → (b : Bool) → (n == c) ≡ b → put own c x n % 2 ^ 32 ≡ put placed c y n % 2 ^ 32
+      looses n is true e = ap (λ v. v % 2 ^ 32) (here own x n e) ∙ (low ∙ ap (λ v. v % 2 ^ 32) (sym (here placed y n e)))
+      looses n is false e = ap (λ v. v % 2 ^ 32) (put_other own c x n e) ∙ (m.loose n is ∙ ap (λ v. v % 2 ^ 32) (sym (put_other placed c y n e)))
+
+  alike : (c x y : ℕ) (own placed : Regs) → may_be_written sources c ≡ true → x ≡ y → Moved homes own placed → Moved homes (put own c x) (put placed c y)
+  alike c x y own placed may e m = written_alike c x y own placed may (ap (λ v. v % 2 ^ 32) e) (λ not_so. e) m
+
+  module _ (own placed : Regs) (m : Moved homes own placed) where
+    -- ---- one that reads no home
+    second_same : (b : Second) → is_operand_second b ≡ false → second_home homes b ≡ None → second_value b own ≡ second_value b placed
+    second_same (Register n) not_so none = m.same n not_so none
+    second_same (Literal value) not_so none = refl
+
+    unmoved_is : (op : OperateOp) (a : ℕ) (b : Second) (c : ℕ) (j : AlphaInstr) → may_be_written sources c ≡ true → home_at homes a ≡ None → second_home homes b ≡ None → unmoved op a b c ≡ Some j → Moved homes (effect (Operate op a b c) own) (effect j placed)
+    unmoved_is op a b c j may none none' e =
+        let x = when_some (not (is_operand a || is_operand_second b || is_choice op)) (Operate op a b c) j e in
+        let y = not_either (is_operand a) (is_operand_second b) (is_choice op) x.0 in
+        subst (λ j. Moved homes (effect (Operate op a b c) own) (effect j placed)) x.1
+        (alike c (result_of op (own a) (second_value b own) (own c)) (result_of op (placed a) (second_value b placed) (placed c)) own placed may
+        (ap (λ v. result_of op v (second_value b own) (own c)) (m.same a y.0 none)
+        ∙ (ap (λ v. result_of op (placed a) v (own c)) (second_same b y.1 none') ∙ held_unread op (placed a) (second_value b placed) (own c) (placed c) y.2)) m)
+
+    -- ---- an operand of a rule
+    operand_is : (op : OperateOp) (a n home c : ℕ) (j : AlphaInstr) → may_be_written sources c ≡ true → home_at homes a ≡ None → home_at homes n ≡ Some home → moved_operand op a home c ≡ Some j → Moved homes (effect (Operate op a (Register n) c) own) (effect j placed)
+    operand_is row.Bis a n home c j may none some e =
+        let x = when_some (not (is_operand a) && is_operand c) (Operate row.Bis a (Register home) c) j e in
+        let y = and_parts (not (is_operand a)) (is_operand c) x.0 in
+        let same = m.same a (not_false (is_operand a) y.0) none in
+        let there = m.there n home some in
+        let low : own n % 2 ^ 32 ≡ placed home % 2 ^ 32 = twice (own n) (placed home) there.0 in
+        subst (λ j. Moved homes (effect (Operate row.Bis a (Register n) c) own) (effect j placed)) x.1
+        (written_alike c (bit_or (own a) (own n)) (bit_or (placed a) (placed home)) own placed may
+        (or_mod (own a) (own n) 32 ∙ (ap (λ v. bit_or (own a % 2 ^ 32) v) low ∙ (ap (λ v. bit_or (v % 2 ^ 32) (placed home % 2 ^ 32)) same ∙ sym (or_mod (placed a) (placed home) 32))))
+        (λ not_so. let false_true : false ≡ true = sym not_so ∙ y.1 in absurd (cc false_true)) m)
+      where
+        twice : (x y : ℕ) → x ≡ y % 2 ^ 32 → x % 2 ^ 32 ≡ y % 2 ^ 32
+        twice x y e = omega arith
+    operand_is op a n home c j may none some e = absurd (cc e)
+
+    -- ---- comparisons
+    both_is : (op : OperateOp) (a n x y c : ℕ) (j : AlphaInstr) → may_be_written sources c ≡ true → home_at homes a ≡ Some x → home_at homes n ≡ Some y → moved_both op x y c ≡ Some j → Moved homes (effect (Operate op a (Register n) c) own) (effect j placed)
+    both_is row.Cmpeq a n x y c j may some some' e =
+        let p = m.there a x some in
+        let q = m.there n y some' in
+        subst (λ j. Moved homes (effect (Operate row.Cmpeq a (Register n) c) own) (effect j placed)) (same_Some (Operate row.Cmpeq x (Register y) c) j e)
+        (alike c (one_if (own a == own n)) (one_if (placed x == placed y)) own placed may
+        (ap (λ v. one_if (v == own n)) p.0 ∙ (ap (λ v. one_if ((placed x % 2 ^ 32) == v)) q.0 ∙ ap one_if (extended_equal (placed x) (placed y) p.1 q.1))) m)
+    both_is row.Cmpult a n x y c j may some some' e =
+        let p = m.there a x some in
+        let q = m.there n y some' in
+        subst (λ j. Moved homes (effect (Operate row.Cmpult a (Register n) c) own) (effect j placed)) (same_Some (Operate row.Cmpult x (Register y) c) j e)
+        (alike c (one_if (nat_lt (own a) (own n))) (one_if (nat_lt (placed x) (placed y))) own placed may
+        (ap (λ v. one_if (nat_lt v (own n))) p.0 ∙ (ap (λ v. one_if (nat_lt (placed x % 2 ^ 32) v)) q.0 ∙ ap one_if (extended_below (placed x) (placed y) p.1 q.1))) m)
+    both_is op a n x y c j may some some' e = absurd (cc e)
+
+    -- ---- by literals
+    first_is : (op : OperateOp) (a x : ℕ) (b : Second) (c : ℕ) (j : AlphaInstr) → may_be_written sources c ≡ true → home_at homes a ≡ Some x → moved_first op x b c ≡ Some j → Moved homes (effect (Operate op a b c) own) (effect j placed)
+    first_is row.Cmpeq a x (Literal value) c j may some e =
+        let w = when_some (value == 0) (Operate row.Cmpeq x (Literal 0) c) j e in
+        let p = m.there a x some in
+        subst (λ j. Moved homes (effect (Operate row.Cmpeq a (Literal value) c) own) (effect j placed)) w.1
+        (alike c (one_if (own a == value)) (one_if (placed x == 0)) own placed may
+        (ap (λ v. one_if (own a == v)) (eqb-true value 0 w.0) ∙ (ap (λ v. one_if (v == 0)) p.0 ∙ ap one_if (extended_zero (placed x) p.1))) m)
+    first_is row.Sll a x (Literal value) c j may some e =
+        let w = when_some (value == 32) (Operate row.Sll x (Literal 32) c) j e in
+        let p = m.there a x some in
+        subst (λ j. Moved homes (effect (Operate row.Sll a (Literal value) c) own) (effect j placed)) w.1
+        (alike c (result_of row.Sll (own a) value (own c)) (result_of row.Sll (placed x) 32 (placed c)) own placed may
+        (ap (λ v. result_of row.Sll (own a) v (own c)) (eqb-true value 32 w.0) ∙ (ap (λ v. left v 32) p.0 ∙ raised_low (placed x))) m)
+    first_is row.Srl a x (Literal value) c j may some e =
+        let w = when_some (value == 31) (Operate row.Srl x (Literal 63) c) j e in
+        let p = m.there a x some in
+        subst (λ j. Moved homes (effect (Operate row.Srl a (Literal value) c) own) (effect j placed)) w.1
+        (alike c (result_of row.Srl (own a) value (own c)) (result_of row.Srl (placed x) 63 (placed c)) own placed may
+        (ap (λ v. result_of row.Srl (own a) v (own c)) (eqb-true value 31 w.0) ∙ (ap (λ v. v / 2 ^ 31) p.0 ∙ extended_sign (placed x) p.1)) m)
+    first_is op a x b c j may some e = absurd (cc e)
+
+    -- ---- any word
+    word_is : (op : OperateOp) (a : ℕ) (b : Second) (c : ℕ) (j : AlphaInstr) → may_be_written sources c ≡ true → (o : Option ℕ) → home_at homes a ≡ o → (q : Option ℕ) → second_home homes b ≡ q → moved_by o q op a b c ≡ Some j
+        → Moved homes (effect (Operate op a b c) own) (effect j placed)
+    word_is op a b c j may None none None none' e = unmoved_is op a b c j may none none' e
+    word_is op a (Register n) c j may None none (Some y) some e = operand_is op a n y c j may none some e
+    word_is op a (Literal value) c j may None none (Some y) some e = absurd (cc some)
+    word_is op a b c j may (Some x) some None none e = first_is op a x b c j may some e
+    word_is op a (Register n) c j may (Some x) some (Some y) some' e = both_is op a n x y c j may some some' e
+    word_is op a (Literal value) c j may (Some x) some (Some y) some' e = absurd (cc some')
+
+  moved_effect : (i j : AlphaInstr) (own placed : Regs) → fine (may_be_written sources) i ≡ true → moved_word homes i ≡ Some j → Moved homes own placed → Moved homes (effect i own) (effect j placed)
+  moved_effect (Operate op a b c) j own placed ok e m = word_is own placed m op a b c j ok (home_at homes a) refl (second_home homes b) refl e
+  moved_effect (Memory op a b d) j own placed ok e m = absurd (cc e)
+  moved_effect (Branch op a d) j own placed ok e m = absurd (cc e)
+  moved_effect (Jump a b) j own placed ok e m = absurd (cc e)
+  moved_effect (Pal n) j own placed ok e m = absurd (cc e)
+
+-- ---- rows of words
+pub record Split (homes : Homes) (i : AlphaInstr) (is js : List AlphaInstr) : Type 0 where
+  pub word : AlphaInstr
+  pub rest : List AlphaInstr
+  pub first : moved_word homes i ≡ Some word
+  pub behind : moved_words homes is ≡ Some rest
+  pub whole : js ≡ word ∷ rest
+
+pub split : (homes : Homes) (i : AlphaInstr) (is js : List AlphaInstr) → moved_words homes (i ∷ is) ≡ Some js → Split homes i is js
+split homes i is js e = by (moved_word homes i) refl (moved_words homes is) refl e
+  where
+    by : (o : Option AlphaInstr) → moved_word homes i ≡ o → (q : Option (List AlphaInstr)) → moved_words homes is ≡ q
+        → option_and_then (λ (moved : AlphaInstr). option_map (λ (rest : List AlphaInstr). moved ∷ rest) q) o ≡ Some js → Split homes i is js
+    by None f q g e = absurd (cc e)
+    by (Some word) f None g e = absurd (cc e)
+    by (Some word) f (Some rest) g e = record { word = word; rest = rest; first = f; behind = g; whole = sym (same_Some (word ∷ rest) js e) }
+
+module _ (sources : CodeSources) (homes : Homes) (are : AreHomes homes) where
+  pub moved_effects : (is js : List AlphaInstr) (own placed : Regs) → list_all (fine (may_be_written sources)) is ≡ true → moved_words homes is ≡ Some js → Moved homes own placed → Moved homes (effects is own) (effects js placed)
+  moved_effects [] js own placed ok e m = subst (λ js. Moved homes own (effects js placed)) (same_Some [] js e) m
+  moved_effects (i ∷ is) js own placed ok e m =
+      let s = split homes i is js e in
+      let x = and_parts (fine (may_be_written sources) i) (list_all (fine (may_be_written sources)) is) ok in
+      subst (λ js. Moved homes (effects is (effect i own)) (effects js placed)) (sym s.whole)
+      (moved_effects is s.rest (effect i own) (effect s.word placed) x.1 s.behind (moved_effect sources homes are i s.word own placed x.0 s.first m))

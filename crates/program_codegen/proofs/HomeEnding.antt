@@ -1,0 +1,351 @@
+-- The end of a program whose operands are used where they stand: the codes, the register that is written, and what comes behind.
+use Rattle.std.proofs.Common.{◌≡◌, ℕ, ◌+◌, ◌-◌, ◌/◌, ◌%◌, ◌^◌, ◌<◌, ◌≤◌, refl, sym, ap, ◌∙◌, subst, arith, List, [], ◌∷◌, ◌++◌, length, map, Option, Some, None, Bool, true, false, lit<, lit≤, length-append}
+use Rattle.std.specs.Prelude.{◌==◌, ◌&&◌, ◌||◌, not, nat_lt, is_none, slice_set, unwrap_or, if◌then◌else◌}
+use Rattle.std.specs.List.{list_all}
+use Rattle.std.proofs.Math.Nat.{mod-eq_of_lt}
+use Rattle.std.proofs.lemmas.Bool.Decides.{nat_tests}
+use Rattle.std.proofs.lemmas.Bool.{and_parts, eqb-false, ltb-true, not-true}
+use Rattle.vt_words.specs.Quad.{sign_extended}
+use Rattle.vt_words.specs.Values.{bit}
+use Rattle.vt_words.proofs.Longwords.{extended_again, extended_low, same_extended}
+use Rattle.vax_form.specs.State.{with_core, with_pc, with_register}
+use Rattle.vax_form.specs.Size.{bytes_of}
+use Rattle.vax_form.specs.Tree.{Ends, Finish, Tree}
+use Rattle.vax_form.specs.declared.instr.Size.{Size}
+use Rattle.vax_form.specs.declared.instr.Size.TheVariants.{Byte, Word, Long, Quad}
+use Rattle.vax_form.specs.declared.state.Flags.{Flags}
+use Rattle.alpha_encode.specs.declared.instr.AlphaInstr.{AlphaInstr}
+use Rattle.alpha_encode.specs.declared.instr.AlphaInstr.TheVariants.{Operate}
+use Rattle.alpha_encode.specs.declared.instr.OperateOp.TheVariants.{Addl}
+use Rattle.alpha_encode.specs.declared.instr.Second.TheVariants.{Literal}
+use Rattle.alpha_meaning.specs.Loops.{effects, fine}
+use Rattle.alpha_meaning.specs.Result.{long, plus}
+use Rattle.alpha_meaning.specs.State.{Regs, at_place, put}
+use Rattle.alpha_meaning.proofs.Registers.{put_other}
+use Rattle.alpha_meaning.proofs.Rules.{effects_only}
+use Rattle.exception_records.specs.Codes.{codes_by, comparison_codes, difference_codes, low, result_codes, sum_codes}
+use Rattle.exception_records.specs.Shown.{codes_shown, registers_shown, still_held}
+use Rattle.exception_records.specs.declared.rules.CodeRule.{CodeRule}
+use Rattle.exception_records.specs.declared.rules.CodeRule.TheVariants as rules
+use Rattle.exception_records.specs.declared.rules.Rules.{Rules}
+use Rattle.micro_ops.specs.declared.known.Known.{Known}
+use Rattle.micro_ops.specs.declared.program.Exit.{Exit}
+use Rattle.micro_ops.specs.declared.program.Exit.TheVariants as exits
+use Rattle.micro_ops.specs.Fits.{exit_fits, exit_holds, is_from_psw, is_from_values, same, sources_fit}
+use Rattle.micro_ops.specs.Known.{held, holds, is_something}
+use Rattle.micro_ops.specs.Leaving.{CodesComeFrom, SignsComeFrom, state_left}
+use Rattle.micro_ops.specs.Meaning.{Departure, Ended, Standing, departed, departure_to, leaves_by, traps}
+use Rattle.micro_ops.specs.Course.{AtLeaves}
+use Rattle.micro_ops.specs.Sources.{codes_written_by}
+use Rattle.micro_ops.specs.Uses.{is_quad}
+use Rattle.micro_ops.proofs.Held.{by_six}
+use Rattle.block_law.specs.CodeWords.{HoldCodes, ShowCodes, codes_in, may_be_written, temps_in}
+use Rattle.block_law.specs.Placements.{InForm, Placement}
+use Rattle.block_law.proofs.Kept.{registers_put}
+use Rattle.block_law.proofs.Rules.{Always, goes, operates, roomy}
+use Rattle.program_codegen.specs.declared.homes.Homes.{Homes}
+use Rattle.program_codegen.specs.declared.lines.Line.{Line}
+use Rattle.program_codegen.specs.declared.points.Site.{Site}
+use Rattle.program_codegen.specs.Homes.{AreHomes, IsHome, are_short_rules, commit_stays, commit_words, end_lines, exit_stays, home_at, home_of, is_operand, is_short_rule, may_end, moved_words}
+use Rattle.program_codegen.specs.Programs.{IsExit}
+use Rattle.program_codegen.specs.Words.{departing, holder, plain, trap_lines}
+use Rattle.program_codegen.proofs.Coded.{Coded, carry_by, coded_by, fine_operates, others_stay, signs_by, sources_parts, temp_stays}
+use Rattle.program_codegen.proofs.Committing.{above, form_register}
+use Rattle.program_codegen.proofs.Computing.{held_still, held_value}
+use Rattle.program_codegen.proofs.Departures.{departs_some, same_psw}
+use Rattle.program_codegen.proofs.Exiting.{chooses, exits_to}
+use Rattle.program_codegen.proofs.HomeCodes.{Moved, apart, home_stays, moved_effects}
+use Rattle.program_codegen.proofs.HomeHolding.{Direct, held_own, hidden, home_is}
+use Rattle.program_codegen.proofs.HomeNumbers.{IsExtended}
+use Rattle.program_codegen.proofs.HomeShapes.{moved_fine, moved_length}
+use Rattle.program_codegen.proofs.Holding.{Holds, HoldsAs, Setting, ends, found, tree}
+use Rattle.program_codegen.proofs.Numbers.{all_three, all_four, committed_is}
+use Rattle.program_codegen.proofs.Testing.{trap_or, traps_first}
+use Rattle.program_codegen.proofs.Trapping.{ExitHolds, Overflows}
+use Rattle.program_codegen.proofs.Walk.{Within, is_inside, next, row_length, row_rest, row_words, stands}
+
+-- ---- what rules tell by low longwords
+low_same : (size : Size) (a b : ℕ) → not (is_quad size) ≡ true → a % 2 ^ 32 ≡ b % 2 ^ 32 → low size a ≡ low size b
+low_same Byte a b short e = omega arith
+low_same Word a b short e = omega arith
+low_same Long a b short e = e
+low_same Quad a b short e = absurd (cc short)
+
+rule_same : (rule : CodeRule) (a b a' b' : ℕ) → is_short_rule rule ≡ true → a % 2 ^ 32 ≡ a' % 2 ^ 32 → b % 2 ^ 32 ≡ b' % 2 ^ 32 → codes_by rule a b ≡ codes_by rule a' b'
+rule_same rules.Ready a b a' b' short e f = refl
+rule_same rules.Zero a b a' b' short e f = refl
+rule_same (rules.Result size) a b a' b' short e f = ap (result_codes size) (low_same size a a' short e)
+rule_same (rules.Add size) a b a' b' short e f = ap (λ x. sum_codes size x (low size b)) (low_same size a a' short e) ∙ ap (sum_codes size (low size a')) (low_same size b b' short f)
+rule_same (rules.Sub size) a b a' b' short e f = ap (λ x. difference_codes size x (low size b)) (low_same size a a' short e) ∙ ap (difference_codes size (low size a')) (low_same size b b' short f)
+rule_same (rules.Compare size) a b a' b' short e f = ap (λ x. comparison_codes size x (low size b)) (low_same size a a' short e) ∙ ap (comparison_codes size (low size a')) (low_same size b b' short f)
+
+four : (n n' z z' v v' c c' : Bool) → n ≡ n' → z ≡ z' → v ≡ v' → c ≡ c' → (let left : Flags = record { n = n; z = z; v = v; c = c } in left) ≡ record { n = n'; z = z'; v = v'; c = c' }
+four n n' z z' v v' c c' en ez ev ec = rw (en, ez, ev, ec) refl
+
+-- the registers in which the temporaries stand on their own
+abbrev pub value_in : Option ℕ → Regs → (register : ℕ) → ℕ
+value_in None regs register = regs register
+value_in (Some home) regs register = regs home % 2 ^ 32
+
+abbrev pub own_file : Homes → Regs → Regs
+own_file homes regs = λ n. if n == 21 then value_in homes.first regs n else if n == 22 then value_in homes.second regs n else if n == 23 then value_in homes.result regs n else regs n
+
+module _ (p : Placement) (site : Site) (known : Known) (homes : Homes) (standing : Standing) (regs : Regs) (d : Direct p site known homes standing regs) where
+  there : (n r : ℕ) → home_at homes n ≡ Some r → (own_file homes regs n ≡ regs r % 2 ^ 32) × IsExtended (regs r)
+  there n r e = by (n == 21) refl (n == 22) refl (n == 23) refl e
+    where
+      of : (temp : ℕ) (o : Option ℕ) (place : ℕ) → o ≡ home_of homes temp → o ≡ Some r → (value_in o regs place ≡ regs r % 2 ^ 32) × IsExtended (regs r)
+      of temp o place is e = (ap (λ o. value_in o regs place) e, (d.values temp r (sym is ∙ e)).1)
+
+      by : (a : Bool) → (n == 21) ≡ a → (b : Bool) → (n == 22) ≡ b → (c : Bool) → (n == 23) ≡ c
+          → (if a then homes.first else if b then homes.second else if c then homes.result else None) ≡ Some r → (own_file homes regs n ≡ regs r % 2 ^ 32) × IsExtended (regs r)
+      by true e b f c g is = let x = of 0 homes.first n refl is in (let same : own_file homes regs n ≡ value_in homes.first regs n = rw e refl in same ∙ x.0, x.1)
+      by false e true f c g is = let x = of 1 homes.second n refl is in (let same : own_file homes regs n ≡ value_in homes.second regs n = rw (e, f) refl in same ∙ x.0, x.1)
+      by false e false f true g is = let x = of 2 homes.result n refl is in (let same : own_file homes regs n ≡ value_in homes.result regs n = rw (e, f, g) refl in same ∙ x.0, x.1)
+      by false e false f false g is = absurd (cc is)
+
+  own_same : (n : ℕ) → home_at homes n ≡ None → own_file homes regs n ≡ regs n
+  own_same n e = by (n == 21) refl (n == 22) refl (n == 23) refl e
+    where
+      by : (a : Bool) → (n == 21) ≡ a → (b : Bool) → (n == 22) ≡ b → (c : Bool) → (n == 23) ≡ c
+          → (if a then homes.first else if b then homes.second else if c then homes.result else None) ≡ None → own_file homes regs n ≡ regs n
+      by true e b f c g is = let same : own_file homes regs n ≡ value_in homes.first regs n = rw e refl in same ∙ ap (λ o. value_in o regs n) is
+      by false e true f c g is = let same : own_file homes regs n ≡ value_in homes.second regs n = rw (e, f) refl in same ∙ ap (λ o. value_in o regs n) is
+      by false e false f true g is = let same : own_file homes regs n ≡ value_in homes.result regs n = rw (e, f, g) refl in same ∙ ap (λ o. value_in o regs n) is
+      by false e false f false g is = rw (e, f, g) refl
+
+  starts : Moved homes (own_file homes regs) regs
+  starts = record {
+    same = λ n not_so none. own_same n none;
+    loose = λ n is. ap (λ v. v % 2 ^ 32) (own_same n (no_home n is));
+    there = there;
+  }
+    where
+      no_home : (n : ℕ) → is_operand n ≡ true → home_at homes n ≡ None
+      no_home n is =
+          let a : (n == 21) ≡ false = grind (arith, nat_tests, is) in
+          let b : (n == 22) ≡ false = grind (arith, nat_tests, is) in
+          let c : (n == 23) ≡ false = grind (arith, nat_tests, is) in
+          rw (a, b, c) refl
+
+  -- a temporary that holds something has its value there
+  in_own : (temp : ℕ) → temp < 6 → holds known temp ≡ true → own_file homes regs (21 + temp) ≡ standing.temps temp
+  in_own temp lt some =
+      by_six (λ n. (o : Option ℕ) → home_of homes n ≡ o → holds known n ≡ true → own_file homes regs (21 + n) ≡ standing.temps n)
+      (low 0 refl (lit< tt)) (low 1 refl (lit< tt)) (low 2 refl (lit< tt)) (high 3 refl refl (lit< tt)) (high 4 refl refl (lit< tt)) (high 5 refl refl (lit< tt)) temp lt (home_of homes temp) refl some
+    where
+      own : (n : ℕ) → n < 6 → home_of homes n ≡ None → holds known n ≡ true → regs (21 + n) ≡ standing.temps n
+      own n lt none some = (held_value (held (hidden homes known) n) (standing.temps n) (regs (21 + n)) (ap is_something (held_own homes known n none) ∙ some) (d.holds.temps n lt)).0
+
+      high : (n : ℕ) → home_of homes n ≡ None → own_file homes regs (21 + n) ≡ regs (21 + n) → n < 6 → (o : Option ℕ) → home_of homes n ≡ o → holds known n ≡ true → own_file homes regs (21 + n) ≡ standing.temps n
+      high n none same lt o e some = same ∙ own n lt none some
+
+      low : (n : ℕ) → home_at homes (21 + n) ≡ home_of homes n → n < 6 → (o : Option ℕ) → home_of homes n ≡ o → holds known n ≡ true → own_file homes regs (21 + n) ≡ standing.temps n
+      low n at lt None none some = own_same (21 + n) (at ∙ none) ∙ own n lt none some
+      low n at lt (Some r) e some = (there (21 + n) r (at ∙ e)).0 ∙ sym (d.values n r e).0
+
+module _ (p : Placement) (site : Site) (codes : List AlphaInstr) (setting : Setting p site codes) (known : Known) (homes : Homes) (standing : Standing) (regs : Regs) (d : Direct p site known homes standing regs) where
+  -- ---- the codes
+  shown : (words : List AlphaInstr) (held : Flags) (left : ℕ) (own placed : Regs) → are_short_rules site.behind ≡ true → Moved homes own placed → codes_shown own site.behind held ≡ codes_in left → codes_shown placed site.behind held ≡ codes_in left
+  shown words held left own placed short m e =
+      let x = all_four (is_short_rule site.behind.n) (is_short_rule site.behind.z) (is_short_rule site.behind.v) (is_short_rule site.behind.c) short in
+      let first = sym (m.loose 28 refl) in
+      let second = sym (m.loose 29 refl) in
+      let rule_n = rule_same site.behind.n (placed 28) (placed 29) (own 28) (own 29) x.0 first second in
+      let rule_z = rule_same site.behind.z (placed 28) (placed 29) (own 28) (own 29) x.1 first second in
+      let rule_v = rule_same site.behind.v (placed 28) (placed 29) (own 28) (own 29) x.2 first second in
+      let rule_c = rule_same site.behind.c (placed 15) (placed 30) (own 15) (own 30) x.3 (sym (m.loose 15 refl)) (sym (m.loose 30 refl)) in
+      rw (rule_n, rule_z, rule_v, rule_c, sym (m.same 16 refl refl), sym (m.same 17 refl refl), sym (m.same 18 refl refl), sym (m.same 19 refl refl)) e
+
+  leaves_codes : (words : List AlphaInstr) (departure : Departure) → moved_words homes codes ≡ Some words → sources_fit site.sources known ≡ true → are_short_rules site.behind ≡ true → (state_left departure).psw ≡ standing.state.psw
+      → CodesComeFrom site.sources p.begun (record { departure = departure; temps = standing.temps }) → Coded p site (hidden homes known) standing (effects words regs)
+  leaves_codes words departure moved fits short left come =
+      let h = d.holds in
+      let parts = sources_parts site.sources known fits in
+      let own = own_file homes regs in
+      let values : (temp : ℕ) → temp < 6 → holds known temp ≡ true → temps_in own temp ≡ standing.temps temp = λ temp lt some. in_own p site known homes standing regs d temp lt some in
+      let shows = setting.leaves.leaves own p.held p.begun departure
+      (record { zero = h.form.zero; hold = λ n from to. subst (λ v. v < 2) (sym (own_same p site known homes standing regs d n (no_home n from to))) (h.form.codes n from to); codes = h.codes })
+      (record {
+        signs = signs_by site.sources.nzv p.begun.psw (state_left departure).psw standing.temps (temps_in own) known values parts.2 come.signs;
+        carry = carry_by site.sources.c p.begun.psw (state_left departure).psw standing.temps (temps_in own) known values parts.3 come.carry;
+      }) in
+      let m = moved_effects site.sources homes d.are codes words own regs setting.leaves.only moved (starts p site known homes standing regs d) in
+      coded_by p site codes setting words (hidden homes known) standing regs (state_left departure) (moved_fine homes d.are (may_be_written site.sources) codes words moved setting.leaves.only) parts.0 parts.1 left
+      (record {
+        zero = sym (m.same 31 refl refl) ∙ shows.zero;
+        hold = λ n from to. subst (λ v. v < 2) (m.same n (no_operand n from to) (no_home n from to)) (shows.hold n from to);
+        codes = shown words (still_held p.held (codes_written_by site.sources)) (state_left departure).psw (effects codes own) (effects words regs) short m shows.codes;
+      }) h
+    where
+      no_home : (n : ℕ) → 16 ≤ n → n < 20 → home_at homes n ≡ None
+      no_home n from to =
+          let a : (n == 21) ≡ false = grind (arith, nat_tests) in
+          let b : (n == 22) ≡ false = grind (arith, nat_tests) in
+          let c : (n == 23) ≡ false = grind (arith, nat_tests) in
+          rw (a, b, c) refl
+
+      no_operand : (n : ℕ) → 16 ≤ n → n < 20 → is_operand n ≡ false
+      no_operand n from to =
+          let a : (n == 28) ≡ false = grind (arith, nat_tests) in
+          let b : (n == 29) ≡ false = grind (arith, nat_tests) in
+          let c : (n == 15) ≡ false = grind (arith, nat_tests) in
+          let e : (n == 30) ≡ false = grind (arith, nat_tests) in
+          rw (a, b, c, e) refl
+
+-- ---- the register that is written
+-- how a program stands behind that
+abbrev pub committed : Option (ℕ × ℕ) → Standing → Standing
+committed None standing = standing
+committed (Some commit) standing = record standing { state = with_register commit.0 (standing.temps commit.1 % 2 ^ 32) standing.state }
+
+-- what is known of it
+abbrev pub CommitFits : Known → Option (ℕ × ℕ) → Type 0
+CommitFits known None = Unit {0}
+CommitFits known (Some commit) = (commit.0 < 15) × (holds known commit.1 ≡ true)
+
+coded_commit : (p : Placement) (site : Site) (known : Known) (standing : Standing) (regs : Regs) (number value : ℕ) → number < 15 → Coded p site known standing regs
+    → Coded p site known (record standing { state = with_register number (value % 2 ^ 32) standing.state }) (put regs number (sign_extended value 32))
+coded_commit p site known standing regs number value lt c = record {
+  form = form_register regs number (sign_extended value 32) lt (extended_again value) c.form;
+  temps = λ temp temp_lt three four. held_still (held known temp) (standing.temps temp) (regs (21 + temp)) (put regs number (sign_extended value 32) (21 + temp)) (λ some. out (21 + temp) (omega arith)) (c.temps temp temp_lt three four);
+  state =
+      ap (with_register number (value % 2 ^ 32)) c.state
+      ∙ ap (λ (rs : List ℕ). with_core p.begun rs p.begun.pc standing.state.psw) (ap (slice_set (registers_shown regs) number) (sym (extended_low value)) ∙ sym (registers_put regs number (sign_extended value 32) lt));
+  upper = c.upper ∙ ap (λ n. n / 16) (sym (out 20 (lit≤ tt)));
+  before = λ e f. same_before ∙ c.before e f;
+  codes = same_codes ∙ c.codes;
+}
+  where
+    out : (n : ℕ) → 15 ≤ n → put regs number (sign_extended value 32) n ≡ regs n
+    out n le = put_other regs number (sign_extended value 32) n (above number n lt le)
+
+    same_codes : codes_shown (put regs number (sign_extended value 32)) site.behind (still_held p.held p.written) ≡ codes_shown regs site.behind (still_held p.held p.written)
+    same_codes = rw (out 15 (lit≤ tt), out 16 (lit≤ tt), out 17 (lit≤ tt), out 18 (lit≤ tt), out 19 (lit≤ tt), out 28 (lit≤ tt), out 29 (lit≤ tt), out 30 (lit≤ tt)) refl
+
+    same_before : codes_shown (put regs number (sign_extended value 32)) site.before p.held ≡ codes_shown regs site.before p.held
+    same_before = rw (out 15 (lit≤ tt), out 16 (lit≤ tt), out 17 (lit≤ tt), out 18 (lit≤ tt), out 19 (lit≤ tt), out 28 (lit≤ tt), out 29 (lit≤ tt), out 30 (lit≤ tt)) refl
+
+module _ (p : Placement) (site : Site) (codes : List AlphaInstr) (setting : Setting p site codes) (known : Known) (homes : Homes) (standing : Standing) (regs : Regs) (d : Direct p site known homes standing regs) where
+  commits : (words : List AlphaInstr) (commit : Option (ℕ × ℕ)) (need pc : ℕ) (rest : List Line) (t : Tree) → list_all (fine (may_be_written site.sources)) words ≡ true
+      → commit_stays commit ≡ true → CommitFits known commit → Within p site.behind pc (map plain (commit_words homes commit) ++ rest) → 1 ≤ length rest
+      → Coded p site (hidden homes known) standing (effects words regs)
+      → ((g : Regs) → Coded p site (hidden homes known) (committed commit standing) g → Always p None need (at_place g (pc + length (commit_words homes commit))) t)
+      → Always p None (length (commit_words homes commit) + need) (at_place (effects words regs) pc) t
+  commits words None need pc rest t only stays is w some c behind =
+      let here : pc + 0 ≡ pc = omega arith in
+      roomy p None need (0 + need) (at_place (effects words regs) pc) t (omega arith) (subst (λ q. Always p None need (at_place (effects words regs) q) t) here (behind (effects words regs) c))
+  commits words (Some commit) need pc rest t only stays is w some c behind =
+      let end = w.high in
+      let f = effects words regs in
+      let from = ltb-true commit.1 3 stays in
+      roomy p None (need + 1) (1 + need) (at_place (effects words regs) pc) t (omega arith)
+      (goes p None need (at_place (effects words regs) pc) (at_place (put (effects words regs) commit.0 (long (plus (effects words regs (place (home_of homes commit.1))) 0))) (pc + 1)) (Operate Addl (place (home_of homes commit.1)) (Literal 0) commit.0) t
+      (stands p site.behind pc (Operate Addl (place (home_of homes commit.1)) (Literal 0) commit.0) None rest w) refl (omega arith) (is_inside p site.behind pc (pc + 1) _ w (omega arith) (omega arith))
+      (behind (put (effects words regs) commit.0 (long (plus (effects words regs (place (home_of homes commit.1))) 0)))
+      (subst (λ value. Coded p site (hidden homes known) (committed (Some commit) standing) (put (effects words regs) commit.0 value))
+      (sym (committed_is (effects words regs (place (home_of homes commit.1))) ∙ same_extended (effects words regs (place (home_of homes commit.1))) (standing.temps commit.1) (is_low (home_of homes commit.1) refl)))
+      (coded_commit p site (hidden homes known) standing (effects words regs) commit.0 (standing.temps commit.1) is.0 c))))
+    where
+      place : Option ℕ → ℕ
+      place home = unwrap_or home (21 + commit.1)
+
+      few : commit.1 < 3
+      few = ltb-true commit.1 3 stays
+
+      is_low : (o : Option ℕ) → home_of homes commit.1 ≡ o → effects words regs (unwrap_or o (21 + commit.1)) % 2 ^ 32 ≡ standing.temps commit.1 % 2 ^ 32
+      is_low None none =
+          let lt = few in
+          let three : (commit.1 == 3) ≡ false = grind (arith, nat_tests) in
+          let four : (commit.1 == 4) ≡ false = grind (arith, nat_tests) in
+          ap (λ n. n % 2 ^ 32) (held_value (held (hidden homes known) commit.1) (standing.temps commit.1) (effects words regs (21 + commit.1)) (ap is_something (held_own homes known commit.1 none) ∙ is.1) (c.temps commit.1 (omega arith) three four)).0
+      is_low (Some r) e =
+          let v = d.values commit.1 r e in
+          let stay = effects_only words (may_be_written site.sources) regs regs only (λ n out. refl) r (home_stays site.sources r (home_is homes d.are commit.1 r e)) in
+          ap (λ n. n % 2 ^ 32) stay ∙ (twice (regs r) ∙ ap (λ n. n % 2 ^ 32) (sym v.0))
+        where
+          twice : (n : ℕ) → n % 2 ^ 32 ≡ n % 2 ^ 32 % 2 ^ 32
+          twice n = omega arith
+
+  -- ---- the whole end
+  exit_known : (exit : Exit) → exit_stays homes exit ≡ true → exit_fits known exit ≡ true → ExitHolds (hidden homes known) exit
+  exit_known exits.Next stays ok = tt
+  exit_known (exits.Fixed address) stays ok = tt
+  exit_known (exits.Choice when taken other) stays ok =
+      let x = all_three (holds known when) (not (when == 3)) (not (when == 4)) ok in
+      let own = held_own homes known when (none (home_of homes when) stays) in
+      rw (ap is_something own ∙ x.0, x.1, x.2) refl
+    where
+      none : (o : Option ℕ) → is_none o ≡ true → o ≡ None
+      none None e = refl
+      none (Some r) e = absurd (cc e)
+  exit_known (exits.Computed temp) stays ok = absurd (cc stays)
+  exit_known (exits.Service temp) stays ok = absurd (cc stays)
+  exit_known exits.Breakpoint stays ok = absurd (cc stays)
+
+  overflows : (commit : Option (ℕ × ℕ)) (left : ℕ) → sources_fit site.sources known ≡ true → left ≡ (committed commit standing).state.psw → SignsComeFrom site.sources.nzv p.begun.psw left standing.temps
+      → Overflows site (hidden homes known) (committed commit standing) p.begun.psw
+  overflows None left ok same signs =
+      let parts = sources_parts site.sources known ok in
+      record { codes_fit = parts.0; psw_fits = parts.1; overflowed = d.holds.overflowed; no_overflow = d.holds.no_overflow; signs = subst (λ psw. SignsComeFrom site.sources.nzv p.begun.psw psw standing.temps) same signs }
+  overflows (Some commit) left ok same signs =
+      let parts = sources_parts site.sources known ok in
+      record { codes_fit = parts.0; psw_fits = parts.1; overflowed = d.holds.overflowed; no_overflow = d.holds.no_overflow; signs = subst (λ psw. SignsComeFrom site.sources.nzv p.begun.psw psw standing.temps) same signs }
+
+  same_temps : (commit : Option (ℕ × ℕ)) → (committed commit standing).temps ≡ standing.temps
+  same_temps None = refl
+  same_temps (Some commit) = refl
+
+  same_psw_left : (commit : Option (ℕ × ℕ)) → (committed commit standing).state.psw ≡ standing.state.psw
+  same_psw_left None = refl
+  same_psw_left (Some commit) = refl
+
+  ends_by : (exit : Exit) (onward : Departure) (commit : Option (ℕ × ℕ)) (words : List AlphaInstr) (pc : ℕ) → moved_words homes codes ≡ Some words
+      → Within p site.behind pc (end_lines site homes commit exit words) → commit_stays commit ≡ true → exit_stays homes exit ≡ true → are_short_rules site.behind ≡ true → CommitFits known commit
+      → IsExit exit → exit_fits known exit ≡ true → sources_fit site.sources known ≡ true
+      → CodesComeFrom site.sources p.begun (record { departure = trap_or site (committed commit standing) exit onward; temps = (committed commit standing).temps }) → (state_left onward).psw ≡ (committed commit standing).state.psw
+      → ((g : Regs) (pc' : ℕ) → Coded p site (hidden homes known) (committed commit standing) g → Within p site.behind pc' (departing site exit) → Always p None (length (departing site exit)) (at_place g pc') (departed p.serve onward))
+      → Always p None (length (end_lines site homes commit exit words)) (at_place regs pc) (departed p.serve (trap_or site (committed commit standing) exit onward))
+  ends_by exit onward commit words pc moved w stays exit_ok short fits is ok sources come left behind =
+      let some = departs_some p site codes setting exit in
+      let only = moved_fine homes d.are (may_be_written site.sources) codes words moved setting.leaves.only in
+      let rest = trap_lines site exit ++ departing site exit in
+      let first = row_length p site.behind words (map plain (commit_words homes commit) ++ rest) in
+      let second = row_length p site.behind (commit_words homes commit) rest in
+      let third = length-append (trap_lines site exit) (departing site exit) in
+      let whole = same_psw (committed commit standing) _ onward (traps (committed commit standing)) left in
+      let high = w.high in
+      let t = departed p.serve (trap_or site (committed commit standing) exit onward) in
+      let c = leaves_codes p site codes setting known homes standing regs d words (trap_or site (committed commit standing) exit onward) moved sources short (whole ∙ same_psw_left commit)
+      (subst (λ temps. CodesComeFrom site.sources p.begun (record { departure = trap_or site (committed commit standing) exit onward; temps = temps })) (same_temps commit) come) in
+      let w1 = row_rest p site.behind pc words (map plain (commit_words homes commit) ++ rest) w in
+      let w2 = row_rest p site.behind (pc + length words) (commit_words homes commit) rest w1 in
+      let signs = subst (λ temps. SignsComeFrom site.sources.nzv p.begun.psw (state_left (trap_or site (committed commit standing) exit onward)).psw temps) (same_temps commit) come.signs in
+      roomy p None (length words + (length (commit_words homes commit) + (length (trap_lines site exit) + length (departing site exit)))) (length (end_lines site homes commit exit words)) (at_place regs pc) t (omega arith)
+      (operates p None (length (commit_words homes commit) + (length (trap_lines site exit) + length (departing site exit))) words regs pc t (row_words p site.behind pc words (map plain (commit_words homes commit) ++ rest) w)
+      (fine_operates (may_be_written site.sources) words only) w.low (omega arith) (λ q lt le. is_inside p site.behind pc q (map plain words ++ (map plain (commit_words homes commit) ++ rest)) w lt (omega arith))
+      (commits words commit (length (trap_lines site exit) + length (departing site exit)) (pc + length words) rest t only stays fits w1 (omega arith) c
+      (λ g coded. traps_first p site (hidden homes known) (committed commit standing) setting.after p.begun.psw setting.written (overflows commit _ sources whole signs) setting.narrow
+      (length (departing site exit)) (pc + length words + length (commit_words homes commit)) exit (departing site exit) g onward coded is (exit_known exit exit_ok ok) w2 some
+      (λ g' pc' untrapped c' w'. behind g' pc' c' w'))))
+
+  pub end_follows : (exit : Exit) (commit : Option (ℕ × ℕ)) (words : List AlphaInstr) (pc : ℕ) → moved_words homes codes ≡ Some words
+      → Within p site.behind pc (end_lines site homes commit exit words) → may_end site homes commit exit ≡ true → CommitFits known commit
+      → IsExit exit → exit_fits known exit ≡ true → sources_fit site.sources known ≡ true
+      → AtLeaves (CodesComeFrom site.sources p.begun) (leaves_by exit (found p site) (committed commit standing))
+      → Always p None (length (end_lines site homes commit exit words)) (at_place regs pc) (tree (ends p) (leaves_by exit (found p site) (committed commit standing)))
+  end_follows exits.Next commit words pc moved w may fits is ok sources agree =
+      let x = all_three (commit_stays commit) (exit_stays homes exits.Next) (are_short_rules site.behind) may in
+      ends_by exits.Next (Ended (Finish (with_pc site.after (committed commit standing).state))) commit words pc moved w x.0 x.1 x.2 fits is ok sources agree refl
+      (λ g pc' c w'. exits_to p site (hidden homes known) (committed commit standing) g c pc' site.after [] w')
+  end_follows (exits.Fixed address) commit words pc moved w may fits is ok sources agree =
+      let x = all_three (commit_stays commit) (exit_stays homes (exits.Fixed address)) (are_short_rules site.behind) may in
+      ends_by (exits.Fixed address) (Ended (Finish (with_pc address (committed commit standing).state))) commit words pc moved w x.0 x.1 x.2 fits is ok sources agree refl
+      (λ g pc' c w'. exits_to p site (hidden homes known) (committed commit standing) g c pc' address [] w')
+  end_follows (exits.Choice when taken other) commit words pc moved w may fits is ok sources agree =
+      let x = all_three (commit_stays commit) (exit_stays homes (exits.Choice when taken other)) (are_short_rules site.behind) may in
+      ends_by (exits.Choice when taken other) (Ended (Finish (with_pc (if (committed commit standing).temps when == 0 then other else taken) (committed commit standing).state))) commit words pc moved w x.0 x.1 x.2 fits is ok sources agree refl
+      (λ g pc' c w'. chooses p site (hidden homes known) (committed commit standing) g c pc' when taken other w' is.0 (exit_known (exits.Choice when taken other) x.1 ok))
+  end_follows (exits.Computed temp) commit words pc moved w may fits is ok sources agree = let x = all_three (commit_stays commit) (exit_stays homes (exits.Computed temp)) (are_short_rules site.behind) may in absurd (cc x.1)
+  end_follows (exits.Service temp) commit words pc moved w may fits is ok sources agree = let x = all_three (commit_stays commit) (exit_stays homes (exits.Service temp)) (are_short_rules site.behind) may in absurd (cc x.1)
+  end_follows exits.Breakpoint commit words pc moved w may fits is ok sources agree = let x = all_three (commit_stays commit) (exit_stays homes exits.Breakpoint) (are_short_rules site.behind) may in absurd (cc x.1)

@@ -1,0 +1,326 @@
+-- The words of a program whose operands are used where they stand follow its tree.
+use Rattle.std.proofs.Common.{◌≡◌, ℕ, ◌+◌, ◌%◌, ◌^◌, ◌<◌, ◌≤◌, refl, sym, ap, ◌∙◌, subst, arith, List, [], ◌∷◌, ◌++◌, length, map, Option, Some, None, Bool, true, false, lit≤, length-append}
+use Rattle.std.specs.Prelude.{◌==◌, ◌&&◌, not, nat_le, nat_lt, option_map, option_and_then, if◌then◌else◌}
+use Rattle.std.specs.List.{list_any}
+use Rattle.std.proofs.lemmas.Bool.Decides.{nat_tests}
+use Rattle.std.proofs.lemmas.Bool.{and_parts, ltb-true, or_left, or_right}
+use Rattle.std.proofs.lemmas.List.{append_assoc}
+use Rattle.std.proofs.lemmas.Option.{same_Some}
+use Rattle.vax_form.specs.State.{with_register}
+use Rattle.vax_form.specs.declared.instr.Size.{Size}
+use Rattle.alpha_encode.specs.declared.instr.AlphaInstr.{AlphaInstr}
+use Rattle.alpha_meaning.specs.State.{Regs, at_place}
+use Rattle.exception_records.specs.Codes.{is_ready}
+use Rattle.micro_ops.specs.declared.codes.CodeSources.{CodeSources}
+use Rattle.micro_ops.specs.declared.known.Known.{Known}
+use Rattle.micro_ops.specs.declared.program.Arg.{Arg}
+use Rattle.micro_ops.specs.declared.program.Exit.{Exit}
+use Rattle.micro_ops.specs.declared.program.Micro.{Micro}
+use Rattle.micro_ops.specs.declared.program.Micro.TheVariants.{Compute, Probe, Refuse, Read, Write, Locked, Commit, Codes, SetPsw, Leave}
+use Rattle.micro_ops.specs.declared.program.MicroOp.{MicroOp}
+use Rattle.micro_ops.specs.Course.{Course, AtLeaves}
+use Rattle.micro_ops.specs.Fits.{codes_fit, commit_fits, computation_fits, exit_fits, holding_of, is_ended, sources_fit, step, walk}
+use Rattle.micro_ops.specs.Known.{behind_commit, behind_write, held, holds, is_committed, is_something}
+use Rattle.micro_ops.specs.LeftOut.{is_left_out, is_low, is_used}
+use Rattle.micro_ops.specs.Leaving.{CodesComeFrom}
+use Rattle.micro_ops.specs.Meaning.{Left, Standing, course_of, leaves_by, value_of_arg, with_codes, with_temp, with_value}
+use Rattle.micro_ops.specs.Uses.{is_flag, leaves_longword, reads_flag, takes}
+use Rattle.micro_ops.specs.Values.{computed}
+use Rattle.micro_ops.proofs.Held.{held_other}
+use Rattle.block_law.specs.Placements.{Placement}
+use Rattle.block_law.proofs.Rules.{Always, roomy}
+use Rattle.program_codegen.specs.declared.homes.Homes.{Homes}
+use Rattle.program_codegen.specs.declared.lines.Line.{Line}
+use Rattle.program_codegen.specs.declared.points.Site.{Site}
+use Rattle.program_codegen.specs.Homes.{are_short_rules, commit_stays, commit_words, direct_code, direct_end, direct_lines, direct_step, end_at, end_lines, exit_behind, exit_stays, is_direct, may_end, moved_words, new_home, with_home}
+use Rattle.program_codegen.specs.Programs.{AllHaveWords, HasWords, IsExit, ReadsReady, rule_of}
+use Rattle.program_codegen.specs.Words.{departing, plain, trap_lines}
+use Rattle.program_codegen.proofs.Committing.{sets_codes}
+use Rattle.program_codegen.proofs.Following.{departs, opened}
+use Rattle.program_codegen.proofs.HomeComputing.{computes}
+use Rattle.program_codegen.proofs.HomeEnding.{CommitFits, committed, end_follows}
+use Rattle.program_codegen.proofs.HomeHolding.{Direct, committing, hidden, written}
+use Rattle.program_codegen.proofs.Holding.{Holds, HoldsAs, Setting, ends, found, tree}
+use Rattle.program_codegen.proofs.Knowing.{nothing_behind, walk_fits, write_changes}
+use Rattle.program_codegen.proofs.Numbers.{all_three}
+use Rattle.program_codegen.proofs.Walk.{Within, plain_length, row_length, row_rest}
+
+-- ---- what there is, if something is
+pub record Mapped (A B : Type 0) (f : A → B) (o : Option A) (y : B) : Type 0 where
+  pub found : A
+  pub is : o ≡ Some found
+  pub whole : f found ≡ y
+
+pub mapped : (A B : Type 0) (f : A → B) (o : Option A) (y : B) → option_map f o ≡ Some y → Mapped A B f o y
+mapped A B f None y e = absurd (cc e)
+mapped A B f (Some x) y e = record { found = x; is = refl; whole = same_Some (f x) y e }
+
+pub record Chained (A B : Type 0) (f : A → Option B) (o : Option A) (y : B) : Type 0 where
+  pub found : A
+  pub is : o ≡ Some found
+  pub onward : f found ≡ Some y
+
+pub chained : (A B : Type 0) (f : A → Option B) (o : Option A) (y : B) → option_and_then f o ≡ Some y → Chained A B f o y
+chained A B f None y e = absurd (cc e)
+chained A B f (Some x) y e = record { found = x; is = refl; onward = e }
+
+-- ---- a step
+pub record Stepped (site : Site) (homes : Homes) (to : ℕ) (op : MicroOp) (size : Size) (a b : Arg) (program : List Micro) (step : Homes × List AlphaInstr) (out : Bool) : Type 0 where
+  pub direct : out ≡ false → is_direct homes to op size ≡ true
+  pub homes_then : step.0 ≡ (if out then homes else with_home to (new_home homes to op size a b) homes)
+  pub words_then : step.1 ≡ (if out then [] else direct_code homes to op size a b)
+
+pub stepped : (site : Site) (homes : Homes) (to : ℕ) (op : MicroOp) (size : Size) (a b : Arg) (program : List Micro) (step : Homes × List AlphaInstr) → (out : Bool) → is_left_out site.sources (Compute to op size a b) program ≡ out
+    → direct_step site.sources homes to op size a b program ≡ Some step → Stepped site homes to op size a b program step out
+stepped site homes to op size a b program step out is e = by out (is_direct homes to op size) refl (ap (λ (c : Bool). if c then Some (homes, []) else if is_direct homes to op size then Some (with_home to (new_home homes to op size a b) homes, direct_code homes to op size a b) else None) (sym is) ∙ e)
+  where
+    by : (out direct : Bool) → is_direct homes to op size ≡ direct
+        → (if out then Some (homes, []) else if direct then Some (with_home to (new_home homes to op size a b) homes, direct_code homes to op size a b) else None) ≡ Some step
+        → Stepped site homes to op size a b program step out
+    by true direct is e =
+        let same = same_Some (homes, []) step e in
+        record { direct = λ not_so. absurd (cc not_so); homes_then = ap (λ (s : Homes × List AlphaInstr). s.0) (sym same); words_then = ap (λ (s : Homes × List AlphaInstr). s.1) (sym same) }
+    by false true is e =
+        let same = same_Some (with_home to (new_home homes to op size a b) homes, direct_code homes to op size a b) step e in
+        record { direct = λ not_so. is; homes_then = ap (λ (s : Homes × List AlphaInstr). s.0) (sym same); words_then = ap (λ (s : Homes × List AlphaInstr). s.1) (sym same) }
+    by false false is e = absurd (cc e)
+
+-- ---- the end
+pub record Ended (site : Site) (codes : List AlphaInstr) (homes : Homes) (commit : Option (ℕ × ℕ)) (exit : Exit) (lines : List Line) : Type 0 where
+  pub words : List AlphaInstr
+  pub may : may_end site homes commit exit ≡ true
+  pub moved : moved_words homes codes ≡ Some words
+  pub whole : end_lines site homes commit exit words ≡ lines
+
+pub ended : (site : Site) (codes : List AlphaInstr) (homes : Homes) (commit : Option (ℕ × ℕ)) (exit : Exit) (lines : List Line) → direct_end site codes homes commit exit ≡ Some lines → Ended site codes homes commit exit lines
+ended site codes homes commit exit lines e = by (may_end site homes commit exit) refl e
+  where
+    by : (b : Bool) → may_end site homes commit exit ≡ b → (if b then option_map (end_lines site homes commit exit) (moved_words homes codes) else None) ≡ Some lines → Ended site codes homes commit exit lines
+    by true may e =
+        let m = mapped (List AlphaInstr) (List Line) (end_lines site homes commit exit) (moved_words homes codes) lines e in
+        record { words = m.found; may = may; moved = m.is; whole = m.whole }
+    by false may e = absurd (cc e)
+
+-- ---- lines that end
+module _ (site : Site) (codes : List AlphaInstr) where
+  end_some : (operation : Micro) (program : List Micro) (homes : Homes) (lines : List Line)
+      → option_and_then (λ (end : Option (ℕ × ℕ) × Exit). direct_end site codes homes end.0 end.1) (end_at site.sources operation program) ≡ Some lines → 1 ≤ length lines
+  end_some operation program homes lines e =
+      let c = chained (Option (ℕ × ℕ) × Exit) (List Line) (λ (end : Option (ℕ × ℕ) × Exit). direct_end site codes homes end.0 end.1) (end_at site.sources operation program) lines e in
+      let x = ended site codes homes c.found.0 c.found.1 lines c.onward in
+      let some = departs site c.found.1 in
+      let rest = trap_lines site c.found.1 ++ departing site c.found.1 in
+      subst (λ (ls : List Line). 1 ≤ length ls) x.whole (last (map plain x.words) (map plain (commit_words homes c.found.0)) (trap_lines site c.found.1) (departing site c.found.1) some)
+    where
+      last : (xs bs cs ds : List Line) → 1 ≤ length ds → 1 ≤ length (xs ++ (bs ++ (cs ++ ds)))
+      last xs bs cs ds some =
+          let x = length-append xs (bs ++ (cs ++ ds)) in
+          let y = length-append bs (cs ++ ds) in
+          let z = length-append cs ds in
+          omega arith
+
+  -- lines of a program end with an exit
+  pub direct_some : (program : List Micro) (homes : Homes) (lines : List Line) → direct_lines site codes homes program ≡ Some lines → 1 ≤ length lines
+  direct_some [] homes lines e = absurd (cc e)
+  direct_some (Compute to op size a b ∷ program) homes lines e =
+      let c = chained (Homes × List AlphaInstr) (List Line) (λ (step : Homes × List AlphaInstr). option_map (λ (lines : List Line). map plain step.1 ++ lines) (direct_lines site codes step.0 program)) (direct_step site.sources homes to op size a b program) lines e in
+      let m = mapped (List Line) (List Line) (λ (lines : List Line). map plain c.found.1 ++ lines) (direct_lines site codes c.found.0 program) lines c.onward in
+      let some = direct_some program c.found.0 m.found m.is in
+      let count = length-append (map plain c.found.1) m.found in
+      subst (λ (ls : List Line). 1 ≤ length ls) m.whole (omega arith)
+  direct_some (Commit number source ∷ program) homes lines e = end_some (Commit number source) program homes lines e
+  direct_some (Codes n z v c ∷ program) homes lines e = end_some (Codes n z v c) program homes lines e
+  direct_some (Leave exit ∷ program) homes lines e = end_some (Leave exit) program homes lines e
+  direct_some (Probe place count write ∷ program) homes lines e = absurd (cc e)
+  direct_some (Refuse when ∷ program) homes lines e = absurd (cc e)
+  direct_some (Read to place count ∷ program) homes lines e = absurd (cc e)
+  direct_some (Write place count source ∷ program) homes lines e = absurd (cc e)
+  direct_some (Locked to place kind source ∷ program) homes lines e = absurd (cc e)
+  direct_some (SetPsw source ∷ program) homes lines e = absurd (cc e)
+
+  -- a program that comes to its end with an operation
+  pub ends_with : (operation : Micro) (program : List Micro) (homes : Homes) (lines : List Line) (commit : Option (ℕ × ℕ)) (exit : Exit) → end_at site.sources operation program ≡ Some (commit, exit)
+      → option_and_then (λ (end : Option (ℕ × ℕ) × Exit). direct_end site codes homes end.0 end.1) (end_at site.sources operation program) ≡ Some lines → Ended site codes homes commit exit lines
+  ends_with operation program homes lines commit exit is e =
+      ended site codes homes commit exit lines (ap (option_and_then (λ (end : Option (ℕ × ℕ) × Exit). direct_end site codes homes end.0 end.1)) (sym is) ∙ e)
+
+  -- what comes behind some operation with an exit
+  pub with_exit : (commit : Option (ℕ × ℕ)) (operation : Micro) (program : List Micro) (homes : Homes) (lines : List Line) → end_at site.sources operation program ≡ option_map (λ (exit : Exit). (commit, exit)) (exit_behind site.sources program)
+      → option_and_then (λ (end : Option (ℕ × ℕ) × Exit). direct_end site codes homes end.0 end.1) (end_at site.sources operation program) ≡ Some lines
+      → (exit : Exit) × (exit_behind site.sources program ≡ Some exit) × Ended site codes homes commit exit lines
+  with_exit commit operation program homes lines is e =
+      let c = chained (Option (ℕ × ℕ) × Exit) (List Line) (λ (end : Option (ℕ × ℕ) × Exit). direct_end site codes homes end.0 end.1) (end_at site.sources operation program) lines e in
+      let m = mapped Exit (Option (ℕ × ℕ) × Exit) (λ (exit : Exit). (commit, exit)) (exit_behind site.sources program) c.found (sym is ∙ c.is) in
+      (m.found, m.is, ended site codes homes commit m.found lines (subst (λ (end : Option (ℕ × ℕ) × Exit). direct_end site codes homes end.0 end.1 ≡ Some lines) (sym m.whole) c.onward))
+
+-- a temporary above 5 has no home
+no_home : (to : ℕ) (homes : Homes) → not (is_low to) ≡ true → with_home to None homes ≡ homes
+no_home to homes e =
+    let a : (to == 0) ≡ false = grind (arith, nat_tests, e) in
+    let b : (to == 1) ≡ false = grind (arith, nat_tests, e) in
+    let c : (to == 2) ≡ false = grind (arith, nat_tests, e) in
+    rw (a, b, c) refl
+
+module _ (p : Placement) (site : Site) (codes : List AlphaInstr) (setting : Setting p site codes) where
+  abbrev Course_of : List Micro → Standing → Course Left
+  Course_of program standing = course_of program (found p site) standing
+
+  -- a computation that is left out
+  left_out : (known : Known) (homes : Homes) (standing : Standing) (regs : Regs) (to : ℕ) (op : MicroOp) (size : Size) (a b : Arg) (program : List Micro) (value : ℕ) → is_left_out site.sources (Compute to op size a b) program ≡ true
+      → Direct p site known homes standing regs → Direct p site (behind_write to (holding_of (leaves_longword (Compute to op size a b))) known) homes (with_value to value standing) regs
+  left_out known homes standing regs to op size a b program value out d =
+      let high = (and_parts (not (is_low to)) (not (is_used site.sources program to)) out).0 in
+      subst (λ homes'. Direct p site (behind_write to (holding_of (leaves_longword (Compute to op size a b))) known) homes' (with_value to value standing) regs) (no_home to homes high)
+      (written p site known homes None (holding_of (leaves_longword (Compute to op size a b))) to value standing regs regs (λ n kept. refl) refl (λ temp lt other. refl)
+      (λ none lt. absurd (never lt high)) tt (λ r some. absurd (cc some)) (λ temp r other home. refl) d)
+    where
+      never : to < 6 → not (is_low to) ≡ true → ⊥
+      never lt e = let is_so : nat_lt to 6 ≡ true = grind (arith, nat_tests) in absurd (cc (sym (ap not is_so) ∙ e))
+
+  set_codes : (n z v : ℕ) (c : Option ℕ) (known : Known) (homes : Homes) (standing : Standing) (regs : Regs) → Direct p site known homes standing regs → Direct p site (record known { codes = true; changed = true }) homes (with_codes n z v c standing) regs
+  set_codes n z v c known homes standing regs d = record { holds = sets_codes p site n z v c (hidden homes known) standing regs d.holds; are = d.are; values = d.values }
+
+  -- ---- operations that have no words
+  value_committed : (commit : Option (ℕ × ℕ)) (to value : ℕ) (standing : Standing) → commit_stays commit ≡ true → not (is_low to) ≡ true → with_value to value (committed commit standing) ≡ committed commit (with_value to value standing)
+  value_committed None to value standing stays high = refl
+  value_committed (Some commit) to value standing stays high =
+      let other : (commit.1 == to) ≡ false = grind (arith, nat_tests, stays, high) in
+      let same : with_temp to value standing.temps commit.1 ≡ standing.temps commit.1 = rw other refl in
+      ap (λ n. record standing { temps = with_temp to value standing.temps; state = with_register commit.0 (n % 2 ^ 32) standing.state }) (sym same)
+
+  codes_committed : (commit : Option (ℕ × ℕ)) (n z v : ℕ) (c : Option ℕ) (standing : Standing) → with_codes n z v c (committed commit standing) ≡ committed commit (with_codes n z v c standing)
+  codes_committed None n z v c standing = refl
+  codes_committed (Some commit) n z v None standing = refl
+  codes_committed (Some commit) n z v (Some c) standing = refl
+
+  fits_behind : (commit : Option (ℕ × ℕ)) (known : Known) (to : ℕ) (op : MicroOp) (size : Size) (a b : Arg) → commit_stays commit ≡ true → not (is_low to) ≡ true → CommitFits known commit
+      → CommitFits (behind_write to (holding_of (leaves_longword (Compute to op size a b))) known) commit
+  fits_behind None known to op size a b stays high fits = tt
+  fits_behind (Some commit) known to op size a b stays high fits =
+      let other : (commit.1 == to) ≡ false = grind (arith, nat_tests, stays, high) in
+      (fits.0, ap is_something (held_other (holding_of (leaves_longword (Compute to op size a b))) known to commit.1 (λ same. differs commit.1 to other same)) ∙ fits.1)
+    where
+      differs : (m n : ℕ) → (m == n) ≡ false → m ≡ n → ⊥
+      differs m n e same = let is_so : (m == n) ≡ true = grind (arith, nat_tests) in absurd (cc (sym is_so ∙ e))
+
+  fits_coded : (commit : Option (ℕ × ℕ)) (known : Known) → CommitFits known commit → CommitFits (record known { codes = true; changed = true }) commit
+  fits_coded None known fits = tt
+  fits_coded (Some commit) known fits = fits
+
+  out_of : (out : Bool) (exit : Exit) (o : Option Exit) → (if out then o else None) ≡ Some exit → (out ≡ true) × (o ≡ Some exit)
+  out_of true exit o e = (refl, e)
+  out_of false exit o e = absurd (cc e)
+
+  -- from where a program comes to its end
+  ending : (program : List Micro) (exit : Exit) (commit : Option (ℕ × ℕ)) (homes : Homes) (words : List AlphaInstr) (known : Known) (standing : Standing) (regs : Regs) (pc : ℕ)
+      → exit_behind site.sources program ≡ Some exit → may_end site homes commit exit ≡ true → moved_words homes codes ≡ Some words
+      → Within p site.behind pc (end_lines site homes commit exit words) → AllHaveWords site.sources program
+      → known.ended ≡ false → is_ended (walk site.sources known program) ≡ true → CommitFits known commit
+      → Direct p site known homes standing regs → AtLeaves (CodesComeFrom site.sources p.begun) (Course_of program (committed commit standing))
+      → Always p None (length (end_lines site homes commit exit words)) (at_place regs pc) (tree (ends p) (Course_of program (committed commit standing)))
+  unfolding step
+  ending [] exit commit homes words known standing regs pc e may moved w have off walked fits d agree = absurd (cc e)
+  ending (Compute to op size a b ∷ program) exit commit homes words known standing regs pc e may moved w have off walked fits d agree =
+      let behind = behind_write to (holding_of (leaves_longword (Compute to op size a b))) known in
+      let x = walk_fits (computation_fits known to op a b) behind (λ behind. walk site.sources behind program) (opened site.sources known (Compute to op size a b) program off walked) in
+      let y = out_of (is_left_out site.sources (Compute to op size a b) program) exit (exit_behind site.sources program) e in
+      let high = (and_parts (not (is_low to)) (not (is_used site.sources program to)) y.0).0 in
+      let stays = (all_three (commit_stays commit) (exit_stays homes exit) (are_short_rules site.behind) may).0 in
+      let value = computed op size (value_of_arg (found p site) (committed commit standing).temps a) (value_of_arg (found p site) (committed commit standing).temps b) ((committed commit standing).temps to) in
+      let same = value_committed commit to (computed op size (value_of_arg (found p site) (committed commit standing).temps a) (value_of_arg (found p site) (committed commit standing).temps b) ((committed commit standing).temps to)) standing stays high in
+      subst (λ (s : Standing). Always p None (length (end_lines site homes commit exit words)) (at_place regs pc) (tree (ends p) (Course_of program s))) (sym same)
+      (ending program exit commit homes words behind (with_value to value standing) regs pc y.1 may moved w have.1
+      ((write_changes to (holding_of (leaves_longword (Compute to op size a b))) known).ended ∙ off) x.1 (fits_behind commit known to op size a b stays high fits)
+      (left_out known homes standing regs to op size a b program value y.0 d)
+      (subst (λ (s : Standing). AtLeaves (CodesComeFrom site.sources p.begun) (Course_of program s)) same agree))
+  ending (Codes n z v c ∷ program) exit commit homes words known standing regs pc e may moved w have off walked fits d agree =
+      let x = walk_fits (codes_fit known n z v c) (record known { codes = true; changed = true }) (λ behind. walk site.sources behind program) (opened site.sources known (Codes n z v c) program off walked) in
+      let same = codes_committed commit n z v c standing in
+      subst (λ (s : Standing). Always p None (length (end_lines site homes commit exit words)) (at_place regs pc) (tree (ends p) (Course_of program s))) (sym same)
+      (ending program exit commit homes words (record known { codes = true; changed = true }) (with_codes n z v c standing) regs pc e may moved w have.1 off x.1 (fits_coded commit known fits)
+      (set_codes n z v c known homes standing regs d)
+      (subst (λ (s : Standing). AtLeaves (CodesComeFrom site.sources p.begun) (Course_of program s)) same agree))
+  ending (Leave leave ∷ program) exit commit homes words known standing regs pc e may moved w have off walked fits d agree =
+      let x = walk_fits (exit_fits known leave && sources_fit site.sources known) (record known { ended = true }) (λ behind. walk site.sources behind program) (opened site.sources known (Leave leave) program off walked) in
+      let y = and_parts (exit_fits known leave) (sources_fit site.sources known) x.0 in
+      let same = same_Some leave exit e in
+      subst (λ exit'. Always p None (length (end_lines site homes commit exit' words)) (at_place regs pc) (tree (ends p) (leaves_by leave (found p site) (committed commit standing)))) same
+      (end_follows p site codes setting known homes standing regs d leave commit words pc moved
+      (subst (λ exit'. Within p site.behind pc (end_lines site homes commit exit' words)) (sym same) w) (subst (λ exit'. may_end site homes commit exit' ≡ true) (sym same) may) fits have.0 y.0 y.1 agree)
+  ending (Probe place count write ∷ program) exit commit homes words known standing regs pc e may moved w have off walked fits d agree = absurd (cc e)
+  ending (Refuse when ∷ program) exit commit homes words known standing regs pc e may moved w have off walked fits d agree = absurd (cc e)
+  ending (Read to place count ∷ program) exit commit homes words known standing regs pc e may moved w have off walked fits d agree = absurd (cc e)
+  ending (Write place count source ∷ program) exit commit homes words known standing regs pc e may moved w have off walked fits d agree = absurd (cc e)
+  ending (Locked to place kind source ∷ program) exit commit homes words known standing regs pc e may moved w have off walked fits d agree = absurd (cc e)
+  ending (Commit number source ∷ program) exit commit homes words known standing regs pc e may moved w have off walked fits d agree = absurd (cc e)
+  ending (SetPsw source ∷ program) exit commit homes words known standing regs pc e may moved w have off walked fits d agree = absurd (cc e)
+
+  -- ---- the program
+  later_flags : (operation : Micro) (program : List Micro) → ReadsReady site.before (operation ∷ program) → ReadsReady site.before program
+  later_flags operation program reads flag lt is = reads flag lt (or_right (reads_flag flag operation) (list_any (reads_flag flag) program) is)
+
+  abbrev Follows : List Micro → List Line → Standing → Regs → ℕ → Type 0
+  Follows program lines standing regs pc = Always p None (length lines) (at_place regs pc) (tree (ends p) (Course_of program standing))
+
+  pub direct_follows : (program : List Micro) (homes : Homes) (lines : List Line) (known : Known) (standing : Standing) (regs : Regs) (pc : ℕ)
+      → direct_lines site codes homes program ≡ Some lines → Within p site.behind pc lines → AllHaveWords site.sources program → ReadsReady site.before program
+      → known.ended ≡ false → is_ended (walk site.sources known program) ≡ true
+      → Direct p site known homes standing regs → AtLeaves (CodesComeFrom site.sources p.begun) (Course_of program standing)
+      → Always p None (length lines) (at_place regs pc) (tree (ends p) (Course_of program standing))
+  unfolding step
+  direct_follows [] homes lines known standing regs pc e w have reads off walked d agree = absurd (cc e)
+  direct_follows (Compute to op size a b ∷ program) homes lines known standing regs pc e w have reads off walked d agree =
+      let behind = behind_write to (holding_of (leaves_longword (Compute to op size a b))) known in
+      let x = walk_fits (computation_fits known to op a b) behind (λ behind. walk site.sources behind program) (opened site.sources known (Compute to op size a b) program off walked) in
+      let off' = (write_changes to (holding_of (leaves_longword (Compute to op size a b))) known).ended ∙ off in
+      let c = chained (Homes × List AlphaInstr) (List Line) (λ (step : Homes × List AlphaInstr). option_map (λ (lines : List Line). map plain step.1 ++ lines) (direct_lines site codes step.0 program)) (direct_step site.sources homes to op size a b program) lines e in
+      let m = mapped (List Line) (List Line) (λ (lines : List Line). map plain c.found.1 ++ lines) (direct_lines site codes c.found.0 program) lines c.onward in
+      by c.found m.found m.is m.whole x.0 (λ standing' g pc' homes' is' w' d' agree'. direct_follows program homes' m.found behind standing' g pc' is' w' have.1 (later_flags (Compute to op size a b) program reads) off' x.1 d' agree')
+      (is_left_out site.sources (Compute to op size a b) program) refl (stepped site homes to op size a b program c.found (is_left_out site.sources (Compute to op size a b) program) refl c.is)
+    where
+      by : (step : Homes × List AlphaInstr) (rest : List Line) → direct_lines site codes step.0 program ≡ Some rest → map plain step.1 ++ rest ≡ lines → computation_fits known to op a b ≡ true
+          → ((standing' : Standing) (g : Regs) (pc' : ℕ) (homes' : Homes) → direct_lines site codes homes' program ≡ Some rest → Within p site.behind pc' rest → Direct p site (behind_write to (holding_of (leaves_longword (Compute to op size a b))) known) homes' standing' g
+          → AtLeaves (CodesComeFrom site.sources p.begun) (Course_of program standing') → Follows program rest standing' g pc')
+          → (out : Bool) → is_left_out site.sources (Compute to op size a b) program ≡ out → Stepped site homes to op size a b program step out
+          → Always p None (length lines) (at_place regs pc) (tree (ends p) (Course_of (Compute to op size a b ∷ program) standing))
+      by step rest is whole fits onward true out s =
+          let same : rest ≡ lines = ap (λ (words : List AlphaInstr). map plain words ++ rest) (sym s.words_then) ∙ whole in
+          subst (λ (ls : List Line). Always p None (length ls) (at_place regs pc) (tree (ends p) (Course_of program (with_value to (computed op size (value_of_arg (found p site) standing.temps a) (value_of_arg (found p site) standing.temps b) (standing.temps to)) standing)))) same
+          (onward (with_value to (computed op size (value_of_arg (found p site) standing.temps a) (value_of_arg (found p site) standing.temps b) (standing.temps to)) standing) regs pc homes (subst (λ h. direct_lines site codes h program ≡ Some rest) s.homes_then is) (subst (Within p site.behind pc) (sym same) w)
+          (left_out known homes standing regs to op size a b program (computed op size (value_of_arg (found p site) standing.temps a) (value_of_arg (found p site) standing.temps b) (standing.temps to)) out d) agree)
+      by step rest is whole fits onward false out s =
+          let same : map plain (direct_code homes to op size a b) ++ rest ≡ lines = ap (λ (words : List AlphaInstr). map plain words ++ rest) (sym s.words_then) ∙ whole in
+          let has = have.0 out in
+          let count = row_length p site.behind (direct_code homes to op size a b) rest in
+          let w' = subst (Within p site.behind pc) (sym same) w in
+          subst (λ (ls : List Line). Always p None (length ls) (at_place regs pc) (tree (ends p) (Course_of program (with_value to (computed op size (value_of_arg (found p site) standing.temps a) (value_of_arg (found p site) standing.temps b) (standing.temps to)) standing)))) same
+          (roomy p None (length (direct_code homes to op size a b) + length rest) (length (map plain (direct_code homes to op size a b) ++ rest)) (at_place regs pc) _ (omega arith)
+          (computes p site known homes standing regs d (length rest) pc to op size a b rest _ w' (direct_some site codes program step.0 rest is) fits has.0 has.1 has.2
+          (λ flag lt is. reads flag lt (or_left (reads_flag flag (Compute to op size a b)) (list_any (reads_flag flag) program) is)) (s.direct refl)
+          (λ g after. onward (with_value to (computed op size (value_of_arg (found p site) standing.temps a) (value_of_arg (found p site) standing.temps b) (standing.temps to)) standing) g (pc + length (direct_code homes to op size a b)) (with_home to (new_home homes to op size a b) homes)
+          (subst (λ h. direct_lines site codes h program ≡ Some rest) s.homes_then is) (row_rest p site.behind pc (direct_code homes to op size a b) rest w') after agree)))
+  direct_follows (Commit number source ∷ program) homes lines known standing regs pc e w have reads off walked d agree =
+      let x = walk_fits (commit_fits known number source) (behind_commit number known) (λ behind. walk site.sources behind program) (opened site.sources known (Commit number source) program off walked) in
+      let y = all_three (nat_lt number 15) (holds known source) (not (is_committed known number)) x.0 in
+      let z = with_exit site codes (Some (number, source)) (Commit number source) program homes lines refl e in
+      let end = z.2 in
+      subst (λ (ls : List Line). Follows (Commit number source ∷ program) ls standing regs pc) end.whole
+      (ending program z.0 (Some (number, source)) homes end.words (behind_commit number known) standing regs pc z.1 end.may end.moved (subst (Within p site.behind pc) (sym end.whole) w) have.1 off x.1 (have.0.0, y.1)
+      (committing p site known homes number standing regs have.0.0 d) agree)
+  direct_follows (Codes n z v c ∷ program) homes lines known standing regs pc e w have reads off walked d agree =
+      let x = walk_fits (codes_fit known n z v c) (record known { codes = true; changed = true }) (λ behind. walk site.sources behind program) (opened site.sources known (Codes n z v c) program off walked) in
+      let y = with_exit site codes None (Codes n z v c) program homes lines refl e in
+      let end = y.2 in
+      subst (λ (ls : List Line). Follows (Codes n z v c ∷ program) ls standing regs pc) end.whole
+      (ending program y.0 None homes end.words (record known { codes = true; changed = true }) (with_codes n z v c standing) regs pc y.1 end.may end.moved (subst (Within p site.behind pc) (sym end.whole) w) have.1 off x.1 tt
+      (set_codes n z v c known homes standing regs d) agree)
+  direct_follows (Leave exit ∷ program) homes lines known standing regs pc e w have reads off walked d agree =
+      let end = ends_with site codes (Leave exit) program homes lines None exit refl e in
+      subst (λ (ls : List Line). Follows (Leave exit ∷ program) ls standing regs pc) end.whole
+      (ending (Leave exit ∷ program) exit None homes end.words known standing regs pc refl end.may end.moved (subst (Within p site.behind pc) (sym end.whole) w) have off walked tt d agree)
+  direct_follows (Probe place count write ∷ program) homes lines known standing regs pc e w have reads off walked d agree = absurd (cc e)
+  direct_follows (Refuse when ∷ program) homes lines known standing regs pc e w have reads off walked d agree = absurd (cc e)
+  direct_follows (Read to place count ∷ program) homes lines known standing regs pc e w have reads off walked d agree = absurd (cc e)
+  direct_follows (Write place count source ∷ program) homes lines known standing regs pc e w have reads off walked d agree = absurd (cc e)
+  direct_follows (Locked to place kind source ∷ program) homes lines known standing regs pc e w have reads off walked d agree = absurd (cc e)
+  direct_follows (SetPsw source ∷ program) homes lines known standing regs pc e w have reads off walked d agree = absurd (cc e)

@@ -1,0 +1,116 @@
+-- The loops that push the lines of a program whose operands are used where they stand.
+use Rattle.std.proofs.Common.{◌≡◌, ℕ, ◌+◌, ◌-◌, ◌<◌, ◌≤◌, refl, sym, ap, ◌∙◌, subst, arith, List, [], ◌∷◌, ◌++◌, length, map, get_or, take, drop, Option, Some, None, Bool, true, false, append_assoc}
+use Rattle.std.specs.Prelude.{option_map, option_and_then, IfSome, if◌then◌else◌}
+use Rattle.std.proofs.lemmas.List.{drop_more, take_rest}
+use Rattle.std.proofs.lemmas.Option.{same_Some}
+use Rattle.alpha_encode.specs.declared.instr.AlphaInstr.{AlphaInstr}
+use Rattle.micro_ops.specs.LeftOut.{is_left_out}
+use Rattle.micro_ops.specs.declared.codes.CodeSources.{CodeSources}
+use Rattle.micro_ops.specs.declared.program.Exit.{Exit}
+use Rattle.micro_ops.specs.declared.program.Micro.{Micro}
+use Rattle.micro_ops.specs.declared.program.Micro.TheVariants.{Compute, Probe, Refuse, Read, Write, Locked, Commit, Codes, SetPsw, Leave}
+use Rattle.program_codegen.specs.declared.homes.Homes.{Homes}
+use Rattle.program_codegen.specs.declared.lines.Line.{Line}
+use Rattle.program_codegen.specs.declared.points.Site.{Site}
+use Rattle.program_codegen.specs.Homes.{AreHomes, direct_lines, end_at, exit_behind, homes_at, is_computation, step_at, words_at}
+use Rattle.program_codegen.specs.Programs.{AllFitWords, IsExit, IsRangedExit}
+use Rattle.program_codegen.specs.Words.{plain}
+
+-- ---- the exit
+exit_fits : (sources : CodeSources) (program : List Micro) (exit : Exit) → AllFitWords sources program → exit_behind sources program ≡ Some exit → IsRangedExit exit → IsExit exit
+exit_fits sources [] exit fits e ranged = absurd (cc e)
+exit_fits sources (Compute to op size a b ∷ program) exit fits e ranged = exit_fits sources program exit fits.1 (out_of (is_left_out sources (Compute to op size a b) program) (exit_behind sources program) e) ranged
+  where
+    out_of : (out : Bool) (o : Option Exit) → (if out then o else None) ≡ Some exit → o ≡ Some exit
+    out_of true o e = e
+    out_of false o e = absurd (cc e)
+exit_fits sources (Codes n z v c ∷ program) exit fits e ranged = exit_fits sources program exit fits.1 e ranged
+exit_fits sources (Leave leave ∷ program) exit fits e ranged =
+    let same = same_Some leave exit e in
+    subst IsExit same (fits.0 (subst IsRangedExit (sym same) ranged))
+exit_fits sources (Probe place count write ∷ program) exit fits e ranged = absurd (cc e)
+exit_fits sources (Refuse when ∷ program) exit fits e ranged = absurd (cc e)
+exit_fits sources (Read to place count ∷ program) exit fits e ranged = absurd (cc e)
+exit_fits sources (Write place count source ∷ program) exit fits e ranged = absurd (cc e)
+exit_fits sources (Locked to place kind source ∷ program) exit fits e ranged = absurd (cc e)
+exit_fits sources (Commit number source ∷ program) exit fits e ranged = absurd (cc e)
+exit_fits sources (SetPsw source ∷ program) exit fits e ranged = absurd (cc e)
+
+paired : (commit found : Option (ℕ × ℕ)) (exit : Exit) (o : Option Exit) → option_map {U = Option (ℕ × ℕ) × Exit} (λ (exit : Exit). (found, exit)) o ≡ Some (commit, exit) → o ≡ Some exit
+paired commit found exit None e = absurd (cc e)
+paired commit found exit (Some x) e = ap (λ (end : Option (ℕ × ℕ) × Exit). Some end.1) (same_Some (found, x) (commit, exit) e)
+
+pub end_fits : (sources : CodeSources) (operation : Micro) (behind : List Micro) (commit : Option (ℕ × ℕ)) (exit : Exit) → AllFitWords sources (operation ∷ behind) → end_at sources operation behind ≡ Some (commit, exit)
+    → IsRangedExit exit → IsExit exit
+end_fits sources (Commit number source) behind commit exit fits e ranged = exit_fits sources behind exit fits.1 (paired commit (Some (number, source)) exit (exit_behind sources behind) e) ranged
+end_fits sources (Codes n z v c) behind commit exit fits e ranged = exit_fits sources behind exit fits.1 (paired commit None exit (exit_behind sources behind) e) ranged
+end_fits sources (Leave leave) behind commit exit fits e ranged =
+    let same : leave ≡ exit = ap (λ (end : Option (ℕ × ℕ) × Exit). end.1) (same_Some (None, leave) (commit, exit) e) in
+    subst IsExit same (fits.0 (subst IsRangedExit (sym same) ranged))
+end_fits sources (Compute to op size a b) behind commit exit fits e ranged = absurd (cc e)
+end_fits sources (Probe place count write) behind commit exit fits e ranged = absurd (cc e)
+end_fits sources (Refuse when) behind commit exit fits e ranged = absurd (cc e)
+end_fits sources (Read to place count) behind commit exit fits e ranged = absurd (cc e)
+end_fits sources (Write place count source) behind commit exit fits e ranged = absurd (cc e)
+end_fits sources (Locked to place kind source) behind commit exit fits e ranged = absurd (cc e)
+end_fits sources (SetPsw source) behind commit exit fits e ranged = absurd (cc e)
+
+-- ---- a step
+module _ (site : Site) (codes : List AlphaInstr) where
+  abbrev onward : List Micro → (Homes × List AlphaInstr) → Option (List Line)
+  onward behind step = option_map (λ (lines : List Line). map plain step.1 ++ lines) (direct_lines site codes step.0 behind)
+
+  by_step : (homes : Homes) (operation : Micro) (behind : List Micro) → is_computation operation ≡ true
+      → direct_lines site codes homes (operation ∷ behind) ≡ option_and_then (onward behind) (step_at site.sources homes operation behind)
+  by_step homes (Compute to op size a b) behind e = refl
+  by_step homes (Commit number source) behind e = absurd (cc e)
+  by_step homes (Codes n z v c) behind e = absurd (cc e)
+  by_step homes (Leave exit) behind e = absurd (cc e)
+  by_step homes (Probe place count write) behind e = absurd (cc e)
+  by_step homes (Refuse when) behind e = absurd (cc e)
+  by_step homes (Read to place count) behind e = absurd (cc e)
+  by_step homes (Write place count source) behind e = absurd (cc e)
+  by_step homes (Locked to place kind source) behind e = absurd (cc e)
+  by_step homes (SetPsw source) behind e = absurd (cc e)
+
+  module _ (homes : Homes) (program : List Micro) (i : ℕ) (d : Micro) (lt : i < length program) (is : is_computation (get_or program i d) ≡ true) where
+    abbrev rest : List Micro
+    rest = take (length program - (i + 1)) (drop (i + 1) program)
+
+    at_step : direct_lines site codes homes (drop i program) ≡ option_and_then (onward (drop (i + 1) program)) (step_at site.sources homes (get_or program i d) (take (length program - (i + 1)) (drop (i + 1) program)))
+    at_step =
+        ap (direct_lines site codes homes) (drop_more program i d lt)
+        ∙ (by_step homes (get_or program i d) (drop (i + 1) program) is
+        ∙ ap (λ behind. option_and_then (onward (drop (i + 1) program)) (step_at site.sources homes (get_or program i d) behind)) (sym (take_rest program (i + 1))))
+
+    pub step_none : homes_at (step_at site.sources homes (get_or program i d) (take (length program - (i + 1)) (drop (i + 1) program))) ≡ None → direct_lines site codes homes (drop i program) ≡ None
+    step_none e = at_step ∙ ap (option_and_then (onward (drop (i + 1) program))) (none (step_at site.sources homes (get_or program i d) (take (length program - (i + 1)) (drop (i + 1) program))) e)
+      where
+        none : (o : Option (Homes × List AlphaInstr)) → homes_at o ≡ None → o ≡ None
+        none None e = refl
+        none (Some step) e = absurd (cc e)
+
+    pub step_some : (now : Homes) (before behind : List Line) → homes_at (step_at site.sources homes (get_or program i d) (take (length program - (i + 1)) (drop (i + 1) program))) ≡ Some now
+        → behind ≡ before ++ map plain (words_at (step_at site.sources homes (get_or program i d) (take (length program - (i + 1)) (drop (i + 1) program))))
+        → option_map (λ (lines : List Line). before ++ lines) (direct_lines site codes homes (drop i program)) ≡ option_map (λ (lines : List Line). behind ++ lines) (direct_lines site codes now (drop (i + 1) program))
+    step_some now before behind e words =
+        ap (option_map (λ (lines : List Line). before ++ lines)) at_step
+        ∙ by (step_at site.sources homes (get_or program i d) (take (length program - (i + 1)) (drop (i + 1) program))) e words
+      where
+        joined : (words : List AlphaInstr) (o : Option (List Line)) → option_map (λ (lines : List Line). before ++ lines) (option_map (λ (lines : List Line). map plain words ++ lines) o) ≡ option_map (λ (lines : List Line). (before ++ map plain words) ++ lines) o
+        joined words None = refl
+        joined words (Some lines) = ap (λ (lines : List Line). Some lines) (sym (append_assoc before (map plain words) lines))
+
+        by : (o : Option (Homes × List AlphaInstr)) → homes_at o ≡ Some now → behind ≡ before ++ map plain (words_at o)
+            → option_map (λ (lines : List Line). before ++ lines) (option_and_then (onward (drop (i + 1) program)) o) ≡ option_map (λ (lines : List Line). behind ++ lines) (direct_lines site codes now (drop (i + 1) program))
+        by None e words = absurd (cc e)
+        by (Some step) e words =
+            joined step.1 (direct_lines site codes step.0 (drop (i + 1) program))
+            ∙ (ap (λ (homes : Homes). option_map (λ (lines : List Line). (before ++ map plain step.1) ++ lines) (direct_lines site codes homes (drop (i + 1) program))) (same_Some step.0 now e)
+            ∙ ap (λ (front : List Line). option_map (λ (lines : List Line). front ++ lines) (direct_lines site codes now (drop (i + 1) program))) (sym words))
+
+pub words_behind : (sources : CodeSources) (program : List Micro) (i : ℕ) (d : Micro) → i < length program → AllFitWords sources (drop i program) → AllFitWords sources (drop (i + 1) program)
+words_behind sources program i d lt fits = (subst (AllFitWords sources) (drop_more program i d lt) fits).1
+
+pub some_homes : (o : Option Homes) (now : Homes) → o ≡ Some now → IfSome o AreHomes → AreHomes now
+some_homes o now e are = subst (λ o. IfSome o AreHomes) e are

@@ -1,0 +1,337 @@
+-- The lines of a program whose operands are used where they stand, by themselves.
+use Rattle.std.proofs.Common.{◌≡◌, ℕ, ◌+◌, ◌-◌, ◌^◌, ◌<◌, ◌≤◌, refl, sym, ap, ◌∙◌, subst, arith, List, [], ◌∷◌, ◌++◌, length, map, Option, Some, None, Bool, true, false, lit<, lit≤, length-append, eqb-true}
+use Rattle.std.specs.Prelude.{◌==◌, ◌&&◌, ◌||◌, not, nat_lt, All, option_map, option_and_then, unwrap_or, if◌then◌else◌}
+use Rattle.std.specs.List.{list_all, list_any}
+use Rattle.std.proofs.lemmas.Bool.Decides.{nat_tests}
+use Rattle.std.proofs.lemmas.Bool.{and_parts, ltb-true, not-true}
+use Rattle.std.proofs.lemmas.List.{append-nil}
+use Rattle.std.proofs.lemmas.List.Elements.{All-nil}
+use Rattle.std.proofs.lemmas.List.Folds.{list_any-append}
+use Rattle.std.proofs.lemmas.Option.{same_Some}
+use Rattle.vax_form.specs.declared.instr.Size.{Size}
+use Rattle.vax_form.specs.declared.instr.Size.TheVariants.{Byte, Word, Long, Quad}
+use Rattle.alpha_encode.specs.Words.{IsEncodable, IsSecond}
+use Rattle.alpha_encode.specs.declared.instr.AlphaInstr.{AlphaInstr}
+use Rattle.alpha_encode.specs.declared.instr.AlphaInstr.TheVariants.{Operate}
+use Rattle.alpha_encode.specs.declared.instr.OperateOp.{OperateOp}
+use Rattle.alpha_encode.specs.declared.instr.OperateOp.TheVariants as row
+use Rattle.alpha_encode.specs.declared.instr.Second.{Second}
+use Rattle.alpha_encode.specs.declared.instr.Second.TheVariants as seconds
+use Rattle.alpha_meaning.specs.Loops.{fine}
+use Rattle.micro_ops.specs.Exits.{addresses_of, exit_addresses}
+use Rattle.micro_ops.specs.declared.codes.CodeSources.{CodeSources}
+use Rattle.micro_ops.specs.declared.known.Known.{Known}
+use Rattle.micro_ops.specs.declared.program.Arg.{Arg}
+use Rattle.micro_ops.specs.declared.program.Arg.TheVariants as arguments
+use Rattle.micro_ops.specs.declared.program.Exit.{Exit}
+use Rattle.micro_ops.specs.declared.program.Exit.TheVariants as exits
+use Rattle.micro_ops.specs.declared.program.Micro.{Micro}
+use Rattle.micro_ops.specs.declared.program.Micro.TheVariants.{Compute, Probe, Refuse, Read, Write, Locked, Commit, Codes, SetPsw, Leave}
+use Rattle.micro_ops.specs.declared.program.MicroOp.{MicroOp}
+use Rattle.micro_ops.specs.declared.program.MicroOp.TheVariants.{Add, Sub, And, Or, Xor, AndNot}
+use Rattle.micro_ops.specs.Fits.{codes_fit, commit_fits, computation_fits, exit_fits, holding_of, is_ended, sources_fit, step, walk}
+use Rattle.micro_ops.specs.Known.{behind_commit, behind_write}
+use Rattle.micro_ops.specs.LeftOut.{is_left_out}
+use Rattle.micro_ops.specs.Uses.{is_quad, is_select, is_unary, leaves_longword}
+use Rattle.micro_ops.specs.WordCounts.{argument_words, operation_words, program_words, second_words, words_of as count_of}
+use Rattle.compute_sequences.specs.Promises.{changes_only}
+use Rattle.compute_sequences.specs.Registers.{IsArgument, IsTarget, may_change}
+use Rattle.compute_sequences.specs.Words.{compute_code, is_constant, is_short}
+use Rattle.compute_sequences.proofs.WholeLaws.{computed_encodable, computed_length, computed_writes}
+use Rattle.block_law.specs.CodeWords.{may_be_written}
+use Rattle.block_law.specs.Tidy.{may_fault, register_written, writes_register}
+use Rattle.program_codegen.specs.declared.homes.Homes.{Homes}
+use Rattle.program_codegen.specs.declared.lines.Line.{Line}
+use Rattle.program_codegen.specs.declared.points.Site.{Site}
+use Rattle.program_codegen.specs.Homes.{AreHomes, IsHome, are_short_rules, argument_in, code_by, commit_stays, commit_words, copied, direct_code, direct_end, direct_lines, direct_step, end_at, end_lines, exit_behind, exit_stays, extended_register, extended_second, home_by, home_of, is_copying, is_direct, is_shared, is_short_constant, long_operation, made, may_end, moved_words, new_home, placed, standing_in, with_home}
+use Rattle.program_codegen.specs.Programs.{AllHaveWords, HasWords, IsExit}
+use Rattle.program_codegen.specs.Words.{departing, plain, trap_lines, words_of}
+use Rattle.program_codegen.proofs.Endings.{below_codes, codes_local, codes_quiet, departing_each, departing_goes, departing_short, departing_spares, one_word, or_nothing, traps_silent}
+use Rattle.program_codegen.proofs.Following.{opened}
+use Rattle.program_codegen.proofs.Fronts.{Front, KeptBy, Shape, any_neither, change_front, line_front, quiet_kept, row_targets, row_words_are, silent_front, spares_append, targets, targets_append, words_append}
+use Rattle.program_codegen.proofs.HomeComputing.{Joined, made_word}
+use Rattle.program_codegen.proofs.HomeFollowing.{Ended, Stepped, chained, ends_with, mapped, stepped, with_exit}
+use Rattle.program_codegen.proofs.HomeHolding.{copied_home, extended_home, home_is, homes_are, placed_is}
+use Rattle.program_codegen.proofs.HomeShapes.{moved_encodable, moved_fine, moved_length, moved_writes}
+use Rattle.program_codegen.proofs.Knowing.{nothing_behind, walk_fits, write_changes}
+use Rattle.program_codegen.proofs.Numbers.{all_three}
+use Rattle.program_codegen.proofs.Rows.{changes_silent, is_silent, list_all_of}
+use Rattle.program_codegen.proofs.Shapes.{EachFits, each_append, is_local, plain_fits, row_fits}
+use Rattle.program_codegen.proofs.Walk.{plain_length}
+
+-- ---- homes
+pub new_home_is : (homes : Homes) → AreHomes homes → (to : ℕ) (op : MicroOp) (size : Size) (a b : Arg) → IsArgument a → IsHome (new_home homes to op size a b)
+new_home_is homes are to op size a b is = by (copied homes to op size a) refl (made homes to op size a b) refl (is_short_constant to op size a) refl
+  where
+    by : (o : Option ℕ) → copied homes to op size a ≡ o → (q : Option AlphaInstr) → made homes to op size a b ≡ q → (c : Bool) → is_short_constant to op size a ≡ c → IsHome (home_by o q c to)
+    by (Some r) e q f c g = copied_home homes are to op size a r is e
+    by None e (Some word) f c g = let two = (made_word homes to op size a b word f).0 in (omega arith, λ not_so. omega arith)
+    by None e None f true g =
+        let few = ltb-true to 3 (all_three (nat_lt to 3) (is_copying op size) (is_constant (is_short Long) a) g).0 in
+        (omega arith, λ not_so. omega arith)
+    by None e None f false g = tt
+
+-- ---- the words of a computation
+encodes : (op : MicroOp) (o : OperateOp) (x : ℕ) (s : Second) → long_operation op ≡ Some o → x < 32 → IsSecond s → IsEncodable (Operate o x s 23)
+encodes Add o x s e lt is = subst (λ o. IsEncodable (Operate o x s 23)) (same_Some row.Addl o e) (lt, is, lit< tt)
+encodes Sub o x s e lt is = subst (λ o. IsEncodable (Operate o x s 23)) (same_Some row.Subl o e) (lt, is, lit< tt)
+encodes And o x s e lt is = subst (λ o. IsEncodable (Operate o x s 23)) (same_Some row.And o e) (lt, is, lit< tt)
+encodes Or o x s e lt is = subst (λ o. IsEncodable (Operate o x s 23)) (same_Some row.Bis o e) (lt, is, lit< tt)
+encodes Xor o x s e lt is = subst (λ o. IsEncodable (Operate o x s 23)) (same_Some row.Xor o e) (lt, is, lit< tt)
+encodes AndNot o x s e lt is = subst (λ o. IsEncodable (Operate o x s 23)) (same_Some row.Bic o e) (lt, is, lit< tt)
+encodes op o x s e lt is = absurd (cc e)
+
+module _ (homes : Homes) (are : AreHomes homes) where
+  second_fits : (b : Arg) (s : Second) → IsArgument b → extended_second homes b ≡ Some s → IsSecond s
+  second_fits (arguments.Const value) s is e = by (nat_lt value 256) refl e
+    where
+      by : (c : Bool) → nat_lt value 256 ≡ c → (if c then Some (seconds.Literal value) else None) ≡ Some s → IsSecond s
+      by true lt e = subst IsSecond (same_Some (seconds.Literal value) s e) (ltb-true value 256 lt)
+      by false lt e = absurd (cc e)
+  second_fits (arguments.Temp temp) s is e = by (home_of homes temp) refl e
+    where
+      by : (o : Option ℕ) → home_of homes temp ≡ o → option_map seconds.Register o ≡ Some s → IsSecond s
+      by None f e = absurd (cc e)
+      by (Some r) f e = let lt = (home_is homes are temp r f).0 in subst IsSecond (same_Some (seconds.Register r) s e) (omega arith)
+  second_fits (arguments.Register number) s is e = subst IsSecond (same_Some (seconds.Register number) s e) (omega arith)
+  second_fits (arguments.Flag flag) s is e = absurd (cc e)
+
+  binary : (op : MicroOp) (o : OperateOp) → long_operation op ≡ Some o → is_unary op ≡ false
+  binary Add o e = refl
+  binary Sub o e = refl
+  binary And o e = refl
+  binary Or o e = refl
+  binary Xor o e = refl
+  binary AndNot o e = refl
+  binary op o e = absurd (cc e)
+
+  some_words : (op : MicroOp) (o : OperateOp) → long_operation op ≡ Some o → 1 ≤ operation_words op Long
+  some_words Add o e = lit≤ tt
+  some_words Sub o e = lit≤ tt
+  some_words And o e = lit≤ tt
+  some_words Or o e = lit≤ tt
+  some_words Xor o e = lit≤ tt
+  some_words AndNot o e = lit≤ tt
+  some_words op o e = absurd (cc e)
+
+  same_count : (a : Arg) (size : Size) → is_quad size ≡ false → argument_words (placed homes a) size ≡ argument_words a size
+  same_count (arguments.Temp temp) size narrow = by (home_of homes temp) size narrow
+    where
+      none : (size : Size) → is_quad size ≡ false → (c : Bool) (r : ℕ) → argument_words (if c then arguments.Register r else arguments.Temp (r - 21)) size ≡ 0
+      none Byte narrow true r = refl
+      none Word narrow true r = refl
+      none Long narrow true r = refl
+      none Quad narrow true r = absurd (cc narrow)
+      none size narrow false r = refl
+
+      by : (o : Option ℕ) (size : Size) → is_quad size ≡ false → argument_words (standing_in o temp) size ≡ 0
+      by None size narrow = refl
+      by (Some r) size narrow = none size narrow (nat_lt r 15) r
+  same_count (arguments.Register number) size narrow = refl
+  same_count (arguments.Flag flag) size narrow = refl
+  same_count (arguments.Const value) size narrow = refl
+
+  same_second : (op : MicroOp) (b : Arg) (size : Size) → is_quad size ≡ false → second_words op (placed homes b) size ≡ second_words op b size
+  same_second op b size narrow = ap (λ n. if is_unary op then 0 else n) (same_count b size narrow)
+
+  -- its words have encodings, make no access, and are no more than are counted
+  pub record Words (most : ℕ) (words : List AlphaInstr) : Type 0 where
+    pub encodable : All IsEncodable words
+    pub silent : list_all is_silent words ≡ true
+    pub few : length words ≤ most
+
+  pub direct_words : (to : ℕ) (op : MicroOp) (size : Size) (a b : Arg) → IsTarget (21 + to) → IsArgument a → (is_unary op ≡ false → IsArgument b) → is_quad size ≡ false → Words (count_of (Compute to op size a b)) (direct_code homes to op size a b)
+  direct_words to op size a b target a_is b_is narrow = by (copied homes to op size a) refl (made homes to op size a b) refl
+    where
+      by : (o : Option ℕ) → copied homes to op size a ≡ o → (q : Option AlphaInstr) → made homes to op size a b ≡ q → Words (count_of (Compute to op size a b)) (code_by o q (compute_code op size (placed homes a) (placed homes b) (21 + to)))
+      by (Some r) e q f = record { encodable = All-nil IsEncodable; silent = refl; few = omega arith }
+      by None e (Some word) f =
+          let m = made_word homes to op size a b word f in
+          let j = m.2 in
+          let x_fits = (extended_home homes are a j.first a_is j.is_first).0 in
+          let some = some_words op j.operation j.is_operation in
+          let count : 1 ≤ count_of (Compute to op size a b) = subst (λ size. 1 ≤ count_of (Compute to op size a b)) (sym m.1) (omega arith) in
+          record {
+            encodable = subst (λ (w : AlphaInstr). All IsEncodable (w ∷ [])) (sym j.is) (one_word (Operate j.operation j.first j.second 23) (encodes op j.operation j.first j.second j.is_operation (omega arith) (second_fits b j.second (b_is (binary op j.operation j.is_operation)) j.is_second)));
+            silent = subst (λ (w : AlphaInstr). list_all is_silent (w ∷ []) ≡ true) (sym j.is) refl;
+            few = count;
+          }
+      by None e None f =
+          let placed_b : is_unary op ≡ false → IsArgument (placed homes b) = λ two. placed_is homes are b (b_is two) in
+          let first = same_count a size narrow in
+          let second = same_second op b size narrow in
+          let most = computed_length op size (placed homes a) (placed homes b) (21 + to) in
+          record {
+            encodable = computed_encodable (placed homes a) (placed homes b) (21 + to) (placed_is homes are a a_is) target op size placed_b;
+            silent = list_all_of (changes_only (may_change (21 + to))) is_silent (changes_silent (21 + to) target) (compute_code op size (placed homes a) (placed homes b) (21 + to)) (computed_writes (placed homes a) (placed homes b) (21 + to) (placed_is homes are a a_is) target op size placed_b);
+            few = omega arith;
+          }
+
+-- ---- the end
+abbrev pub commit_count : Option (ℕ × ℕ) → ℕ
+commit_count None = 0
+commit_count (Some commit) = 1
+
+abbrev pub IsNumbered : Option (ℕ × ℕ) → Type 0
+IsNumbered None = Unit {0}
+IsNumbered (Some commit) = commit.0 < 15
+
+module _ (site : Site) (codes : List AlphaInstr) (after_fits : site.after < 2 ^ 32) (encodable : All IsEncodable codes) (few : length codes ≤ 32) (only : list_all (fine (may_be_written site.sources)) codes ≡ true) where
+  quiet_exit : (homes : Homes) (exit : Exit) → exit_stays homes exit ≡ true → list_any may_fault (words_of (departing site exit)) ≡ false
+  quiet_exit homes exits.Next stays = refl
+  quiet_exit homes (exits.Fixed address) stays = refl
+  quiet_exit homes (exits.Choice when taken other) stays = refl
+  quiet_exit homes (exits.Computed temp) stays = absurd (cc stays)
+  quiet_exit homes (exits.Service temp) stays = absurd (cc stays)
+  quiet_exit homes exits.Breakpoint stays = absurd (cc stays)
+
+  leaving_shape : (homes : Homes) (exit : Exit) → IsExit exit → exit_stays homes exit ≡ true → Shape site true [] (exit_addresses site.after exit) 27 (trap_lines site exit ++ departing site exit)
+  leaving_shape homes exit is stays =
+      let trap = traps_silent site exit is in
+      let size = length-append (trap_lines site exit) (departing site exit) in
+      let short = trap.few in
+      let last = departing_short site after_fits exit in
+      record {
+        each = each_append site 0 (trap_lines site exit) (departing site exit) trap.front.each (departing_each site after_fits exit is);
+        kept = any_neither may_fault (trap_lines site exit) (departing site exit) trap.quiet (quiet_exit homes exit stays);
+        goes = targets_append (trap_lines site exit) (departing site exit) ∙ (ap (λ xs. xs ++ targets (departing site exit)) trap.front.stays ∙ departing_goes site after_fits exit);
+        writes = λ r low high. spares_append (trap_lines site exit) (departing site exit) trap.front.spares (departing_spares site after_fits exit) r low high;
+        short = omega arith;
+      }
+
+  commit_shape : (homes : Homes) → AreHomes homes → (commit : Option (ℕ × ℕ)) (addresses : List ℕ) (lines : List Line) → commit_stays commit ≡ true → IsNumbered commit → Shape site true [] addresses 27 lines
+      → Shape site true [] addresses (27 + commit_count commit) (map plain (commit_words homes commit) ++ lines)
+  commit_shape homes are None addresses lines stays is shape = shape
+  commit_shape homes are (Some commit) addresses lines stays is shape =
+      change_front site [] addresses true 1 27 28 (map plain (commit_words homes (Some commit))) lines
+      (line_front site (plain (Operate row.Addl (unwrap_or (home_of homes commit.1) (21 + commit.1)) (seconds.Literal 0) commit.0)) refl
+      (plain_fits site (Operate row.Addl (unwrap_or (home_of homes commit.1) (21 + commit.1)) (seconds.Literal 0) commit.0) (place (home_of homes commit.1) refl, lit< tt, omega arith) refl) (λ r low high. below_codes commit.0 r (omega arith) low))
+      refl (lit≤ tt) (lit≤ tt) shape
+    where
+      place : (o : Option ℕ) → home_of homes commit.1 ≡ o → unwrap_or o (21 + commit.1) < 32
+      place None e = let lt = ltb-true commit.1 3 stays in omega arith
+      place (Some r) e = let lt = (home_is homes are commit.1 r e).0 in omega arith
+
+  end_shape : (homes : Homes) → AreHomes homes → (commit : Option (ℕ × ℕ)) (exit : Exit) (words : List AlphaInstr) (changed : Bool) → moved_words homes codes ≡ Some words → may_end site homes commit exit ≡ true → IsNumbered commit → IsExit exit
+      → Shape site changed codes (exit_addresses site.after exit) (59 + commit_count commit) (end_lines site homes commit exit words)
+  end_shape homes are commit exit words changed moved may numbered is =
+      let x = all_three (commit_stays commit) (exit_stays homes exit) (are_short_rules site.behind) may in
+      let rest = map plain (commit_words homes commit) ++ (trap_lines site exit ++ departing site exit) in
+      let behind = commit_shape homes are commit (exit_addresses site.after exit) (trap_lines site exit ++ departing site exit) x.0 numbered (leaving_shape homes exit is x.1) in
+      let fine_words = moved_fine homes are (may_be_written site.sources) codes words moved only in
+      let size = length-append (map plain words) rest in
+      let count = plain_length words in
+      let same = moved_length homes are codes words moved in
+      let short = behind.short in
+      record {
+        each = each_append site 0 (map plain words) rest (row_fits site words (moved_encodable homes are codes words moved encodable) (list_all_of (fine (may_be_written site.sources)) is_local (codes_local (may_be_written site.sources)) words fine_words)) behind.each;
+        kept = quiet_kept changed (words_of (map plain words ++ rest)) (any_neither may_fault (map plain words) rest (ap (list_any may_fault) (row_words_are words) ∙ codes_quiet (may_be_written site.sources) words fine_words) behind.kept);
+        goes = targets_append (map plain words) rest ∙ (ap (λ xs. xs ++ targets rest) (row_targets words) ∙ behind.goes);
+        writes = λ r low high.
+            ap (writes_register r) (words_append (map plain words) rest)
+            ∙ (list_any-append (λ i. register_written i == r) (words_of (map plain words)) (words_of rest)
+            ∙ (ap (λ xs. writes_register r xs || writes_register r (words_of rest)) (row_words_are words)
+            ∙ (ap (λ b. writes_register r words || b) (behind.writes r low high) ∙ (or_nothing (writes_register r words) ∙ moved_writes homes are r codes words moved))));
+        short = omega arith;
+      }
+
+  -- from where a program comes to its end
+  ending_shape : (program : List Micro) (homes : Homes) → AreHomes homes → (commit : Option (ℕ × ℕ)) (exit : Exit) (words : List AlphaInstr) (changed : Bool) (known : Known)
+      → exit_behind site.sources program ≡ Some exit → moved_words homes codes ≡ Some words → may_end site homes commit exit ≡ true → IsNumbered commit
+      → AllHaveWords site.sources program → known.ended ≡ false → is_ended (walk site.sources known program) ≡ true
+      → Shape site changed codes (addresses_of site.after program) (59 + commit_count commit) (end_lines site homes commit exit words)
+  unfolding step
+  ending_shape [] homes are commit exit words changed known e moved may numbered have off walked = absurd (cc e)
+  ending_shape (Compute to op size a b ∷ program) homes are commit exit words changed known e moved may numbered have off walked =
+      let behind = behind_write to (holding_of (leaves_longword (Compute to op size a b))) known in
+      let x = walk_fits (computation_fits known to op a b) behind (λ behind. walk site.sources behind program) (opened site.sources known (Compute to op size a b) program off walked) in
+      ending_shape program homes are commit exit words changed behind (out_of (is_left_out site.sources (Compute to op size a b) program) (exit_behind site.sources program) e) moved may numbered have.1 ((write_changes to (holding_of (leaves_longword (Compute to op size a b))) known).ended ∙ off) x.1
+    where
+      out_of : (out : Bool) (o : Option Exit) → (if out then o else None) ≡ Some exit → o ≡ Some exit
+      out_of true o e = e
+      out_of false o e = absurd (cc e)
+  ending_shape (Codes n z v c ∷ program) homes are commit exit words changed known e moved may numbered have off walked =
+      let x = walk_fits (codes_fit known n z v c) (record known { codes = true; changed = true }) (λ behind. walk site.sources behind program) (opened site.sources known (Codes n z v c) program off walked) in
+      ending_shape program homes are commit exit words changed (record known { codes = true; changed = true }) e moved may numbered have.1 off x.1
+  ending_shape (Leave leave ∷ program) homes are commit exit words changed known e moved may numbered have off walked =
+      let x = walk_fits (exit_fits known leave && sources_fit site.sources known) (record known { ended = true }) (λ behind. walk site.sources behind program) (opened site.sources known (Leave leave) program off walked) in
+      let none = nothing_behind site.sources (record known { ended = true }) program refl x.1 in
+      let same = same_Some leave exit e in
+      subst (λ (rest : List Micro). Shape site changed codes (addresses_of site.after (Leave leave ∷ rest)) (59 + commit_count commit) (end_lines site homes commit exit words)) (sym none)
+      (subst (λ (exit' : Exit). Shape site changed codes (exit_addresses site.after leave ++ []) (59 + commit_count commit) (end_lines site homes commit exit' words)) same
+      (subst (λ addresses. Shape site changed codes addresses (59 + commit_count commit) (end_lines site homes commit leave words)) (sym (append-nil (exit_addresses site.after leave)))
+      (end_shape homes are commit leave words changed moved (subst (λ (exit' : Exit). may_end site homes commit exit' ≡ true) (sym same) may) numbered have.0)))
+  ending_shape (Probe place count write ∷ program) homes are commit exit words changed known e moved may numbered have off walked = absurd (cc e)
+  ending_shape (Refuse when ∷ program) homes are commit exit words changed known e moved may numbered have off walked = absurd (cc e)
+  ending_shape (Read to place count ∷ program) homes are commit exit words changed known e moved may numbered have off walked = absurd (cc e)
+  ending_shape (Write place count source ∷ program) homes are commit exit words changed known e moved may numbered have off walked = absurd (cc e)
+  ending_shape (Locked to place kind source ∷ program) homes are commit exit words changed known e moved may numbered have off walked = absurd (cc e)
+  ending_shape (Commit number source ∷ program) homes are commit exit words changed known e moved may numbered have off walked = absurd (cc e)
+  ending_shape (SetPsw source ∷ program) homes are commit exit words changed known e moved may numbered have off walked = absurd (cc e)
+
+  -- ---- the program
+  abbrev ShapeOf : Bool → List Micro → List Line → Type 0
+  ShapeOf changed program lines = Shape site changed codes (addresses_of site.after program) (program_words site.sources program + 59) lines
+
+  weaker : (changed : Bool) (addresses : List ℕ) (n m : ℕ) (lines : List Line) → n ≤ m → Shape site changed codes addresses n lines → Shape site changed codes addresses m lines
+  weaker changed addresses n m lines le shape = let short = shape.short in record { each = shape.each; kept = shape.kept; goes = shape.goes; writes = shape.writes; short = omega arith }
+
+  pub direct_shape : (program : List Micro) (homes : Homes) → AreHomes homes → (lines : List Line) (changed : Bool) (known : Known) → direct_lines site codes homes program ≡ Some lines → AllHaveWords site.sources program
+      → known.ended ≡ false → is_ended (walk site.sources known program) ≡ true → ShapeOf changed program lines
+  unfolding step
+  direct_shape [] homes are lines changed known e have off walked = absurd (cc e)
+  direct_shape (Compute to op size a b ∷ program) homes are lines changed known e have off walked =
+      let behind = behind_write to (holding_of (leaves_longword (Compute to op size a b))) known in
+      let x = walk_fits (computation_fits known to op a b) behind (λ behind. walk site.sources behind program) (opened site.sources known (Compute to op size a b) program off walked) in
+      let off' = (write_changes to (holding_of (leaves_longword (Compute to op size a b))) known).ended ∙ off in
+      let c = chained (Homes × List AlphaInstr) (List Line) (λ (step : Homes × List AlphaInstr). option_map (λ (lines : List Line). map plain step.1 ++ lines) (direct_lines site codes step.0 program)) (direct_step site.sources homes to op size a b program) lines e in
+      let m = mapped (List Line) (List Line) (λ (lines : List Line). map plain c.found.1 ++ lines) (direct_lines site codes c.found.0 program) lines c.onward in
+      subst (λ (ls : List Line). ShapeOf changed (Compute to op size a b ∷ program) ls) m.whole
+      (by c.found m.found m.is (λ homes' are' is'. direct_shape program homes' are' m.found changed behind is' have.1 off' x.1)
+      (is_left_out site.sources (Compute to op size a b) program) refl (stepped site homes to op size a b program c.found (is_left_out site.sources (Compute to op size a b) program) refl c.is))
+    where
+      by : (step : Homes × List AlphaInstr) (rest : List Line) → direct_lines site codes step.0 program ≡ Some rest
+          → ((homes' : Homes) → AreHomes homes' → direct_lines site codes homes' program ≡ Some rest → ShapeOf changed program rest)
+          → (out : Bool) → is_left_out site.sources (Compute to op size a b) program ≡ out → Stepped site homes to op size a b program step out
+          → Shape site changed codes (addresses_of site.after program) ((if out then 0 else count_of (Compute to op size a b)) + program_words site.sources program + 59) (map plain step.1 ++ rest)
+      by step rest is shape true out s =
+          let behind = shape homes are (subst (λ h. direct_lines site codes h program ≡ Some rest) s.homes_then is) in
+          let short = behind.short in
+          subst (λ (words : List AlphaInstr). Shape site changed codes (addresses_of site.after program) (0 + program_words site.sources program + 59) (map plain words ++ rest)) (sym s.words_then)
+          (record { each = behind.each; kept = behind.kept; goes = behind.goes; writes = behind.writes; short = omega arith })
+      by step rest is shape false out s =
+          let has = have.0 out in
+          let direct = all_three (not (is_quad size)) (not (is_select op)) (not (is_shared homes to)) (s.direct refl) in
+          let behind = shape (with_home to (new_home homes to op size a b) homes) (homes_are to (new_home homes to op size a b) homes (new_home_is homes are to op size a b has.1) are)
+              (subst (λ h. direct_lines site codes h program ≡ Some rest) s.homes_then is) in
+          let w = direct_words homes are to op size a b has.0 has.1 has.2 (not-true (is_quad size) direct.0) in
+          let count = plain_length (direct_code homes to op size a b) in
+          let most = w.few in
+          subst (λ (words : List AlphaInstr). Shape site changed codes (addresses_of site.after program) (count_of (Compute to op size a b) + program_words site.sources program + 59) (map plain words ++ rest)) (sym s.words_then)
+          (silent_front site codes (addresses_of site.after program) changed (count_of (Compute to op size a b)) (program_words site.sources program + 59) _ (direct_code homes to op size a b) rest
+          w.encodable w.silent (omega arith) (omega arith) behind)
+  direct_shape (Commit number source ∷ program) homes are lines changed known e have off walked =
+      let x = walk_fits (commit_fits known number source) (behind_commit number known) (λ behind. walk site.sources behind program) (opened site.sources known (Commit number source) program off walked) in
+      let z = with_exit site codes (Some (number, source)) (Commit number source) program homes lines refl e in
+      let end = z.2 in
+      subst (λ (ls : List Line). ShapeOf changed (Commit number source ∷ program) ls) end.whole
+      (weaker changed (addresses_of site.after program) 60 (program_words site.sources (Commit number source ∷ program) + 59) (end_lines site homes (Some (number, source)) z.0 end.words) (omega arith)
+      (ending_shape program homes are (Some (number, source)) z.0 end.words changed (behind_commit number known) z.1 end.moved end.may have.0.0 have.1 off x.1))
+  direct_shape (Codes n z v c ∷ program) homes are lines changed known e have off walked =
+      let x = walk_fits (codes_fit known n z v c) (record known { codes = true; changed = true }) (λ behind. walk site.sources behind program) (opened site.sources known (Codes n z v c) program off walked) in
+      let y = with_exit site codes None (Codes n z v c) program homes lines refl e in
+      let end = y.2 in
+      subst (λ (ls : List Line). ShapeOf changed (Codes n z v c ∷ program) ls) end.whole
+      (weaker changed (addresses_of site.after program) 59 (program_words site.sources (Codes n z v c ∷ program) + 59) (end_lines site homes None y.0 end.words) (omega arith)
+      (ending_shape program homes are None y.0 end.words changed (record known { codes = true; changed = true }) y.1 end.moved end.may tt have.1 off x.1))
+  direct_shape (Leave exit ∷ program) homes are lines changed known e have off walked =
+      let end = ends_with site codes (Leave exit) program homes lines None exit refl e in
+      subst (λ (ls : List Line). ShapeOf changed (Leave exit ∷ program) ls) end.whole
+      (weaker changed (addresses_of site.after (Leave exit ∷ program)) 59 (program_words site.sources (Leave exit ∷ program) + 59) (end_lines site homes None exit end.words) (omega arith)
+      (ending_shape (Leave exit ∷ program) homes are None exit end.words changed known refl end.moved end.may tt have off walked))
+  direct_shape (Probe place count write ∷ program) homes are lines changed known e have off walked = absurd (cc e)
+  direct_shape (Refuse when ∷ program) homes are lines changed known e have off walked = absurd (cc e)
+  direct_shape (Read to place count ∷ program) homes are lines changed known e have off walked = absurd (cc e)
+  direct_shape (Write place count source ∷ program) homes are lines changed known e have off walked = absurd (cc e)
+  direct_shape (Locked to place kind source ∷ program) homes are lines changed known e have off walked = absurd (cc e)
+  direct_shape (SetPsw source ∷ program) homes are lines changed known e have off walked = absurd (cc e)

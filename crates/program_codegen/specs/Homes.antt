@@ -1,0 +1,307 @@
+-- The words of programs that make no reference. An operand that is a VAX register is used where it stands, and the words that
+-- leave the codes come before the register that is written, so that no operand is lost before they read it.
+use Rattle.std.specs.Prelude.{◌≡◌, ℕ, ◌-◌, ◌<◌, ◌≤◌, ◌==◌, ◌&&◌, ◌||◌, not, nat_lt, Bool, true, false, List, [], ◌∷◌, ◌++◌, map, Option, Some, None, is_none, unwrap_or, option_map, option_and_then, if◌then◌else◌}
+use Rattle.vax_form.specs.declared.instr.Size.{Size}
+use Rattle.vax_form.specs.declared.instr.Size.TheVariants.{Long}
+use Rattle.alpha_encode.specs.declared.instr.AlphaInstr.{AlphaInstr}
+use Rattle.alpha_encode.specs.declared.instr.AlphaInstr.TheVariants.{Operate}
+use Rattle.alpha_encode.specs.declared.instr.OperateOp.{OperateOp}
+use Rattle.alpha_encode.specs.declared.instr.OperateOp.TheVariants as row
+use Rattle.alpha_encode.specs.declared.instr.Second.{Second}
+use Rattle.alpha_encode.specs.declared.instr.Second.TheVariants as seconds
+use Rattle.alpha_encode.specs.Registers.{CARRY_FIRST, TEMPORARIES, RULE_FIRST, RULE_SECOND, CARRY_SECOND}
+use Rattle.exception_records.specs.declared.rules.CodeRule.{CodeRule}
+use Rattle.exception_records.specs.declared.rules.CodeRule.TheVariants as rules
+use Rattle.exception_records.specs.declared.rules.Rules.{Rules}
+use Rattle.micro_ops.specs.LeftOut.{is_left_out}
+use Rattle.micro_ops.specs.Uses.{is_quad, is_select}
+use Rattle.micro_ops.specs.declared.codes.CodeSources.{CodeSources}
+use Rattle.micro_ops.specs.declared.program.Arg.{Arg}
+use Rattle.micro_ops.specs.declared.program.Arg.TheVariants as arguments
+use Rattle.micro_ops.specs.declared.program.Exit.{Exit}
+use Rattle.micro_ops.specs.declared.program.Exit.TheVariants.{Next, Fixed, Choice}
+use Rattle.micro_ops.specs.declared.program.Micro.{Micro}
+use Rattle.micro_ops.specs.declared.program.Micro.TheVariants.{Compute, Commit, Codes, Leave}
+use Rattle.micro_ops.specs.declared.program.MicroOp.{MicroOp}
+use Rattle.micro_ops.specs.declared.program.MicroOp.TheVariants.{Add, Sub, And, Or, Xor, AndNot}
+use Rattle.compute_sequences.specs.Words.{compute_code, is_constant, is_moved, is_short}
+use Rattle.program_codegen.specs.declared.homes.Homes.{Homes}
+use Rattle.program_codegen.specs.declared.lines.Line.{Line}
+use Rattle.program_codegen.specs.declared.points.Site.{Site}
+use Rattle.program_codegen.specs.Words.{plain, holder, trap_lines, departing}
+
+-- ---- homes
+-- Temporaries 0 to 2 may be the low longword of a register that is extended with its sign: of a VAX register, or of one of
+-- their own. All others stand in their own registers, exactly.
+abbrev pub no_homes : Homes
+no_homes = record { first = None; second = None; result = None }
+
+abbrev pub home_of : Homes → (temp : ℕ) → Option ℕ
+home_of homes temp =
+    if temp == 0 then homes.first else if temp == 1 then homes.second else if temp == 2 then homes.result else None
+
+abbrev pub with_home : (temp : ℕ) → Option ℕ → Homes → Homes
+with_home temp home homes =
+    if temp == 0 then record homes { first = home } else if temp == 1 then record homes { second = home }
+    else if temp == 2 then record homes { result = home } else homes
+
+-- the home of the temporary that has this register
+abbrev pub home_at : Homes → (register : ℕ) → Option ℕ
+home_at homes register =
+    if register == holder 0 then homes.first else if register == holder 1 then homes.second
+    else if register == holder 2 then homes.result else None
+
+abbrev pub stands_in : Option ℕ → (register : ℕ) → Bool
+stands_in None register = false
+stands_in (Some home) register = home == register
+
+-- a VAX register, or one of temporaries 0 to 2
+abbrev pub IsHome : Option ℕ → Type 0
+IsHome None = Unit {0}
+IsHome (Some register) = (register < 24) × (nat_lt register 15 ≡ false → 21 ≤ register)
+
+abbrev pub AreHomes : Homes → Type 0
+AreHomes homes = IsHome homes.first × IsHome homes.second × IsHome homes.result
+
+-- another temporary stands in this one's register
+abbrev pub is_shared : Homes → (temp : ℕ) → Bool
+is_shared homes temp =
+    (not (temp == 0) && stands_in homes.first (holder temp))
+    || (not (temp == 1) && stands_in homes.second (holder temp))
+    || (not (temp == 2) && stands_in homes.result (holder temp))
+
+-- ---- computations
+-- the argument that a register holds
+abbrev pub argument_in : (register : ℕ) → Arg
+argument_in register = if nat_lt register 15 then arguments.Register register else arguments.Temp (register - TEMPORARIES)
+
+abbrev pub standing_in : Option ℕ → (temp : ℕ) → Arg
+standing_in None temp = arguments.Temp temp
+standing_in (Some register) temp = argument_in register
+
+-- an argument, from where it stands
+abbrev pub placed : Homes → Arg → Arg
+placed homes (arguments.Temp temp) = standing_in (home_of homes temp) temp
+placed homes arg = arg
+
+-- the sign-extended register whose low longword the argument is
+abbrev pub extended_register : Homes → Arg → Option ℕ
+extended_register homes (arguments.Register number) = Some number
+extended_register homes (arguments.Temp temp) = home_of homes temp
+extended_register homes arg = None
+
+-- the same as a second argument, or a constant that is a literal
+abbrev pub extended_second : Homes → Arg → Option Second
+extended_second homes (arguments.Const value) = if nat_lt value 256 then Some (seconds.Literal value) else None
+extended_second homes arg = option_map seconds.Register (extended_register homes arg)
+
+-- an operation on sign-extended longwords that gives one
+abbrev pub long_operation : MicroOp → Option OperateOp
+long_operation Add = Some row.Addl
+long_operation Sub = Some row.Subl
+long_operation And = Some row.And
+long_operation Or = Some row.Bis
+long_operation Xor = Some row.Xor
+long_operation AndNot = Some row.Bic
+long_operation op = None
+
+abbrev pub joined_word : Option OperateOp → Option ℕ → Option Second → (to : ℕ) → Option AlphaInstr
+joined_word (Some op) (Some first) (Some second) to = Some (Operate op first second to)
+joined_word op first second to = None
+
+-- one word for a result in temporary 2
+abbrev pub long_word : Homes → MicroOp → Size → (a b : Arg) → Option AlphaInstr
+long_word homes op Long a b = joined_word (long_operation op) (extended_register homes a) (extended_second homes b) (holder 2)
+long_word homes op size a b = None
+
+-- What a computation does: it copies, and has no words; it has one word whose result is extended with its sign; it is a
+-- short constant; or else.
+abbrev pub is_copying : MicroOp → Size → Bool
+is_copying op Long = is_moved op
+is_copying op size = false
+
+abbrev pub copied : Homes → (to : ℕ) → MicroOp → Size → (a : Arg) → Option ℕ
+copied homes to op size a = if nat_lt to 3 && is_copying op size then extended_register homes a else None
+
+abbrev pub made : Homes → (to : ℕ) → MicroOp → Size → (a b : Arg) → Option AlphaInstr
+made homes to op size a b = if to == 2 then long_word homes op size a b else None
+
+abbrev pub is_short_constant : (to : ℕ) → MicroOp → Size → (a : Arg) → Bool
+is_short_constant to op size a = nat_lt to 3 && is_copying op size && is_constant (is_short Long) a
+
+abbrev pub home_by : (copied : Option ℕ) → (made : Option AlphaInstr) → (constant : Bool) → (to : ℕ) → Option ℕ
+home_by (Some register) made constant to = Some register
+home_by None (Some word) constant to = Some (holder to)
+home_by None None constant to = if constant then Some (holder to) else None
+
+abbrev pub new_home : Homes → (to : ℕ) → MicroOp → Size → (a b : Arg) → Option ℕ
+new_home homes to op size a b = home_by (copied homes to op size a) (made homes to op size a b) (is_short_constant to op size a) to
+
+abbrev pub code_by : (copied : Option ℕ) → (made : Option AlphaInstr) → List AlphaInstr → List AlphaInstr
+code_by (Some register) made words = []
+code_by None (Some word) words = word ∷ []
+code_by None None words = words
+
+abbrev pub direct_code : Homes → (to : ℕ) → MicroOp → Size → (a b : Arg) → List AlphaInstr
+direct_code homes to op size a b =
+    code_by (copied homes to op size a) (made homes to op size a b) (compute_code op size (placed homes a) (placed homes b) (holder to))
+
+-- ---- the words that leave the codes
+-- the registers whose low bytes are the operands of a rule
+abbrev pub is_operand : (register : ℕ) → Bool
+is_operand register = (register == RULE_FIRST) || (register == RULE_SECOND) || (register == CARRY_FIRST) || (register == CARRY_SECOND)
+
+abbrev pub is_operand_second : Second → Bool
+is_operand_second (seconds.Register register) = is_operand register
+is_operand_second (seconds.Literal value) = false
+
+abbrev pub second_home : Homes → Second → Option ℕ
+second_home homes (seconds.Register register) = home_at homes register
+second_home homes (seconds.Literal value) = None
+
+-- a conditional move reads what it writes
+abbrev pub is_choice : OperateOp → Bool
+is_choice row.Cmoveq = true
+is_choice row.Cmovne = true
+is_choice op = false
+
+abbrev pub when : Bool → AlphaInstr → Option AlphaInstr
+when b word = if b then Some word else None
+
+-- one that reads no home
+abbrev pub unmoved : OperateOp → (first : ℕ) → Second → (to : ℕ) → Option AlphaInstr
+unmoved op first second to = when (not (is_operand first || is_operand_second second || is_choice op)) (Operate op first second to)
+
+-- an operand of a rule is moved to its register
+abbrev pub moved_operand : OperateOp → (first home to : ℕ) → Option AlphaInstr
+moved_operand row.Bis first home to = when (not (is_operand first) && is_operand to) (Operate row.Bis first (seconds.Register home) to)
+moved_operand op first home to = None
+
+-- sign-extended longwords compare as longwords do
+abbrev pub moved_both : OperateOp → (first second to : ℕ) → Option AlphaInstr
+moved_both row.Cmpeq first second to = Some (Operate row.Cmpeq first (seconds.Register second) to)
+moved_both row.Cmpult first second to = Some (Operate row.Cmpult first (seconds.Register second) to)
+moved_both op first second to = None
+
+-- they are 0 as longwords are, their low longwords are raised alike, and their sign is bit 63
+abbrev pub moved_first : OperateOp → (home : ℕ) → Second → (to : ℕ) → Option AlphaInstr
+moved_first row.Cmpeq home (seconds.Literal value) to = when (value == 0) (Operate row.Cmpeq home (seconds.Literal 0) to)
+moved_first row.Sll home (seconds.Literal value) to = when (value == 32) (Operate row.Sll home (seconds.Literal 32) to)
+moved_first row.Srl home (seconds.Literal value) to = when (value == 31) (Operate row.Srl home (seconds.Literal 63) to)
+moved_first op home second to = None
+
+abbrev pub moved_by : (home other : Option ℕ) → OperateOp → (first : ℕ) → Second → (to : ℕ) → Option AlphaInstr
+moved_by None None op first second to = unmoved op first second to
+moved_by None (Some y) op first second to = moved_operand op first y to
+moved_by (Some x) None op first second to = moved_first op x second to
+moved_by (Some x) (Some y) op first second to = moved_both op x y to
+
+-- a word that reads the homes in place of the temporaries' own registers; none where it would do something else
+abbrev pub moved_word : Homes → AlphaInstr → Option AlphaInstr
+moved_word homes (Operate op first second to) = moved_by (home_at homes first) (second_home homes second) op first second to
+moved_word homes word = None
+
+abbrev pub moved_words : Homes → List AlphaInstr → Option (List AlphaInstr)
+moved_words homes [] = Some []
+moved_words homes (word ∷ words) =
+    option_and_then (λ moved. option_map (λ rest. moved ∷ rest) (moved_words homes words)) (moved_word homes word)
+
+-- at most the low longwords of the operands tell the code
+abbrev pub is_short_rule : CodeRule → Bool
+is_short_rule (rules.Result size) = not (is_quad size)
+is_short_rule (rules.Add size) = not (is_quad size)
+is_short_rule (rules.Sub size) = not (is_quad size)
+is_short_rule (rules.Compare size) = not (is_quad size)
+is_short_rule rule = true
+
+abbrev pub are_short_rules : Rules → Bool
+are_short_rules behind = is_short_rule behind.n && is_short_rule behind.z && is_short_rule behind.v && is_short_rule behind.c
+
+-- ---- the end
+-- the exit behind operations that have no words
+abbrev pub exit_behind : CodeSources → List Micro → Option Exit
+exit_behind sources [] = None
+exit_behind sources (Compute to op size a b ∷ program) =
+    if is_left_out sources (Compute to op size a b) program then exit_behind sources program else None
+exit_behind sources (Codes n z v c ∷ program) = exit_behind sources program
+exit_behind sources (Leave exit ∷ program) = Some exit
+exit_behind sources (operation ∷ program) = None
+
+-- an operation with which a program comes to its end: the register that it writes, with the temporary from which, and the exit
+abbrev pub end_at : CodeSources → Micro → (behind : List Micro) → Option (Option (ℕ × ℕ) × Exit)
+end_at sources (Commit register from) behind = option_map (λ exit. (Some (register, from), exit)) (exit_behind sources behind)
+end_at sources (Codes n z v c) behind = option_map (λ exit. (None, exit)) (exit_behind sources behind)
+end_at sources (Leave exit) behind = Some (None, exit)
+end_at sources operation behind = None
+
+-- it goes to an address, by a temporary in its own register if by one
+abbrev pub exit_stays : Homes → Exit → Bool
+exit_stays homes Next = true
+exit_stays homes (Fixed address) = true
+exit_stays homes (Choice when taken other) = is_none (home_of homes when)
+exit_stays homes exit = false
+
+-- a register is written from a temporary that the words for the codes leave as it is
+abbrev pub commit_stays : Option (ℕ × ℕ) → Bool
+commit_stays None = true
+commit_stays (Some commit) = nat_lt commit.1 3
+
+abbrev pub commit_words : Homes → Option (ℕ × ℕ) → List AlphaInstr
+commit_words homes None = []
+commit_words homes (Some commit) =
+    Operate row.Addl (unwrap_or (home_of homes commit.1) (holder commit.1)) (seconds.Literal 0) commit.0 ∷ []
+
+abbrev pub end_lines : Site → Homes → (commit : Option (ℕ × ℕ)) → Exit → (codes : List AlphaInstr) → List Line
+end_lines site homes commit exit codes =
+    map plain codes ++ (map plain (commit_words homes commit) ++ (trap_lines site exit ++ departing site exit))
+
+abbrev pub may_end : Site → Homes → (commit : Option (ℕ × ℕ)) → Exit → Bool
+may_end site homes commit exit = commit_stays commit && exit_stays homes exit && are_short_rules site.behind
+
+abbrev pub direct_end : Site → (codes : List AlphaInstr) → Homes → (commit : Option (ℕ × ℕ)) → Exit → Option (List Line)
+direct_end site codes homes commit exit =
+    if may_end site homes commit exit then option_map (end_lines site homes commit exit) (moved_words homes codes) else None
+
+-- ---- the whole
+-- a computation on longwords at most, that doesn't read what it writes, and into whose register none has its home
+abbrev pub is_direct : Homes → (to : ℕ) → MicroOp → Size → Bool
+is_direct homes to op size = not (is_quad size) && not (is_select op) && not (is_shared homes to)
+
+-- the words of a computation, of which one that is left out has none, and where the temporaries stand behind them
+abbrev pub direct_step : CodeSources → Homes → (to : ℕ) → MicroOp → Size → (a b : Arg) → (behind : List Micro) → Option (Homes × List AlphaInstr)
+direct_step sources homes to op size a b behind =
+    if is_left_out sources (Compute to op size a b) behind
+    then Some (homes, [])
+    else if is_direct homes to op size
+    then Some (with_home to (new_home homes to op size a b) homes, direct_code homes to op size a b)
+    else None
+
+abbrev pub is_computation : Micro → Bool
+is_computation (Compute to op size a b) = true
+is_computation operation = false
+
+abbrev pub step_at : CodeSources → Homes → Micro → (behind : List Micro) → Option (Homes × List AlphaInstr)
+step_at sources homes (Compute to op size a b) behind = direct_step sources homes to op size a b behind
+step_at sources homes operation behind = None
+
+abbrev pub words_at : Option (Homes × List AlphaInstr) → List AlphaInstr
+words_at None = []
+words_at (Some step) = step.1
+
+abbrev pub homes_at : Option (Homes × List AlphaInstr) → Option Homes
+homes_at step = option_map (λ (step : Homes × List AlphaInstr). step.0) step
+
+-- the lines from an operation on with which a program comes to its end
+abbrev pub ended_lines : Site → (codes : List AlphaInstr) → Homes → Micro → (behind : List Micro) → Option (List Line)
+ended_lines site codes homes operation behind =
+    option_and_then (λ (end : Option (ℕ × ℕ) × Exit). direct_end site codes homes end.0 end.1) (end_at site.sources operation behind)
+
+-- The lines of a program from an operation on; none where it makes a reference, or writes two registers, or where operands
+-- can't be used where they stand.
+abbrev pub direct_lines : Site → (codes : List AlphaInstr) → Homes → List Micro → Option (List Line)
+direct_lines site codes homes [] = None
+direct_lines site codes homes (Compute to op size a b ∷ program) =
+    option_and_then
+    (λ (step : Homes × List AlphaInstr). option_map (λ (lines : List Line). map plain step.1 ++ lines) (direct_lines site codes step.0 program))
+    (direct_step site.sources homes to op size a b program)
+direct_lines site codes homes (operation ∷ program) = ended_lines site codes homes operation program

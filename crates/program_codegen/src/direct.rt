@@ -1,0 +1,382 @@
+// The words of programs that make no reference.
+ghost use Rattle.std.specs.Prelude.{◌≡◌, ◌++◌, ◌∷◌, IfOk, IfSome, OnOk, MatchOption, None, Some, map, true};
+ghost use Rattle.program_codegen.specs.Words.{plain};
+ghost use Rattle.program_codegen.specs.Homes.{is_operand, is_operand_second, second_home, is_choice, unmoved, moved_operand, moved_both, moved_first, moved_by, moved_word, moved_words, is_short_rule, are_short_rules, exit_behind, end_at, exit_stays, commit_stays, commit_words, may_end, direct_end, ended_lines, is_computation, homes_at, step_at, words_at, direct_lines, no_homes, AreHomes};
+ghost use Rattle.program_codegen.specs.Programs.{AllFitWords, HasWords, IsExit, IsRanged, IsRangedExit, is_narrow};
+
+use crate::homes::{Homes, NO_HOMES, home_at, home_of, is_direct, push_direct};
+use crate::leaving::{push_departing, push_trap};
+use crate::lines::{Line, holder, push_words};
+use crate::points::Site;
+use alpha_encode::registers::{CARRY_FIRST, CARRY_SECOND, RULE_FIRST, RULE_SECOND};
+use alpha_encode::{AlphaInstr, OperateOp, Second, operate, operate_by};
+use exception_records::{CodeRule, Rules};
+use micro_ops::{CodeSources, Exit, Micro, is_left_out};
+use std::alloc::{AllocError, Global};
+use vax_form::{Size, WantOfMemory};
+
+/// What raises a longword.
+const RAISED: u8 = 32;
+/// The sign of a longword, and that of a quadword.
+const LONGWORD_SIGN: u8 = 31;
+
+const QUADWORD_SIGN: u8 = 63;
+/// The words for the codes leave the temporaries below this one.
+const LEFT_ALONE: u8 = 3;
+
+/// The register that is written, and the temporary that it is written from.
+type Commit = Option<(u8, u8)>;
+
+/// Whether the low bytes of a register are an operand of a rule.
+fn is_operand(register: u8) -> bool
+    ensures { result ≡ is_operand register }
+{
+    register == RULE_FIRST
+        || register == RULE_SECOND
+        || register == CARRY_FIRST
+        || register == CARRY_SECOND
+}
+
+fn is_operand_second(second: Second) -> bool
+    ensures { result ≡ is_operand_second second }
+{
+    match second {
+        Second::Register(register) => is_operand(register),
+        Second::Literal(_) => false,
+    }
+}
+
+fn second_home(homes: Homes, second: Second) -> Option<u8>
+    ensures { result ≡ second_home homes second }
+{
+    match second {
+        Second::Register(register) => home_at(homes, register),
+        Second::Literal(_) => None,
+    }
+}
+
+fn is_choice(op: OperateOp) -> bool
+    ensures { result ≡ is_choice op }
+{
+    matches!(op, OperateOp::Cmoveq | OperateOp::Cmovne)
+}
+
+/// A word that reads no home.
+fn unmoved(op: OperateOp, first: u8, second: Second, to: u8) -> Option<AlphaInstr>
+    ensures { result ≡ unmoved op first second to }
+{
+    if is_operand(first) || is_operand_second(second) || is_choice(op) {
+        None
+    } else {
+        Some(AlphaInstr::Operate {
+            op,
+            ra: first,
+            rb: second,
+            rc: to,
+        })
+    }
+}
+
+/// An operand of a rule is moved to its register.
+fn moved_operand(op: OperateOp, first: u8, home: u8, to: u8) -> Option<AlphaInstr>
+    ensures { result ≡ moved_operand op first home to }
+{
+    match op {
+        OperateOp::Bis => {
+            if !is_operand(first) && is_operand(to) {
+                Some(operate(OperateOp::Bis, first, home, to))
+            } else {
+                None
+            }
+        }
+        _ => None,
+    }
+}
+
+/// Sign-extended longwords compare as longwords do.
+fn moved_both(op: OperateOp, first: u8, second: u8, to: u8) -> Option<AlphaInstr>
+    ensures { result ≡ moved_both op first second to }
+{
+    match op {
+        OperateOp::Cmpeq | OperateOp::Cmpult => Some(operate(op, first, second, to)),
+        _ => None,
+    }
+}
+
+/// They are 0 as longwords are, their low longwords are raised alike, and their sign is bit 63.
+fn moved_first(op: OperateOp, home: u8, second: Second, to: u8) -> Option<AlphaInstr>
+    ensures { result ≡ moved_first op home second to }
+{
+    match (op, second) {
+        (OperateOp::Cmpeq, Second::Literal(0)) => Some(operate_by(op, home, 0, to)),
+        (OperateOp::Sll, Second::Literal(RAISED)) => Some(operate_by(op, home, RAISED, to)),
+        (OperateOp::Srl, Second::Literal(LONGWORD_SIGN)) => {
+            Some(operate_by(op, home, QUADWORD_SIGN, to))
+        }
+        _ => None,
+    }
+}
+
+fn moved_by(
+    home: Option<u8>,
+    other: Option<u8>,
+    op: OperateOp,
+    first: u8,
+    second: Second,
+    to: u8,
+) -> Option<AlphaInstr>
+    ensures { result ≡ moved_by home other op first second to }
+{
+    match (home, other) {
+        (None, None) => unmoved(op, first, second, to),
+        (None, Some(y)) => moved_operand(op, first, y, to),
+        (Some(x), None) => moved_first(op, x, second, to),
+        (Some(x), Some(y)) => moved_both(op, x, y, to),
+    }
+}
+
+/// A word that reads the homes in place of the temporaries' own registers; none where it would do something else.
+fn moved_word(homes: Homes, word: AlphaInstr) -> Option<AlphaInstr>
+    ensures { result ≡ moved_word homes word }
+{
+    match word {
+        AlphaInstr::Operate { op, ra, rb, rc } => moved_by(
+            home_at(homes, ra),
+            second_home(homes, rb),
+            op,
+            ra,
+            rb,
+            rc,
+        ),
+        _ => None,
+    }
+}
+
+fn moved_words(
+    alloc: Global,
+    homes: Homes,
+    words: &[AlphaInstr],
+) -> Result<Option<Vec<AlphaInstr>>, AllocError>
+    ensures { IfOk result (λ moved. MatchOption moved (moved_words homes words.now ≡ None) (λ m. moved_words homes words.now ≡ Some m.items)) }
+{
+    let mut moved = Vec::new(alloc);
+    for i in 0..words.len() {
+        match moved_word(homes, words[i]) {
+            Some(now) => moved.push(now)?,
+            None => return Ok(None),
+        }
+    }
+    Ok(Some(moved))
+}
+
+/// Whether at most the low longwords of the operands tell the code.
+fn is_short_rule(rule: CodeRule) -> bool
+    ensures { result ≡ is_short_rule rule }
+{
+    match rule {
+        CodeRule::Result { size }
+        | CodeRule::Add { size }
+        | CodeRule::Sub { size }
+        | CodeRule::Compare { size } => !matches!(size, Size::Quad),
+        CodeRule::Ready | CodeRule::Zero => true,
+    }
+}
+
+fn are_short_rules(behind: Rules) -> bool
+    ensures { result ≡ are_short_rules behind }
+{
+    is_short_rule(behind.n)
+        && is_short_rule(behind.z)
+        && is_short_rule(behind.v)
+        && is_short_rule(behind.c)
+}
+
+/// The exit behind operations that have no words.
+fn exit_behind(sources: CodeSources, program: &[Micro]) -> Option<Exit>
+    ensures { result ≡ exit_behind sources program.now }
+{
+    for i in 0..program.len() {
+        match program[i] {
+            Micro::Compute { .. } => {
+                if !is_left_out(sources, program[i], &program[i + 1..]) {
+                    return None;
+                }
+            }
+            Micro::Codes { .. } => {}
+            Micro::Leave(exit) => return Some(exit),
+            _ => return None,
+        }
+    }
+    None
+}
+
+/// Whether it goes to an address, by a temporary in its own register if by one.
+fn exit_stays(homes: Homes, exit: Exit) -> bool
+    ensures { result ≡ exit_stays homes exit }
+{
+    match exit {
+        Exit::Next | Exit::Fixed(_) => true,
+        Exit::Choice { when, .. } => home_of(homes, when).is_none(),
+        Exit::Computed(_) | Exit::Service(_) | Exit::Breakpoint => false,
+    }
+}
+
+fn commit_stays(commit: Commit) -> bool
+    ensures { result ≡ commit_stays commit }
+{
+    match commit {
+        Some((_register, from)) => from < LEFT_ALONE,
+        None => true,
+    }
+}
+
+fn may_end(site: Site, homes: Homes, commit: Commit, exit: Exit) -> bool
+    ensures { result ≡ may_end site homes commit exit }
+{
+    commit_stays(commit) && exit_stays(homes, exit) && are_short_rules(site.behind)
+}
+
+/// The word that writes a register.
+fn push_commit(lines: &mut Vec<Line>, homes: Homes, commit: Commit) -> Result<(), WantOfMemory>
+    requires { commit_stays commit ≡ true }
+    ensures { OnOk result (lines.new.items ≡ lines.old.items ++ map plain (commit_words homes commit)) }
+{
+    if let Some((register, from)) = commit {
+        let place = home_of(homes, from).unwrap_or(holder(from));
+        push_words(lines, &[operate_by(OperateOp::Addl, place, 0, register)])?;
+    }
+    Ok(())
+}
+
+/// The words for the codes, the register that is written, the trap on overflow, and the exits.
+fn direct_end(
+    alloc: Global,
+    site: Site,
+    codes: &[AlphaInstr],
+    homes: Homes,
+    commit: Commit,
+    exit: Exit,
+) -> Result<Option<Vec<Line>>, WantOfMemory>
+    requires exit { IsRangedExit exit → IsExit exit }
+    requires narrow { is_narrow site.behind.v ≡ true }
+    ensures { IfOk result (λ lines. MatchOption lines (direct_end site codes.now homes commit exit ≡ None) (λ made. direct_end site codes.now homes commit exit ≡ Some made.items)) }
+{
+    if !may_end(site, homes, commit, exit) {
+        return Ok(None);
+    }
+    let Some(moved) = moved_words(alloc, homes, codes)? else {
+        return Ok(None);
+    };
+    let mut lines = Vec::new(alloc);
+    push_words(&mut lines, &moved)?;
+    push_commit(&mut lines, homes, commit)?;
+    push_trap(alloc, &mut lines, site, exit)?;
+    push_departing(&mut lines, site, exit)?;
+    Ok(Some(lines))
+}
+
+/// The register that is written, with the temporary from which, and the exit, where an operation comes to the end.
+fn end_at(sources: CodeSources, operation: Micro, behind: &[Micro]) -> Option<(Commit, Exit)>
+    ensures { result ≡ end_at sources operation behind.now }
+{
+    let (commit, exit) = match operation {
+        Micro::Commit { register, from } => (Some((register, from)), exit_behind(sources, behind)),
+        Micro::Codes { .. } => (None, exit_behind(sources, behind)),
+        Micro::Leave(exit) => (None, Some(exit)),
+        _ => (None, None),
+    };
+    match exit {
+        Some(exit) => Some((commit, exit)),
+        None => None,
+    }
+}
+
+fn is_computation(operation: Micro) -> bool
+    ensures { result ≡ is_computation operation }
+{
+    matches!(operation, Micro::Compute { .. })
+}
+
+/// The words of a computation, of which one that is left out has none, and where the temporaries stand behind them.
+fn push_step(
+    alloc: Global,
+    lines: &mut Vec<Line>,
+    sources: CodeSources,
+    homes: Homes,
+    operation: Micro,
+    behind: &[Micro],
+) -> Result<Option<Homes>, WantOfMemory>
+    requires words { IsRanged operation → HasWords sources operation behind.now }
+    requires homes { AreHomes homes }
+    ensures homes { IfOk result (λ now. now ≡ homes_at (step_at sources homes operation behind.now)) }
+    ensures lines { OnOk result (lines.new.items ≡ lines.old.items ++ map plain (words_at (step_at sources homes operation behind.now))) }
+    ensures are { IfOk result (λ now. IfSome now AreHomes) }
+{
+    let Micro::Compute { to, op, size, a, b } = operation else {
+        return Ok(None);
+    };
+    if is_left_out(sources, operation, behind) {
+        return Ok(Some(homes));
+    }
+    if !is_direct(homes, to, op, size) {
+        return Ok(None);
+    }
+    Ok(Some(push_direct(alloc, lines, homes, to, op, size, a, b)?))
+}
+
+/// The lines with which a program comes to its end.
+fn ended_lines(
+    alloc: Global,
+    site: Site,
+    codes: &[AlphaInstr],
+    homes: Homes,
+    operation: Micro,
+    behind: &[Micro],
+) -> Result<Option<Vec<Line>>, WantOfMemory>
+    requires words { AllFitWords site.sources (operation ∷ behind.now) }
+    requires narrow { is_narrow site.behind.v ≡ true }
+    ensures { IfOk result (λ lines. MatchOption lines (ended_lines site codes.now homes operation behind.now ≡ None) (λ made. ended_lines site codes.now homes operation behind.now ≡ Some made.items)) }
+{
+    match end_at(site.sources, operation, behind) {
+        Some((commit, exit)) => direct_end(alloc, site, codes, homes, commit, exit),
+        None => Ok(None),
+    }
+}
+
+/// The lines of a program; none where it makes a reference, or writes two registers, or where operands can't be used where
+/// they stand.
+pub(crate) fn direct_lines(
+    alloc: Global,
+    site: Site,
+    codes: &[AlphaInstr],
+    program: &[Micro],
+) -> Result<Option<Vec<Line>>, WantOfMemory>
+    requires words { AllFitWords site.sources program.now }
+    requires narrow { is_narrow site.behind.v ≡ true }
+    ensures { IfOk result (λ lines. MatchOption lines (direct_lines site codes.now no_homes program.now ≡ None) (λ made. direct_lines site codes.now no_homes program.now ≡ Some made.items)) }
+{
+    let mut lines = Vec::new(alloc);
+    let mut homes = NO_HOMES;
+    for i in 0..program.len() {
+        let behind = &program[i + 1..];
+        if !is_computation(program[i]) {
+            let Some(end) = ended_lines(alloc, site, codes, homes, program[i], behind)? else {
+                return Ok(None);
+            };
+            lines.extend_from_slice(&end)?;
+            return Ok(Some(lines));
+        }
+        match push_step(
+            alloc,
+            &mut lines,
+            site.sources,
+            homes,
+            program[i],
+            behind,
+        )? {
+            Some(now) => homes = now,
+            None => return Ok(None),
+        }
+    }
+    Ok(None)
+}

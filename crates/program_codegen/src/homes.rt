@@ -1,0 +1,297 @@
+// Where the temporaries of a program that makes no reference stand, and the words of its computations.
+ghost use Rattle.std.specs.Prelude.{◌≡◌, ◌++◌, ◌≤◌, OnOk, IfOk, false, map};
+ghost use Rattle.compute_sequences.specs.Registers.{IsArgument, IsTarget};
+ghost use Rattle.micro_ops.specs.Uses.{is_unary};
+ghost use Rattle.program_codegen.specs.Homes.{AreHomes, home_of, with_home, home_at, stands_in, is_shared, argument_in, standing_in, placed, extended_register, extended_second, long_operation, joined_word, long_word, is_copying, copied, made, is_short_constant, new_home, direct_code, is_direct};
+ghost use Rattle.program_codegen.specs.Words.{holder, plain};
+
+use crate::lines::{Line, holder, push_words};
+use alpha_encode::registers::TEMPORARIES;
+use alpha_encode::{AlphaInstr, OperateOp, Second};
+use compute_sequences::compute_words;
+use micro_ops::{Arg, MicroOp};
+use std::alloc::Global;
+use vax_form::{Size, WantOfMemory};
+
+/// How many registers of the VAX a program reads.
+const VAX_REGISTERS: u8 = 15;
+/// The temporary of a result.
+const RESULT: u8 = 2;
+/// How many temporaries may have a home.
+const HOMES: u8 = 3;
+/// The least number that is no literal.
+const LITERALS: u64 = 0x100;
+/// The least number that one load of an address doesn't leave.
+const SHORT: u64 = 0x8000;
+
+/// For temporaries 0 to 2 the register, extended with its sign, whose low longword each is. One without stands in its own
+/// register, exactly.
+#[derive(Clone, Copy)]
+pub(crate) struct Homes {
+    pub(crate) first: Option<u8>,
+    pub(crate) second: Option<u8>,
+    pub(crate) result: Option<u8>,
+}
+
+pub(crate) const NO_HOMES: Homes = Homes {
+    first: None,
+    second: None,
+    result: None,
+};
+
+pub(crate) fn home_of(homes: Homes, temp: u8) -> Option<u8>
+    ensures { result ≡ home_of homes temp }
+{
+    match temp {
+        0 => homes.first,
+        1 => homes.second,
+        RESULT => homes.result,
+        _ => None,
+    }
+}
+
+fn with_home(temp: u8, home: Option<u8>, homes: Homes) -> Homes
+    ensures { result ≡ with_home temp home homes }
+{
+    match temp {
+        0 => Homes {
+            first: home,
+            ..homes
+        },
+        1 => Homes {
+            second: home,
+            ..homes
+        },
+        RESULT => Homes {
+            result: home,
+            ..homes
+        },
+        _ => homes,
+    }
+}
+
+/// The home of the temporary that has this register.
+pub(crate) fn home_at(homes: Homes, register: u8) -> Option<u8>
+    ensures { result ≡ home_at homes register }
+{
+    if register == holder(0) {
+        homes.first
+    } else if register == holder(1) {
+        homes.second
+    } else if register == holder(RESULT) {
+        homes.result
+    } else {
+        None
+    }
+}
+
+fn stands_in(home: Option<u8>, register: u8) -> bool
+    ensures { result ≡ stands_in home register }
+{
+    match home {
+        Some(home) => home == register,
+        None => false,
+    }
+}
+
+/// Whether another temporary stands in this one's register.
+fn is_shared(homes: Homes, temp: u8) -> bool
+    requires { temp ≤ 5 }
+    ensures { result ≡ is_shared homes temp }
+{
+    let register = holder(temp);
+    (temp != 0 && stands_in(homes.first, register))
+        || (temp != 1 && stands_in(homes.second, register))
+        || (temp != RESULT && stands_in(homes.result, register))
+}
+
+/// The argument that a register holds.
+fn argument_in(register: u8) -> Arg
+    ensures { result ≡ argument_in register }
+{
+    if register < VAX_REGISTERS {
+        Arg::Register(register)
+    } else {
+        Arg::Temp(register.saturating_sub(TEMPORARIES))
+    }
+}
+
+fn standing_in(home: Option<u8>, temp: u8) -> Arg
+    ensures { result ≡ standing_in home temp }
+{
+    match home {
+        Some(register) => argument_in(register),
+        None => Arg::Temp(temp),
+    }
+}
+
+/// An argument, from where it stands.
+fn placed(homes: Homes, arg: Arg) -> Arg
+    ensures { result ≡ placed homes arg }
+{
+    match arg {
+        Arg::Temp(temp) => standing_in(home_of(homes, temp), temp),
+        _ => arg,
+    }
+}
+
+/// The sign-extended register whose low longword the argument is.
+fn extended_register(homes: Homes, arg: Arg) -> Option<u8>
+    ensures { result ≡ extended_register homes arg }
+{
+    match arg {
+        Arg::Register(number) => Some(number),
+        Arg::Temp(temp) => home_of(homes, temp),
+        Arg::Flag(_) | Arg::Const(_) => None,
+    }
+}
+
+/// The same as a second argument, or a constant that is a literal.
+fn extended_second(homes: Homes, arg: Arg) -> Option<Second>
+    ensures { result ≡ extended_second homes arg }
+{
+    if let Arg::Const(value) = arg {
+        return if value < LITERALS {
+            Some(Second::Literal(value as u8))
+        } else {
+            None
+        };
+    }
+    match extended_register(homes, arg) {
+        Some(register) => Some(Second::Register(register)),
+        None => None,
+    }
+}
+
+/// An operation on sign-extended longwords that gives one.
+fn long_operation(op: MicroOp) -> Option<OperateOp>
+    ensures { result ≡ long_operation op }
+{
+    match op {
+        MicroOp::Add => Some(OperateOp::Addl),
+        MicroOp::Sub => Some(OperateOp::Subl),
+        MicroOp::And => Some(OperateOp::And),
+        MicroOp::Or => Some(OperateOp::Bis),
+        MicroOp::Xor => Some(OperateOp::Xor),
+        MicroOp::AndNot => Some(OperateOp::Bic),
+        _ => None,
+    }
+}
+
+fn joined_word(
+    op: Option<OperateOp>,
+    first: Option<u8>,
+    second: Option<Second>,
+    to: u8,
+) -> Option<AlphaInstr>
+    ensures { result ≡ joined_word op first second to }
+{
+    match (op, first, second) {
+        (Some(op), Some(ra), Some(rb)) => Some(AlphaInstr::Operate { op, ra, rb, rc: to }),
+        _ => None,
+    }
+}
+
+/// One word for a result in temporary 2.
+fn long_word(homes: Homes, op: MicroOp, size: Size, a: Arg, b: Arg) -> Option<AlphaInstr>
+    ensures { result ≡ long_word homes op size a b }
+{
+    match size {
+        Size::Long => joined_word(
+            long_operation(op),
+            extended_register(homes, a),
+            extended_second(homes, b),
+            holder(RESULT),
+        ),
+        Size::Byte | Size::Word | Size::Quad => None,
+    }
+}
+
+fn is_copying(op: MicroOp, size: Size) -> bool
+    ensures { result ≡ is_copying op size }
+{
+    matches!(
+        (op, size),
+        (MicroOp::Move | MicroOp::ZeroExtend, Size::Long)
+    )
+}
+
+/// The register of which a longword is a copy.
+fn copied(homes: Homes, to: u8, op: MicroOp, size: Size, a: Arg) -> Option<u8>
+    ensures { result ≡ copied homes to op size a }
+{
+    if to < HOMES && is_copying(op, size) {
+        extended_register(homes, a)
+    } else {
+        None
+    }
+}
+
+fn made(homes: Homes, to: u8, op: MicroOp, size: Size, a: Arg, b: Arg) -> Option<AlphaInstr>
+    ensures { result ≡ made homes to op size a b }
+{
+    if to == RESULT {
+        long_word(homes, op, size, a, b)
+    } else {
+        None
+    }
+}
+
+fn is_short_constant(to: u8, op: MicroOp, size: Size, a: Arg) -> bool
+    ensures { result ≡ is_short_constant to op size a }
+{
+    to < HOMES && is_copying(op, size) && matches!(a, Arg::Const(value) if value < SHORT)
+}
+
+/// Whether a computation is on longwords at most, doesn't read what it writes, and none has its home in its register.
+pub(crate) fn is_direct(homes: Homes, to: u8, op: MicroOp, size: Size) -> bool
+    requires { to ≤ 5 }
+    ensures { result ≡ is_direct homes to op size }
+{
+    !matches!(size, Size::Quad)
+        && !matches!(op, MicroOp::SelectNonzero)
+        && !is_shared(homes, to)
+}
+
+/// The words of a computation, of which a copy has none, and where its temporary stands behind them.
+pub(crate) fn push_direct(
+    alloc: Global,
+    lines: &mut Vec<Line>,
+    homes: Homes,
+    to: u8,
+    op: MicroOp,
+    size: Size,
+    a: Arg,
+    b: Arg,
+) -> Result<Homes, WantOfMemory>
+    requires homes { AreHomes homes }
+    requires target { IsTarget (holder to) }
+    requires first { IsArgument a }
+    requires second { is_unary op ≡ false → IsArgument b }
+    ensures lines { OnOk result (lines.new.items ≡ lines.old.items ++ map plain (direct_code homes to op size a b)) }
+    ensures homes { IfOk result (λ now. now ≡ with_home to (new_home homes to op size a b) homes) }
+    ensures are { IfOk result AreHomes }
+{
+    if let Some(register) = copied(homes, to, op, size, a) {
+        return Ok(with_home(to, Some(register), homes));
+    }
+    if let Some(word) = made(homes, to, op, size, a, b) {
+        push_words(lines, &[word])?;
+        return Ok(with_home(to, Some(holder(to)), homes));
+    }
+    let words = compute_words(
+        alloc,
+        op,
+        size,
+        placed(homes, a),
+        placed(homes, b),
+        holder(to),
+    )?;
+    push_words(lines, &words)?;
+    let home = if is_short_constant(to, op, size, a) {
+        Some(holder(to))
+    } else {
+        None
+    };
+    Ok(with_home(to, home, homes))
+}
