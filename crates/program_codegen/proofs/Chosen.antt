@@ -1,5 +1,5 @@
 -- The lines that are chosen for a program.
-use Rattle.std.proofs.Common.{◌≡◌, ℕ, ◌+◌, ◌^◌, ◌<◌, ◌≤◌, refl, sym, ap, ◌∙◌, subst, List, [], ◌∷◌, ◌++◌, length, map, Option, Some, None, Bool, true, false}
+use Rattle.std.proofs.Common.{◌≡◌, ℕ, ◌+◌, ◌^◌, ◌<◌, ◌≤◌, refl, subst, List, [], ◌∷◌, ◌++◌, length, map, Option, Some, None, Bool, true, false}
 use Rattle.std.specs.Prelude.{◌==◌, All, option_map, option_and_then, unwrap_or, if◌then◌else◌}
 use Rattle.std.specs.List.{list_all}
 use Rattle.vax_form.specs.Ranges.{IsInRange}
@@ -28,7 +28,7 @@ use Rattle.program_codegen.specs.Blocks.{block_lines, chosen_lines}
 use Rattle.program_codegen.specs.Homes.{commit_words, direct_end, direct_lines, direct_step, end_at, home_of, no_homes}
 use Rattle.program_codegen.specs.Programs.{AllHaveWords, KeepsTogether, LeavesReady, ReadsReady}
 use Rattle.program_codegen.specs.Promises.{BeginsBy}
-use Rattle.program_codegen.specs.Words.{block_of, departing, plain, point_of, program_lines, trap_lines, with_first}
+use Rattle.program_codegen.specs.Words.{block_of, departing, plain, program_lines, trap_lines}
 use Rattle.program_codegen.proofs.Beginning.{Starts, before, depart, lines_begin, program_starts, row, trap}
 use Rattle.program_codegen.proofs.Following.{follows, lines_some}
 use Rattle.program_codegen.proofs.Fronts.{Shape}

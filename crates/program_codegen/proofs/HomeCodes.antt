@@ -1,13 +1,12 @@
 -- Words that leave the codes, over the homes of the temporaries that they read.
-use Rattle.std.proofs.Common.{◌≡◌, ℕ, ◌+◌, ◌-◌, ◌/◌, ◌%◌, ◌^◌, ◌<◌, ◌≤◌, refl, sym, ap, ◌∙◌, subst, arith, List, [], ◌∷◌, length, suc, Option, Some, None, Bool, true, false, lit≤, eqb-true}
-use Rattle.std.specs.Prelude.{◌==◌, ◌&&◌, ◌||◌, not, nat_lt, All, bit_or, option_map, option_and_then, if◌then◌else◌}
+use Rattle.std.proofs.Common.{◌≡◌, ℕ, ◌+◌, ◌-◌, ◌/◌, ◌%◌, ◌^◌, refl, sym, ap, ◌∙◌, subst, arith, List, [], ◌∷◌, Option, Some, None, Bool, true, false, lit≤, eqb-true}
+use Rattle.std.specs.Prelude.{◌==◌, ◌&&◌, ◌||◌, not, nat_lt, bit_or, option_map, option_and_then, if◌then◌else◌}
 use Rattle.std.specs.List.{list_all}
 use Rattle.std.proofs.lemmas.Bool.Decides.{nat_tests}
 use Rattle.std.proofs.lemmas.Bool.{and_parts, ltb-true}
 use Rattle.std.proofs.lemmas.Nat.{or_mod}
 use Rattle.std.proofs.lemmas.Option.{same_Some}
 use Rattle.vt_words.specs.Quad.{left}
-use Rattle.alpha_encode.specs.Words.{IsEncodable}
 use Rattle.alpha_encode.specs.declared.instr.AlphaInstr.{AlphaInstr}
 use Rattle.alpha_encode.specs.declared.instr.AlphaInstr.TheVariants.{Memory, Branch, Operate, Jump, Pal}
 use Rattle.alpha_encode.specs.declared.instr.OperateOp.{OperateOp}
@@ -15,12 +14,11 @@ use Rattle.alpha_encode.specs.declared.instr.OperateOp.TheVariants as row
 use Rattle.alpha_encode.specs.declared.instr.Second.{Second}
 use Rattle.alpha_encode.specs.declared.instr.Second.TheVariants.{Register, Literal}
 use Rattle.alpha_meaning.specs.Act.{second_value}
-use Rattle.alpha_meaning.specs.Loops.{effect, effects, fine, is_operate, written}
+use Rattle.alpha_meaning.specs.Loops.{effect, effects, fine}
 use Rattle.alpha_meaning.specs.Result.{one_if, result_of}
 use Rattle.alpha_meaning.specs.State.{Regs, put}
 use Rattle.alpha_meaning.proofs.Registers.{put_same, put_other}
 use Rattle.block_law.specs.CodeWords.{may_be_written}
-use Rattle.block_law.specs.Tidy.{register_written, writes_register}
 use Rattle.micro_ops.specs.declared.codes.CodeSources.{CodeSources}
 use Rattle.program_codegen.specs.Homes.{AreHomes, IsHome, home_at, is_choice, is_operand, is_operand_second, moved_both, moved_by, moved_first, moved_operand, moved_word, moved_words, second_home, unmoved, when}
 use Rattle.program_codegen.specs.declared.homes.Homes.{Homes}

@@ -1,10 +1,10 @@
 -- Computations of a program whose operands are used where they stand.
-use Rattle.std.proofs.Common.{◌≡◌, ℕ, ◌+◌, ◌-◌, ◌/◌, ◌%◌, ◌^◌, ◌<◌, ◌≤◌, refl, sym, ap, ◌∙◌, subst, arith, List, [], ◌∷◌, ◌++◌, length, map, Option, Some, None, Bool, true, false, lit<, lit≤, eqb-true}
-use Rattle.std.specs.Prelude.{◌==◌, ◌&&◌, ◌||◌, not, nat_lt, bit_and, bit_or, bit_xor, option_map, if◌then◌else◌}
+use Rattle.std.proofs.Common.{◌≡◌, ℕ, ◌+◌, ◌%◌, ◌^◌, ◌<◌, ◌≤◌, refl, sym, ap, ◌∙◌, subst, arith, List, [], ◌∷◌, ◌++◌, length, map, Option, Some, None, Bool, true, false, lit<, lit≤, eqb-true}
+use Rattle.std.specs.Prelude.{◌==◌, ◌&&◌, ◌||◌, not, nat_lt, option_map, if◌then◌else◌}
 use Rattle.std.specs.List.{list_all}
 use Rattle.std.proofs.Math.Nat.{mod-eq_of_lt}
 use Rattle.std.proofs.lemmas.Bool.Decides.{nat_tests}
-use Rattle.std.proofs.lemmas.Bool.{and_parts, eqb-false, ltb-true, not-true, or_from}
+use Rattle.std.proofs.lemmas.Bool.{and_parts, ltb-true, not-true}
 use Rattle.std.proofs.lemmas.Option.{same_Some}
 use Rattle.vt_words.proofs.Longwords.{extended_again, extended_fits, extended_low}
 use Rattle.vax_form.specs.Tree.{Tree}
@@ -18,14 +18,13 @@ use Rattle.alpha_encode.specs.declared.instr.Second.{Second}
 use Rattle.alpha_encode.specs.declared.instr.Second.TheVariants as seconds
 use Rattle.alpha_meaning.specs.Act.{second_value}
 use Rattle.alpha_meaning.specs.Loops.{effect, is_operate}
-use Rattle.alpha_meaning.specs.Result.{inverse, long, minus, plus, result_of}
+use Rattle.alpha_meaning.specs.Result.{inverse, minus, plus, result_of}
 use Rattle.alpha_meaning.specs.State.{Regs, at_place, put}
-use Rattle.alpha_meaning.proofs.Registers.{put_other, put_same}
+use Rattle.alpha_meaning.proofs.Registers.{put_other}
 use Rattle.exception_records.specs.Codes.{is_ready}
 use Rattle.micro_ops.specs.declared.known.Known.{Known}
 use Rattle.micro_ops.specs.declared.program.Arg.{Arg}
 use Rattle.micro_ops.specs.declared.program.Arg.TheVariants as arguments
-use Rattle.micro_ops.specs.declared.program.Micro.{Micro}
 use Rattle.micro_ops.specs.declared.program.Micro.TheVariants.{Compute}
 use Rattle.micro_ops.specs.declared.program.MicroOp.{MicroOp}
 use Rattle.micro_ops.specs.declared.program.MicroOp.TheVariants.{Move, ZeroExtend, SignExtend, SelectNonzero, Add, Sub, And, Or, Xor, AndNot}
@@ -34,8 +33,8 @@ use Rattle.micro_ops.specs.Known.{behind_write, holds}
 use Rattle.micro_ops.specs.Meaning.{Standing, value_of_arg, with_value}
 use Rattle.micro_ops.specs.Uses.{is_flag, is_quad, is_select, is_unary, leaves_longword, takes}
 use Rattle.micro_ops.specs.Values.{computed, limit_of, low, value_from}
-use Rattle.compute_sequences.specs.Promises.{IsComputed, Leaves, MayCompute}
-use Rattle.compute_sequences.specs.Registers.{IsArgument, IsTarget, may_change, register_at, value_at}
+use Rattle.compute_sequences.specs.Promises.{IsComputed, Leaves}
+use Rattle.compute_sequences.specs.Registers.{IsArgument, IsTarget, may_change, value_at}
 use Rattle.compute_sequences.specs.Words.{compute_code, is_constant, is_moved, is_short}
 use Rattle.compute_sequences.proofs.Numbers.{adds, ands, clears, ors, subtracts, xors}
 use Rattle.block_law.specs.Placements.{Placement}
@@ -50,9 +49,9 @@ use Rattle.program_codegen.specs.Words.{holder, plain}
 use Rattle.program_codegen.proofs.Computing.{argument_is, computation_runs, computed_holds, kept_apart, temp_apart, zero_apart}
 use Rattle.program_codegen.proofs.HomeHolding.{Direct, extended_home, hidden, home_is, home_self, placed_fits, placed_is, placed_value, written}
 use Rattle.program_codegen.proofs.HomeNumbers.{IsExtended, extended_and, extended_inverse, extended_or, extended_small, extended_xor}
-use Rattle.program_codegen.proofs.Holding.{Holds, HoldsAs, found}
+use Rattle.program_codegen.proofs.Holding.{found}
 use Rattle.program_codegen.proofs.Numbers.{all_three, all_four}
-use Rattle.program_codegen.proofs.Walk.{Within, is_inside, row_length, row_rest, row_words}
+use Rattle.program_codegen.proofs.Walk.{Within, is_inside, row_length, row_words}
 
 -- ---- numbers
 -- the low bytes of a size below a quadword are those of the longword

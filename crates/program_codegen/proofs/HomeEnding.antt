@@ -1,16 +1,13 @@
 -- The end of a program whose operands are used where they stand: the codes, the register that is written, and what comes behind.
-use Rattle.std.proofs.Common.{◌≡◌, ℕ, ◌+◌, ◌-◌, ◌/◌, ◌%◌, ◌^◌, ◌<◌, ◌≤◌, refl, sym, ap, ◌∙◌, subst, arith, List, [], ◌∷◌, ◌++◌, length, map, Option, Some, None, Bool, true, false, lit<, lit≤, length-append}
-use Rattle.std.specs.Prelude.{◌==◌, ◌&&◌, ◌||◌, not, nat_lt, is_none, slice_set, unwrap_or, if◌then◌else◌}
+use Rattle.std.proofs.Common.{◌≡◌, ℕ, ◌+◌, ◌/◌, ◌%◌, ◌^◌, ◌<◌, ◌≤◌, refl, sym, ap, ◌∙◌, subst, arith, List, [], ◌++◌, length, map, Option, Some, None, Bool, true, false, lit<, lit≤, length-append}
+use Rattle.std.specs.Prelude.{◌==◌, not, is_none, slice_set, unwrap_or, if◌then◌else◌}
 use Rattle.std.specs.List.{list_all}
-use Rattle.std.proofs.Math.Nat.{mod-eq_of_lt}
 use Rattle.std.proofs.lemmas.Bool.Decides.{nat_tests}
-use Rattle.std.proofs.lemmas.Bool.{and_parts, eqb-false, ltb-true, not-true}
+use Rattle.std.proofs.lemmas.Bool.{ltb-true}
 use Rattle.vt_words.specs.Quad.{sign_extended}
-use Rattle.vt_words.specs.Values.{bit}
 use Rattle.vt_words.proofs.Longwords.{extended_again, extended_low, same_extended}
 use Rattle.vax_form.specs.State.{with_core, with_pc, with_register}
-use Rattle.vax_form.specs.Size.{bytes_of}
-use Rattle.vax_form.specs.Tree.{Ends, Finish, Tree}
+use Rattle.vax_form.specs.Tree.{Finish, Tree}
 use Rattle.vax_form.specs.declared.instr.Size.{Size}
 use Rattle.vax_form.specs.declared.instr.Size.TheVariants.{Byte, Word, Long, Quad}
 use Rattle.vax_form.specs.declared.state.Flags.{Flags}
@@ -27,42 +24,41 @@ use Rattle.exception_records.specs.Codes.{codes_by, comparison_codes, difference
 use Rattle.exception_records.specs.Shown.{codes_shown, registers_shown, still_held}
 use Rattle.exception_records.specs.declared.rules.CodeRule.{CodeRule}
 use Rattle.exception_records.specs.declared.rules.CodeRule.TheVariants as rules
-use Rattle.exception_records.specs.declared.rules.Rules.{Rules}
 use Rattle.micro_ops.specs.declared.known.Known.{Known}
 use Rattle.micro_ops.specs.declared.program.Exit.{Exit}
 use Rattle.micro_ops.specs.declared.program.Exit.TheVariants as exits
-use Rattle.micro_ops.specs.Fits.{exit_fits, exit_holds, is_from_psw, is_from_values, same, sources_fit}
+use Rattle.micro_ops.specs.Fits.{exit_fits, same, sources_fit}
 use Rattle.micro_ops.specs.Known.{held, holds, is_something}
 use Rattle.micro_ops.specs.Leaving.{CodesComeFrom, SignsComeFrom, state_left}
-use Rattle.micro_ops.specs.Meaning.{Departure, Ended, Standing, departed, departure_to, leaves_by, traps}
+use Rattle.micro_ops.specs.Meaning.{Departure, Ended, Standing, departed, leaves_by, traps}
 use Rattle.micro_ops.specs.Course.{AtLeaves}
 use Rattle.micro_ops.specs.Sources.{codes_written_by}
 use Rattle.micro_ops.specs.Uses.{is_quad}
 use Rattle.micro_ops.proofs.Held.{by_six}
-use Rattle.block_law.specs.CodeWords.{HoldCodes, ShowCodes, codes_in, may_be_written, temps_in}
-use Rattle.block_law.specs.Placements.{InForm, Placement}
+use Rattle.block_law.specs.CodeWords.{codes_in, may_be_written, temps_in}
+use Rattle.block_law.specs.Placements.{Placement}
 use Rattle.block_law.proofs.Kept.{registers_put}
 use Rattle.block_law.proofs.Rules.{Always, goes, operates, roomy}
 use Rattle.program_codegen.specs.declared.homes.Homes.{Homes}
 use Rattle.program_codegen.specs.declared.lines.Line.{Line}
 use Rattle.program_codegen.specs.declared.points.Site.{Site}
-use Rattle.program_codegen.specs.Homes.{AreHomes, IsHome, are_short_rules, commit_stays, commit_words, end_lines, exit_stays, home_at, home_of, is_operand, is_short_rule, may_end, moved_words}
+use Rattle.program_codegen.specs.Homes.{are_short_rules, commit_stays, commit_words, end_lines, exit_stays, home_at, home_of, is_operand, is_short_rule, may_end, moved_words}
 use Rattle.program_codegen.specs.Programs.{IsExit}
-use Rattle.program_codegen.specs.Words.{departing, holder, plain, trap_lines}
-use Rattle.program_codegen.proofs.Coded.{Coded, carry_by, coded_by, fine_operates, others_stay, signs_by, sources_parts, temp_stays}
+use Rattle.program_codegen.specs.Words.{departing, plain, trap_lines}
+use Rattle.program_codegen.proofs.Coded.{Coded, carry_by, coded_by, fine_operates, signs_by, sources_parts}
 use Rattle.program_codegen.proofs.Committing.{above, form_register}
 use Rattle.program_codegen.proofs.Computing.{held_still, held_value}
 use Rattle.program_codegen.proofs.Departures.{departs_some, same_psw}
 use Rattle.program_codegen.proofs.Exiting.{chooses, exits_to}
-use Rattle.program_codegen.proofs.HomeCodes.{Moved, apart, home_stays, moved_effects}
+use Rattle.program_codegen.proofs.HomeCodes.{Moved, home_stays, moved_effects}
 use Rattle.program_codegen.proofs.HomeHolding.{Direct, held_own, hidden, home_is}
 use Rattle.program_codegen.proofs.HomeNumbers.{IsExtended}
-use Rattle.program_codegen.proofs.HomeShapes.{moved_fine, moved_length}
-use Rattle.program_codegen.proofs.Holding.{Holds, HoldsAs, Setting, ends, found, tree}
+use Rattle.program_codegen.proofs.HomeShapes.{moved_fine}
+use Rattle.program_codegen.proofs.Holding.{Setting, ends, found, tree}
 use Rattle.program_codegen.proofs.Numbers.{all_three, all_four, committed_is}
 use Rattle.program_codegen.proofs.Testing.{trap_or, traps_first}
 use Rattle.program_codegen.proofs.Trapping.{ExitHolds, Overflows}
-use Rattle.program_codegen.proofs.Walk.{Within, is_inside, next, row_length, row_rest, row_words, stands}
+use Rattle.program_codegen.proofs.Walk.{Within, is_inside, row_length, row_rest, row_words, stands}
 
 -- ---- what rules tell by low longwords
 low_same : (size : Size) (a b : ℕ) → not (is_quad size) ≡ true → a % 2 ^ 32 ≡ b % 2 ^ 32 → low size a ≡ low size b

@@ -1,17 +1,14 @@
 -- The words of a program whose operands are used where they stand follow its tree.
-use Rattle.std.proofs.Common.{◌≡◌, ℕ, ◌+◌, ◌%◌, ◌^◌, ◌<◌, ◌≤◌, refl, sym, ap, ◌∙◌, subst, arith, List, [], ◌∷◌, ◌++◌, length, map, Option, Some, None, Bool, true, false, lit≤, length-append}
-use Rattle.std.specs.Prelude.{◌==◌, ◌&&◌, not, nat_le, nat_lt, option_map, option_and_then, if◌then◌else◌}
+use Rattle.std.proofs.Common.{◌≡◌, ℕ, ◌+◌, ◌%◌, ◌^◌, ◌<◌, ◌≤◌, refl, sym, ap, ◌∙◌, subst, arith, List, [], ◌∷◌, ◌++◌, length, map, Option, Some, None, Bool, true, false, length-append}
+use Rattle.std.specs.Prelude.{◌==◌, ◌&&◌, not, nat_lt, option_map, option_and_then, if◌then◌else◌}
 use Rattle.std.specs.List.{list_any}
 use Rattle.std.proofs.lemmas.Bool.Decides.{nat_tests}
-use Rattle.std.proofs.lemmas.Bool.{and_parts, ltb-true, or_left, or_right}
-use Rattle.std.proofs.lemmas.List.{append_assoc}
+use Rattle.std.proofs.lemmas.Bool.{and_parts, or_left, or_right}
 use Rattle.std.proofs.lemmas.Option.{same_Some}
 use Rattle.vax_form.specs.State.{with_register}
 use Rattle.vax_form.specs.declared.instr.Size.{Size}
 use Rattle.alpha_encode.specs.declared.instr.AlphaInstr.{AlphaInstr}
 use Rattle.alpha_meaning.specs.State.{Regs, at_place}
-use Rattle.exception_records.specs.Codes.{is_ready}
-use Rattle.micro_ops.specs.declared.codes.CodeSources.{CodeSources}
 use Rattle.micro_ops.specs.declared.known.Known.{Known}
 use Rattle.micro_ops.specs.declared.program.Arg.{Arg}
 use Rattle.micro_ops.specs.declared.program.Exit.{Exit}
@@ -20,11 +17,11 @@ use Rattle.micro_ops.specs.declared.program.Micro.TheVariants.{Compute, Probe, R
 use Rattle.micro_ops.specs.declared.program.MicroOp.{MicroOp}
 use Rattle.micro_ops.specs.Course.{Course, AtLeaves}
 use Rattle.micro_ops.specs.Fits.{codes_fit, commit_fits, computation_fits, exit_fits, holding_of, is_ended, sources_fit, step, walk}
-use Rattle.micro_ops.specs.Known.{behind_commit, behind_write, held, holds, is_committed, is_something}
+use Rattle.micro_ops.specs.Known.{behind_commit, behind_write, holds, is_committed, is_something}
 use Rattle.micro_ops.specs.LeftOut.{is_left_out, is_low, is_used}
 use Rattle.micro_ops.specs.Leaving.{CodesComeFrom}
 use Rattle.micro_ops.specs.Meaning.{Left, Standing, course_of, leaves_by, value_of_arg, with_codes, with_temp, with_value}
-use Rattle.micro_ops.specs.Uses.{is_flag, leaves_longword, reads_flag, takes}
+use Rattle.micro_ops.specs.Uses.{leaves_longword, reads_flag}
 use Rattle.micro_ops.specs.Values.{computed}
 use Rattle.micro_ops.proofs.Held.{held_other}
 use Rattle.block_law.specs.Placements.{Placement}
@@ -33,17 +30,17 @@ use Rattle.program_codegen.specs.declared.homes.Homes.{Homes}
 use Rattle.program_codegen.specs.declared.lines.Line.{Line}
 use Rattle.program_codegen.specs.declared.points.Site.{Site}
 use Rattle.program_codegen.specs.Homes.{are_short_rules, commit_stays, commit_words, direct_code, direct_end, direct_lines, direct_step, end_at, end_lines, exit_behind, exit_stays, is_direct, may_end, moved_words, new_home, with_home}
-use Rattle.program_codegen.specs.Programs.{AllHaveWords, HasWords, IsExit, ReadsReady, rule_of}
+use Rattle.program_codegen.specs.Programs.{AllHaveWords, ReadsReady}
 use Rattle.program_codegen.specs.Words.{departing, plain, trap_lines}
 use Rattle.program_codegen.proofs.Committing.{sets_codes}
 use Rattle.program_codegen.proofs.Following.{departs, opened}
 use Rattle.program_codegen.proofs.HomeComputing.{computes}
 use Rattle.program_codegen.proofs.HomeEnding.{CommitFits, committed, end_follows}
 use Rattle.program_codegen.proofs.HomeHolding.{Direct, committing, hidden, written}
-use Rattle.program_codegen.proofs.Holding.{Holds, HoldsAs, Setting, ends, found, tree}
-use Rattle.program_codegen.proofs.Knowing.{nothing_behind, walk_fits, write_changes}
+use Rattle.program_codegen.proofs.Holding.{Setting, ends, found, tree}
+use Rattle.program_codegen.proofs.Knowing.{walk_fits, write_changes}
 use Rattle.program_codegen.proofs.Numbers.{all_three}
-use Rattle.program_codegen.proofs.Walk.{Within, plain_length, row_length, row_rest}
+use Rattle.program_codegen.proofs.Walk.{Within, row_length, row_rest}
 
 -- ---- what there is, if something is
 pub record Mapped (A B : Type 0) (f : A → B) (o : Option A) (y : B) : Type 0 where

@@ -1,6 +1,6 @@
 -- What the registers of a block hold between two operations of a program whose operands are used where they stand.
-use Rattle.std.proofs.Common.{◌≡◌, ℕ, ◌+◌, ◌-◌, ◌%◌, ◌^◌, ◌<◌, ◌≤◌, refl, sym, ap, ◌∙◌, subst, arith, List, length, Option, Some, None, Bool, true, false, eqb-true, length-set}
-use Rattle.std.specs.Prelude.{◌==◌, ◌&&◌, ◌||◌, not, nat_lt, if◌then◌else◌}
+use Rattle.std.proofs.Common.{◌≡◌, ℕ, ◌+◌, ◌-◌, ◌%◌, ◌^◌, ◌<◌, refl, sym, ap, ◌∙◌, subst, arith, Option, Some, None, Bool, true, false, eqb-true, length-set}
+use Rattle.std.specs.Prelude.{◌==◌, ◌&&◌, nat_lt, if◌then◌else◌}
 use Rattle.std.proofs.lemmas.Bool.Decides.{nat_tests}
 use Rattle.std.proofs.lemmas.Bool.{eqb-false, ltb-true}
 use Rattle.std.proofs.lemmas.Option.{same_Some}
@@ -10,14 +10,14 @@ use Rattle.vax_form.specs.declared.instr.Size.{Size}
 use Rattle.alpha_meaning.specs.State.{Regs}
 use Rattle.exception_records.specs.Codes.{is_ready}
 use Rattle.micro_ops.specs.declared.known.Holding.{Holding}
-use Rattle.micro_ops.specs.declared.known.Holding.TheVariants.{Nothing, Wide, Longword}
+use Rattle.micro_ops.specs.declared.known.Holding.TheVariants.{Nothing}
 use Rattle.micro_ops.specs.declared.known.Known.{Known}
 use Rattle.micro_ops.specs.declared.program.Arg.{Arg}
 use Rattle.micro_ops.specs.declared.program.Arg.TheVariants.{Temp, Register, Flag, Const}
 use Rattle.micro_ops.specs.declared.program.MicroOp.{MicroOp}
 use Rattle.micro_ops.specs.Fits.{argument_fits}
 use Rattle.micro_ops.specs.Known.{held, is_committed, is_something, behind_write, behind_commit}
-use Rattle.micro_ops.specs.Meaning.{Standing, Temps, value_of_arg, with_temp, with_value}
+use Rattle.micro_ops.specs.Meaning.{Standing, value_of_arg, with_temp, with_value}
 use Rattle.micro_ops.specs.Uses.{is_flag}
 use Rattle.micro_ops.proofs.Held.{flag_other, flag_set, held_other, held_same}
 use Rattle.compute_sequences.specs.Registers.{IsArgument, register_at, value_at}

@@ -1,5 +1,5 @@
 -- Words that leave the codes, over homes, by themselves: they write what they wrote, and have encodings.
-use Rattle.std.proofs.Common.{◌≡◌, ℕ, ◌<◌, ◌≤◌, refl, sym, ap, ◌∙◌, subst, arith, List, [], ◌∷◌, length, suc, Option, Some, None, Bool, true, false, lit<}
+use Rattle.std.proofs.Common.{◌≡◌, ℕ, ◌<◌, refl, sym, ap, ◌∙◌, subst, arith, List, [], ◌∷◌, length, suc, Option, Some, None, Bool, true, lit<}
 use Rattle.std.specs.Prelude.{◌==◌, ◌&&◌, ◌||◌, not, All}
 use Rattle.std.specs.List.{list_all}
 use Rattle.std.proofs.lemmas.Bool.{and_parts, and_from}
@@ -14,7 +14,7 @@ use Rattle.alpha_encode.specs.declared.instr.Second.{Second}
 use Rattle.alpha_encode.specs.declared.instr.Second.TheVariants.{Register, Literal}
 use Rattle.alpha_meaning.specs.Loops.{fine, is_operate, written}
 use Rattle.block_law.specs.Tidy.{register_written, writes_register}
-use Rattle.program_codegen.specs.Homes.{AreHomes, IsHome, home_at, is_choice, is_operand, is_operand_second, moved_both, moved_by, moved_first, moved_operand, moved_word, moved_words, second_home, unmoved}
+use Rattle.program_codegen.specs.Homes.{AreHomes, home_at, is_choice, is_operand, is_operand_second, moved_both, moved_by, moved_first, moved_operand, moved_word, moved_words, second_home, unmoved}
 use Rattle.program_codegen.specs.declared.homes.Homes.{Homes}
 use Rattle.program_codegen.proofs.HomeCodes.{home_is, split, when_some}
 

@@ -1,9 +1,8 @@
 -- The lines of a program whose operands are used where they stand, by themselves.
-use Rattle.std.proofs.Common.{◌≡◌, ℕ, ◌+◌, ◌-◌, ◌^◌, ◌<◌, ◌≤◌, refl, sym, ap, ◌∙◌, subst, arith, List, [], ◌∷◌, ◌++◌, length, map, Option, Some, None, Bool, true, false, lit<, lit≤, length-append, eqb-true}
-use Rattle.std.specs.Prelude.{◌==◌, ◌&&◌, ◌||◌, not, nat_lt, All, option_map, option_and_then, unwrap_or, if◌then◌else◌}
+use Rattle.std.proofs.Common.{◌≡◌, ℕ, ◌+◌, ◌-◌, ◌^◌, ◌<◌, ◌≤◌, refl, sym, ap, ◌∙◌, subst, arith, List, [], ◌∷◌, ◌++◌, length, map, Option, Some, None, Bool, true, false, lit<, lit≤, length-append}
+use Rattle.std.specs.Prelude.{◌==◌, ◌&&◌, ◌||◌, not, nat_lt, All, option_map, unwrap_or, if◌then◌else◌}
 use Rattle.std.specs.List.{list_all, list_any}
-use Rattle.std.proofs.lemmas.Bool.Decides.{nat_tests}
-use Rattle.std.proofs.lemmas.Bool.{and_parts, ltb-true, not-true}
+use Rattle.std.proofs.lemmas.Bool.{ltb-true, not-true}
 use Rattle.std.proofs.lemmas.List.{append-nil}
 use Rattle.std.proofs.lemmas.List.Elements.{All-nil}
 use Rattle.std.proofs.lemmas.List.Folds.{list_any-append}
@@ -19,7 +18,6 @@ use Rattle.alpha_encode.specs.declared.instr.Second.{Second}
 use Rattle.alpha_encode.specs.declared.instr.Second.TheVariants as seconds
 use Rattle.alpha_meaning.specs.Loops.{fine}
 use Rattle.micro_ops.specs.Exits.{addresses_of, exit_addresses}
-use Rattle.micro_ops.specs.declared.codes.CodeSources.{CodeSources}
 use Rattle.micro_ops.specs.declared.known.Known.{Known}
 use Rattle.micro_ops.specs.declared.program.Arg.{Arg}
 use Rattle.micro_ops.specs.declared.program.Arg.TheVariants as arguments
@@ -43,20 +41,20 @@ use Rattle.block_law.specs.Tidy.{may_fault, register_written, writes_register}
 use Rattle.program_codegen.specs.declared.homes.Homes.{Homes}
 use Rattle.program_codegen.specs.declared.lines.Line.{Line}
 use Rattle.program_codegen.specs.declared.points.Site.{Site}
-use Rattle.program_codegen.specs.Homes.{AreHomes, IsHome, are_short_rules, argument_in, code_by, commit_stays, commit_words, copied, direct_code, direct_end, direct_lines, direct_step, end_at, end_lines, exit_behind, exit_stays, extended_register, extended_second, home_by, home_of, is_copying, is_direct, is_shared, is_short_constant, long_operation, made, may_end, moved_words, new_home, placed, standing_in, with_home}
-use Rattle.program_codegen.specs.Programs.{AllHaveWords, HasWords, IsExit}
+use Rattle.program_codegen.specs.Homes.{AreHomes, IsHome, are_short_rules, code_by, commit_stays, commit_words, copied, direct_code, direct_lines, direct_step, end_lines, exit_behind, exit_stays, extended_second, home_by, home_of, is_copying, is_shared, is_short_constant, long_operation, made, may_end, moved_words, new_home, placed, standing_in, with_home}
+use Rattle.program_codegen.specs.Programs.{AllHaveWords, IsExit}
 use Rattle.program_codegen.specs.Words.{departing, plain, trap_lines, words_of}
 use Rattle.program_codegen.proofs.Endings.{below_codes, codes_local, codes_quiet, departing_each, departing_goes, departing_short, departing_spares, one_word, or_nothing, traps_silent}
 use Rattle.program_codegen.proofs.Following.{opened}
-use Rattle.program_codegen.proofs.Fronts.{Front, KeptBy, Shape, any_neither, change_front, line_front, quiet_kept, row_targets, row_words_are, silent_front, spares_append, targets, targets_append, words_append}
-use Rattle.program_codegen.proofs.HomeComputing.{Joined, made_word}
-use Rattle.program_codegen.proofs.HomeFollowing.{Ended, Stepped, chained, ends_with, mapped, stepped, with_exit}
+use Rattle.program_codegen.proofs.Fronts.{Shape, any_neither, change_front, line_front, quiet_kept, row_targets, row_words_are, silent_front, spares_append, targets, targets_append, words_append}
+use Rattle.program_codegen.proofs.HomeComputing.{made_word}
+use Rattle.program_codegen.proofs.HomeFollowing.{Stepped, chained, ends_with, mapped, stepped, with_exit}
 use Rattle.program_codegen.proofs.HomeHolding.{copied_home, extended_home, home_is, homes_are, placed_is}
 use Rattle.program_codegen.proofs.HomeShapes.{moved_encodable, moved_fine, moved_length, moved_writes}
 use Rattle.program_codegen.proofs.Knowing.{nothing_behind, walk_fits, write_changes}
 use Rattle.program_codegen.proofs.Numbers.{all_three}
 use Rattle.program_codegen.proofs.Rows.{changes_silent, is_silent, list_all_of}
-use Rattle.program_codegen.proofs.Shapes.{EachFits, each_append, is_local, plain_fits, row_fits}
+use Rattle.program_codegen.proofs.Shapes.{each_append, is_local, plain_fits, row_fits}
 use Rattle.program_codegen.proofs.Walk.{plain_length}
 
 -- ---- homes
@@ -303,7 +301,7 @@ module _ (site : Site) (codes : List AlphaInstr) (after_fits : site.after < 2 ^ 
           let has = have.0 out in
           let direct = all_three (not (is_quad size)) (not (is_select op)) (not (is_shared homes to)) (s.direct refl) in
           let behind = shape (with_home to (new_home homes to op size a b) homes) (homes_are to (new_home homes to op size a b) homes (new_home_is homes are to op size a b has.1) are)
-              (subst (λ h. direct_lines site codes h program ≡ Some rest) s.homes_then is) in
+          (subst (λ h. direct_lines site codes h program ≡ Some rest) s.homes_then is) in
           let w = direct_words homes are to op size a b has.0 has.1 has.2 (not-true (is_quad size) direct.0) in
           let count = plain_length (direct_code homes to op size a b) in
           let most = w.few in

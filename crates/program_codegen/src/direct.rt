@@ -366,14 +366,7 @@ pub(crate) fn direct_lines(
             lines.extend_from_slice(&end)?;
             return Ok(Some(lines));
         }
-        match push_step(
-            alloc,
-            &mut lines,
-            site.sources,
-            homes,
-            program[i],
-            behind,
-        )? {
+        match push_step(alloc, &mut lines, site.sources, homes, program[i], behind)? {
             Some(now) => homes = now,
             None => return Ok(None),
         }

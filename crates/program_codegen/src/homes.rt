@@ -248,9 +248,7 @@ pub(crate) fn is_direct(homes: Homes, to: u8, op: MicroOp, size: Size) -> bool
     requires { to ≤ 5 }
     ensures { result ≡ is_direct homes to op size }
 {
-    !matches!(size, Size::Quad)
-        && !matches!(op, MicroOp::SelectNonzero)
-        && !is_shared(homes, to)
+    !matches!(size, Size::Quad) && !matches!(op, MicroOp::SelectNonzero) && !is_shared(homes, to)
 }
 
 /// The words of a computation, of which a copy has none, and where its temporary stands behind them.

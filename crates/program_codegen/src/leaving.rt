@@ -209,7 +209,11 @@ fn push_choice(lines: &mut Vec<Line>, when: u8, taken: u32, other: u32) -> Resul
     push_exit(lines, other)
 }
 
-pub(crate) fn push_departing(lines: &mut Vec<Line>, site: Site, exit: Exit) -> Result<(), AllocError>
+pub(crate) fn push_departing(
+    lines: &mut Vec<Line>,
+    site: Site,
+    exit: Exit,
+) -> Result<(), AllocError>
     requires { IsExit exit }
     ensures { OnOk result (lines.new.items ≡ lines.old.items ++ departing site exit) }
 {
