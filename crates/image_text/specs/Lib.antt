@@ -1,3 +1,4 @@
 pub mod Instructions
 pub mod Lines
+pub mod Pieces
 pub mod Text

@@ -63,13 +63,13 @@ open_line instr = if is_open instr then codes "open" ++ address_text instr.at ++
 -- what stands where no instruction does
 abbrev pub stop_kind : Found → Option (List ℕ)
 stop_kind (instruction instr) = None
-stop_kind reserved_instruction = Some (codes " reserved\n")
-stop_kind reserved_mode = Some (codes " mode\n")
-stop_kind (past address) = Some (codes " past\n")
+stop_kind reserved_instruction = Some (codes " reserved")
+stop_kind reserved_mode = Some (codes " mode")
+stop_kind (past address) = Some (codes " past")
 
 abbrev pub stop_text : (from address : ℕ) → Option (List ℕ) → List ℕ
 stop_text from address None = []
-stop_text from address (Some kind) = codes "stop" ++ address_text address ++ codes " from" ++ address_text from ++ kind
+stop_text from address (Some kind) = codes "stop" ++ address_text address ++ codes " from" ++ address_text from ++ kind ++ 10 ∷ []
 
 abbrev pub stop_line : Pages → (from address : ℕ) → List ℕ
 stop_line pages from address = stop_text from address (stop_kind (found pages address))

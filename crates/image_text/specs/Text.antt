@@ -25,7 +25,7 @@ abbrev pub has_opcode : Pages → ℕ → Instr → Bool
 has_opcode pages opcode instr = (instr.opcode == opcode) && is_interpreted pages instr
 
 abbrev pub opcode_line : ℕ → (count : ℕ) → List ℕ
-opcode_line opcode count = codes "interpreted " ++ counted (name_of opcode) count ++ 10 ∷ []
+opcode_line opcode count = codes "interpreted " ++ name_of opcode ++ number count ++ 10 ∷ []
 
 abbrev pub opcode_text : ℕ → (count : ℕ) → List ℕ
 opcode_text opcode count = if count == 0 then [] else opcode_line opcode count

@@ -1,12 +1,12 @@
 // The lines of what a translation makes of an image, and the whole text.
-ghost use Rattle.std.specs.Prelude.{◌≡◌, ◌<◌, ◌≤◌, ◌++◌, ℕ, IfOk, OnOk, filter, length, slice_index};
+ghost use Rattle.std.specs.Prelude.{◌≡◌, ◌<◌, ◌≤◌, ◌++◌, ℕ, OnOk, filter, length, slice_index};
 ghost use Rattle.std.specs.List.{flat_map};
 ghost use Rattle.image_file.specs.Whole.{IsWhole};
 ghost use Rattle.image_text.specs.Lines.{open_line, service_line, stop_lines};
-ghost use Rattle.image_text.specs.Text.{flow_text, has_opcode, interpreted_line, is_interpreted, opcode_line, opcode_text, opcodes, reached_line, show_text};
+ghost use Rattle.image_text.specs.Text.{flow_text, has_opcode, interpreted_line, is_interpreted, opcode_text, opcodes, reached_line, show_text};
 
 use crate::instructions::{put_open, put_service, put_stops};
-use crate::put::put_counted;
+use crate::put::{Piece, put_pieces};
 use crate::tables::put_tables;
 use flow_discovery::has_block;
 use image_file::Image;
@@ -67,30 +67,37 @@ fn put_reached(
 ) -> Result<(), AllocError>
     ensures { OnOk result (out.new.items ≡ out.old.items ++ reached_line pages.now instrs.now mapped words) }
 {
-    put_counted(out, b"reached", instrs.len() as u64)?;
-    put_counted(out, b" mapped", mapped)?;
-    put_counted(out, b" interpreted", interpreted(pages, instrs))?;
-    put_counted(out, b" words", words)?;
-    out.push(b'\n')?;
-    Ok(())
-}
-
-fn put_opcode_line(out: &mut Vec<u8>, opcode: u8, count: u64) -> Result<(), AllocError>
-    ensures { OnOk result (out.new.items ≡ out.old.items ++ opcode_line opcode count) }
-{
-    out.extend_from_slice(b"interpreted ")?;
-    put_counted(out, name_of(opcode), count)?;
-    out.push(b'\n')?;
-    Ok(())
+    put_pieces(
+        out,
+        &[
+            Piece::Text(b"reached"),
+            Piece::Number(instrs.len() as u64),
+            Piece::Text(b" mapped"),
+            Piece::Number(mapped),
+            Piece::Text(b" interpreted"),
+            Piece::Number(interpreted(pages, instrs)),
+            Piece::Text(b" words"),
+            Piece::Number(words),
+            Piece::Text(b"\n"),
+        ],
+    )
 }
 
 fn put_opcode(out: &mut Vec<u8>, opcode: u8, count: u64) -> Result<(), AllocError>
     ensures { OnOk result (out.new.items ≡ out.old.items ++ opcode_text opcode count) }
 {
-    if count != 0 {
-        put_opcode_line(out, opcode, count)?;
+    if count == 0 {
+        return Ok(());
     }
-    Ok(())
+    put_pieces(
+        out,
+        &[
+            Piece::Text(b"interpreted "),
+            Piece::Text(name_of(opcode)),
+            Piece::Number(count),
+            Piece::Text(b"\n"),
+        ],
+    )
 }
 
 fn put_opcodes(out: &mut Vec<u8>, pages: &Pages, instrs: &[Instr]) -> Result<(), AllocError>
@@ -150,8 +157,7 @@ fn put_flow(
     put_opcodes(out, &image.pages, instrs)?;
     put_opens(out, instrs)?;
     put_all_stops(alloc, out, &image.pages, instrs)?;
-    put_services(out, instrs)?;
-    Ok(())
+    put_services(out, instrs)
 }
 
 /// The text of a whole image, of the hints of its translation, of the instructions that can be reached, and of how many
@@ -159,17 +165,16 @@ fn put_flow(
 #[tactic(auto, unfolding(crate::specs::Text::show_text))]
 pub fn show_text(
     alloc: Global,
+    out: &mut Vec<u8>,
     image: &Image,
     hints: &[u32],
     instrs: &[Instr],
     mapped: u64,
     words: u64,
-) -> Result<Vec<u8>, AllocError>
+) -> Result<(), AllocError>
     requires { IsWhole image.now }
-    ensures { IfOk result (λ text. text.items ≡ show_text image.now hints.now instrs.now mapped words) }
+    ensures { OnOk result (out.new.items ≡ out.old.items ++ show_text image.now hints.now instrs.now mapped words) }
 {
-    let mut out = Vec::new(alloc);
-    put_tables(&mut out, image, hints)?;
-    put_flow(alloc, &mut out, image, instrs, mapped, words)?;
-    Ok(out)
+    put_tables(out, image, hints)?;
+    put_flow(alloc, out, image, instrs, mapped, words)
 }

@@ -4,8 +4,9 @@ ghost use Rattle.std.specs.List.{flat_map};
 ghost use Rattle.vax_decode.specs.Decoded.{found_of};
 ghost use Rattle.image_text.specs.Instructions.{asks_service, ends_thread, fixed_value, is_exit, is_followed, is_open, is_open_by, is_service};
 ghost use Rattle.image_text.specs.Lines.{code_text, open_line, service_line, stop_kind, stop_line, stop_lines, stop_text};
+ghost use Rattle.image_text.specs.Pieces.{piece_text};
 
-use crate::put::{put_address, put_number};
+use crate::put::{Piece, put_pieces};
 use flow_discovery::goes_on;
 use service_codes::EXIT;
 use std::alloc::{AllocError, Global};
@@ -97,22 +98,27 @@ fn ends_thread(instr: &Instr) -> bool
 pub fn put_open(out: &mut Vec<u8>, instr: &Instr) -> Result<(), AllocError>
     ensures { OnOk result (out.new.items ≡ out.old.items ++ open_line instr.now) }
 {
-    if is_open(instr) {
-        out.extend_from_slice(b"open")?;
-        put_address(out, instr.at)?;
-        out.push(b' ')?;
-        out.extend_from_slice(name_of(instr.opcode))?;
-        out.push(b'\n')?;
+    if !is_open(instr) {
+        return Ok(());
     }
-    Ok(())
+    put_pieces(
+        out,
+        &[
+            Piece::Text(b"open"),
+            Piece::Address(instr.at),
+            Piece::Text(b" "),
+            Piece::Text(name_of(instr.opcode)),
+            Piece::Text(b"\n"),
+        ],
+    )
 }
 
-fn put_code(out: &mut Vec<u8>, code: Option<u64>) -> Result<(), AllocError>
-    ensures { OnOk result (out.new.items ≡ out.old.items ++ code_text code) }
+fn code_text(code: Option<u64>) -> Piece<'static>
+    ensures { piece_text result ≡ code_text code }
 {
     match code {
-        Some(code) => put_number(out, code),
-        None => Ok(()),
+        Some(code) => Piece::Number(code),
+        None => Piece::Text(b""),
     }
 }
 
@@ -120,24 +126,35 @@ fn put_code(out: &mut Vec<u8>, code: Option<u64>) -> Result<(), AllocError>
 pub fn put_service(out: &mut Vec<u8>, instr: &Instr) -> Result<(), AllocError>
     ensures { OnOk result (out.new.items ≡ out.old.items ++ service_line instr.now) }
 {
-    if asks_service(instr) {
-        out.extend_from_slice(b"service")?;
-        put_code(out, fixed_value(&instr.operands[0]))?;
-        out.extend_from_slice(b" at")?;
-        put_address(out, instr.at)?;
-        out.push(b'\n')?;
+    if !asks_service(instr) {
+        return Ok(());
     }
-    Ok(())
+    put_pieces(
+        out,
+        &[
+            Piece::Text(b"service"),
+            code_text(fixed_value(&instr.operands[0])),
+            Piece::Text(b" at"),
+            Piece::Address(instr.at),
+            Piece::Text(b"\n"),
+        ],
+    )
 }
 
 fn put_stop_text(out: &mut Vec<u8>, from: u32, address: u32, kind: &[u8]) -> Result<(), AllocError>
     ensures { OnOk result (out.new.items ≡ out.old.items ++ stop_text from address (Some kind.now)) }
 {
-    out.extend_from_slice(b"stop")?;
-    put_address(out, address)?;
-    out.extend_from_slice(b" from")?;
-    put_address(out, from)?;
-    out.extend_from_slice(kind)
+    put_pieces(
+        out,
+        &[
+            Piece::Text(b"stop"),
+            Piece::Address(address),
+            Piece::Text(b" from"),
+            Piece::Address(from),
+            Piece::Text(kind),
+            Piece::Text(b"\n"),
+        ],
+    )
 }
 
 fn put_stop(out: &mut Vec<u8>, pages: &Pages, from: u32, address: u32) -> Result<(), AllocError>
@@ -145,9 +162,9 @@ fn put_stop(out: &mut Vec<u8>, pages: &Pages, from: u32, address: u32) -> Result
 {
     match decode_at(pages, address) {
         Decoded::Instr(_) => Ok(()),
-        Decoded::Reserved => put_stop_text(out, from, address, b" reserved\n"),
-        Decoded::BadMode => put_stop_text(out, from, address, b" mode\n"),
-        Decoded::Past(_) => put_stop_text(out, from, address, b" past\n"),
+        Decoded::Reserved => put_stop_text(out, from, address, b" reserved"),
+        Decoded::BadMode => put_stop_text(out, from, address, b" mode"),
+        Decoded::Past(_) => put_stop_text(out, from, address, b" past"),
     }
 }
 

@@ -4,7 +4,7 @@ ghost use Rattle.image_file.specs.Whole.{IsWhole};
 ghost use Rattle.image_text.specs.Lines.{address_line, numbered, register_text, rights_text, section_line, thread_line};
 ghost use Rattle.image_text.specs.Text.{image_line, tables_text};
 
-use crate::put::{put_address, put_counted, put_digits, put_number};
+use crate::put::{Piece, put_pieces};
 use image_file::{Image, Section, Start, image_length};
 use std::alloc::AllocError;
 
@@ -12,23 +12,32 @@ fn put_image(out: &mut Vec<u8>, image: &Image) -> Result<(), AllocError>
     requires { IsWhole image.now }
     ensures { OnOk result (out.new.items ≡ out.old.items ++ image_line image.now) }
 {
-    out.extend_from_slice(b"image version")?;
-    put_number(out, u64::from(image.version))?;
-    out.extend_from_slice(b" bytes")?;
-    put_number(out, image_length(image) as u64)?;
-    out.push(b'\n')?;
-    Ok(())
+    put_pieces(
+        out,
+        &[
+            Piece::Text(b"image version"),
+            Piece::Number(u64::from(image.version)),
+            Piece::Text(b" bytes"),
+            Piece::Number(image_length(image) as u64),
+            Piece::Text(b"\n"),
+        ],
+    )
 }
 
 fn put_register(out: &mut Vec<u8>, number: u64, value: u32) -> Result<(), AllocError>
     ensures { OnOk result (out.new.items ≡ out.old.items ++ register_text number value) }
 {
-    if value != 0 {
-        out.extend_from_slice(b" R")?;
-        put_digits(out, number)?;
-        put_address(out, value)?;
+    if value == 0 {
+        return Ok(());
     }
-    Ok(())
+    put_pieces(
+        out,
+        &[
+            Piece::Text(b" R"),
+            Piece::Digits(number),
+            Piece::Address(value),
+        ],
+    )
 }
 
 fn put_registers(out: &mut Vec<u8>, values: &[u32]) -> Result<(), AllocError>
@@ -43,24 +52,29 @@ fn put_registers(out: &mut Vec<u8>, values: &[u32]) -> Result<(), AllocError>
 fn put_thread(out: &mut Vec<u8>, number: u64, thread: &Start) -> Result<(), AllocError>
     ensures { OnOk result (out.new.items ≡ out.old.items ++ thread_line number thread.now) }
 {
-    out.extend_from_slice(b"thread")?;
-    put_number(out, number)?;
-    out.extend_from_slice(b" pc")?;
-    put_address(out, thread.pc)?;
-    out.extend_from_slice(b" sp")?;
-    put_address(out, thread.sp)?;
+    put_pieces(
+        out,
+        &[
+            Piece::Text(b"thread"),
+            Piece::Number(number),
+            Piece::Text(b" pc"),
+            Piece::Address(thread.pc),
+            Piece::Text(b" sp"),
+            Piece::Address(thread.sp),
+        ],
+    )?;
     put_registers(out, &thread.first)?;
     out.push(b'\n')?;
     Ok(())
 }
 
-fn put_rights(out: &mut Vec<u8>, writable: bool) -> Result<(), AllocError>
-    ensures { OnOk result (out.new.items ≡ out.old.items ++ rights_text writable) }
+fn rights_text(writable: bool) -> &'static [u8]
+    ensures { result.now ≡ rights_text writable }
 {
     if writable {
-        out.extend_from_slice(b" writable stored")
+        b" writable stored"
     } else {
-        out.extend_from_slice(b" read-only stored")
+        b" read-only stored"
     }
 }
 
@@ -69,14 +83,19 @@ fn put_section(out: &mut Vec<u8>, number: u64, section: &Section) -> Result<(), 
     ensures { OnOk result (out.new.items ≡ out.old.items ++ section_line number section.now) }
 {
     let last = (section.start + section.size).saturating_sub(1);
-    put_counted(out, b"section", number)?;
-    put_address(out, section.start)?;
-    out.extend_from_slice(b" to")?;
-    put_address(out, last)?;
-    put_rights(out, section.writable)?;
-    put_number(out, section.stored.len() as u64)?;
-    out.push(b'\n')?;
-    Ok(())
+    put_pieces(
+        out,
+        &[
+            Piece::Text(b"section"),
+            Piece::Number(number),
+            Piece::Address(section.start),
+            Piece::Text(b" to"),
+            Piece::Address(last),
+            Piece::Text(rights_text(section.writable)),
+            Piece::Number(section.stored.len() as u64),
+            Piece::Text(b"\n"),
+        ],
+    )
 }
 
 fn put_address_line(
@@ -87,10 +106,15 @@ fn put_address_line(
 ) -> Result<(), AllocError>
     ensures { OnOk result (out.new.items ≡ out.old.items ++ address_line table.now number address) }
 {
-    put_counted(out, table, number)?;
-    put_address(out, address)?;
-    out.push(b'\n')?;
-    Ok(())
+    put_pieces(
+        out,
+        &[
+            Piece::Text(table),
+            Piece::Number(number),
+            Piece::Address(address),
+            Piece::Text(b"\n"),
+        ],
+    )
 }
 
 fn put_threads(out: &mut Vec<u8>, threads: &[Start]) -> Result<(), AllocError>
@@ -132,6 +156,5 @@ pub fn put_tables(out: &mut Vec<u8>, image: &Image, hints: &[u32]) -> Result<(),
     put_threads(out, &image.threads)?;
     put_sections(out, &image.sections)?;
     put_address_lines(out, b"entry", &image.entries)?;
-    put_address_lines(out, b"hint", hints)?;
-    Ok(())
+    put_address_lines(out, b"hint", hints)
 }

@@ -1,5 +1,5 @@
 -- An instruction without a block is counted once, by its opcode.
-use Rattle.std.proofs.Common.{◌≤◌, ◌<◌, ◌+◌, ℕ, List, arith, drop, get_or, length, length-set, refl, sym, ap, subst, ◌∙◌}
+use Rattle.std.proofs.Common.{◌≤◌, ◌<◌, ◌+◌, arith, drop, get_or, length, length-set, refl, sym, ap, subst, ◌∙◌}
 use Rattle.std.specs.Prelude.{filter}
 use Rattle.image_text.specs.Text.{has_opcode}
 use Rattle.image_text.proofs.Counts.{counted, left_out, most_counted, none_counted, none_yet}
