@@ -11,7 +11,7 @@ use std::alloc::{AllocError, Global};
 use std::marker::Model;
 
 /// A loaded segment: `size` bytes of memory from `address` on, of which the first are stored and the others are 0.
-#[derive(Debug, Drop)]
+#[derive(Drop)]
 pub struct Segment {
     pub address: u32,
     pub size: u32,
@@ -28,7 +28,7 @@ impl Model for Segment {
 }
 
 /// Where a program begins, and its loaded segments in the order of their headers.
-#[derive(Debug, Drop)]
+#[derive(Drop)]
 pub struct Program {
     pub entry: u32,
     pub segments: Vec<Segment>,

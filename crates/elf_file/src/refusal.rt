@@ -3,13 +3,13 @@ ghost use Rattle.std.specs.Prelude.{◌≡◌};
 ghost use Rattle.elf_file.specs.declared.refusal.ElfRefusal.TheVariants.{WantOfMemory};
 
 use arrayvec::ArrayVec;
-use std::alloc::{AllocError, AllocFailed};
+use std::alloc::AllocError;
 
 /// A refusal's number, and then what it tells of the file.
 pub type Numbers = ArrayVec<u64, 4>;
 
 /// Why a file has no program, or no symbols that can be read: the first reason in the order of the checks.
-#[derive(Clone, Copy, Debug)]
+#[derive(Clone, Copy)]
 pub enum ElfRefusal {
     /// The file ends inside its header.
     Short { length: u64 },
@@ -97,14 +97,6 @@ impl From<AllocError> for ElfRefusal {
     ghost from_gives = { λ _ e. e ≡ WantOfMemory };
 
     fn from(_e: AllocError) -> ElfRefusal {
-        ElfRefusal::WantOfMemory
-    }
-}
-
-impl<T: Drop> From<AllocFailed<T>> for ElfRefusal {
-    ghost from_gives = { λ _ e. e ≡ WantOfMemory };
-
-    fn from(_e: AllocFailed<T>) -> ElfRefusal {
         ElfRefusal::WantOfMemory
     }
 }
