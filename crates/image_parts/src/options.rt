@@ -2,7 +2,7 @@
 use std::marker::Model;
 
 /// Which of a file's symbols of functions become entries.
-#[derive(Clone, Copy, Debug)]
+#[derive(Clone, Copy)]
 pub enum Functions {
     /// All, as procedures that CALLS and CALLG call: each begins with two bytes that name registers.
     Procedures,
@@ -13,7 +13,7 @@ pub enum Functions {
 }
 
 /// How an image is made of a program.
-#[derive(Debug, Drop)]
+#[derive(Drop)]
 pub struct Options {
     /// Where threads start, one each. Where there are none, one thread starts where the program does.
     pub starts: Vec<u32>,

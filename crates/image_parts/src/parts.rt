@@ -22,7 +22,7 @@ const MOST_BYTES_1: u64 = 1_048_576;
 
 /// The parts of an image: its threads, its sections, of which one of size 0 is as long as what it stores, and addresses
 /// of code beside the threads' starts.
-#[derive(Debug, Drop)]
+#[derive(Drop)]
 pub struct Parts {
     pub threads: Vec<Start>,
     pub sections: Vec<Section>,

@@ -5,13 +5,13 @@ ghost use Rattle.image_parts.specs.declared.refusal.MakeRefusal.TheVariants.{Wan
 
 use elf_file::ElfRefusal;
 use image_file::ImageRefusal;
-use std::alloc::{AllocError, AllocFailed};
+use std::alloc::AllocError;
 
 /// A refusal's number, and then what it tells.
 pub use elf_file::Numbers;
 
 /// Who refuses: the rules of ELF files and of the images that they give, the rules of parts, or the image format.
-#[derive(Clone, Copy, Debug)]
+#[derive(Clone, Copy)]
 pub enum Judge {
     OfElf,
     OfParts,
@@ -19,7 +19,7 @@ pub enum Judge {
 }
 
 /// Why no image is made: the first reason in the order of the checks.
-#[derive(Clone, Copy, Debug)]
+#[derive(Clone, Copy)]
 pub enum MakeRefusal {
     /// The file is no static executable for the VAX, or its symbols cannot be read.
     Elf(ElfRefusal),
@@ -134,14 +134,6 @@ impl From<AllocError> for MakeRefusal {
     ghost from_gives = { λ _ e. e ≡ WantOfMemory };
 
     fn from(_e: AllocError) -> MakeRefusal {
-        MakeRefusal::WantOfMemory
-    }
-}
-
-impl<T: Drop> From<AllocFailed<T>> for MakeRefusal {
-    ghost from_gives = { λ _ e. e ≡ WantOfMemory };
-
-    fn from(_e: AllocFailed<T>) -> MakeRefusal {
         MakeRefusal::WantOfMemory
     }
 }

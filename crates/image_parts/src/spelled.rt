@@ -54,10 +54,11 @@ fn put_start(out: &mut Vec<u8>, version: u16, start: &Start) -> Result<(), WantO
 {
     registers_fit(&start.first);
     put_words(out, &[start.pc, start.sp])?;
-    if version != 1 {
-        put_words(out, &start.first)?;
+    if version == 1 {
+        Ok(())
+    } else {
+        put_words(out, &start.first)
     }
-    Ok(())
 }
 
 pub fn put_threads(out: &mut Vec<u8>, version: u16, threads: &[Start]) -> Result<(), WantOfMemory>
