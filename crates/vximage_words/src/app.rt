@@ -64,119 +64,137 @@ const FUNCTIONS_HELP: &str =
 bytes that name registers; routines, which JSB calls; or none, which makes no entries of them [default: procedures]";
 
 /// The option in whose place parts stand.
-const ELF: &str = "elf";
+const ELF: &[&str] = &["elf"];
 
 /// The options that go with parts alone.
 const OF_PARTS: &[&str] = &["section", "thread", "entries"];
 
 const KINDS: &[&str] = &["procedures", "routines", "none"];
 
-/// What an option takes, with what stands for it in the help.
-#[derive(Clone, Copy)]
-enum Takes {
-    Nothing,
-    Value(&'static str),
-    /// It may stand again.
-    Values(&'static str),
-}
-
-/// What an option goes with.
-#[derive(Clone, Copy)]
-enum Place {
-    Anywhere,
-    /// It has to be there where `--elf` is not.
-    Needed,
-    /// It goes with no option of parts.
-    WithoutParts,
-    /// It goes with `--elf` alone. What conflicts with `--elf` would also do without it.
-    OfElf,
-    /// So does it, and it takes one of the kinds.
-    KindOfElf,
-}
-
 /// An option of a command.
 struct Choice {
     label: &'static str,
-    takes: Takes,
     help: &'static str,
-    place: Place,
+    action: ArgAction,
+    /// What stands for its value in the help, where it takes one.
+    value: &'static [&'static str],
+    /// Whether it takes one of the kinds.
+    is_kind: bool,
+    /// It has to be there where none of these is.
+    unless: &'static [&'static str],
+    /// It goes with these alone.
+    beside: &'static [&'static str],
+    /// It goes with none of these. What conflicts with `--elf` would also do without it.
+    without: &'static [&'static str],
 }
+
+/// A flag that goes with all others.
+const FLAG: Choice = Choice {
+    label: "",
+    help: "",
+    action: ArgAction::SetTrue,
+    value: &[],
+    is_kind: false,
+    unless: &[],
+    beside: &[],
+    without: &[],
+};
 
 const MAKE_OPTIONS: &[Choice] = &[
     Choice {
         label: "section",
-        takes: Takes::Values("A:r|w:SIZE[:FILE]"),
         help: SECTION_HELP,
-        place: Place::Needed,
+        action: ArgAction::Append,
+        value: &["A:r|w:SIZE[:FILE]"],
+        unless: ELF,
+        ..FLAG
     },
     Choice {
         label: "thread",
-        takes: Takes::Values("PC:SP[:Rn=X,..]"),
         help: THREAD_HELP,
-        place: Place::Needed,
+        action: ArgAction::Append,
+        value: &["PC:SP[:Rn=X,..]"],
+        unless: ELF,
+        ..FLAG
     },
     Choice {
         label: "entry",
-        takes: Takes::Values("A"),
         help: ENTRY_HELP,
-        place: Place::Anywhere,
+        action: ArgAction::Append,
+        value: &["A"],
+        ..FLAG
     },
     Choice {
         label: "entries",
-        takes: Takes::Value("FILE"),
         help: ENTRIES_HELP,
-        place: Place::Anywhere,
+        action: ArgAction::Set,
+        value: &["FILE"],
+        ..FLAG
     },
     Choice {
-        label: ELF,
-        takes: Takes::Value("FILE"),
+        label: "elf",
         help: ELF_HELP,
-        place: Place::WithoutParts,
+        action: ArgAction::Set,
+        value: &["FILE"],
+        without: OF_PARTS,
+        ..FLAG
     },
     Choice {
         label: "start",
-        takes: Takes::Values("A"),
         help: START_HELP,
-        place: Place::OfElf,
+        action: ArgAction::Append,
+        value: &["A"],
+        beside: ELF,
+        without: OF_PARTS,
+        ..FLAG
     },
     Choice {
         label: "stack",
-        takes: Takes::Value("SIZE"),
         help: STACK_HELP,
-        place: Place::OfElf,
+        action: ArgAction::Set,
+        value: &["SIZE"],
+        beside: ELF,
+        without: OF_PARTS,
+        ..FLAG
     },
     Choice {
         label: "functions",
-        takes: Takes::Value("KIND"),
         help: FUNCTIONS_HELP,
-        place: Place::KindOfElf,
+        action: ArgAction::Set,
+        value: &["KIND"],
+        is_kind: true,
+        beside: ELF,
+        without: OF_PARTS,
+        ..FLAG
     },
 ];
 
 const DIS_OPTIONS: &[Choice] = &[
     Choice {
         label: "alpha",
-        takes: Takes::Nothing,
         help: ALPHA_HELP,
-        place: Place::Anywhere,
+        ..FLAG
     },
     Choice {
         label: "from",
-        takes: Takes::Value("A"),
         help: FROM_HELP,
-        place: Place::Anywhere,
+        action: ArgAction::Set,
+        value: &["A"],
+        ..FLAG
     },
     Choice {
         label: "to",
-        takes: Takes::Value("B"),
         help: TO_HELP,
-        place: Place::Anywhere,
+        action: ArgAction::Set,
+        value: &["B"],
+        ..FLAG
     },
     Choice {
         label: "names",
-        takes: Takes::Value("FILE"),
         help: NAMES_HELP,
-        place: Place::Anywhere,
+        action: ArgAction::Set,
+        value: &["FILE"],
+        ..FLAG
     },
 ];
 
@@ -220,28 +238,26 @@ const FORMS: &[Form] = &[
 
 // The argument of an option, whatever that goes with.
 fn argument<'a>(alloc: Global, option: &Choice) -> Arg<'a> {
-    let arg = Arg::new(alloc, option.label)
+    Arg::new(alloc, option.label)
         .long(option.label)
-        .help(option.help);
-    match option.takes {
-        Takes::Nothing => arg.action(ArgAction::SetTrue),
-        Takes::Value(value) => arg.value_name(value),
-        Takes::Values(value) => arg.value_name(value).action(ArgAction::Append),
-    }
-}
-
-fn beside_elf<'a>(arg: Arg<'a>) -> Result<Arg<'a>, AllocError> {
-    arg.requires_arg(ELF)?.conflicts_with_all(OF_PARTS)
+        .help(option.help)
+        .action(option.action)
+        .value_names(option.value)
 }
 
 // The argument, where it may stand.
-fn placed<'a>(arg: Arg<'a>, place: Place) -> Result<Arg<'a>, AllocError> {
-    match place {
-        Place::Anywhere => Ok(arg),
-        Place::Needed => arg.required_unless_present(ELF),
-        Place::WithoutParts => arg.conflicts_with_all(OF_PARTS),
-        Place::OfElf => beside_elf(arg),
-        Place::KindOfElf => beside_elf(arg.value_parser(KINDS)),
+fn placed<'a>(arg: Arg<'a>, option: &Choice) -> Result<Arg<'a>, AllocError> {
+    arg.requires_all(option.beside)?
+        .conflicts_with_all(option.without)?
+        .required_unless_present_any(option.unless)
+}
+
+// The argument, with the values that it may have.
+fn valued<'a>(arg: Arg<'a>, option: &Choice) -> Arg<'a> {
+    if option.is_kind {
+        arg.value_parser(KINDS)
+    } else {
+        arg
     }
 }
 
@@ -250,7 +266,8 @@ fn push_option<'a>(
     option: &Choice,
     args: &mut Vec<Arg<'a>>,
 ) -> Result<(), AllocError> {
-    args.push(placed(argument(alloc, option), option.place)?)?;
+    let arg = valued(argument(alloc, option), option);
+    args.push(placed(arg, option)?)?;
     Ok(())
 }
 

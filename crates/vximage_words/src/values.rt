@@ -123,6 +123,15 @@ impl<'a> FromText<'a> for Start {
     }
 }
 
+fn push_value<'a, T: FromText<'a>>(
+    option: &'a str,
+    value: &'a str,
+    all: &mut Vec<T>,
+) -> Result<(), ValueFault<'a>> {
+    all.push(written(option, value, T::from_text(value))?)?;
+    Ok(())
+}
+
 /// What the values of an option write, which may stand again, or not at all.
 pub fn all_of<'a, T: FromText<'a>>(
     alloc: Global,
@@ -131,7 +140,7 @@ pub fn all_of<'a, T: FromText<'a>>(
 ) -> Result<Vec<T>, ValueFault<'a>> {
     let mut all = Vec::new(alloc);
     for value in values.unwrap_or(&[]) {
-        all.push(written(option, value, T::from_text(value))?)?;
+        push_value(option, value, &mut all)?;
     }
     Ok(all)
 }
