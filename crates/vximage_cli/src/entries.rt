@@ -94,15 +94,13 @@ pub fn entries_listed(alloc: Global, bytes: &[u8]) -> Result<Vec<u32>, ListFault
     ensures { ListGives result (entries_listed bytes.now) }
 {
     let mut entries = Vec::new(alloc);
-    let mut line = Vec::new(alloc);
-    for byte in bytes {
+    let mut begun = 0;
+    for (place, byte) in bytes.iter().enumerate() {
         if *byte == LINE_FEED {
-            push_address(&mut entries, &line)?;
-            line.clear();
-        } else {
-            line.push(*byte)?;
+            push_address(&mut entries, &bytes[begun..place])?;
+            begun = place + 1;
         }
     }
-    push_last(&mut entries, &line)?;
+    push_last(&mut entries, &bytes[begun..])?;
     Ok(entries)
 }

@@ -86,15 +86,13 @@ pub fn names_listed(alloc: Global, bytes: &[u8]) -> Result<Vec<Name>, ListFault>
     ensures err { IfErr result (λ fault. IsBadLine fault (names_listed bytes.now)) }
 {
     let mut names = Vec::new(alloc);
-    let mut line = Vec::new(alloc);
-    for byte in bytes {
+    let mut begun = 0;
+    for (place, byte) in bytes.iter().enumerate() {
         if *byte == LINE_FEED {
-            push_name(alloc, &mut names, &line)?;
-            line.clear();
-        } else {
-            line.push(*byte)?;
+            push_name(alloc, &mut names, &bytes[begun..place])?;
+            begun = place + 1;
         }
     }
-    push_last(alloc, &mut names, &line)?;
+    push_last(alloc, &mut names, &bytes[begun..])?;
     Ok(names)
 }

@@ -1,5 +1,5 @@
 // The command `show`.
-ghost use Rattle.std.specs.Prelude.{◌≡◌, IfErr, IfOk};
+ghost use Rattle.std.specs.Prelude.{◌≡◌, ◌++◌, IfErr, IfOk, OnOk};
 ghost use Rattle.flow_discovery.specs.Reach.{IsReach};
 ghost use Rattle.flow_discovery.specs.Starts.{starts};
 ghost use Rattle.image_file.specs.Whole.{IsWhole};
@@ -58,17 +58,16 @@ fn translated_line(version: u32, bytes: usize, hints: usize) -> Line
 }
 
 // The line of a translated file; nothing of a VAX image.
-fn file_line(alloc: Global, bytes: &[u8], loaded: &Loaded) -> Result<Vec<u8>, AllocError>
+fn put_file_line(out: &mut Vec<u8>, bytes: &[u8], loaded: &Loaded) -> Result<(), AllocError>
     requires { loaded.now.hints.items ≡ hints_in bytes.now }
-    ensures { IfOk result (λ line. line.items ≡ file_line bytes.now loaded.now.target) }
+    ensures { OnOk result (out.new.items ≡ out.old.items ++ file_line bytes.now loaded.now.target) }
 {
-    if bytes.starts_with(MAGIC) {
-        let version = version_of(loaded.target);
-        let line = translated_line(version, bytes.len(), loaded.hints.len());
-        Vec::from_slice(alloc, line.as_slice())
-    } else {
-        Ok(Vec::new(alloc))
+    if !bytes.starts_with(MAGIC) {
+        return Ok(());
     }
+    let version = version_of(loaded.target);
+    let line = translated_line(version, bytes.len(), loaded.hints.len());
+    out.extend_from_slice(line.as_slice())
 }
 
 // What is said of a file's bytes, by what they mean.
@@ -88,8 +87,9 @@ fn shown(alloc: Global, bytes: &[u8], loaded: &Loaded) -> Result<Vec<u8>, Stop>
     let instrs = reached(alloc, image, hints)?;
     let mapped = translation.map.pairs().len() as u64;
     let words = translation.words.len() as u64;
-    let mut text = file_line(alloc, bytes, loaded)?;
-    text.extend_from_slice(&show_text(alloc, image, hints, &instrs, mapped, words)?)?;
+    let mut text = Vec::new(alloc);
+    put_file_line(&mut text, bytes, loaded)?;
+    show_text(alloc, &mut text, image, hints, &instrs, mapped, words)?;
     Ok(text)
 }
 

@@ -5,6 +5,7 @@ use Rattle.flow_discovery.specs.Starts.{starts}
 use Rattle.block_law.specs.Translations.{Code}
 use Rattle.vest_files.specs.Loading.{hints_in}
 use Rattle.image_text.specs.Text.{show_text}
+use Rattle.vximage_cli.specs.Showing.{file_line}
 use Rattle.vximage_cli.proofs.showing.shown.Goals as goal
 
 pub returns-clause-ok : goal.returns-clause-ok
@@ -18,8 +19,9 @@ returns-clause-ok c =
     let text : show_text image c.deref-2.result.now c.deref-3.result.now (length c.pairs.result.now) c.len-words.result
     ≡ show_text image (hints_in c.args.bytes.now) instrs (length c.args.loaded.now.translation.map) (length c.args.loaded.now.translation.words) =
     λ i. show_text image ((c.deref-2.ensures.value ∙ c.requires.hints) i) (c.deref-3.ensures.value i) (length ((c.pairs.ensures.pairs ∙ map) i)) ((count ∙ words) i) in
+    let line = c.in_ok-put_file_line.ensures ∙ ap (λ (begun : List ℕ). begun ++ file_line c.args.bytes.now c.args.loaded.now.target) c.new-text.ensures.items in
     record {
       instrs = instrs;
       reached = subst (λ (addresses : List ℕ). IsReach image.pages (starts image addresses) instrs) hints c.in_ok-instrs.ensures;
-      is = c.in_ok-extend_from_slice.ensures.items ∙ (λ i. c.in_ok-text.ensures i ++ (c.deref-4.ensures.value ∙ c.in_ok-show_text.ensures ∙ text) i);
+      is = c.in_ok-show_text.ensures ∙ (λ i. line i ++ text i);
     }
