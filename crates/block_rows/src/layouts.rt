@@ -15,8 +15,8 @@ use vax_form::{Flags, Size};
 type Code = (Vec<u32>, Vec<(u32, u32)>, Vec<(u32, Point)>);
 
 static WORDS: [u32; 11] = [
-    // ZAPNOT R1,#15,R21; BR two words on
-    0x4821_F635,
+    // ZAPNOT R1,#1,R21; BR two words on
+    0x4820_3635,
     0xC3E0_0002,
     0x47FF_041F,
     0x47FF_041F,
@@ -24,8 +24,8 @@ static WORDS: [u32; 11] = [
     0xC3FF_FFFB,
     0x47FF_041F,
     0x47FF_041F,
-    // ZAPNOT R1,#15,R21; LDAH R26,2(R31); LDA R26,-32768(R26); CALL_PAL 86
-    0x4821_F635,
+    // ZAPNOT R1,#1,R21; LDAH R26,2(R31); LDA R26,-32768(R26); CALL_PAL 86
+    0x4820_3635,
     0x275F_0002,
     0x235A_8000,
     0x0000_0086,
@@ -36,11 +36,11 @@ static PAIRS: [(u32, u32); 3] = [(0x200, 0), (0x207, 4), (0x20D, 7)];
 /// The opcode of an instruction that keeps the codes.
 const NOP: u8 = 0x01;
 
-/// R21 gets R1.
+/// R21 gets the low byte of R1.
 const MOVES: Micro = Micro::Compute {
     to: 0,
     op: MicroOp::Move,
-    size: Size::Long,
+    size: Size::Byte,
     a: Arg::Register(1),
     b: Arg::Const(0),
 };
