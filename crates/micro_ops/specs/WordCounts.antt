@@ -1,6 +1,6 @@
 -- How many words a program is counted as. Reads and writes leave room for both kinds of Alpha: with and without byte
 -- and word instructions.
-use Rattle.std.specs.Prelude.{ℕ, ◌+◌, ◌==◌, nat_lt, List, [], ◌∷◌, if◌then◌else◌}
+use Rattle.std.specs.Prelude.{ℕ, ◌+◌, ◌==◌, ◌&&◌, ◌||◌, Bool, true, false, nat_lt, List, [], ◌∷◌, if◌then◌else◌}
 use Rattle.vax_form.specs.declared.instr.Size.{Size}
 use Rattle.vax_form.specs.declared.instr.Size.TheVariants.{Byte, Word, Long, Quad}
 use Rattle.micro_ops.specs.declared.codes.CodeSources.{CodeSources}
@@ -46,9 +46,24 @@ argument_words (Register number) size = by_size size 0 0 1
 argument_words (Flag flag) size = if nat_lt flag 4 then 0 else 2
 argument_words (Const value) size = by_size size 1 2 5
 
--- a second argument that is not there counts nothing
+-- the operations of which a literal as the second argument counts nothing, since it stands in the instruction
+abbrev pub has_literal : MicroOp → Bool
+has_literal Sub = true
+has_literal Mul = true
+has_literal Xor = true
+has_literal Equal = true
+has_literal Less = true
+has_literal LessUnsigned = true
+has_literal op = false
+
+-- a literal has 8 bits, and in a comparison with signs the highest is a sign
+abbrev pub is_literal : Arg → Bool
+is_literal (Const value) = nat_lt value 128
+is_literal arg = false
+
+-- a second argument that is not there counts nothing, either
 abbrev pub second_words : MicroOp → Arg → Size → ℕ
-second_words op b size = if is_unary op then 0 else argument_words b size
+second_words op b size = if is_unary op || (has_literal op && is_literal b) then 0 else argument_words b size
 
 -- a row of numbers by the count of bytes: 1, 2, and 4 or 8
 abbrev pub by_count : (count one two more : ℕ) → ℕ
@@ -58,7 +73,7 @@ abbrev pub words_of : Micro → ℕ
 words_of (Compute to op size a b) = operation_words op size + argument_words a size + second_words op b size
 words_of (Probe place count write) = 2
 words_of (Refuse when) = 2
-words_of (Read to place count) = by_count count 4 12 10
+words_of (Read to place count) = by_count count 4 12 12
 words_of (Write place count from) = by_count count 8 20 24
 words_of (Locked to place kind from) = 12
 words_of (Commit register from) = 1

@@ -1,6 +1,6 @@
 // How many words a program counts.
 ghost use Rattle.std.specs.Prelude.{◌≡◌, ◌≤◌, min};
-ghost use Rattle.micro_ops.specs.WordCounts.{by_size, operation_words, argument_words, second_words, by_count, words_of, words_with, program_words};
+ghost use Rattle.micro_ops.specs.WordCounts.{by_size, operation_words, argument_words, has_literal, is_literal, second_words, by_count, words_of, words_with, program_words};
 
 use crate::codes::CodeSources;
 use crate::left_out::is_left_out;
@@ -49,11 +49,38 @@ fn argument_words(arg: Arg, size: Size) -> u32
     }
 }
 
+/// Whether a literal as the second argument of the operation stands in the instruction.
+fn has_literal(op: MicroOp) -> bool
+    ensures { result ≡ has_literal op }
+{
+    matches!(
+        op,
+        MicroOp::Sub
+            | MicroOp::Mul
+            | MicroOp::Xor
+            | MicroOp::Equal
+            | MicroOp::Less
+            | MicroOp::LessUnsigned
+    )
+}
+
+/// Literals below this are the same with signs.
+const SIGNED_LITERALS: u64 = 128;
+
+fn is_literal(arg: Arg) -> bool
+    ensures { result ≡ is_literal arg }
+{
+    match arg {
+        Arg::Const(value) => value < SIGNED_LITERALS,
+        Arg::Temp(_) | Arg::Register(_) | Arg::Flag(_) => false,
+    }
+}
+
 fn second_words(op: MicroOp, b: Arg, size: Size) -> u32
     ensures value { result ≡ second_words op b size }
     ensures most { result ≤ 5 }
 {
-    if is_unary(op) {
+    if is_unary(op) || (has_literal(op) && is_literal(b)) {
         0
     } else {
         argument_words(b, size)
@@ -80,7 +107,7 @@ pub fn words_of(operation: Micro) -> u32
             operation_words(op, size) + argument_words(a, size) + second_words(op, b, size)
         }
         Micro::Probe { .. } | Micro::Refuse { .. } => 2,
-        Micro::Read { count, .. } => by_count(count, 4, 12, 10),
+        Micro::Read { count, .. } => by_count(count, 4, 12, 12),
         Micro::Write { count, .. } => by_count(count, 8, 20, 24),
         Micro::Locked { .. } => 12,
         Micro::Commit { .. } | Micro::SetPsw { .. } => 1,
