@@ -19,7 +19,7 @@ use Rattle.byte_sequences.specs.Words.{bw_word_read, bw_read_code, bw_word_write
 use Rattle.byte_sequences.specs.Plans.{quad_of_part, read_plan, write_plan}
 use Rattle.byte_sequences.specs.Promises.{Holds, Keeps, MayRead, MayWrite, MayStore, ReadsPlan, WritesPlan, bw_loaded_bytes, bw_stored_bytes}
 use Rattle.byte_sequences.proofs.Operands.{other, lies_within, parts_by, byte_within}
-use Rattle.byte_sequences.proofs.ReadLaws.{reads, unaligned_reads}
+use Rattle.byte_sequences.proofs.ReadLaws.{reads, word_reads}
 use Rattle.byte_sequences.proofs.WriteLaws.{writes, any_is}
 
 -- ---- even addresses
@@ -80,7 +80,7 @@ module _ (fetch : Fetch) (terms : Terms) (pc : ℕ) (f : Regs) (place to : ℕ) 
         let there : target_of pc (pos 2) ≡ pc + 1 + 1 + 1 = omega arith in
         roomy read_piece (Holds f to 2) most 10 12 Plain (at_place f pc) _ (lit≤ tt)
         (skips read_piece (Holds f to 2) most 9 Plain (at_place f pc) Blbs place (pos 2) (pc + 1 + 1 + 1) _ has.0 refl (rw (odd_is (f place) e) refl) there (omega arith) (omega arith) (omega arith)
-        (unaligned_reads read_piece (pc + 1 + 1 + 1) f place 2 to c2 a_place a_to low (omega arith) (omega arith) fits may.within may.pages (load_kind false e) has.1.1.1 most))
+        (word_reads read_piece (pc + 1 + 1 + 1) f place to a_place a_to low (omega arith) (omega arith) fits may.within may.pages (load_kind false e) has.1.1.1 most))
 
 pub bw_reads : (place count to : ℕ) → IsCount count → IsArgument place → IsArgument to → ReadsPlan bw_loaded_bytes place count to (bw_read_code place count to)
 bw_reads place count to c1 a_place a_to fetch terms pc f low may has n =

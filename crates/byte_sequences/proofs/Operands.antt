@@ -1,6 +1,6 @@
 -- Registers that are kept, and the parts of an operand of 1, 2, 4 or 8 bytes.
 use Rattle.std.proofs.Common.{◌≡◌, ℕ, ◌+◌, ◌-◌, ◌*◌, ◌/◌, ◌%◌, ◌^◌, ◌<◌, ◌≤◌, refl, arith, List, [], ◌∷◌, Bool, true, false, eqb, ne_eqb}
-use Rattle.std.specs.Prelude.{pos, nat_lt, nat_le, if◌then◌else◌}
+use Rattle.std.specs.Prelude.{pos, nat_lt, nat_le, ◌==◌, if◌then◌else◌}
 use Rattle.std.specs.Int.{cast_unsigned, w64}
 use Rattle.std.proofs.lemmas.Bool.Decides.{nat_tests}
 use Rattle.vt_words.specs.Quad.{IsCount, one as c1, two as c2, four as c4, eight as c8, field_of, crossing}
@@ -36,6 +36,23 @@ test_same a c some le = grind (arith, nat_tests)
 
 pub byte_within : (a : ℕ) → lies_within a 1 ≡ true
 byte_within a = grind (arith, nat_tests)
+
+-- ---- aligned operands
+pub aligned_within : (a : ℕ) → a % 4 ≡ 0 → lies_within a 4 ≡ true
+aligned_within a h = let le : 4 ≤ 8 - a % 8 = omega arith in grind (arith, nat_tests, le)
+
+pub aligned_within_8 : (a : ℕ) → a % 8 ≡ 0 → lies_within a 8 ≡ true
+aligned_within_8 a h = let le : 8 ≤ 8 - a % 8 = omega arith in grind (arith, nat_tests, le)
+
+pub across_8 : (a : ℕ) → 0 < a % 8 → lies_within a 8 ≡ false
+across_8 a h = let gt : 8 - a % 8 < 8 = omega arith in grind (arith, nat_tests, gt)
+
+pub eqb_pos : (n : ℕ) → (n == 0) ≡ false → 0 < n
+eqb_pos n h = grind (arith, nat_tests, h)
+
+-- bit 2 of the address of a longword that isn't aligned
+pub unaligned_within : (a : ℕ) → 0 < a % 4 → (a / 4 % 2 * 4 == 0) ≡ lies_within a 4
+unaligned_within a some = grind (arith, nat_tests, some)
 
 pub disp_is : {c : ℕ} → IsCount c → times (cast_unsigned w64 (pos (c - 1))) 1 ≡ c - 1
 disp_is c1 = refl

@@ -27,7 +27,7 @@ use Rattle.byte_sequences.specs.Instructions.{IsArgument, is_scratch}
 use Rattle.byte_sequences.specs.Words.{insert_low, insert_high, mask_low, mask_high, replacing, first_write, second_write, write_test, tested_second_write, unaligned_write, longword_write, quadword_write, write_code}
 use Rattle.byte_sequences.specs.Plans.{quad_of_part, write_plan}
 use Rattle.byte_sequences.specs.Promises.{MayRetry, MayStore, MayWrite, stored_bytes, Keeps, WritesPlan}
-use Rattle.byte_sequences.proofs.Operands.{other, lies_within, next_of, parts_by, is_within, is_across, test_same, byte_within, next_quad}
+use Rattle.byte_sequences.proofs.Operands.{other, lies_within, next_of, parts_by, is_within, is_across, test_same, byte_within, aligned_within, aligned_within_8, across_8, eqb_pos, next_quad}
 
 -- a changed quadword is one
 pub with_field_fits : (q at c v : ℕ) → at + c ≤ 8 → q < 2 ^ 64 → with_field_of q at c v < 2 ^ 64
@@ -248,18 +248,6 @@ module _ (p : Piece) (f : Regs) (place from : ℕ) (a_place : IsArgument place) 
           by false e = any most L g false e o has in_from in_to
 
 -- ---- one store
-aligned_within : (a : ℕ) → a % 4 ≡ 0 → lies_within a 4 ≡ true
-aligned_within a h = let le : 4 ≤ 8 - a % 8 = omega arith in grind (arith, nat_tests, le)
-
-aligned_within_8 : (a : ℕ) → a % 8 ≡ 0 → lies_within a 8 ≡ true
-aligned_within_8 a h = let le : 8 ≤ 8 - a % 8 = omega arith in grind (arith, nat_tests, le)
-
-across_8 : (a : ℕ) → 0 < a % 8 → lies_within a 8 ≡ false
-across_8 a h = let gt : 8 - a % 8 < 8 = omega arith in grind (arith, nat_tests, gt)
-
-eqb_pos : (n : ℕ) → (n == 0) ≡ false → 0 < n
-eqb_pos n h = grind (arith, nat_tests, h)
-
 -- how an aligned longword and an aligned quadword may be stored
 abbrev stored_4 : Bool → Option ℕ
 stored_4 b = if b then Some 4 else None

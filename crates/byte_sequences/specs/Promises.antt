@@ -20,9 +20,10 @@ pub record MayRead (loaded : (address count : ℕ) → ℕ) (terms : Terms) (add
   pub pages : All (λ part. terms.allowed false (quad_of_part part) ≡ true) (parts address count)
   pub loads : terms.kinds Load (loaded address count) ≡ true
 
--- The number of bytes of each load of an operand: quadwords are loaded, whatever the operand's size and place.
+-- The number of bytes of each load of an operand: an aligned longword is loaded as a whole. Of all others quadwords are
+-- loaded, whatever the operand's size and place.
 abbrev pub loaded_bytes : (address count : ℕ) → ℕ
-loaded_bytes address count = 8
+loaded_bytes address count = if count == 4 && address % 4 == 0 then 4 else 8
 
 -- The same with the byte-word extension: a byte, and a word at an even address, are loaded as a whole.
 abbrev pub bw_loaded_bytes : (address count : ℕ) → ℕ
@@ -113,7 +114,7 @@ LockedPlan kind place from to words =
 -- ---- lengths
 -- the most words of a read, a write and an interlocked change
 abbrev pub most_read_words : (count : ℕ) → ℕ
-most_read_words count = by_count count 4 12 10 10
+most_read_words count = by_count count 4 12 12 10
 
 abbrev pub most_write_words : (count : ℕ) → ℕ
 most_write_words count = by_count count 8 20 24 24

@@ -2,10 +2,10 @@
 -- Alpha Architecture Reference Manual, 4.6 "Byte Manipulation Instructions", has the sequences for unaligned operands,
 -- and 5.5 "Data Sharing (Multiprocessor)" the loops of a load-locked access and a store conditional.
 use Rattle.std.specs.Prelude.{ℕ, pos, ◌-◌, ◌==◌, List, [], ◌∷◌, ◌++◌, if◌then◌else◌}
-use Rattle.alpha_encode.specs.declared.instr.MemoryOp.TheVariants.{LdqU, Ldbu, Ldwu, Stb, Stw, Stl, Stq}
-use Rattle.alpha_encode.specs.declared.instr.BranchOp.TheVariants.{Br, Blbs, Bne}
+use Rattle.alpha_encode.specs.declared.instr.MemoryOp.TheVariants.{LdqU, Ldbu, Ldwu, Ldl, Ldq, Stb, Stw, Stl, Stq}
+use Rattle.alpha_encode.specs.declared.instr.BranchOp.TheVariants.{Br, Beq, Blbs, Bne}
 use Rattle.alpha_encode.specs.declared.instr.OperateOp.{OperateOp}
-use Rattle.alpha_encode.specs.declared.instr.OperateOp.TheVariants.{Extbl, Extwl, Extll, Extql, Extwh, Extlh, Extqh, Mskbl, Mskwl, Mskll, Mskql, Mskwh, Msklh, Mskqh, Insbl, Inswl, Insll, Insql, Inswh, Inslh, Insqh, Bis, Bic, And, Cmpult, Cmpeq, Addq, Srl, Sll}
+use Rattle.alpha_encode.specs.declared.instr.OperateOp.TheVariants.{Extbl, Extwl, Extll, Extql, Extwh, Extlh, Extqh, Mskbl, Mskwl, Mskll, Mskql, Mskwh, Msklh, Mskqh, Insbl, Inswl, Insll, Insql, Inswh, Inslh, Insqh, Bis, Bic, And, Cmpult, Cmpeq, Addq, Srl, Sll, Zapnot}
 use Rattle.alpha_encode.specs.declared.instr.Second.TheVariants.{Register, Literal}
 use Rattle.alpha_encode.specs.declared.instr.AlphaInstr.{AlphaInstr}
 use Rattle.alpha_encode.specs.declared.instr.AlphaInstr.TheVariants.{Memory, Branch, Operate}
@@ -42,31 +42,55 @@ mask_high count = by_count count Mskwh Mskwh Msklh Mskqh
 abbrev pub byte_read : (place to : ℕ) → List AlphaInstr
 byte_read place to = Memory LdqU QUAD place (pos 0) ∷ Operate Extbl QUAD (Register place) to ∷ []
 
--- BYTES says whether the operand lies in one quadword
-abbrev pub read_test : (place count : ℕ) → List AlphaInstr
-read_test place count = Operate And place (Literal 7) BYTES ∷ Operate Cmpult BYTES (Literal (9 - count)) BYTES ∷ []
+-- QUAD gets the operand's bytes of the first quadword
+abbrev pub first_read : (place count : ℕ) → List AlphaInstr
+first_read place count = Memory LdqU QUAD place (pos 0) ∷ Operate (extract_low count) QUAD (Register place) QUAD ∷ []
 
-abbrev pub tested_read : (place count to : ℕ) → List AlphaInstr
-tested_read place count to =
-    Memory LdqU QUAD place (pos 0)
-    ∷ Operate (extract_low count) QUAD (Register place) QUAD
-    ∷ Branch Bne BYTES (pos 3)
-    ∷ Memory LdqU BYTES place (pos (count - 1))
-    ∷ Operate (extract_high count) BYTES (Register place) BYTES
-    ∷ Operate Bis QUAD (Register BYTES) QUAD
-    ∷ Operate Bis QUAD (Literal 0) to
-    ∷ []
+-- and `to` these and those of the second
+abbrev pub second_read : (place count to : ℕ) → List AlphaInstr
+second_read place count to =
+    Memory LdqU BYTES place (pos (count - 1)) ∷ Operate (extract_high count) BYTES (Register place) BYTES ∷ Operate Bis QUAD (Register BYTES) to ∷ []
 
-abbrev pub unaligned_read : (place count to : ℕ) → List AlphaInstr
-unaligned_read place count to = read_test place count ++ tested_read place count to
+-- BYTES says whether a word lies in one quadword
+abbrev pub word_test : (place : ℕ) → List AlphaInstr
+word_test place = Operate And place (Literal 7) BYTES ∷ Operate Cmpult BYTES (Literal 7) BYTES ∷ []
+
+abbrev pub tested_word_read : (place to : ℕ) → List AlphaInstr
+tested_word_read place to =
+    first_read place 2 ++ (Branch Bne BYTES (pos 3) ∷ (second_read place 2 QUAD ++ Operate Bis QUAD (Literal 0) to ∷ []))
+
+abbrev pub word_read : (place to : ℕ) → List AlphaInstr
+word_read place to = word_test place ++ tested_word_read place to
+
+-- An aligned longword by LDL. Of another, bit 2 of the address says whether it goes on in the next quadword. What is left of
+-- both is zero-extended.
+abbrev pub longword_read : (place to : ℕ) → List AlphaInstr
+longword_read place to =
+    Operate And place (Literal 3) QUAD
+    ∷ Branch Beq QUAD (pos 8)
+    ∷ Operate And place (Literal 4) BYTES
+    ∷ (first_read place 4
+    ++ (Branch Beq BYTES (pos 5)
+    ∷ (second_read place 4 QUAD
+    ++ (Branch Br ZERO (pos 1)
+    ∷ Memory Ldl QUAD place (pos 0)
+    ∷ Operate Zapnot QUAD (Literal 0x0f) to
+    ∷ []))))
+
+-- an aligned quadword by LDQ; another goes on in the next one
+abbrev pub quadword_read : (place to : ℕ) → List AlphaInstr
+quadword_read place to =
+    Operate And place (Literal 7) QUAD
+    ∷ Branch Beq QUAD (pos 6)
+    ∷ (first_read place 8 ++ (second_read place 8 to ++ (Branch Br ZERO (pos 1) ∷ Memory Ldq to place (pos 0) ∷ [])))
 
 abbrev pub read_code : (place count to : ℕ) → List AlphaInstr
-read_code place count to = if count == 1 then byte_read place to else unaligned_read place count to
+read_code place count to = by_count count (byte_read place to) (word_read place to) (longword_read place to) (quadword_read place to)
 
 -- with the byte-word extension: a byte by LDBU, and a word at an even address by LDWU
 abbrev pub bw_word_read : (place to : ℕ) → List AlphaInstr
 bw_word_read place to =
-    Branch Blbs place (pos 2) ∷ Memory Ldwu to place (pos 0) ∷ Branch Br ZERO (pos 9) ∷ unaligned_read place 2 to
+    Branch Blbs place (pos 2) ∷ Memory Ldwu to place (pos 0) ∷ Branch Br ZERO (pos 9) ∷ word_read place to
 
 abbrev pub bw_read_code : (place count to : ℕ) → List AlphaInstr
 bw_read_code place count to =

@@ -1,30 +1,9 @@
 // The byte manipulation instructions by the number of bytes of the operand. A byte never crosses to the next quadword.
 ghost use Rattle.std.specs.Prelude.{◌≡◌};
 ghost use Rattle.vt_words.specs.Quad.{IsCount};
-ghost use Rattle.byte_sequences.specs.Words.{extract_low, extract_high, insert_low, insert_high, mask_low, mask_high};
+ghost use Rattle.byte_sequences.specs.Words.{insert_low, insert_high, mask_low, mask_high};
 
 use alpha_encode::OperateOp;
-
-pub(crate) fn extract_low(count: u8) -> OperateOp
-    ensures { result ≡ extract_low count }
-{
-    match count {
-        1 => OperateOp::Extbl,
-        2 => OperateOp::Extwl,
-        4 => OperateOp::Extll,
-        _ => OperateOp::Extql,
-    }
-}
-
-pub(crate) fn extract_high(count: u8) -> OperateOp
-    ensures { result ≡ extract_high count }
-{
-    match count {
-        1 | 2 => OperateOp::Extwh,
-        4 => OperateOp::Extlh,
-        _ => OperateOp::Extqh,
-    }
-}
 
 pub(crate) fn insert_low(count: u8) -> OperateOp
     ensures { result ≡ insert_low count }

@@ -4,10 +4,9 @@ ghost use Rattle.std.specs.List.{list_all};
 ghost use Rattle.vt_words.specs.Quad.{IsCount};
 ghost use Rattle.alpha_encode.specs.Words.{IsEncodable};
 ghost use Rattle.byte_sequences.specs.Instructions.{IsArgument, is_scratch_or, writes_only};
-ghost use Rattle.byte_sequences.specs.Words.{byte_read, unaligned_read, read_code, bw_word_read, bw_read_code};
+ghost use Rattle.byte_sequences.specs.Words.{byte_read, word_read, longword_read, quadword_read, read_code, bw_word_read, bw_read_code};
 ghost use Rattle.byte_sequences.specs.Promises.{ReadsPlan, loaded_bytes, bw_loaded_bytes, most_read_words};
 
-use crate::operators::{extract_high, extract_low};
 use alpha_encode::registers::{BYTES, QUAD, ZERO};
 use alpha_encode::{
     AlphaInstr, BranchOp, MemoryOp, OperateOp, branch, memory, operate, operate_by,
@@ -24,26 +23,57 @@ fn byte_read(alloc: Global, place: u8, to: u8) -> Result<Vec<AlphaInstr>, AllocE
     ]?)
 }
 
-/// The second quadword is loaded only where the operand crosses to it.
-fn unaligned_read(
-    alloc: Global,
-    place: u8,
-    count: u8,
-    to: u8,
-) -> Result<Vec<AlphaInstr>, AllocError>
-    requires { IsCount count }
-    ensures { IfOk result (λ words. words.items ≡ unaligned_read place count to) }
+/// The second quadword is loaded only where the word crosses to it.
+fn word_read(alloc: Global, place: u8, to: u8) -> Result<Vec<AlphaInstr>, AllocError>
+    ensures { IfOk result (λ words. words.items ≡ word_read place to) }
 {
     Ok(vec![in alloc;
         operate_by(OperateOp::And, place, 7, BYTES),
-        operate_by(OperateOp::Cmpult, BYTES, 9 - count, BYTES),
+        operate_by(OperateOp::Cmpult, BYTES, 7, BYTES),
         memory(MemoryOp::LdqU, QUAD, place, 0),
-        operate(extract_low(count), QUAD, place, QUAD),
+        operate(OperateOp::Extwl, QUAD, place, QUAD),
         branch(BranchOp::Bne, BYTES, 3),
-        memory(MemoryOp::LdqU, BYTES, place, i16::from(count - 1)),
-        operate(extract_high(count), BYTES, place, BYTES),
+        memory(MemoryOp::LdqU, BYTES, place, 1),
+        operate(OperateOp::Extwh, BYTES, place, BYTES),
         operate(OperateOp::Bis, QUAD, BYTES, QUAD),
         operate_by(OperateOp::Bis, QUAD, 0, to),
+    ]?)
+}
+
+/// An aligned longword is loaded as a whole.
+fn longword_read(alloc: Global, place: u8, to: u8) -> Result<Vec<AlphaInstr>, AllocError>
+    ensures { IfOk result (λ words. words.items ≡ longword_read place to) }
+{
+    Ok(vec![in alloc;
+        operate_by(OperateOp::And, place, 3, QUAD),
+        branch(BranchOp::Beq, QUAD, 8),
+        operate_by(OperateOp::And, place, 4, BYTES),
+        memory(MemoryOp::LdqU, QUAD, place, 0),
+        operate(OperateOp::Extll, QUAD, place, QUAD),
+        branch(BranchOp::Beq, BYTES, 5),
+        memory(MemoryOp::LdqU, BYTES, place, 3),
+        operate(OperateOp::Extlh, BYTES, place, BYTES),
+        operate(OperateOp::Bis, QUAD, BYTES, QUAD),
+        branch(BranchOp::Br, ZERO, 1),
+        memory(MemoryOp::Ldl, QUAD, place, 0),
+        operate_by(OperateOp::Zapnot, QUAD, 0x0f, to),
+    ]?)
+}
+
+/// An aligned quadword is loaded as a whole.
+fn quadword_read(alloc: Global, place: u8, to: u8) -> Result<Vec<AlphaInstr>, AllocError>
+    ensures { IfOk result (λ words. words.items ≡ quadword_read place to) }
+{
+    Ok(vec![in alloc;
+        operate_by(OperateOp::And, place, 7, QUAD),
+        branch(BranchOp::Beq, QUAD, 6),
+        memory(MemoryOp::LdqU, QUAD, place, 0),
+        operate(OperateOp::Extql, QUAD, place, QUAD),
+        memory(MemoryOp::LdqU, BYTES, place, 7),
+        operate(OperateOp::Extqh, BYTES, place, BYTES),
+        operate(OperateOp::Bis, QUAD, BYTES, to),
+        branch(BranchOp::Br, ZERO, 1),
+        memory(MemoryOp::Ldq, to, place, 0),
     ]?)
 }
 
@@ -51,10 +81,11 @@ fn read_code(alloc: Global, place: u8, count: u8, to: u8) -> Result<Vec<AlphaIns
     requires { IsCount count }
     ensures { IfOk result (λ words. words.items ≡ read_code place count to) }
 {
-    if count == 1 {
-        byte_read(alloc, place, to)
-    } else {
-        unaligned_read(alloc, place, count, to)
+    match count {
+        1 => byte_read(alloc, place, to),
+        2 => word_read(alloc, place, to),
+        4 => longword_read(alloc, place, to),
+        _ => quadword_read(alloc, place, to),
     }
 }
 
@@ -87,7 +118,7 @@ fn bw_word_read(alloc: Global, place: u8, to: u8) -> Result<Vec<AlphaInstr>, All
         memory(MemoryOp::Ldwu, to, place, 0),
         branch(BranchOp::Br, ZERO, 9),
     ]?;
-    words.extend_from_slice(&unaligned_read(alloc, place, 2, to)?)?;
+    words.extend_from_slice(&word_read(alloc, place, to)?)?;
     Ok(words)
 }
 
