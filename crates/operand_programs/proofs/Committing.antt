@@ -107,8 +107,8 @@ commits_fit codes steps known whole is =
 
 -- ---- results
 -- temporary 5 need not be known
-behind_fifth : (registers : List Bool) (known : Known) → KnowsMore (behind_commits registers known) (behind_write 5 Longword (behind_commits registers known))
-behind_fifth registers known = covers_write (behind_commits registers known) (behind_commits registers known) (knows_itself _) 5 Longword (lit< tt) tt refl
+behind_fifth : (registers : List Bool) (known : Known) → KnowsMore (behind_commits registers known) (behind_write 5 Wide (behind_commits registers known))
+behind_fifth registers known = covers_write (behind_commits registers known) (behind_commits registers known) (knows_itself _) 5 Wide (lit< tt) tt refl
 
 holds_still : (registers : List Bool) (known : Known) (from : ℕ) → from < 4 → holds known from ≡ true → holds (behind_commits registers known) from ≡ true
 holds_still registers known from low holding = ap is_something (held_other Nothing known 5 from (λ e. omega (arith, e, low))) ∙ holding
@@ -135,13 +135,14 @@ module _ (codes : CodeSources) (known : Known) (on : known.ended ≡ false) (reg
   low_fits n steps mask from low f holding free =
       let k = with_registers registers in
       let fifth = behind_write 5 Longword k in
-      let behind = behind_write 5 Longword (with_registers (set registers n true)) in
+      let joined = behind_write 5 Wide k in
+      let behind = behind_write 5 Wide (with_registers (set registers n true)) in
       knowing_less codes (low_program n steps mask from) k behind (with_registers (set registers n true)) (behind_fifth (set registers n true) known)
-      (fits_joined codes (cleared_program n (get_or steps n 0) mask) (Compute 5 ops.Or Long (Temp 5) (Temp from) ∷ Commit n 5 ∷ []) k fifth behind
+      (fits_joined codes (cleared_program n (get_or steps n 0) mask) (Compute 5 ops.Or Quad (Temp 5) (Temp from) ∷ Commit n 5 ∷ []) k fifth behind
       (cleared_fits n (get_or steps n 0) mask low free)
-      (fits_joined codes (Compute 5 ops.Or Long (Temp 5) (Temp from) ∷ []) (Commit n 5 ∷ []) fifth fifth behind
-      (computes codes fifth 5 ops.Or Long (Temp 5) (Temp from) on (lit< tt) refl (ap is_something (held_other Longword k 5 from (λ e. omega (arith, e, f))) ∙ holds_still registers known from f holding) refl)
-      (commits codes fifth n 5 on low refl free)))
+      (fits_joined codes (Compute 5 ops.Or Quad (Temp 5) (Temp from) ∷ []) (Commit n 5 ∷ []) fifth joined behind
+      (computes codes fifth 5 ops.Or Quad (Temp 5) (Temp from) on (lit< tt) refl (ap is_something (held_other Longword k 5 from (λ e. omega (arith, e, f))) ∙ holds_still registers known from f holding) refl)
+      (commits codes joined n 5 on low refl free)))
 
   pair_fits : (n from : ℕ) → n < 14 → from < 4 → holds known from ≡ true → has_flag registers n ≡ false → has_flag registers (min (n + 1) 255) ≡ false
       → FitsBetween codes (with_registers registers) (pair_program n from) (with_registers (set (set registers n true) (min (n + 1) 255) true))

@@ -48,21 +48,21 @@ joined_bits k h v lt =
     ∙ or_block k h 0 0 v (pow_pos k) lt
     ∙ ap (λ n. n * 2 ^ k + v) (or_zero_r h)
 
-byte_joined : (y whole v : ℕ) → y ≡ whole % 4294967296 → v < 256 → bit_or (bit_and y 4294967040 % 4294967296) (v % 4294967296) % 4294967296 ≡ whole % 4294967296 / 256 * 256 + v % 256
+byte_joined : (y whole v : ℕ) → y ≡ whole % 4294967296 → v < 256 → bit_or (bit_and y 4294967040 % 18446744073709551616) (v % 18446744073709551616) % 4294967296 ≡ whole % 4294967296 / 256 * 256 + v % 256
 byte_joined y whole v is lt =
     let x = whole % 4294967296 in
     let longword : x < 4294967296 = mod_below whole 4294967296 (lit< tt) in
-    let upper : x / 256 * 256 % 4294967296 ≡ x / 256 * 256 = omega (arith, longword) in
-    let value : v % 4294967296 ≡ v = omega (arith, lt) in
+    let upper : x / 256 * 256 % 18446744073709551616 ≡ x / 256 * 256 = omega (arith, longword) in
+    let value : v % 18446744073709551616 ≡ v = omega (arith, lt) in
     let sum : (x / 256 * 256 + v) % 4294967296 ≡ x / 256 * 256 + v % 256 = omega (arith, longword, lt) in
     rw (is, upper_of_byte x longword, upper, value, joined_bits 8 (x / 256) v lt) sum
 
-word_joined : (y whole v : ℕ) → y ≡ whole % 4294967296 → v < 65536 → bit_or (bit_and y 4294901760 % 4294967296) (v % 4294967296) % 4294967296 ≡ whole % 4294967296 / 65536 * 65536 + v % 65536
+word_joined : (y whole v : ℕ) → y ≡ whole % 4294967296 → v < 65536 → bit_or (bit_and y 4294901760 % 18446744073709551616) (v % 18446744073709551616) % 4294967296 ≡ whole % 4294967296 / 65536 * 65536 + v % 65536
 word_joined y whole v is lt =
     let x = whole % 4294967296 in
     let longword : x < 4294967296 = mod_below whole 4294967296 (lit< tt) in
-    let upper : x / 65536 * 65536 % 4294967296 ≡ x / 65536 * 65536 = omega (arith, longword) in
-    let value : v % 4294967296 ≡ v = omega (arith, lt) in
+    let upper : x / 65536 * 65536 % 18446744073709551616 ≡ x / 65536 * 65536 = omega (arith, longword) in
+    let value : v % 18446744073709551616 ≡ v = omega (arith, lt) in
     let sum : (x / 65536 * 65536 + v) % 4294967296 ≡ x / 65536 * 65536 + v % 65536 = omega (arith, longword, lt) in
     rw (is, upper_of_word x longword, upper, value, joined_bits 16 (x / 65536) v lt) sum
 
@@ -134,10 +134,10 @@ module _ (P : Left → Type 0) (end : Left → Tree) (program : List Micro) (fou
       let v = standing.temps from in
       let state = given (InRegister n) Byte v (stepped steps found.state) in
       let left = stepped_registers found.state.r (set steps n 0) in
-      let made : (y : ℕ) → y ≡ (x + step) % 2 ^ 32 → bit_or (bit_and y 4294967040 % 2 ^ 32) (v % 2 ^ 32) % 2 ^ 32 ≡ with_low Byte (register n (stepped steps found.state)) v =
+      let made : (y : ℕ) → y ≡ (x + step) % 2 ^ 32 → bit_or (bit_and y 4294967040 % 2 ^ 64) (v % 2 ^ 64) % 2 ^ 32 ≡ with_low Byte (register n (stepped steps found.state)) v =
       λ y is. byte_joined y (x + step) v is fits ∙ ap (λ old. old / 256 * 256 + v % 256) (sym (register_stepped found.state steps n same)) in
-      let ended : (y w : ℕ) → y ≡ (x + step) % 2 ^ 32 → w ≡ v → set left n (bit_or (bit_and y 4294967040 % 2 ^ 32) (w % 2 ^ 32) % 2 ^ 32) ≡ state.r =
-      λ y w is same_value. ap (λ w. set left n (bit_or (bit_and y 4294967040 % 2 ^ 32) (w % 2 ^ 32) % 2 ^ 32)) same_value ∙ ap (λ word. set left n word) (made y is) ∙ stepped_set found.state.r steps n 0 _ in
+      let ended : (y w : ℕ) → y ≡ (x + step) % 2 ^ 32 → w ≡ v → set left n (bit_or (bit_and y 4294967040 % 2 ^ 64) (w % 2 ^ 64) % 2 ^ 32) ≡ state.r =
+      λ y w is same_value. ap (λ w. set left n (bit_or (bit_and y 4294967040 % 2 ^ 64) (w % 2 ^ 64) % 2 ^ 32)) same_value ∙ ap (λ word. set left n word) (made y is) ∙ stepped_set found.state.r steps n 0 _ in
       behind (set steps n 0) (give_program (Register n) Byte steps from) (length-set steps n 0 ∙ same)
       (λ temps kept. elim (eqb_tells step 0) [
         | inl is ↦ rw is.0 (ends_as state _ _ (ended (x % 2 ^ 32) _ (unstepped x step is.1) (through_one _ temps kept)) (λ temp a. rw a (kept temp a)) goes)
@@ -153,10 +153,10 @@ module _ (P : Left → Type 0) (end : Left → Tree) (program : List Micro) (fou
       let v = standing.temps from in
       let state = given (InRegister n) Word v (stepped steps found.state) in
       let left = stepped_registers found.state.r (set steps n 0) in
-      let made : (y : ℕ) → y ≡ (x + step) % 2 ^ 32 → bit_or (bit_and y 4294901760 % 2 ^ 32) (v % 2 ^ 32) % 2 ^ 32 ≡ with_low Word (register n (stepped steps found.state)) v =
+      let made : (y : ℕ) → y ≡ (x + step) % 2 ^ 32 → bit_or (bit_and y 4294901760 % 2 ^ 64) (v % 2 ^ 64) % 2 ^ 32 ≡ with_low Word (register n (stepped steps found.state)) v =
       λ y is. word_joined y (x + step) v is fits ∙ ap (λ old. old / 65536 * 65536 + v % 65536) (sym (register_stepped found.state steps n same)) in
-      let ended : (y w : ℕ) → y ≡ (x + step) % 2 ^ 32 → w ≡ v → set left n (bit_or (bit_and y 4294901760 % 2 ^ 32) (w % 2 ^ 32) % 2 ^ 32) ≡ state.r =
-      λ y w is same_value. ap (λ w. set left n (bit_or (bit_and y 4294901760 % 2 ^ 32) (w % 2 ^ 32) % 2 ^ 32)) same_value ∙ ap (λ word. set left n word) (made y is) ∙ stepped_set found.state.r steps n 0 _ in
+      let ended : (y w : ℕ) → y ≡ (x + step) % 2 ^ 32 → w ≡ v → set left n (bit_or (bit_and y 4294901760 % 2 ^ 64) (w % 2 ^ 64) % 2 ^ 32) ≡ state.r =
+      λ y w is same_value. ap (λ w. set left n (bit_or (bit_and y 4294901760 % 2 ^ 64) (w % 2 ^ 64) % 2 ^ 32)) same_value ∙ ap (λ word. set left n word) (made y is) ∙ stepped_set found.state.r steps n 0 _ in
       behind (set steps n 0) (give_program (Register n) Word steps from) (length-set steps n 0 ∙ same)
       (λ temps kept. elim (eqb_tells step 0) [
         | inl is ↦ rw is.0 (ends_as state _ _ (ended (x % 2 ^ 32) _ (unstepped x step is.1) (through_one _ temps kept)) (λ temp a. rw a (kept temp a)) goes)

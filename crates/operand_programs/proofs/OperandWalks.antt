@@ -86,20 +86,34 @@ module _ (codes : CodeSources) (known : Known) (s : IsSettled known) (nowhere : 
   covers_index : (place : ℕ) → place < 4 → KnowsMore known (with_index place)
   covers_index place p = covers_write known (with_long place) (covers_long place (omega (arith, p))) 4 Longword (lit< tt) (most (held known 4)) nowhere
 
-  place_nowhere : (place : ℕ) → (with_long place).checked ≡ Nowhere
-  place_nowhere place = ap (forgotten place) nowhere
+  -- which counts bytes
+  abbrev with_scaled : ℕ → Known
+  with_scaled place = behind_write 4 Wide (with_index place)
+
+  covers_scaled : (place : ℕ) → place < 4 → KnowsMore known (with_scaled place)
+  covers_scaled place p = covers_write known (with_index place) (covers_index place p) 4 Wide (lit< tt) (rw (s.lost 4 (lit≤ tt)) tt) nowhere
+
+  open_index : (place : ℕ) → IsOpen (with_index place)
+  open_index place = open_write (with_long place) 4 Longword (open_write known place Longword s.is_open)
+
+  place_indexed : (place : ℕ) → place < 4 → held (with_index place) place ≡ Longword
+  place_indexed place p = held_other Longword (with_long place) 4 place (λ e. omega (arith, e, p)) ∙ held_same Longword known place (omega (arith, p))
+
+  place_scaled : (place : ℕ) → place < 4 → held (with_scaled place) place ≡ Longword
+  place_scaled place p = held_other Wide (with_index place) 4 place (λ e. omega (arith, e, p)) ∙ place_indexed place p
 
   adds_index : (place : ℕ) → place < 4 → FitsBetween codes (with_index place) (Compute place ops.Add Long (Temp place) (Temp 4) ∷ []) (with_long place)
   adds_index place p =
-      let holds_place = holds_it (with_index place) place Longword (held_other Longword (with_long place) 4 place (λ e. omega (arith, e, p)) ∙ held_same Longword known place (omega (arith, p))) refl in
       knowing_less codes (Compute place ops.Add Long (Temp place) (Temp 4) ∷ []) (with_index place) _ (with_long place) (more_write known (with_index place) (covers_index place p) place Longword)
-      (computes codes (with_index place) place ops.Add Long (Temp place) (Temp 4) (open_write _ 4 Longword (open_write known place Longword s.is_open)).goes_on (omega (arith, p)) holds_place refl refl)
+      (computes codes (with_index place) place ops.Add Long (Temp place) (Temp 4) (open_index place).goes_on (omega (arith, p)) (holds_it (with_index place) place Longword (place_indexed place p) refl) refl refl)
 
-  scales : (place count : ℕ) → place < 4 → FitsBetween codes (with_index place) (Compute 4 ops.Mul Long (Temp 4) (Const count) ∷ []) (with_index place)
-  scales place count p =
-      let covers : KnowsMore (with_long place) (with_index place) = covers_write (with_long place) (with_long place) (knows_itself (with_long place)) 4 Longword (lit< tt) (most (held (with_long place) 4)) (place_nowhere place) in
-      knowing_less codes (Compute 4 ops.Mul Long (Temp 4) (Const count) ∷ []) (with_index place) _ (with_index place) (more_write (with_long place) (with_index place) covers 4 Longword)
-      (computes codes (with_index place) 4 ops.Mul Long (Temp 4) (Const count) (open_write _ 4 Longword (open_write known place Longword s.is_open)).goes_on (lit< tt) refl refl refl)
+  adds_scaled : (place : ℕ) → place < 4 → FitsBetween codes (with_scaled place) (Compute place ops.Add Long (Temp place) (Temp 4) ∷ []) (with_long place)
+  adds_scaled place p =
+      knowing_less codes (Compute place ops.Add Long (Temp place) (Temp 4) ∷ []) (with_scaled place) _ (with_long place) (more_write known (with_scaled place) (covers_scaled place p) place Longword)
+      (computes codes (with_scaled place) place ops.Add Long (Temp place) (Temp 4) (open_write (with_index place) 4 Wide (open_index place)).goes_on (omega (arith, p)) (holds_it (with_scaled place) place Longword (place_scaled place p) refl) refl refl)
+
+  scales : (place count : ℕ) → FitsBetween codes (with_index place) (Compute 4 ops.Mul Quad (Temp 4) (Const count) ∷ []) (with_scaled place)
+  scales place count = computes codes (with_index place) 4 ops.Mul Quad (Temp 4) (Const count) (open_index place).goes_on (lit< tt) refl refl refl
 
   index_fits : (index : Option ℕ) (size : Size) (steps : List ℕ) (place : ℕ) → place < 4 → IndexIsNamed index → FitsBetween codes (with_long place) (index_program index size steps place) (with_long place)
   index_fits None size steps place p named = nothing_fits codes (with_long place)
@@ -108,10 +122,10 @@ module _ (codes : CodeSources) (known : Known) (s : IsSettled known) (nowhere : 
       first : FitsBetween codes (with_long place) (sum_into 4 (Some x) (get_or steps x 0) ∷ []) (with_index place)
       first = sums codes (with_long place) 4 (Some x) (get_or steps x 0) (open_write known place Longword s.is_open) (lit< tt) named
 
-      scaled_by : (count : ℕ) → FitsBetween codes (with_long place) (sum_into 4 (Some x) (get_or steps x 0) ∷ Compute 4 ops.Mul Long (Temp 4) (Const count) ∷ Compute place ops.Add Long (Temp place) (Temp 4) ∷ []) (with_long place)
+      scaled_by : (count : ℕ) → FitsBetween codes (with_long place) (sum_into 4 (Some x) (get_or steps x 0) ∷ Compute 4 ops.Mul Quad (Temp 4) (Const count) ∷ Compute place ops.Add Long (Temp place) (Temp 4) ∷ []) (with_long place)
       scaled_by count =
-          fits_joined codes (sum_into 4 (Some x) (get_or steps x 0) ∷ []) (Compute 4 ops.Mul Long (Temp 4) (Const count) ∷ Compute place ops.Add Long (Temp place) (Temp 4) ∷ []) (with_long place) (with_index place) (with_long place) first
-          (fits_joined codes (Compute 4 ops.Mul Long (Temp 4) (Const count) ∷ []) (Compute place ops.Add Long (Temp place) (Temp 4) ∷ []) (with_index place) (with_index place) (with_long place) (scales place count p) (adds_index place p))
+          fits_joined codes (sum_into 4 (Some x) (get_or steps x 0) ∷ []) (Compute 4 ops.Mul Quad (Temp 4) (Const count) ∷ Compute place ops.Add Long (Temp place) (Temp 4) ∷ []) (with_long place) (with_index place) (with_long place) first
+          (fits_joined codes (Compute 4 ops.Mul Quad (Temp 4) (Const count) ∷ []) (Compute place ops.Add Long (Temp place) (Temp 4) ∷ []) (with_index place) (with_scaled place) (with_long place) (scales place count) (adds_scaled place p))
 
       by : (size : Size) → FitsBetween codes (with_long place) (index_program (Some x) size steps place) (with_long place)
       by Byte = fits_joined codes (sum_into 4 (Some x) (get_or steps x 0) ∷ []) (Compute place ops.Add Long (Temp place) (Temp 4) ∷ []) (with_long place) (with_index place) (with_long place) first (adds_index place p)
@@ -146,18 +160,11 @@ module _ (codes : CodeSources) (known : Known) (s : IsSettled known) (nowhere : 
 
   upper_half : (n : ℕ) (steps : List ℕ) (to : ℕ) → to < 4 → n < 15 → FitsBetween codes (with_long to) (upper_half_program n steps to) (with_value to Quad)
   upper_half n steps to t named =
-      let low : known.ended ≡ false = s.is_open.goes_on in
-      let second = with_index to in
-      let third = behind_write 4 Wide second in
-      let open_second = open_write (with_long to) 4 Longword (open_write known to Longword s.is_open) in
-      let covers : KnowsMore known third = covers_write known second (covers_index to t) 4 Wide (lit< tt) (rw (s.lost 4 (lit≤ tt)) tt) nowhere in
-      let holds_to = holds_it third to Longword (held_other Wide second 4 to (λ e. omega (arith, e, t)) ∙ held_other Longword (with_long to) 4 to (λ e. omega (arith, e, t)) ∙ holds_long to t) refl in
-      fits_joined codes (sum_into 4 (Some n) (get_or steps n 0) ∷ []) (Compute 4 ops.Mul Quad (Temp 4) (Const 0x1_0000_0000) ∷ Compute to ops.Add Quad (Temp to) (Temp 4) ∷ []) (with_long to) second (with_value to Quad)
+      fits_joined codes (sum_into 4 (Some n) (get_or steps n 0) ∷ []) (Compute 4 ops.Mul Quad (Temp 4) (Const 0x1_0000_0000) ∷ Compute to ops.Add Quad (Temp to) (Temp 4) ∷ []) (with_long to) (with_index to) (with_value to Quad)
       (sums codes (with_long to) 4 (Some n) (get_or steps n 0) (open_write known to Longword s.is_open) (lit< tt) named)
-      (fits_joined codes (Compute 4 ops.Mul Quad (Temp 4) (Const 0x1_0000_0000) ∷ []) (Compute to ops.Add Quad (Temp to) (Temp 4) ∷ []) second third (with_value to Quad)
-      (computes codes second 4 ops.Mul Quad (Temp 4) (Const 0x1_0000_0000) open_second.goes_on (lit< tt) refl refl refl)
-      (knowing_less codes (Compute to ops.Add Quad (Temp to) (Temp 4) ∷ []) third _ (with_value to Quad) (more_write known third covers to Wide)
-      (computes codes third to ops.Add Quad (Temp to) (Temp 4) (open_write second 4 Wide open_second).goes_on (omega (arith, t)) holds_to refl refl)))
+      (fits_joined codes (Compute 4 ops.Mul Quad (Temp 4) (Const 0x1_0000_0000) ∷ []) (Compute to ops.Add Quad (Temp to) (Temp 4) ∷ []) (with_index to) (with_scaled to) (with_value to Quad) (scales to 0x1_0000_0000)
+      (knowing_less codes (Compute to ops.Add Quad (Temp to) (Temp 4) ∷ []) (with_scaled to) _ (with_value to Quad) (more_write known (with_scaled to) (covers_scaled to t) to Wide)
+      (computes codes (with_scaled to) to ops.Add Quad (Temp to) (Temp 4) (open_write (with_index to) 4 Wide (open_index to)).goes_on (omega (arith, t)) (holds_it (with_scaled to) to Longword (place_scaled to t) refl) refl refl)))
 
   register_fits : (n : ℕ) (size : Size) (steps : List ℕ) (to : ℕ) → to < 4 → HasRegister size n → FitsBetween codes known (register_program n size steps to) (with_value to size)
   register_fits n Byte steps to t named =

@@ -118,13 +118,13 @@ steps_length base size steps = refl
 by_one : (address value : ℕ) → (address % 4294967296 + value % 4294967296) % 4294967296 ≡ (address + value * 1 % 4294967296) % 4294967296
 by_one address value = omega arith
 
-by_two : (address value : ℕ) → (address % 4294967296 + value % 4294967296 * 2 % 4294967296 % 4294967296) % 4294967296 ≡ (address + value * 2 % 4294967296) % 4294967296
+by_two : (address value : ℕ) → (address % 4294967296 + value % 18446744073709551616 * 2 % 18446744073709551616 % 4294967296) % 4294967296 ≡ (address + value * 2 % 4294967296) % 4294967296
 by_two address value = omega arith
 
-by_four : (address value : ℕ) → (address % 4294967296 + value % 4294967296 * 4 % 4294967296 % 4294967296) % 4294967296 ≡ (address + value * 4 % 4294967296) % 4294967296
+by_four : (address value : ℕ) → (address % 4294967296 + value % 18446744073709551616 * 4 % 18446744073709551616 % 4294967296) % 4294967296 ≡ (address + value * 4 % 4294967296) % 4294967296
 by_four address value = omega arith
 
-by_eight : (address value : ℕ) → (address % 4294967296 + value % 4294967296 * 8 % 4294967296 % 4294967296) % 4294967296 ≡ (address + value * 8 % 4294967296) % 4294967296
+by_eight : (address value : ℕ) → (address % 4294967296 + value % 18446744073709551616 * 8 % 18446744073709551616 % 4294967296) % 4294967296 ≡ (address + value * 8 % 4294967296) % 4294967296
 by_eight address value = omega arith
 
 -- what goes on behind an indexed address

@@ -1,5 +1,5 @@
 -- The words of operands and of their commits are few.
-use Rattle.std.proofs.Common.{◌≡◌, ℕ, zero, suc, ◌+◌, ◌-◌, ◌%◌, ◌^◌, ◌≤◌, Bool, true, false, List, [], ◌∷◌, ◌++◌, get_or, set, Option, Some, None, refl, arith, inl, inr, lit≤}
+use Rattle.std.proofs.Common.{◌≡◌, ℕ, zero, suc, ◌+◌, ◌-◌, ◌%◌, ◌^◌, ◌≤◌, Bool, true, false, eqb, List, [], ◌∷◌, ◌++◌, get_or, set, Option, Some, None, refl, arith, inl, inr, lit≤}
 use Rattle.std.specs.Prelude.{min}
 use Rattle.std.proofs.lemmas.Bool.Decides.{eqb_tells}
 use Rattle.std.proofs.lemmas.List.Sums.{sum_by-append}
@@ -50,27 +50,41 @@ clear_most number zero (old ∷ steps) = omega (arith, commits_cons number old s
 clear_most number (suc place) (old ∷ steps) =
     omega (arith, commits_cons number old (set steps place 0), commits_cons number old steps, clear_most (number + 1) place steps)
 
-base_steps : (base : Base) (size : ℕ) (steps : List ℕ) → words_of_steps (steps_behind base size steps) ≤ 5 + words_of_steps steps
-base_steps (Decrement n) size steps = set_most 0 n _ steps
-base_steps (Increment n) size steps = set_most 0 n _ steps
-base_steps (IncrementDeferred n) size steps = set_most 0 n _ steps
-base_steps (Deferred n) size steps = omega arith
-base_steps (Offset n offset deferred) size steps = omega arith
-base_steps (Fixed address deferred) size steps = omega arith
+-- one step more takes none where there was a step before
+set_over : (number place step : ℕ) (steps : List ℕ) → eqb (get_or steps place 0) 0 ≡ false → piece_words (commit_program number (set steps place step)) ≤ piece_words (commit_program number steps)
+set_over number place step [] some = lit≤ tt
+set_over number zero step (old ∷ steps) some =
+    let five : piece_words (commit_one number old) ≡ 5 = rw some refl in
+    omega (arith, commits_cons number step steps, commits_cons number old steps, one_most number step, five)
+set_over number (suc place) step (old ∷ steps) some =
+    omega (arith, commits_cons number old (set steps place step), commits_cons number old steps, set_over (number + 1) place step steps some)
 
 -- ---- operands
 sum_most : (to : ℕ) (from : Option ℕ) (offset : ℕ) → words_of (sum_into to from offset) ≤ 4
 sum_most to None offset = lit≤ tt
 sum_most to (Some n) offset = elim (eqb_tells offset 0) [ inl is ↦ rw is.0 (lit≤ tt) | inr not ↦ rw not.0 (lit≤ tt) ]
 
-pointer_most : (pointer : Pointer) (place spare : ℕ) → piece_words (address_program pointer place spare) ≤ 16
+pointer_most : (pointer : Pointer) (place spare : ℕ) → piece_words (address_program pointer place spare) ≤ 18
 pointer_most pointer place spare = by pointer.register pointer.offset pointer.deferred
   where
-    by : (from : Option ℕ) (offset : ℕ) (deferred : Bool) → piece_words (address_program (record { register = from; offset = offset; deferred = deferred }) place spare) ≤ 16
+    by : (from : Option ℕ) (offset : ℕ) (deferred : Bool) → piece_words (address_program (record { register = from; offset = offset; deferred = deferred }) place spare) ≤ 18
     by from offset false = omega (arith, sum_most place from offset)
     by from offset true = omega (arith, sum_most spare from offset)
 
-index_most : (index : Option ℕ) (size : Size) (steps : List ℕ) (place : ℕ) → piece_words (index_program index size steps place) + 16 ≤ place_most size
+-- with what a base adds to its register
+base_most : (base : Base) (size : ℕ) (steps : List ℕ) (place spare : ℕ)
+    → piece_words (address_program (pointer_of base size steps) place spare) + words_of_steps (steps_behind base size steps) ≤ 20 + words_of_steps steps
+base_most (Decrement n) size steps place spare = omega (arith, sum_most place (Some n) ((get_or steps n 0 + (2 ^ 32 - size)) % 2 ^ 32), set_most 0 n ((get_or steps n 0 + (2 ^ 32 - size)) % 2 ^ 32) steps)
+base_most (Increment n) size steps place spare = omega (arith, sum_most place (Some n) (get_or steps n 0), set_most 0 n ((get_or steps n 0 + size) % 2 ^ 32) steps)
+base_most (IncrementDeferred n) size steps place spare = elim (eqb_tells (get_or steps n 0) 0) [
+  | inl is ↦ (let alone : words_of (sum_into spare (Some n) (get_or steps n 0)) ≡ 1 = rw is.0 refl in omega (arith, alone, set_most 0 n ((get_or steps n 0 + 4) % 2 ^ 32) steps))
+  | inr not ↦ omega (arith, sum_most spare (Some n) (get_or steps n 0), set_over 0 n ((get_or steps n 0 + 4) % 2 ^ 32) steps not.0)
+]
+base_most (Deferred n) size steps place spare = omega (arith, pointer_most (pointer_of (Deferred n) size steps) place spare)
+base_most (Offset n offset deferred) size steps place spare = omega (arith, pointer_most (pointer_of (Offset n offset deferred) size steps) place spare)
+base_most (Fixed address deferred) size steps place spare = omega (arith, pointer_most (pointer_of (Fixed address deferred) size steps) place spare)
+
+index_most : (index : Option ℕ) (size : Size) (steps : List ℕ) (place : ℕ) → piece_words (index_program index size steps place) + 18 ≤ place_most size
 index_most None Byte steps place = lit≤ tt
 index_most None Word steps place = lit≤ tt
 index_most None Long steps place = lit≤ tt
@@ -80,12 +94,13 @@ index_most (Some x) Word steps place = omega (arith, sum_most 4 (Some x) (get_or
 index_most (Some x) Long steps place = omega (arith, sum_most 4 (Some x) (get_or steps x 0))
 index_most (Some x) Quad steps place = omega (arith, sum_most 4 (Some x) (get_or steps x 0))
 
-places_most : (base : Base) (index : Option ℕ) (size : Size) (steps : List ℕ) (place spare : ℕ) → piece_words (place_program base index size steps place spare) ≤ place_most size
+places_most : (base : Base) (index : Option ℕ) (size : Size) (steps : List ℕ) (place spare : ℕ)
+    → piece_words (place_program base index size steps place spare) + words_of_steps (steps_behind base (bytes_of size) steps) ≤ place_most size + 2 + words_of_steps steps
 places_most base index size steps place spare =
     omega (
       arith,
       joined (address_program (pointer_of base (bytes_of size) steps) place spare) (index_program index size (steps_behind base (bytes_of size) steps) place),
-      pointer_most (pointer_of base (bytes_of size) steps) place spare,
+      base_most base (bytes_of size) steps place spare,
       index_most index size (steps_behind base (bytes_of size) steps) place,
     )
 
@@ -95,7 +110,7 @@ register_most n Word steps to = omega (arith, sum_most to (Some n) (get_or steps
 register_most n Long steps to = omega (arith, sum_most to (Some n) (get_or steps n 0))
 register_most n Quad steps to = omega (arith, sum_most to (Some n) (get_or steps n 0), sum_most 4 (Some (min (n + 1) 255)) (get_or steps (min (n + 1) 255) 0))
 
-room : (size : Size) → 22 ≤ place_most size
+room : (size : Size) → 24 ≤ place_most size
 room Byte = lit≤ tt
 room Word = lit≤ tt
 room Long = lit≤ tt
@@ -103,15 +118,11 @@ room Quad = lit≤ tt
 
 -- an operand that is checked and then read
 in_memory_most : (base : Base) (index : Option ℕ) (size : Size) (steps : List ℕ) (place spare : ℕ) (more : List Micro) (words : ℕ) → piece_words more ≤ words
-    → piece_words (place_program base index size steps place spare ++ more) + words_of_steps (steps_behind base (bytes_of size) steps) ≤ place_most size + words + 5 + words_of_steps steps
+    → piece_words (place_program base index size steps place spare ++ more) + words_of_steps (steps_behind base (bytes_of size) steps) ≤ place_most size + words + 2 + words_of_steps steps
 in_memory_most base index size steps place spare more words few =
-    omega (arith, joined (place_program base index size steps place spare) more, places_most base index size steps place spare, base_steps base (bytes_of size) steps, few)
+    omega (arith, joined (place_program base index size steps place spare) more, places_most base index size steps place spare, few)
 
-located_most : (base : Base) (index : Option ℕ) (size : Size) (steps : List ℕ) (place spare : ℕ)
-    → piece_words (place_program base index size steps place spare) + words_of_steps (steps_behind base (bytes_of size) steps) ≤ place_most size + 5 + words_of_steps steps
-located_most base index size steps place spare = omega (arith, places_most base index size steps place spare, base_steps base (bytes_of size) steps)
-
-in_register_most : (n : ℕ) (size of : Size) (steps : List ℕ) (to words : ℕ) → piece_words (register_program n of steps to) + words_of_steps steps ≤ place_most size + words + 5 + words_of_steps steps
+in_register_most : (n : ℕ) (size of : Size) (steps : List ℕ) (to words : ℕ) → piece_words (register_program n of steps to) + words_of_steps steps ≤ place_most size + words + 2 + words_of_steps steps
 in_register_most n size of steps to words = omega (arith, register_most n of steps to, room size)
 
 reading_most : (to place : ℕ) (size : Size) (write : Bool) → piece_words (Probe place (bytes_of size) write ∷ Read to place (bytes_of size) ∷ []) ≤ access_most size
@@ -141,17 +152,17 @@ short_as accesses.Modify (Register n) size steps to place is = in_register_most 
 short_as accesses.Modify (Value value) size steps to place is = absurd is
 short_as accesses.Modify Unused size steps to place is = absurd is
 short_as accesses.Modify (Target address) size steps to place is = absurd is
-short_as accesses.Write (Place base index) size steps to place is = located_most base index size steps place to
+short_as accesses.Write (Place base index) size steps to place is = places_most base index size steps place to
 short_as accesses.Write (Register n) size steps to place is = omega (arith, room size)
 short_as accesses.Write (Value value) size steps to place is = absurd is
 short_as accesses.Write Unused size steps to place is = absurd is
 short_as accesses.Write (Target address) size steps to place is = absurd is
-short_as accesses.Address (Place base index) size steps to place is = located_most base index size steps to place
+short_as accesses.Address (Place base index) size steps to place is = places_most base index size steps to place
 short_as accesses.Address (Register n) size steps to place is = absurd is
 short_as accesses.Address (Value value) size steps to place is = absurd is
 short_as accesses.Address Unused size steps to place is = absurd is
 short_as accesses.Address (Target address) size steps to place is = absurd is
-short_as accesses.Field (Place base index) size steps to place is = located_most base index size steps place to
+short_as accesses.Field (Place base index) size steps to place is = places_most base index size steps place to
 short_as accesses.Field (Register n) size steps to place is = omega (arith, register_most n Long steps to, room size)
 short_as accesses.Field (Value value) size steps to place is = absurd is
 short_as accesses.Field Unused size steps to place is = absurd is
@@ -174,7 +185,7 @@ left_most (Target address) size steps = omega arith
 
 -- the low bits are joined
 abbrev joined_with : (n from : ℕ) → List Micro
-joined_with n from = Compute 5 ops.Or Long (Temp 5) (Temp from) ∷ Commit n 5 ∷ []
+joined_with n from = Compute 5 ops.Or Quad (Temp 5) (Temp from) ∷ Commit n 5 ∷ []
 
 cleared_most : (n step mask : ℕ) → piece_words (cleared_program n step mask) ≤ 8
 cleared_most n step mask = elim (eqb_tells step 0) [ inl is ↦ rw is.0 (lit≤ tt) | inr not ↦ rw not.0 (lit≤ tt) ]

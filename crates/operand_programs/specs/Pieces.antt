@@ -39,6 +39,11 @@ abbrev pub IsLong : Base → Type 0
 IsLong (Fixed address deferred) = address < 2 ^ 32
 IsLong base = Unit {0}
 
+-- so is that of an operand
+abbrev pub IsLongOperand : Operand → Type 0
+IsLongOperand (operands.Place base index) = IsLong base
+IsLongOperand operand = Unit {0}
+
 -- an operand that can be read
 abbrev pub IsReadable : Operand → Type 0
 IsReadable (operands.Place base index) = IsLong base

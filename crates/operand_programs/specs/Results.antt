@@ -75,7 +75,7 @@ cleared_program n step mask =
 
 -- the low bits, those of the mask, are replaced
 abbrev pub low_program : (number : ℕ) → (steps : List ℕ) → (mask from : ℕ) → List Micro
-low_program n steps mask from = cleared_program n (slice_index steps n) mask ++ Compute 5 ops.Or Long (Temp 5) (Temp from) ∷ Commit n 5 ∷ []
+low_program n steps mask from = cleared_program n (slice_index steps n) mask ++ Compute 5 ops.Or Quad (Temp 5) (Temp from) ∷ Commit n 5 ∷ []
 
 -- the halves of a quadword go into a register and the next one
 abbrev pub pair_program : (number from : ℕ) → List Micro

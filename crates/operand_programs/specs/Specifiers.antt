@@ -62,7 +62,7 @@ address_program pointer place spare =
 -- the index counts operands
 abbrev pub scaled : Size → List Micro → List Micro
 scaled Byte program = program
-scaled size program = Compute 4 ops.Mul Long (Temp 4) (Const (bytes_of size)) ∷ program
+scaled size program = Compute 4 ops.Mul Quad (Temp 4) (Const (bytes_of size)) ∷ program
 
 abbrev pub index_program : Option ℕ → Size → (steps : List ℕ) → (place : ℕ) → List Micro
 index_program None size steps place = []

@@ -22,21 +22,26 @@ commit_words = 5
 abbrev pub words_of_steps : (steps : List ℕ) → ℕ
 words_of_steps steps = piece_words (commit_program 0 steps)
 
+-- what a register that is stepped takes more than another: where nothing was added to it before, it is committed, and is itself
+-- the address, without a sum
+abbrev pub step_words : ℕ
+step_words = 2
+
 -- a deferred address, and an index: of bytes it is not multiplied
 abbrev pub place_most : Size → ℕ
-place_most Byte = 22
-place_most size = 26
+place_most Byte = 24
+place_most size = 25
 
 -- a check and a read
 abbrev pub access_most : Size → ℕ
-access_most size = 2 + by_count (bytes_of size) 4 12 10
+access_most size = 2 + by_count (bytes_of size) 4 12 12
 
 abbrev pub operand_most : Access → Size → ℕ
-operand_most Read size = place_most size + access_most size + commit_words
-operand_most Write size = place_most size + commit_words
-operand_most Modify size = place_most size + access_most size + commit_words
-operand_most Address size = place_most size + commit_words
-operand_most Field size = place_most size + commit_words
+operand_most Read size = place_most size + access_most size + step_words
+operand_most Write size = place_most size + step_words
+operand_most Modify size = place_most size + access_most size + step_words
+operand_most Address size = place_most size + step_words
+operand_most Field size = place_most size + step_words
 operand_most Branch size = 0
 
 -- an operand names low temporaries alone, and counts no more, with its commit

@@ -4,7 +4,7 @@ ghost use Rattle.operand_programs.specs.Fronts.{IsFrontOf};
 ghost use Rattle.operand_programs.specs.Specifiers.{commit_one, commit_program, store_program};
 ghost use Rattle.operand_programs.specs.Results.{result_program, replacement_program, StoresResult, ReplacesOperand, steps_left, cleared_program, low_program, pair_program, give_program, IsGivable, finish_program, Finishes, CommitsSteps, steps_behind_push, push_program, Pushes};
 
-use crate::specifiers::{Steps, add_step, long, step, sum_into};
+use crate::specifiers::{Steps, add_step, long, quad, step, sum_into};
 use micro_ops::{Arg, Micro, MicroOp};
 use std::alloc::AllocError;
 use vax_form::{Operand, SP, Size, WantOfMemory};
@@ -165,7 +165,7 @@ fn put_low(
     ensures refused { OnErr result (IsFrontOf program.old.items program.new.items) }
 {
     put_cleared(program, number, step(steps, number), mask)?;
-    program.push(long(5, MicroOp::Or, Arg::Temp(5), Arg::Temp(from)))?;
+    program.push(quad(5, MicroOp::Or, Arg::Temp(5), Arg::Temp(from)))?;
     program.push(Micro::Commit {
         register: number,
         from: 5,
@@ -182,13 +182,7 @@ fn put_pair(program: &mut Vec<Micro>, number: u8, from: u8) -> Result<(), AllocE
         register: number,
         from,
     })?;
-    program.push(Micro::Compute {
-        to: 5,
-        op: MicroOp::ShiftRight,
-        size: Size::Quad,
-        a: Arg::Temp(from),
-        b: Arg::Const(32),
-    })?;
+    program.push(quad(5, MicroOp::ShiftRight, Arg::Temp(from), Arg::Const(32)))?;
     program.push(Micro::Commit {
         register: number.saturating_add(1),
         from: 5,

@@ -99,6 +99,19 @@ pub(crate) fn long(to: u8, op: MicroOp, a: Arg, b: Arg) -> Micro
     }
 }
 
+/// A computation on quadwords.
+pub(crate) fn quad(to: u8, op: MicroOp, a: Arg, b: Arg) -> Micro
+    ensures { result ≡ Micro.Compute to op Size.Quad a b }
+{
+    Micro::Compute {
+        to,
+        op,
+        size: Size::Quad,
+        a,
+        b,
+    }
+}
+
 /// A register plus an offset, in a temporary.
 pub(crate) fn sum_into(to: u8, register: Option<u8>, offset: u32) -> Micro
     ensures { result ≡ sum_into to register offset }
@@ -154,7 +167,7 @@ fn put_index(
         program.push(sum_into(4, Some(x), step(steps, x)))?;
         if !matches!(size, Size::Byte) {
             let bytes = Arg::Const(u64::from(size.bytes()));
-            program.push(long(4, MicroOp::Mul, Arg::Temp(4), bytes))?;
+            program.push(quad(4, MicroOp::Mul, Arg::Temp(4), bytes))?;
         }
         program.push(long(place, MicroOp::Add, Arg::Temp(place), Arg::Temp(4)))?;
     }
@@ -217,20 +230,9 @@ fn put_upper_half(
     ensures refused { OnErr result (IsFrontOf program.old.items program.new.items) }
 {
     program.push(sum_into(4, Some(number), step(steps, number)))?;
-    program.push(Micro::Compute {
-        to: 4,
-        op: MicroOp::Mul,
-        size: Size::Quad,
-        a: Arg::Temp(4),
-        b: Arg::Const(0x1_0000_0000),
-    })?;
-    program.push(Micro::Compute {
-        to,
-        op: MicroOp::Add,
-        size: Size::Quad,
-        a: Arg::Temp(to),
-        b: Arg::Temp(4),
-    })?;
+    let upper = Arg::Const(0x1_0000_0000);
+    program.push(quad(4, MicroOp::Mul, Arg::Temp(4), upper))?;
+    program.push(quad(to, MicroOp::Add, Arg::Temp(to), Arg::Temp(4)))?;
     Ok(())
 }
 
