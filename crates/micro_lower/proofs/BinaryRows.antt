@@ -16,7 +16,7 @@ use Rattle.vax_meaning.specs.Instructions.{body}
 use Rattle.vt_words.specs.Values.{bit}
 use Rattle.vt_words.specs.declared.arithmetic.Coded.{Coded}
 use Rattle.micro_ops.specs.Sources.{sources_of, from}
-use Rattle.micro_ops.specs.Values.{limit_of, value_from}
+use Rattle.micro_ops.specs.Values.{limit_of, value_from, computed}
 use Rattle.micro_ops.specs.declared.codes.CodeSource.TheVariants.{Result, Kept}
 use Rattle.micro_ops.specs.declared.program.Exit.TheVariants.{Next}
 use Rattle.micro_lower.proofs.Endings.{found_at, is_computation}
@@ -26,7 +26,7 @@ use Rattle.operand_programs.specs.Results.{IsGivable}
 use Rattle.std.specs.List.{list_all}
 use Rattle.micro_lower.specs.Plans.{steps_of}
 use Rattle.micro_lower.proofs.Ready.{effect, ReadyFor}
-use Rattle.std.specs.Prelude.{◌+◌, ◌-◌, ◌*◌}
+use Rattle.std.specs.Prelude.{◌+◌, ◌-◌, ◌*◌, bit_and}
 use Rattle.vax_form.specs.Size.{size_of}
 use Rattle.vax_form.specs.declared.instr.Width.{Width}
 use Rattle.vax_meaning.specs.Arithmetic.{give_coded}
@@ -36,7 +36,7 @@ use Rattle.micro_lower.proofs.Given.{value_coded, coded_end_of, gives_as, result
 use Rattle.micro_lower.proofs.Overflow.{IsNarrow}
 use Rattle.std.specs.Prelude.{◌*ℤ◌}
 use Rattle.std.proofs.Common.{add-zero}
-use Rattle.std.proofs.lemmas.Nat.{and_le_l}
+use Rattle.std.proofs.lemmas.Nat.{and_le_l, and_mod}
 use Rattle.vax_form.specs.declared.operation.BinaryOperation.{BinaryOperation}
 use Rattle.vax_form.specs.declared.operation.BinaryOperation.TheVariants as binary
 use Rattle.vax_meaning.specs.Arithmetic.{binary_of}
@@ -46,9 +46,9 @@ use Rattle.vt_words.specs.Values.{value_of}
 use Rattle.micro_ops.specs.Sources.{sources_of_binary}
 use Rattle.micro_ops.specs.Values.{bits_of, signed}
 use Rattle.micro_ops.specs.declared.codes.CodeSource.TheVariants.{Add, Computed, Zero}
-use Rattle.micro_lower.specs.Rows.{divides, micro_of, behind_binary, convert_plan, two_operands_plan, three_operands_plan, by_one_plan}
+use Rattle.micro_lower.specs.Rows.{divides, micro_of, made_size, behind_binary, convert_plan, two_operands_plan, three_operands_plan, by_one_plan}
 use Rattle.micro_lower.proofs.Fitting.{does_differ, value_below, product_wide, product_small, product_low}
-use Rattle.micro_lower.proofs.Overflow.{signed_wide, signed_small, low_of}
+use Rattle.micro_lower.proofs.Overflow.{signed_wide, signed_small, low_of, as_quad}
 use Rattle.micro_lower.proofs.Given.{replaces_as}
 use Rattle.micro_lower.proofs.MoveRows.{narrow_width}
 use Rattle.micro_lower.proofs.Planned.{only_modify, read_and_modify, read_twice_and_write}
@@ -117,6 +117,31 @@ binary_below binary.BitSet size start a b lt lt' none = or_fits size a b lt lt'
 binary_below binary.BitClear size start a b lt lt' none = let le = and_le_l a (limit_of size - 1 - b) in omega (arith, le, lt)
 binary_below binary.ExclusiveOr size start a b lt lt' none = xor_fits size a b lt lt'
 
+-- what is cleared in a number does not depend on the bits above it
+cleared : (a r s k : ℕ) → a < 2 ^ k → r % 2 ^ k ≡ s → bit_and a r ≡ bit_and a s
+cleared a r s k lt same =
+    let le = and_le_l a r in
+    let below : bit_and a r < 2 ^ k = omega (arith, le, lt) in
+    sym (mod-eq_of_lt below) ∙ and_mod a r k ∙ ap (λ x. bit_and x (r % 2 ^ k)) (mod-eq_of_lt lt) ∙ ap (λ x. bit_and a x) same
+
+cleared_by : (size : Size) (a b : ℕ) → a < limit_of size → b < limit_of size → bit_and a (2 ^ 64 - 1 - b) ≡ bit_and a (limit_of size - 1 - b)
+cleared_by Byte a b lt lt' = cleared a (2 ^ 64 - 1 - b) (2 ^ 8 - 1 - b) 8 lt (omega (arith, lt'))
+cleared_by Word a b lt lt' = cleared a (2 ^ 64 - 1 - b) (2 ^ 16 - 1 - b) 16 lt (omega (arith, lt'))
+cleared_by Long a b lt lt' = cleared a (2 ^ 64 - 1 - b) (2 ^ 32 - 1 - b) 32 lt (omega (arith, lt'))
+cleared_by Quad a b lt lt' = refl
+
+-- made at its size of two numbers of a size
+made_at : (operation : BinaryOperation) (size : Size) (start : VaxState) (x y held : ℕ) → IsNarrow size → x < limit_of size → y < limit_of size → divides operation ≡ false
+    → computed (micro_of operation) (made_size operation size) x y held ≡ (binary_value operation size start (y % limit_of size) (x % limit_of size)).value
+unfolding value_from binary_of
+made_at binary.Add size start x y held narrow lt lt' none = binary_made binary.Add size start (x % limit_of size) (y % limit_of size) held narrow (low_below size x) (low_below size y) none
+made_at binary.Subtract size start x y held narrow lt lt' none = binary_made binary.Subtract size start (x % limit_of size) (y % limit_of size) held narrow (low_below size x) (low_below size y) none
+made_at binary.Multiply size start x y held narrow lt lt' none = binary_made binary.Multiply size start (x % limit_of size) (y % limit_of size) held narrow (low_below size x) (low_below size y) none
+made_at binary.Divide size start x y held narrow lt lt' none = cc
+made_at binary.BitSet size start x y held narrow lt lt' none = rw (as_quad size x lt, as_quad size y lt', mod-eq_of_lt lt, mod-eq_of_lt lt') refl
+made_at binary.BitClear size start x y held narrow lt lt' none = rw (as_quad size x lt, as_quad size y lt', mod-eq_of_lt lt, mod-eq_of_lt lt') (cleared_by size x y lt lt')
+made_at binary.ExclusiveOr size start x y held narrow lt lt' none = rw (as_quad size x lt, as_quad size y lt', mod-eq_of_lt lt, mod-eq_of_lt lt') refl
+
 -- the codes come from what is in 0 and 1, or from the result
 module _ (size : Size) (start : VaxState) (found : Found) (temps : Temps) (narrow : IsNarrow size) (lt : temps 0 < limit_of size) (lt' : temps 1 < limit_of size) where
   abbrev pub coded_by : BinaryOperation → Coded
@@ -182,7 +207,7 @@ two_operands_all operation width instr none givable state pages thread temps val
     let source = sources_of_binary operation size in
     read_and_modify values temps (BodyDoes (operations.TwoOperands operation width) instr plan state pages thread temps) size (operand instr 0) 1 2 size (operand instr 1) 0 left (λ location first at second.
     let coded = binary_value operation size state (temps 1 % limit_of size) (temps 0 % limit_of size) in
-    let made : after 2 ≡ coded.value = binary_made operation size state (temps 0 % limit_of size) (temps 1 % limit_of size) _ narrow (low_below size _) (low_below size _) none in
+    let made : after 2 ≡ coded.value = made_at operation size state (temps 0) (temps 1) _ narrow second first none in
     replaces_as source.nzv source.c state pages thread instr.after ok size (operand instr 1) (steps_of plan.slots instr) same location coded after plan.behind (all_compute operation size)
     at givable made (binary_below operation size state _ _ (low_below size _) (low_below size _) none) (kept_result operation size found after none) (ready size state found after narrow second first operation none made) Next tt instr.after refl
     (binary_end pages operation (temps 1 % limit_of size) coded instr.after) (λ s e. binary_ends pages operation (temps 1 % limit_of size) coded instr.after none s))
@@ -200,7 +225,7 @@ three_operands_all operation width instr none givable state pages thread temps v
     read_twice_and_write values temps (BodyDoes (operations.ThreeOperands operation width) instr plan state pages thread temps) size size size (operand instr 0) (operand instr 1) (operand instr 2) 1 2 0 2 left
     (λ location first second at.
     let coded = binary_value operation size state (temps 1 % limit_of size) (temps 0 % limit_of size) in
-    let made : after 2 ≡ coded.value = binary_made operation size state (temps 0 % limit_of size) (temps 1 % limit_of size) _ narrow (low_below size _) (low_below size _) none in
+    let made : after 2 ≡ coded.value = made_at operation size state (temps 0) (temps 1) _ narrow second first none in
     gives_as source.nzv source.c state pages thread instr.after ok size (operand instr 2) (steps_of plan.slots instr) same location coded after plan.behind (all_compute operation size)
     at givable made (binary_below operation size state _ _ (low_below size _) (low_below size _) none) (kept_result operation size found after none) (ready size state found after narrow second first operation none made) Next tt instr.after refl
     (binary_end pages operation (temps 1 % limit_of size) coded instr.after) (λ s e. binary_ends pages operation (temps 1 % limit_of size) coded instr.after none s))

@@ -54,13 +54,14 @@ use Rattle.operand_programs.specs.Specifiers.{stepped, commit_program}
 use Rattle.operand_programs.specs.declared.operands.Specifier.{Specifier}
 use Rattle.operand_programs.proofs.Accesses.{reads_agree, writes_agree}
 use Rattle.micro_lower.specs.Plans.{steps_of}
-use Rattle.micro_lower.specs.Rows.{branch_exit, bit_tested, storing, with_bit_into, byte_program, bit_plan_for}
+use Rattle.micro_lower.specs.Rows.{test_exit, bit_tested, storing, with_bit_into, byte_program, bit_plan_for}
 use Rattle.micro_lower.proofs.BitValues.{bit_set, bit_cleared, last_bit}
 use Rattle.micro_lower.proofs.Endings.{found_at, with, DoesSo, computes, is_computation, nowhere, replaces, closes_kept}
-use Rattle.micro_lower.proofs.JumpRows.{go_end, set_test, clear_test}
+use Rattle.micro_lower.proofs.JumpRows.{go_end, set_test, test_low}
 use Rattle.micro_lower.proofs.Planned.{BodyDoes, after_read, after_branch, after_all, specifier, value}
 use Rattle.micro_lower.proofs.PswRows.{refuses}
 use Rattle.micro_lower.proofs.Ready.{effect}
+use Rattle.micro_lower.proofs.Coding.{GoesTo}
 
 -- ---- shapes
 after_field : (size : Size) (operand : Operand) (to place : ℕ) (later : List Specifier) (values : List Evaluated) (temps : Temps) (P : List Evaluated → Type 0)
@@ -78,19 +79,11 @@ read_field_branch values temps P a b c left goes =
     after_all none temps (λ none. P (value (temps 0) ∷ first ∷ nothing ∷ none)) left''' (goes first fits base))))
 
 -- ---- the test
-test_goes : (state : Bool) (size : Size) (found : Found) (temps : Temps) (v taken other : ℕ) → computed ops.ShiftRight size (temps 1) (temps 0) (temps 0) ≡ v
-    → (if effect (bit_tested state size) found temps 0 == 0 then other else taken) ≡ (if v % 2 == bit state then taken else other)
+test_goes : (state : Bool) (instr : Instr) (size : Size) (found : Found) (temps : Temps) (v : ℕ) → computed ops.ShiftRight size (temps 1) (temps 0) (temps 0) ≡ v
+    → GoesTo (test_exit state instr 2) found (effect (bit_tested size) found temps) (pc_after instr 2 (v % 2 == bit state))
 unfolding value_from
-test_goes true size found temps v taken other is = rw (is, and_mask (v % 256) 1, last_bit v) (set_test v taken other)
-test_goes false size found temps v taken other is = rw (is, and_mask (v % 256) 1, last_bit v) (clear_test v taken other)
-
-tests_compute : (state : Bool) (size : Size) → list_all is_computation (bit_tested state size) ≡ true
-tests_compute true size = refl
-tests_compute false size = refl
-
-test_keeps : (state : Bool) (size : Size) (found : Found) (temps : Temps) → effect (bit_tested state size) found temps 2 ≡ temps 2
-test_keeps true size found temps = refl
-test_keeps false size found temps = refl
+test_goes true instr size found temps v is = rw (is, and_mask (v % 256) 1, last_bit v) (set_test v (target (operand instr 2)) instr.after)
+test_goes false instr size found temps v is = rw (is, and_mask (v % 256) 1, last_bit v) refl
 
 -- ---- a bit of a register
 pub outside_is : (n position : ℕ) → (nat_lt 31 position || (n == 14 && nat_lt 32 (position + 1))) ≡ nat_lt 31 position
@@ -188,30 +181,30 @@ module _ (s : Bool) (instr : Instr) (state : VaxState) (pages : Pages) (thread :
         lower x = omega arith
 
     goes_by_register : (temps' : Temps) → temps' 0 ≡ temps 0 → temps' 1 ≡ temps 1 → position < 32
-        → (if effect (bit_tested s Long) found temps' 0 == 0 then instr.after else target (operand instr 2)) ≡ pc
+        → GoesTo (test_exit s instr 2) found (effect (bit_tested Long) found temps') pc
     goes_by_register temps' zero one fine =
         let k = position in
         let is : temps 0 ≡ k = sym (mod-eq_of_lt zero_fits) in
         let small : k % 32 ≡ k = omega (arith, fine) in
-        test_goes s Long found temps' (whole % 2 ^ 32 / 2 ^ k) (target (operand instr 2)) instr.after
-        (told_long temps' k (whole % 2 ^ 32) (zero ∙ is) (one ∙ one_is) fine (mod_below whole (2 ^ 32) (lit< tt)))
-        ∙ ap (λ b. pc_after instr 2 (b == bit s)) (low_told whole k fine ∙ ap (λ n. whole / 2 ^ n % 2) (sym small))
+        subst (λ b. GoesTo (test_exit s instr 2) found (effect (bit_tested Long) found temps') (pc_after instr 2 (b == bit s))) (low_told whole k fine ∙ ap (λ n. whole / 2 ^ n % 2) (sym small))
+        (test_goes s instr Long found temps' (whole % 2 ^ 32 / 2 ^ k)
+        (told_long temps' k (whole % 2 ^ 32) (zero ∙ is) (one ∙ one_is) fine (mod_below whole (2 ^ 32) (lit< tt))))
 
     -- the register takes what is in 2
     abbrev close : List Micro
-    close = Leave (branch_exit instr 2) ∷ []
+    close = Leave (test_exit s instr 2) ∷ []
 
     stores_in : (v : Bool) (steps : List ℕ) → length steps ≡ length state.r → (after : Temps) → after 0 ≡ temps 0 → after 1 ≡ temps 1 → after 2 ≡ with_bits whole (position % 32) 1 (bit v) % 2 ^ 32 → position < 32
-        → DoesSo (from Kept Kept) state pages thread instr.after (bit_tested s Long ++ (finish_program (operands.Register n) Long steps 2 ++ close)) (with state after)
+        → DoesSo (from Kept Kept) state pages thread instr.after (bit_tested Long ++ (finish_program (operands.Register n) Long steps 2 ++ close)) (with state after)
         (go_end pages pc (with_register n (with_bits whole (position % 32) 1 (bit v) % 2 ^ 32) (stepped steps state)))
     unfolding put
     stores_in v steps same after zero one two fine =
         let w = with_bits whole (position % 32) 1 (bit v) in
-        let last = effect (bit_tested s Long) found after in
-        rw (computes (bit_tested s Long) (finish_program (operands.Register n) Long steps 2 ++ close) found (with state after) (tests_compute s Long))
+        let last = effect (bit_tested Long) found after in
+        rw (computes (bit_tested Long) (finish_program (operands.Register n) Long steps 2 ++ close) found (with state after) refl)
         (subst (λ (x : ℕ). DoesSo (from Kept Kept) state pages thread instr.after (finish_program (operands.Register n) Long steps 2 ++ close) (with state last) (go_end pages pc (with_register n x (stepped steps state)))) (again w)
-        (replaces (from Kept Kept) state pages thread instr.after ok close (go_end pages pc) _ (closes_kept state pages thread instr.after (branch_exit instr 2) pc) [] refl (operands.Register n) Long steps (InRegister n) (w % 2 ^ 32) last same
-        refl tt (test_keeps s Long found after ∙ two) (mod_below w (2 ^ 32) (lit< tt)) refl (record { low = lit< tt; goes = goes_by_register after zero one fine })))
+        (replaces (from Kept Kept) state pages thread instr.after ok close (go_end pages pc) _ (closes_kept state pages thread instr.after (test_exit s instr 2) pc) [] refl (operands.Register n) Long steps (InRegister n) (w % 2 ^ 32) last same
+        refl tt (two) (mod_below w (2 ^ 32) (lit< tt)) refl (record { low = test_low s instr 2; goes = goes_by_register after zero one fine })))
 
     abbrev refused_first : List Micro
     refused_first = Compute 4 ops.LessUnsigned Long (Const 31) (Temp 0) ∷ []
@@ -231,14 +224,14 @@ module _ (s : Bool) (instr : Instr) (state : VaxState) (pages : Pages) (thread :
         let plan = bit_plan_for None (operands.Register n) (record { state = s; store = Nothing }) instr in
         let steps = steps_of plan.slots instr in
         let after = effect refused_first found temps in
-        rw (outside_is n position) (refuses (from Kept Kept) state pages thread instr.after 4 (nat_lt 31 position) (bit_tested s Long ++ (commit_program 0 steps ++ close)) after (go_end pages pc (stepped steps state)) refl (λ fine.
-        nowhere (from Kept Kept) state pages thread instr.after ok close (go_end pages pc) _ (closes_kept state pages thread instr.after (branch_exit instr 2) pc) (bit_tested s Long) (tests_compute s Long) steps after same
-        (record { low = lit< tt; goes = goes_by_register after refl refl (inside position fine) })))
+        rw (outside_is n position) (refuses (from Kept Kept) state pages thread instr.after 4 (nat_lt 31 position) (bit_tested Long ++ (commit_program 0 steps ++ close)) after (go_end pages pc (stepped steps state)) refl (λ fine.
+        nowhere (from Kept Kept) state pages thread instr.after ok close (go_end pages pc) _ (closes_kept state pages thread instr.after (test_exit s instr 2) pc) (bit_tested Long) refl steps after same
+        (record { low = test_low s instr 2; goes = goes_by_register after refl refl (inside position fine) })))
     register_body (Plain v) same =
         let plan = bit_plan_for None (operands.Register n) (record { state = s; store = Plain v }) instr in
         let steps = steps_of plan.slots instr in
         let after = effect refused_first found temps in
-        rw (outside_is n position) (refuses (from Kept Kept) state pages thread instr.after 4 (nat_lt 31 position) (with_bit_into 2 Long v ++ (bit_tested s Long ++ (finish_program (operands.Register n) Long steps 2 ++ close))) after
+        rw (outside_is n position) (refuses (from Kept Kept) state pages thread instr.after 4 (nat_lt 31 position) (with_bit_into 2 Long v ++ (bit_tested Long ++ (finish_program (operands.Register n) Long steps 2 ++ close))) after
         (go_end pages pc (with_register n (with_bits whole (position % 32) 1 (bit v) % 2 ^ 32) (stepped steps state))) refl (λ fine.
         let small = inside position fine in
         stores_in v steps same (effect (with_bit_into 2 Long v) found after) refl refl (two_is v (after 2) small) small))
@@ -246,7 +239,7 @@ module _ (s : Bool) (instr : Instr) (state : VaxState) (pages : Pages) (thread :
         let plan = bit_plan_for None (operands.Register n) (record { state = s; store = Interlocked v }) instr in
         let steps = steps_of plan.slots instr in
         let after = effect refused_first found temps in
-        rw (outside_is n position) (refuses (from Kept Kept) state pages thread instr.after 4 (nat_lt 31 position) (with_bit_into 2 Long v ++ (bit_tested s Long ++ (finish_program (operands.Register n) Long steps 2 ++ close))) after
+        rw (outside_is n position) (refuses (from Kept Kept) state pages thread instr.after 4 (nat_lt 31 position) (with_bit_into 2 Long v ++ (bit_tested Long ++ (finish_program (operands.Register n) Long steps 2 ++ close))) after
         (go_end pages pc (with_register n (with_bits whole (position % 32) 1 (bit v) % 2 ^ 32) (stepped steps state))) refl (λ fine.
         let small = inside position fine in
         stores_in v steps same (effect (with_bit_into 2 Long v) found after) refl refl (two_is v (after 2) small) small))
@@ -343,7 +336,7 @@ module _ (s : Bool) (instr : Instr) (state : VaxState) (pages : Pages) (thread :
   goes_on_at byte = pc_after instr 2 (bits_of byte number 1 == bit s)
 
   byte_goes : (store : BitStore) (steps : List ℕ) → length steps ≡ length state.r
-      → DoesSo (from Kept Kept) state pages thread instr.after (byte_program store ++ (bit_tested s Byte ++ (commit_program 0 steps ++ Leave (branch_exit instr 2) ∷ []))) (with state (effect byte_located (found_at state instr.after) temps))
+      → DoesSo (from Kept Kept) state pages thread instr.after (byte_program store ++ (bit_tested Byte ++ (commit_program 0 steps ++ Leave (test_exit s instr 2) ∷ []))) (with state (effect byte_located (found_at state instr.after) temps))
       (tree_of pages (byte_found byte_at number store) (stepped steps state) (λ byte last. go_end pages (goes_on_at byte) last))
   unfolding value_from
   byte_goes store steps same =
@@ -352,11 +345,11 @@ module _ (s : Bool) (instr : Instr) (state : VaxState) (pages : Pages) (thread :
       let zero : after 0 ≡ number = and_mask (temps 0 % 256) 3 ∙ low_three (temps 0) in
       let two : after 2 ≡ byte_at = ap (λ n. (n + low_bytes 4 (right_shift_of (temps 0 % 2 ^ 32) 3)) % 2 ^ 32) (mod-eq_of_lt base_fits) in
       let lt : number < 8 = mod_below (temps 0 % 2 ^ 32) 8 (lit< tt) in
-      byte_does state pages thread instr.after (bit_tested s Byte ++ (commit_program 0 steps ++ Leave (branch_exit instr 2) ∷ [])) number byte_at after (λ byte last. go_end pages (goes_on_at byte) last) (stepped steps state) zero two lt
+      byte_does state pages thread instr.after (bit_tested Byte ++ (commit_program 0 steps ++ Leave (test_exit s instr 2) ∷ [])) number byte_at after (λ byte last. go_end pages (goes_on_at byte) last) (stepped steps state) zero two lt
       (λ byte temps' fits at_zero at_one.
-      nowhere (from Kept Kept) state pages thread instr.after ok (Leave (branch_exit instr 2) ∷ []) (go_end pages (goes_on_at byte)) _ (closes_kept state pages thread instr.after (branch_exit instr 2) (goes_on_at byte))
-      (bit_tested s Byte) (tests_compute s Byte) steps temps' same
-      (record { low = lit< tt; goes = test_goes s Byte found temps' (byte / 2 ^ number) (target (operand instr 2)) instr.after (told_byte temps' number byte at_zero at_one lt fits) }))
+      nowhere (from Kept Kept) state pages thread instr.after ok (Leave (test_exit s instr 2) ∷ []) (go_end pages (goes_on_at byte)) _ (closes_kept state pages thread instr.after (test_exit s instr 2) (goes_on_at byte))
+      (bit_tested Byte) refl steps temps' same
+      (record { low = test_low s instr 2; goes = test_goes s instr Byte found temps' (byte / 2 ^ number) (told_byte temps' number byte at_zero at_one lt fits) }))
       store
 
   pub memory_body : (base : Base) (index : Option ℕ) (store : BitStore)

@@ -230,10 +230,10 @@ lacks_literal : (k : ℕ) → (32 - k) % 4294967296 ≡ 32 - k
 lacks_literal k = omega arith
 
 rotated : (x k right : ℕ) → x < 2 ^ 32 → k < 32 → right ≡ 32 - k
-    → bit_or ((if nat_lt (k % 4294967296) 32 then x * 2 ^ (k % 4294967296) % 4294967296 else 0) % 4294967296) ((if nat_lt right 32 then x / 2 ^ right else 0) % 4294967296) ≡ rotation_of x k
+    → bit_or ((if nat_lt (k % 4294967296) 32 then x * 2 ^ (k % 4294967296) % 4294967296 else 0) % 18446744073709551616) ((if nat_lt right 32 then x / 2 ^ right else 0) % 18446744073709551616) ≡ rotation_of x k
 rotated x k right lt small lack = elim (eqb_tells k 0) [
   | inl is ↦ (let low : x * 1 % 4294967296 ≡ x = omega (arith, lt) in
-      let twice : x * 1 % 4294967296 % 4294967296 ≡ x = omega (arith, lt) in
+      let twice : x * 1 % 4294967296 % 18446744073709551616 ≡ x = omega (arith, lt) in
       let whole : x / 1 ≡ x = omega arith in
       rw (lack, is.1) (ap (λ n. bit_or n 0) twice ∙ or_zero_r x ∙ sym (or_self x) ∙ ap (λ n. bit_or n x) (sym low) ∙ ap (λ n. bit_or (x * 1 % 4294967296) n) (sym whole)))
   | inr not ↦ (let some : 0 < k = grind (arith, nat_tests, not.0) in
@@ -243,10 +243,18 @@ rotated x k right lt small lack = elim (eqb_tells k 0) [
       let test : nat_lt k 32 ≡ true = grind (arith, nat_tests) in
       let test' : nat_lt (32 - k) 32 ≡ true = grind (arith, nat_tests) in
       let le = shr_le x (32 - k) in
-      let right : x / 2 ^ (32 - k) % 4294967296 ≡ x / 2 ^ (32 - k) = mod-eq_of_lt (omega (arith, le, lt)) in
-      let left : x * 2 ^ k % 4294967296 % 4294967296 ≡ x * 2 ^ k % 4294967296 = mod-eq_of_lt (low_below Long (x * 2 ^ k)) in
+      let right : x / 2 ^ (32 - k) % 18446744073709551616 ≡ x / 2 ^ (32 - k) = mod-eq_of_lt (omega (arith, le, lt)) in
+      let left : x * 2 ^ k % 4294967296 % 18446744073709551616 ≡ x * 2 ^ k % 4294967296 = let below = low_below Long (x * 2 ^ k) in mod-eq_of_lt (omega (arith, below)) in
       rw (lack, same, same', lack', test, test', right, left) refl)
 ]
+
+-- what is shifted is a longword
+shifted_below : (b : Bool) (y : ℕ) → y < 4294967296 → (if b then y else 0) % 18446744073709551616 < 4294967296
+shifted_below true y lt = omega (arith, lt)
+shifted_below false y lt = lit< tt
+
+right_below : (x k : ℕ) → x < 4294967296 → x / 2 ^ k < 4294967296
+right_below x k lt = let le = shr_le x k in omega (arith, le, lt)
 
 abbrev copied : List Micro
 copied = unary 0 ops.Move Long (Temp 2) ∷ []
@@ -262,7 +270,7 @@ counted_all instr givable state pages thread temps values ok same left =
     let x = temps 1 % 2 ^ 32 in
     let v = rotation_of x k in
     let made : after 2 ≡ v = rw (and_mask (temps 0 % 256) 5) (rotated x k _ (low_below Long _) (mod_below _ 32 (lit< tt)) (lacks k (mod_below _ 32 (lit< tt)))) in
-    let fits : v < 2 ^ 32 = subst (λ n. n < 2 ^ 32) made (or_lt 32 _ _ (low_below Long _) (low_below Long _)) in
+    let fits : v < 2 ^ 32 = subst (λ n. n < 2 ^ 32) made (or_lt 32 _ _ (shifted_below _ _ (low_below Long _)) (shifted_below _ _ (right_below x _ (low_below Long _)))) in
     read_twice_and_write values temps (BodyDoes operations.Rotate instr plan state pages thread temps) Byte Long Long (operand instr 0) (operand instr 1) (operand instr 2) 0 1 1 2 left (λ location count source at.
     gives_as (Result Long) Kept state pages thread instr.after ok Long (operand instr 2) (steps_of plan.slots instr) same location (value_coded state Long v) after plan.behind refl
     at givable made fits refl (result_ready Long state v (effect plan.behind found after) fits (ap (λ n. n % 2 ^ 32) made ∙ mod-eq_of_lt fits) made) Next tt instr.after refl
@@ -285,7 +293,7 @@ literal_all instr literal here givable state pages thread temps values ok same l
     let known : temps 0 ≡ literal % 256 = subst (λ (o : Operand). IsKnownValue o Byte (temps 0)) here left.3.2 in
     let whole : k ≡ temps 0 % 256 % 32 = sym (ap (λ n. n % 256 % 32) known ∙ literal_number literal) in
     let made : after 2 ≡ v = rotated x k _ (low_below Long _) (mod_below _ 32 (lit< tt)) (lacks_literal k) ∙ ap (λ n. rotation_of x n) whole in
-    let fits : v < 2 ^ 32 = subst (λ n. n < 2 ^ 32) made (or_lt 32 _ _ (low_below Long _) (low_below Long _)) in
+    let fits : v < 2 ^ 32 = subst (λ n. n < 2 ^ 32) made (or_lt 32 _ _ (shifted_below _ _ (low_below Long _)) (shifted_below _ _ (right_below x _ (low_below Long _)))) in
     read_twice_and_write values temps (BodyDoes operations.Rotate instr plan state pages thread temps) Byte Long Long (operand instr 0) (operand instr 1) (operand instr 2) 0 1 1 2 left (λ location count source at.
     gives_as (Result Long) Kept state pages thread instr.after ok Long (operand instr 2) (steps_of plan.slots instr) same location (value_coded state Long v) after plan.behind refl
     at givable made fits refl (result_ready Long state v (effect plan.behind found after) fits (ap (λ n. n % 2 ^ 32) made ∙ mod-eq_of_lt fits) made) Next tt instr.after refl

@@ -40,7 +40,7 @@ use Rattle.vax_form.specs.declared.instr.Operand.TheVariants as operands
 use Rattle.vax_meaning.specs.Branches.{target, pc_after}
 use Rattle.micro_ops.specs.Meaning.{Found}
 use Rattle.micro_ops.specs.declared.program.Exit.TheVariants as exits
-use Rattle.micro_lower.specs.Rows.{low_bit_plan, jump_plan, jump_to_subroutine_plan, jump_exit}
+use Rattle.micro_lower.specs.Rows.{low_bit_plan, jump_plan, jump_to_subroutine_plan, jump_exit, test_exit}
 use Rattle.micro_lower.specs.Plans.{Plan}
 use Rattle.micro_lower.proofs.Endings.{nowhere, pushed, closes_kept}
 use Rattle.micro_lower.proofs.Planned.{only_read, only_address, after_read, after_branch, after_all}
@@ -97,11 +97,9 @@ set_test x taken other = elim (cases_lt (x % 2) 1) [
   | inr above ↦ (let o : x % 2 ≡ 1 = omega (arith, above) in rw o refl)
 ]
 
-pub clear_test : (x : ℕ) (taken other : ℕ) → (if bit_xor (x % 2 % 256) 1 == 0 then other else taken) ≡ (if x % 2 == 0 then taken else other)
-clear_test x taken other = elim (cases_lt (x % 2) 1) [
-  | inl below ↦ (let z : x % 2 ≡ 0 = omega (arith, below) in rw z refl)
-  | inr above ↦ (let o : x % 2 ≡ 1 = omega (arith, above) in rw o refl)
-]
+pub test_low : (state : Bool) (instr : Instr) (number : ℕ) → IsLowExit (test_exit state instr number)
+test_low true instr number = lit< tt
+test_low false instr number = lit< tt
 
 low_bit : (x : ℕ) → x % 256 % 2 ≡ x % 4294967296 % 2
 low_bit x = omega arith
@@ -121,7 +119,7 @@ low_bit_all false instr state pages thread temps values ok same left =
     is_read_then_branch values temps (BodyDoes (operations.BranchOnLowBit false) instr plan state pages thread temps) Long Byte (operand instr 0) (operand instr 1) 0 1 0 1 left (λ fits.
     nowhere (from Kept Kept) state pages thread instr.after ok _ (go_end pages (pc_after instr 1 (x % 2 == 0))) _ (closes_kept state pages thread instr.after plan.exit (pc_after instr 1 (x % 2 == 0))) [] refl (steps_of plan.slots instr)
     (effect plan.before (found_at state instr.after) temps) same
-    (record { low = lit< tt; goes = rw (and_mask (temps 0 % 256) 1, low_bit (temps 0)) (clear_test x (target (operand instr 1)) instr.after) }))
+    (record { low = lit< tt; goes = rw (and_mask (temps 0 % 256) 1, low_bit (temps 0)) refl }))
 
 -- ---- jumps
 -- where a jump goes, for what its operand left

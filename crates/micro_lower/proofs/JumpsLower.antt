@@ -12,7 +12,7 @@ use Rattle.vax_meaning.specs.Evaluation.{operand, evaluated_row}
 use Rattle.micro_ops.specs.Fits.{step}
 use Rattle.micro_ops.specs.Sources.{sources_of}
 use Rattle.micro_ops.specs.declared.program.Micro.{Micro}
-use Rattle.micro_lower.specs.Lowering.{Lowers, IsLongOperand, AreLongOperands}
+use Rattle.micro_lower.specs.Lowering.{Lowers, AreLongOperands}
 use Rattle.micro_lower.specs.Plans.{program_of}
 use Rattle.micro_lower.specs.Rows.{jump_plan, jump_to_subroutine_plan}
 use Rattle.micro_lower.proofs.Fit.{plan_fits, program_fits}
@@ -20,6 +20,7 @@ use Rattle.micro_lower.proofs.JumpRows.{IsComputed, jump_all, jump_to_subroutine
 use Rattle.micro_lower.proofs.Lowered.{slots_of, lowers_by_plan}
 use Rattle.micro_lower.proofs.Plain.{lowers}
 use Rattle.micro_lower.proofs.Spelled.{given}
+use Rattle.operand_programs.specs.Pieces.{IsLongOperand}
 
 -- an address that the code fixes
 abbrev IsFixed : Operand → Type 0

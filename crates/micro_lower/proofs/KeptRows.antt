@@ -1,6 +1,6 @@
 -- The program of each operation keeps to its instruction.
 use Rattle.std.proofs.Common.{◌≡◌, ℕ, ◌%◌, ◌^◌, Bool, true, false, List, [], ◌∷◌, ◌++◌, Option, Some, None, refl, sym, subst, lit≤}
-use Rattle.std.specs.Prelude.{nat_lt, if◌then◌else◌}
+use Rattle.std.specs.Prelude.{nat_lt, not, if◌then◌else◌}
 use Rattle.std.proofs.lemmas.Option.{same_Some}
 use Rattle.vax_form.specs.Grammar.{IsSpelled}
 use Rattle.vax_form.specs.Operation.{operation_at}
@@ -36,7 +36,7 @@ use Rattle.operand_programs.specs.Operands.{IsTarget}
 use Rattle.micro_lower.specs.Lowering.{AreLongOperands, KeepsTo, computes_address}
 use Rattle.micro_lower.specs.Plans.{Plan, program_of, unary}
 use Rattle.micro_lower.specs.Programs.{flags_of, is_negated, flag_test, condition_exit, branch_if_program, subroutine_program, return_program, plain_program_of}
-use Rattle.micro_lower.specs.Rows.{move_row, arithmetic_row, control_row, own_program_of, row_program_of, branch_exit, move_plan, clear_plan, move_zero_extended_plan, move_complemented_plan, move_negated_plan, convert_plan, move_address_plan, push_address_plan, push_long_plan, compare_plan, test_plan, bit_test_plan, by_one_plan, two_operands_plan, three_operands_plan, low_bit_plan, subtract_one_plan, add_one_plan, add_compare_plan, jump_plan, jump_to_subroutine_plan, add_with_carry_plan, change_mode_plan, subtract_with_carry_plan, rotate_plan, arithmetic_shift_plan, shifted_by, overflow_of_shift_by, before_shift, behind_shift, before_rotation, change_psw_plan, bit_tested, bit_stored, byte_program, before_bit, literal_position, masked, mask_stored, mask_program, byte_of, before_literal, before_bit_at, bit_exit, bit_branch_plan, before_aligned, add_aligned_plan, move_psl_plan}
+use Rattle.micro_lower.specs.Rows.{move_row, arithmetic_row, control_row, own_program_of, row_program_of, branch_exit, move_plan, clear_plan, move_zero_extended_plan, move_complemented_plan, move_negated_plan, convert_plan, move_address_plan, push_address_plan, push_long_plan, compare_plan, test_plan, bit_test_plan, by_one_plan, two_operands_plan, three_operands_plan, low_bit_plan, subtract_one_plan, add_one_plan, add_compare_plan, jump_plan, jump_to_subroutine_plan, add_with_carry_plan, change_mode_plan, subtract_with_carry_plan, rotate_plan, arithmetic_shift_plan, shifted_by, overflow_of_shift_by, before_shift, behind_shift, before_rotation, change_psw_plan, bit_tested, bit_stored, byte_program, before_bit, literal_position, masked, mask_stored, mask_program, byte_of, before_literal, before_bit_at, test_exit, bit_branch_plan, before_aligned, add_aligned_plan, move_psl_plan}
 use Rattle.micro_lower.proofs.Covered.{targeted}
 use Rattle.micro_lower.proofs.Inner.{IsInner, joined}
 use Rattle.micro_lower.proofs.Keeping.{Ends, ExitKeeps, IsFixed, keeps, ends_here, next_keeps, breakpoint_keeps, branch_fixed, fixed_keeps, choice_keeps, choice_kept, computed_keeps, jump_computes_for, jump_keeps, plan_keeps}
@@ -126,10 +126,6 @@ plain_keep _ instr program spelled long is made = cc
 
 -- ---- rows
 -- inner operations of branches
-low_bit_inner : (set : Flags) (state : Bool) (instr : Instr) → (let plan = low_bit_plan state instr in IsInner set (plan.before ++ plan.behind))
-low_bit_inner set true instr = refl
-low_bit_inner set false instr = refl
-
 subtract_one_inner : (set : Flags) (or_equal : Bool) (instr : Instr) → (let plan = subtract_one_plan or_equal instr in IsInner set (plan.before ++ plan.behind))
 subtract_one_inner set true instr = refl
 subtract_one_inner set false instr = refl
@@ -137,10 +133,6 @@ subtract_one_inner set false instr = refl
 add_one_inner : (set : Flags) (or_equal : Bool) (instr : Instr) → (let plan = add_one_plan or_equal instr in IsInner set (plan.before ++ plan.behind))
 add_one_inner set true instr = refl
 add_one_inner set false instr = refl
-
-tested_inner : (set : Flags) (state : Bool) (size : Size) → IsInner set (bit_tested state size)
-tested_inner set true size = refl
-tested_inner set false size = refl
 
 stored_inner : (set : Flags) (store : BitStore) → IsInner set (bit_stored store)
 stored_inner set stores.Nothing = refl
@@ -152,12 +144,12 @@ byte_inner set stores.Nothing = refl
 byte_inner set (stores.Plain value) = refl
 byte_inner set (stores.Interlocked value) = refl
 
-before_inner : (set : Flags) (base : Operand) (state : Bool) (store : BitStore) → IsInner set (before_bit base (record { state = state; store = store }))
-before_inner set (operands.Register n) state store = joined set (bit_stored store) (bit_tested state Long) (stored_inner set store) (tested_inner set state Long)
-before_inner set operands.Unused state store = joined set (byte_program store) (bit_tested state Byte) (byte_inner set store) (tested_inner set state Byte)
-before_inner set (operands.Value value) state store = joined set (byte_program store) (bit_tested state Byte) (byte_inner set store) (tested_inner set state Byte)
-before_inner set (operands.Place base index) state store = joined set (byte_program store) (bit_tested state Byte) (byte_inner set store) (tested_inner set state Byte)
-before_inner set (operands.Target address) state store = joined set (byte_program store) (bit_tested state Byte) (byte_inner set store) (tested_inner set state Byte)
+before_inner : (set : Flags) (base : Operand) (store : BitStore) → IsInner set (before_bit base store)
+before_inner set (operands.Register n) store = joined set (bit_stored store) (bit_tested Long) (stored_inner set store) refl
+before_inner set operands.Unused store = joined set (byte_program store) (bit_tested Byte) (byte_inner set store) refl
+before_inner set (operands.Value value) store = joined set (byte_program store) (bit_tested Byte) (byte_inner set store) refl
+before_inner set (operands.Place base index) store = joined set (byte_program store) (bit_tested Byte) (byte_inner set store) refl
+before_inner set (operands.Target address) store = joined set (byte_program store) (bit_tested Byte) (byte_inner set store) refl
 
 mask_stored_inner : (set : Flags) (store : BitStore) (mask : ℕ) → IsInner set (mask_stored store mask)
 mask_stored_inner set stores.Nothing mask = refl
@@ -187,18 +179,17 @@ literal_inner set (operands.Value value) first position store = in_memory_inner 
 literal_inner set (operands.Place base index) first position store = in_memory_inner set first position store
 literal_inner set (operands.Target address) first position store = in_memory_inner set first position store
 
-bit_at_inner : (set : Flags) (position : Option ℕ) (base : Operand) (state : Bool) (store : BitStore) → IsInner set (before_bit_at position base (record { state = state; store = store }))
-bit_at_inner set None base state store = before_inner set base state store
-bit_at_inner set (Some position) base state store = literal_inner set base (nat_lt position 8) position store
+bit_at_inner : (set : Flags) (position : Option ℕ) (base : Operand) (store : BitStore) → IsInner set (before_bit_at position base store)
+bit_at_inner set None base store = before_inner set base store
+bit_at_inner set (Some position) base store = literal_inner set base (nat_lt position 8) position store
 
-bit_inner : (set : Flags) (position : Option ℕ) (base : Operand) (state : Bool) (store : BitStore) → IsInner set (before_bit_at position base (record { state = state; store = store }) ++ [])
-bit_inner set position base state store = joined set (before_bit_at position base (record { state = state; store = store })) [] (bit_at_inner set position base state store) refl
+bit_inner : (set : Flags) (position : Option ℕ) (base : Operand) (store : BitStore) → IsInner set (before_bit_at position base store ++ [])
+bit_inner set position base store = joined set (before_bit_at position base store) [] (bit_at_inner set position base store) refl
 
--- the exit of a bit branch, by its literal
-bit_computes : (position : Option ℕ) (state : Bool) (instr : Instr) → leaves_computed (Leave (bit_exit position state instr)) ≡ false
-bit_computes None state instr = refl
-bit_computes (Some position) true instr = refl
-bit_computes (Some position) false instr = refl
+-- the exit of a branch by a test
+test_computes : (state : Bool) (instr : Instr) (number : ℕ) → leaves_computed (Leave (test_exit state instr number)) ≡ false
+test_computes true instr number = refl
+test_computes false instr number = refl
 
 aligned_inner : (set : Flags) (base : Operand) → IsInner set (before_aligned base ++ [])
 aligned_inner set (operands.Register n) = refl
@@ -231,11 +222,10 @@ branch_keeps : (operation : Operation) (instr : Instr) → operation_at instr.op
     → (number : ℕ) → IsTarget (operand instr number) → ExitKeeps instr (branch_exit instr number)
 branch_keeps operation instr is ends number displaced = choice_keeps operation instr is ends 0 (target (operand instr number)) (branch_fixed instr number displaced)
 
-bit_exit_keeps : (operation : Operation) (instr : Instr) → operation_at instr.opcode ≡ Some operation → (code_use_of operation).ends ≡ true
-    → (position : Option ℕ) (state : Bool) → IsTarget (operand instr 2) → ExitKeeps instr (bit_exit position state instr)
-bit_exit_keeps operation instr is ends None state displaced = branch_keeps operation instr is ends 2 displaced
-bit_exit_keeps operation instr is ends (Some position) true displaced = branch_keeps operation instr is ends 2 displaced
-bit_exit_keeps operation instr is ends (Some position) false displaced = choice_kept operation instr is ends 0 (target (operand instr 2)) (branch_fixed instr 2 displaced)
+test_keeps : (operation : Operation) (instr : Instr) → operation_at instr.opcode ≡ Some operation → (code_use_of operation).ends ≡ true
+    → (state : Bool) (number : ℕ) → IsTarget (operand instr number) → ExitKeeps instr (test_exit state instr number)
+test_keeps operation instr is ends true number displaced = branch_keeps operation instr is ends number displaced
+test_keeps operation instr is ends false number displaced = choice_kept operation instr is ends 0 (target (operand instr number)) (branch_fixed instr number displaced)
 
 next_row : (operation : Operation) (instr : Instr) (plan : Plan) (program : List Micro) → operation_at instr.opcode ≡ Some operation
     → IsInner (code_use_of operation).reads (plan.before ++ plan.behind) → plan.exit ≡ exits.Next → computes_address operation instr ≡ false
@@ -282,21 +272,21 @@ rows_keep operations.ChangeMode instr program spelled long is row =
     plan_keeps operations.ChangeMode instr change_mode_plan program is refl refl (next_keeps instr (exits.Service 0) refl refl) (sym (same_Some _ _ row))
 rows_keep (operations.BranchOnLowBit state) instr program spelled long is row =
     let slots = slots_of (operations.BranchOnLowBit state) instr (low_bit_plan state instr) program spelled long is (sym (same_Some _ _ row)) refl refl (lit≤ tt) in
-    plan_keeps (operations.BranchOnLowBit state) instr (low_bit_plan state instr) program is (low_bit_inner _ state instr) refl (branch_keeps (operations.BranchOnLowBit state) instr is refl 1 (second _ _ _ instr slots).0.0) (sym (same_Some _ _ row))
+    plan_keeps (operations.BranchOnLowBit state) instr (low_bit_plan state instr) program is refl (test_computes state instr 1) (test_keeps (operations.BranchOnLowBit state) instr is refl state 1 (second _ _ _ instr slots).0.0) (sym (same_Some _ _ row))
 rows_keep (operations.SubtractOneBranch or_equal) instr program spelled long is row =
     let slots = slots_of (operations.SubtractOneBranch or_equal) instr (subtract_one_plan or_equal instr) program spelled long is (sym (same_Some _ _ row)) refl refl (lit≤ tt) in
-    plan_keeps (operations.SubtractOneBranch or_equal) instr (subtract_one_plan or_equal instr) program is (subtract_one_inner _ or_equal instr) refl (branch_keeps (operations.SubtractOneBranch or_equal) instr is refl 1 (second _ _ _ instr slots).0.0) (sym (same_Some _ _ row))
+    plan_keeps (operations.SubtractOneBranch or_equal) instr (subtract_one_plan or_equal instr) program is (subtract_one_inner _ or_equal instr) (test_computes (not or_equal) instr 1) (test_keeps (operations.SubtractOneBranch or_equal) instr is refl (not or_equal) 1 (second _ _ _ instr slots).0.0) (sym (same_Some _ _ row))
 rows_keep (operations.AddOneBranch or_equal) instr program spelled long is row =
     let slots = slots_of (operations.AddOneBranch or_equal) instr (add_one_plan or_equal instr) program spelled long is (sym (same_Some _ _ row)) refl refl (lit≤ tt) in
-    plan_keeps (operations.AddOneBranch or_equal) instr (add_one_plan or_equal instr) program is (add_one_inner _ or_equal instr) refl (branch_keeps (operations.AddOneBranch or_equal) instr is refl 2 (third _ _ _ _ instr slots).0.0) (sym (same_Some _ _ row))
+    plan_keeps (operations.AddOneBranch or_equal) instr (add_one_plan or_equal instr) program is (add_one_inner _ or_equal instr) (test_computes (not or_equal) instr 2) (test_keeps (operations.AddOneBranch or_equal) instr is refl (not or_equal) 2 (third _ _ _ _ instr slots).0.0) (sym (same_Some _ _ row))
 rows_keep (operations.AddCompareBranch width) instr program spelled long is row =
     let slots = slots_of (operations.AddCompareBranch width) instr (add_compare_plan width instr) program spelled long is (sym (same_Some _ _ row)) refl refl (lit≤ tt) in
     plan_keeps (operations.AddCompareBranch width) instr (add_compare_plan width instr) program is refl refl (branch_keeps (operations.AddCompareBranch width) instr is refl 3 (fourth _ _ _ _ _ instr slots).0.0) (sym (same_Some _ _ row))
 rows_keep (operations.BranchOnBit branch) instr program spelled long is row =
     let slots = slots_of (operations.BranchOnBit branch) instr (bit_branch_plan branch instr) program spelled long is (sym (same_Some _ _ row)) refl refl (lit≤ tt) in
     let position = literal_position (operand instr 0) (operand instr 1) in
-    plan_keeps (operations.BranchOnBit branch) instr (bit_branch_plan branch instr) program is (bit_inner _ position (operand instr 1) branch.state branch.store) (bit_computes position branch.state instr)
-    (bit_exit_keeps (operations.BranchOnBit branch) instr is refl position branch.state (third _ _ _ _ instr slots).0.0) (sym (same_Some _ _ row))
+    plan_keeps (operations.BranchOnBit branch) instr (bit_branch_plan branch instr) program is (bit_inner _ position (operand instr 1) branch.store) (test_computes branch.state instr 2)
+    (test_keeps (operations.BranchOnBit branch) instr is refl branch.state 2 (third _ _ _ _ instr slots).0.0) (sym (same_Some _ _ row))
 rows_keep operations.Jump instr program spelled long is row =
     plan_keeps operations.Jump instr (jump_plan instr) program is refl (jump_computes_for instr) (jump_keeps _ instr is refl refl) (sym (same_Some _ _ row))
 rows_keep operations.JumpToSubroutine instr program spelled long is row =

@@ -45,14 +45,14 @@ use Rattle.operand_programs.specs.Pieces.{leaving, IsKnownValue}
 use Rattle.operand_programs.specs.Results.{finish_program}
 use Rattle.operand_programs.specs.Specifiers.{stepped, commit_program}
 use Rattle.micro_lower.specs.Plans.{steps_of}
-use Rattle.micro_lower.specs.Rows.{read, field, displaced, storing, is_plain, literal_position, masked, with_mask_into, mask_program, byte_of, before_literal, masked_exit, bit_plan_with, bit_plan_for, bit_branch_plan}
+use Rattle.micro_lower.specs.Rows.{read, field, displaced, storing, is_plain, literal_position, masked, with_mask_into, mask_program, byte_of, before_literal, test_exit, bit_plan_with, bit_plan_for, bit_branch_plan}
 use Rattle.micro_lower.proofs.BitRows.{outside_is, low_told, set_register, cleared_register, again, read_at, write_at, setting, clearing, read_field_branch, register_body, memory_body}
 use Rattle.micro_lower.proofs.BitValues.{bit_set, bit_cleared}
 use Rattle.micro_lower.proofs.Coding.{GoesTo}
 use Rattle.micro_lower.proofs.Endings.{found_at, with, DoesSo, IsReadyToGo, nowhere, replaces, closes_kept}
-use Rattle.micro_lower.proofs.JumpRows.{go_end, set_test}
+use Rattle.micro_lower.proofs.JumpRows.{go_end, set_test, test_low}
 use Rattle.micro_lower.proofs.Planned.{AllDo, BodyDoes, value}
-use Rattle.micro_lower.proofs.Ready.{effect, IsLowExit}
+use Rattle.micro_lower.proofs.Ready.{effect}
 
 -- ---- the test
 nothing_of : (b k : ℕ) → b < 2 → (b * 2 ^ k == 0) ≡ (b == 0)
@@ -71,17 +71,13 @@ mask_tells : (x k : ℕ) → (bit_and x (2 ^ k) == 0) ≡ (x / 2 ^ k % 2 == 0)
 mask_tells x k = ap (λ n. n == 0) (and_pow x k) ∙ nothing_of (x / 2 ^ k % 2) k (mod_below (x / 2 ^ k) 2 (lit< tt))
 
 masked_goes : (s : Bool) (instr : Instr) (found : Found) (temps : Temps) (x k : ℕ) → temps 0 ≡ bit_and x (2 ^ k)
-    → GoesTo (masked_exit s instr) found temps (pc_after instr 2 (x / 2 ^ k % 2 == bit s))
+    → GoesTo (test_exit s instr 2) found temps (pc_after instr 2 (x / 2 ^ k % 2 == bit s))
 masked_goes true instr found temps x k is = rw (is, mask_tells x k) (set_test (x / 2 ^ k) (target (operand instr 2)) instr.after)
 masked_goes false instr found temps x k is = rw (is, mask_tells x k) refl
 
-exit_low : (s : Bool) (instr : Instr) → IsLowExit (masked_exit s instr)
-exit_low true instr = lit< tt
-exit_low false instr = lit< tt
-
 masked_ready : (s : Bool) (instr : Instr) (state : VaxState) (temps : Temps) (x k : ℕ) → temps 0 ≡ bit_and x (2 ^ k)
-    → IsReadyToGo state instr.after (masked_exit s instr) (pc_after instr 2 (x / 2 ^ k % 2 == bit s)) temps
-masked_ready s instr state temps x k is = record { low = exit_low s instr; goes = masked_goes s instr (found_at state instr.after) temps x k is }
+    → IsReadyToGo state instr.after (test_exit s instr 2) (pc_after instr 2 (x / 2 ^ k % 2 == bit s)) temps
+masked_ready s instr state temps x k is = record { low = test_low s instr 2; goes = masked_goes s instr (found_at state instr.after) temps x k is }
 
 -- ---- a bit of a register
 module _ (s : Bool) (instr : Instr) (state : VaxState) (pages : Pages) (thread : ℕ) (temps : Temps) (ok : IsState state) (n registers : ℕ) (low : registers % 2 ^ 32 ≡ temps 1)
@@ -96,7 +92,7 @@ module _ (s : Bool) (instr : Instr) (state : VaxState) (pages : Pages) (thread :
   whole = registers % 2 ^ 64
 
   abbrev exit : Exit
-  exit = masked_exit s instr
+  exit = test_exit s instr 2
 
   abbrev close : List Micro
   close = Leave exit ∷ []
@@ -221,7 +217,7 @@ module _ (s : Bool) (instr : Instr) (state : VaxState) (pages : Pages) (thread :
   byte_at = field_address (temps 2) place_position
 
   abbrev byte_exit : Exit
-  byte_exit = masked_exit s instr
+  byte_exit = test_exit s instr 2
 
   abbrev byte_close : List Micro
   byte_close = Leave byte_exit ∷ []

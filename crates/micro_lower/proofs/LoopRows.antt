@@ -58,7 +58,7 @@ use Rattle.vt_words.specs.Arithmetic.{sum_of}
 use Rattle.vt_words.specs.Quad.{sign_extended}
 use Rattle.micro_ops.specs.Values.{bits_of, signed}
 use Rattle.micro_ops.specs.declared.codes.CodeSource.TheVariants.{Computed}
-use Rattle.micro_lower.specs.Rows.{down_test, up_test, subtract_one_plan, add_one_plan, add_compare_plan}
+use Rattle.micro_lower.specs.Rows.{down_test, up_test, test_exit, subtract_one_plan, add_one_plan, add_compare_plan}
 use Rattle.micro_lower.proofs.Given.{replaces_as}
 use Rattle.std.proofs.Common.{add-zero}
 use Rattle.std.proofs.lemmas.Nat.{mod_below}
@@ -68,6 +68,8 @@ use Rattle.micro_lower.proofs.Given.{carry_is}
 use Rattle.micro_lower.proofs.Ready.{ReadyFor}
 use Rattle.micro_lower.proofs.Overflow.{extended_below, sum_overflows}
 use Rattle.micro_lower.proofs.Planned.{both, after_modify}
+use Rattle.micro_lower.proofs.Coding.{GoesTo}
+use Rattle.micro_lower.proofs.JumpRows.{test_low}
 
 -- ---- shapes
 pub modify_then_branch : (values : List Evaluated) (temps : Temps) (P : List Evaluated → Type 0) (size size' : Size) (a b : Operand) (to to' from' : ℕ)
@@ -96,6 +98,10 @@ read_twice_modify_branch values temps P size size4 a b c d to from to2 from2 to3
 branches_by : (b : Bool) (taken other : ℕ) → (if bit b == 0 then other else taken) ≡ (if b then taken else other)
 branches_by true taken other = refl
 branches_by false taken other = refl
+
+branches_unless : (b : Bool) (taken other : ℕ) → (if bit b == 0 then taken else other) ≡ (if not b then taken else other)
+branches_unless true taken other = refl
+branches_unless false taken other = refl
 
 pub not_less : (x y : ℤ) → not (int_lt x y) ≡ int_le y x
 not_less x y = grind (arith, ints)
@@ -145,12 +151,13 @@ index_ready size start temps coded fits made n z v = (((rw made fits, rw made n,
 decreased : (x : ℕ) → x < 4294967296 → (x + (4294967296 - 1)) % 4294967296 ≡ (x + 4294967296 - (1 + 0)) % 4294967296
 decreased x lt = omega (arith, lt)
 
-down_goes : (or_equal : Bool) (found : Found) (temps : Temps) (r taken other : ℕ) → r < 2 ^ 32 → temps 2 ≡ r
-    → (if effect (down_test or_equal) found temps 0 == 0 then other else taken) ≡ (if goes_down or_equal r then taken else other)
+down_goes : (or_equal : Bool) (instr : Instr) (found : Found) (temps : Temps) (r : ℕ) → r < 2 ^ 32 → temps 2 ≡ r
+    → GoesTo (test_exit (not or_equal) instr 1) found (effect (down_test or_equal) found temps) (pc_after instr 1 (goes_down or_equal r))
 unfolding value_from
-down_goes true found temps r taken other lt made =
-    rw (made, mod-eq_of_lt lt, flipped (int_lt (signed Long r) (signed Long 0)), not_less (signed Long r) (signed Long 0)) (branches_by (is_at_most 4 0 r) taken other)
-down_goes false found temps r taken other lt made = rw (made, mod-eq_of_lt lt) (branches_by (is_less 4 0 r) taken other)
+down_goes true instr found temps r lt made =
+    rw (made, mod-eq_of_lt lt)
+    (branches_unless (int_lt (signed Long r) (signed Long 0)) (target (operand instr 1)) instr.after ∙ ap (λ b. pc_after instr 1 b) (not_less (signed Long r) (signed Long 0)))
+down_goes false instr found temps r lt made = rw (made, mod-eq_of_lt lt) (branches_by (is_less 4 0 r) (target (operand instr 1)) instr.after)
 
 down_computes : (or_equal : Bool) → list_all is_computation (down_test or_equal) ≡ true
 down_computes true = refl
@@ -177,19 +184,20 @@ subtract_one_all or_equal instr givable state pages thread temps values ok same 
     modify_then_branch values temps (BodyDoes (operations.SubtractOneBranch or_equal) instr plan state pages thread temps) Long Byte (operand instr 0) (operand instr 1) 0 0 1 left (λ location at was.
     replaces_as (Computed Long) Kept state pages thread instr.after ok Long (operand instr 0) (steps_of plan.slots instr) same location (index_coded state index) after plan.behind (down_computes or_equal)
     at givable made fits (down_keeps or_equal found tested 2 refl)
-    (index_ready Long state (effect plan.behind found after) index fits (down_keeps or_equal found tested 2 refl ∙ made) refl refl (down_keeps or_equal found tested 3 refl ∙ v)) plan.exit (lit< tt) pc
-    (down_goes or_equal found tested index.value (target (operand instr 1)) instr.after fits made)
+    (index_ready Long state (effect plan.behind found after) index fits (down_keeps or_equal found tested 2 refl ∙ made) refl refl (down_keeps or_equal found tested 3 refl ∙ v)) plan.exit (test_low (not or_equal) instr 1) pc
+    (down_goes or_equal instr found tested index.value fits made)
     (index_end pages index pc) (index_ends pages state index pc))
 
 increased : (x : ℕ) → (x + 1) % 4294967296 ≡ (x + 1 + 0) % 4294967296
 increased x = omega arith
 
-up_goes : (or_equal : Bool) (found : Found) (temps : Temps) (r limit taken other : ℕ) → r < 2 ^ 32 → temps 2 ≡ r → temps 1 % 2 ^ 32 ≡ limit
-    → (if effect (up_test or_equal) found temps 0 == 0 then other else taken) ≡ (if goes_up or_equal r limit then taken else other)
+up_goes : (or_equal : Bool) (instr : Instr) (found : Found) (temps : Temps) (r limit : ℕ) → r < 2 ^ 32 → temps 2 ≡ r → temps 1 % 2 ^ 32 ≡ limit
+    → GoesTo (test_exit (not or_equal) instr 2) found (effect (up_test or_equal) found temps) (pc_after instr 2 (goes_up or_equal r limit))
 unfolding value_from
-up_goes true found temps r limit taken other lt made is =
-    rw (is, made, mod-eq_of_lt lt, flipped (int_lt (signed Long limit) (signed Long r)), not_less (signed Long limit) (signed Long r)) (branches_by (is_at_most 4 r limit) taken other)
-up_goes false found temps r limit taken other lt made is = rw (is, made, mod-eq_of_lt lt) (branches_by (is_less 4 r limit) taken other)
+up_goes true instr found temps r limit lt made is =
+    rw (is, made, mod-eq_of_lt lt)
+    (branches_unless (int_lt (signed Long limit) (signed Long r)) (target (operand instr 2)) instr.after ∙ ap (λ b. pc_after instr 2 b) (not_less (signed Long limit) (signed Long r)))
+up_goes false instr found temps r limit lt made is = rw (is, made, mod-eq_of_lt lt) (branches_by (is_less 4 r limit) (target (operand instr 2)) instr.after)
 
 up_computes : (or_equal : Bool) → list_all is_computation (up_test or_equal) ≡ true
 up_computes true = refl
@@ -216,8 +224,8 @@ add_one_all or_equal instr givable state pages thread temps values ok same left 
     read_modify_branch values temps (BodyDoes (operations.AddOneBranch or_equal) instr plan state pages thread temps) Long Long Byte (operand instr 0) (operand instr 1) (operand instr 2) 1 2 0 0 1 left (λ location limit at was.
     replaces_as (Computed Long) Kept state pages thread instr.after ok Long (operand instr 1) (steps_of plan.slots instr) same location (index_coded state index) after plan.behind (up_computes or_equal)
     at givable made fits (up_keeps or_equal found tested 2 refl)
-    (index_ready Long state (effect plan.behind found after) index fits (up_keeps or_equal found tested 2 refl ∙ made) refl refl (up_keeps or_equal found tested 3 refl ∙ v)) plan.exit (lit< tt) pc
-    (up_goes or_equal found tested index.value (temps 1 % 2 ^ 32) (target (operand instr 2)) instr.after fits made refl)
+    (index_ready Long state (effect plan.behind found after) index fits (up_keeps or_equal found tested 2 refl ∙ made) refl refl (up_keeps or_equal found tested 3 refl ∙ v)) plan.exit (test_low (not or_equal) instr 2) pc
+    (up_goes or_equal instr found tested index.value (temps 1 % 2 ^ 32) fits made refl)
     (index_end pages index pc) (index_ends pages state index pc))
 
 -- ---- ACB

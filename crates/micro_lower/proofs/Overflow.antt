@@ -44,6 +44,13 @@ extended_low Word v lt = grind (arith, nat_tests)
 extended_low Long v lt = grind (arith, nat_tests)
 extended_low Quad v lt = grind (arith, nat_tests)
 
+-- a number of a size as a quadword
+pub as_quad : (size : Size) (a : ℕ) → a < limit_of size → a % 2 ^ 64 ≡ a
+as_quad Byte a lt = omega (arith, lt)
+as_quad Word a lt = omega (arith, lt)
+as_quad Long a lt = omega (arith, lt)
+as_quad Quad a lt = omega (arith, lt)
+
 -- the low bytes of the low quadword
 pub low_of : (size : Size) (x : ℤ) → value_of (bytes_of size) x ≡ value_of 8 x % limit_of size
 low_of Byte x = low_byte x

@@ -22,7 +22,7 @@ use Rattle.micro_ops.specs.declared.program.Exit.{Exit}
 use Rattle.micro_ops.specs.declared.program.Micro.{Micro}
 use Rattle.micro_ops.specs.declared.program.MicroOp.TheVariants as ops
 use Rattle.operand_programs.specs.Operands.{IsLocated}
-use Rattle.micro_lower.specs.Rows.{divides, move_plan, clear_plan, move_zero_extended_plan, move_complemented_plan, move_negated_plan, convert_plan, move_address_plan, push_address_plan, push_long_plan, compare_plan, test_plan, bit_test_plan, by_one_plan, two_operands_plan, three_operands_plan, low_bit_plan, subtract_one_plan, add_one_plan, add_compare_plan, add_with_carry_plan, change_mode_plan, subtract_with_carry_plan, rotate_plan, arithmetic_shift_plan, shift_plan_with, shifted_by, overflow_of_shift_by, change_psw_plan, branch_exit, before_bit, before_literal, masked_exit, literal_position, bit_plan_with, bit_plan_for, bit_branch_plan, move_psl_plan}
+use Rattle.micro_lower.specs.Rows.{divides, move_plan, clear_plan, move_zero_extended_plan, move_complemented_plan, move_negated_plan, convert_plan, move_address_plan, push_address_plan, push_long_plan, compare_plan, test_plan, bit_test_plan, by_one_plan, two_operands_plan, three_operands_plan, low_bit_plan, subtract_one_plan, add_one_plan, add_compare_plan, add_with_carry_plan, change_mode_plan, subtract_with_carry_plan, rotate_plan, arithmetic_shift_plan, shift_plan_with, shifted_by, overflow_of_shift_by, change_psw_plan, test_exit, before_bit, before_literal, literal_position, bit_plan_with, bit_plan_for, bit_branch_plan, move_psl_plan}
 use Rattle.micro_lower.proofs.Fit.{having, plan_fits, PlanFits, first_located, second_located, third_located}
 
 pub move_fits : (size : Size) (instr : Instr) → IsLocated (operand instr 1) → plan_fits (sources_of (operations.Move size)) (move_plan size instr) instr ≡ true
@@ -276,10 +276,10 @@ abbrev BitFits : (before : List Micro) → Exit → (s : Bool) → BitStore → 
 BitFits before exit s store base instr = plan_fits (sources_of (operations.BranchOnBit (record { state = s; store = store }))) (bit_plan_with before exit base store instr) instr ≡ true
 
 abbrev ComputedFits : (s : Bool) → BitStore → Operand → Instr → Type 0
-ComputedFits s store base instr = BitFits (before_bit base (record { state = s; store = store })) (branch_exit instr 2) s store base instr
+ComputedFits s store base instr = BitFits (before_bit base store) (test_exit s instr 2) s store base instr
 
 abbrev LiteralBitFits : (first : Bool) → (position : ℕ) → (s : Bool) → BitStore → Operand → Instr → Type 0
-LiteralBitFits first position s store base instr = BitFits (before_literal base first position store) (masked_exit s instr) s store base instr
+LiteralBitFits first position s store base instr = BitFits (before_literal base first position store) (test_exit s instr 2) s store base instr
 
 computed_in_memory : (s : Bool) (store : BitStore) (instr : Instr) (a : Operand) (base : Base) (index : Option ℕ) (more : List Operand) → ComputedFits s store (operands.Place base index) (having instr (a ∷ operands.Place base index ∷ more))
 unfolding sources_of step

@@ -16,12 +16,11 @@ use Rattle.vax_form.specs.declared.instr.Size.TheVariants.{Byte, Word, Long, Qua
 use Rattle.vax_meaning.specs.Evaluation.{operand}
 use Rattle.operand_programs.specs.InOrder.{IsOutsideOne, IsOutside, Lasts, ArePlaced, AreOperandsOf}
 use Rattle.operand_programs.specs.Operands.{IsFor}
-use Rattle.operand_programs.specs.Pieces.{IsLong}
+use Rattle.operand_programs.specs.Pieces.{IsLong, IsLongOperand}
 use Rattle.operand_programs.specs.Behind.{AreFit}
 use Rattle.operand_programs.specs.Registers.{BaseIsNamed, NamesRegisters}
 use Rattle.operand_programs.specs.Results.{IsGivable}
 use Rattle.operand_programs.specs.declared.operands.Specifier.{Specifier}
-use Rattle.micro_lower.specs.Lowering.{IsLongOperand}
 use Rattle.micro_lower.specs.Plans.{specifiers_from}
 use Rattle.micro_lower.specs.declared.plans.Slot.{Slot}
 use Rattle.micro_lower.proofs.Spelled.{with_operands}

@@ -45,6 +45,7 @@ use Rattle.micro_lower.proofs.Endings.{nowhere, pushed}
 use Rattle.micro_lower.proofs.Planned.{only_read, only_address, read_twice}
 use Rattle.operand_programs.specs.Results.{push_program, steps_behind_push}
 use Rattle.operand_programs.specs.Specifiers.{commit_program}
+use Rattle.micro_lower.proofs.Overflow.{as_quad}
 
 -- ---- tests
 -- a comparison sets the codes and goes on
@@ -93,10 +94,11 @@ bit_test_all width instr state pages thread temps values ok same left =
     let v = bit_and a b in
     let fits : v < limit_of size = let le = and_le_l a b in omega (arith, le, low_below size (temps 0)) in
     read_twice values temps (BodyDoes (operations.BitTest width) instr plan state pages thread temps) size (operand instr 0) 0 1 size (operand instr 1) 1 2 left (λ first second.
+    let made : effect plan.behind found temps 2 ≡ v = rw (as_quad size (temps 0) first, as_quad size (temps 1) second, mod-eq_of_lt first, mod-eq_of_lt second) refl in
     nowhere (from (Result size) Kept) state pages thread instr.after ok _ (value_end pages size v instr.after) _
     (closes_coded (Result size) Kept state pages thread instr.after (value_coded state size v) Next instr.after (value_end pages size v instr.after) (value_ends pages state size v instr.after))
     plan.behind refl (steps_of plan.slots instr) temps same
-    (record { low = tt; goes = refl; ready = result_ready size state v (effect plan.behind found temps) fits (mod-eq_of_lt fits) refl }))
+    (record { low = tt; goes = refl; ready = result_ready size state v (effect plan.behind found temps) fits (ap (λ n. n % limit_of size) made ∙ mod-eq_of_lt fits) made }))
 
 -- ---- pushes
 pub room : (state : VaxState) (steps : List ℕ) → IsState state → length steps ≡ length state.r → 14 < length steps

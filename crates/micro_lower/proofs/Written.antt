@@ -46,10 +46,6 @@ module _ (operation : Operation) (plan : Plan) (instr : Instr) where
       subst (HaveBytes (written_bytes operation)) (same_Some _ _ made) (plan_has (written_bytes operation) (sources_of operation) plan instr before target behind)
 
 -- ---- the parts of a branch on a bit
-tested_has : (count : ℕ) (state : Bool) (size : Size) → HaveBytes count (bit_tested state size)
-tested_has count true size = refl
-tested_has count false size = refl
-
 stored_has : (count : ℕ) (store : BitStore) → HaveBytes count (bit_stored store)
 stored_has count stores.Nothing = refl
 stored_has count (stores.Plain value) = refl
@@ -60,17 +56,15 @@ byte_has stores.Nothing = refl
 byte_has (stores.Plain value) = refl
 byte_has (stores.Interlocked value) = refl
 
-in_register : (state : Bool) (store : BitStore) → HaveBytes (bytes_of_store store) (before_bit (operands.Register 0) (record { state = state; store = store }))
-in_register state store =
-    joined (bytes_of_store store) (bit_stored store) (bit_tested state Long) (stored_has (bytes_of_store store) store) (tested_has (bytes_of_store store) state Long)
+in_register : (store : BitStore) → HaveBytes (bytes_of_store store) (before_bit (operands.Register 0) store)
+in_register store = joined (bytes_of_store store) (bit_stored store) (bit_tested Long) (stored_has (bytes_of_store store) store) refl
 
-in_memory : (state : Bool) (store : BitStore) → HaveBytes (bytes_of_store store) (before_bit operands.Unused (record { state = state; store = store }))
-in_memory state store =
-    joined (bytes_of_store store) (byte_program store) (bit_tested state Byte) (byte_has store) (tested_has (bytes_of_store store) state Byte)
+in_memory : (store : BitStore) → HaveBytes (bytes_of_store store) (before_bit operands.Unused store)
+in_memory store = joined (bytes_of_store store) (byte_program store) (bit_tested Byte) (byte_has store) refl
 
-bit_has : (base : Operand) (state : Bool) (store : BitStore) → HaveBytes (bytes_of_store store) (before_bit base (record { state = state; store = store }))
-bit_has (operands.Register n) state store = in_register state store
-bit_has _ state store = in_memory state store
+bit_has : (base : Operand) (store : BitStore) → HaveBytes (bytes_of_store store) (before_bit base store)
+bit_has (operands.Register n) store = in_register store
+bit_has _ store = in_memory store
 
 mask_stored_has : (count : ℕ) (store : BitStore) (mask : ℕ) → HaveBytes count (mask_stored store mask)
 mask_stored_has count stores.Nothing mask = refl
@@ -98,9 +92,9 @@ literal_has (operands.Register n) first position store =
     let mask = 2 ^ (position % 32) in joined (bytes_of_store store) (mask_stored store mask) (masked Long mask ∷ []) (mask_stored_has (bytes_of_store store) store mask) refl
 literal_has _ first position store = literal_in_memory first position store
 
-bit_at_has : (position : Option ℕ) (base : Operand) (state : Bool) (store : BitStore) → HaveBytes (bytes_of_store store) (before_bit_at position base (record { state = state; store = store }))
-bit_at_has None base state store = bit_has base state store
-bit_at_has (Some position) base state store = literal_has base (nat_lt position 8) position store
+bit_at_has : (position : Option ℕ) (base : Operand) (store : BitStore) → HaveBytes (bytes_of_store store) (before_bit_at position base store)
+bit_at_has None base store = bit_has base store
+bit_at_has (Some position) base store = literal_has base (nat_lt position 8) position store
 
 -- a register takes the result, and nothing is written
 left_has : (count : ℕ) (base : Operand) (size : Size) → TargetHas count (register_target base size)
@@ -213,7 +207,7 @@ rows_have operations.Rotate instr = by_plan operations.Rotate (rotate_plan instr
 rows_have operations.ExtendedMultiply instr = λ program made. subst (HaveBytes (bytes_of Quad)) (same_Some _ _ made) (product_has instr)
 rows_have (operations.BranchOnLowBit state) instr = low_bit_has state instr
 rows_have (operations.BranchOnBit branch) instr =
-    by_plan (operations.BranchOnBit branch) (bit_branch_plan branch instr) instr (bit_at_has (literal_position (operand instr 0) (operand instr 1)) (operand instr 1) branch.state branch.store) (bit_target_has (bytes_of_store branch.store) (operand instr 1) branch.store) refl
+    by_plan (operations.BranchOnBit branch) (bit_branch_plan branch instr) instr (bit_at_has (literal_position (operand instr 0) (operand instr 1)) (operand instr 1) branch.store) (bit_target_has (bytes_of_store branch.store) (operand instr 1) branch.store) refl
 rows_have (operations.SubtractOneBranch or_equal) instr = subtract_one_has or_equal instr
 rows_have (operations.AddOneBranch or_equal) instr = add_one_has or_equal instr
 rows_have (operations.AddCompareBranch width) instr = by_plan (operations.AddCompareBranch width) (add_compare_plan width instr) instr refl (λ steps. replacement_has (operand instr 2) (size_of width) 3 2) refl

@@ -10,8 +10,6 @@ use Rattle.vax_form.specs.Targets.{fixed_targets, jump_target}
 use Rattle.vax_form.specs.Tree.{Same}
 use Rattle.vax_form.specs.Written.{written_bytes}
 use Rattle.vax_form.specs.declared.instr.Instr.{Instr}
-use Rattle.vax_form.specs.declared.instr.Operand.{Operand}
-use Rattle.vax_form.specs.declared.instr.Operand.TheVariants as operands
 use Rattle.vax_form.specs.declared.operation.Operation.{Operation}
 use Rattle.vax_form.specs.declared.operation.Operation.TheVariants.{Jump, JumpToSubroutine, ReturnFromSubroutine}
 use Rattle.vax_form.specs.declared.row.Class.TheVariants.{Translated}
@@ -29,7 +27,7 @@ use Rattle.micro_ops.specs.Sources.{sources_of}
 use Rattle.micro_ops.specs.Uses.{has_bytes, reads_flag}
 use Rattle.micro_ops.specs.declared.codes.CodeSources.{CodeSources}
 use Rattle.micro_ops.specs.declared.program.Micro.{Micro}
-use Rattle.operand_programs.specs.Pieces.{service, IsLong}
+use Rattle.operand_programs.specs.Pieces.{service, IsLongOperand}
 use Rattle.micro_lower.specs.Rows.{has_program, program_for}
 
 -- the program does what the instruction does, from every state
@@ -47,12 +45,7 @@ pub record Lowers (operation : Operation) (instr : Instr) (program : List Micro)
   pub holds : Holds (sources_of operation) instr program
   pub fits : fits (sources_of operation) program ≡ true
 
--- an address that the code has is a longword
-abbrev pub IsLongOperand : Operand → Type 0
-IsLongOperand (operands.Place base index) = IsLong base
-IsLongOperand operand = Unit {0}
-
--- so are all addresses in the operands of an instruction with at most four
+-- the addresses in the operands of an instruction with at most four are longwords
 abbrev pub AreLongOperands : Instr → Type 0
 AreLongOperands instr = IsLongOperand (operand instr 0) × IsLongOperand (operand instr 1) × IsLongOperand (operand instr 2) × IsLongOperand (operand instr 3)
 

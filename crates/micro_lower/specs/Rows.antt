@@ -1,6 +1,6 @@
 -- The rows of the table of instructions: the plan of each operation.
 -- VAX Architecture Reference Manual, "Instruction Descriptions".
-use Rattle.std.specs.Prelude.{ℕ, ◌-◌, ◌/◌, ◌%◌, ◌^◌, List, [], ◌∷◌, ◌++◌, Bool, true, false, Option, Some, None, min, nat_lt, option_and_then, if◌then◌else◌}
+use Rattle.std.specs.Prelude.{ℕ, ◌-◌, ◌/◌, ◌%◌, ◌^◌, List, [], ◌∷◌, ◌++◌, Bool, true, false, not, Option, Some, None, min, nat_lt, option_and_then, if◌then◌else◌}
 use Rattle.std.specs.Option.{option_or}
 use Rattle.vax_form.specs.Operation.{operation_at}
 use Rattle.vax_form.specs.Row.{class_at, is_translated}
@@ -205,7 +205,7 @@ bit_test_plan width = record {
   slots = read (size_of width) 0 1 ∷ read (size_of width) 1 2 ∷ [];
   before = [];
   target = targets.Nowhere;
-  behind = Compute 2 ops.And (size_of width) (Temp 0) (Temp 1) ∷ unary 0 ops.Move (size_of width) (Temp 2) ∷ [];
+  behind = Compute 2 ops.And Quad (Temp 0) (Temp 1) ∷ unary 0 ops.Move (size_of width) (Temp 2) ∷ [];
   exit = Next;
 }
 
@@ -219,6 +219,13 @@ micro_of binary.BitSet = ops.Or
 micro_of binary.BitClear = ops.AndNot
 micro_of binary.ExclusiveOr = ops.Xor
 
+-- the size at which the result is made: a logical one of two numbers of a size is one of that size, and nothing is masked
+abbrev pub made_size : BinaryOperation → Size → Size
+made_size binary.BitSet size = Quad
+made_size binary.BitClear size = Quad
+made_size binary.ExclusiveOr size = Quad
+made_size operation size = size
+
 -- V of a product is computed, and a logical result is also in 0
 abbrev pub behind_binary : BinaryOperation → Size → List Micro
 behind_binary binary.Add size = []
@@ -231,7 +238,7 @@ behind_binary _ size = unary 0 ops.Move size (Temp 2) ∷ []
 abbrev pub two_operands_plan : BinaryOperation → Width → Instr → Plan
 two_operands_plan operation width instr = record {
   slots = read (size_of width) 1 2 ∷ modified (size_of width) 0 ∷ [];
-  before = Compute 2 (micro_of operation) (size_of width) (Temp 0) (Temp 1) ∷ [];
+  before = Compute 2 (micro_of operation) (made_size operation (size_of width)) (Temp 0) (Temp 1) ∷ [];
   target = targets.Replacement (operand instr 1) (size_of width);
   behind = behind_binary operation (size_of width);
   exit = Next;
@@ -241,7 +248,7 @@ two_operands_plan operation width instr = record {
 abbrev pub three_operands_plan : BinaryOperation → Width → Instr → Plan
 three_operands_plan operation width instr = record {
   slots = read (size_of width) 1 2 ∷ read (size_of width) 0 2 ∷ written (size_of width) ∷ [];
-  before = Compute 2 (micro_of operation) (size_of width) (Temp 0) (Temp 1) ∷ [];
+  before = Compute 2 (micro_of operation) (made_size operation (size_of width)) (Temp 0) (Temp 1) ∷ [];
   target = targets.Result (operand instr 2) (size_of width);
   behind = behind_binary operation (size_of width);
   exit = Next;
@@ -297,24 +304,24 @@ add_aligned_plan instr = add_aligned_plan_for (operand instr 1) instr
 abbrev pub branch_exit : Instr → (number : ℕ) → Exit
 branch_exit instr number = Choice 0 (target (operand instr number)) instr.after
 
--- a test for 1 is a test for 0 inverted
-abbrev pub unless : Bool → List Micro → List Micro
-unless true program = program
-unless false program = program ++ inverted 0 ∷ []
+-- one that is taken where what is in 0 is not 0, or where it is
+abbrev pub test_exit : (state : Bool) → Instr → (number : ℕ) → Exit
+test_exit true instr number = branch_exit instr number
+test_exit false instr number = Choice 0 instr.after (target (operand instr number))
 
 -- BLBS, BLBC
 abbrev pub low_bit_plan : Bool → Instr → Plan
 low_bit_plan state instr = record {
   slots = read Long 0 1 ∷ displaced Byte ∷ [];
-  before = unless state (Compute 0 ops.And Byte (Temp 0) (Const 1) ∷ []);
+  before = Compute 0 ops.And Byte (Temp 0) (Const 1) ∷ [];
   target = targets.Nowhere;
   behind = [];
-  exit = branch_exit instr 1;
+  exit = test_exit state instr 1;
 }
 
--- whether a longword is at least 0, or above 0
+-- whether a longword is below 0, which one that is at least 0 is not, or above 0
 abbrev pub down_test : (or_equal : Bool) → List Micro
-down_test true = Compute 0 ops.Less Long (Temp 2) (Const 0) ∷ inverted 0 ∷ []
+down_test true = Compute 0 ops.Less Long (Temp 2) (Const 0) ∷ []
 down_test false = Compute 0 ops.Less Long (Const 0) (Temp 2) ∷ []
 
 -- SOBGEQ, SOBGTR. V: the index was below what it is
@@ -324,12 +331,12 @@ subtract_one_plan or_equal instr = record {
   before = Compute 2 ops.Sub Long (Temp 0) (Const 1) ∷ [];
   target = targets.Replacement (operand instr 0) Long;
   behind = Compute 3 ops.Less Long (Temp 0) (Temp 2) ∷ down_test or_equal;
-  exit = branch_exit instr 1;
+  exit = test_exit (not or_equal) instr 1;
 }
 
--- whether the index is at most the limit, or less
+-- whether the index is above the limit, which one that is at most the limit is not, or below it
 abbrev pub up_test : (or_equal : Bool) → List Micro
-up_test true = Compute 0 ops.Less Long (Temp 1) (Temp 2) ∷ inverted 0 ∷ []
+up_test true = Compute 0 ops.Less Long (Temp 1) (Temp 2) ∷ []
 up_test false = Compute 0 ops.Less Long (Temp 2) (Temp 1) ∷ []
 
 -- AOBLEQ, AOBLSS. V: the index is below what it was
@@ -339,7 +346,7 @@ add_one_plan or_equal instr = record {
   before = Compute 2 ops.Add Long (Temp 0) (Const 1) ∷ [];
   target = targets.Replacement (operand instr 1) Long;
   behind = Compute 3 ops.Less Long (Temp 2) (Temp 0) ∷ up_test or_equal;
-  exit = branch_exit instr 2;
+  exit = test_exit (not or_equal) instr 2;
 }
 
 -- what ACB computes behind the sum. V: the sum less the addend is no such number. The index is at most the limit, or with a
@@ -374,9 +381,9 @@ add_compare_plan width instr = record {
 abbrev pub field : Size → Slot
 field size = slot accesses.Field size 1 2
 
--- whether the bit of that number in 0 of the value in 1 is as the branch wants it
-abbrev pub bit_tested : (state : Bool) → Size → List Micro
-bit_tested state size = Compute 0 ops.ShiftRight size (Temp 1) (Temp 0) ∷ unless state (Compute 0 ops.And Byte (Temp 0) (Const 1) ∷ [])
+-- the bit of that number in 0 of the value in 1
+abbrev pub bit_tested : Size → List Micro
+bit_tested size = Compute 0 ops.ShiftRight size (Temp 1) (Temp 0) ∷ Compute 0 ops.And Byte (Temp 0) (Const 1) ∷ []
 
 -- sets a bit, or clears it
 abbrev pub storing : Bool → MicroOp
@@ -404,16 +411,16 @@ byte_program (stores.Plain value) = Probe 2 1 true ∷ Read 1 2 1 ∷ with_bit_i
 byte_program (stores.Interlocked value) = Probe 2 1 true ∷ Locked 1 2 (locked_op value) 0 ∷ []
 
 -- a position above 31 is no bit of a register. In memory it is a signed number of bits from the base
-abbrev pub before_bit : Operand → BitBranch → List Micro
-before_bit (operands.Register n) branch =
+abbrev pub before_bit : Operand → BitStore → List Micro
+before_bit (operands.Register n) store =
     Compute 4 ops.LessUnsigned Long (Const 31) (Temp 0)
     ∷ Refuse 4
-    ∷ bit_stored branch.store ++ bit_tested branch.state Long
-before_bit base branch =
+    ∷ bit_stored store ++ bit_tested Long
+before_bit base store =
     Compute 4 ops.ShiftSigned Long (Temp 0) (Const 3)
     ∷ Compute 2 ops.Add Long (Temp 2) (Temp 4)
     ∷ Compute 0 ops.And Byte (Temp 0) (Const 7)
-    ∷ byte_program branch.store ++ bit_tested branch.state Byte
+    ∷ byte_program store ++ bit_tested Byte
 
 abbrev pub bit_target : Operand → BitStore → Target
 bit_target base stores.Nothing = targets.Nowhere
@@ -457,19 +464,10 @@ abbrev pub before_literal : Operand → (first : Bool) → (position : ℕ) → 
 before_literal (operands.Register n) first position store = mask_stored store (2 ^ (position % 32)) ++ masked Long (2 ^ (position % 32)) ∷ []
 before_literal base first position store = byte_of first position ++ (mask_program store (2 ^ (position % 8)) ++ masked Byte (2 ^ (position % 8)) ∷ [])
 
--- a bit under a mask is 0, or is not
-abbrev pub masked_exit : (state : Bool) → Instr → Exit
-masked_exit true instr = branch_exit instr 2
-masked_exit false instr = Choice 0 instr.after (target (operand instr 2))
-
 -- by the literal, where there is one
-abbrev pub before_bit_at : Option ℕ → Operand → BitBranch → List Micro
-before_bit_at None base branch = before_bit base branch
-before_bit_at (Some position) base branch = before_literal base (nat_lt position 8) position branch.store
-
-abbrev pub bit_exit : Option ℕ → (state : Bool) → Instr → Exit
-bit_exit None state instr = branch_exit instr 2
-bit_exit (Some position) state instr = masked_exit state instr
+abbrev pub before_bit_at : Option ℕ → Operand → BitStore → List Micro
+before_bit_at None base store = before_bit base store
+before_bit_at (Some position) base store = before_literal base (nat_lt position 8) position store
 
 abbrev pub bit_plan_with : (before : List Micro) → Exit → Operand → BitStore → Instr → Plan
 bit_plan_with before exit base store instr = record {
@@ -481,7 +479,7 @@ bit_plan_with before exit base store instr = record {
 }
 
 abbrev pub bit_plan_for : Option ℕ → Operand → BitBranch → Instr → Plan
-bit_plan_for position base branch instr = bit_plan_with (before_bit_at position base branch) (bit_exit position branch.state instr) base branch.store instr
+bit_plan_for position base branch instr = bit_plan_with (before_bit_at position base branch.store) (test_exit branch.state instr 2) base branch.store instr
 
 -- BBS, BBC, BBSS, BBCS, BBSC, BBCC, BBSSI, BBCCI
 abbrev pub bit_branch_plan : BitBranch → Instr → Plan
@@ -627,7 +625,7 @@ rotated =
     ∷ Compute 2 ops.ShiftLeft Long (Temp 1) (Temp 4)
     ∷ Compute 4 ops.Sub Byte (Const 32) (Temp 4)
     ∷ Compute 5 ops.ShiftRight Long (Temp 1) (Temp 4)
-    ∷ Compute 2 ops.Or Long (Temp 2) (Temp 5)
+    ∷ Compute 2 ops.Or Quad (Temp 2) (Temp 5)
     ∷ []
 
 -- the same by a literal count below 32
@@ -635,7 +633,7 @@ abbrev pub rotated_by : (count : ℕ) → List Micro
 rotated_by count =
     Compute 2 ops.ShiftLeft Long (Temp 1) (Const count)
     ∷ Compute 5 ops.ShiftRight Long (Temp 1) (Const (32 - count))
-    ∷ Compute 2 ops.Or Long (Temp 2) (Temp 5)
+    ∷ Compute 2 ops.Or Quad (Temp 2) (Temp 5)
     ∷ []
 
 abbrev pub before_rotation : Operand → List Micro

@@ -3,7 +3,7 @@
 ghost use Rattle.std.specs.Prelude.{◌≡◌, ◌≤◌, IfOk, length};
 ghost use Rattle.vax_form.specs.Size.{size_of};
 ghost use Rattle.micro_lower.specs.Plans.{plan_of, program_of};
-ghost use Rattle.micro_lower.specs.Rows.{compare_plan, test_plan, bit_test_plan, micro_of, behind_binary, two_operands_plan, three_operands_plan, by_one_plan, add_with_carry_plan, subtract_with_carry_plan, aligned_slot, add_aligned_plan};
+ghost use Rattle.micro_lower.specs.Rows.{compare_plan, test_plan, bit_test_plan, micro_of, made_size, behind_binary, two_operands_plan, three_operands_plan, by_one_plan, add_with_carry_plan, subtract_with_carry_plan, aligned_slot, add_aligned_plan};
 
 use crate::micros::{binary, unary};
 use crate::plans::{Plan, Slot, Target, assemble};
@@ -65,7 +65,7 @@ pub(crate) fn bit_test(
         before: &[],
         target: Target::Nowhere,
         behind: &[
-            binary!(2, MicroOp::And, size, Arg::Temp(0), Arg::Temp(1)),
+            binary!(2, MicroOp::And, Size::Quad, Arg::Temp(0), Arg::Temp(1)),
             unary!(0, MicroOp::Move, size, Arg::Temp(2)),
         ],
         exit: Exit::Next,
@@ -85,6 +85,34 @@ fn micro_of(operation: BinaryOperation) -> MicroOp
         BinaryOperation::BitClear => MicroOp::AndNot,
         BinaryOperation::ExclusiveOr => MicroOp::Xor,
     }
+}
+
+/// The size at which the result is made: a logical one of two numbers of a size is one of that size, and nothing is masked.
+fn made_size(operation: BinaryOperation, size: Size) -> Size
+    ensures { result ≡ made_size operation size }
+{
+    match operation {
+        BinaryOperation::BitSet | BinaryOperation::BitClear | BinaryOperation::ExclusiveOr => {
+            Size::Quad
+        }
+        BinaryOperation::Add
+        | BinaryOperation::Subtract
+        | BinaryOperation::Multiply
+        | BinaryOperation::Divide => size,
+    }
+}
+
+/// What makes the result of the operands in 0 and 1.
+fn made(operation: BinaryOperation, size: Size) -> Micro
+    ensures { result ≡ Micro.Compute 2 (micro_of operation) (made_size operation size) (Arg.Temp 0) (Arg.Temp 1) }
+{
+    binary!(
+        2,
+        micro_of(operation),
+        made_size(operation, size),
+        Arg::Temp(0),
+        Arg::Temp(1),
+    )
 }
 
 /// V of a product whose operands are in 0 and 1.
@@ -135,10 +163,9 @@ pub(crate) fn two_operands(
     ensures { IfOk result (λ p. p.items ≡ program_of codes (two_operands_plan operation width instr.now) instr.now) }
 {
     let size = width.size();
-    let op = micro_of(operation);
     let plan = Plan {
         slots: &[read(size, 1, 2), modified(size, 0)],
-        before: &[binary!(2, op, size, Arg::Temp(0), Arg::Temp(1))],
+        before: &[made(operation, size)],
         target: Target::Replacement {
             operand: operand(instr, 1),
             size,
@@ -160,10 +187,9 @@ pub(crate) fn three_operands(
     ensures { IfOk result (λ p. p.items ≡ program_of codes (three_operands_plan operation width instr.now) instr.now) }
 {
     let size = width.size();
-    let op = micro_of(operation);
     let plan = Plan {
         slots: &[read(size, 1, 2), read(size, 0, 2), written(size)],
-        before: &[binary!(2, op, size, Arg::Temp(0), Arg::Temp(1))],
+        before: &[made(operation, size)],
         target: Target::Result {
             operand: operand(instr, 2),
             size,

@@ -2,15 +2,14 @@
 // VAX Architecture Reference Manual, "Control Instructions": Branch on Bit.
 ghost use Rattle.std.specs.Prelude.{◌≡◌, ◌<◌, ◌^◌, ◌++◌, ◌∷◌, [], nat_lt, IfOk, OnOk};
 ghost use Rattle.micro_lower.specs.Plans.{program_of};
-ghost use Rattle.micro_lower.specs.Rows.{bit_tested, storing, with_bit_into, bit_stored, locked_op, byte_program, before_bit, bit_target, is_plain, literal_position, masked, with_mask_into, mask_stored, mask_program, byte_of, before_literal, masked_exit, bit_branch_plan};
+ghost use Rattle.micro_lower.specs.Rows.{bit_tested, storing, with_bit_into, bit_stored, locked_op, byte_program, before_bit, bit_target, is_plain, literal_position, masked, with_mask_into, mask_stored, mask_program, byte_of, before_literal, bit_branch_plan};
 
 use crate::micros::{add, binary, unary};
 use crate::plans::{Plan, Slot, Target, assemble};
-use crate::rows::{BIT, INVERTED, branch_exit, operand, register_target, slot};
-use micro_ops::{Arg, CodeSources, Exit, LockedOp, Micro, MicroOp};
+use crate::rows::{BIT, operand, register_target, slot, test_exit};
+use micro_ops::{Arg, CodeSources, LockedOp, Micro, MicroOp};
 use std::alloc::Global;
 use vax_form::{Access, BitBranch, BitStore, Instr, Operand, Size, WantOfMemory};
-use vax_meaning::target;
 
 /// The greatest number of a bit in a register, and in a byte.
 const LAST_BIT: u64 = 31;
@@ -20,16 +19,12 @@ const LAST_BIT_OF_BYTE: u64 = 7;
 /// Bytes to the number of bits: the power of two.
 const BITS_OF_BYTE: u64 = 3;
 
-/// Whether the bit of that number in 0 of the value in 1 is as the branch wants it.
-fn put_bit_tested(program: &mut Vec<Micro>, state: bool, size: Size) -> Result<(), WantOfMemory>
-    ensures { OnOk result (program.new.items ≡ program.old.items ++ bit_tested state size) }
+/// The bit of that number in 0 of the value in 1.
+fn put_bit_tested(program: &mut Vec<Micro>, size: Size) -> Result<(), WantOfMemory>
+    ensures { OnOk result (program.new.items ≡ program.old.items ++ bit_tested size) }
 {
     let shifted = binary!(0, MicroOp::ShiftRight, size, Arg::Temp(1), Arg::Temp(0));
-    if state {
-        add(program, &[shifted, BIT])
-    } else {
-        add(program, &[shifted, BIT, INVERTED])
-    }
+    add(program, &[shifted, BIT])
 }
 
 /// Sets a bit, or clears it.
@@ -161,19 +156,19 @@ fn put_position(program: &mut Vec<Micro>) -> Result<(), WantOfMemory>
 fn put_before_bit(
     program: &mut Vec<Micro>,
     base: Operand,
-    branch: BitBranch,
+    store: BitStore,
 ) -> Result<(), WantOfMemory>
-    ensures { OnOk result (program.new.items ≡ program.old.items ++ before_bit base branch) }
+    ensures { OnOk result (program.new.items ≡ program.old.items ++ before_bit base store) }
 {
     match base {
         Operand::Register(_) => {
-            put_bit_stored(program, branch.store)?;
-            put_bit_tested(program, branch.state, Size::Long)
+            put_bit_stored(program, store)?;
+            put_bit_tested(program, Size::Long)
         }
         Operand::Unused | Operand::Value(_) | Operand::Place { .. } | Operand::Target(_) => {
             put_position(program)?;
-            put_byte(program, branch.store)?;
-            put_bit_tested(program, branch.state, Size::Byte)
+            put_byte(program, store)?;
+            put_bit_tested(program, Size::Byte)
         }
     }
 }
@@ -321,21 +316,6 @@ fn put_before_literal(
     }
 }
 
-/// A bit under a mask is 0, or is not.
-fn masked_exit(state: bool, instr: &Instr) -> Exit
-    ensures { result ≡ masked_exit state instr.now }
-{
-    if state {
-        branch_exit(instr, 2)
-    } else {
-        Exit::Choice {
-            when: 0,
-            taken: instr.after,
-            other: target(operand(instr, 2)),
-        }
-    }
-}
-
 /// The position, the base and the target.
 const BIT_AND_TARGET: [Slot; 3] = [
     slot!(Access::Read, Size::Long, 0, 1),
@@ -354,22 +334,16 @@ pub(crate) fn branch_on_bit(
 {
     let base = operand(instr, 1);
     let mut before = Vec::new(alloc);
-    let exit = match literal_position(operand(instr, 0), base) {
-        Some(position) => {
-            put_before_literal(&mut before, base, position, branch.store)?;
-            masked_exit(branch.state, instr)
-        }
-        None => {
-            put_before_bit(&mut before, base, branch)?;
-            branch_exit(instr, 2)
-        }
-    };
+    match literal_position(operand(instr, 0), base) {
+        Some(position) => put_before_literal(&mut before, base, position, branch.store)?,
+        None => put_before_bit(&mut before, base, branch.store)?,
+    }
     let plan = Plan {
         slots: &BIT_AND_TARGET,
         before: &before,
         target: bit_target(base, branch.store),
         behind: &[],
-        exit,
+        exit: test_exit(branch.state, instr, 2),
     };
     assemble(alloc, codes, plan, instr)
 }

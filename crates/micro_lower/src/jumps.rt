@@ -6,14 +6,14 @@ ghost use Rattle.micro_lower.specs.Rows.{low_bit_plan, down_test, subtract_one_p
 
 use crate::micros::{binary, unary};
 use crate::plans::{Plan, Slot, Target, assemble};
-use crate::rows::{BIT, INVERTED, branch_exit, displaced, inverted, modified, operand, read, slot};
+use crate::rows::{
+    BIT, branch_exit, displaced, inverted, modified, operand, read, slot, test_exit,
+};
 use micro_ops::{Arg, CodeSources, Exit, Micro, MicroOp};
 use std::alloc::Global;
 use vax_form::{Access, Base, Instr, Operand, Size, WantOfMemory, Width};
 
 const ITS_BIT: [Micro; 1] = [BIT];
-
-const INVERTED_BIT: [Micro; 2] = [BIT, INVERTED];
 
 const SOURCE_AND_TARGET: [Slot; 2] = [
     slot!(Access::Read, Size::Long, 0, 1),
@@ -31,10 +31,10 @@ pub(crate) fn branch_on_low_bit(
 {
     let plan = Plan {
         slots: &SOURCE_AND_TARGET,
-        before: if state { &ITS_BIT } else { &INVERTED_BIT },
+        before: &ITS_BIT,
         target: Target::Nowhere,
         behind: &[],
-        exit: branch_exit(instr, 1),
+        exit: test_exit(state, instr, 1),
     };
     assemble(alloc, codes, plan, instr)
 }
@@ -44,10 +44,9 @@ const ONE_LESS: [Micro; 1] = [binary!(2, MicroOp::Sub, Size::Long, Arg::Temp(0),
 /// V of one less: the index was below what it is.
 const WAS_LESS: Micro = binary!(3, MicroOp::Less, Size::Long, Arg::Temp(0), Arg::Temp(2));
 
-const AT_LEAST_ZERO: [Micro; 3] = [
+const BELOW_ZERO: [Micro; 2] = [
     WAS_LESS,
     binary!(0, MicroOp::Less, Size::Long, Arg::Temp(2), Arg::Const(0)),
-    INVERTED,
 ];
 
 const ABOVE_ZERO: [Micro; 2] = [
@@ -76,12 +75,8 @@ pub(crate) fn subtract_one_branch(
             operand: operand(instr, 0),
             size: Size::Long,
         },
-        behind: if or_equal {
-            &AT_LEAST_ZERO
-        } else {
-            &ABOVE_ZERO
-        },
-        exit: branch_exit(instr, 1),
+        behind: if or_equal { &BELOW_ZERO } else { &ABOVE_ZERO },
+        exit: test_exit(!or_equal, instr, 1),
     };
     assemble(alloc, codes, plan, instr)
 }
@@ -91,10 +86,9 @@ const ONE_MORE: [Micro; 1] = [binary!(2, MicroOp::Add, Size::Long, Arg::Temp(0),
 /// V of one more: the index is below what it was.
 const IS_LESS: Micro = binary!(3, MicroOp::Less, Size::Long, Arg::Temp(2), Arg::Temp(0));
 
-const AT_MOST_LIMIT: [Micro; 3] = [
+const ABOVE_LIMIT: [Micro; 2] = [
     IS_LESS,
     binary!(0, MicroOp::Less, Size::Long, Arg::Temp(1), Arg::Temp(2)),
-    INVERTED,
 ];
 
 const BELOW_LIMIT: [Micro; 2] = [
@@ -124,12 +118,8 @@ pub(crate) fn add_one_branch(
             operand: operand(instr, 1),
             size: Size::Long,
         },
-        behind: if or_equal {
-            &AT_MOST_LIMIT
-        } else {
-            &BELOW_LIMIT
-        },
-        exit: branch_exit(instr, 2),
+        behind: if or_equal { &ABOVE_LIMIT } else { &BELOW_LIMIT },
+        exit: test_exit(!or_equal, instr, 2),
     };
     assemble(alloc, codes, plan, instr)
 }

@@ -1,7 +1,7 @@
 // What rows of the table are made of: slots of operands, and computations.
 ghost use Rattle.std.specs.Prelude.{◌≡◌, ◌<◌};
 ghost use Rattle.vax_meaning.specs.Evaluation.{operand};
-ghost use Rattle.micro_lower.specs.Rows.{read, written, modified, addressed, displaced, inverted, overflow_by, register_target, branch_exit};
+ghost use Rattle.micro_lower.specs.Rows.{read, written, modified, addressed, displaced, inverted, overflow_by, register_target, branch_exit, test_exit};
 
 use crate::micros::{binary, unary};
 use crate::plans::{Slot, Target};
@@ -72,15 +72,6 @@ pub(crate) fn inverted(temp: u8) -> Micro
 /// The last bit of 0 alone.
 pub(crate) const BIT: Micro = binary!(0, MicroOp::And, Size::Byte, Arg::Temp(0), Arg::Const(1));
 
-/// In 0, 1 for 0, and 0 for 1.
-pub(crate) const INVERTED: Micro = binary!(
-    0,
-    MicroOp::Xor,
-    Size::Byte,
-    Arg::Temp(0),
-    Arg::Const(1)
-);
-
 /// V into 3: a number that was extended into 4 is not the result extended.
 pub(crate) fn overflow_by(size: Size) -> [Micro; 3]
     ensures { result ≡ overflow_by size }
@@ -111,6 +102,22 @@ pub(crate) fn register_target(base: Operand, size: Size) -> Target
         },
         Operand::Unused | Operand::Value(_) | Operand::Place { .. } | Operand::Target(_) => {
             Target::Nowhere
+        }
+    }
+}
+
+/// A branch that is taken where what is in 0 is not 0, or where it is.
+pub(crate) fn test_exit(state: bool, instr: &Instr, number: usize) -> Exit
+    requires { number < 6 }
+    ensures { result ≡ test_exit state instr.now number }
+{
+    if state {
+        branch_exit(instr, number)
+    } else {
+        Exit::Choice {
+            when: 0,
+            taken: instr.after,
+            other: target(operand(instr, number)),
         }
     }
 }

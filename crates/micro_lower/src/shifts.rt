@@ -212,7 +212,7 @@ const ROTATED: [Micro; 5] = [
         Arg::Temp(1),
         Arg::Temp(4)
     ),
-    binary!(2, MicroOp::Or, Size::Long, Arg::Temp(2), Arg::Temp(5)),
+    binary!(2, MicroOp::Or, Size::Quad, Arg::Temp(2), Arg::Temp(5)),
 ];
 
 /// By a literal count below 32.
@@ -226,7 +226,7 @@ fn put_rotated_by(program: &mut Vec<Micro>, count: u64) -> Result<(), WantOfMemo
         &[
             binary!(2, MicroOp::ShiftLeft, Size::Long, Arg::Temp(1), left),
             binary!(5, MicroOp::ShiftRight, Size::Long, Arg::Temp(1), right),
-            binary!(2, MicroOp::Or, Size::Long, Arg::Temp(2), Arg::Temp(5)),
+            binary!(2, MicroOp::Or, Size::Quad, Arg::Temp(2), Arg::Temp(5)),
         ],
     )
 }
