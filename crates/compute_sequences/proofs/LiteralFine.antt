@@ -11,7 +11,7 @@ use Rattle.alpha_encode.specs.declared.instr.OperateOp.TheVariants as row
 use Rattle.alpha_encode.specs.declared.instr.Second.TheVariants.{Register, Literal}
 use Rattle.micro_ops.specs.declared.program.MicroOp.{MicroOp}
 use Rattle.micro_ops.specs.declared.program.MicroOp.TheVariants.{Move, Sub, Mul, And, Or, Xor, AndNot, ShiftLeft, ShiftRight, ShiftSigned, Equal, Less, LessUnsigned}
-use Rattle.micro_ops.specs.WordCounts.{operation_words, by_size}
+use Rattle.micro_ops.specs.WordCounts.{operation_words, has_literal, by_size}
 use Rattle.compute_sequences.specs.Constants.{low_long, load_short}
 use Rattle.compute_sequences.specs.Words.{narrow, extend, takes_literal, takes_zero, lowered_one, unsigned_by, signed_by, by_literal, add_short, kept_mask, low_cleared, displaced, literal_form, zero_form}
 use Rattle.compute_sequences.proofs.Straight.{Fine, Each, each_append}
@@ -83,6 +83,34 @@ literal_length op Byte x literal to = lit≤ tt
 literal_length op Word x literal to = lit≤ tt
 literal_length op Long x literal to = lit≤ tt
 literal_length op Quad x literal to = lit≤ tt
+
+-- a literal that counts nothing has no words of its own
+pub literal_few : (op : MicroOp) (size : Size) (x literal to : ℕ) → has_literal op ≡ true → length (literal_form op size x literal to) ≤ operation_words op size
+literal_few Sub Byte x literal to e = lit≤ tt
+literal_few Sub Word x literal to e = lit≤ tt
+literal_few Sub Long x literal to e = lit≤ tt
+literal_few Sub Quad x literal to e = lit≤ tt
+literal_few Mul Byte x literal to e = lit≤ tt
+literal_few Mul Word x literal to e = lit≤ tt
+literal_few Mul Long x literal to e = lit≤ tt
+literal_few Mul Quad x literal to e = lit≤ tt
+literal_few Xor Byte x literal to e = lit≤ tt
+literal_few Xor Word x literal to e = lit≤ tt
+literal_few Xor Long x literal to e = lit≤ tt
+literal_few Xor Quad x literal to e = lit≤ tt
+literal_few Equal Byte x literal to e = lit≤ tt
+literal_few Equal Word x literal to e = lit≤ tt
+literal_few Equal Long x literal to e = lit≤ tt
+literal_few Equal Quad x literal to e = lit≤ tt
+literal_few Less Byte x literal to e = lit≤ tt
+literal_few Less Word x literal to e = lit≤ tt
+literal_few Less Long x literal to e = lit≤ tt
+literal_few Less Quad x literal to e = lit≤ tt
+literal_few LessUnsigned Byte x literal to e = lit≤ tt
+literal_few LessUnsigned Word x literal to e = lit≤ tt
+literal_few LessUnsigned Long x literal to e = lit≤ tt
+literal_few LessUnsigned Quad x literal to e = lit≤ tt
+literal_few op size x literal to e = cc
 
 pub displaced_length : (size : Size) (x value to : ℕ) → length (displaced size x value to) ≤ by_size size 2 2 1 + by_size size 1 2 5
 displaced_length Byte x value to = lit≤ tt

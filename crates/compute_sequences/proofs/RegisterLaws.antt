@@ -1,6 +1,6 @@
 -- Computations whose arguments stand in registers: what their words leave, how many they are, and their encodings.
 use Rattle.std.proofs.Common.{◌≡◌, ℕ, ◌+◌, ◌<◌, ◌≤◌, refl, arith, [], ◌∷◌, ◌++◌, length, Bool, true, false, lit<}
-use Rattle.std.specs.Prelude.{pos, All, if◌then◌else◌}
+use Rattle.std.specs.Prelude.{pos, All, ◌&&◌, ◌||◌, if◌then◌else◌}
 use Rattle.std.specs.List.{list_all}
 use Rattle.std.proofs.lemmas.List.{length-append}
 use Rattle.vax_form.specs.declared.instr.Size.{Size}
@@ -17,7 +17,7 @@ use Rattle.micro_ops.specs.declared.program.MicroOp.{MicroOp}
 use Rattle.micro_ops.specs.declared.program.MicroOp.TheVariants.{Move, SignExtend, ZeroExtend, SelectNonzero}
 use Rattle.micro_ops.specs.Uses.{is_unary}
 use Rattle.micro_ops.specs.Values.{value_from}
-use Rattle.micro_ops.specs.WordCounts.{operation_words, argument_words, words_of}
+use Rattle.micro_ops.specs.WordCounts.{operation_words, argument_words, has_literal, is_literal, words_of}
 use Rattle.compute_sequences.specs.Registers.{IsTarget, IsArgument, register_at, is_loaded, may_change}
 use Rattle.compute_sequences.specs.Words.{narrow, load_code, first_register, second_target, second_register, binary_code, chosen, select_code, behind_first, register_code}
 use Rattle.compute_sequences.specs.Promises.{IsComputed, LeavesComputed, changes_only}
@@ -69,12 +69,17 @@ behind_length SignExtend size a b to = let le = unary_length SignExtend size (fi
 behind_length SelectNonzero size a b to = select_length size (first_register size a) b to
 behind_length op size a b to = two_length op size b (second_target size a to) (first_register size a) (second_register size a b to) to
 
-pub registers_length : (op : MicroOp) (size : Size) (a b : Arg) (to : ℕ) → length (register_code op size a b to) ≤ words_of (Compute to op size a b)
-registers_length op size a b to =
+or_none : (a b : Bool) → b ≡ false → (a || b) ≡ a
+or_none true b e = refl
+or_none false b e = e
+
+-- where no literal counts nothing
+pub registers_length : (op : MicroOp) (size : Size) (a b : Arg) (to : ℕ) → (has_literal op && is_literal b) ≡ false → length (register_code op size a b to) ≤ words_of (Compute to op size a b)
+registers_length op size a b to none =
     let load = load_length size a 27 in
     let behind = behind_length op size a b to in
     let e = length-append (load_code size a 27) (behind_first op size a b to) in
-    omega arith
+    rw (or_none (is_unary op) (has_literal op && is_literal b) none) (omega (arith, load, behind, e))
 
 -- ---- their encodings, and what they write
 module _ (a b : Arg) (to : ℕ) (a_is : IsArgument a) (is : IsTarget to) where

@@ -1,6 +1,7 @@
 -- Computations as a whole: what their words leave, how many they are, and their encodings.
-use Rattle.std.proofs.Common.{◌≡◌, ℕ, ◌^◌, ◌<◌, ◌≤◌, refl, sym, ap, ◌∙◌, arith, List, [], ◌∷◌, ◌++◌, length, Bool, true, false, eqb, eqb-true, ne_eqb, lit<, lit≤}
+use Rattle.std.proofs.Common.{◌≡◌, ℕ, ◌+◌, ◌^◌, ◌<◌, ◌≤◌, refl, sym, ap, ◌∙◌, arith, List, [], ◌∷◌, ◌++◌, length, Bool, true, false, eqb, eqb-true, ne_eqb, lit<, lit≤}
 use Rattle.std.specs.Prelude.{All, ◌&&◌, nat_lt, if◌then◌else◌}
+use Rattle.std.proofs.lemmas.Bool.Decides.{nat_tests}
 use Rattle.std.specs.List.{list_all}
 use Rattle.std.proofs.lemmas.Bool.{ltb-true}
 use Rattle.std.proofs.lemmas.List.{length-append}
@@ -13,10 +14,10 @@ use Rattle.micro_ops.specs.declared.program.Arg.{Arg}
 use Rattle.micro_ops.specs.declared.program.Arg.TheVariants as arguments
 use Rattle.micro_ops.specs.declared.program.Micro.TheVariants.{Compute}
 use Rattle.micro_ops.specs.declared.program.MicroOp.{MicroOp}
-use Rattle.micro_ops.specs.declared.program.MicroOp.TheVariants.{Move, Add, AndNot, Sub, Less, LessUnsigned, SignExtend, ZeroExtend}
+use Rattle.micro_ops.specs.declared.program.MicroOp.TheVariants.{Move, Add, AndNot, Sub, Mul, Xor, Equal, Less, LessUnsigned, SignExtend, ZeroExtend}
 use Rattle.micro_ops.specs.Uses.{is_unary}
 use Rattle.micro_ops.specs.Values.{limit_of, low, value_from}
-use Rattle.micro_ops.specs.WordCounts.{argument_words, by_size, words_of}
+use Rattle.micro_ops.specs.WordCounts.{operation_words, argument_words, has_literal, is_literal, by_size, words_of}
 use Rattle.compute_sequences.specs.Registers.{IsTarget, IsArgument, register_at, value_at, may_change}
 use Rattle.compute_sequences.specs.Constants.{low_long, load_short}
 use Rattle.compute_sequences.specs.Words.{load_code, first_register, is_constant, is_zero, constant_of, is_short, is_displacement, takes_literal, takes_zero, is_moved, is_sum, is_clearing, is_low_bytes, low_cleared, displaced, literal_form, zero_form, register_code, compute_code}
@@ -27,7 +28,7 @@ use Rattle.compute_sequences.proofs.FineLaws.{load_length}
 use Rattle.compute_sequences.proofs.Placing.{first_placed, first_fits, only_first}
 use Rattle.compute_sequences.proofs.ComputeLaws.{first_fine}
 use Rattle.compute_sequences.proofs.LiteralLaws.{literal_is, displaced_is, cleared_is, short_is, zero_is}
-use Rattle.compute_sequences.proofs.LiteralFine.{literal_fine, displaced_fine, cleared_fine, short_fine, zero_fine, literal_length, displaced_length, zero_length}
+use Rattle.compute_sequences.proofs.LiteralFine.{literal_fine, displaced_fine, cleared_fine, short_fine, zero_fine, literal_length, literal_few, displaced_length, zero_length}
 use Rattle.compute_sequences.proofs.RegisterLaws.{leaves_by_registers, registers_length, registers_encodable, registers_writes}
 
 -- ---- tests
@@ -76,20 +77,24 @@ module _ (P : List AlphaInstr → Type 0) (op : MicroOp) (size : Size) (a b : Ar
   abbrev FromZero : Type 0
   FromZero = takes_zero op ≡ true → is_constant is_zero a ≡ true → P (load_code size b 27 ++ zero_form op size (first_register size b) to)
 
-  each_form : Short → Displaced → Cleared → ByLiteral → FromZero → P (register_code op size a b to) → P (compute_code op size a b to)
+  -- where the second argument is no literal
+  abbrev Else : Type 0 → Type 0
+  Else X = is_constant (takes_literal op size) b ≡ false → X
+
+  each_form : Short → Displaced → Cleared → ByLiteral → Else FromZero → Else (P (register_code op size a b to)) → P (compute_code op size a b to)
   each_form short sum clear literal zero others = first (is_moved op && is_constant (is_short size) a) refl
     where
-      fourth : (t : Bool) → (takes_zero op && is_constant is_zero a) ≡ t
+      fourth : (t : Bool) → is_constant (takes_literal op size) b ≡ false → (takes_zero op && is_constant is_zero a) ≡ t
           → P (if t then load_code size b 27 ++ zero_form op size (first_register size b) to else register_code op size a b to)
-      fourth true e = let x = both (takes_zero op) (is_constant is_zero a) e in zero x.0 x.1
-      fourth false e = others
+      fourth true none e = let x = both (takes_zero op) (is_constant is_zero a) e in zero none x.0 x.1
+      fourth false none e = others none
 
       third : (t : Bool) → is_constant (takes_literal op size) b ≡ t
           → P (if t then load_code size a 27 ++ literal_form op size (first_register size a) (constant_of b) to
           else if takes_zero op && is_constant is_zero a then load_code size b 27 ++ zero_form op size (first_register size b) to
           else register_code op size a b to)
       third true e = literal e
-      third false e = fourth (takes_zero op && is_constant is_zero a) refl
+      third false e = fourth (takes_zero op && is_constant is_zero a) e refl
 
       between : (t : Bool) → (is_clearing op && is_constant is_low_bytes b) ≡ t
           → P (if t then load_code size a 27 ++ low_cleared size (first_register size a) (constant_of b) to
@@ -210,8 +215,8 @@ module _ (a b : Arg) (to : ℕ) (a_is : IsArgument a) (is : IsTarget to) where
       (λ m e. displaced_leaves to is a b a_is op size m e f may.zero may.first)
       (λ m e. cleared_leaves to is a b a_is op size m e f may.zero may.first)
       (λ e. literal_leaves to is a b a_is op size e f may.zero may.first)
-      (λ t e. zero_leaves to is a b a_is op size t e (b_is (zero_two op t)) f may.zero (may.second (zero_two op t)))
-      (leaves_by_registers a b to a_is is op size b_is f may)
+      (λ none t e. zero_leaves to is a b a_is op size t e (b_is (zero_two op t)) f may.zero (may.second (zero_two op t)))
+      (λ none. leaves_by_registers a b to a_is is op size b_is f may)
 
   -- ---- their encodings, and what they write
   fine_forms : (P : List AlphaInstr → Type 0) → ((words : List AlphaInstr) → Each (Fine (may_change to)) words → P words) → (op : MicroOp) (size : Size) → (is_unary op ≡ false → IsArgument b)
@@ -222,8 +227,8 @@ module _ (a b : Arg) (to : ℕ) (a_is : IsArgument a) (is : IsTarget to) where
       (λ m e. of _ (behind_fine to is size a a_is _ (displaced_fine (may_change to) (first_register size a) to (x_fits to is size a a_is) (target_fits to is) (may_target to) size (constant_of b))))
       (λ m e. of _ (behind_fine to is size a a_is _ (cleared_fine (may_change to) (first_register size a) to (x_fits to is size a a_is) (target_fits to is) (may_target to) size (constant_of b))))
       (λ e. of _ (behind_fine to is size a a_is _ (literal_fine (may_change to) (first_register size a) to (x_fits to is size a a_is) (target_fits to is) (may_target to) op size (constant_of b) (constant_is (takes_literal op size) b e))))
-      (λ t e. let is_b = b_is (zero_two op t) in of _ (behind_fine to is size b is_b _ (zero_fine (may_change to) (first_register size b) to (x_fits to is size b is_b) (target_fits to is) (may_target to) op size)))
-      others
+      (λ none t e. let is_b = b_is (zero_two op t) in of _ (behind_fine to is size b is_b _ (zero_fine (may_change to) (first_register size b) to (x_fits to is size b is_b) (target_fits to is) (may_target to) op size)))
+      (λ none. others)
 
   pub computed_encodable : (op : MicroOp) (size : Size) → (is_unary op ≡ false → IsArgument b) → All IsEncodable (compute_code op size a b to)
   computed_encodable op size b_is =
@@ -240,6 +245,38 @@ one_of_size Word = lit≤ tt
 one_of_size Long = lit≤ tt
 one_of_size Quad = lit≤ tt
 
+-- what counts nothing is the literal of the instruction
+is_below : (value n m : ℕ) → n ≤ m → nat_lt value m ≡ false → nat_lt value n ≡ false
+is_below value n m le e = grind (arith, nat_tests, le, e)
+
+no_literal : (has : Bool) → (has && false) ≡ false
+no_literal true = refl
+no_literal false = refl
+
+none_counted : (op : MicroOp) (size : Size) (b : Arg) → is_constant (takes_literal op size) b ≡ false → (has_literal op && is_literal b) ≡ false
+none_counted Sub size (arguments.Const value) e = is_below value 128 256 (lit≤ tt) e
+none_counted Mul size (arguments.Const value) e = is_below value 128 256 (lit≤ tt) e
+none_counted Xor size (arguments.Const value) e = is_below value 128 256 (lit≤ tt) e
+none_counted Equal size (arguments.Const value) e = is_below value 128 256 (lit≤ tt) e
+none_counted Less size (arguments.Const value) e = e
+none_counted LessUnsigned size (arguments.Const value) e = is_below value 128 256 (lit≤ tt) e
+none_counted op size (arguments.Const value) e = refl
+none_counted op size (arguments.Temp temp) e = no_literal (has_literal op)
+none_counted op size (arguments.Register number) e = no_literal (has_literal op)
+none_counted op size (arguments.Flag flag) e = no_literal (has_literal op)
+
+literal_second : (op : MicroOp) (size : Size) (b : Arg) (x to : ℕ) → is_constant (takes_literal op size) b ≡ true
+    → length (literal_form op size x (constant_of b) to) ≤ operation_words op size + (if has_literal op && is_literal b then 0 else argument_words b size)
+literal_second op size b x to e = by (has_literal op) (is_literal b) refl
+  where
+    by : (has small : Bool) → has_literal op ≡ has → length (literal_form op size x (constant_of b) to) ≤ operation_words op size + (if has && small then 0 else argument_words b size)
+    by true true h = let few = literal_few op size x (constant_of b) to h in omega arith
+    by true false h = let few = literal_few op size x (constant_of b) to h in omega arith
+    by false small h =
+        let form = literal_length op size x (constant_of b) to in
+        let words = constant_words (takes_literal op size) b e size in
+        omega arith
+
 pub computed_length : (op : MicroOp) (size : Size) (a b : Arg) (to : ℕ) → length (compute_code op size a b to) ≤ words_of (Compute to op size a b)
 computed_length op size a b to =
     each_form (λ words. length words ≤ words_of (Compute to op size a b)) op size a b to
@@ -247,17 +284,16 @@ computed_length op size a b to =
     (λ m e. sum_length op m (constant_words (is_displacement size) b e size))
     (λ m e. clear_length op m (constant_words is_low_bytes b e size))
     (λ e. let load = load_length size a 27 in
-    let form = literal_length op size (first_register size a) (constant_of b) to in
-    let words = constant_words (takes_literal op size) b e size in
+    let form = literal_second op size b (first_register size a) to e in
     let two = literal_two op size (constant_of b) (constant_is (takes_literal op size) b e) in
     let joined = length-append (load_code size a 27) (literal_form op size (first_register size a) (constant_of b) to) in
-    rw two (omega (arith, load, form, words, joined)))
-    (λ t e. let load = load_length size b 27 in
+    rw two (omega (arith, load, form, joined)))
+    (λ none t e. let load = load_length size b 27 in
     let form = zero_length op t size (first_register size b) to in
     let words = constant_words is_zero a e size in
     let joined = length-append (load_code size b 27) (zero_form op size (first_register size b) to) in
-    rw (zero_two op t) (omega (arith, load, form, words, joined)))
-    (registers_length op size a b to)
+    rw (zero_two op t, none_counted op size b none) (omega (arith, load, form, words, joined)))
+    (λ none. registers_length op size a b to (none_counted op size b none))
   where
     sum_length : (op : MicroOp) → is_sum op ≡ true → argument_words b size ≡ by_size size 1 2 5
         → length (load_code size a 27 ++ displaced size (first_register size a) (constant_of b) to) ≤ words_of (Compute to op size a b)
