@@ -73,14 +73,7 @@ use Rattle.program_codegen.proofs.CallFront.{behind, call_agrees, is_stacked, on
 use Rattle.program_codegen.proofs.CallFacts.{CallFacts}
 use Rattle.program_codegen.proofs.CallKnown.{KnowsEnd, KnowsFront, end_known, front_known}
 use Rattle.program_codegen.proofs.CallOperations.{all_of, commitment_either, either_goes, either_sized, evaluation_either, front_is, is_commitment, is_either, is_evaluation, list_commits, list_placed, reads_none}
-
--- ---- trees
-pub same_back : (t u : Tree) → Same t u → Same u t
-same_back (Check address count write t) (Check address' count' write' u) h = (sym h.0, sym h.1, sym h.2, same_back t u h.3)
-same_back (Ask r on) (Ask r' on') h = (sym h.0, λ reply answers. same_back (on reply) (on' reply) (h.1 reply (subst (λ (x : Reference). Answers x reply) (sym h.0) answers)))
-same_back (Fault e) (Fault e') h = sym h
-same_back (Ends e) (Ends e') h = sym h
-same_back _ _ h = absurd h
+use Rattle.micro_ops.proofs.Trees.{same_back}
 
 -- ---- what operands add is small
 none_at : (number : ℕ) → slice_index no_steps number ≡ 0

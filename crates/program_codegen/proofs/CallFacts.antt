@@ -27,8 +27,9 @@ use Rattle.operand_programs.specs.Behind.{IsFit}
 use Rattle.operand_programs.specs.Operands.{IsFor}
 use Rattle.operand_programs.specs.Registers.{SpecifiedIsNamed}
 use Rattle.program_codegen.specs.Calls.{call_at, destination_of, first_specifier, is_on_stack}
-use Rattle.program_codegen.specs.CallPromises.{AreLongOperands, IsCallOperation, IsFixedCall, IsLongOperand}
+use Rattle.program_codegen.specs.CallPromises.{AreLongOperands, IsCallOperation, IsFixedCall}
 use Rattle.program_codegen.proofs.CallBodies.{IsCallTo, operation_by}
+use Rattle.operand_programs.specs.Pieces.{IsLongOperand}
 
 -- ---- the destination
 -- the operand that fixes it

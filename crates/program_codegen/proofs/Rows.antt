@@ -163,7 +163,7 @@ write_own true place count source c2 = refl
 write_own true place count source c4 = refl
 write_own true place count source c8 = refl
 
-pub read_short : (byte_word : Bool) (place count to : ℕ) → IsCount count → length (read_by byte_word place count to) ≤ by_count count 4 12 10
+pub read_short : (byte_word : Bool) (place count to : ℕ) → IsCount count → length (read_by byte_word place count to) ≤ by_count count 4 12 12
 read_short false place count to c1 = lit≤ tt
 read_short false place count to c2 = lit≤ tt
 read_short false place count to c4 = lit≤ tt

@@ -48,14 +48,25 @@ writes_by true = bw_writes
 
 -- ---- the accesses of the words
 pub load_kinds : (byte_word : Bool) (address : ℕ) {count : ℕ} → IsCount count → loads_of byte_word Load (loaded_of byte_word address count) ≡ true
-load_kinds false address is = refl
+load_kinds false address c1 = refl
+load_kinds false address c2 = refl
+load_kinds false address c4 = by (address % 4 == 0)
+  where
+    by : (aligned : Bool) → by_loads Load (if aligned then 4 else 8) ≡ true
+    by true = refl
+    by false = refl
+load_kinds false address c8 = refl
 load_kinds true address c1 = refl
 load_kinds true address c2 = by (address % 2 == 0)
   where
     by : (even : Bool) → bw_by_loads Load (if even then 2 else 8) ≡ true
     by true = refl
     by false = refl
-load_kinds true address c4 = refl
+load_kinds true address c4 = by (address % 4 == 0)
+  where
+    by : (aligned : Bool) → bw_by_loads Load (if aligned then 4 else 8) ≡ true
+    by true = refl
+    by false = refl
 load_kinds true address c8 = refl
 
 -- the store is one of these, or, where none is told, the loop's accesses are

@@ -31,7 +31,6 @@ use Rattle.program_codegen.specs.Programs.{AllHaveWords, ReadsReady}
 use Rattle.program_codegen.specs.Strings.{behind_words, move_words, operands_of, specifiers_of, steps_of, string_block, string_check, string_lines, string_site}
 use Rattle.program_codegen.specs.StringPromises.{CompilesString}
 use Rattle.program_codegen.specs.Words.{exit_lines, plain, point_of, program_lines, read_by, with_first, write_by}
-use Rattle.program_codegen.proofs.CallCompiled.{same_back}
 use Rattle.program_codegen.proofs.CallOperations.{all_of, either_goes, evaluation_either, is_either, is_evaluation, reads_none}
 use Rattle.program_codegen.proofs.Compiled.{within_block}
 use Rattle.program_codegen.proofs.Going.{goes, goes_on, left_at}
@@ -46,6 +45,7 @@ use Rattle.program_codegen.proofs.StringRuns.{follows_strings}
 use Rattle.program_codegen.proofs.StringShapes.{evaluation_sized, operands_are}
 use Rattle.program_codegen.proofs.StringState.{IsChecked}
 use Rattle.program_codegen.proofs.Walk.{Within, plain_length}
+use Rattle.micro_ops.proofs.Trees.{same_back}
 
 -- what stands behind the operands
 abbrev pub behind_lines : Site → Instr → List Line

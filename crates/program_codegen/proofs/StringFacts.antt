@@ -20,11 +20,11 @@ use Rattle.vax_form.specs.declared.operation.Operation.TheVariants as operations
 use Rattle.operand_programs.specs.Behind.{AreFit}
 use Rattle.operand_programs.specs.Operands.{IsFor}
 use Rattle.operand_programs.specs.Registers.{SpecifiedIsNamed}
-use Rattle.program_codegen.specs.CallPromises.{IsLongOperand}
 use Rattle.program_codegen.specs.StringPromises.{AreLongStrings, IsStringMove}
 use Rattle.program_codegen.specs.Strings.{specifiers_of}
 use Rattle.program_codegen.proofs.CallFacts.{in_memory, long_operands}
 use Rattle.program_codegen.proofs.StringTrees.{IsMoveOf}
+use Rattle.operand_programs.specs.Pieces.{IsLongOperand}
 
 -- a word that is read
 readable : (at : ℕ) (bytes : List ℕ) (operand : Operand) → Describes Read Word at bytes operand → IsLongOperand operand → IsFor Read operand

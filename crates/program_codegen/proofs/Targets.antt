@@ -17,7 +17,7 @@ use Rattle.micro_ops.specs.declared.program.Exit.{Exit}
 use Rattle.micro_ops.specs.declared.program.Exit.TheVariants.{Next, Fixed, Computed, Choice, Service, Breakpoint}
 use Rattle.micro_ops.specs.declared.program.Micro.{Micro}
 use Rattle.micro_ops.specs.declared.program.Micro.TheVariants.{Compute, Probe, Refuse, Read, Write, Locked, Commit, Codes, SetPsw, Leave}
-use Rattle.byte_sequences.specs.Words.{byte_read, unaligned_read, read_code, bw_word_read, bw_read_code, write_code, bw_write_code}
+use Rattle.byte_sequences.specs.Words.{read_code, bw_word_read, bw_read_code, write_code, bw_write_code}
 use Rattle.program_codegen.specs.declared.calls.Call.{Call}
 use Rattle.program_codegen.specs.declared.homes.Homes.{Homes}
 use Rattle.program_codegen.specs.declared.lines.Line.{Line}
@@ -90,11 +90,13 @@ plain_alike words more some some' = record { first = some ∙ sym some'; points 
 
 -- ---- operations
 read_some : (place count to : ℕ) → first_of (map plain (read_code place count to)) ≡ Some None
-read_some place count to = by (count == 1)
+read_some place count to = by (count == 1) (count == 2) (count == 4)
   where
-    by : (one : Bool) → first_of (map plain (cond one (byte_read place to) (unaligned_read place count to))) ≡ Some None
-    by true = refl
-    by false = refl
+    by : (one two four : Bool) → first_of (map plain (cond one (read_code place 1 to) (cond two (read_code place 2 to) (cond four (read_code place 4 to) (read_code place 8 to))))) ≡ Some None
+    by true two four = refl
+    by false true four = refl
+    by false false true = refl
+    by false false false = refl
 
 reads_some : (byte_word : Bool) (place count to : ℕ) → first_of (map plain (read_by byte_word place count to)) ≡ Some None
 reads_some false place count to = read_some place count to

@@ -7,9 +7,9 @@ use Rattle.alpha_meaning.specs.declared.access.AlphaKind.TheVariants.{Load, Load
 use Rattle.alpha_meaning.specs.Pieces.{Kinds}
 use Rattle.byte_sequences.specs.Promises.{bw_stored_bytes}
 
--- quadwords are loaded
+-- longwords and quadwords are loaded
 abbrev pub by_loads : Kinds
-by_loads Load bytes = bytes == 8
+by_loads Load bytes = bytes == 4 || bytes == 8
 by_loads kind bytes = false
 
 -- whole longwords and quadwords are stored; others are changed in their quadword, by a load-locked access and a store
@@ -43,7 +43,7 @@ accesses_by loads stores Get = by_nothing
 -- ---- the byte-word extension
 -- bytes and words are loaded, too
 abbrev pub bw_by_loads : Kinds
-bw_by_loads Load bytes = bytes == 1 || (bytes == 2 || bytes == 8)
+bw_by_loads Load bytes = bytes == 1 || (bytes == 2 || (bytes == 4 || bytes == 8))
 bw_by_loads kind bytes = false
 
 -- by a store of so many bytes, or, where no number is told, in the quadword

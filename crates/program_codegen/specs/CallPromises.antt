@@ -5,8 +5,6 @@ use Rattle.vax_form.specs.PageTable.{IsPageTable}
 use Rattle.vax_form.specs.State.{IsState}
 use Rattle.vax_form.specs.Targets.{operand_of}
 use Rattle.vax_form.specs.declared.instr.Instr.{Instr}
-use Rattle.vax_form.specs.declared.instr.Operand.{Operand}
-use Rattle.vax_form.specs.declared.instr.Operand.TheVariants.{Place}
 use Rattle.vax_form.specs.declared.operation.LongOperation.{LongOperation}
 use Rattle.vax_form.specs.declared.operation.LongOperation.TheVariants.{CallGeneral, CallStack}
 use Rattle.vax_form.specs.declared.pages.Pages.{Pages}
@@ -16,7 +14,7 @@ use Rattle.vax_long.specs.Instructions.{long_at, long_tree_for}
 use Rattle.vax_long.specs.LongForms.{is_long_form}
 use Rattle.alpha_meaning.specs.State.{Regs, at_place}
 use Rattle.alpha_meaning.specs.Pieces.{Plain, most_words}
-use Rattle.operand_programs.specs.Pieces.{IsLong}
+use Rattle.operand_programs.specs.Pieces.{IsLongOperand}
 use Rattle.exception_records.specs.Blocks.{BlockValue}
 use Rattle.exception_records.specs.Codes.{all_ready}
 use Rattle.exception_records.specs.Shown.{Shows}
@@ -29,12 +27,7 @@ use Rattle.block_law.specs.Rounds.{block_steps, new_round}
 use Rattle.block_law.specs.Translations.{Meaning, Permit, Code, placed}
 use Rattle.program_codegen.specs.Accesses.{needed}
 
--- the address that an operand fixes is a longword
-abbrev pub IsLongOperand : Operand → Type 0
-IsLongOperand (Place base index) = IsLong base
-IsLongOperand operand = Unit {0}
-
--- those of both operands of a call
+-- the addresses in both operands of a call are longwords
 abbrev pub AreLongOperands : Instr → Type 0
 AreLongOperands instr = IsLongOperand (operand_of instr 0) × IsLongOperand (operand_of instr 1)
 

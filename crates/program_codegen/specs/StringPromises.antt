@@ -22,7 +22,7 @@ use Rattle.block_law.specs.Placements.{InForm}
 use Rattle.block_law.specs.Rounds.{block_steps, new_round}
 use Rattle.block_law.specs.Translations.{Meaning, Permit, Code, placed}
 use Rattle.program_codegen.specs.Accesses.{needed}
-use Rattle.program_codegen.specs.CallPromises.{IsLongOperand}
+use Rattle.operand_programs.specs.Pieces.{IsLongOperand}
 
 -- the addresses that its operands fix are longwords
 abbrev pub AreLongStrings : Instr → Type 0
