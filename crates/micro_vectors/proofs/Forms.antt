@@ -21,7 +21,7 @@ fits1 : fits (from (source.Result sizes.Long) source.Kept) ((Compute 0 compute.M
 unfolding step
 fits1 = refl
 
-words1 : program_words (from (source.Result sizes.Long) source.Kept) ((Compute 0 compute.Move sizes.Long (Register 1) (Const 0)) ∷ (Probe 0 4 false) ∷ (Read 1 0 4) ∷ (Compute 4 compute.Add sizes.Long (Register 2) (Register 2)) ∷ (Compute 4 compute.Add sizes.Long (Temp 4) (Temp 4)) ∷ (Compute 1 compute.Add sizes.Long (Temp 1) (Temp 4)) ∷ (Probe 1 4 false) ∷ (Read 0 1 4) ∷ (Compute 2 compute.Move sizes.Long (Register 2) (Const 0)) ∷ (Probe 2 4 false) ∷ (Read 3 2 4) ∷ (Compute 4 compute.Add sizes.Long (Register 1) (Const 4)) ∷ (Compute 4 compute.Add sizes.Long (Temp 4) (Temp 4)) ∷ (Compute 4 compute.Add sizes.Long (Temp 4) (Temp 4)) ∷ (Compute 3 compute.Add sizes.Long (Temp 3) (Temp 4)) ∷ (Probe 3 4 true) ∷ (Write 3 4 0) ∷ (Compute 2 compute.Move sizes.Long (Temp 0) (Const 0)) ∷ (Compute 5 compute.Add sizes.Long (Register 1) (Const 4)) ∷ (Commit 1 5) ∷ (Compute 5 compute.Add sizes.Long (Register 2) (Const 4)) ∷ (Commit 2 5) ∷ (Compute 6 compute.ShiftRight sizes.Long (Temp 2) (Const 31)) ∷ (Compute 7 compute.Equal sizes.Long (Temp 2) (Const 0)) ∷ (Compute 8 compute.Move sizes.Byte (Const 0) (Const 0)) ∷ (Codes 6 7 8 None) ∷ (Leave Next) ∷ []) ≡ 91
+words1 : program_words (from (source.Result sizes.Long) source.Kept) ((Compute 0 compute.Move sizes.Long (Register 1) (Const 0)) ∷ (Probe 0 4 false) ∷ (Read 1 0 4) ∷ (Compute 4 compute.Add sizes.Long (Register 2) (Register 2)) ∷ (Compute 4 compute.Add sizes.Long (Temp 4) (Temp 4)) ∷ (Compute 1 compute.Add sizes.Long (Temp 1) (Temp 4)) ∷ (Probe 1 4 false) ∷ (Read 0 1 4) ∷ (Compute 2 compute.Move sizes.Long (Register 2) (Const 0)) ∷ (Probe 2 4 false) ∷ (Read 3 2 4) ∷ (Compute 4 compute.Add sizes.Long (Register 1) (Const 4)) ∷ (Compute 4 compute.Add sizes.Long (Temp 4) (Temp 4)) ∷ (Compute 4 compute.Add sizes.Long (Temp 4) (Temp 4)) ∷ (Compute 3 compute.Add sizes.Long (Temp 3) (Temp 4)) ∷ (Probe 3 4 true) ∷ (Write 3 4 0) ∷ (Compute 2 compute.Move sizes.Long (Temp 0) (Const 0)) ∷ (Compute 5 compute.Add sizes.Long (Register 1) (Const 4)) ∷ (Commit 1 5) ∷ (Compute 5 compute.Add sizes.Long (Register 2) (Const 4)) ∷ (Commit 2 5) ∷ (Compute 6 compute.ShiftRight sizes.Long (Temp 2) (Const 31)) ∷ (Compute 7 compute.Equal sizes.Long (Temp 2) (Const 0)) ∷ (Compute 8 compute.Move sizes.Byte (Const 0) (Const 0)) ∷ (Codes 6 7 8 None) ∷ (Leave Next) ∷ []) ≡ 97
 words1 = refl
 
 sources1 : sources_of (op.Move sizes.Long) ≡ from (source.Result sizes.Long) source.Kept
@@ -32,7 +32,7 @@ fits2 : fits (from (source.Result sizes.Word) source.Kept) ((Compute 0 compute.M
 unfolding step
 fits2 = refl
 
-words2 : program_words (from (source.Result sizes.Word) source.Kept) ((Compute 0 compute.Move sizes.Long (Register 1) (Const 0)) ∷ (Probe 0 4 false) ∷ (Read 1 0 4) ∷ (Compute 1 compute.Add sizes.Long (Temp 1) (Register 2)) ∷ (Probe 1 1 false) ∷ (Read 0 1 1) ∷ (Compute 2 compute.Move sizes.Long (Register 2) (Const 0)) ∷ (Probe 2 4 false) ∷ (Read 3 2 4) ∷ (Compute 4 compute.Add sizes.Long (Register 1) (Const 4)) ∷ (Compute 4 compute.Add sizes.Long (Temp 4) (Temp 4)) ∷ (Compute 3 compute.Add sizes.Long (Temp 3) (Temp 4)) ∷ (Probe 3 2 true) ∷ (Write 3 2 0) ∷ (Compute 2 compute.Move sizes.Word (Temp 0) (Const 0)) ∷ (Compute 5 compute.Add sizes.Long (Register 1) (Const 4)) ∷ (Commit 1 5) ∷ (Compute 5 compute.Add sizes.Long (Register 2) (Const 4)) ∷ (Commit 2 5) ∷ (Compute 6 compute.ShiftRight sizes.Word (Temp 2) (Const 15)) ∷ (Compute 7 compute.Equal sizes.Word (Temp 2) (Const 0)) ∷ (Compute 8 compute.Move sizes.Byte (Const 0) (Const 0)) ∷ (Codes 6 7 8 None) ∷ (Leave Next) ∷ []) ≡ 75
+words2 : program_words (from (source.Result sizes.Word) source.Kept) ((Compute 0 compute.Move sizes.Long (Register 1) (Const 0)) ∷ (Probe 0 4 false) ∷ (Read 1 0 4) ∷ (Compute 1 compute.Add sizes.Long (Temp 1) (Register 2)) ∷ (Probe 1 1 false) ∷ (Read 0 1 1) ∷ (Compute 2 compute.Move sizes.Long (Register 2) (Const 0)) ∷ (Probe 2 4 false) ∷ (Read 3 2 4) ∷ (Compute 4 compute.Add sizes.Long (Register 1) (Const 4)) ∷ (Compute 4 compute.Add sizes.Long (Temp 4) (Temp 4)) ∷ (Compute 3 compute.Add sizes.Long (Temp 3) (Temp 4)) ∷ (Probe 3 2 true) ∷ (Write 3 2 0) ∷ (Compute 2 compute.Move sizes.Word (Temp 0) (Const 0)) ∷ (Compute 5 compute.Add sizes.Long (Register 1) (Const 4)) ∷ (Commit 1 5) ∷ (Compute 5 compute.Add sizes.Long (Register 2) (Const 4)) ∷ (Commit 2 5) ∷ (Compute 6 compute.ShiftRight sizes.Word (Temp 2) (Const 15)) ∷ (Compute 7 compute.Equal sizes.Word (Temp 2) (Const 0)) ∷ (Compute 8 compute.Move sizes.Byte (Const 0) (Const 0)) ∷ (Codes 6 7 8 None) ∷ (Leave Next) ∷ []) ≡ 79
 words2 = refl
 
 sources2 : sources_of (op.MoveZeroExtended Byte Word) ≡ from (source.Result sizes.Word) source.Kept
@@ -43,7 +43,7 @@ fits3 : fits (from (source.Result sizes.Byte) source.Kept) ((Compute 0 compute.M
 unfolding step
 fits3 = refl
 
-words3 : program_words (from (source.Result sizes.Byte) source.Kept) ((Compute 0 compute.Move sizes.Long (Register 1) (Const 0)) ∷ (Probe 0 4 false) ∷ (Read 1 0 4) ∷ (Compute 1 compute.Add sizes.Long (Temp 1) (Register 2)) ∷ (Probe 1 1 false) ∷ (Read 0 1 1) ∷ (Compute 2 compute.Move sizes.Long (Register 2) (Const 0)) ∷ (Probe 2 4 false) ∷ (Read 3 2 4) ∷ (Compute 4 compute.Add sizes.Long (Register 1) (Const 4)) ∷ (Compute 3 compute.Add sizes.Long (Temp 3) (Temp 4)) ∷ (Compute 2 compute.Xor sizes.Byte (Temp 0) (Const 255)) ∷ (Probe 3 1 true) ∷ (Write 3 1 2) ∷ (Compute 0 compute.Move sizes.Byte (Temp 2) (Const 0)) ∷ (Compute 5 compute.Add sizes.Long (Register 1) (Const 4)) ∷ (Commit 1 5) ∷ (Compute 5 compute.Add sizes.Long (Register 2) (Const 4)) ∷ (Commit 2 5) ∷ (Compute 6 compute.ShiftRight sizes.Byte (Temp 2) (Const 7)) ∷ (Compute 7 compute.Equal sizes.Byte (Temp 2) (Const 0)) ∷ (Compute 8 compute.Move sizes.Byte (Const 0) (Const 0)) ∷ (Codes 6 7 8 None) ∷ (Leave Next) ∷ []) ≡ 64
+words3 : program_words (from (source.Result sizes.Byte) source.Kept) ((Compute 0 compute.Move sizes.Long (Register 1) (Const 0)) ∷ (Probe 0 4 false) ∷ (Read 1 0 4) ∷ (Compute 1 compute.Add sizes.Long (Temp 1) (Register 2)) ∷ (Probe 1 1 false) ∷ (Read 0 1 1) ∷ (Compute 2 compute.Move sizes.Long (Register 2) (Const 0)) ∷ (Probe 2 4 false) ∷ (Read 3 2 4) ∷ (Compute 4 compute.Add sizes.Long (Register 1) (Const 4)) ∷ (Compute 3 compute.Add sizes.Long (Temp 3) (Temp 4)) ∷ (Compute 2 compute.Xor sizes.Byte (Temp 0) (Const 255)) ∷ (Probe 3 1 true) ∷ (Write 3 1 2) ∷ (Compute 0 compute.Move sizes.Byte (Temp 2) (Const 0)) ∷ (Compute 5 compute.Add sizes.Long (Register 1) (Const 4)) ∷ (Commit 1 5) ∷ (Compute 5 compute.Add sizes.Long (Register 2) (Const 4)) ∷ (Commit 2 5) ∷ (Compute 6 compute.ShiftRight sizes.Byte (Temp 2) (Const 7)) ∷ (Compute 7 compute.Equal sizes.Byte (Temp 2) (Const 0)) ∷ (Compute 8 compute.Move sizes.Byte (Const 0) (Const 0)) ∷ (Codes 6 7 8 None) ∷ (Leave Next) ∷ []) ≡ 68
 words3 = refl
 
 sources3 : sources_of (op.MoveComplemented Byte) ≡ from (source.Result sizes.Byte) source.Kept
@@ -65,7 +65,7 @@ fits5 : fits (from (source.Computed sizes.Word) source.Zero) ((Compute 0 compute
 unfolding step
 fits5 = refl
 
-words5 : program_words (from (source.Computed sizes.Word) source.Zero) ((Compute 0 compute.Move sizes.Long (Register 1) (Const 0)) ∷ (Probe 0 4 false) ∷ (Read 1 0 4) ∷ (Compute 4 compute.Add sizes.Long (Register 2) (Register 2)) ∷ (Compute 4 compute.Add sizes.Long (Temp 4) (Temp 4)) ∷ (Compute 1 compute.Add sizes.Long (Temp 1) (Temp 4)) ∷ (Probe 1 4 false) ∷ (Read 0 1 4) ∷ (Compute 2 compute.Move sizes.Long (Register 2) (Const 0)) ∷ (Probe 2 4 false) ∷ (Read 3 2 4) ∷ (Compute 4 compute.Add sizes.Long (Register 1) (Const 4)) ∷ (Compute 4 compute.Add sizes.Long (Temp 4) (Temp 4)) ∷ (Compute 3 compute.Add sizes.Long (Temp 3) (Temp 4)) ∷ (Compute 2 compute.SignExtend sizes.Long (Temp 0) (Const 0)) ∷ (Compute 2 compute.Move sizes.Word (Temp 2) (Const 0)) ∷ (Probe 3 2 true) ∷ (Write 3 2 2) ∷ (Compute 4 compute.SignExtend sizes.Word (Temp 2) (Const 0)) ∷ (Compute 5 compute.SignExtend sizes.Long (Temp 0) (Const 0)) ∷ (Compute 3 compute.Equal sizes.Quad (Temp 4) (Temp 5)) ∷ (Compute 3 compute.Xor sizes.Byte (Temp 3) (Const 1)) ∷ (Compute 5 compute.Add sizes.Long (Register 1) (Const 4)) ∷ (Commit 1 5) ∷ (Compute 5 compute.Add sizes.Long (Register 2) (Const 4)) ∷ (Commit 2 5) ∷ (Compute 6 compute.ShiftRight sizes.Word (Temp 2) (Const 15)) ∷ (Compute 7 compute.Equal sizes.Word (Temp 2) (Const 0)) ∷ (Compute 9 compute.Move sizes.Byte (Const 0) (Const 0)) ∷ (Codes 6 7 3 (Some 9)) ∷ (Leave Next) ∷ []) ≡ 93
+words5 : program_words (from (source.Computed sizes.Word) source.Zero) ((Compute 0 compute.Move sizes.Long (Register 1) (Const 0)) ∷ (Probe 0 4 false) ∷ (Read 1 0 4) ∷ (Compute 4 compute.Add sizes.Long (Register 2) (Register 2)) ∷ (Compute 4 compute.Add sizes.Long (Temp 4) (Temp 4)) ∷ (Compute 1 compute.Add sizes.Long (Temp 1) (Temp 4)) ∷ (Probe 1 4 false) ∷ (Read 0 1 4) ∷ (Compute 2 compute.Move sizes.Long (Register 2) (Const 0)) ∷ (Probe 2 4 false) ∷ (Read 3 2 4) ∷ (Compute 4 compute.Add sizes.Long (Register 1) (Const 4)) ∷ (Compute 4 compute.Add sizes.Long (Temp 4) (Temp 4)) ∷ (Compute 3 compute.Add sizes.Long (Temp 3) (Temp 4)) ∷ (Compute 2 compute.SignExtend sizes.Long (Temp 0) (Const 0)) ∷ (Compute 2 compute.Move sizes.Word (Temp 2) (Const 0)) ∷ (Probe 3 2 true) ∷ (Write 3 2 2) ∷ (Compute 4 compute.SignExtend sizes.Word (Temp 2) (Const 0)) ∷ (Compute 5 compute.SignExtend sizes.Long (Temp 0) (Const 0)) ∷ (Compute 3 compute.Equal sizes.Quad (Temp 4) (Temp 5)) ∷ (Compute 3 compute.Xor sizes.Byte (Temp 3) (Const 1)) ∷ (Compute 5 compute.Add sizes.Long (Register 1) (Const 4)) ∷ (Commit 1 5) ∷ (Compute 5 compute.Add sizes.Long (Register 2) (Const 4)) ∷ (Commit 2 5) ∷ (Compute 6 compute.ShiftRight sizes.Word (Temp 2) (Const 15)) ∷ (Compute 7 compute.Equal sizes.Word (Temp 2) (Const 0)) ∷ (Compute 9 compute.Move sizes.Byte (Const 0) (Const 0)) ∷ (Codes 6 7 3 (Some 9)) ∷ (Leave Next) ∷ []) ≡ 98
 words5 = refl
 
 sources5 : sources_of (op.Convert Long Word) ≡ from (source.Computed sizes.Word) source.Zero
@@ -76,7 +76,7 @@ fits6 : fits (from (source.Add sizes.Long) (source.Add sizes.Long)) ((Compute 0 
 unfolding step
 fits6 = refl
 
-words6 : program_words (from (source.Add sizes.Long) (source.Add sizes.Long)) ((Compute 0 compute.Move sizes.Long (Register 1) (Const 0)) ∷ (Probe 0 4 false) ∷ (Read 2 0 4) ∷ (Compute 4 compute.Add sizes.Long (Register 2) (Register 2)) ∷ (Compute 4 compute.Add sizes.Long (Temp 4) (Temp 4)) ∷ (Compute 2 compute.Add sizes.Long (Temp 2) (Temp 4)) ∷ (Probe 2 4 false) ∷ (Read 0 2 4) ∷ (Compute 1 compute.Move sizes.Long (Register 2) (Const 0)) ∷ (Probe 1 4 false) ∷ (Read 2 1 4) ∷ (Compute 4 compute.Add sizes.Long (Register 1) (Const 4)) ∷ (Compute 4 compute.Add sizes.Long (Temp 4) (Temp 4)) ∷ (Compute 4 compute.Add sizes.Long (Temp 4) (Temp 4)) ∷ (Compute 2 compute.Add sizes.Long (Temp 2) (Temp 4)) ∷ (Probe 2 4 false) ∷ (Read 1 2 4) ∷ (Compute 2 compute.Move sizes.Long (Register 3) (Const 0)) ∷ (Probe 2 4 false) ∷ (Read 3 2 4) ∷ (Compute 4 compute.Add sizes.Long (Register 1) (Const 4)) ∷ (Compute 4 compute.Add sizes.Long (Temp 4) (Temp 4)) ∷ (Compute 4 compute.Add sizes.Long (Temp 4) (Temp 4)) ∷ (Compute 3 compute.Add sizes.Long (Temp 3) (Temp 4)) ∷ (Compute 2 compute.Add sizes.Long (Temp 0) (Temp 1)) ∷ (Probe 3 4 true) ∷ (Write 3 4 2) ∷ (Compute 5 compute.Add sizes.Long (Register 1) (Const 4)) ∷ (Commit 1 5) ∷ (Compute 5 compute.Add sizes.Long (Register 2) (Const 4)) ∷ (Commit 2 5) ∷ (Compute 5 compute.Add sizes.Long (Register 3) (Const 4)) ∷ (Commit 3 5) ∷ (Compute 6 compute.ShiftRight sizes.Long (Temp 2) (Const 31)) ∷ (Compute 7 compute.Equal sizes.Long (Temp 2) (Const 0)) ∷ (Compute 10 compute.SignExtend sizes.Long (Temp 0) (Const 0)) ∷ (Compute 11 compute.SignExtend sizes.Long (Temp 1) (Const 0)) ∷ (Compute 10 compute.Add sizes.Quad (Temp 10) (Temp 11)) ∷ (Compute 11 compute.SignExtend sizes.Long (Temp 2) (Const 0)) ∷ (Compute 8 compute.Equal sizes.Quad (Temp 10) (Temp 11)) ∷ (Compute 8 compute.Xor sizes.Byte (Temp 8) (Const 1)) ∷ (Compute 9 compute.LessUnsigned sizes.Long (Temp 2) (Temp 0)) ∷ (Codes 6 7 8 (Some 9)) ∷ (Leave Next) ∷ []) ≡ 132
+words6 : program_words (from (source.Add sizes.Long) (source.Add sizes.Long)) ((Compute 0 compute.Move sizes.Long (Register 1) (Const 0)) ∷ (Probe 0 4 false) ∷ (Read 2 0 4) ∷ (Compute 4 compute.Add sizes.Long (Register 2) (Register 2)) ∷ (Compute 4 compute.Add sizes.Long (Temp 4) (Temp 4)) ∷ (Compute 2 compute.Add sizes.Long (Temp 2) (Temp 4)) ∷ (Probe 2 4 false) ∷ (Read 0 2 4) ∷ (Compute 1 compute.Move sizes.Long (Register 2) (Const 0)) ∷ (Probe 1 4 false) ∷ (Read 2 1 4) ∷ (Compute 4 compute.Add sizes.Long (Register 1) (Const 4)) ∷ (Compute 4 compute.Add sizes.Long (Temp 4) (Temp 4)) ∷ (Compute 4 compute.Add sizes.Long (Temp 4) (Temp 4)) ∷ (Compute 2 compute.Add sizes.Long (Temp 2) (Temp 4)) ∷ (Probe 2 4 false) ∷ (Read 1 2 4) ∷ (Compute 2 compute.Move sizes.Long (Register 3) (Const 0)) ∷ (Probe 2 4 false) ∷ (Read 3 2 4) ∷ (Compute 4 compute.Add sizes.Long (Register 1) (Const 4)) ∷ (Compute 4 compute.Add sizes.Long (Temp 4) (Temp 4)) ∷ (Compute 4 compute.Add sizes.Long (Temp 4) (Temp 4)) ∷ (Compute 3 compute.Add sizes.Long (Temp 3) (Temp 4)) ∷ (Compute 2 compute.Add sizes.Long (Temp 0) (Temp 1)) ∷ (Probe 3 4 true) ∷ (Write 3 4 2) ∷ (Compute 5 compute.Add sizes.Long (Register 1) (Const 4)) ∷ (Commit 1 5) ∷ (Compute 5 compute.Add sizes.Long (Register 2) (Const 4)) ∷ (Commit 2 5) ∷ (Compute 5 compute.Add sizes.Long (Register 3) (Const 4)) ∷ (Commit 3 5) ∷ (Compute 6 compute.ShiftRight sizes.Long (Temp 2) (Const 31)) ∷ (Compute 7 compute.Equal sizes.Long (Temp 2) (Const 0)) ∷ (Compute 10 compute.SignExtend sizes.Long (Temp 0) (Const 0)) ∷ (Compute 11 compute.SignExtend sizes.Long (Temp 1) (Const 0)) ∷ (Compute 10 compute.Add sizes.Quad (Temp 10) (Temp 11)) ∷ (Compute 11 compute.SignExtend sizes.Long (Temp 2) (Const 0)) ∷ (Compute 8 compute.Equal sizes.Quad (Temp 10) (Temp 11)) ∷ (Compute 8 compute.Xor sizes.Byte (Temp 8) (Const 1)) ∷ (Compute 9 compute.LessUnsigned sizes.Long (Temp 2) (Temp 0)) ∷ (Codes 6 7 8 (Some 9)) ∷ (Leave Next) ∷ []) ≡ 142
 words6 = refl
 
 sources6 : sources_of (op.ThreeOperands Add Long) ≡ from (source.Add sizes.Long) (source.Add sizes.Long)
@@ -87,7 +87,7 @@ fits7 : fits (from (source.Add sizes.Byte) (source.Add sizes.Byte)) ((Compute 0 
 unfolding step
 fits7 = refl
 
-words7 : program_words (from (source.Add sizes.Byte) (source.Add sizes.Byte)) ((Compute 0 compute.Move sizes.Long (Register 1) (Const 0)) ∷ (Probe 0 4 false) ∷ (Read 2 0 4) ∷ (Compute 2 compute.Add sizes.Long (Temp 2) (Register 2)) ∷ (Probe 2 1 false) ∷ (Read 0 2 1) ∷ (Compute 1 compute.Add sizes.Long (Register 1) (Const 4)) ∷ (Probe 1 4 false) ∷ (Read 2 1 4) ∷ (Compute 2 compute.Add sizes.Long (Temp 2) (Register 2)) ∷ (Probe 2 1 false) ∷ (Read 1 2 1) ∷ (Compute 2 compute.Add sizes.Byte (Temp 0) (Temp 1)) ∷ (Compute 5 compute.Add sizes.Long (Register 1) (Const 8)) ∷ (Compute 5 compute.AndNot sizes.Long (Temp 5) (Const 255)) ∷ (Compute 5 compute.Or sizes.Long (Temp 5) (Temp 2)) ∷ (Commit 1 5) ∷ (Compute 6 compute.ShiftRight sizes.Byte (Temp 2) (Const 7)) ∷ (Compute 7 compute.Equal sizes.Byte (Temp 2) (Const 0)) ∷ (Compute 10 compute.SignExtend sizes.Byte (Temp 0) (Const 0)) ∷ (Compute 11 compute.SignExtend sizes.Byte (Temp 1) (Const 0)) ∷ (Compute 10 compute.Add sizes.Quad (Temp 10) (Temp 11)) ∷ (Compute 11 compute.SignExtend sizes.Byte (Temp 2) (Const 0)) ∷ (Compute 8 compute.Equal sizes.Quad (Temp 10) (Temp 11)) ∷ (Compute 8 compute.Xor sizes.Byte (Temp 8) (Const 1)) ∷ (Compute 9 compute.LessUnsigned sizes.Byte (Temp 2) (Temp 0)) ∷ (Codes 6 7 8 (Some 9)) ∷ (Leave Next) ∷ []) ≡ 58
+words7 : program_words (from (source.Add sizes.Byte) (source.Add sizes.Byte)) ((Compute 0 compute.Move sizes.Long (Register 1) (Const 0)) ∷ (Probe 0 4 false) ∷ (Read 2 0 4) ∷ (Compute 2 compute.Add sizes.Long (Temp 2) (Register 2)) ∷ (Probe 2 1 false) ∷ (Read 0 2 1) ∷ (Compute 1 compute.Add sizes.Long (Register 1) (Const 4)) ∷ (Probe 1 4 false) ∷ (Read 2 1 4) ∷ (Compute 2 compute.Add sizes.Long (Temp 2) (Register 2)) ∷ (Probe 2 1 false) ∷ (Read 1 2 1) ∷ (Compute 2 compute.Add sizes.Byte (Temp 0) (Temp 1)) ∷ (Compute 5 compute.Add sizes.Long (Register 1) (Const 8)) ∷ (Compute 5 compute.AndNot sizes.Long (Temp 5) (Const 255)) ∷ (Compute 5 compute.Or sizes.Long (Temp 5) (Temp 2)) ∷ (Commit 1 5) ∷ (Compute 6 compute.ShiftRight sizes.Byte (Temp 2) (Const 7)) ∷ (Compute 7 compute.Equal sizes.Byte (Temp 2) (Const 0)) ∷ (Compute 10 compute.SignExtend sizes.Byte (Temp 0) (Const 0)) ∷ (Compute 11 compute.SignExtend sizes.Byte (Temp 1) (Const 0)) ∷ (Compute 10 compute.Add sizes.Quad (Temp 10) (Temp 11)) ∷ (Compute 11 compute.SignExtend sizes.Byte (Temp 2) (Const 0)) ∷ (Compute 8 compute.Equal sizes.Quad (Temp 10) (Temp 11)) ∷ (Compute 8 compute.Xor sizes.Byte (Temp 8) (Const 1)) ∷ (Compute 9 compute.LessUnsigned sizes.Byte (Temp 2) (Temp 0)) ∷ (Codes 6 7 8 (Some 9)) ∷ (Leave Next) ∷ []) ≡ 62
 words7 = refl
 
 sources7 : sources_of (op.ThreeOperands Add Byte) ≡ from (source.Add sizes.Byte) (source.Add sizes.Byte)
@@ -98,7 +98,7 @@ fits8 : fits (from (source.Sub sizes.Word) (source.Sub sizes.Word)) ((Compute 1 
 unfolding step
 fits8 = refl
 
-words8 : program_words (from (source.Sub sizes.Word) (source.Sub sizes.Word)) ((Compute 1 compute.Move sizes.Long (Register 1) (Const 0)) ∷ (Probe 1 4 false) ∷ (Read 2 1 4) ∷ (Compute 4 compute.Add sizes.Long (Register 2) (Register 2)) ∷ (Compute 2 compute.Add sizes.Long (Temp 2) (Temp 4)) ∷ (Probe 2 2 false) ∷ (Read 1 2 2) ∷ (Compute 0 compute.Move sizes.Long (Register 2) (Const 0)) ∷ (Probe 0 4 false) ∷ (Read 2 0 4) ∷ (Compute 4 compute.Add sizes.Long (Register 1) (Const 4)) ∷ (Compute 4 compute.Add sizes.Long (Temp 4) (Temp 4)) ∷ (Compute 2 compute.Add sizes.Long (Temp 2) (Temp 4)) ∷ (Probe 2 2 false) ∷ (Read 0 2 2) ∷ (Compute 2 compute.Move sizes.Long (Register 3) (Const 0)) ∷ (Probe 2 4 false) ∷ (Read 3 2 4) ∷ (Compute 4 compute.Add sizes.Long (Register 1) (Const 4)) ∷ (Compute 4 compute.Add sizes.Long (Temp 4) (Temp 4)) ∷ (Compute 3 compute.Add sizes.Long (Temp 3) (Temp 4)) ∷ (Compute 2 compute.Sub sizes.Word (Temp 0) (Temp 1)) ∷ (Probe 3 2 true) ∷ (Write 3 2 2) ∷ (Compute 5 compute.Add sizes.Long (Register 1) (Const 4)) ∷ (Commit 1 5) ∷ (Compute 5 compute.Add sizes.Long (Register 2) (Const 4)) ∷ (Commit 2 5) ∷ (Compute 5 compute.Add sizes.Long (Register 3) (Const 4)) ∷ (Commit 3 5) ∷ (Compute 6 compute.ShiftRight sizes.Word (Temp 2) (Const 15)) ∷ (Compute 7 compute.Equal sizes.Word (Temp 2) (Const 0)) ∷ (Compute 10 compute.SignExtend sizes.Word (Temp 0) (Const 0)) ∷ (Compute 11 compute.SignExtend sizes.Word (Temp 1) (Const 0)) ∷ (Compute 10 compute.Sub sizes.Quad (Temp 10) (Temp 11)) ∷ (Compute 11 compute.SignExtend sizes.Word (Temp 2) (Const 0)) ∷ (Compute 8 compute.Equal sizes.Quad (Temp 10) (Temp 11)) ∷ (Compute 8 compute.Xor sizes.Byte (Temp 8) (Const 1)) ∷ (Compute 9 compute.LessUnsigned sizes.Word (Temp 0) (Temp 1)) ∷ (Codes 6 7 8 (Some 9)) ∷ (Leave Next) ∷ []) ≡ 126
+words8 : program_words (from (source.Sub sizes.Word) (source.Sub sizes.Word)) ((Compute 1 compute.Move sizes.Long (Register 1) (Const 0)) ∷ (Probe 1 4 false) ∷ (Read 2 1 4) ∷ (Compute 4 compute.Add sizes.Long (Register 2) (Register 2)) ∷ (Compute 2 compute.Add sizes.Long (Temp 2) (Temp 4)) ∷ (Probe 2 2 false) ∷ (Read 1 2 2) ∷ (Compute 0 compute.Move sizes.Long (Register 2) (Const 0)) ∷ (Probe 0 4 false) ∷ (Read 2 0 4) ∷ (Compute 4 compute.Add sizes.Long (Register 1) (Const 4)) ∷ (Compute 4 compute.Add sizes.Long (Temp 4) (Temp 4)) ∷ (Compute 2 compute.Add sizes.Long (Temp 2) (Temp 4)) ∷ (Probe 2 2 false) ∷ (Read 0 2 2) ∷ (Compute 2 compute.Move sizes.Long (Register 3) (Const 0)) ∷ (Probe 2 4 false) ∷ (Read 3 2 4) ∷ (Compute 4 compute.Add sizes.Long (Register 1) (Const 4)) ∷ (Compute 4 compute.Add sizes.Long (Temp 4) (Temp 4)) ∷ (Compute 3 compute.Add sizes.Long (Temp 3) (Temp 4)) ∷ (Compute 2 compute.Sub sizes.Word (Temp 0) (Temp 1)) ∷ (Probe 3 2 true) ∷ (Write 3 2 2) ∷ (Compute 5 compute.Add sizes.Long (Register 1) (Const 4)) ∷ (Commit 1 5) ∷ (Compute 5 compute.Add sizes.Long (Register 2) (Const 4)) ∷ (Commit 2 5) ∷ (Compute 5 compute.Add sizes.Long (Register 3) (Const 4)) ∷ (Commit 3 5) ∷ (Compute 6 compute.ShiftRight sizes.Word (Temp 2) (Const 15)) ∷ (Compute 7 compute.Equal sizes.Word (Temp 2) (Const 0)) ∷ (Compute 10 compute.SignExtend sizes.Word (Temp 0) (Const 0)) ∷ (Compute 11 compute.SignExtend sizes.Word (Temp 1) (Const 0)) ∷ (Compute 10 compute.Sub sizes.Quad (Temp 10) (Temp 11)) ∷ (Compute 11 compute.SignExtend sizes.Word (Temp 2) (Const 0)) ∷ (Compute 8 compute.Equal sizes.Quad (Temp 10) (Temp 11)) ∷ (Compute 8 compute.Xor sizes.Byte (Temp 8) (Const 1)) ∷ (Compute 9 compute.LessUnsigned sizes.Word (Temp 0) (Temp 1)) ∷ (Codes 6 7 8 (Some 9)) ∷ (Leave Next) ∷ []) ≡ 132
 words8 = refl
 
 sources8 : sources_of (op.ThreeOperands Subtract Word) ≡ from (source.Sub sizes.Word) (source.Sub sizes.Word)
@@ -109,7 +109,7 @@ fits9 : fits (from (source.Computed sizes.Long) source.Zero) ((Compute 0 compute
 unfolding step
 fits9 = refl
 
-words9 : program_words (from (source.Computed sizes.Long) source.Zero) ((Compute 0 compute.Move sizes.Long (Register 1) (Const 0)) ∷ (Probe 0 4 false) ∷ (Read 2 0 4) ∷ (Compute 4 compute.Add sizes.Long (Register 2) (Register 2)) ∷ (Compute 4 compute.Add sizes.Long (Temp 4) (Temp 4)) ∷ (Compute 2 compute.Add sizes.Long (Temp 2) (Temp 4)) ∷ (Probe 2 4 false) ∷ (Read 0 2 4) ∷ (Compute 1 compute.Move sizes.Long (Register 2) (Const 0)) ∷ (Probe 1 4 false) ∷ (Read 2 1 4) ∷ (Compute 4 compute.Add sizes.Long (Register 1) (Const 4)) ∷ (Compute 4 compute.Add sizes.Long (Temp 4) (Temp 4)) ∷ (Compute 4 compute.Add sizes.Long (Temp 4) (Temp 4)) ∷ (Compute 2 compute.Add sizes.Long (Temp 2) (Temp 4)) ∷ (Probe 2 4 false) ∷ (Read 1 2 4) ∷ (Compute 2 compute.Move sizes.Long (Register 3) (Const 0)) ∷ (Probe 2 4 false) ∷ (Read 3 2 4) ∷ (Compute 4 compute.Add sizes.Long (Register 1) (Const 4)) ∷ (Compute 4 compute.Add sizes.Long (Temp 4) (Temp 4)) ∷ (Compute 4 compute.Add sizes.Long (Temp 4) (Temp 4)) ∷ (Compute 3 compute.Add sizes.Long (Temp 3) (Temp 4)) ∷ (Compute 2 compute.Mul sizes.Long (Temp 0) (Temp 1)) ∷ (Probe 3 4 true) ∷ (Write 3 4 2) ∷ (Compute 4 compute.SignExtend sizes.Long (Temp 0) (Const 0)) ∷ (Compute 5 compute.SignExtend sizes.Long (Temp 1) (Const 0)) ∷ (Compute 4 compute.Mul sizes.Quad (Temp 4) (Temp 5)) ∷ (Compute 5 compute.SignExtend sizes.Long (Temp 2) (Const 0)) ∷ (Compute 3 compute.Equal sizes.Quad (Temp 4) (Temp 5)) ∷ (Compute 3 compute.Xor sizes.Byte (Temp 3) (Const 1)) ∷ (Compute 5 compute.Add sizes.Long (Register 1) (Const 4)) ∷ (Commit 1 5) ∷ (Compute 5 compute.Add sizes.Long (Register 2) (Const 4)) ∷ (Commit 2 5) ∷ (Compute 5 compute.Add sizes.Long (Register 3) (Const 4)) ∷ (Commit 3 5) ∷ (Compute 6 compute.ShiftRight sizes.Long (Temp 2) (Const 31)) ∷ (Compute 7 compute.Equal sizes.Long (Temp 2) (Const 0)) ∷ (Compute 9 compute.Move sizes.Byte (Const 0) (Const 0)) ∷ (Codes 6 7 3 (Some 9)) ∷ (Leave Next) ∷ []) ≡ 140
+words9 : program_words (from (source.Computed sizes.Long) source.Zero) ((Compute 0 compute.Move sizes.Long (Register 1) (Const 0)) ∷ (Probe 0 4 false) ∷ (Read 2 0 4) ∷ (Compute 4 compute.Add sizes.Long (Register 2) (Register 2)) ∷ (Compute 4 compute.Add sizes.Long (Temp 4) (Temp 4)) ∷ (Compute 2 compute.Add sizes.Long (Temp 2) (Temp 4)) ∷ (Probe 2 4 false) ∷ (Read 0 2 4) ∷ (Compute 1 compute.Move sizes.Long (Register 2) (Const 0)) ∷ (Probe 1 4 false) ∷ (Read 2 1 4) ∷ (Compute 4 compute.Add sizes.Long (Register 1) (Const 4)) ∷ (Compute 4 compute.Add sizes.Long (Temp 4) (Temp 4)) ∷ (Compute 4 compute.Add sizes.Long (Temp 4) (Temp 4)) ∷ (Compute 2 compute.Add sizes.Long (Temp 2) (Temp 4)) ∷ (Probe 2 4 false) ∷ (Read 1 2 4) ∷ (Compute 2 compute.Move sizes.Long (Register 3) (Const 0)) ∷ (Probe 2 4 false) ∷ (Read 3 2 4) ∷ (Compute 4 compute.Add sizes.Long (Register 1) (Const 4)) ∷ (Compute 4 compute.Add sizes.Long (Temp 4) (Temp 4)) ∷ (Compute 4 compute.Add sizes.Long (Temp 4) (Temp 4)) ∷ (Compute 3 compute.Add sizes.Long (Temp 3) (Temp 4)) ∷ (Compute 2 compute.Mul sizes.Long (Temp 0) (Temp 1)) ∷ (Probe 3 4 true) ∷ (Write 3 4 2) ∷ (Compute 4 compute.SignExtend sizes.Long (Temp 0) (Const 0)) ∷ (Compute 5 compute.SignExtend sizes.Long (Temp 1) (Const 0)) ∷ (Compute 4 compute.Mul sizes.Quad (Temp 4) (Temp 5)) ∷ (Compute 5 compute.SignExtend sizes.Long (Temp 2) (Const 0)) ∷ (Compute 3 compute.Equal sizes.Quad (Temp 4) (Temp 5)) ∷ (Compute 3 compute.Xor sizes.Byte (Temp 3) (Const 1)) ∷ (Compute 5 compute.Add sizes.Long (Register 1) (Const 4)) ∷ (Commit 1 5) ∷ (Compute 5 compute.Add sizes.Long (Register 2) (Const 4)) ∷ (Commit 2 5) ∷ (Compute 5 compute.Add sizes.Long (Register 3) (Const 4)) ∷ (Commit 3 5) ∷ (Compute 6 compute.ShiftRight sizes.Long (Temp 2) (Const 31)) ∷ (Compute 7 compute.Equal sizes.Long (Temp 2) (Const 0)) ∷ (Compute 9 compute.Move sizes.Byte (Const 0) (Const 0)) ∷ (Codes 6 7 3 (Some 9)) ∷ (Leave Next) ∷ []) ≡ 149
 words9 = refl
 
 sources9 : sources_of (op.ThreeOperands Multiply Long) ≡ from (source.Computed sizes.Long) source.Zero
@@ -120,7 +120,7 @@ fits10 : fits (from (source.Result sizes.Long) source.Kept) ((Compute 0 compute.
 unfolding step
 fits10 = refl
 
-words10 : program_words (from (source.Result sizes.Long) source.Kept) ((Compute 0 compute.Move sizes.Long (Register 1) (Const 0)) ∷ (Probe 0 4 false) ∷ (Read 2 0 4) ∷ (Compute 4 compute.Add sizes.Long (Register 2) (Register 2)) ∷ (Compute 4 compute.Add sizes.Long (Temp 4) (Temp 4)) ∷ (Compute 2 compute.Add sizes.Long (Temp 2) (Temp 4)) ∷ (Probe 2 4 false) ∷ (Read 0 2 4) ∷ (Compute 1 compute.Move sizes.Long (Register 2) (Const 0)) ∷ (Probe 1 4 false) ∷ (Read 3 1 4) ∷ (Compute 4 compute.Add sizes.Long (Register 1) (Const 4)) ∷ (Compute 4 compute.Add sizes.Long (Temp 4) (Temp 4)) ∷ (Compute 4 compute.Add sizes.Long (Temp 4) (Temp 4)) ∷ (Compute 3 compute.Add sizes.Long (Temp 3) (Temp 4)) ∷ (Probe 3 4 true) ∷ (Read 1 3 4) ∷ (Compute 2 compute.AndNot sizes.Long (Temp 1) (Temp 0)) ∷ (Write 3 4 2) ∷ (Compute 0 compute.Move sizes.Long (Temp 2) (Const 0)) ∷ (Compute 5 compute.Add sizes.Long (Register 1) (Const 4)) ∷ (Commit 1 5) ∷ (Compute 5 compute.Add sizes.Long (Register 2) (Const 4)) ∷ (Commit 2 5) ∷ (Compute 6 compute.ShiftRight sizes.Long (Temp 2) (Const 31)) ∷ (Compute 7 compute.Equal sizes.Long (Temp 2) (Const 0)) ∷ (Compute 8 compute.Move sizes.Byte (Const 0) (Const 0)) ∷ (Codes 6 7 8 None) ∷ (Leave Next) ∷ []) ≡ 103
+words10 : program_words (from (source.Result sizes.Long) source.Kept) ((Compute 0 compute.Move sizes.Long (Register 1) (Const 0)) ∷ (Probe 0 4 false) ∷ (Read 2 0 4) ∷ (Compute 4 compute.Add sizes.Long (Register 2) (Register 2)) ∷ (Compute 4 compute.Add sizes.Long (Temp 4) (Temp 4)) ∷ (Compute 2 compute.Add sizes.Long (Temp 2) (Temp 4)) ∷ (Probe 2 4 false) ∷ (Read 0 2 4) ∷ (Compute 1 compute.Move sizes.Long (Register 2) (Const 0)) ∷ (Probe 1 4 false) ∷ (Read 3 1 4) ∷ (Compute 4 compute.Add sizes.Long (Register 1) (Const 4)) ∷ (Compute 4 compute.Add sizes.Long (Temp 4) (Temp 4)) ∷ (Compute 4 compute.Add sizes.Long (Temp 4) (Temp 4)) ∷ (Compute 3 compute.Add sizes.Long (Temp 3) (Temp 4)) ∷ (Probe 3 4 true) ∷ (Read 1 3 4) ∷ (Compute 2 compute.AndNot sizes.Long (Temp 1) (Temp 0)) ∷ (Write 3 4 2) ∷ (Compute 0 compute.Move sizes.Long (Temp 2) (Const 0)) ∷ (Compute 5 compute.Add sizes.Long (Register 1) (Const 4)) ∷ (Commit 1 5) ∷ (Compute 5 compute.Add sizes.Long (Register 2) (Const 4)) ∷ (Commit 2 5) ∷ (Compute 6 compute.ShiftRight sizes.Long (Temp 2) (Const 31)) ∷ (Compute 7 compute.Equal sizes.Long (Temp 2) (Const 0)) ∷ (Compute 8 compute.Move sizes.Byte (Const 0) (Const 0)) ∷ (Codes 6 7 8 None) ∷ (Leave Next) ∷ []) ≡ 111
 words10 = refl
 
 sources10 : sources_of (op.TwoOperands BitClear Long) ≡ from (source.Result sizes.Long) source.Kept
@@ -131,7 +131,7 @@ fits11 : fits (from (source.Sub sizes.Long) (source.Sub sizes.Long)) ((Compute 1
 unfolding step
 fits11 = refl
 
-words11 : program_words (from (source.Sub sizes.Long) (source.Sub sizes.Long)) ((Compute 1 compute.Move sizes.Long (Register 1) (Const 0)) ∷ (Probe 1 4 false) ∷ (Read 0 1 4) ∷ (Compute 4 compute.Add sizes.Long (Register 2) (Register 2)) ∷ (Compute 4 compute.Add sizes.Long (Temp 4) (Temp 4)) ∷ (Compute 0 compute.Add sizes.Long (Temp 0) (Temp 4)) ∷ (Probe 0 4 false) ∷ (Read 1 0 4) ∷ (Compute 2 compute.Move sizes.Long (Register 2) (Const 0)) ∷ (Probe 2 4 false) ∷ (Read 3 2 4) ∷ (Compute 4 compute.Add sizes.Long (Register 1) (Const 4)) ∷ (Compute 4 compute.Add sizes.Long (Temp 4) (Temp 4)) ∷ (Compute 4 compute.Add sizes.Long (Temp 4) (Temp 4)) ∷ (Compute 3 compute.Add sizes.Long (Temp 3) (Temp 4)) ∷ (Compute 2 compute.Sub sizes.Long (Const 0) (Temp 1)) ∷ (Probe 3 4 true) ∷ (Write 3 4 2) ∷ (Compute 0 compute.Move sizes.Long (Const 0) (Const 0)) ∷ (Compute 5 compute.Add sizes.Long (Register 1) (Const 4)) ∷ (Commit 1 5) ∷ (Compute 5 compute.Add sizes.Long (Register 2) (Const 4)) ∷ (Commit 2 5) ∷ (Compute 6 compute.ShiftRight sizes.Long (Temp 2) (Const 31)) ∷ (Compute 7 compute.Equal sizes.Long (Temp 2) (Const 0)) ∷ (Compute 10 compute.SignExtend sizes.Long (Temp 0) (Const 0)) ∷ (Compute 11 compute.SignExtend sizes.Long (Temp 1) (Const 0)) ∷ (Compute 10 compute.Sub sizes.Quad (Temp 10) (Temp 11)) ∷ (Compute 11 compute.SignExtend sizes.Long (Temp 2) (Const 0)) ∷ (Compute 8 compute.Equal sizes.Quad (Temp 10) (Temp 11)) ∷ (Compute 8 compute.Xor sizes.Byte (Temp 8) (Const 1)) ∷ (Compute 9 compute.LessUnsigned sizes.Long (Temp 0) (Temp 1)) ∷ (Codes 6 7 8 (Some 9)) ∷ (Leave Next) ∷ []) ≡ 97
+words11 : program_words (from (source.Sub sizes.Long) (source.Sub sizes.Long)) ((Compute 1 compute.Move sizes.Long (Register 1) (Const 0)) ∷ (Probe 1 4 false) ∷ (Read 0 1 4) ∷ (Compute 4 compute.Add sizes.Long (Register 2) (Register 2)) ∷ (Compute 4 compute.Add sizes.Long (Temp 4) (Temp 4)) ∷ (Compute 0 compute.Add sizes.Long (Temp 0) (Temp 4)) ∷ (Probe 0 4 false) ∷ (Read 1 0 4) ∷ (Compute 2 compute.Move sizes.Long (Register 2) (Const 0)) ∷ (Probe 2 4 false) ∷ (Read 3 2 4) ∷ (Compute 4 compute.Add sizes.Long (Register 1) (Const 4)) ∷ (Compute 4 compute.Add sizes.Long (Temp 4) (Temp 4)) ∷ (Compute 4 compute.Add sizes.Long (Temp 4) (Temp 4)) ∷ (Compute 3 compute.Add sizes.Long (Temp 3) (Temp 4)) ∷ (Compute 2 compute.Sub sizes.Long (Const 0) (Temp 1)) ∷ (Probe 3 4 true) ∷ (Write 3 4 2) ∷ (Compute 0 compute.Move sizes.Long (Const 0) (Const 0)) ∷ (Compute 5 compute.Add sizes.Long (Register 1) (Const 4)) ∷ (Commit 1 5) ∷ (Compute 5 compute.Add sizes.Long (Register 2) (Const 4)) ∷ (Commit 2 5) ∷ (Compute 6 compute.ShiftRight sizes.Long (Temp 2) (Const 31)) ∷ (Compute 7 compute.Equal sizes.Long (Temp 2) (Const 0)) ∷ (Compute 10 compute.SignExtend sizes.Long (Temp 0) (Const 0)) ∷ (Compute 11 compute.SignExtend sizes.Long (Temp 1) (Const 0)) ∷ (Compute 10 compute.Sub sizes.Quad (Temp 10) (Temp 11)) ∷ (Compute 11 compute.SignExtend sizes.Long (Temp 2) (Const 0)) ∷ (Compute 8 compute.Equal sizes.Quad (Temp 10) (Temp 11)) ∷ (Compute 8 compute.Xor sizes.Byte (Temp 8) (Const 1)) ∷ (Compute 9 compute.LessUnsigned sizes.Long (Temp 0) (Temp 1)) ∷ (Codes 6 7 8 (Some 9)) ∷ (Leave Next) ∷ []) ≡ 103
 words11 = refl
 
 sources11 : sources_of (op.MoveNegated Long) ≡ from (source.Sub sizes.Long) (source.Sub sizes.Long)
@@ -142,7 +142,7 @@ fits12 : fits (from (source.Computed sizes.Long) (source.Computed sizes.Long)) (
 unfolding step
 fits12 = refl
 
-words12 : program_words (from (source.Computed sizes.Long) (source.Computed sizes.Long)) ((Compute 1 compute.Move sizes.Long (Register 1) (Const 0)) ∷ (Probe 1 4 false) ∷ (Read 2 1 4) ∷ (Compute 4 compute.Add sizes.Long (Register 2) (Register 2)) ∷ (Compute 4 compute.Add sizes.Long (Temp 4) (Temp 4)) ∷ (Compute 2 compute.Add sizes.Long (Temp 2) (Temp 4)) ∷ (Probe 2 4 false) ∷ (Read 1 2 4) ∷ (Compute 0 compute.Move sizes.Long (Register 2) (Const 0)) ∷ (Probe 0 4 false) ∷ (Read 3 0 4) ∷ (Compute 4 compute.Add sizes.Long (Register 1) (Const 4)) ∷ (Compute 4 compute.Add sizes.Long (Temp 4) (Temp 4)) ∷ (Compute 4 compute.Add sizes.Long (Temp 4) (Temp 4)) ∷ (Compute 3 compute.Add sizes.Long (Temp 3) (Temp 4)) ∷ (Probe 3 4 true) ∷ (Read 0 3 4) ∷ (Compute 2 compute.Add sizes.Long (Temp 0) (Temp 1)) ∷ (Compute 2 compute.Add sizes.Long (Temp 2) (Flag 3)) ∷ (Write 3 4 2) ∷ (Compute 4 compute.SignExtend sizes.Long (Temp 0) (Const 0)) ∷ (Compute 5 compute.SignExtend sizes.Long (Temp 1) (Const 0)) ∷ (Compute 4 compute.Add sizes.Quad (Temp 4) (Temp 5)) ∷ (Compute 4 compute.Add sizes.Quad (Temp 4) (Flag 3)) ∷ (Compute 5 compute.SignExtend sizes.Long (Temp 2) (Const 0)) ∷ (Compute 3 compute.Equal sizes.Quad (Temp 4) (Temp 5)) ∷ (Compute 3 compute.Xor sizes.Byte (Temp 3) (Const 1)) ∷ (Compute 4 compute.Add sizes.Quad (Temp 0) (Temp 1)) ∷ (Compute 4 compute.Add sizes.Quad (Temp 4) (Flag 3)) ∷ (Compute 4 compute.ShiftRight sizes.Quad (Temp 4) (Const 32)) ∷ (Compute 4 compute.And sizes.Byte (Temp 4) (Const 1)) ∷ (Compute 5 compute.Add sizes.Long (Register 1) (Const 4)) ∷ (Commit 1 5) ∷ (Compute 5 compute.Add sizes.Long (Register 2) (Const 4)) ∷ (Commit 2 5) ∷ (Compute 6 compute.ShiftRight sizes.Long (Temp 2) (Const 31)) ∷ (Compute 7 compute.Equal sizes.Long (Temp 2) (Const 0)) ∷ (Codes 6 7 3 (Some 4)) ∷ (Leave Next) ∷ []) ≡ 127
+words12 : program_words (from (source.Computed sizes.Long) (source.Computed sizes.Long)) ((Compute 1 compute.Move sizes.Long (Register 1) (Const 0)) ∷ (Probe 1 4 false) ∷ (Read 2 1 4) ∷ (Compute 4 compute.Add sizes.Long (Register 2) (Register 2)) ∷ (Compute 4 compute.Add sizes.Long (Temp 4) (Temp 4)) ∷ (Compute 2 compute.Add sizes.Long (Temp 2) (Temp 4)) ∷ (Probe 2 4 false) ∷ (Read 1 2 4) ∷ (Compute 0 compute.Move sizes.Long (Register 2) (Const 0)) ∷ (Probe 0 4 false) ∷ (Read 3 0 4) ∷ (Compute 4 compute.Add sizes.Long (Register 1) (Const 4)) ∷ (Compute 4 compute.Add sizes.Long (Temp 4) (Temp 4)) ∷ (Compute 4 compute.Add sizes.Long (Temp 4) (Temp 4)) ∷ (Compute 3 compute.Add sizes.Long (Temp 3) (Temp 4)) ∷ (Probe 3 4 true) ∷ (Read 0 3 4) ∷ (Compute 2 compute.Add sizes.Long (Temp 0) (Temp 1)) ∷ (Compute 2 compute.Add sizes.Long (Temp 2) (Flag 3)) ∷ (Write 3 4 2) ∷ (Compute 4 compute.SignExtend sizes.Long (Temp 0) (Const 0)) ∷ (Compute 5 compute.SignExtend sizes.Long (Temp 1) (Const 0)) ∷ (Compute 4 compute.Add sizes.Quad (Temp 4) (Temp 5)) ∷ (Compute 4 compute.Add sizes.Quad (Temp 4) (Flag 3)) ∷ (Compute 5 compute.SignExtend sizes.Long (Temp 2) (Const 0)) ∷ (Compute 3 compute.Equal sizes.Quad (Temp 4) (Temp 5)) ∷ (Compute 3 compute.Xor sizes.Byte (Temp 3) (Const 1)) ∷ (Compute 4 compute.Add sizes.Quad (Temp 0) (Temp 1)) ∷ (Compute 4 compute.Add sizes.Quad (Temp 4) (Flag 3)) ∷ (Compute 4 compute.ShiftRight sizes.Quad (Temp 4) (Const 32)) ∷ (Compute 4 compute.And sizes.Byte (Temp 4) (Const 1)) ∷ (Compute 5 compute.Add sizes.Long (Register 1) (Const 4)) ∷ (Commit 1 5) ∷ (Compute 5 compute.Add sizes.Long (Register 2) (Const 4)) ∷ (Commit 2 5) ∷ (Compute 6 compute.ShiftRight sizes.Long (Temp 2) (Const 31)) ∷ (Compute 7 compute.Equal sizes.Long (Temp 2) (Const 0)) ∷ (Codes 6 7 3 (Some 4)) ∷ (Leave Next) ∷ []) ≡ 134
 words12 = refl
 
 sources12 : sources_of op.AddWithCarry ≡ from (source.Computed sizes.Long) (source.Computed sizes.Long)
@@ -153,7 +153,7 @@ fits13 : fits (from (source.Add sizes.Word) (source.Add sizes.Word)) ((Compute 0
 unfolding step
 fits13 = refl
 
-words13 : program_words (from (source.Add sizes.Word) (source.Add sizes.Word)) ((Compute 0 compute.Move sizes.Long (Register 1) (Const 0)) ∷ (Probe 0 4 false) ∷ (Read 1 0 4) ∷ (Compute 4 compute.Add sizes.Long (Register 2) (Register 2)) ∷ (Compute 1 compute.Add sizes.Long (Temp 1) (Temp 4)) ∷ (Probe 1 2 false) ∷ (Read 0 1 2) ∷ (Compute 1 compute.Move sizes.Long (Register 2) (Const 0)) ∷ (Probe 1 4 false) ∷ (Read 2 1 4) ∷ (Compute 4 compute.Add sizes.Long (Register 1) (Const 4)) ∷ (Compute 4 compute.Add sizes.Long (Temp 4) (Temp 4)) ∷ (Compute 2 compute.Add sizes.Long (Temp 2) (Temp 4)) ∷ (Compute 4 compute.And sizes.Byte (Temp 2) (Const 1)) ∷ (Refuse 4) ∷ (Probe 2 2 true) ∷ (Locked 1 2 AddWord 0) ∷ (Compute 2 compute.Add sizes.Word (Temp 0) (Temp 1)) ∷ (Compute 5 compute.Add sizes.Long (Register 1) (Const 4)) ∷ (Commit 1 5) ∷ (Compute 5 compute.Add sizes.Long (Register 2) (Const 4)) ∷ (Commit 2 5) ∷ (Compute 6 compute.ShiftRight sizes.Word (Temp 2) (Const 15)) ∷ (Compute 7 compute.Equal sizes.Word (Temp 2) (Const 0)) ∷ (Compute 10 compute.SignExtend sizes.Word (Temp 0) (Const 0)) ∷ (Compute 11 compute.SignExtend sizes.Word (Temp 1) (Const 0)) ∷ (Compute 10 compute.Add sizes.Quad (Temp 10) (Temp 11)) ∷ (Compute 11 compute.SignExtend sizes.Word (Temp 2) (Const 0)) ∷ (Compute 8 compute.Equal sizes.Quad (Temp 10) (Temp 11)) ∷ (Compute 8 compute.Xor sizes.Byte (Temp 8) (Const 1)) ∷ (Compute 9 compute.LessUnsigned sizes.Word (Temp 2) (Temp 0)) ∷ (Codes 6 7 8 (Some 9)) ∷ (Leave Next) ∷ []) ≡ 83
+words13 : program_words (from (source.Add sizes.Word) (source.Add sizes.Word)) ((Compute 0 compute.Move sizes.Long (Register 1) (Const 0)) ∷ (Probe 0 4 false) ∷ (Read 1 0 4) ∷ (Compute 4 compute.Add sizes.Long (Register 2) (Register 2)) ∷ (Compute 1 compute.Add sizes.Long (Temp 1) (Temp 4)) ∷ (Probe 1 2 false) ∷ (Read 0 1 2) ∷ (Compute 1 compute.Move sizes.Long (Register 2) (Const 0)) ∷ (Probe 1 4 false) ∷ (Read 2 1 4) ∷ (Compute 4 compute.Add sizes.Long (Register 1) (Const 4)) ∷ (Compute 4 compute.Add sizes.Long (Temp 4) (Temp 4)) ∷ (Compute 2 compute.Add sizes.Long (Temp 2) (Temp 4)) ∷ (Compute 4 compute.And sizes.Byte (Temp 2) (Const 1)) ∷ (Refuse 4) ∷ (Probe 2 2 true) ∷ (Locked 1 2 AddWord 0) ∷ (Compute 2 compute.Add sizes.Word (Temp 0) (Temp 1)) ∷ (Compute 5 compute.Add sizes.Long (Register 1) (Const 4)) ∷ (Commit 1 5) ∷ (Compute 5 compute.Add sizes.Long (Register 2) (Const 4)) ∷ (Commit 2 5) ∷ (Compute 6 compute.ShiftRight sizes.Word (Temp 2) (Const 15)) ∷ (Compute 7 compute.Equal sizes.Word (Temp 2) (Const 0)) ∷ (Compute 10 compute.SignExtend sizes.Word (Temp 0) (Const 0)) ∷ (Compute 11 compute.SignExtend sizes.Word (Temp 1) (Const 0)) ∷ (Compute 10 compute.Add sizes.Quad (Temp 10) (Temp 11)) ∷ (Compute 11 compute.SignExtend sizes.Word (Temp 2) (Const 0)) ∷ (Compute 8 compute.Equal sizes.Quad (Temp 10) (Temp 11)) ∷ (Compute 8 compute.Xor sizes.Byte (Temp 8) (Const 1)) ∷ (Compute 9 compute.LessUnsigned sizes.Word (Temp 2) (Temp 0)) ∷ (Codes 6 7 8 (Some 9)) ∷ (Leave Next) ∷ []) ≡ 87
 words13 = refl
 
 sources13 : sources_of op.AddAlignedWord ≡ from (source.Add sizes.Word) (source.Add sizes.Word)
@@ -164,7 +164,7 @@ fits14 : fits (from (source.Computed sizes.Long) source.Zero) ((Compute 0 comput
 unfolding step
 fits14 = refl
 
-words14 : program_words (from (source.Computed sizes.Long) source.Zero) ((Compute 0 compute.Move sizes.Long (Register 1) (Const 0)) ∷ (Probe 0 4 false) ∷ (Read 1 0 4) ∷ (Compute 1 compute.Add sizes.Long (Temp 1) (Register 2)) ∷ (Probe 1 1 false) ∷ (Read 0 1 1) ∷ (Compute 1 compute.Move sizes.Long (Register 2) (Const 0)) ∷ (Probe 1 4 false) ∷ (Read 2 1 4) ∷ (Compute 4 compute.Add sizes.Long (Register 1) (Const 4)) ∷ (Compute 4 compute.Add sizes.Long (Temp 4) (Temp 4)) ∷ (Compute 4 compute.Add sizes.Long (Temp 4) (Temp 4)) ∷ (Compute 2 compute.Add sizes.Long (Temp 2) (Temp 4)) ∷ (Probe 2 4 false) ∷ (Read 1 2 4) ∷ (Compute 2 compute.Move sizes.Long (Register 3) (Const 0)) ∷ (Probe 2 4 false) ∷ (Read 3 2 4) ∷ (Compute 4 compute.Add sizes.Long (Register 1) (Const 4)) ∷ (Compute 4 compute.Add sizes.Long (Temp 4) (Temp 4)) ∷ (Compute 4 compute.Add sizes.Long (Temp 4) (Temp 4)) ∷ (Compute 3 compute.Add sizes.Long (Temp 3) (Temp 4)) ∷ (Compute 4 compute.SignExtend sizes.Byte (Temp 0) (Const 0)) ∷ (Compute 5 compute.Sub sizes.Long (Const 0) (Temp 4)) ∷ (Compute 2 compute.ShiftSigned sizes.Long (Temp 1) (Temp 5)) ∷ (Compute 5 compute.ShiftLeft sizes.Long (Temp 1) (Temp 4)) ∷ (Compute 4 compute.Less sizes.Byte (Const 0) (Temp 0)) ∷ (Compute 2 compute.SelectNonzero sizes.Quad (Temp 4) (Temp 5)) ∷ (Probe 3 4 true) ∷ (Write 3 4 2) ∷ (Compute 4 compute.ShiftSigned sizes.Long (Temp 2) (Temp 0)) ∷ (Compute 4 compute.Equal sizes.Long (Temp 4) (Temp 1)) ∷ (Compute 4 compute.Xor sizes.Byte (Temp 4) (Const 1)) ∷ (Compute 3 compute.Less sizes.Byte (Const 0) (Temp 0)) ∷ (Compute 3 compute.And sizes.Byte (Temp 3) (Temp 4)) ∷ (Compute 5 compute.Add sizes.Long (Register 1) (Const 4)) ∷ (Commit 1 5) ∷ (Compute 5 compute.Add sizes.Long (Register 2) (Const 4)) ∷ (Commit 2 5) ∷ (Compute 5 compute.Add sizes.Long (Register 3) (Const 4)) ∷ (Commit 3 5) ∷ (Compute 6 compute.ShiftRight sizes.Long (Temp 2) (Const 31)) ∷ (Compute 7 compute.Equal sizes.Long (Temp 2) (Const 0)) ∷ (Compute 9 compute.Move sizes.Byte (Const 0) (Const 0)) ∷ (Codes 6 7 3 (Some 9)) ∷ (Leave Next) ∷ []) ≡ 162
+words14 : program_words (from (source.Computed sizes.Long) source.Zero) ((Compute 0 compute.Move sizes.Long (Register 1) (Const 0)) ∷ (Probe 0 4 false) ∷ (Read 1 0 4) ∷ (Compute 1 compute.Add sizes.Long (Temp 1) (Register 2)) ∷ (Probe 1 1 false) ∷ (Read 0 1 1) ∷ (Compute 1 compute.Move sizes.Long (Register 2) (Const 0)) ∷ (Probe 1 4 false) ∷ (Read 2 1 4) ∷ (Compute 4 compute.Add sizes.Long (Register 1) (Const 4)) ∷ (Compute 4 compute.Add sizes.Long (Temp 4) (Temp 4)) ∷ (Compute 4 compute.Add sizes.Long (Temp 4) (Temp 4)) ∷ (Compute 2 compute.Add sizes.Long (Temp 2) (Temp 4)) ∷ (Probe 2 4 false) ∷ (Read 1 2 4) ∷ (Compute 2 compute.Move sizes.Long (Register 3) (Const 0)) ∷ (Probe 2 4 false) ∷ (Read 3 2 4) ∷ (Compute 4 compute.Add sizes.Long (Register 1) (Const 4)) ∷ (Compute 4 compute.Add sizes.Long (Temp 4) (Temp 4)) ∷ (Compute 4 compute.Add sizes.Long (Temp 4) (Temp 4)) ∷ (Compute 3 compute.Add sizes.Long (Temp 3) (Temp 4)) ∷ (Compute 4 compute.SignExtend sizes.Byte (Temp 0) (Const 0)) ∷ (Compute 5 compute.Sub sizes.Long (Const 0) (Temp 4)) ∷ (Compute 2 compute.ShiftSigned sizes.Long (Temp 1) (Temp 5)) ∷ (Compute 5 compute.ShiftLeft sizes.Long (Temp 1) (Temp 4)) ∷ (Compute 4 compute.Less sizes.Byte (Const 0) (Temp 0)) ∷ (Compute 2 compute.SelectNonzero sizes.Quad (Temp 4) (Temp 5)) ∷ (Probe 3 4 true) ∷ (Write 3 4 2) ∷ (Compute 4 compute.ShiftSigned sizes.Long (Temp 2) (Temp 0)) ∷ (Compute 4 compute.Equal sizes.Long (Temp 4) (Temp 1)) ∷ (Compute 4 compute.Xor sizes.Byte (Temp 4) (Const 1)) ∷ (Compute 3 compute.Less sizes.Byte (Const 0) (Temp 0)) ∷ (Compute 3 compute.And sizes.Byte (Temp 3) (Temp 4)) ∷ (Compute 5 compute.Add sizes.Long (Register 1) (Const 4)) ∷ (Commit 1 5) ∷ (Compute 5 compute.Add sizes.Long (Register 2) (Const 4)) ∷ (Commit 2 5) ∷ (Compute 5 compute.Add sizes.Long (Register 3) (Const 4)) ∷ (Commit 3 5) ∷ (Compute 6 compute.ShiftRight sizes.Long (Temp 2) (Const 31)) ∷ (Compute 7 compute.Equal sizes.Long (Temp 2) (Const 0)) ∷ (Compute 9 compute.Move sizes.Byte (Const 0) (Const 0)) ∷ (Codes 6 7 3 (Some 9)) ∷ (Leave Next) ∷ []) ≡ 169
 words14 = refl
 
 sources14 : sources_of op.ArithmeticShift ≡ from (source.Computed sizes.Long) source.Zero
@@ -175,7 +175,7 @@ fits15 : fits (from (source.Result sizes.Long) source.Kept) ((Compute 0 compute.
 unfolding step
 fits15 = refl
 
-words15 : program_words (from (source.Result sizes.Long) source.Kept) ((Compute 0 compute.Move sizes.Long (Register 1) (Const 0)) ∷ (Probe 0 4 false) ∷ (Read 1 0 4) ∷ (Compute 1 compute.Add sizes.Long (Temp 1) (Register 2)) ∷ (Probe 1 1 false) ∷ (Read 0 1 1) ∷ (Compute 1 compute.Move sizes.Long (Register 2) (Const 0)) ∷ (Probe 1 4 false) ∷ (Read 2 1 4) ∷ (Compute 4 compute.Add sizes.Long (Register 1) (Const 4)) ∷ (Compute 4 compute.Add sizes.Long (Temp 4) (Temp 4)) ∷ (Compute 4 compute.Add sizes.Long (Temp 4) (Temp 4)) ∷ (Compute 2 compute.Add sizes.Long (Temp 2) (Temp 4)) ∷ (Probe 2 4 false) ∷ (Read 1 2 4) ∷ (Compute 2 compute.Move sizes.Long (Register 3) (Const 0)) ∷ (Probe 2 4 false) ∷ (Read 3 2 4) ∷ (Compute 4 compute.Add sizes.Long (Register 1) (Const 4)) ∷ (Compute 4 compute.Add sizes.Long (Temp 4) (Temp 4)) ∷ (Compute 4 compute.Add sizes.Long (Temp 4) (Temp 4)) ∷ (Compute 3 compute.Add sizes.Long (Temp 3) (Temp 4)) ∷ (Compute 4 compute.And sizes.Byte (Temp 0) (Const 31)) ∷ (Compute 2 compute.ShiftLeft sizes.Long (Temp 1) (Temp 4)) ∷ (Compute 5 compute.Sub sizes.Long (Const 32) (Temp 4)) ∷ (Compute 5 compute.ShiftRight sizes.Long (Temp 1) (Temp 5)) ∷ (Compute 2 compute.Or sizes.Long (Temp 2) (Temp 5)) ∷ (Probe 3 4 true) ∷ (Write 3 4 2) ∷ (Compute 0 compute.Move sizes.Long (Temp 2) (Const 0)) ∷ (Compute 5 compute.Add sizes.Long (Register 1) (Const 4)) ∷ (Commit 1 5) ∷ (Compute 5 compute.Add sizes.Long (Register 2) (Const 4)) ∷ (Commit 2 5) ∷ (Compute 5 compute.Add sizes.Long (Register 3) (Const 4)) ∷ (Commit 3 5) ∷ (Compute 6 compute.ShiftRight sizes.Long (Temp 2) (Const 31)) ∷ (Compute 7 compute.Equal sizes.Long (Temp 2) (Const 0)) ∷ (Compute 8 compute.Move sizes.Byte (Const 0) (Const 0)) ∷ (Codes 6 7 8 None) ∷ (Leave Next) ∷ []) ≡ 141
+words15 : program_words (from (source.Result sizes.Long) source.Kept) ((Compute 0 compute.Move sizes.Long (Register 1) (Const 0)) ∷ (Probe 0 4 false) ∷ (Read 1 0 4) ∷ (Compute 1 compute.Add sizes.Long (Temp 1) (Register 2)) ∷ (Probe 1 1 false) ∷ (Read 0 1 1) ∷ (Compute 1 compute.Move sizes.Long (Register 2) (Const 0)) ∷ (Probe 1 4 false) ∷ (Read 2 1 4) ∷ (Compute 4 compute.Add sizes.Long (Register 1) (Const 4)) ∷ (Compute 4 compute.Add sizes.Long (Temp 4) (Temp 4)) ∷ (Compute 4 compute.Add sizes.Long (Temp 4) (Temp 4)) ∷ (Compute 2 compute.Add sizes.Long (Temp 2) (Temp 4)) ∷ (Probe 2 4 false) ∷ (Read 1 2 4) ∷ (Compute 2 compute.Move sizes.Long (Register 3) (Const 0)) ∷ (Probe 2 4 false) ∷ (Read 3 2 4) ∷ (Compute 4 compute.Add sizes.Long (Register 1) (Const 4)) ∷ (Compute 4 compute.Add sizes.Long (Temp 4) (Temp 4)) ∷ (Compute 4 compute.Add sizes.Long (Temp 4) (Temp 4)) ∷ (Compute 3 compute.Add sizes.Long (Temp 3) (Temp 4)) ∷ (Compute 4 compute.And sizes.Byte (Temp 0) (Const 31)) ∷ (Compute 2 compute.ShiftLeft sizes.Long (Temp 1) (Temp 4)) ∷ (Compute 5 compute.Sub sizes.Long (Const 32) (Temp 4)) ∷ (Compute 5 compute.ShiftRight sizes.Long (Temp 1) (Temp 5)) ∷ (Compute 2 compute.Or sizes.Long (Temp 2) (Temp 5)) ∷ (Probe 3 4 true) ∷ (Write 3 4 2) ∷ (Compute 0 compute.Move sizes.Long (Temp 2) (Const 0)) ∷ (Compute 5 compute.Add sizes.Long (Register 1) (Const 4)) ∷ (Commit 1 5) ∷ (Compute 5 compute.Add sizes.Long (Register 2) (Const 4)) ∷ (Commit 2 5) ∷ (Compute 5 compute.Add sizes.Long (Register 3) (Const 4)) ∷ (Commit 3 5) ∷ (Compute 6 compute.ShiftRight sizes.Long (Temp 2) (Const 31)) ∷ (Compute 7 compute.Equal sizes.Long (Temp 2) (Const 0)) ∷ (Compute 8 compute.Move sizes.Byte (Const 0) (Const 0)) ∷ (Codes 6 7 8 None) ∷ (Leave Next) ∷ []) ≡ 149
 words15 = refl
 
 sources15 : sources_of op.Rotate ≡ from (source.Result sizes.Long) source.Kept
@@ -186,7 +186,7 @@ fits16 : fits (from (source.Result sizes.Quad) source.Zero) ((Compute 0 compute.
 unfolding step
 fits16 = refl
 
-words16 : program_words (from (source.Result sizes.Quad) source.Zero) ((Compute 0 compute.Move sizes.Long (Register 1) (Const 0)) ∷ (Probe 0 4 false) ∷ (Read 1 0 4) ∷ (Compute 4 compute.Add sizes.Long (Register 2) (Register 2)) ∷ (Compute 4 compute.Add sizes.Long (Temp 4) (Temp 4)) ∷ (Compute 1 compute.Add sizes.Long (Temp 1) (Temp 4)) ∷ (Probe 1 4 false) ∷ (Read 0 1 4) ∷ (Compute 1 compute.Move sizes.Long (Register 2) (Const 0)) ∷ (Probe 1 4 false) ∷ (Read 2 1 4) ∷ (Compute 4 compute.Add sizes.Long (Register 1) (Const 4)) ∷ (Compute 4 compute.Add sizes.Long (Temp 4) (Temp 4)) ∷ (Compute 4 compute.Add sizes.Long (Temp 4) (Temp 4)) ∷ (Compute 2 compute.Add sizes.Long (Temp 2) (Temp 4)) ∷ (Probe 2 4 false) ∷ (Read 1 2 4) ∷ (Compute 4 compute.SignExtend sizes.Long (Temp 0) (Const 0)) ∷ (Compute 5 compute.SignExtend sizes.Long (Temp 1) (Const 0)) ∷ (Compute 0 compute.Mul sizes.Quad (Temp 4) (Temp 5)) ∷ (Compute 1 compute.Move sizes.Long (Register 3) (Const 0)) ∷ (Probe 1 4 false) ∷ (Read 2 1 4) ∷ (Compute 4 compute.Add sizes.Long (Register 1) (Const 4)) ∷ (Compute 4 compute.Add sizes.Long (Temp 4) (Temp 4)) ∷ (Compute 4 compute.Add sizes.Long (Temp 4) (Temp 4)) ∷ (Compute 2 compute.Add sizes.Long (Temp 2) (Temp 4)) ∷ (Probe 2 4 false) ∷ (Read 1 2 4) ∷ (Compute 4 compute.SignExtend sizes.Long (Temp 1) (Const 0)) ∷ (Compute 0 compute.Add sizes.Quad (Temp 0) (Temp 4)) ∷ (Compute 2 compute.Move sizes.Long (Register 4) (Const 0)) ∷ (Probe 2 4 false) ∷ (Read 3 2 4) ∷ (Compute 4 compute.Add sizes.Long (Register 1) (Const 4)) ∷ (Compute 4 compute.Mul sizes.Long (Temp 4) (Const 8)) ∷ (Compute 3 compute.Add sizes.Long (Temp 3) (Temp 4)) ∷ (Probe 3 8 true) ∷ (Write 3 8 0) ∷ (Compute 2 compute.Move sizes.Quad (Temp 0) (Const 0)) ∷ (Compute 5 compute.Add sizes.Long (Register 1) (Const 4)) ∷ (Commit 1 5) ∷ (Compute 5 compute.Add sizes.Long (Register 2) (Const 4)) ∷ (Commit 2 5) ∷ (Compute 5 compute.Add sizes.Long (Register 3) (Const 4)) ∷ (Commit 3 5) ∷ (Compute 5 compute.Add sizes.Long (Register 4) (Const 4)) ∷ (Commit 4 5) ∷ (Compute 6 compute.ShiftRight sizes.Quad (Temp 2) (Const 63)) ∷ (Compute 7 compute.Equal sizes.Quad (Temp 2) (Const 0)) ∷ (Compute 8 compute.Move sizes.Byte (Const 0) (Const 0)) ∷ (Compute 9 compute.Move sizes.Byte (Const 0) (Const 0)) ∷ (Codes 6 7 8 (Some 9)) ∷ (Leave Next) ∷ []) ≡ 176
+words16 : program_words (from (source.Result sizes.Quad) source.Zero) ((Compute 0 compute.Move sizes.Long (Register 1) (Const 0)) ∷ (Probe 0 4 false) ∷ (Read 1 0 4) ∷ (Compute 4 compute.Add sizes.Long (Register 2) (Register 2)) ∷ (Compute 4 compute.Add sizes.Long (Temp 4) (Temp 4)) ∷ (Compute 1 compute.Add sizes.Long (Temp 1) (Temp 4)) ∷ (Probe 1 4 false) ∷ (Read 0 1 4) ∷ (Compute 1 compute.Move sizes.Long (Register 2) (Const 0)) ∷ (Probe 1 4 false) ∷ (Read 2 1 4) ∷ (Compute 4 compute.Add sizes.Long (Register 1) (Const 4)) ∷ (Compute 4 compute.Add sizes.Long (Temp 4) (Temp 4)) ∷ (Compute 4 compute.Add sizes.Long (Temp 4) (Temp 4)) ∷ (Compute 2 compute.Add sizes.Long (Temp 2) (Temp 4)) ∷ (Probe 2 4 false) ∷ (Read 1 2 4) ∷ (Compute 4 compute.SignExtend sizes.Long (Temp 0) (Const 0)) ∷ (Compute 5 compute.SignExtend sizes.Long (Temp 1) (Const 0)) ∷ (Compute 0 compute.Mul sizes.Quad (Temp 4) (Temp 5)) ∷ (Compute 1 compute.Move sizes.Long (Register 3) (Const 0)) ∷ (Probe 1 4 false) ∷ (Read 2 1 4) ∷ (Compute 4 compute.Add sizes.Long (Register 1) (Const 4)) ∷ (Compute 4 compute.Add sizes.Long (Temp 4) (Temp 4)) ∷ (Compute 4 compute.Add sizes.Long (Temp 4) (Temp 4)) ∷ (Compute 2 compute.Add sizes.Long (Temp 2) (Temp 4)) ∷ (Probe 2 4 false) ∷ (Read 1 2 4) ∷ (Compute 4 compute.SignExtend sizes.Long (Temp 1) (Const 0)) ∷ (Compute 0 compute.Add sizes.Quad (Temp 0) (Temp 4)) ∷ (Compute 2 compute.Move sizes.Long (Register 4) (Const 0)) ∷ (Probe 2 4 false) ∷ (Read 3 2 4) ∷ (Compute 4 compute.Add sizes.Long (Register 1) (Const 4)) ∷ (Compute 4 compute.Mul sizes.Long (Temp 4) (Const 8)) ∷ (Compute 3 compute.Add sizes.Long (Temp 3) (Temp 4)) ∷ (Probe 3 8 true) ∷ (Write 3 8 0) ∷ (Compute 2 compute.Move sizes.Quad (Temp 0) (Const 0)) ∷ (Compute 5 compute.Add sizes.Long (Register 1) (Const 4)) ∷ (Commit 1 5) ∷ (Compute 5 compute.Add sizes.Long (Register 2) (Const 4)) ∷ (Commit 2 5) ∷ (Compute 5 compute.Add sizes.Long (Register 3) (Const 4)) ∷ (Commit 3 5) ∷ (Compute 5 compute.Add sizes.Long (Register 4) (Const 4)) ∷ (Commit 4 5) ∷ (Compute 6 compute.ShiftRight sizes.Quad (Temp 2) (Const 63)) ∷ (Compute 7 compute.Equal sizes.Quad (Temp 2) (Const 0)) ∷ (Compute 8 compute.Move sizes.Byte (Const 0) (Const 0)) ∷ (Compute 9 compute.Move sizes.Byte (Const 0) (Const 0)) ∷ (Codes 6 7 8 (Some 9)) ∷ (Leave Next) ∷ []) ≡ 188
 words16 = refl
 
 sources16 : sources_of op.ExtendedMultiply ≡ from (source.Result sizes.Quad) source.Zero
@@ -197,7 +197,7 @@ fits17 : fits (from (source.Result sizes.Quad) source.Kept) ((Compute 0 compute.
 unfolding step
 fits17 = refl
 
-words17 : program_words (from (source.Result sizes.Quad) source.Kept) ((Compute 0 compute.Move sizes.Long (Register 1) (Const 0)) ∷ (Probe 0 4 false) ∷ (Read 1 0 4) ∷ (Compute 4 compute.Mul sizes.Long (Register 2) (Const 8)) ∷ (Compute 1 compute.Add sizes.Long (Temp 1) (Temp 4)) ∷ (Probe 1 8 false) ∷ (Read 0 1 8) ∷ (Compute 2 compute.Move sizes.Long (Register 2) (Const 0)) ∷ (Probe 2 4 false) ∷ (Read 3 2 4) ∷ (Compute 4 compute.Add sizes.Long (Register 1) (Const 4)) ∷ (Compute 4 compute.Mul sizes.Long (Temp 4) (Const 8)) ∷ (Compute 3 compute.Add sizes.Long (Temp 3) (Temp 4)) ∷ (Probe 3 8 true) ∷ (Write 3 8 0) ∷ (Compute 2 compute.Move sizes.Quad (Temp 0) (Const 0)) ∷ (Compute 5 compute.Add sizes.Long (Register 1) (Const 4)) ∷ (Commit 1 5) ∷ (Compute 5 compute.Add sizes.Long (Register 2) (Const 4)) ∷ (Commit 2 5) ∷ (Compute 6 compute.ShiftRight sizes.Quad (Temp 2) (Const 63)) ∷ (Compute 7 compute.Equal sizes.Quad (Temp 2) (Const 0)) ∷ (Compute 8 compute.Move sizes.Byte (Const 0) (Const 0)) ∷ (Codes 6 7 8 None) ∷ (Leave Next) ∷ []) ≡ 91
+words17 : program_words (from (source.Result sizes.Quad) source.Kept) ((Compute 0 compute.Move sizes.Long (Register 1) (Const 0)) ∷ (Probe 0 4 false) ∷ (Read 1 0 4) ∷ (Compute 4 compute.Mul sizes.Long (Register 2) (Const 8)) ∷ (Compute 1 compute.Add sizes.Long (Temp 1) (Temp 4)) ∷ (Probe 1 8 false) ∷ (Read 0 1 8) ∷ (Compute 2 compute.Move sizes.Long (Register 2) (Const 0)) ∷ (Probe 2 4 false) ∷ (Read 3 2 4) ∷ (Compute 4 compute.Add sizes.Long (Register 1) (Const 4)) ∷ (Compute 4 compute.Mul sizes.Long (Temp 4) (Const 8)) ∷ (Compute 3 compute.Add sizes.Long (Temp 3) (Temp 4)) ∷ (Probe 3 8 true) ∷ (Write 3 8 0) ∷ (Compute 2 compute.Move sizes.Quad (Temp 0) (Const 0)) ∷ (Compute 5 compute.Add sizes.Long (Register 1) (Const 4)) ∷ (Commit 1 5) ∷ (Compute 5 compute.Add sizes.Long (Register 2) (Const 4)) ∷ (Commit 2 5) ∷ (Compute 6 compute.ShiftRight sizes.Quad (Temp 2) (Const 63)) ∷ (Compute 7 compute.Equal sizes.Quad (Temp 2) (Const 0)) ∷ (Compute 8 compute.Move sizes.Byte (Const 0) (Const 0)) ∷ (Codes 6 7 8 None) ∷ (Leave Next) ∷ []) ≡ 93
 words17 = refl
 
 sources17 : sources_of (op.Move sizes.Quad) ≡ from (source.Result sizes.Quad) source.Kept
@@ -219,7 +219,7 @@ fits19 : fits (from (source.Result sizes.Long) source.Kept) ((Compute 1 compute.
 unfolding step
 fits19 = refl
 
-words19 : program_words (from (source.Result sizes.Long) source.Kept) ((Compute 1 compute.Move sizes.Long (Register 1) (Const 0)) ∷ (Probe 1 4 false) ∷ (Read 0 1 4) ∷ (Compute 4 compute.Mul sizes.Long (Register 2) (Const 8)) ∷ (Compute 0 compute.Add sizes.Long (Temp 0) (Temp 4)) ∷ (Compute 2 compute.Move sizes.Long (Register 2) (Const 0)) ∷ (Probe 2 4 false) ∷ (Read 3 2 4) ∷ (Compute 4 compute.Add sizes.Long (Register 1) (Const 4)) ∷ (Compute 4 compute.Add sizes.Long (Temp 4) (Temp 4)) ∷ (Compute 4 compute.Add sizes.Long (Temp 4) (Temp 4)) ∷ (Compute 3 compute.Add sizes.Long (Temp 3) (Temp 4)) ∷ (Probe 3 4 true) ∷ (Write 3 4 0) ∷ (Compute 2 compute.Move sizes.Long (Temp 0) (Const 0)) ∷ (Compute 5 compute.Add sizes.Long (Register 1) (Const 4)) ∷ (Commit 1 5) ∷ (Compute 5 compute.Add sizes.Long (Register 2) (Const 4)) ∷ (Commit 2 5) ∷ (Compute 6 compute.ShiftRight sizes.Long (Temp 2) (Const 31)) ∷ (Compute 7 compute.Equal sizes.Long (Temp 2) (Const 0)) ∷ (Compute 8 compute.Move sizes.Byte (Const 0) (Const 0)) ∷ (Codes 6 7 8 None) ∷ (Leave Next) ∷ []) ≡ 79
+words19 : program_words (from (source.Result sizes.Long) source.Kept) ((Compute 1 compute.Move sizes.Long (Register 1) (Const 0)) ∷ (Probe 1 4 false) ∷ (Read 0 1 4) ∷ (Compute 4 compute.Mul sizes.Long (Register 2) (Const 8)) ∷ (Compute 0 compute.Add sizes.Long (Temp 0) (Temp 4)) ∷ (Compute 2 compute.Move sizes.Long (Register 2) (Const 0)) ∷ (Probe 2 4 false) ∷ (Read 3 2 4) ∷ (Compute 4 compute.Add sizes.Long (Register 1) (Const 4)) ∷ (Compute 4 compute.Add sizes.Long (Temp 4) (Temp 4)) ∷ (Compute 4 compute.Add sizes.Long (Temp 4) (Temp 4)) ∷ (Compute 3 compute.Add sizes.Long (Temp 3) (Temp 4)) ∷ (Probe 3 4 true) ∷ (Write 3 4 0) ∷ (Compute 2 compute.Move sizes.Long (Temp 0) (Const 0)) ∷ (Compute 5 compute.Add sizes.Long (Register 1) (Const 4)) ∷ (Commit 1 5) ∷ (Compute 5 compute.Add sizes.Long (Register 2) (Const 4)) ∷ (Commit 2 5) ∷ (Compute 6 compute.ShiftRight sizes.Long (Temp 2) (Const 31)) ∷ (Compute 7 compute.Equal sizes.Long (Temp 2) (Const 0)) ∷ (Compute 8 compute.Move sizes.Byte (Const 0) (Const 0)) ∷ (Codes 6 7 8 None) ∷ (Leave Next) ∷ []) ≡ 81
 words19 = refl
 
 sources19 : sources_of (op.MoveAddress sizes.Quad) ≡ from (source.Result sizes.Long) source.Kept
@@ -241,7 +241,7 @@ fits21 : fits (from (source.Result sizes.Long) source.Kept) ((Compute 0 compute.
 unfolding step
 fits21 = refl
 
-words21 : program_words (from (source.Result sizes.Long) source.Kept) ((Compute 0 compute.Move sizes.Long (Register 14) (Const 0)) ∷ (Probe 0 4 false) ∷ (Read 1 0 4) ∷ (Compute 4 compute.Add sizes.Long (Register 2) (Register 2)) ∷ (Compute 4 compute.Add sizes.Long (Temp 4) (Temp 4)) ∷ (Compute 1 compute.Add sizes.Long (Temp 1) (Temp 4)) ∷ (Probe 1 4 false) ∷ (Read 0 1 4) ∷ (Compute 3 compute.Move sizes.Long (Register 14) (Const 0)) ∷ (Probe 3 4 true) ∷ (Write 3 4 0) ∷ (Compute 2 compute.Move sizes.Long (Temp 0) (Const 0)) ∷ (Compute 6 compute.ShiftRight sizes.Long (Temp 2) (Const 31)) ∷ (Compute 7 compute.Equal sizes.Long (Temp 2) (Const 0)) ∷ (Compute 8 compute.Move sizes.Byte (Const 0) (Const 0)) ∷ (Codes 6 7 8 None) ∷ (Leave Next) ∷ []) ≡ 59
+words21 : program_words (from (source.Result sizes.Long) source.Kept) ((Compute 0 compute.Move sizes.Long (Register 14) (Const 0)) ∷ (Probe 0 4 false) ∷ (Read 1 0 4) ∷ (Compute 4 compute.Add sizes.Long (Register 2) (Register 2)) ∷ (Compute 4 compute.Add sizes.Long (Temp 4) (Temp 4)) ∷ (Compute 1 compute.Add sizes.Long (Temp 1) (Temp 4)) ∷ (Probe 1 4 false) ∷ (Read 0 1 4) ∷ (Compute 3 compute.Move sizes.Long (Register 14) (Const 0)) ∷ (Probe 3 4 true) ∷ (Write 3 4 0) ∷ (Compute 2 compute.Move sizes.Long (Temp 0) (Const 0)) ∷ (Compute 6 compute.ShiftRight sizes.Long (Temp 2) (Const 31)) ∷ (Compute 7 compute.Equal sizes.Long (Temp 2) (Const 0)) ∷ (Compute 8 compute.Move sizes.Byte (Const 0) (Const 0)) ∷ (Codes 6 7 8 None) ∷ (Leave Next) ∷ []) ≡ 63
 words21 = refl
 
 sources21 : sources_of op.PushLong ≡ from (source.Result sizes.Long) source.Kept
@@ -252,7 +252,7 @@ fits22 : fits (from source.Kept source.Kept) ((Compute 0 compute.Move sizes.Long
 unfolding step
 fits22 = refl
 
-words22 : program_words (from source.Kept source.Kept) ((Compute 0 compute.Move sizes.Long (Register 1) (Const 0)) ∷ (Probe 0 4 false) ∷ (Read 1 0 4) ∷ (Compute 4 compute.Add sizes.Long (Register 2) (Register 2)) ∷ (Compute 4 compute.Add sizes.Long (Temp 4) (Temp 4)) ∷ (Compute 1 compute.Add sizes.Long (Temp 1) (Temp 4)) ∷ (Probe 1 4 false) ∷ (Read 0 1 4) ∷ (Compute 1 compute.Move sizes.Long (Register 2) (Const 0)) ∷ (Probe 1 4 false) ∷ (Read 2 1 4) ∷ (Compute 4 compute.Add sizes.Long (Register 1) (Const 4)) ∷ (Compute 2 compute.Add sizes.Long (Temp 2) (Temp 4)) ∷ (Compute 4 compute.ShiftSigned sizes.Long (Temp 0) (Const 3)) ∷ (Compute 2 compute.Add sizes.Long (Temp 2) (Temp 4)) ∷ (Compute 0 compute.And sizes.Byte (Temp 0) (Const 7)) ∷ (Probe 2 1 true) ∷ (Read 1 2 1) ∷ (Compute 3 compute.ShiftLeft sizes.Byte (Const 1) (Temp 0)) ∷ (Compute 3 compute.Or sizes.Byte (Temp 1) (Temp 3)) ∷ (Write 2 1 3) ∷ (Compute 0 compute.ShiftRight sizes.Byte (Temp 1) (Temp 0)) ∷ (Compute 0 compute.And sizes.Byte (Temp 0) (Const 1)) ∷ (Compute 5 compute.Add sizes.Long (Register 1) (Const 4)) ∷ (Commit 1 5) ∷ (Compute 5 compute.Add sizes.Long (Register 2) (Const 4)) ∷ (Commit 2 5) ∷ (Leave (Choice 0 520 516)) ∷ []) ≡ 105
+words22 : program_words (from source.Kept source.Kept) ((Compute 0 compute.Move sizes.Long (Register 1) (Const 0)) ∷ (Probe 0 4 false) ∷ (Read 1 0 4) ∷ (Compute 4 compute.Add sizes.Long (Register 2) (Register 2)) ∷ (Compute 4 compute.Add sizes.Long (Temp 4) (Temp 4)) ∷ (Compute 1 compute.Add sizes.Long (Temp 1) (Temp 4)) ∷ (Probe 1 4 false) ∷ (Read 0 1 4) ∷ (Compute 1 compute.Move sizes.Long (Register 2) (Const 0)) ∷ (Probe 1 4 false) ∷ (Read 2 1 4) ∷ (Compute 4 compute.Add sizes.Long (Register 1) (Const 4)) ∷ (Compute 2 compute.Add sizes.Long (Temp 2) (Temp 4)) ∷ (Compute 4 compute.ShiftSigned sizes.Long (Temp 0) (Const 3)) ∷ (Compute 2 compute.Add sizes.Long (Temp 2) (Temp 4)) ∷ (Compute 0 compute.And sizes.Byte (Temp 0) (Const 7)) ∷ (Probe 2 1 true) ∷ (Read 1 2 1) ∷ (Compute 3 compute.ShiftLeft sizes.Byte (Const 1) (Temp 0)) ∷ (Compute 3 compute.Or sizes.Byte (Temp 1) (Temp 3)) ∷ (Write 2 1 3) ∷ (Compute 0 compute.ShiftRight sizes.Byte (Temp 1) (Temp 0)) ∷ (Compute 0 compute.And sizes.Byte (Temp 0) (Const 1)) ∷ (Compute 5 compute.Add sizes.Long (Register 1) (Const 4)) ∷ (Commit 1 5) ∷ (Compute 5 compute.Add sizes.Long (Register 2) (Const 4)) ∷ (Commit 2 5) ∷ (Leave (Choice 0 520 516)) ∷ []) ≡ 111
 words22 = refl
 
 sources22 : sources_of (op.BranchOnBit (record { state = true; store = (Plain true) })) ≡ from source.Kept source.Kept
@@ -263,7 +263,7 @@ fits23 : fits (from source.Kept source.Kept) ((Compute 0 compute.Move sizes.Long
 unfolding step
 fits23 = refl
 
-words23 : program_words (from source.Kept source.Kept) ((Compute 0 compute.Move sizes.Long (Register 1) (Const 0)) ∷ (Probe 0 4 false) ∷ (Read 1 0 4) ∷ (Compute 4 compute.Add sizes.Long (Register 2) (Register 2)) ∷ (Compute 4 compute.Add sizes.Long (Temp 4) (Temp 4)) ∷ (Compute 1 compute.Add sizes.Long (Temp 1) (Temp 4)) ∷ (Probe 1 4 false) ∷ (Read 0 1 4) ∷ (Compute 4 compute.LessUnsigned sizes.Long (Const 31) (Temp 0)) ∷ (Refuse 4) ∷ (Compute 2 compute.Add sizes.Long (Register 1) (Const 4)) ∷ (Compute 1 compute.ShiftRight sizes.Long (Temp 2) (Temp 0)) ∷ (Compute 1 compute.And sizes.Byte (Temp 1) (Const 1)) ∷ (Compute 3 compute.ShiftLeft sizes.Long (Const 1) (Temp 0)) ∷ (Compute 2 compute.Or sizes.Long (Temp 2) (Temp 3)) ∷ (Compute 0 compute.Move sizes.Byte (Temp 1) (Const 0)) ∷ (Commit 1 2) ∷ (Leave (Choice 0 520 516)) ∷ []) ≡ 62
+words23 : program_words (from source.Kept source.Kept) ((Compute 0 compute.Move sizes.Long (Register 1) (Const 0)) ∷ (Probe 0 4 false) ∷ (Read 1 0 4) ∷ (Compute 4 compute.Add sizes.Long (Register 2) (Register 2)) ∷ (Compute 4 compute.Add sizes.Long (Temp 4) (Temp 4)) ∷ (Compute 1 compute.Add sizes.Long (Temp 1) (Temp 4)) ∷ (Probe 1 4 false) ∷ (Read 0 1 4) ∷ (Compute 4 compute.LessUnsigned sizes.Long (Const 31) (Temp 0)) ∷ (Refuse 4) ∷ (Compute 2 compute.Add sizes.Long (Register 1) (Const 4)) ∷ (Compute 1 compute.ShiftRight sizes.Long (Temp 2) (Temp 0)) ∷ (Compute 1 compute.And sizes.Byte (Temp 1) (Const 1)) ∷ (Compute 3 compute.ShiftLeft sizes.Long (Const 1) (Temp 0)) ∷ (Compute 2 compute.Or sizes.Long (Temp 2) (Temp 3)) ∷ (Compute 0 compute.Move sizes.Byte (Temp 1) (Const 0)) ∷ (Commit 1 2) ∷ (Leave (Choice 0 520 516)) ∷ []) ≡ 66
 words23 = refl
 
 sources23 : sources_of (op.BranchOnBit (record { state = true; store = (Plain true) })) ≡ from source.Kept source.Kept
@@ -274,7 +274,7 @@ fits24 : fits (from source.Kept source.Kept) ((Compute 0 compute.Move sizes.Long
 unfolding step
 fits24 = refl
 
-words24 : program_words (from source.Kept source.Kept) ((Compute 0 compute.Move sizes.Long (Register 1) (Const 0)) ∷ (Probe 0 4 false) ∷ (Read 1 0 4) ∷ (Compute 4 compute.Add sizes.Long (Register 2) (Register 2)) ∷ (Compute 4 compute.Add sizes.Long (Temp 4) (Temp 4)) ∷ (Compute 1 compute.Add sizes.Long (Temp 1) (Temp 4)) ∷ (Probe 1 4 false) ∷ (Read 0 1 4) ∷ (Compute 1 compute.Move sizes.Long (Register 2) (Const 0)) ∷ (Probe 1 4 false) ∷ (Read 2 1 4) ∷ (Compute 4 compute.Add sizes.Long (Register 1) (Const 4)) ∷ (Compute 2 compute.Add sizes.Long (Temp 2) (Temp 4)) ∷ (Compute 4 compute.ShiftSigned sizes.Long (Temp 0) (Const 3)) ∷ (Compute 2 compute.Add sizes.Long (Temp 2) (Temp 4)) ∷ (Compute 0 compute.And sizes.Byte (Temp 0) (Const 7)) ∷ (Probe 2 1 true) ∷ (Locked 1 2 SetBit 0) ∷ (Compute 0 compute.ShiftRight sizes.Byte (Temp 1) (Temp 0)) ∷ (Compute 0 compute.And sizes.Byte (Temp 0) (Const 1)) ∷ (Compute 5 compute.Add sizes.Long (Register 1) (Const 4)) ∷ (Commit 1 5) ∷ (Compute 5 compute.Add sizes.Long (Register 2) (Const 4)) ∷ (Commit 2 5) ∷ (Leave (Choice 0 520 516)) ∷ []) ≡ 97
+words24 : program_words (from source.Kept source.Kept) ((Compute 0 compute.Move sizes.Long (Register 1) (Const 0)) ∷ (Probe 0 4 false) ∷ (Read 1 0 4) ∷ (Compute 4 compute.Add sizes.Long (Register 2) (Register 2)) ∷ (Compute 4 compute.Add sizes.Long (Temp 4) (Temp 4)) ∷ (Compute 1 compute.Add sizes.Long (Temp 1) (Temp 4)) ∷ (Probe 1 4 false) ∷ (Read 0 1 4) ∷ (Compute 1 compute.Move sizes.Long (Register 2) (Const 0)) ∷ (Probe 1 4 false) ∷ (Read 2 1 4) ∷ (Compute 4 compute.Add sizes.Long (Register 1) (Const 4)) ∷ (Compute 2 compute.Add sizes.Long (Temp 2) (Temp 4)) ∷ (Compute 4 compute.ShiftSigned sizes.Long (Temp 0) (Const 3)) ∷ (Compute 2 compute.Add sizes.Long (Temp 2) (Temp 4)) ∷ (Compute 0 compute.And sizes.Byte (Temp 0) (Const 7)) ∷ (Probe 2 1 true) ∷ (Locked 1 2 SetBit 0) ∷ (Compute 0 compute.ShiftRight sizes.Byte (Temp 1) (Temp 0)) ∷ (Compute 0 compute.And sizes.Byte (Temp 0) (Const 1)) ∷ (Compute 5 compute.Add sizes.Long (Register 1) (Const 4)) ∷ (Commit 1 5) ∷ (Compute 5 compute.Add sizes.Long (Register 2) (Const 4)) ∷ (Commit 2 5) ∷ (Leave (Choice 0 520 516)) ∷ []) ≡ 103
 words24 = refl
 
 sources24 : sources_of (op.BranchOnBit (record { state = true; store = (Interlocked true) })) ≡ from source.Kept source.Kept
@@ -285,7 +285,7 @@ fits25 : fits (from source.Kept source.Kept) ((Compute 0 compute.Move sizes.Long
 unfolding step
 fits25 = refl
 
-words25 : program_words (from source.Kept source.Kept) ((Compute 0 compute.Move sizes.Long (Register 1) (Const 0)) ∷ (Probe 0 4 false) ∷ (Read 1 0 4) ∷ (Compute 4 compute.Add sizes.Long (Register 2) (Register 2)) ∷ (Compute 4 compute.Add sizes.Long (Temp 4) (Temp 4)) ∷ (Compute 1 compute.Add sizes.Long (Temp 1) (Temp 4)) ∷ (Probe 1 4 false) ∷ (Read 0 1 4) ∷ (Compute 0 compute.And sizes.Byte (Temp 0) (Const 1)) ∷ (Compute 0 compute.Xor sizes.Byte (Temp 0) (Const 1)) ∷ (Compute 5 compute.Add sizes.Long (Register 1) (Const 4)) ∷ (Commit 1 5) ∷ (Leave (Choice 0 520 516)) ∷ []) ≡ 42
+words25 : program_words (from source.Kept source.Kept) ((Compute 0 compute.Move sizes.Long (Register 1) (Const 0)) ∷ (Probe 0 4 false) ∷ (Read 1 0 4) ∷ (Compute 4 compute.Add sizes.Long (Register 2) (Register 2)) ∷ (Compute 4 compute.Add sizes.Long (Temp 4) (Temp 4)) ∷ (Compute 1 compute.Add sizes.Long (Temp 1) (Temp 4)) ∷ (Probe 1 4 false) ∷ (Read 0 1 4) ∷ (Compute 0 compute.And sizes.Byte (Temp 0) (Const 1)) ∷ (Compute 0 compute.Xor sizes.Byte (Temp 0) (Const 1)) ∷ (Compute 5 compute.Add sizes.Long (Register 1) (Const 4)) ∷ (Commit 1 5) ∷ (Leave (Choice 0 520 516)) ∷ []) ≡ 45
 words25 = refl
 
 sources25 : sources_of (op.BranchOnLowBit false) ≡ from source.Kept source.Kept
@@ -296,7 +296,7 @@ fits26 : fits (from (source.Computed sizes.Long) source.Kept) ((Compute 0 comput
 unfolding step
 fits26 = refl
 
-words26 : program_words (from (source.Computed sizes.Long) source.Kept) ((Compute 0 compute.Move sizes.Long (Register 1) (Const 0)) ∷ (Probe 0 4 false) ∷ (Read 1 0 4) ∷ (Compute 4 compute.Add sizes.Long (Register 2) (Register 2)) ∷ (Compute 4 compute.Add sizes.Long (Temp 4) (Temp 4)) ∷ (Compute 1 compute.Add sizes.Long (Temp 1) (Temp 4)) ∷ (Probe 1 4 false) ∷ (Read 0 1 4) ∷ (Compute 1 compute.Move sizes.Long (Register 2) (Const 0)) ∷ (Probe 1 4 false) ∷ (Read 2 1 4) ∷ (Compute 4 compute.Add sizes.Long (Register 1) (Const 4)) ∷ (Compute 4 compute.Add sizes.Long (Temp 4) (Temp 4)) ∷ (Compute 4 compute.Add sizes.Long (Temp 4) (Temp 4)) ∷ (Compute 2 compute.Add sizes.Long (Temp 2) (Temp 4)) ∷ (Probe 2 4 false) ∷ (Read 1 2 4) ∷ (Compute 2 compute.Move sizes.Long (Register 3) (Const 0)) ∷ (Probe 2 4 false) ∷ (Read 3 2 4) ∷ (Compute 4 compute.Add sizes.Long (Register 1) (Const 4)) ∷ (Compute 4 compute.Add sizes.Long (Temp 4) (Temp 4)) ∷ (Compute 4 compute.Add sizes.Long (Temp 4) (Temp 4)) ∷ (Compute 3 compute.Add sizes.Long (Temp 3) (Temp 4)) ∷ (Probe 3 4 true) ∷ (Read 2 3 4) ∷ (Compute 2 compute.Add sizes.Long (Temp 2) (Temp 1)) ∷ (Write 3 4 2) ∷ (Compute 4 compute.SignExtend sizes.Long (Temp 2) (Const 0)) ∷ (Compute 5 compute.SignExtend sizes.Long (Temp 1) (Const 0)) ∷ (Compute 4 compute.Sub sizes.Quad (Temp 4) (Temp 5)) ∷ (Compute 5 compute.SignExtend sizes.Long (Temp 4) (Const 0)) ∷ (Compute 3 compute.Equal sizes.Quad (Temp 4) (Temp 5)) ∷ (Compute 3 compute.Xor sizes.Byte (Temp 3) (Const 1)) ∷ (Compute 4 compute.Less sizes.Long (Temp 0) (Temp 2)) ∷ (Compute 5 compute.Less sizes.Long (Temp 2) (Temp 0)) ∷ (Compute 1 compute.Less sizes.Long (Temp 1) (Const 0)) ∷ (Compute 4 compute.SelectNonzero sizes.Quad (Temp 1) (Temp 5)) ∷ (Compute 0 compute.Xor sizes.Byte (Temp 4) (Const 1)) ∷ (Compute 5 compute.Add sizes.Long (Register 1) (Const 4)) ∷ (Commit 1 5) ∷ (Compute 5 compute.Add sizes.Long (Register 2) (Const 4)) ∷ (Commit 2 5) ∷ (Compute 5 compute.Add sizes.Long (Register 3) (Const 4)) ∷ (Commit 3 5) ∷ (Compute 6 compute.ShiftRight sizes.Long (Temp 2) (Const 31)) ∷ (Compute 7 compute.Equal sizes.Long (Temp 2) (Const 0)) ∷ (Codes 6 7 3 None) ∷ (Leave (Choice 0 520 516)) ∷ []) ≡ 165
+words26 : program_words (from (source.Computed sizes.Long) source.Kept) ((Compute 0 compute.Move sizes.Long (Register 1) (Const 0)) ∷ (Probe 0 4 false) ∷ (Read 1 0 4) ∷ (Compute 4 compute.Add sizes.Long (Register 2) (Register 2)) ∷ (Compute 4 compute.Add sizes.Long (Temp 4) (Temp 4)) ∷ (Compute 1 compute.Add sizes.Long (Temp 1) (Temp 4)) ∷ (Probe 1 4 false) ∷ (Read 0 1 4) ∷ (Compute 1 compute.Move sizes.Long (Register 2) (Const 0)) ∷ (Probe 1 4 false) ∷ (Read 2 1 4) ∷ (Compute 4 compute.Add sizes.Long (Register 1) (Const 4)) ∷ (Compute 4 compute.Add sizes.Long (Temp 4) (Temp 4)) ∷ (Compute 4 compute.Add sizes.Long (Temp 4) (Temp 4)) ∷ (Compute 2 compute.Add sizes.Long (Temp 2) (Temp 4)) ∷ (Probe 2 4 false) ∷ (Read 1 2 4) ∷ (Compute 2 compute.Move sizes.Long (Register 3) (Const 0)) ∷ (Probe 2 4 false) ∷ (Read 3 2 4) ∷ (Compute 4 compute.Add sizes.Long (Register 1) (Const 4)) ∷ (Compute 4 compute.Add sizes.Long (Temp 4) (Temp 4)) ∷ (Compute 4 compute.Add sizes.Long (Temp 4) (Temp 4)) ∷ (Compute 3 compute.Add sizes.Long (Temp 3) (Temp 4)) ∷ (Probe 3 4 true) ∷ (Read 2 3 4) ∷ (Compute 2 compute.Add sizes.Long (Temp 2) (Temp 1)) ∷ (Write 3 4 2) ∷ (Compute 4 compute.SignExtend sizes.Long (Temp 2) (Const 0)) ∷ (Compute 5 compute.SignExtend sizes.Long (Temp 1) (Const 0)) ∷ (Compute 4 compute.Sub sizes.Quad (Temp 4) (Temp 5)) ∷ (Compute 5 compute.SignExtend sizes.Long (Temp 4) (Const 0)) ∷ (Compute 3 compute.Equal sizes.Quad (Temp 4) (Temp 5)) ∷ (Compute 3 compute.Xor sizes.Byte (Temp 3) (Const 1)) ∷ (Compute 4 compute.Less sizes.Long (Temp 0) (Temp 2)) ∷ (Compute 5 compute.Less sizes.Long (Temp 2) (Temp 0)) ∷ (Compute 1 compute.Less sizes.Long (Temp 1) (Const 0)) ∷ (Compute 4 compute.SelectNonzero sizes.Quad (Temp 1) (Temp 5)) ∷ (Compute 0 compute.Xor sizes.Byte (Temp 4) (Const 1)) ∷ (Compute 5 compute.Add sizes.Long (Register 1) (Const 4)) ∷ (Commit 1 5) ∷ (Compute 5 compute.Add sizes.Long (Register 2) (Const 4)) ∷ (Commit 2 5) ∷ (Compute 5 compute.Add sizes.Long (Register 3) (Const 4)) ∷ (Commit 3 5) ∷ (Compute 6 compute.ShiftRight sizes.Long (Temp 2) (Const 31)) ∷ (Compute 7 compute.Equal sizes.Long (Temp 2) (Const 0)) ∷ (Codes 6 7 3 None) ∷ (Leave (Choice 0 520 516)) ∷ []) ≡ 173
 words26 = refl
 
 sources26 : sources_of (op.AddCompareBranch Long) ≡ from (source.Computed sizes.Long) source.Kept
@@ -307,7 +307,7 @@ fits27 : fits (from (source.Computed sizes.Long) source.Kept) ((Compute 0 comput
 unfolding step
 fits27 = refl
 
-words27 : program_words (from (source.Computed sizes.Long) source.Kept) ((Compute 0 compute.Move sizes.Long (Register 1) (Const 0)) ∷ (Probe 0 4 false) ∷ (Read 1 0 4) ∷ (Compute 4 compute.Add sizes.Long (Register 2) (Register 2)) ∷ (Compute 4 compute.Add sizes.Long (Temp 4) (Temp 4)) ∷ (Compute 1 compute.Add sizes.Long (Temp 1) (Temp 4)) ∷ (Probe 1 4 false) ∷ (Read 0 1 4) ∷ (Compute 1 compute.Add sizes.Long (Register 1) (Const 4)) ∷ (Probe 1 4 false) ∷ (Read 2 1 4) ∷ (Compute 4 compute.Add sizes.Long (Register 3) (Register 3)) ∷ (Compute 4 compute.Add sizes.Long (Temp 4) (Temp 4)) ∷ (Compute 2 compute.Add sizes.Long (Temp 2) (Temp 4)) ∷ (Probe 2 4 false) ∷ (Read 1 2 4) ∷ (Compute 2 compute.Add sizes.Long (Register 1) (Const 8)) ∷ (Probe 2 4 false) ∷ (Read 3 2 4) ∷ (Compute 4 compute.Add sizes.Long (Register 4) (Register 4)) ∷ (Compute 4 compute.Add sizes.Long (Temp 4) (Temp 4)) ∷ (Compute 3 compute.Add sizes.Long (Temp 3) (Temp 4)) ∷ (Probe 3 4 true) ∷ (Read 2 3 4) ∷ (Compute 2 compute.Add sizes.Long (Temp 2) (Temp 1)) ∷ (Write 3 4 2) ∷ (Compute 4 compute.SignExtend sizes.Long (Temp 2) (Const 0)) ∷ (Compute 5 compute.SignExtend sizes.Long (Temp 1) (Const 0)) ∷ (Compute 4 compute.Sub sizes.Quad (Temp 4) (Temp 5)) ∷ (Compute 5 compute.SignExtend sizes.Long (Temp 4) (Const 0)) ∷ (Compute 3 compute.Equal sizes.Quad (Temp 4) (Temp 5)) ∷ (Compute 3 compute.Xor sizes.Byte (Temp 3) (Const 1)) ∷ (Compute 4 compute.Less sizes.Long (Temp 0) (Temp 2)) ∷ (Compute 5 compute.Less sizes.Long (Temp 2) (Temp 0)) ∷ (Compute 1 compute.Less sizes.Long (Temp 1) (Const 0)) ∷ (Compute 4 compute.SelectNonzero sizes.Quad (Temp 1) (Temp 5)) ∷ (Compute 0 compute.Xor sizes.Byte (Temp 4) (Const 1)) ∷ (Compute 5 compute.Add sizes.Long (Register 1) (Const 12)) ∷ (Commit 1 5) ∷ (Compute 6 compute.ShiftRight sizes.Long (Temp 2) (Const 31)) ∷ (Compute 7 compute.Equal sizes.Long (Temp 2) (Const 0)) ∷ (Codes 6 7 3 None) ∷ (Leave (Choice 0 520 516)) ∷ []) ≡ 153
+words27 : program_words (from (source.Computed sizes.Long) source.Kept) ((Compute 0 compute.Move sizes.Long (Register 1) (Const 0)) ∷ (Probe 0 4 false) ∷ (Read 1 0 4) ∷ (Compute 4 compute.Add sizes.Long (Register 2) (Register 2)) ∷ (Compute 4 compute.Add sizes.Long (Temp 4) (Temp 4)) ∷ (Compute 1 compute.Add sizes.Long (Temp 1) (Temp 4)) ∷ (Probe 1 4 false) ∷ (Read 0 1 4) ∷ (Compute 1 compute.Add sizes.Long (Register 1) (Const 4)) ∷ (Probe 1 4 false) ∷ (Read 2 1 4) ∷ (Compute 4 compute.Add sizes.Long (Register 3) (Register 3)) ∷ (Compute 4 compute.Add sizes.Long (Temp 4) (Temp 4)) ∷ (Compute 2 compute.Add sizes.Long (Temp 2) (Temp 4)) ∷ (Probe 2 4 false) ∷ (Read 1 2 4) ∷ (Compute 2 compute.Add sizes.Long (Register 1) (Const 8)) ∷ (Probe 2 4 false) ∷ (Read 3 2 4) ∷ (Compute 4 compute.Add sizes.Long (Register 4) (Register 4)) ∷ (Compute 4 compute.Add sizes.Long (Temp 4) (Temp 4)) ∷ (Compute 3 compute.Add sizes.Long (Temp 3) (Temp 4)) ∷ (Probe 3 4 true) ∷ (Read 2 3 4) ∷ (Compute 2 compute.Add sizes.Long (Temp 2) (Temp 1)) ∷ (Write 3 4 2) ∷ (Compute 4 compute.SignExtend sizes.Long (Temp 2) (Const 0)) ∷ (Compute 5 compute.SignExtend sizes.Long (Temp 1) (Const 0)) ∷ (Compute 4 compute.Sub sizes.Quad (Temp 4) (Temp 5)) ∷ (Compute 5 compute.SignExtend sizes.Long (Temp 4) (Const 0)) ∷ (Compute 3 compute.Equal sizes.Quad (Temp 4) (Temp 5)) ∷ (Compute 3 compute.Xor sizes.Byte (Temp 3) (Const 1)) ∷ (Compute 4 compute.Less sizes.Long (Temp 0) (Temp 2)) ∷ (Compute 5 compute.Less sizes.Long (Temp 2) (Temp 0)) ∷ (Compute 1 compute.Less sizes.Long (Temp 1) (Const 0)) ∷ (Compute 4 compute.SelectNonzero sizes.Quad (Temp 1) (Temp 5)) ∷ (Compute 0 compute.Xor sizes.Byte (Temp 4) (Const 1)) ∷ (Compute 5 compute.Add sizes.Long (Register 1) (Const 12)) ∷ (Commit 1 5) ∷ (Compute 6 compute.ShiftRight sizes.Long (Temp 2) (Const 31)) ∷ (Compute 7 compute.Equal sizes.Long (Temp 2) (Const 0)) ∷ (Codes 6 7 3 None) ∷ (Leave (Choice 0 520 516)) ∷ []) ≡ 161
 words27 = refl
 
 sources27 : sources_of (op.AddCompareBranch Long) ≡ from (source.Computed sizes.Long) source.Kept
@@ -318,7 +318,7 @@ fits28 : fits (from (source.Computed sizes.Word) source.Kept) ((Compute 0 comput
 unfolding step
 fits28 = refl
 
-words28 : program_words (from (source.Computed sizes.Word) source.Kept) ((Compute 0 compute.Move sizes.Long (Register 1) (Const 0)) ∷ (Probe 0 4 false) ∷ (Read 1 0 4) ∷ (Compute 4 compute.Add sizes.Long (Register 2) (Register 2)) ∷ (Compute 1 compute.Add sizes.Long (Temp 1) (Temp 4)) ∷ (Probe 1 2 false) ∷ (Read 0 1 2) ∷ (Compute 1 compute.Move sizes.Long (Register 2) (Const 0)) ∷ (Probe 1 4 false) ∷ (Read 2 1 4) ∷ (Compute 4 compute.Add sizes.Long (Register 1) (Const 4)) ∷ (Compute 4 compute.Add sizes.Long (Temp 4) (Temp 4)) ∷ (Compute 2 compute.Add sizes.Long (Temp 2) (Temp 4)) ∷ (Probe 2 2 false) ∷ (Read 1 2 2) ∷ (Compute 2 compute.Move sizes.Long (Register 3) (Const 0)) ∷ (Probe 2 4 false) ∷ (Read 3 2 4) ∷ (Compute 4 compute.Add sizes.Long (Register 1) (Const 4)) ∷ (Compute 4 compute.Add sizes.Long (Temp 4) (Temp 4)) ∷ (Compute 3 compute.Add sizes.Long (Temp 3) (Temp 4)) ∷ (Probe 3 2 true) ∷ (Read 2 3 2) ∷ (Compute 2 compute.Add sizes.Word (Temp 2) (Temp 1)) ∷ (Write 3 2 2) ∷ (Compute 4 compute.SignExtend sizes.Word (Temp 2) (Const 0)) ∷ (Compute 5 compute.SignExtend sizes.Word (Temp 1) (Const 0)) ∷ (Compute 4 compute.Sub sizes.Quad (Temp 4) (Temp 5)) ∷ (Compute 5 compute.SignExtend sizes.Word (Temp 4) (Const 0)) ∷ (Compute 3 compute.Equal sizes.Quad (Temp 4) (Temp 5)) ∷ (Compute 3 compute.Xor sizes.Byte (Temp 3) (Const 1)) ∷ (Compute 4 compute.Less sizes.Word (Temp 0) (Temp 2)) ∷ (Compute 5 compute.Less sizes.Word (Temp 2) (Temp 0)) ∷ (Compute 1 compute.Less sizes.Word (Temp 1) (Const 0)) ∷ (Compute 4 compute.SelectNonzero sizes.Quad (Temp 1) (Temp 5)) ∷ (Compute 0 compute.Xor sizes.Byte (Temp 4) (Const 1)) ∷ (Compute 5 compute.Add sizes.Long (Register 1) (Const 4)) ∷ (Commit 1 5) ∷ (Compute 5 compute.Add sizes.Long (Register 2) (Const 4)) ∷ (Commit 2 5) ∷ (Compute 5 compute.Add sizes.Long (Register 3) (Const 4)) ∷ (Commit 3 5) ∷ (Compute 6 compute.ShiftRight sizes.Word (Temp 2) (Const 15)) ∷ (Compute 7 compute.Equal sizes.Word (Temp 2) (Const 0)) ∷ (Codes 6 7 3 None) ∷ (Leave (Choice 0 520 516)) ∷ []) ≡ 163
+words28 : program_words (from (source.Computed sizes.Word) source.Kept) ((Compute 0 compute.Move sizes.Long (Register 1) (Const 0)) ∷ (Probe 0 4 false) ∷ (Read 1 0 4) ∷ (Compute 4 compute.Add sizes.Long (Register 2) (Register 2)) ∷ (Compute 1 compute.Add sizes.Long (Temp 1) (Temp 4)) ∷ (Probe 1 2 false) ∷ (Read 0 1 2) ∷ (Compute 1 compute.Move sizes.Long (Register 2) (Const 0)) ∷ (Probe 1 4 false) ∷ (Read 2 1 4) ∷ (Compute 4 compute.Add sizes.Long (Register 1) (Const 4)) ∷ (Compute 4 compute.Add sizes.Long (Temp 4) (Temp 4)) ∷ (Compute 2 compute.Add sizes.Long (Temp 2) (Temp 4)) ∷ (Probe 2 2 false) ∷ (Read 1 2 2) ∷ (Compute 2 compute.Move sizes.Long (Register 3) (Const 0)) ∷ (Probe 2 4 false) ∷ (Read 3 2 4) ∷ (Compute 4 compute.Add sizes.Long (Register 1) (Const 4)) ∷ (Compute 4 compute.Add sizes.Long (Temp 4) (Temp 4)) ∷ (Compute 3 compute.Add sizes.Long (Temp 3) (Temp 4)) ∷ (Probe 3 2 true) ∷ (Read 2 3 2) ∷ (Compute 2 compute.Add sizes.Word (Temp 2) (Temp 1)) ∷ (Write 3 2 2) ∷ (Compute 4 compute.SignExtend sizes.Word (Temp 2) (Const 0)) ∷ (Compute 5 compute.SignExtend sizes.Word (Temp 1) (Const 0)) ∷ (Compute 4 compute.Sub sizes.Quad (Temp 4) (Temp 5)) ∷ (Compute 5 compute.SignExtend sizes.Word (Temp 4) (Const 0)) ∷ (Compute 3 compute.Equal sizes.Quad (Temp 4) (Temp 5)) ∷ (Compute 3 compute.Xor sizes.Byte (Temp 3) (Const 1)) ∷ (Compute 4 compute.Less sizes.Word (Temp 0) (Temp 2)) ∷ (Compute 5 compute.Less sizes.Word (Temp 2) (Temp 0)) ∷ (Compute 1 compute.Less sizes.Word (Temp 1) (Const 0)) ∷ (Compute 4 compute.SelectNonzero sizes.Quad (Temp 1) (Temp 5)) ∷ (Compute 0 compute.Xor sizes.Byte (Temp 4) (Const 1)) ∷ (Compute 5 compute.Add sizes.Long (Register 1) (Const 4)) ∷ (Commit 1 5) ∷ (Compute 5 compute.Add sizes.Long (Register 2) (Const 4)) ∷ (Commit 2 5) ∷ (Compute 5 compute.Add sizes.Long (Register 3) (Const 4)) ∷ (Commit 3 5) ∷ (Compute 6 compute.ShiftRight sizes.Word (Temp 2) (Const 15)) ∷ (Compute 7 compute.Equal sizes.Word (Temp 2) (Const 0)) ∷ (Codes 6 7 3 None) ∷ (Leave (Choice 0 520 516)) ∷ []) ≡ 166
 words28 = refl
 
 sources28 : sources_of (op.AddCompareBranch Word) ≡ from (source.Computed sizes.Word) source.Kept
@@ -329,7 +329,7 @@ fits29 : fits (from (source.Computed sizes.Byte) source.Kept) ((Compute 0 comput
 unfolding step
 fits29 = refl
 
-words29 : program_words (from (source.Computed sizes.Byte) source.Kept) ((Compute 0 compute.Move sizes.Long (Register 1) (Const 0)) ∷ (Probe 0 4 false) ∷ (Read 1 0 4) ∷ (Compute 1 compute.Add sizes.Long (Temp 1) (Register 2)) ∷ (Probe 1 1 false) ∷ (Read 0 1 1) ∷ (Compute 1 compute.Move sizes.Long (Register 2) (Const 0)) ∷ (Probe 1 4 false) ∷ (Read 2 1 4) ∷ (Compute 4 compute.Add sizes.Long (Register 1) (Const 4)) ∷ (Compute 2 compute.Add sizes.Long (Temp 2) (Temp 4)) ∷ (Probe 2 1 false) ∷ (Read 1 2 1) ∷ (Compute 2 compute.Add sizes.Byte (Register 1) (Const 4)) ∷ (Compute 2 compute.Add sizes.Byte (Temp 2) (Temp 1)) ∷ (Compute 4 compute.SignExtend sizes.Byte (Temp 2) (Const 0)) ∷ (Compute 5 compute.SignExtend sizes.Byte (Temp 1) (Const 0)) ∷ (Compute 4 compute.Sub sizes.Quad (Temp 4) (Temp 5)) ∷ (Compute 5 compute.SignExtend sizes.Byte (Temp 4) (Const 0)) ∷ (Compute 3 compute.Equal sizes.Quad (Temp 4) (Temp 5)) ∷ (Compute 3 compute.Xor sizes.Byte (Temp 3) (Const 1)) ∷ (Compute 4 compute.Less sizes.Byte (Temp 0) (Temp 2)) ∷ (Compute 5 compute.Less sizes.Byte (Temp 2) (Temp 0)) ∷ (Compute 1 compute.Less sizes.Byte (Temp 1) (Const 0)) ∷ (Compute 4 compute.SelectNonzero sizes.Quad (Temp 1) (Temp 5)) ∷ (Compute 0 compute.Xor sizes.Byte (Temp 4) (Const 1)) ∷ (Compute 5 compute.Add sizes.Long (Register 1) (Const 4)) ∷ (Compute 5 compute.AndNot sizes.Long (Temp 5) (Const 255)) ∷ (Compute 5 compute.Or sizes.Long (Temp 5) (Temp 2)) ∷ (Commit 1 5) ∷ (Compute 5 compute.Add sizes.Long (Register 2) (Const 4)) ∷ (Commit 2 5) ∷ (Compute 6 compute.ShiftRight sizes.Byte (Temp 2) (Const 7)) ∷ (Compute 7 compute.Equal sizes.Byte (Temp 2) (Const 0)) ∷ (Codes 6 7 3 None) ∷ (Leave (Choice 0 520 516)) ∷ []) ≡ 92
+words29 : program_words (from (source.Computed sizes.Byte) source.Kept) ((Compute 0 compute.Move sizes.Long (Register 1) (Const 0)) ∷ (Probe 0 4 false) ∷ (Read 1 0 4) ∷ (Compute 1 compute.Add sizes.Long (Temp 1) (Register 2)) ∷ (Probe 1 1 false) ∷ (Read 0 1 1) ∷ (Compute 1 compute.Move sizes.Long (Register 2) (Const 0)) ∷ (Probe 1 4 false) ∷ (Read 2 1 4) ∷ (Compute 4 compute.Add sizes.Long (Register 1) (Const 4)) ∷ (Compute 2 compute.Add sizes.Long (Temp 2) (Temp 4)) ∷ (Probe 2 1 false) ∷ (Read 1 2 1) ∷ (Compute 2 compute.Add sizes.Byte (Register 1) (Const 4)) ∷ (Compute 2 compute.Add sizes.Byte (Temp 2) (Temp 1)) ∷ (Compute 4 compute.SignExtend sizes.Byte (Temp 2) (Const 0)) ∷ (Compute 5 compute.SignExtend sizes.Byte (Temp 1) (Const 0)) ∷ (Compute 4 compute.Sub sizes.Quad (Temp 4) (Temp 5)) ∷ (Compute 5 compute.SignExtend sizes.Byte (Temp 4) (Const 0)) ∷ (Compute 3 compute.Equal sizes.Quad (Temp 4) (Temp 5)) ∷ (Compute 3 compute.Xor sizes.Byte (Temp 3) (Const 1)) ∷ (Compute 4 compute.Less sizes.Byte (Temp 0) (Temp 2)) ∷ (Compute 5 compute.Less sizes.Byte (Temp 2) (Temp 0)) ∷ (Compute 1 compute.Less sizes.Byte (Temp 1) (Const 0)) ∷ (Compute 4 compute.SelectNonzero sizes.Quad (Temp 1) (Temp 5)) ∷ (Compute 0 compute.Xor sizes.Byte (Temp 4) (Const 1)) ∷ (Compute 5 compute.Add sizes.Long (Register 1) (Const 4)) ∷ (Compute 5 compute.AndNot sizes.Long (Temp 5) (Const 255)) ∷ (Compute 5 compute.Or sizes.Long (Temp 5) (Temp 2)) ∷ (Commit 1 5) ∷ (Compute 5 compute.Add sizes.Long (Register 2) (Const 4)) ∷ (Commit 2 5) ∷ (Compute 6 compute.ShiftRight sizes.Byte (Temp 2) (Const 7)) ∷ (Compute 7 compute.Equal sizes.Byte (Temp 2) (Const 0)) ∷ (Codes 6 7 3 None) ∷ (Leave (Choice 0 520 516)) ∷ []) ≡ 93
 words29 = refl
 
 sources29 : sources_of (op.AddCompareBranch Byte) ≡ from (source.Computed sizes.Byte) source.Kept
@@ -340,7 +340,7 @@ fits30 : fits (from (source.Computed sizes.Long) source.Kept) ((Compute 0 comput
 unfolding step
 fits30 = refl
 
-words30 : program_words (from (source.Computed sizes.Long) source.Kept) ((Compute 0 compute.Move sizes.Long (Register 1) (Const 0)) ∷ (Probe 0 4 false) ∷ (Read 1 0 4) ∷ (Compute 4 compute.Add sizes.Long (Register 2) (Register 2)) ∷ (Compute 4 compute.Add sizes.Long (Temp 4) (Temp 4)) ∷ (Compute 1 compute.Add sizes.Long (Temp 1) (Temp 4)) ∷ (Probe 1 4 false) ∷ (Read 0 1 4) ∷ (Compute 2 compute.Move sizes.Long (Register 2) (Const 0)) ∷ (Probe 2 4 false) ∷ (Read 3 2 4) ∷ (Compute 4 compute.Add sizes.Long (Register 1) (Const 4)) ∷ (Compute 4 compute.Add sizes.Long (Temp 4) (Temp 4)) ∷ (Compute 4 compute.Add sizes.Long (Temp 4) (Temp 4)) ∷ (Compute 3 compute.Add sizes.Long (Temp 3) (Temp 4)) ∷ (Probe 3 4 true) ∷ (Read 2 3 4) ∷ (Compute 2 compute.Add sizes.Long (Temp 2) (Const 1)) ∷ (Write 3 4 2) ∷ (Compute 3 compute.Equal sizes.Long (Temp 2) (Const 2147483648)) ∷ (Compute 0 compute.Less sizes.Long (Temp 0) (Temp 2)) ∷ (Compute 0 compute.Xor sizes.Byte (Temp 0) (Const 1)) ∷ (Compute 5 compute.Add sizes.Long (Register 1) (Const 4)) ∷ (Commit 1 5) ∷ (Compute 5 compute.Add sizes.Long (Register 2) (Const 4)) ∷ (Commit 2 5) ∷ (Compute 6 compute.ShiftRight sizes.Long (Temp 2) (Const 31)) ∷ (Compute 7 compute.Equal sizes.Long (Temp 2) (Const 0)) ∷ (Codes 6 7 3 None) ∷ (Leave (Choice 0 520 516)) ∷ []) ≡ 115
+words30 : program_words (from (source.Computed sizes.Long) source.Kept) ((Compute 0 compute.Move sizes.Long (Register 1) (Const 0)) ∷ (Probe 0 4 false) ∷ (Read 1 0 4) ∷ (Compute 4 compute.Add sizes.Long (Register 2) (Register 2)) ∷ (Compute 4 compute.Add sizes.Long (Temp 4) (Temp 4)) ∷ (Compute 1 compute.Add sizes.Long (Temp 1) (Temp 4)) ∷ (Probe 1 4 false) ∷ (Read 0 1 4) ∷ (Compute 2 compute.Move sizes.Long (Register 2) (Const 0)) ∷ (Probe 2 4 false) ∷ (Read 3 2 4) ∷ (Compute 4 compute.Add sizes.Long (Register 1) (Const 4)) ∷ (Compute 4 compute.Add sizes.Long (Temp 4) (Temp 4)) ∷ (Compute 4 compute.Add sizes.Long (Temp 4) (Temp 4)) ∷ (Compute 3 compute.Add sizes.Long (Temp 3) (Temp 4)) ∷ (Probe 3 4 true) ∷ (Read 2 3 4) ∷ (Compute 2 compute.Add sizes.Long (Temp 2) (Const 1)) ∷ (Write 3 4 2) ∷ (Compute 3 compute.Equal sizes.Long (Temp 2) (Const 2147483648)) ∷ (Compute 0 compute.Less sizes.Long (Temp 0) (Temp 2)) ∷ (Compute 0 compute.Xor sizes.Byte (Temp 0) (Const 1)) ∷ (Compute 5 compute.Add sizes.Long (Register 1) (Const 4)) ∷ (Commit 1 5) ∷ (Compute 5 compute.Add sizes.Long (Register 2) (Const 4)) ∷ (Commit 2 5) ∷ (Compute 6 compute.ShiftRight sizes.Long (Temp 2) (Const 31)) ∷ (Compute 7 compute.Equal sizes.Long (Temp 2) (Const 0)) ∷ (Codes 6 7 3 None) ∷ (Leave (Choice 0 520 516)) ∷ []) ≡ 122
 words30 = refl
 
 sources30 : sources_of (op.AddOneBranch true) ≡ from (source.Computed sizes.Long) source.Kept
@@ -351,7 +351,7 @@ fits31 : fits (from (source.Computed sizes.Long) source.Kept) ((Compute 2 comput
 unfolding step
 fits31 = refl
 
-words31 : program_words (from (source.Computed sizes.Long) source.Kept) ((Compute 2 compute.Move sizes.Long (Register 1) (Const 0)) ∷ (Probe 2 4 false) ∷ (Read 3 2 4) ∷ (Compute 4 compute.Add sizes.Long (Register 2) (Register 2)) ∷ (Compute 4 compute.Add sizes.Long (Temp 4) (Temp 4)) ∷ (Compute 3 compute.Add sizes.Long (Temp 3) (Temp 4)) ∷ (Probe 3 4 true) ∷ (Read 2 3 4) ∷ (Compute 2 compute.Sub sizes.Long (Temp 2) (Const 1)) ∷ (Write 3 4 2) ∷ (Compute 3 compute.Equal sizes.Long (Temp 2) (Const 2147483647)) ∷ (Compute 0 compute.Less sizes.Long (Temp 2) (Const 0)) ∷ (Compute 0 compute.Xor sizes.Byte (Temp 0) (Const 1)) ∷ (Compute 5 compute.Add sizes.Long (Register 1) (Const 4)) ∷ (Commit 1 5) ∷ (Compute 6 compute.ShiftRight sizes.Long (Temp 2) (Const 31)) ∷ (Compute 7 compute.Equal sizes.Long (Temp 2) (Const 0)) ∷ (Codes 6 7 3 None) ∷ (Leave (Choice 0 520 516)) ∷ []) ≡ 77
+words31 : program_words (from (source.Computed sizes.Long) source.Kept) ((Compute 2 compute.Move sizes.Long (Register 1) (Const 0)) ∷ (Probe 2 4 false) ∷ (Read 3 2 4) ∷ (Compute 4 compute.Add sizes.Long (Register 2) (Register 2)) ∷ (Compute 4 compute.Add sizes.Long (Temp 4) (Temp 4)) ∷ (Compute 3 compute.Add sizes.Long (Temp 3) (Temp 4)) ∷ (Probe 3 4 true) ∷ (Read 2 3 4) ∷ (Compute 2 compute.Sub sizes.Long (Temp 2) (Const 1)) ∷ (Write 3 4 2) ∷ (Compute 3 compute.Equal sizes.Long (Temp 2) (Const 2147483647)) ∷ (Compute 0 compute.Less sizes.Long (Temp 2) (Const 0)) ∷ (Compute 0 compute.Xor sizes.Byte (Temp 0) (Const 1)) ∷ (Compute 5 compute.Add sizes.Long (Register 1) (Const 4)) ∷ (Commit 1 5) ∷ (Compute 6 compute.ShiftRight sizes.Long (Temp 2) (Const 31)) ∷ (Compute 7 compute.Equal sizes.Long (Temp 2) (Const 0)) ∷ (Codes 6 7 3 None) ∷ (Leave (Choice 0 520 516)) ∷ []) ≡ 76
 words31 = refl
 
 sources31 : sources_of (op.SubtractOneBranch true) ≡ from (source.Computed sizes.Long) source.Kept
@@ -373,7 +373,7 @@ fits33 : fits (from source.Kept source.Kept) ((Compute 1 compute.Move sizes.Long
 unfolding step
 fits33 = refl
 
-words33 : program_words (from source.Kept source.Kept) ((Compute 1 compute.Move sizes.Long (Register 14) (Const 0)) ∷ (Probe 1 4 false) ∷ (Read 0 1 4) ∷ (Compute 0 compute.Add sizes.Long (Temp 0) (Register 2)) ∷ (Compute 1 compute.Move sizes.Long (Register 14) (Const 0)) ∷ (Compute 2 compute.Move sizes.Long (Const 520) (Const 0)) ∷ (Probe 1 4 true) ∷ (Write 1 4 2) ∷ (Leave (Computed 0)) ∷ []) ≡ 45
+words33 : program_words (from source.Kept source.Kept) ((Compute 1 compute.Move sizes.Long (Register 14) (Const 0)) ∷ (Probe 1 4 false) ∷ (Read 0 1 4) ∷ (Compute 0 compute.Add sizes.Long (Temp 0) (Register 2)) ∷ (Compute 1 compute.Move sizes.Long (Register 14) (Const 0)) ∷ (Compute 2 compute.Move sizes.Long (Const 520) (Const 0)) ∷ (Probe 1 4 true) ∷ (Write 1 4 2) ∷ (Leave (Computed 0)) ∷ []) ≡ 47
 words33 = refl
 
 sources33 : sources_of op.JumpToSubroutine ≡ from source.Kept source.Kept
@@ -384,7 +384,7 @@ fits34 : fits (from source.Kept source.Kept) ((Compute 1 compute.Move sizes.Long
 unfolding step
 fits34 = refl
 
-words34 : program_words (from source.Kept source.Kept) ((Compute 1 compute.Move sizes.Long (Register 1) (Const 0)) ∷ (Probe 1 4 false) ∷ (Read 0 1 4) ∷ (Compute 0 compute.Add sizes.Long (Temp 0) (Register 2)) ∷ (Compute 5 compute.Add sizes.Long (Register 1) (Const 4)) ∷ (Commit 1 5) ∷ (Leave (Computed 0)) ∷ []) ≡ 20
+words34 : program_words (from source.Kept source.Kept) ((Compute 1 compute.Move sizes.Long (Register 1) (Const 0)) ∷ (Probe 1 4 false) ∷ (Read 0 1 4) ∷ (Compute 0 compute.Add sizes.Long (Temp 0) (Register 2)) ∷ (Compute 5 compute.Add sizes.Long (Register 1) (Const 4)) ∷ (Commit 1 5) ∷ (Leave (Computed 0)) ∷ []) ≡ 22
 words34 = refl
 
 sources34 : sources_of op.Jump ≡ from source.Kept source.Kept
@@ -395,7 +395,7 @@ fits35 : fits (from source.Kept source.Kept) ((Compute 1 compute.Move sizes.Long
 unfolding step
 fits35 = refl
 
-words35 : program_words (from source.Kept source.Kept) ((Compute 1 compute.Move sizes.Long (Register 14) (Const 0)) ∷ (Probe 1 4 false) ∷ (Read 0 1 4) ∷ (Compute 5 compute.Add sizes.Long (Register 14) (Const 4)) ∷ (Commit 14 5) ∷ (Leave (Computed 0)) ∷ []) ≡ 18
+words35 : program_words (from source.Kept source.Kept) ((Compute 1 compute.Move sizes.Long (Register 14) (Const 0)) ∷ (Probe 1 4 false) ∷ (Read 0 1 4) ∷ (Compute 5 compute.Add sizes.Long (Register 14) (Const 4)) ∷ (Commit 14 5) ∷ (Leave (Computed 0)) ∷ []) ≡ 20
 words35 = refl
 
 sources35 : sources_of op.ReturnFromSubroutine ≡ from source.Kept source.Kept
@@ -406,7 +406,7 @@ fits36 : fits (from source.Psw source.Psw) ((Compute 0 compute.Move sizes.Long (
 unfolding step
 fits36 = refl
 
-words36 : program_words (from source.Psw source.Psw) ((Compute 0 compute.Move sizes.Long (Register 1) (Const 0)) ∷ (Probe 0 4 false) ∷ (Read 1 0 4) ∷ (Compute 4 compute.Add sizes.Long (Register 2) (Register 2)) ∷ (Compute 1 compute.Add sizes.Long (Temp 1) (Temp 4)) ∷ (Probe 1 2 false) ∷ (Read 0 1 2) ∷ (Compute 4 compute.ShiftRight sizes.Word (Temp 0) (Const 8)) ∷ (Refuse 4) ∷ (Compute 2 compute.Move sizes.Byte (Flag 7) (Const 0)) ∷ (Compute 2 compute.Add sizes.Byte (Temp 2) (Temp 2)) ∷ (Compute 2 compute.Or sizes.Byte (Temp 2) (Flag 6)) ∷ (Compute 2 compute.Add sizes.Byte (Temp 2) (Temp 2)) ∷ (Compute 2 compute.Or sizes.Byte (Temp 2) (Flag 5)) ∷ (Compute 2 compute.Add sizes.Byte (Temp 2) (Temp 2)) ∷ (Compute 2 compute.Or sizes.Byte (Temp 2) (Flag 4)) ∷ (Compute 2 compute.Add sizes.Byte (Temp 2) (Temp 2)) ∷ (Compute 2 compute.Or sizes.Byte (Temp 2) (Flag 0)) ∷ (Compute 2 compute.Add sizes.Byte (Temp 2) (Temp 2)) ∷ (Compute 2 compute.Or sizes.Byte (Temp 2) (Flag 1)) ∷ (Compute 2 compute.Add sizes.Byte (Temp 2) (Temp 2)) ∷ (Compute 2 compute.Or sizes.Byte (Temp 2) (Flag 2)) ∷ (Compute 2 compute.Add sizes.Byte (Temp 2) (Temp 2)) ∷ (Compute 2 compute.Or sizes.Byte (Temp 2) (Flag 3)) ∷ (Compute 2 compute.Or sizes.Byte (Temp 2) (Temp 0)) ∷ (SetPsw 2) ∷ (Compute 5 compute.Add sizes.Long (Register 1) (Const 4)) ∷ (Commit 1 5) ∷ (Leave Next) ∷ []) ≡ 85
+words36 : program_words (from source.Psw source.Psw) ((Compute 0 compute.Move sizes.Long (Register 1) (Const 0)) ∷ (Probe 0 4 false) ∷ (Read 1 0 4) ∷ (Compute 4 compute.Add sizes.Long (Register 2) (Register 2)) ∷ (Compute 1 compute.Add sizes.Long (Temp 1) (Temp 4)) ∷ (Probe 1 2 false) ∷ (Read 0 1 2) ∷ (Compute 4 compute.ShiftRight sizes.Word (Temp 0) (Const 8)) ∷ (Refuse 4) ∷ (Compute 2 compute.Move sizes.Byte (Flag 7) (Const 0)) ∷ (Compute 2 compute.Add sizes.Byte (Temp 2) (Temp 2)) ∷ (Compute 2 compute.Or sizes.Byte (Temp 2) (Flag 6)) ∷ (Compute 2 compute.Add sizes.Byte (Temp 2) (Temp 2)) ∷ (Compute 2 compute.Or sizes.Byte (Temp 2) (Flag 5)) ∷ (Compute 2 compute.Add sizes.Byte (Temp 2) (Temp 2)) ∷ (Compute 2 compute.Or sizes.Byte (Temp 2) (Flag 4)) ∷ (Compute 2 compute.Add sizes.Byte (Temp 2) (Temp 2)) ∷ (Compute 2 compute.Or sizes.Byte (Temp 2) (Flag 0)) ∷ (Compute 2 compute.Add sizes.Byte (Temp 2) (Temp 2)) ∷ (Compute 2 compute.Or sizes.Byte (Temp 2) (Flag 1)) ∷ (Compute 2 compute.Add sizes.Byte (Temp 2) (Temp 2)) ∷ (Compute 2 compute.Or sizes.Byte (Temp 2) (Flag 2)) ∷ (Compute 2 compute.Add sizes.Byte (Temp 2) (Temp 2)) ∷ (Compute 2 compute.Or sizes.Byte (Temp 2) (Flag 3)) ∷ (Compute 2 compute.Or sizes.Byte (Temp 2) (Temp 0)) ∷ (SetPsw 2) ∷ (Compute 5 compute.Add sizes.Long (Register 1) (Const 4)) ∷ (Commit 1 5) ∷ (Leave Next) ∷ []) ≡ 87
 words36 = refl
 
 sources36 : sources_of op.BitSetPsw ≡ from source.Psw source.Psw
@@ -417,7 +417,7 @@ fits37 : fits (from source.Kept source.Kept) ((Compute 2 compute.Move sizes.Long
 unfolding step
 fits37 = refl
 
-words37 : program_words (from source.Kept source.Kept) ((Compute 2 compute.Move sizes.Long (Register 1) (Const 0)) ∷ (Probe 2 4 false) ∷ (Read 3 2 4) ∷ (Compute 4 compute.Add sizes.Long (Register 2) (Register 2)) ∷ (Compute 4 compute.Add sizes.Long (Temp 4) (Temp 4)) ∷ (Compute 3 compute.Add sizes.Long (Temp 3) (Temp 4)) ∷ (Compute 2 compute.Move sizes.Byte (Flag 7) (Const 0)) ∷ (Compute 2 compute.Add sizes.Byte (Temp 2) (Temp 2)) ∷ (Compute 2 compute.Or sizes.Byte (Temp 2) (Flag 6)) ∷ (Compute 2 compute.Add sizes.Byte (Temp 2) (Temp 2)) ∷ (Compute 2 compute.Or sizes.Byte (Temp 2) (Flag 5)) ∷ (Compute 2 compute.Add sizes.Byte (Temp 2) (Temp 2)) ∷ (Compute 2 compute.Or sizes.Byte (Temp 2) (Flag 4)) ∷ (Compute 2 compute.Add sizes.Byte (Temp 2) (Temp 2)) ∷ (Compute 2 compute.Or sizes.Byte (Temp 2) (Flag 0)) ∷ (Compute 2 compute.Add sizes.Byte (Temp 2) (Temp 2)) ∷ (Compute 2 compute.Or sizes.Byte (Temp 2) (Flag 1)) ∷ (Compute 2 compute.Add sizes.Byte (Temp 2) (Temp 2)) ∷ (Compute 2 compute.Or sizes.Byte (Temp 2) (Flag 2)) ∷ (Compute 2 compute.Add sizes.Byte (Temp 2) (Temp 2)) ∷ (Compute 2 compute.Or sizes.Byte (Temp 2) (Flag 3)) ∷ (Compute 2 compute.Or sizes.Long (Temp 2) (Const 62914560)) ∷ (Probe 3 4 true) ∷ (Write 3 4 2) ∷ (Compute 5 compute.Add sizes.Long (Register 1) (Const 4)) ∷ (Commit 1 5) ∷ (Leave Next) ∷ []) ≡ 91
+words37 : program_words (from source.Kept source.Kept) ((Compute 2 compute.Move sizes.Long (Register 1) (Const 0)) ∷ (Probe 2 4 false) ∷ (Read 3 2 4) ∷ (Compute 4 compute.Add sizes.Long (Register 2) (Register 2)) ∷ (Compute 4 compute.Add sizes.Long (Temp 4) (Temp 4)) ∷ (Compute 3 compute.Add sizes.Long (Temp 3) (Temp 4)) ∷ (Compute 2 compute.Move sizes.Byte (Flag 7) (Const 0)) ∷ (Compute 2 compute.Add sizes.Byte (Temp 2) (Temp 2)) ∷ (Compute 2 compute.Or sizes.Byte (Temp 2) (Flag 6)) ∷ (Compute 2 compute.Add sizes.Byte (Temp 2) (Temp 2)) ∷ (Compute 2 compute.Or sizes.Byte (Temp 2) (Flag 5)) ∷ (Compute 2 compute.Add sizes.Byte (Temp 2) (Temp 2)) ∷ (Compute 2 compute.Or sizes.Byte (Temp 2) (Flag 4)) ∷ (Compute 2 compute.Add sizes.Byte (Temp 2) (Temp 2)) ∷ (Compute 2 compute.Or sizes.Byte (Temp 2) (Flag 0)) ∷ (Compute 2 compute.Add sizes.Byte (Temp 2) (Temp 2)) ∷ (Compute 2 compute.Or sizes.Byte (Temp 2) (Flag 1)) ∷ (Compute 2 compute.Add sizes.Byte (Temp 2) (Temp 2)) ∷ (Compute 2 compute.Or sizes.Byte (Temp 2) (Flag 2)) ∷ (Compute 2 compute.Add sizes.Byte (Temp 2) (Temp 2)) ∷ (Compute 2 compute.Or sizes.Byte (Temp 2) (Flag 3)) ∷ (Compute 2 compute.Or sizes.Long (Temp 2) (Const 62914560)) ∷ (Probe 3 4 true) ∷ (Write 3 4 2) ∷ (Compute 5 compute.Add sizes.Long (Register 1) (Const 4)) ∷ (Commit 1 5) ∷ (Leave Next) ∷ []) ≡ 93
 words37 = refl
 
 sources37 : sources_of op.MovePsl ≡ from source.Kept source.Kept
@@ -428,7 +428,7 @@ fits38 : fits (from source.Kept source.Kept) ((Compute 0 compute.Move sizes.Long
 unfolding step
 fits38 = refl
 
-words38 : program_words (from source.Kept source.Kept) ((Compute 0 compute.Move sizes.Long (Register 0) (Const 0)) ∷ (Probe 0 4 false) ∷ (Read 1 0 4) ∷ (Compute 4 compute.Add sizes.Long (Register 2) (Register 2)) ∷ (Compute 1 compute.Add sizes.Long (Temp 1) (Temp 4)) ∷ (Probe 1 2 false) ∷ (Read 0 1 2) ∷ (Compute 5 compute.Add sizes.Long (Register 0) (Const 4)) ∷ (Commit 0 5) ∷ (Leave (Service 0)) ∷ []) ≡ 36
+words38 : program_words (from source.Kept source.Kept) ((Compute 0 compute.Move sizes.Long (Register 0) (Const 0)) ∷ (Probe 0 4 false) ∷ (Read 1 0 4) ∷ (Compute 4 compute.Add sizes.Long (Register 2) (Register 2)) ∷ (Compute 1 compute.Add sizes.Long (Temp 1) (Temp 4)) ∷ (Probe 1 2 false) ∷ (Read 0 1 2) ∷ (Compute 5 compute.Add sizes.Long (Register 0) (Const 4)) ∷ (Commit 0 5) ∷ (Leave (Service 0)) ∷ []) ≡ 38
 words38 = refl
 
 sources38 : sources_of op.ChangeMode ≡ from source.Kept source.Kept
@@ -461,7 +461,7 @@ fits41 : fits (from (source.Compare sizes.Long) (source.Compare sizes.Long)) ((C
 unfolding step
 fits41 = refl
 
-words41 : program_words (from (source.Compare sizes.Long) (source.Compare sizes.Long)) ((Compute 0 compute.Move sizes.Long (Register 1) (Const 0)) ∷ (Probe 0 4 false) ∷ (Read 1 0 4) ∷ (Compute 4 compute.Add sizes.Long (Register 2) (Register 2)) ∷ (Compute 4 compute.Add sizes.Long (Temp 4) (Temp 4)) ∷ (Compute 1 compute.Add sizes.Long (Temp 1) (Temp 4)) ∷ (Probe 1 4 false) ∷ (Read 0 1 4) ∷ (Compute 1 compute.Move sizes.Long (Register 2) (Const 0)) ∷ (Probe 1 4 false) ∷ (Read 2 1 4) ∷ (Compute 4 compute.Add sizes.Long (Register 1) (Const 4)) ∷ (Compute 4 compute.Add sizes.Long (Temp 4) (Temp 4)) ∷ (Compute 4 compute.Add sizes.Long (Temp 4) (Temp 4)) ∷ (Compute 2 compute.Add sizes.Long (Temp 2) (Temp 4)) ∷ (Probe 2 4 false) ∷ (Read 1 2 4) ∷ (Compute 5 compute.Add sizes.Long (Register 1) (Const 4)) ∷ (Commit 1 5) ∷ (Compute 5 compute.Add sizes.Long (Register 2) (Const 4)) ∷ (Commit 2 5) ∷ (Compute 6 compute.Less sizes.Long (Temp 0) (Temp 1)) ∷ (Compute 7 compute.Equal sizes.Long (Temp 0) (Temp 1)) ∷ (Compute 8 compute.Move sizes.Byte (Const 0) (Const 0)) ∷ (Compute 9 compute.LessUnsigned sizes.Long (Temp 0) (Temp 1)) ∷ (Codes 6 7 8 (Some 9)) ∷ (Leave Next) ∷ []) ≡ 76
+words41 : program_words (from (source.Compare sizes.Long) (source.Compare sizes.Long)) ((Compute 0 compute.Move sizes.Long (Register 1) (Const 0)) ∷ (Probe 0 4 false) ∷ (Read 1 0 4) ∷ (Compute 4 compute.Add sizes.Long (Register 2) (Register 2)) ∷ (Compute 4 compute.Add sizes.Long (Temp 4) (Temp 4)) ∷ (Compute 1 compute.Add sizes.Long (Temp 1) (Temp 4)) ∷ (Probe 1 4 false) ∷ (Read 0 1 4) ∷ (Compute 1 compute.Move sizes.Long (Register 2) (Const 0)) ∷ (Probe 1 4 false) ∷ (Read 2 1 4) ∷ (Compute 4 compute.Add sizes.Long (Register 1) (Const 4)) ∷ (Compute 4 compute.Add sizes.Long (Temp 4) (Temp 4)) ∷ (Compute 4 compute.Add sizes.Long (Temp 4) (Temp 4)) ∷ (Compute 2 compute.Add sizes.Long (Temp 2) (Temp 4)) ∷ (Probe 2 4 false) ∷ (Read 1 2 4) ∷ (Compute 5 compute.Add sizes.Long (Register 1) (Const 4)) ∷ (Commit 1 5) ∷ (Compute 5 compute.Add sizes.Long (Register 2) (Const 4)) ∷ (Commit 2 5) ∷ (Compute 6 compute.Less sizes.Long (Temp 0) (Temp 1)) ∷ (Compute 7 compute.Equal sizes.Long (Temp 0) (Temp 1)) ∷ (Compute 8 compute.Move sizes.Byte (Const 0) (Const 0)) ∷ (Compute 9 compute.LessUnsigned sizes.Long (Temp 0) (Temp 1)) ∷ (Codes 6 7 8 (Some 9)) ∷ (Leave Next) ∷ []) ≡ 84
 words41 = refl
 
 sources41 : sources_of (op.Compare Long) ≡ from (source.Compare sizes.Long) (source.Compare sizes.Long)
@@ -472,7 +472,7 @@ fits42 : fits (from (source.Result sizes.Word) source.Zero) ((Compute 0 compute.
 unfolding step
 fits42 = refl
 
-words42 : program_words (from (source.Result sizes.Word) source.Zero) ((Compute 0 compute.Move sizes.Long (Register 1) (Const 0)) ∷ (Probe 0 4 false) ∷ (Read 1 0 4) ∷ (Compute 4 compute.Add sizes.Long (Register 2) (Register 2)) ∷ (Compute 1 compute.Add sizes.Long (Temp 1) (Temp 4)) ∷ (Probe 1 2 false) ∷ (Read 0 1 2) ∷ (Compute 2 compute.Move sizes.Word (Temp 0) (Const 0)) ∷ (Compute 5 compute.Add sizes.Long (Register 1) (Const 4)) ∷ (Commit 1 5) ∷ (Compute 6 compute.ShiftRight sizes.Word (Temp 2) (Const 15)) ∷ (Compute 7 compute.Equal sizes.Word (Temp 2) (Const 0)) ∷ (Compute 8 compute.Move sizes.Byte (Const 0) (Const 0)) ∷ (Compute 9 compute.Move sizes.Byte (Const 0) (Const 0)) ∷ (Codes 6 7 8 (Some 9)) ∷ (Leave Next) ∷ []) ≡ 37
+words42 : program_words (from (source.Result sizes.Word) source.Zero) ((Compute 0 compute.Move sizes.Long (Register 1) (Const 0)) ∷ (Probe 0 4 false) ∷ (Read 1 0 4) ∷ (Compute 4 compute.Add sizes.Long (Register 2) (Register 2)) ∷ (Compute 1 compute.Add sizes.Long (Temp 1) (Temp 4)) ∷ (Probe 1 2 false) ∷ (Read 0 1 2) ∷ (Compute 2 compute.Move sizes.Word (Temp 0) (Const 0)) ∷ (Compute 5 compute.Add sizes.Long (Register 1) (Const 4)) ∷ (Commit 1 5) ∷ (Compute 6 compute.ShiftRight sizes.Word (Temp 2) (Const 15)) ∷ (Compute 7 compute.Equal sizes.Word (Temp 2) (Const 0)) ∷ (Compute 8 compute.Move sizes.Byte (Const 0) (Const 0)) ∷ (Compute 9 compute.Move sizes.Byte (Const 0) (Const 0)) ∷ (Codes 6 7 8 (Some 9)) ∷ (Leave Next) ∷ []) ≡ 39
 words42 = refl
 
 sources42 : sources_of (op.Test Word) ≡ from (source.Result sizes.Word) source.Zero
@@ -483,7 +483,7 @@ fits43 : fits (from (source.Result sizes.Long) source.Kept) ((Compute 0 compute.
 unfolding step
 fits43 = refl
 
-words43 : program_words (from (source.Result sizes.Long) source.Kept) ((Compute 0 compute.Move sizes.Long (Register 1) (Const 0)) ∷ (Probe 0 4 false) ∷ (Read 1 0 4) ∷ (Compute 4 compute.Add sizes.Long (Register 2) (Register 2)) ∷ (Compute 4 compute.Add sizes.Long (Temp 4) (Temp 4)) ∷ (Compute 1 compute.Add sizes.Long (Temp 1) (Temp 4)) ∷ (Probe 1 4 false) ∷ (Read 0 1 4) ∷ (Compute 1 compute.Move sizes.Long (Register 2) (Const 0)) ∷ (Probe 1 4 false) ∷ (Read 2 1 4) ∷ (Compute 4 compute.Add sizes.Long (Register 1) (Const 4)) ∷ (Compute 4 compute.Add sizes.Long (Temp 4) (Temp 4)) ∷ (Compute 4 compute.Add sizes.Long (Temp 4) (Temp 4)) ∷ (Compute 2 compute.Add sizes.Long (Temp 2) (Temp 4)) ∷ (Probe 2 4 false) ∷ (Read 1 2 4) ∷ (Compute 2 compute.And sizes.Long (Temp 0) (Temp 1)) ∷ (Compute 0 compute.Move sizes.Long (Temp 2) (Const 0)) ∷ (Compute 5 compute.Add sizes.Long (Register 1) (Const 4)) ∷ (Commit 1 5) ∷ (Compute 5 compute.Add sizes.Long (Register 2) (Const 4)) ∷ (Commit 2 5) ∷ (Compute 6 compute.ShiftRight sizes.Long (Temp 2) (Const 31)) ∷ (Compute 7 compute.Equal sizes.Long (Temp 2) (Const 0)) ∷ (Compute 8 compute.Move sizes.Byte (Const 0) (Const 0)) ∷ (Codes 6 7 8 None) ∷ (Leave Next) ∷ []) ≡ 79
+words43 : program_words (from (source.Result sizes.Long) source.Kept) ((Compute 0 compute.Move sizes.Long (Register 1) (Const 0)) ∷ (Probe 0 4 false) ∷ (Read 1 0 4) ∷ (Compute 4 compute.Add sizes.Long (Register 2) (Register 2)) ∷ (Compute 4 compute.Add sizes.Long (Temp 4) (Temp 4)) ∷ (Compute 1 compute.Add sizes.Long (Temp 1) (Temp 4)) ∷ (Probe 1 4 false) ∷ (Read 0 1 4) ∷ (Compute 1 compute.Move sizes.Long (Register 2) (Const 0)) ∷ (Probe 1 4 false) ∷ (Read 2 1 4) ∷ (Compute 4 compute.Add sizes.Long (Register 1) (Const 4)) ∷ (Compute 4 compute.Add sizes.Long (Temp 4) (Temp 4)) ∷ (Compute 4 compute.Add sizes.Long (Temp 4) (Temp 4)) ∷ (Compute 2 compute.Add sizes.Long (Temp 2) (Temp 4)) ∷ (Probe 2 4 false) ∷ (Read 1 2 4) ∷ (Compute 2 compute.And sizes.Long (Temp 0) (Temp 1)) ∷ (Compute 0 compute.Move sizes.Long (Temp 2) (Const 0)) ∷ (Compute 5 compute.Add sizes.Long (Register 1) (Const 4)) ∷ (Commit 1 5) ∷ (Compute 5 compute.Add sizes.Long (Register 2) (Const 4)) ∷ (Commit 2 5) ∷ (Compute 6 compute.ShiftRight sizes.Long (Temp 2) (Const 31)) ∷ (Compute 7 compute.Equal sizes.Long (Temp 2) (Const 0)) ∷ (Compute 8 compute.Move sizes.Byte (Const 0) (Const 0)) ∷ (Codes 6 7 8 None) ∷ (Leave Next) ∷ []) ≡ 87
 words43 = refl
 
 sources43 : sources_of (op.BitTest Long) ≡ from (source.Result sizes.Long) source.Kept
@@ -494,7 +494,7 @@ fits44 : fits (from (source.Add sizes.Long) (source.Add sizes.Long)) ((Compute 0
 unfolding step
 fits44 = refl
 
-words44 : program_words (from (source.Add sizes.Long) (source.Add sizes.Long)) ((Compute 0 compute.Move sizes.Long (Register 1) (Const 0)) ∷ (Probe 0 4 false) ∷ (Read 3 0 4) ∷ (Compute 4 compute.Add sizes.Long (Register 2) (Register 2)) ∷ (Compute 4 compute.Add sizes.Long (Temp 4) (Temp 4)) ∷ (Compute 3 compute.Add sizes.Long (Temp 3) (Temp 4)) ∷ (Probe 3 4 true) ∷ (Read 0 3 4) ∷ (Compute 2 compute.Add sizes.Long (Temp 0) (Const 1)) ∷ (Write 3 4 2) ∷ (Compute 1 compute.Move sizes.Long (Const 1) (Const 0)) ∷ (Compute 5 compute.Add sizes.Long (Register 1) (Const 4)) ∷ (Commit 1 5) ∷ (Compute 6 compute.ShiftRight sizes.Long (Temp 2) (Const 31)) ∷ (Compute 7 compute.Equal sizes.Long (Temp 2) (Const 0)) ∷ (Compute 10 compute.SignExtend sizes.Long (Temp 0) (Const 0)) ∷ (Compute 11 compute.SignExtend sizes.Long (Temp 1) (Const 0)) ∷ (Compute 10 compute.Add sizes.Quad (Temp 10) (Temp 11)) ∷ (Compute 11 compute.SignExtend sizes.Long (Temp 2) (Const 0)) ∷ (Compute 8 compute.Equal sizes.Quad (Temp 10) (Temp 11)) ∷ (Compute 8 compute.Xor sizes.Byte (Temp 8) (Const 1)) ∷ (Compute 9 compute.LessUnsigned sizes.Long (Temp 2) (Temp 0)) ∷ (Codes 6 7 8 (Some 9)) ∷ (Leave Next) ∷ []) ≡ 67
+words44 : program_words (from (source.Add sizes.Long) (source.Add sizes.Long)) ((Compute 0 compute.Move sizes.Long (Register 1) (Const 0)) ∷ (Probe 0 4 false) ∷ (Read 3 0 4) ∷ (Compute 4 compute.Add sizes.Long (Register 2) (Register 2)) ∷ (Compute 4 compute.Add sizes.Long (Temp 4) (Temp 4)) ∷ (Compute 3 compute.Add sizes.Long (Temp 3) (Temp 4)) ∷ (Probe 3 4 true) ∷ (Read 0 3 4) ∷ (Compute 2 compute.Add sizes.Long (Temp 0) (Const 1)) ∷ (Write 3 4 2) ∷ (Compute 1 compute.Move sizes.Long (Const 1) (Const 0)) ∷ (Compute 5 compute.Add sizes.Long (Register 1) (Const 4)) ∷ (Commit 1 5) ∷ (Compute 6 compute.ShiftRight sizes.Long (Temp 2) (Const 31)) ∷ (Compute 7 compute.Equal sizes.Long (Temp 2) (Const 0)) ∷ (Compute 10 compute.SignExtend sizes.Long (Temp 0) (Const 0)) ∷ (Compute 11 compute.SignExtend sizes.Long (Temp 1) (Const 0)) ∷ (Compute 10 compute.Add sizes.Quad (Temp 10) (Temp 11)) ∷ (Compute 11 compute.SignExtend sizes.Long (Temp 2) (Const 0)) ∷ (Compute 8 compute.Equal sizes.Quad (Temp 10) (Temp 11)) ∷ (Compute 8 compute.Xor sizes.Byte (Temp 8) (Const 1)) ∷ (Compute 9 compute.LessUnsigned sizes.Long (Temp 2) (Temp 0)) ∷ (Codes 6 7 8 (Some 9)) ∷ (Leave Next) ∷ []) ≡ 71
 words44 = refl
 
 sources44 : sources_of (op.Increment Long) ≡ from (source.Add sizes.Long) (source.Add sizes.Long)

@@ -23,28 +23,28 @@ misfit2 : fits (from source.Kept source.Kept) ((Compute 0 compute.Move sizes.Lon
 unfolding step
 misfit2 = refl
 
-words2 : program_words (from source.Kept source.Kept) ((Compute 0 compute.Move sizes.Long (Register 1) (Const 0)) ∷ (Probe 0 4 false) ∷ (Read 0 0 4) ∷ (Leave Next) ∷ []) ≡ 13
+words2 : program_words (from source.Kept source.Kept) ((Compute 0 compute.Move sizes.Long (Register 1) (Const 0)) ∷ (Probe 0 4 false) ∷ (Read 0 0 4) ∷ (Leave Next) ∷ []) ≡ 15
 words2 = refl
 
 misfit3 : fits (from source.Kept source.Kept) ((Compute 4 compute.Move sizes.Long (Register 1) (Const 0)) ∷ (Probe 4 4 false) ∷ (Read 1 4 4) ∷ (Leave Next) ∷ []) ≡ false
 unfolding step
 misfit3 = refl
 
-words3 : program_words (from source.Kept source.Kept) ((Compute 4 compute.Move sizes.Long (Register 1) (Const 0)) ∷ (Probe 4 4 false) ∷ (Read 1 4 4) ∷ (Leave Next) ∷ []) ≡ 13
+words3 : program_words (from source.Kept source.Kept) ((Compute 4 compute.Move sizes.Long (Register 1) (Const 0)) ∷ (Probe 4 4 false) ∷ (Read 1 4 4) ∷ (Leave Next) ∷ []) ≡ 15
 words3 = refl
 
 misfit4 : fits (from source.Kept source.Kept) ((Compute 0 compute.Move sizes.Long (Register 1) (Const 0)) ∷ (Read 1 0 4) ∷ (Leave Next) ∷ []) ≡ false
 unfolding step
 misfit4 = refl
 
-words4 : program_words (from source.Kept source.Kept) ((Compute 0 compute.Move sizes.Long (Register 1) (Const 0)) ∷ (Read 1 0 4) ∷ (Leave Next) ∷ []) ≡ 11
+words4 : program_words (from source.Kept source.Kept) ((Compute 0 compute.Move sizes.Long (Register 1) (Const 0)) ∷ (Read 1 0 4) ∷ (Leave Next) ∷ []) ≡ 13
 words4 = refl
 
 misfit5 : fits (from source.Kept source.Kept) ((Compute 0 compute.Move sizes.Long (Register 1) (Const 0)) ∷ (Probe 0 2 false) ∷ (Read 1 0 4) ∷ (Leave Next) ∷ []) ≡ false
 unfolding step
 misfit5 = refl
 
-words5 : program_words (from source.Kept source.Kept) ((Compute 0 compute.Move sizes.Long (Register 1) (Const 0)) ∷ (Probe 0 2 false) ∷ (Read 1 0 4) ∷ (Leave Next) ∷ []) ≡ 13
+words5 : program_words (from source.Kept source.Kept) ((Compute 0 compute.Move sizes.Long (Register 1) (Const 0)) ∷ (Probe 0 2 false) ∷ (Read 1 0 4) ∷ (Leave Next) ∷ []) ≡ 15
 words5 = refl
 
 misfit6 : fits (from source.Kept source.Kept) ((Compute 0 compute.Move sizes.Long (Register 1) (Const 0)) ∷ (Compute 1 compute.Move sizes.Long (Register 2) (Const 0)) ∷ (Write 0 4 1) ∷ (Leave Next) ∷ []) ≡ false
@@ -107,7 +107,7 @@ misfit14 : fits (from (source.Result sizes.Long) source.Zero) ((Compute 0 comput
 unfolding step
 misfit14 = refl
 
-words14 : program_words (from (source.Result sizes.Long) source.Zero) ((Compute 0 compute.Move sizes.Long (Register 1) (Const 0)) ∷ (Compute 2 compute.Move sizes.Long (Temp 0) (Const 0)) ∷ (Probe 0 4 false) ∷ (Codes 0 0 0 (Some 0)) ∷ (Read 1 0 4) ∷ (Leave Next) ∷ []) ≡ 14
+words14 : program_words (from (source.Result sizes.Long) source.Zero) ((Compute 0 compute.Move sizes.Long (Register 1) (Const 0)) ∷ (Compute 2 compute.Move sizes.Long (Temp 0) (Const 0)) ∷ (Probe 0 4 false) ∷ (Codes 0 0 0 (Some 0)) ∷ (Read 1 0 4) ∷ (Leave Next) ∷ []) ≡ 16
 words14 = refl
 
 misfit15 : fits (from source.Kept source.Kept) ((Compute 0 compute.Move sizes.Long (Register 1) (Const 0)) ∷ (Commit 1 0) ∷ (Leave Breakpoint) ∷ []) ≡ false
@@ -135,7 +135,7 @@ misfit18 : fits (from source.Kept source.Kept) ((Compute 4 compute.Move sizes.Lo
 unfolding step
 misfit18 = refl
 
-words18 : program_words (from source.Kept source.Kept) ((Compute 4 compute.Move sizes.Long (Const 1) (Const 0)) ∷ (Compute 0 compute.Move sizes.Long (Register 1) (Const 0)) ∷ (Probe 0 4 false) ∷ (Read 1 0 4) ∷ (Commit 1 4) ∷ (Leave Next) ∷ []) ≡ 17
+words18 : program_words (from source.Kept source.Kept) ((Compute 4 compute.Move sizes.Long (Const 1) (Const 0)) ∷ (Compute 0 compute.Move sizes.Long (Register 1) (Const 0)) ∷ (Probe 0 4 false) ∷ (Read 1 0 4) ∷ (Commit 1 4) ∷ (Leave Next) ∷ []) ≡ 19
 words18 = refl
 
 misfit19 : fits (from source.Kept source.Kept) ((Commit 1 5) ∷ (Leave Next) ∷ []) ≡ false
@@ -198,21 +198,21 @@ misfit27 : fits (from source.Kept source.Kept) ((Compute 0 compute.Move sizes.Qu
 unfolding step
 misfit27 = refl
 
-words27 : program_words (from source.Kept source.Kept) ((Compute 0 compute.Move sizes.Quad (Register 1) (Const 0)) ∷ (Probe 0 4 false) ∷ (Read 1 0 4) ∷ (Leave Next) ∷ []) ≡ 14
+words27 : program_words (from source.Kept source.Kept) ((Compute 0 compute.Move sizes.Quad (Register 1) (Const 0)) ∷ (Probe 0 4 false) ∷ (Read 1 0 4) ∷ (Leave Next) ∷ []) ≡ 16
 words27 = refl
 
 misfit28 : fits (from source.Kept source.Kept) ((Compute 0 compute.SignExtend sizes.Long (Register 1) (Const 0)) ∷ (Probe 0 4 false) ∷ (Read 1 0 4) ∷ (Leave Next) ∷ []) ≡ false
 unfolding step
 misfit28 = refl
 
-words28 : program_words (from source.Kept source.Kept) ((Compute 0 compute.SignExtend sizes.Long (Register 1) (Const 0)) ∷ (Probe 0 4 false) ∷ (Read 1 0 4) ∷ (Leave Next) ∷ []) ≡ 13
+words28 : program_words (from source.Kept source.Kept) ((Compute 0 compute.SignExtend sizes.Long (Register 1) (Const 0)) ∷ (Probe 0 4 false) ∷ (Read 1 0 4) ∷ (Leave Next) ∷ []) ≡ 15
 words28 = refl
 
 misfit29 : fits (from source.Kept source.Kept) ((Compute 0 compute.Move sizes.Long (Register 1) (Const 0)) ∷ (Probe 0 8 false) ∷ (Read 1 0 8) ∷ (Probe 1 4 false) ∷ (Leave Next) ∷ []) ≡ false
 unfolding step
 misfit29 = refl
 
-words29 : program_words (from source.Kept source.Kept) ((Compute 0 compute.Move sizes.Long (Register 1) (Const 0)) ∷ (Probe 0 8 false) ∷ (Read 1 0 8) ∷ (Probe 1 4 false) ∷ (Leave Next) ∷ []) ≡ 15
+words29 : program_words (from source.Kept source.Kept) ((Compute 0 compute.Move sizes.Long (Register 1) (Const 0)) ∷ (Probe 0 8 false) ∷ (Read 1 0 8) ∷ (Probe 1 4 false) ∷ (Leave Next) ∷ []) ≡ 17
 words29 = refl
 
 misfit30 : fits (from (source.Result sizes.Long) source.Zero) ((Compute 0 compute.Move sizes.Long (Register 1) (Const 0)) ∷ (Compute 2 compute.Move sizes.Long (Temp 0) (Const 0)) ∷ (Compute 6 compute.Move sizes.Long (Register 1) (Const 0)) ∷ (Compute 5 compute.Move sizes.Long (Temp 6) (Const 0)) ∷ (Commit 1 5) ∷ (Codes 6 6 6 (Some 6)) ∷ (Leave Next) ∷ []) ≡ false
