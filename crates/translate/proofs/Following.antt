@@ -40,7 +40,8 @@ use Rattle.program_codegen.specs.Promises.{CompilesProgram, Writes, meant}
 use Rattle.translate.specs.Compiled.{ArePages, Compiles, has_byte_word}
 use Rattle.translate.proofs.Above.{opcode_at}
 use Rattle.translate.proofs.Permitted.{permitted}
-use Rattle.translate.proofs.Trees.{same_back, same_range}
+use Rattle.translate.proofs.Trees.{same_range}
+use Rattle.micro_ops.proofs.Trees.{same_back}
 
 -- the operation of a translated instruction
 pub record HasOperation (instr : Instr) : Type 0 where

@@ -22,7 +22,7 @@ eight true b e = refl
 eight false b e = e
 
 loads_are_whole : (kind : AlphaKind) (bytes : ℕ) → by_loads kind bytes ≡ true → (bytes == 4 || bytes == 8) ≡ true
-loads_are_whole Load bytes e = eight (bytes == 4) (bytes == 8) e
+loads_are_whole Load bytes e = e
 loads_are_whole kind bytes e = absurd (cc e)
 
 stores_are_whole : (kind : AlphaKind) (bytes : ℕ) → by_stores kind bytes ≡ true → (bytes == 4 || bytes == 8) ≡ true
