@@ -18,16 +18,16 @@ use Rattle.alpha_encode.specs.declared.instr.Second.{Second}
 use Rattle.alpha_encode.specs.declared.instr.Second.TheVariants as seconds
 use Rattle.alpha_meaning.specs.Act.{second_value}
 use Rattle.alpha_meaning.specs.Loops.{effect, is_operate}
-use Rattle.alpha_meaning.specs.Result.{inverse, minus, plus, result_of}
+use Rattle.alpha_meaning.specs.Result.{inverse, minus, one_if, plus, result_of}
 use Rattle.alpha_meaning.specs.State.{Regs, at_place, put}
-use Rattle.alpha_meaning.proofs.Registers.{put_other}
+use Rattle.alpha_meaning.proofs.Registers.{put_other, put_same}
 use Rattle.exception_records.specs.Codes.{is_ready}
 use Rattle.micro_ops.specs.declared.known.Known.{Known}
 use Rattle.micro_ops.specs.declared.program.Arg.{Arg}
 use Rattle.micro_ops.specs.declared.program.Arg.TheVariants as arguments
 use Rattle.micro_ops.specs.declared.program.Micro.TheVariants.{Compute}
 use Rattle.micro_ops.specs.declared.program.MicroOp.{MicroOp}
-use Rattle.micro_ops.specs.declared.program.MicroOp.TheVariants.{Move, ZeroExtend, SignExtend, SelectNonzero, Add, Sub, And, Or, Xor, AndNot}
+use Rattle.micro_ops.specs.declared.program.MicroOp.TheVariants.{Move, ZeroExtend, SignExtend, SelectNonzero, Add, Sub, And, Or, Xor, AndNot, Equal, Less, LessUnsigned}
 use Rattle.micro_ops.specs.Fits.{argument_fits, computation_fits, holding_of}
 use Rattle.micro_ops.specs.Known.{behind_write, holds}
 use Rattle.micro_ops.specs.Meaning.{Standing, value_of_arg, with_value}
@@ -43,12 +43,12 @@ use Rattle.block_law.proofs.Rules.{Always, operates, roomy}
 use Rattle.program_codegen.specs.declared.homes.Homes.{Homes}
 use Rattle.program_codegen.specs.declared.lines.Line.{Line}
 use Rattle.program_codegen.specs.declared.points.Site.{Site}
-use Rattle.program_codegen.specs.Homes.{AreHomes, IsHome, code_by, copied, direct_code, extended_register, extended_second, home_by, home_of, is_copying, is_direct, is_shared, is_short_constant, joined_word, long_operation, long_word, made, new_home, placed, stands_in, with_home}
+use Rattle.program_codegen.specs.Homes.{AreHomes, IsHome, code_by, compared, comparison, copied, direct_code, extended_first, extended_register, extended_second, home_by, home_of, is_copying, is_direct, is_shared, is_short_constant, joined_word, long_operation, made, new_home, one_word, placed, stands_in, with_home}
 use Rattle.program_codegen.specs.Programs.{rule_of}
 use Rattle.program_codegen.specs.Words.{holder, plain}
 use Rattle.program_codegen.proofs.Computing.{argument_is, computation_runs, computed_holds, kept_apart, temp_apart, zero_apart}
 use Rattle.program_codegen.proofs.HomeHolding.{Direct, extended_home, hidden, home_is, home_self, placed_fits, placed_is, placed_value, written}
-use Rattle.program_codegen.proofs.HomeNumbers.{IsExtended, extended_and, extended_inverse, extended_or, extended_small, extended_xor}
+use Rattle.program_codegen.proofs.HomeNumbers.{IsExtended, extended_and, extended_below, extended_equal, extended_inverse, extended_less, extended_or, extended_small, extended_xor, zero_extended}
 use Rattle.program_codegen.proofs.Holding.{found}
 use Rattle.program_codegen.proofs.Numbers.{all_three, all_four}
 use Rattle.program_codegen.proofs.Walk.{Within, is_inside, row_length, row_words}
@@ -101,37 +101,55 @@ gives AndNot o x s h held e is is' =
     (record { extended = extended_and x (inverse s) is (extended_inverse s is'); value = clears.lowers Long x s h held (fits x is) (fits s is') })
 gives op o x s h held e is is' = absurd (cc e)
 
+-- a comparison tells what it tells of the low longwords
+tells : (op : MicroOp) (o : OperateOp) (x s h held : ℕ) → comparison op ≡ Some o → IsExtended x → IsExtended s → result_of o x s h ≡ value_from op Long (x % 2 ^ 32) (s % 2 ^ 32) held
+unfolding value_from
+tells Equal o x s h held e is is' = subst (λ o. result_of o x s h ≡ value_from Equal Long (x % 2 ^ 32) (s % 2 ^ 32) held) (same_Some row.Cmpeq o e) (ap one_if (sym (extended_equal x s is is')))
+tells Less o x s h held e is is' = subst (λ o. result_of o x s h ≡ value_from Less Long (x % 2 ^ 32) (s % 2 ^ 32) held) (same_Some row.Cmplt o e) (ap one_if (sym (extended_less x s is is')))
+tells LessUnsigned o x s h held e is is' = subst (λ o. result_of o x s h ≡ value_from LessUnsigned Long (x % 2 ^ 32) (s % 2 ^ 32) held) (same_Some row.Cmpult o e) (ap one_if (sym (extended_below x s is is')))
+tells op o x s h held e is is' = absurd (cc e)
+
+-- it is no copy
+never_moved : (op : MicroOp) (o : OperateOp) → comparison op ≡ Some o → is_moved op ≡ false
+never_moved Equal o e = refl
+never_moved Less o e = refl
+never_moved LessUnsigned o e = refl
+never_moved op o e = absurd (cc e)
+
 -- ---- words of the form
-pub record Joined (homes : Homes) (op : MicroOp) (a b : Arg) (word : AlphaInstr) : Type 0 where
+pub record Joined (homes : Homes) (found : Option OperateOp) (a b : Arg) (to : ℕ) (word : AlphaInstr) : Type 0 where
   pub operation : OperateOp
   pub first : ℕ
   pub second : Second
-  pub is_operation : long_operation op ≡ Some operation
-  pub is_first : extended_register homes a ≡ Some first
+  pub is_operation : found ≡ Some operation
+  pub is_first : extended_first homes a ≡ Some first
   pub is_second : extended_second homes b ≡ Some second
-  pub is : word ≡ Operate operation first second 23
+  pub is : word ≡ Operate operation first second to
 
-joined : (homes : Homes) (op : MicroOp) (a b : Arg) (word : AlphaInstr) → joined_word (long_operation op) (extended_register homes a) (extended_second homes b) 23 ≡ Some word → Joined homes op a b word
-joined homes op a b word e = by (long_operation op) refl (extended_register homes a) refl (extended_second homes b) refl e
+joined : (homes : Homes) (found : Option OperateOp) (a b : Arg) (to : ℕ) (word : AlphaInstr) → joined_word found (extended_first homes a) (extended_second homes b) to ≡ Some word → Joined homes found a b to word
+joined homes found a b to word e = by found refl (extended_first homes a) refl (extended_second homes b) refl e
   where
-    by : (o : Option OperateOp) → long_operation op ≡ o → (x : Option ℕ) → extended_register homes a ≡ x → (s : Option Second) → extended_second homes b ≡ s → joined_word o x s 23 ≡ Some word → Joined homes op a b word
-    by (Some o) f (Some x) g (Some s) h e = record { operation = o; first = x; second = s; is_operation = f; is_first = g; is_second = h; is = sym (same_Some (Operate o x s 23) word e) }
+    by : (o : Option OperateOp) → found ≡ o → (x : Option ℕ) → extended_first homes a ≡ x → (s : Option Second) → extended_second homes b ≡ s → joined_word o x s to ≡ Some word → Joined homes found a b to word
+    by (Some o) f (Some x) g (Some s) h e = record { operation = o; first = x; second = s; is_operation = f; is_first = g; is_second = h; is = sym (same_Some (Operate o x s to) word e) }
     by None f x g s h e = absurd (cc e)
     by (Some o) f None g s h e = absurd (cc e)
     by (Some o) f (Some x) g None h e = absurd (cc e)
 
-pub made_word : (homes : Homes) (to : ℕ) (op : MicroOp) (size : Size) (a b : Arg) (word : AlphaInstr) → made homes to op size a b ≡ Some word → (to ≡ 2) × (size ≡ Long) × Joined homes op a b word
+joined_long : (homes : Homes) (found : Option OperateOp) (size : Size) (a b : Arg) (to : ℕ) (word : AlphaInstr) → one_word found homes size a b to ≡ Some word → (size ≡ Long) × Joined homes found a b to word
+joined_long homes found Long a b to word e = (refl, joined homes found a b to word e)
+joined_long homes found Byte a b to word e = absurd (cc e)
+joined_long homes found Word a b to word e = absurd (cc e)
+joined_long homes found Quad a b to word e = absurd (cc e)
+
+pub made_word : (homes : Homes) (to : ℕ) (op : MicroOp) (size : Size) (a b : Arg) (word : AlphaInstr) → made homes to op size a b ≡ Some word → (to ≡ 2) × (size ≡ Long) × Joined homes (long_operation op) a b 23 word
 made_word homes to op size a b word e = by (to == 2) refl e
   where
-    sized : (size : Size) → long_word homes op size a b ≡ Some word → (size ≡ Long) × Joined homes op a b word
-    sized Long e = (refl, joined homes op a b word e)
-    sized Byte e = absurd (cc e)
-    sized Word e = absurd (cc e)
-    sized Quad e = absurd (cc e)
-
-    by : (c : Bool) → (to == 2) ≡ c → (if c then long_word homes op size a b else None) ≡ Some word → (to ≡ 2) × (size ≡ Long) × Joined homes op a b word
-    by true is e = let s = sized size e in (eqb-true to 2 is, s.0, s.1)
+    by : (c : Bool) → (to == 2) ≡ c → (if c then one_word (long_operation op) homes size a b 23 else None) ≡ Some word → (to ≡ 2) × (size ≡ Long) × Joined homes (long_operation op) a b 23 word
+    by true is e = let s = joined_long homes (long_operation op) size a b 23 word e in (eqb-true to 2 is, s.0, s.1)
     by false is e = absurd (cc e)
+
+pub compared_word : (homes : Homes) (to : ℕ) (op : MicroOp) (size : Size) (a b : Arg) (word : AlphaInstr) → compared homes to op size a b ≡ Some word → (size ≡ Long) × Joined homes (comparison op) a b (21 + to) word
+compared_word homes to op size a b word e = joined_long homes (comparison op) size a b (21 + to) word e
 
 copying : (op : MicroOp) (size : Size) → is_copying op size ≡ true → (is_moved op ≡ true) × (size ≡ Long)
 copying op Long e = (e, refl)
@@ -212,6 +230,16 @@ module _ (p : Placement) (site : Site) (known : Known) (homes : Homes) (standing
   extended_is (arguments.Flag flag) r is ok e = absurd (cc e)
   extended_is (arguments.Const value) r is ok e = absurd (cc e)
 
+  first_is : (a : Arg) (r : ℕ) → IsArgument a → argument_fits known a ≡ true → extended_first homes a ≡ Some r → (value a % 2 ^ 32 ≡ regs r % 2 ^ 32) × IsExtended (regs r)
+  first_is (arguments.Const number) r is ok e =
+      let x = picked ℕ (number == 0) (Some 31) r e in
+      let zero : regs 31 ≡ 0 = d.holds.form.zero in
+      subst (λ n. (number % 2 ^ 32 ≡ regs n % 2 ^ 32) × IsExtended (regs n)) (same_Some 31 r x.1)
+      (ap (λ n. n % 2 ^ 32) (eqb-true number 0 x.0 ∙ sym zero), subst IsExtended (sym zero) zero_extended)
+  first_is (arguments.Temp temp) r is ok e = let v = extended_is (arguments.Temp temp) r is ok e in (v.1, v.2)
+  first_is (arguments.Register number) r is ok e = let v = extended_is (arguments.Register number) r is ok e in (v.1, v.2)
+  first_is (arguments.Flag flag) r is ok e = absurd (cc e)
+
   by_register : (b : Arg) (s : Second) → IsArgument b → argument_fits known b ≡ true → option_map seconds.Register (extended_register homes b) ≡ Some s → (value b % 2 ^ 32 ≡ second_value s regs % 2 ^ 32) × IsExtended (second_value s regs)
   by_register b s is ok e = by (extended_register homes b) refl e
     where
@@ -271,16 +299,16 @@ module _ (p : Placement) (site : Site) (known : Known) (homes : Homes) (standing
       kept_two : (n : ℕ) → is_kept n ≡ true → (n == 23) ≡ false
       kept_two n e = grind (arith, nat_tests, e)
 
-      by : (o : OperateOp) (x : ℕ) (s : Second) → to ≡ 2 → size ≡ Long → long_operation op ≡ Some o → extended_register homes a ≡ Some x → extended_second homes b ≡ Some s
+      by : (o : OperateOp) (x : ℕ) (s : Second) → to ≡ 2 → size ≡ Long → long_operation op ≡ Some o → extended_first homes a ≡ Some x → extended_second homes b ≡ Some s
           → After to op size a b (put regs 23 (result_of o (regs x) (second_value s regs) (regs 23)))
       by o x s two longword is_o is_x is_s =
           let y = result_of o (regs x) (second_value s regs) (regs 23) in
-          let v = extended_is a x is ok is_x in
+          let v = first_is a x is ok is_x in
           let w = second_is b s is' ok' is_s in
-          let g = gives op o (regs x) (second_value s regs) (regs 23) (standing.temps to) is_o v.2 w.1 in
+          let g = gives op o (regs x) (second_value s regs) (regs 23) (standing.temps to) is_o v.1 w.1 in
           let result : computed op size (value a) (value b) (standing.temps to) ≡ result_of o (regs x) (second_value s regs) (regs 23) % 2 ^ 32 =
           ap (λ size. computed op size (value a) (value b) (standing.temps to)) longword
-          ∙ (ap (λ n. value_from op Long n (value b % 2 ^ 32) (standing.temps to)) v.1
+          ∙ (ap (λ n. value_from op Long n (value b % 2 ^ 32) (standing.temps to)) v.0
           ∙ (ap (λ n. value_from op Long (regs x % 2 ^ 32) n (standing.temps to)) w.0 ∙ sym g.value)) in
           let home : home_by (copied homes to op size a) (made homes to op size a b) (is_short_constant to op size a) to ≡ Some 23 =
           ap (λ o. home_by o (made homes to op size a b) (is_short_constant to op size a) to) none
@@ -294,6 +322,63 @@ module _ (p : Placement) (site : Site) (known : Known) (homes : Homes) (standing
           (lit< tt, λ not_so. lit≤ tt)
           (λ q same. subst (λ n. (computed op size (value a) (value b) (standing.temps to) ≡ put regs 23 y n % 2 ^ 32) × IsExtended (put regs 23 y n)) (same_Some 23 q same) (result, g.extended))
           (λ temp q other home. put_other regs 23 y q (subst (λ n. (q == (21 + n)) ≡ false) two (not_shared homes to alone temp q other home))) d)
+
+  -- a comparison
+  compares : (to : ℕ) (op : MicroOp) (size : Size) (a b : Arg) (word : AlphaInstr) → IsTarget (holder to) → IsArgument a → argument_fits known a ≡ true → IsArgument b → argument_fits known b ≡ true
+      → copied homes to op size a ≡ None → made homes to op size a b ≡ None → compared homes to op size a b ≡ Some word → is_shared homes to ≡ false → After to op size a b (effect word regs)
+  compares to op size a b word target is ok is' ok' none none' e alone =
+      let m = compared_word homes to op size a b word e in
+      let j = m.1 in
+      subst (λ (w : AlphaInstr). After to op size a b (effect w regs)) (sym j.is) (by j.operation j.first j.second m.0 j.is_operation j.is_first j.is_second)
+    where
+      low_to : 21 ≤ 21 + to
+      low_to = target.low
+
+      high_to : 21 + to ≤ 26
+      high_to = target.high
+
+      own_apart : (temp : ℕ) → (temp == to) ≡ false → ((21 + temp) == (21 + to)) ≡ false
+      own_apart temp e = grind (arith, nat_tests, e)
+
+      kept_own : (n : ℕ) → 21 + to ≤ 26 → is_kept n ≡ true → (n == (21 + to)) ≡ false
+      kept_own n high e = grind (arith, nat_tests, e)
+
+      not_zero : (n : ℕ) → n ≤ 26 → (31 == n) ≡ false
+      not_zero n high = grind (arith, nat_tests)
+
+      not_last : (n : ℕ) → n ≤ 26 → (n == 31) ≡ false
+      not_last n high = grind (arith, nat_tests)
+
+      constant : (c d : Bool) → ((c && false) && d) ≡ false
+      constant true d = refl
+      constant false d = refl
+
+      by : (o : OperateOp) (x : ℕ) (s : Second) → size ≡ Long → comparison op ≡ Some o → extended_first homes a ≡ Some x → extended_second homes b ≡ Some s
+          → After to op size a b (put regs (21 + to) (result_of o (regs x) (second_value s regs) (regs (21 + to))))
+      by o x s longword is_o is_x is_s =
+          let y = result_of o (regs x) (second_value s regs) (regs (21 + to)) in
+          let v = first_is a x is ok is_x in
+          let w = second_is b s is' ok' is_s in
+          let result : result_of o (regs x) (second_value s regs) (regs (21 + to)) ≡ computed op size (value a) (value b) (standing.temps to) =
+          tells op o (regs x) (second_value s regs) (regs (21 + to)) (standing.temps to) is_o v.1 w.1
+          ∙ (ap (λ n. value_from op Long n (second_value s regs % 2 ^ 32) (standing.temps to)) (sym v.0)
+          ∙ (ap (λ n. value_from op Long (value a % 2 ^ 32) n (standing.temps to)) (sym w.0)
+          ∙ ap (λ size. computed op size (value a) (value b) (standing.temps to)) (sym longword))) in
+          let unmoved : is_copying op Long ≡ false = never_moved op o is_o in
+          let plain_one : is_short_constant to op size a ≡ false =
+          ap (λ size. is_short_constant to op size a) longword
+          ∙ (ap (λ c. nat_lt to 3 && c && is_constant (is_short Long) a) unmoved ∙ constant (nat_lt to 3) (is_constant (is_short Long) a)) in
+          let home : home_by (copied homes to op size a) (made homes to op size a b) (is_short_constant to op size a) to ≡ None =
+          ap (λ o. home_by o (made homes to op size a b) (is_short_constant to op size a) to) none
+          ∙ (ap (λ o. home_by None o (is_short_constant to op size a) to) none' ∙ ap (λ c. home_by None None c to) plain_one) in
+          subst (λ o. Direct p site (behind_write to (holding_of (leaves_longword (Compute to op size a b))) known) (with_home to o homes) (with_value to (computed op size (value a) (value b) (standing.temps to)) standing) (put regs (21 + to) y))
+          (sym home)
+          (written p site known homes None (holding_of (leaves_longword (Compute to op size a b))) to (computed op size (value a) (value b) (standing.temps to)) standing regs (put regs (21 + to) y)
+          (λ n kept. put_other regs (21 + to) y n (kept_own n high_to kept)) (put_other regs (21 + to) y 31 (not_zero (21 + to) high_to))
+          (λ temp lt other. put_other regs (21 + to) y (21 + temp) (own_apart temp other))
+          (λ free lt. computed_holds op to size a b (value a) (value b) (standing.temps to) (put regs (21 + to) y (21 + to)) (put_same regs (21 + to) y (not_last (21 + to) high_to) ∙ result))
+          tt (λ q some. absurd (cc some))
+          (λ temp q other home. put_other regs (21 + to) y q (not_shared homes to alone temp q other home)) d)
 
   -- the words of a computation
   constant_value : (op : MicroOp) (size : Size) (a b : Arg) (x held : ℕ) → is_copying op size ≡ true → is_constant (is_short Long) a ≡ true → computed op size (value_at regs a) x held < 2 ^ 15
@@ -370,6 +455,12 @@ module _ (p : Placement) (site : Site) (known : Known) (homes : Homes) (standing
   binary ZeroExtend o e = absurd (cc e)
   binary op o e = refl
 
+  two_compared : (op : MicroOp) (o : OperateOp) → comparison op ≡ Some o → is_unary op ≡ false
+  two_compared Move o e = absurd (cc e)
+  two_compared SignExtend o e = absurd (cc e)
+  two_compared ZeroExtend o e = absurd (cc e)
+  two_compared op o e = refl
+
   -- the words of a computation, and then what comes behind
   pub computes : (need pc to : ℕ) (op : MicroOp) (size : Size) (a b : Arg) (rest : List Line) (t : Tree)
       → Within p site.behind pc (map plain (direct_code homes to op size a b) ++ rest) → 1 ≤ length rest
@@ -383,7 +474,7 @@ module _ (p : Placement) (site : Site) (known : Known) (homes : Homes) (standing
       let y = all_three (not (is_quad size)) (not (is_select op)) (not (is_shared homes to)) direct in
       let second : is_unary op ≡ false → IsArgument b × (argument_fits known b ≡ true) × Ready b = λ two. (b_is two, right (is_unary op) (argument_fits known b) two x.2, λ flag lt e. ready flag lt (takes_second flag two e)) in
       by (λ flag lt e. ready flag lt (takes_first flag e)) second x.1 (not-true (is_quad size) y.0) (not-true (is_select op) y.1) (not-true (is_shared homes to) y.2)
-      (copied homes to op size a) refl (made homes to op size a b) refl w behind
+      (copied homes to op size a) refl (made homes to op size a b) refl (compared homes to op size a b) refl w behind
     where
       right : (u f : Bool) → u ≡ false → (u || f) ≡ true → f ≡ true
       right true f e h = absurd (cc e)
@@ -406,15 +497,15 @@ module _ (p : Placement) (site : Site) (known : Known) (homes : Homes) (standing
       takes_second flag u e = takes_other (is_flag flag a) (is_flag flag b) (is_unary op) u e
 
       by : Ready a → (is_unary op ≡ false → IsArgument b × (argument_fits known b ≡ true) × Ready b) → argument_fits known a ≡ true → is_quad size ≡ false → is_select op ≡ false → is_shared homes to ≡ false
-          → (o : Option ℕ) → copied homes to op size a ≡ o → (q : Option AlphaInstr) → made homes to op size a b ≡ q
-          → Within p site.behind pc (map plain (code_by o q (compute_code op size (placed homes a) (placed homes b) (holder to))) ++ rest)
-          → ((g : Regs) → After to op size a b g → Always p None need (at_place g (pc + length (code_by o q (compute_code op size (placed homes a) (placed homes b) (holder to))))) t)
-          → Always p None (length (code_by o q (compute_code op size (placed homes a) (placed homes b) (holder to))) + need) (at_place regs pc) t
-      by ready_a second a_fits narrow unselected alone (Some r) e q f w behind =
+          → (o : Option ℕ) → copied homes to op size a ≡ o → (q : Option AlphaInstr) → made homes to op size a b ≡ q → (u : Option AlphaInstr) → compared homes to op size a b ≡ u
+          → Within p site.behind pc (map plain (code_by o q u (compute_code op size (placed homes a) (placed homes b) (holder to))) ++ rest)
+          → ((g : Regs) → After to op size a b g → Always p None need (at_place g (pc + length (code_by o q u (compute_code op size (placed homes a) (placed homes b) (holder to))))) t)
+          → Always p None (length (code_by o q u (compute_code op size (placed homes a) (placed homes b) (holder to))) + need) (at_place regs pc) t
+      by ready_a second a_fits narrow unselected alone (Some r) e q f u h w behind =
           let here : pc + 0 ≡ pc = omega arith in
           roomy p None need (0 + need) (at_place regs pc) t (omega arith)
           (subst (λ n. Always p None need (at_place regs n) t) here (behind regs (copies to op size a b r a_is a_fits e)))
-      by ready_a second a_fits narrow unselected alone None e (Some word) f w behind =
+      by ready_a second a_fits narrow unselected alone None e (Some word) f u h w behind =
           let m = made_word homes to op size a b word f in
           let two = binary op m.2.operation m.2.is_operation in
           let s = second two in
@@ -424,7 +515,17 @@ module _ (p : Placement) (site : Site) (known : Known) (homes : Homes) (standing
           (subst (λ (i : AlphaInstr). list_all is_operate (i ∷ []) ≡ true) (sym m.2.is) refl) w.low (omega arith)
           (λ n lt le. is_inside p site.behind pc n (map plain (word ∷ []) ++ rest) w lt (omega arith))
           (behind (effect word regs) (makes to op size a b word a_is a_fits s.0 s.1 e f alone))
-      by ready_a second a_fits narrow unselected alone None e None f w behind =
+      by ready_a second a_fits narrow unselected alone None e None f (Some word) h w behind =
+          let m = compared_word homes to op size a b word h in
+          let two = two_compared op m.1.operation m.1.is_operation in
+          let s = second two in
+          let count = row_length p site.behind (word ∷ []) rest in
+          let high = w.high in
+          operates p None need (word ∷ []) regs pc t (row_words p site.behind pc (word ∷ []) rest w)
+          (subst (λ (i : AlphaInstr). list_all is_operate (i ∷ []) ≡ true) (sym m.1.is) refl) w.low (omega arith)
+          (λ n lt le. is_inside p site.behind pc n (map plain (word ∷ []) ++ rest) w lt (omega arith))
+          (behind (effect word regs) (compares to op size a b word target a_is a_fits s.0 s.1 e f h alone))
+      by ready_a second a_fits narrow unselected alone None e None f None h w behind =
           computation_runs p site need pc to op size (placed homes a) (placed homes b) rest regs t w some target
           (placed_is homes d.are a a_is) (λ two. placed_is homes d.are b (b_is two))
           (record {

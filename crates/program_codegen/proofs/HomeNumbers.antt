@@ -1,13 +1,15 @@
 -- Longwords that are extended with their sign, as quadwords.
 use Rattle.std.proofs.Common.{◌≡◌, ℕ, ◌+◌, ◌-◌, ◌/◌, ◌%◌, ◌^◌, ◌<◌, ◌≤◌, refl, sym, ap, ◌∙◌, subst, arith, Bool, true, false, inl, inr}
-use Rattle.std.specs.Prelude.{◌==◌, ◌⊎◌, nat_lt, bit_and, bit_or, bit_xor, if◌then◌else◌}
+use Rattle.std.specs.Prelude.{◌==◌, ◌⊎◌, nat_lt, int_lt, bit_and, bit_or, bit_xor, if◌then◌else◌}
 use Rattle.std.specs.Int.Bits.{and_zero_l, and_zero_r, or_self, or_zero_l, or_zero_r, xor_self, xor_zero_l, xor_zero_r}
 use Rattle.std.proofs.lemmas.Nat.{and_mask, and_shr, or_shr, xor_shr}
 use Rattle.std.proofs.lemmas.Bool.Decides.{nat_tests}
 use Rattle.std.proofs.lemmas.Bool.{ltb-true}
+use Rattle.std.proofs.lemmas.Int.{ints}
+use Rattle.vt_words.specs.Values.{signed_value}
 use Rattle.vt_words.specs.Quad.{left, right, sign_extended}
 use Rattle.vt_words.proofs.Longwords.{extended_fits, same_extended}
-use Rattle.alpha_meaning.specs.Result.{inverse}
+use Rattle.alpha_meaning.specs.Result.{inverse, signed}
 
 -- it is its low longword, or that and all bits above
 abbrev pub IsExtended : ℕ → Type 0
@@ -52,7 +54,32 @@ extended_below a b is is' = by (nat_lt (a % 2 ^ 32) (2 ^ 31)) (nat_lt (b % 2 ^ 3
     by false true e f = above (a % 2 ^ 32) (b % 2 ^ 32) a b (low_is a false e is) (low_is b true f is') (ltb-true (b % 2 ^ 32) (2 ^ 31) f) (large (a % 2 ^ 32) e)
     by false false e f = up (a % 2 ^ 32) (b % 2 ^ 32) a b (low_is a false e is) (low_is b false f is')
 
-zero_extended : IsExtended 0
+-- with their signs, too
+pub extended_less : (a b : ℕ) → IsExtended a → IsExtended b → int_lt (signed_value 4 (a % 2 ^ 32)) (signed_value 4 (b % 2 ^ 32)) ≡ int_lt (signed a) (signed b)
+extended_less a b is is' = by (nat_lt (a % 2 ^ 32) (2 ^ 31)) (nat_lt (b % 2 ^ 32) (2 ^ 31)) refl refl
+  where
+    large : (x : ℕ) → nat_lt x (2 ^ 31) ≡ false → 2 ^ 31 ≤ x
+    large x e = grind (arith, nat_tests, e)
+
+    low_low : (x y a b : ℕ) → x ≡ a → y ≡ b → x < 2 ^ 31 → y < 2 ^ 31 → int_lt (signed_value 4 x) (signed_value 4 y) ≡ int_lt (signed a) (signed b)
+    low_low x y a b e f lt lt' = grind (arith, nat_tests, ints)
+
+    low_high : (x y a b : ℕ) → x ≡ a → y + (2 ^ 64 - 2 ^ 32) ≡ b → x < 2 ^ 31 → 2 ^ 31 ≤ y → y < 2 ^ 32 → int_lt (signed_value 4 x) (signed_value 4 y) ≡ int_lt (signed a) (signed b)
+    low_high x y a b e f lt le fits = grind (arith, nat_tests, ints)
+
+    high_low : (x y a b : ℕ) → x + (2 ^ 64 - 2 ^ 32) ≡ a → y ≡ b → y < 2 ^ 31 → 2 ^ 31 ≤ x → x < 2 ^ 32 → int_lt (signed_value 4 x) (signed_value 4 y) ≡ int_lt (signed a) (signed b)
+    high_low x y a b e f lt le fits = grind (arith, nat_tests, ints)
+
+    high_high : (x y a b : ℕ) → x + (2 ^ 64 - 2 ^ 32) ≡ a → y + (2 ^ 64 - 2 ^ 32) ≡ b → 2 ^ 31 ≤ x → x < 2 ^ 32 → 2 ^ 31 ≤ y → y < 2 ^ 32 → int_lt (signed_value 4 x) (signed_value 4 y) ≡ int_lt (signed a) (signed b)
+    high_high x y a b e f le fits le' fits' = grind (arith, nat_tests, ints)
+
+    by : (c d : Bool) → nat_lt (a % 2 ^ 32) (2 ^ 31) ≡ c → nat_lt (b % 2 ^ 32) (2 ^ 31) ≡ d → int_lt (signed_value 4 (a % 2 ^ 32)) (signed_value 4 (b % 2 ^ 32)) ≡ int_lt (signed a) (signed b)
+    by true true e f = low_low (a % 2 ^ 32) (b % 2 ^ 32) a b (low_is a true e is) (low_is b true f is') (ltb-true (a % 2 ^ 32) (2 ^ 31) e) (ltb-true (b % 2 ^ 32) (2 ^ 31) f)
+    by true false e f = low_high (a % 2 ^ 32) (b % 2 ^ 32) a b (low_is a true e is) (low_is b false f is') (ltb-true (a % 2 ^ 32) (2 ^ 31) e) (large (b % 2 ^ 32) f) (omega arith)
+    by false true e f = high_low (a % 2 ^ 32) (b % 2 ^ 32) a b (low_is a false e is) (low_is b true f is') (ltb-true (b % 2 ^ 32) (2 ^ 31) f) (large (a % 2 ^ 32) e) (omega arith)
+    by false false e f = high_high (a % 2 ^ 32) (b % 2 ^ 32) a b (low_is a false e is) (low_is b false f is') (large (a % 2 ^ 32) e) (omega arith) (large (b % 2 ^ 32) f) (omega arith)
+
+pub zero_extended : IsExtended 0
 zero_extended = refl
 
 -- it is 0 where its low longword is

@@ -2,6 +2,7 @@
 use Rattle.std.proofs.Common.{◌≡◌, ℕ, ◌+◌, ◌-◌, ◌^◌, ◌<◌, ◌≤◌, refl, sym, ap, ◌∙◌, subst, arith, List, [], ◌∷◌, ◌++◌, length, map, Option, Some, None, Bool, true, false, lit<, lit≤, length-append}
 use Rattle.std.specs.Prelude.{◌==◌, ◌&&◌, ◌||◌, not, nat_lt, All, option_map, unwrap_or, if◌then◌else◌}
 use Rattle.std.specs.List.{list_all, list_any}
+use Rattle.std.proofs.lemmas.Bool.Decides.{nat_tests}
 use Rattle.std.proofs.lemmas.Bool.{ltb-true, not-true}
 use Rattle.std.proofs.lemmas.List.{append-nil}
 use Rattle.std.proofs.lemmas.List.Elements.{All-nil}
@@ -26,7 +27,7 @@ use Rattle.micro_ops.specs.declared.program.Exit.TheVariants as exits
 use Rattle.micro_ops.specs.declared.program.Micro.{Micro}
 use Rattle.micro_ops.specs.declared.program.Micro.TheVariants.{Compute, Probe, Refuse, Read, Write, Locked, Commit, Codes, SetPsw, Leave}
 use Rattle.micro_ops.specs.declared.program.MicroOp.{MicroOp}
-use Rattle.micro_ops.specs.declared.program.MicroOp.TheVariants.{Add, Sub, And, Or, Xor, AndNot}
+use Rattle.micro_ops.specs.declared.program.MicroOp.TheVariants.{Add, Sub, And, Or, Xor, AndNot, Equal, Less, LessUnsigned}
 use Rattle.micro_ops.specs.Fits.{codes_fit, commit_fits, computation_fits, exit_fits, holding_of, is_ended, sources_fit, step, walk}
 use Rattle.micro_ops.specs.Known.{behind_commit, behind_write}
 use Rattle.micro_ops.specs.LeftOut.{is_left_out}
@@ -41,13 +42,13 @@ use Rattle.block_law.specs.Tidy.{may_fault, register_written, writes_register}
 use Rattle.program_codegen.specs.declared.homes.Homes.{Homes}
 use Rattle.program_codegen.specs.declared.lines.Line.{Line}
 use Rattle.program_codegen.specs.declared.points.Site.{Site}
-use Rattle.program_codegen.specs.Homes.{AreHomes, IsHome, are_short_rules, code_by, commit_stays, commit_words, copied, direct_code, direct_lines, direct_step, end_lines, exit_behind, exit_stays, extended_second, home_by, home_of, is_copying, is_shared, is_short_constant, long_operation, made, may_end, moved_words, new_home, placed, standing_in, with_home}
+use Rattle.program_codegen.specs.Homes.{AreHomes, IsHome, are_short_rules, code_by, commit_stays, commit_words, compared, comparison, copied, direct_code, direct_lines, direct_step, end_lines, exit_behind, exit_stays, extended_first, extended_second, home_by, home_of, is_copying, is_shared, is_short_constant, long_operation, made, may_end, moved_words, new_home, placed, standing_in, with_home}
 use Rattle.program_codegen.specs.Programs.{AllHaveWords, IsExit}
 use Rattle.program_codegen.specs.Words.{departing, plain, trap_lines, words_of}
 use Rattle.program_codegen.proofs.Endings.{below_codes, codes_local, codes_quiet, departing_each, departing_goes, departing_short, departing_spares, one_word, or_nothing, traps_silent}
 use Rattle.program_codegen.proofs.Following.{opened}
 use Rattle.program_codegen.proofs.Fronts.{Shape, any_neither, change_front, line_front, quiet_kept, row_targets, row_words_are, silent_front, spares_append, targets, targets_append, words_append}
-use Rattle.program_codegen.proofs.HomeComputing.{made_word}
+use Rattle.program_codegen.proofs.HomeComputing.{compared_word, made_word}
 use Rattle.program_codegen.proofs.HomeFollowing.{Stepped, chained, ends_with, mapped, stepped, with_exit}
 use Rattle.program_codegen.proofs.HomeHolding.{copied_home, extended_home, home_is, homes_are, placed_is}
 use Rattle.program_codegen.proofs.HomeShapes.{moved_encodable, moved_fine, moved_length, moved_writes}
@@ -70,6 +71,12 @@ new_home_is homes are to op size a b is = by (copied homes to op size a) refl (m
     by None e None f false g = tt
 
 -- ---- the words of a computation
+compares : (op : MicroOp) (o : OperateOp) (x : ℕ) (s : Second) (to : ℕ) → comparison op ≡ Some o → x < 32 → IsSecond s → to < 32 → IsEncodable (Operate o x s to)
+compares Equal o x s to e lt is fits = subst (λ o. IsEncodable (Operate o x s to)) (same_Some row.Cmpeq o e) (lt, is, fits)
+compares Less o x s to e lt is fits = subst (λ o. IsEncodable (Operate o x s to)) (same_Some row.Cmplt o e) (lt, is, fits)
+compares LessUnsigned o x s to e lt is fits = subst (λ o. IsEncodable (Operate o x s to)) (same_Some row.Cmpult o e) (lt, is, fits)
+compares op o x s to e lt is fits = absurd (cc e)
+
 encodes : (op : MicroOp) (o : OperateOp) (x : ℕ) (s : Second) → long_operation op ≡ Some o → x < 32 → IsSecond s → IsEncodable (Operate o x s 23)
 encodes Add o x s e lt is = subst (λ o. IsEncodable (Operate o x s 23)) (same_Some row.Addl o e) (lt, is, lit< tt)
 encodes Sub o x s e lt is = subst (λ o. IsEncodable (Operate o x s 23)) (same_Some row.Subl o e) (lt, is, lit< tt)
@@ -80,6 +87,16 @@ encodes AndNot o x s e lt is = subst (λ o. IsEncodable (Operate o x s 23)) (sam
 encodes op o x s e lt is = absurd (cc e)
 
 module _ (homes : Homes) (are : AreHomes homes) where
+  first_fits : (a : Arg) (r : ℕ) → IsArgument a → extended_first homes a ≡ Some r → r < 32
+  first_fits (arguments.Const value) r is e = by (value == 0) e
+    where
+      by : (c : Bool) → (if c then Some 31 else None) ≡ Some r → r < 32
+      by true e = subst (λ n. n < 32) (same_Some 31 r e) (lit< tt)
+      by false e = absurd (cc e)
+  first_fits (arguments.Temp temp) r is e = let lt = (extended_home homes are (arguments.Temp temp) r is e).0 in omega arith
+  first_fits (arguments.Register number) r is e = let lt = (extended_home homes are (arguments.Register number) r is e).0 in omega arith
+  first_fits (arguments.Flag flag) r is e = absurd (cc e)
+
   second_fits : (b : Arg) (s : Second) → IsArgument b → extended_second homes b ≡ Some s → IsSecond s
   second_fits (arguments.Const value) s is e = by (nat_lt value 256) refl e
     where
@@ -102,6 +119,18 @@ module _ (homes : Homes) (are : AreHomes homes) where
   binary Xor o e = refl
   binary AndNot o e = refl
   binary op o e = absurd (cc e)
+
+  two_compared : (op : MicroOp) (o : OperateOp) → comparison op ≡ Some o → is_unary op ≡ false
+  two_compared Equal o e = refl
+  two_compared Less o e = refl
+  two_compared LessUnsigned o e = refl
+  two_compared op o e = absurd (cc e)
+
+  compared_words : (op : MicroOp) (o : OperateOp) → comparison op ≡ Some o → 1 ≤ operation_words op Long
+  compared_words Equal o e = lit≤ tt
+  compared_words Less o e = lit≤ tt
+  compared_words LessUnsigned o e = lit≤ tt
+  compared_words op o e = absurd (cc e)
 
   some_words : (op : MicroOp) (o : OperateOp) → long_operation op ≡ Some o → 1 ≤ operation_words op Long
   some_words Add o e = lit≤ tt
@@ -139,14 +168,14 @@ module _ (homes : Homes) (are : AreHomes homes) where
     pub few : length words ≤ most
 
   pub direct_words : (to : ℕ) (op : MicroOp) (size : Size) (a b : Arg) → IsTarget (21 + to) → IsArgument a → (is_unary op ≡ false → IsArgument b) → is_quad size ≡ false → Words (count_of (Compute to op size a b)) (direct_code homes to op size a b)
-  direct_words to op size a b target a_is b_is narrow = by (copied homes to op size a) refl (made homes to op size a b) refl
+  direct_words to op size a b target a_is b_is narrow = by (copied homes to op size a) refl (made homes to op size a b) refl (compared homes to op size a b) refl
     where
-      by : (o : Option ℕ) → copied homes to op size a ≡ o → (q : Option AlphaInstr) → made homes to op size a b ≡ q → Words (count_of (Compute to op size a b)) (code_by o q (compute_code op size (placed homes a) (placed homes b) (21 + to)))
-      by (Some r) e q f = record { encodable = All-nil IsEncodable; silent = refl; few = omega arith }
-      by None e (Some word) f =
+      by : (o : Option ℕ) → copied homes to op size a ≡ o → (q : Option AlphaInstr) → made homes to op size a b ≡ q → (u : Option AlphaInstr) → compared homes to op size a b ≡ u → Words (count_of (Compute to op size a b)) (code_by o q u (compute_code op size (placed homes a) (placed homes b) (21 + to)))
+      by (Some r) e q f u h = record { encodable = All-nil IsEncodable; silent = refl; few = omega arith }
+      by None e (Some word) f u h =
           let m = made_word homes to op size a b word f in
           let j = m.2 in
-          let x_fits = (extended_home homes are a j.first a_is j.is_first).0 in
+          let x_fits = first_fits a j.first a_is j.is_first in
           let some = some_words op j.operation j.is_operation in
           let count : 1 ≤ count_of (Compute to op size a b) = subst (λ size. 1 ≤ count_of (Compute to op size a b)) (sym m.1) (omega arith) in
           record {
@@ -154,7 +183,23 @@ module _ (homes : Homes) (are : AreHomes homes) where
             silent = subst (λ (w : AlphaInstr). list_all is_silent (w ∷ []) ≡ true) (sym j.is) refl;
             few = count;
           }
-      by None e None f =
+      by None e None f (Some word) h =
+          let m = compared_word homes to op size a b word h in
+          let j = m.1 in
+          let x_fits = first_fits a j.first a_is j.is_first in
+          let some = compared_words op j.operation j.is_operation in
+          let low = target.low in
+          let high = target.high in
+          record {
+            encodable = subst (λ (w : AlphaInstr). All IsEncodable (w ∷ [])) (sym j.is) (one_word (Operate j.operation j.first j.second (21 + to)) (compares op j.operation j.first j.second (21 + to) j.is_operation x_fits (second_fits b j.second (b_is (two_compared op j.operation j.is_operation)) j.is_second) (omega arith)));
+            silent = subst (λ (w : AlphaInstr). list_all is_silent (w ∷ []) ≡ true) (sym j.is)
+                (list_all_of (changes_only (may_change (21 + to))) is_silent (changes_silent (21 + to) target) (Operate j.operation j.first j.second (21 + to) ∷ []) (own (21 + to)));
+            few = subst (λ size. 1 ≤ count_of (Compute to op size a b)) (sym m.0) (omega arith);
+          }
+        where
+          own : (n : ℕ) → ((n == n || n == 27) && true) ≡ true
+          own n = let same : (n == n) ≡ true = grind (arith, nat_tests) in rw same refl
+      by None e None f None h =
           let placed_b : is_unary op ≡ false → IsArgument (placed homes b) = λ two. placed_is homes are b (b_is two) in
           let first = same_count a size narrow in
           let second = same_second op b size narrow in

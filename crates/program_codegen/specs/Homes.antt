@@ -9,7 +9,7 @@ use Rattle.alpha_encode.specs.declared.instr.OperateOp.{OperateOp}
 use Rattle.alpha_encode.specs.declared.instr.OperateOp.TheVariants as row
 use Rattle.alpha_encode.specs.declared.instr.Second.{Second}
 use Rattle.alpha_encode.specs.declared.instr.Second.TheVariants as seconds
-use Rattle.alpha_encode.specs.Registers.{CARRY_FIRST, TEMPORARIES, RULE_FIRST, RULE_SECOND, CARRY_SECOND}
+use Rattle.alpha_encode.specs.Registers.{CARRY_FIRST, TEMPORARIES, RULE_FIRST, RULE_SECOND, CARRY_SECOND, ZERO}
 use Rattle.exception_records.specs.declared.rules.CodeRule.{CodeRule}
 use Rattle.exception_records.specs.declared.rules.CodeRule.TheVariants as rules
 use Rattle.exception_records.specs.declared.rules.Rules.{Rules}
@@ -23,7 +23,7 @@ use Rattle.micro_ops.specs.declared.program.Exit.TheVariants.{Next, Fixed, Choic
 use Rattle.micro_ops.specs.declared.program.Micro.{Micro}
 use Rattle.micro_ops.specs.declared.program.Micro.TheVariants.{Compute, Commit, Codes, Leave}
 use Rattle.micro_ops.specs.declared.program.MicroOp.{MicroOp}
-use Rattle.micro_ops.specs.declared.program.MicroOp.TheVariants.{Add, Sub, And, Or, Xor, AndNot}
+use Rattle.micro_ops.specs.declared.program.MicroOp.TheVariants.{Add, Sub, And, Or, Xor, AndNot, Equal, Less, LessUnsigned}
 use Rattle.compute_sequences.specs.Words.{compute_code, is_constant, is_moved, is_short}
 use Rattle.program_codegen.specs.declared.homes.Homes.{Homes}
 use Rattle.program_codegen.specs.declared.lines.Line.{Line}
@@ -95,6 +95,11 @@ abbrev pub extended_second : Homes → Arg → Option Second
 extended_second homes (arguments.Const value) = if nat_lt value 256 then Some (seconds.Literal value) else None
 extended_second homes arg = option_map seconds.Register (extended_register homes arg)
 
+-- the same as a first argument, or 0, which R31 reads
+abbrev pub extended_first : Homes → Arg → Option ℕ
+extended_first homes (arguments.Const value) = if value == 0 then Some ZERO else None
+extended_first homes arg = extended_register homes arg
+
 -- an operation on sign-extended longwords that gives one
 abbrev pub long_operation : MicroOp → Option OperateOp
 long_operation Add = Some row.Addl
@@ -105,17 +110,23 @@ long_operation Xor = Some row.Xor
 long_operation AndNot = Some row.Bic
 long_operation op = None
 
+-- they compare as longwords do
+abbrev pub comparison : MicroOp → Option OperateOp
+comparison Equal = Some row.Cmpeq
+comparison Less = Some row.Cmplt
+comparison LessUnsigned = Some row.Cmpult
+comparison op = None
+
 abbrev pub joined_word : Option OperateOp → Option ℕ → Option Second → (to : ℕ) → Option AlphaInstr
 joined_word (Some op) (Some first) (Some second) to = Some (Operate op first second to)
 joined_word op first second to = None
 
--- one word for a result in temporary 2
-abbrev pub long_word : Homes → MicroOp → Size → (a b : Arg) → Option AlphaInstr
-long_word homes op Long a b = joined_word (long_operation op) (extended_register homes a) (extended_second homes b) (holder 2)
-long_word homes op size a b = None
+abbrev pub one_word : Option OperateOp → Homes → Size → (a b : Arg) → (to : ℕ) → Option AlphaInstr
+one_word op homes Long a b to = joined_word op (extended_first homes a) (extended_second homes b) to
+one_word op homes size a b to = None
 
--- What a computation does: it copies, and has no words; it has one word whose result is extended with its sign; it is a
--- short constant; or else.
+-- What a computation does: it copies, and has no words; it has one word, whose result in temporary 2 is extended with its
+-- sign, or which compares; it is a short constant; or else.
 abbrev pub is_copying : MicroOp → Size → Bool
 is_copying op Long = is_moved op
 is_copying op size = false
@@ -124,7 +135,10 @@ abbrev pub copied : Homes → (to : ℕ) → MicroOp → Size → (a : Arg) → 
 copied homes to op size a = if nat_lt to 3 && is_copying op size then extended_register homes a else None
 
 abbrev pub made : Homes → (to : ℕ) → MicroOp → Size → (a b : Arg) → Option AlphaInstr
-made homes to op size a b = if to == 2 then long_word homes op size a b else None
+made homes to op size a b = if to == 2 then one_word (long_operation op) homes size a b (holder 2) else None
+
+abbrev pub compared : Homes → (to : ℕ) → MicroOp → Size → (a b : Arg) → Option AlphaInstr
+compared homes to op size a b = one_word (comparison op) homes size a b (holder to)
 
 abbrev pub is_short_constant : (to : ℕ) → MicroOp → Size → (a : Arg) → Bool
 is_short_constant to op size a = nat_lt to 3 && is_copying op size && is_constant (is_short Long) a
@@ -137,14 +151,16 @@ home_by None None constant to = if constant then Some (holder to) else None
 abbrev pub new_home : Homes → (to : ℕ) → MicroOp → Size → (a b : Arg) → Option ℕ
 new_home homes to op size a b = home_by (copied homes to op size a) (made homes to op size a b) (is_short_constant to op size a) to
 
-abbrev pub code_by : (copied : Option ℕ) → (made : Option AlphaInstr) → List AlphaInstr → List AlphaInstr
-code_by (Some register) made words = []
-code_by None (Some word) words = word ∷ []
-code_by None None words = words
+abbrev pub code_by : (copied : Option ℕ) → (made compared : Option AlphaInstr) → List AlphaInstr → List AlphaInstr
+code_by (Some register) made compared words = []
+code_by None (Some word) compared words = word ∷ []
+code_by None None (Some word) words = word ∷ []
+code_by None None None words = words
 
 abbrev pub direct_code : Homes → (to : ℕ) → MicroOp → Size → (a b : Arg) → List AlphaInstr
 direct_code homes to op size a b =
-    code_by (copied homes to op size a) (made homes to op size a b) (compute_code op size (placed homes a) (placed homes b) (holder to))
+    code_by (copied homes to op size a) (made homes to op size a b) (compared homes to op size a b)
+    (compute_code op size (placed homes a) (placed homes b) (holder to))
 
 -- ---- the words that leave the codes
 -- the registers whose low bytes are the operands of a rule

@@ -2,11 +2,11 @@
 ghost use Rattle.std.specs.Prelude.{◌≡◌, ◌++◌, ◌≤◌, OnOk, IfOk, false, map};
 ghost use Rattle.compute_sequences.specs.Registers.{IsArgument, IsTarget};
 ghost use Rattle.micro_ops.specs.Uses.{is_unary};
-ghost use Rattle.program_codegen.specs.Homes.{AreHomes, home_of, with_home, home_at, stands_in, is_shared, argument_in, standing_in, placed, extended_register, extended_second, long_operation, joined_word, long_word, is_copying, copied, made, is_short_constant, new_home, direct_code, is_direct};
+ghost use Rattle.program_codegen.specs.Homes.{AreHomes, home_of, with_home, home_at, stands_in, is_shared, argument_in, standing_in, placed, extended_register, extended_second, extended_first, long_operation, comparison, joined_word, one_word, is_copying, copied, made, compared, is_short_constant, new_home, direct_code, is_direct};
 ghost use Rattle.program_codegen.specs.Words.{holder, plain};
 
 use crate::lines::{Line, holder, push_words};
-use alpha_encode::registers::TEMPORARIES;
+use alpha_encode::registers::{TEMPORARIES, ZERO};
 use alpha_encode::{AlphaInstr, OperateOp, Second};
 use compute_sequences::compute_words;
 use micro_ops::{Arg, MicroOp};
@@ -163,6 +163,17 @@ fn extended_second(homes: Homes, arg: Arg) -> Option<Second>
     }
 }
 
+/// The same as a first argument, or 0, which R31 reads.
+fn extended_first(homes: Homes, arg: Arg) -> Option<u8>
+    ensures { result ≡ extended_first homes arg }
+{
+    match arg {
+        Arg::Const(0) => Some(ZERO),
+        Arg::Const(_) => None,
+        _ => extended_register(homes, arg),
+    }
+}
+
 /// An operation on sign-extended longwords that gives one.
 fn long_operation(op: MicroOp) -> Option<OperateOp>
     ensures { result ≡ long_operation op }
@@ -174,6 +185,18 @@ fn long_operation(op: MicroOp) -> Option<OperateOp>
         MicroOp::Or => Some(OperateOp::Bis),
         MicroOp::Xor => Some(OperateOp::Xor),
         MicroOp::AndNot => Some(OperateOp::Bic),
+        _ => None,
+    }
+}
+
+/// They compare as longwords do.
+fn comparison(op: MicroOp) -> Option<OperateOp>
+    ensures { result ≡ comparison op }
+{
+    match op {
+        MicroOp::Equal => Some(OperateOp::Cmpeq),
+        MicroOp::Less => Some(OperateOp::Cmplt),
+        MicroOp::LessUnsigned => Some(OperateOp::Cmpult),
         _ => None,
     }
 }
@@ -192,17 +215,18 @@ fn joined_word(
     }
 }
 
-/// One word for a result in temporary 2.
-fn long_word(homes: Homes, op: MicroOp, size: Size, a: Arg, b: Arg) -> Option<AlphaInstr>
-    ensures { result ≡ long_word homes op size a b }
+fn one_word(
+    op: Option<OperateOp>,
+    homes: Homes,
+    size: Size,
+    a: Arg,
+    b: Arg,
+    to: u8,
+) -> Option<AlphaInstr>
+    ensures { result ≡ one_word op homes size a b to }
 {
     match size {
-        Size::Long => joined_word(
-            long_operation(op),
-            extended_register(homes, a),
-            extended_second(homes, b),
-            holder(RESULT),
-        ),
+        Size::Long => joined_word(op, extended_first(homes, a), extended_second(homes, b), to),
         Size::Byte | Size::Word | Size::Quad => None,
     }
 }
@@ -227,14 +251,22 @@ fn copied(homes: Homes, to: u8, op: MicroOp, size: Size, a: Arg) -> Option<u8>
     }
 }
 
+/// A word whose result in temporary 2 is extended with its sign.
 fn made(homes: Homes, to: u8, op: MicroOp, size: Size, a: Arg, b: Arg) -> Option<AlphaInstr>
     ensures { result ≡ made homes to op size a b }
 {
     if to == RESULT {
-        long_word(homes, op, size, a, b)
+        one_word(long_operation(op), homes, size, a, b, holder(RESULT))
     } else {
         None
     }
+}
+
+fn compared(homes: Homes, to: u8, op: MicroOp, size: Size, a: Arg, b: Arg) -> Option<AlphaInstr>
+    requires { to ≤ 5 }
+    ensures { result ≡ compared homes to op size a b }
+{
+    one_word(comparison(op), homes, size, a, b, holder(to))
 }
 
 fn is_short_constant(to: u8, op: MicroOp, size: Size, a: Arg) -> bool
@@ -277,19 +309,23 @@ pub(crate) fn push_direct(
         push_words(lines, &[word])?;
         return Ok(with_home(to, Some(holder(to)), homes));
     }
-    let words = compute_words(
-        alloc,
-        op,
-        size,
-        placed(homes, a),
-        placed(homes, b),
-        holder(to),
-    )?;
-    push_words(lines, &words)?;
     let home = if is_short_constant(to, op, size, a) {
         Some(holder(to))
     } else {
         None
     };
+    if let Some(word) = compared(homes, to, op, size, a, b) {
+        push_words(lines, &[word])?;
+    } else {
+        let words = compute_words(
+            alloc,
+            op,
+            size,
+            placed(homes, a),
+            placed(homes, b),
+            holder(to),
+        )?;
+        push_words(lines, &words)?;
+    }
     Ok(with_home(to, home, homes))
 }
