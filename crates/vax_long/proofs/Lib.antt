@@ -1,5 +1,13 @@
 pub mod Stops
 pub mod RegisterSteps
+pub mod Counts
+pub mod FramePages
+pub mod FrameChecks
+pub mod Told
+pub mod Pops
+pub mod Returns
+pub mod Pushes
+pub mod SavedValues
 pub mod StringSteps
 pub mod PageSteps
 pub mod TreesAt

@@ -1,6 +1,6 @@
 -- Procedure calls.
 -- VAX Architecture Reference Manual, "Procedure Call Instructions": CALLG, CALLS and RET, and the call frame.
-use Rattle.std.specs.Prelude.{ℕ, ◌+◌, ◌*◌, ◌/◌, ◌%◌, ◌^◌, ◌==◌, List, Bool, true, false}
+use Rattle.std.specs.Prelude.{ℕ, zero, suc, ◌+◌, ◌*◌, ◌/◌, ◌%◌, ◌^◌, ◌==◌, List, [], ◌∷◌, ◌++◌, Bool, true, false, if◌then◌else◌}
 use Rattle.vax_form.specs.State.{register, with_register, with_psw, AP, FP, SP}
 use Rattle.vax_form.specs.Script.{Script, ◌>>=◌, ◌>>◌, pure, get, change, fail, when◌then◌else◌}
 use Rattle.vax_form.specs.declared.instr.Size.TheVariants.{Long}
@@ -14,7 +14,7 @@ use Rattle.vax_meaning.specs.Memory.{low_bytes, fetch, code_word}
 use Rattle.vax_meaning.specs.Operands.{get_register, set_register}
 use Rattle.vax_meaning.specs.Evaluation.{value_of_place}
 use Rattle.vax_meaning.specs.Codes.{go_to}
-use Rattle.vax_long.specs.Registers.{is_in_mask, check_push, check_registers, push_checked, push_registers, pop, pop_register, pop_registers}
+use Rattle.vax_long.specs.Registers.{is_in_mask, check_push, check_registers, push_checked, push_registers, pop, pop_register, pop_registers, registers_in}
 
 -- the longword in which an address lies
 abbrev pub aligned : ℕ → ℕ
@@ -45,6 +45,16 @@ check_frame mask top = do
 -- the PSW in 15:5
 abbrev pub frame_status : (low : ℕ) → (stack : Bool) → (mask psw : ℕ) → ℕ
 frame_status low stack mask psw = low * 2 ^ 30 + bit stack * 2 ^ 29 + mask % 4096 * 2 ^ 16 + psw / 32 * 32
+
+-- the values of the saved registers, highest first
+abbrev pub saved_values : (number mask : ℕ) → VaxState → List ℕ
+saved_values zero mask state = []
+saved_values (suc number) mask state = if is_in_mask number mask then register number state ∷ saved_values number mask state else saved_values number mask state
+
+-- the longwords of a call frame as they are pushed
+abbrev pub frame_values : (pc : ℕ) → (stack : Bool) → (mask : ℕ) → VaxState → List ℕ
+frame_values pc stack mask state =
+    saved_values 12 mask state ++ pc ∷ register FP state ∷ register AP state ∷ frame_status (register SP state % 4) stack mask state.psw ∷ 0 ∷ []
 
 -- aligns SP, and pushes a call frame: the registers by the mask, the PC, FP, AP, the status and no handler
 unfoldable pub push_frame : (pc : ℕ) → (stack : Bool) → (mask : ℕ) → Script (Unit {0})
@@ -118,6 +128,19 @@ leave frame status = do
   release_arguments (is_in_mask 29 status)
   change (with_psw (status % 2 ^ 16))
   go_to pc
+
+-- how many longwords RET reads one behind the other, from the status on: it, AP, FP and the PC, the saved registers, and
+-- the count of arguments where there is one and SP was aligned
+abbrev pub longwords_in : (status : ℕ) → ℕ
+longwords_in status = 4 + registers_in 12 0 (status / 2 ^ 16) + bit (status / 2 ^ 29 == 1)
+
+abbrev pub longwords_by : (status : ℕ) → ℕ
+longwords_by status = if status / 256 % 256 == 0 then longwords_in status else 0
+
+-- the same by the longwords that were read: the status alone at first, and none where it is not one of a frame
+abbrev pub longwords_of : List ℕ → ℕ
+longwords_of [] = 1
+longwords_of (longword ∷ others) = longwords_by (low_bytes 4 longword)
 
 -- RET: the frame is at FP, and its status at FP + 4; bits 15:8 of the status are 0
 unfoldable pub return_from_procedure : Script End

@@ -7,6 +7,7 @@ use Rattle.vax_form.specs.declared.instr.Size.TheVariants.{Word}
 use Rattle.vax_form.specs.declared.instr.Instr.{Instr}
 use Rattle.vax_form.specs.declared.script.End.{End}
 use Rattle.vax_form.specs.declared.state.VaxState.{VaxState}
+use Rattle.vt_words.specs.Values.{bit}
 use Rattle.vax_meaning.specs.declared.evaluation.Evaluated.{Evaluated}
 use Rattle.vax_meaning.specs.Memory.{low_bytes, check, read, write}
 use Rattle.vax_meaning.specs.Operands.{get_register, set_register}
@@ -16,6 +17,11 @@ use Rattle.vax_meaning.specs.Codes.{go_to}
 -- the bit of that number is set
 abbrev pub is_in_mask : (number mask : ℕ) → Bool
 is_in_mask number mask = mask / 2 ^ number % 2 == 1
+
+-- how many of so many registers from that number on are in the mask
+abbrev pub registers_in : (count number mask : ℕ) → ℕ
+registers_in zero number mask = 0
+registers_in (suc count) number mask = bit (is_in_mask number mask) + registers_in count (number + 1) mask
 
 -- the longword below an address
 abbrev pub below : ℕ → ℕ

@@ -4,6 +4,7 @@ ghost use Rattle.vax_form.specs.Script.{changed};
 ghost use Rattle.vax_meaning.specs.Play.{Plays, Uses, view};
 ghost use Rattle.vax_long.specs.Calls.{aligned, is_entry_mask, entry_mask, check_frame, frame_status, push_frame, entry_psw, enter, call_general, call_stack, with_released, release_arguments, leave, return_from_procedure};
 
+use crate::frames::{longword_wanted, may_push_frame, push_wanted};
 use crate::registers::{
     check_push, check_registers, is_in_mask, pop, pop_register, pop_registers, push_checked,
     push_registers,
@@ -42,9 +43,9 @@ pub fn entry_mask(cursor: &mut Cursor, destination: u32) -> Result<u32, Stop>
     }
 }
 
-/// Checks the pushes of a call frame.
+/// Checks the pushes of a call frame one by one.
 #[tactic(auto, unfolding(crate::specs::Calls::check_frame))]
-pub fn check_frame(cursor: &mut Cursor, mask: u32, top: u32) -> Result<(), Stop>
+fn check_each_push(cursor: &mut Cursor, mask: u32, top: u32) -> Result<(), Stop>
     ensures plays { Plays (check_frame mask top) cursor.old result cursor.new }
     ensures few { Uses 0 cursor.old result cursor.new }
 {
@@ -57,6 +58,18 @@ pub fn check_frame(cursor: &mut Cursor, mask: u32, top: u32) -> Result<(), Stop>
     Ok(())
 }
 
+/// Checks the pushes of a call frame: at once, where all of it may be written.
+pub fn check_frame(cursor: &mut Cursor, mask: u32, top: u32) -> Result<(), Stop>
+    ensures plays { Plays (check_frame mask top) cursor.old result cursor.new }
+    ensures few { Uses 0 cursor.old result cursor.new }
+{
+    if may_push_frame(cursor.pages, mask, top) {
+        Ok(())
+    } else {
+        check_each_push(cursor, mask, top)
+    }
+}
+
 /// The status in a frame: how far SP was aligned, whether the arguments are on the stack, the mask and the PSW.
 pub fn frame_status(low: u32, stack: bool, mask: u32, psw: u16) -> u32
     requires { low < 4 }
@@ -65,9 +78,9 @@ pub fn frame_status(low: u32, stack: bool, mask: u32, psw: u16) -> u32
     low * 0x4000_0000 + stack as u32 * 0x2000_0000 + mask % 4096 * 0x1_0000 + psw as u32 / 32 * 32
 }
 
-/// Aligns SP, and pushes a call frame.
+/// Aligns SP, and pushes a call frame longword by longword.
 #[tactic(auto, unfolding(crate::specs::Calls::push_frame))]
-fn push_frame(cursor: &mut Cursor, pc: u32, stack: bool, mask: u32) -> Result<(), Stop>
+fn push_each(cursor: &mut Cursor, pc: u32, stack: bool, mask: u32) -> Result<(), Stop>
     ensures plays { Plays (push_frame pc stack mask) cursor.old result cursor.new }
     ensures few { Uses 34 cursor.old result cursor.new }
 {
@@ -80,6 +93,20 @@ fn push_frame(cursor: &mut Cursor, pc: u32, stack: bool, mask: u32) -> Result<()
     push_checked(cursor, state.register(AP))?;
     push_checked(cursor, frame_status(top % 4, stack, mask, state.psw))?;
     push_checked(cursor, 0)
+}
+
+/// Aligns SP, and pushes a call frame. What it wants is told by how many replies there are.
+fn push_frame(cursor: &mut Cursor, pc: u32, stack: bool, mask: u32) -> Result<(), Stop>
+    ensures plays { Plays (push_frame pc stack mask) cursor.old result cursor.new }
+    ensures few { Uses 34 cursor.old result cursor.new }
+{
+    match push_wanted(&cursor.state, pc, stack, mask, cursor.replies) {
+        Some(reference) => {
+            cursor.replies = &[];
+            Err(Stop::Wants(reference))
+        }
+        None => push_each(cursor, pc, stack, mask),
+    }
 }
 
 /// The PSW in a procedure.
@@ -177,9 +204,9 @@ fn leave(cursor: &mut Cursor, frame: u32, status: u32) -> Result<End, Stop>
     go_to(cursor, pc)
 }
 
-/// RET.
+/// Goes through RET.
 #[tactic(auto, unfolding(crate::specs::Calls::return_from_procedure))]
-pub fn return_from_procedure(cursor: &mut Cursor) -> Result<End, Stop>
+fn returned(cursor: &mut Cursor) -> Result<End, Stop>
     ensures plays { Plays return_from_procedure cursor.old result cursor.new }
     ensures few { Uses 34 cursor.old result cursor.new }
 {
@@ -190,5 +217,19 @@ pub fn return_from_procedure(cursor: &mut Cursor) -> Result<End, Stop>
         leave(cursor, frame, status)
     } else {
         Err(Stop::Fails(Exception::ReservedOperand))
+    }
+}
+
+/// RET. What it wants of an aligned frame is told by how many replies there are.
+pub fn return_from_procedure(cursor: &mut Cursor) -> Result<End, Stop>
+    ensures plays { Plays return_from_procedure cursor.old result cursor.new }
+    ensures few { Uses 34 cursor.old result cursor.new }
+{
+    match longword_wanted(&cursor.state, cursor.pages, cursor.replies) {
+        Some(reference) => {
+            cursor.replies = &[];
+            Err(Stop::Wants(reference))
+        }
+        None => returned(cursor),
     }
 }

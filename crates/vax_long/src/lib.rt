@@ -6,6 +6,7 @@
 mod bytes;
 mod calls;
 mod forms;
+mod frames;
 mod indexing;
 mod instructions;
 mod meaning;
@@ -19,6 +20,7 @@ mod words;
 pub use bytes::{beside, beyond, check_string, fetch_byte, first_bad, read_byte, write_byte};
 pub use calls::{call_general, call_stack, return_from_procedure};
 pub use forms::long_form;
+pub use frames::longword_wanted;
 pub use indexing::index;
 pub use instructions::{long_body, long_operation_of, long_operation_run};
 pub use meaning::next_long;
