@@ -8,3 +8,4 @@ pub mod Beginnings
 pub mod BegunMoves
 pub mod BegunStrings
 pub mod LongOperations
+pub mod Returns

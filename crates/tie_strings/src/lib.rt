@@ -4,7 +4,8 @@
 //!
 //! `body` is what comes behind the operands of an instruction without a string, `moving`, `comparing` and `scanning` are
 //! strings under way, `byte` has the next byte of one, `string` goes through any of them, `tie` is the whole
-//! instruction, and `played` goes through one without strings from its begin with the replies so far.
+//! instruction, `played` goes through one without strings from its begin with the replies so far, and `told` has what a
+//! RET wants by their number.
 #![tactic(auto)]
 
 mod begun;
@@ -16,6 +17,7 @@ mod played;
 mod scanning;
 mod string;
 mod tie;
+mod told;
 
 pub use body::Plain;
 pub use played::{plain_of, played_long};

@@ -7,6 +7,7 @@ ghost use Rattle.vax_long.specs.Instructions.{long_script};
 ghost use Rattle.vax_meaning.specs.Play.{Plays, Uses};
 
 use crate::body::Plain;
+use crate::told::told;
 use tie_operands::{TieStep, all_operands};
 use vax_form::{End, Instr, LongOperation, Operation, Pages, Stop, VaxState};
 use vax_meaning::Cursor;
@@ -69,7 +70,7 @@ impl Plain {
 }
 
 /// What a long instruction without strings comes to with the replies to its references so far: it is gone through from its
-/// begin, over the state before it.
+/// begin, over the state before it, unless their number tells what it wants.
 pub fn played_long(
     before: &VaxState,
     operation: Plain,
@@ -81,6 +82,9 @@ pub fn played_long(
     ensures faults { FailsByFault (answer pages.now (instruction_tree pages.now (long_script (long_of operation) instr.now) before.now) replies.now) }
     ensures few { IfWant result (length replies.now < 60) }
 {
+    if let Some(reference) = told(before, operation, instr, pages, replies) {
+        return TieStep::Want(reference);
+    }
     let mut cursor = Cursor {
         state: *before,
         pages,
