@@ -1,12 +1,9 @@
 -- What is kept of an instruction, with the next reply, is where a cursor stands.
-use Rattle.std.proofs.Common.{[], refl, ◌∙◌, subst, sym}
+use Rattle.std.proofs.Common.{[], ◌∙◌, subst, sym}
 use Rattle.vax_form.proofs.Trees.{feeding_twice}
-use Rattle.tie_operands.specs.Replies.{list_of, replies_of}
-use Rattle.tie_operands.specs.Rest.{operands_tree, instr_of, state_of, kept_of}
+use Rattle.tie_operands.specs.Replies.{list_of}
 use Rattle.tie_operands.specs.Steps.{Shows}
-use Rattle.tie_operands.proofs.Resuming.{resumed}
 use Rattle.tie_operands.proofs.Whole.{if_want}
-use Rattle.tie_strings.specs.Bodies.{long_of, long_tree}
 use Rattle.tie_strings.specs.Strings.{loop_tree}
 use Rattle.tie_strings.specs.Whole.{before_of}
 use Rattle.tie_strings.proofs.tie.LongTie.staged_on.Goals as goal
