@@ -1,10 +1,12 @@
 -- Computations of a program whose operands are used where they stand.
-use Rattle.std.proofs.Common.{◌≡◌, ℕ, ◌+◌, ◌%◌, ◌^◌, ◌<◌, ◌≤◌, refl, sym, ap, ◌∙◌, subst, arith, List, [], ◌∷◌, ◌++◌, length, map, Option, Some, None, Bool, true, false, lit<, lit≤, eqb-true}
-use Rattle.std.specs.Prelude.{◌==◌, ◌&&◌, ◌||◌, not, nat_lt, option_map, if◌then◌else◌}
+use Rattle.std.proofs.Common.{◌≡◌, ℕ, ◌+◌, ◌-◌, ◌%◌, ◌^◌, ◌<◌, ◌≤◌, refl, sym, ap, ap₂, ◌∙◌, subst, arith, List, [], ◌∷◌, ◌++◌, length, map, Option, Some, None, Bool, true, false, lit<, lit≤, eqb-true}
+use Rattle.std.specs.Prelude.{◌==◌, ◌&&◌, ◌||◌, bit_and, bit_or, bit_xor, is_some, not, nat_lt, option_map, if◌then◌else◌}
 use Rattle.std.specs.List.{list_all}
 use Rattle.std.proofs.Math.Nat.{mod-eq_of_lt}
 use Rattle.std.proofs.lemmas.Bool.Decides.{nat_tests}
 use Rattle.std.proofs.lemmas.Bool.{and_parts, ltb-true, not-true}
+use Rattle.std.proofs.Math.Nat.{mod-eq_of_lt}
+use Rattle.std.proofs.lemmas.Nat.{and_le_l, and_mod}
 use Rattle.std.proofs.lemmas.Option.{same_Some}
 use Rattle.vt_words.proofs.Longwords.{extended_again, extended_fits, extended_low}
 use Rattle.vax_form.specs.Tree.{Tree}
@@ -43,7 +45,7 @@ use Rattle.block_law.proofs.Rules.{Always, operates, roomy}
 use Rattle.program_codegen.specs.declared.homes.Homes.{Homes}
 use Rattle.program_codegen.specs.declared.lines.Line.{Line}
 use Rattle.program_codegen.specs.declared.points.Site.{Site}
-use Rattle.program_codegen.specs.Homes.{AreHomes, IsHome, code_by, compared, comparison, copied, direct_code, extended_first, extended_register, extended_second, home_by, home_of, is_copying, is_direct, is_shared, is_short_constant, joined_word, long_operation, made, new_home, one_word, placed, stands_in, with_home}
+use Rattle.program_codegen.specs.Homes.{AreHomes, IsHome, code_by, compared, comparison, copied, direct_code, extended_first, extended_register, extended_second, home_by, home_of, is_copying, is_direct, is_shared, is_short_constant, joined_word, long_operation, made, made_size, new_home, one_word, placed, stands_in, with_home}
 use Rattle.program_codegen.specs.Programs.{rule_of}
 use Rattle.program_codegen.specs.Words.{holder, plain}
 use Rattle.program_codegen.proofs.Computing.{argument_is, computation_runs, computed_holds, kept_apart, temp_apart, zero_apart}
@@ -109,6 +111,39 @@ tells Less o x s h held e is is' = subst (λ o. result_of o x s h ≡ value_from
 tells LessUnsigned o x s h held e is is' = subst (λ o. result_of o x s h ≡ value_from LessUnsigned Long (x % 2 ^ 32) (s % 2 ^ 32) held) (same_Some row.Cmpult o e) (ap one_if (sym (extended_below x s is is')))
 tells op o x s h held e is is' = absurd (cc e)
 
+-- what is cleared in a number does not depend on the bits above it
+cleared : (a r s : ℕ) → a < 2 ^ 32 → r % 2 ^ 32 ≡ s → bit_and a r ≡ bit_and a s
+cleared a r s lt same =
+    let le = and_le_l a r in
+    let below : bit_and a r < 2 ^ 32 = omega (arith, le, lt) in
+    sym (mod-eq_of_lt below) ∙ and_mod a r 32 ∙ ap (λ x. bit_and x (r % 2 ^ 32)) (mod-eq_of_lt lt) ∙ ap (λ x. bit_and a x) same
+
+-- of longwords it gives the same at the size at which it is made
+same_made : (op : MicroOp) (size : Size) (x y held : ℕ) → made_size op size ≡ Long → x < 2 ^ 32 → y < 2 ^ 32
+    → computed op size x y held ≡ value_from op Long (x % 2 ^ 32) (y % 2 ^ 32) held
+unfolding value_from
+same_made op Byte x y held e lt lt' = absurd (cc e)
+same_made op Word x y held e lt lt' = absurd (cc e)
+same_made op Long x y held e lt lt' = refl
+same_made And Quad x y held e lt lt' =
+    let a : x % 2 ^ 64 ≡ x % 2 ^ 32 = omega (arith, lt) in
+    let b : y % 2 ^ 64 ≡ y % 2 ^ 32 = omega (arith, lt') in
+    ap₂ bit_and a b
+same_made Or Quad x y held e lt lt' =
+    let a : x % 2 ^ 64 ≡ x % 2 ^ 32 = omega (arith, lt) in
+    let b : y % 2 ^ 64 ≡ y % 2 ^ 32 = omega (arith, lt') in
+    ap₂ bit_or a b
+same_made Xor Quad x y held e lt lt' =
+    let a : x % 2 ^ 64 ≡ x % 2 ^ 32 = omega (arith, lt) in
+    let b : y % 2 ^ 64 ≡ y % 2 ^ 32 = omega (arith, lt') in
+    ap₂ bit_xor a b
+same_made AndNot Quad x y held e lt lt' =
+    let a : x % 2 ^ 64 ≡ x % 2 ^ 32 = omega (arith, lt) in
+    let below : x % 2 ^ 32 < 2 ^ 32 = omega arith in
+    let low : (2 ^ 64 - 1 - y % 2 ^ 64) % 2 ^ 32 ≡ 2 ^ 32 - 1 - y % 2 ^ 32 = omega (arith, lt') in
+    ap (λ n. bit_and n (2 ^ 64 - 1 - y % 2 ^ 64)) a ∙ cleared (x % 2 ^ 32) (2 ^ 64 - 1 - y % 2 ^ 64) (2 ^ 32 - 1 - y % 2 ^ 32) below low
+same_made op Quad x y held e lt lt' = absurd (cc e)
+
 -- it is no copy
 never_moved : (op : MicroOp) (o : OperateOp) → comparison op ≡ Some o → is_moved op ≡ false
 never_moved Equal o e = refl
@@ -141,12 +176,16 @@ joined_long homes found Byte a b to word e = absurd (cc e)
 joined_long homes found Word a b to word e = absurd (cc e)
 joined_long homes found Quad a b to word e = absurd (cc e)
 
-pub made_word : (homes : Homes) (to : ℕ) (op : MicroOp) (size : Size) (a b : Arg) (word : AlphaInstr) → made homes to op size a b ≡ Some word → (to ≡ 2) × (size ≡ Long) × Joined homes (long_operation op) a b 23 word
+pub made_word : (homes : Homes) (to : ℕ) (op : MicroOp) (size : Size) (a b : Arg) (word : AlphaInstr) → made homes to op size a b ≡ Some word → (to ≡ 2) × (made_size op size ≡ Long) × Joined homes (long_operation op) a b 23 word
 made_word homes to op size a b word e = by (to == 2) refl e
   where
-    by : (c : Bool) → (to == 2) ≡ c → (if c then one_word (long_operation op) homes size a b 23 else None) ≡ Some word → (to ≡ 2) × (size ≡ Long) × Joined homes (long_operation op) a b 23 word
-    by true is e = let s = joined_long homes (long_operation op) size a b 23 word e in (eqb-true to 2 is, s.0, s.1)
+    by : (c : Bool) → (to == 2) ≡ c → (if c then one_word (long_operation op) homes (made_size op size) a b 23 else None) ≡ Some word → (to ≡ 2) × (made_size op size ≡ Long) × Joined homes (long_operation op) a b 23 word
+    by true is e = let s = joined_long homes (long_operation op) (made_size op size) a b 23 word e in (eqb-true to 2 is, s.0, s.1)
     by false is e = absurd (cc e)
+
+pub no_quad : (quad : Bool) (q : Option AlphaInstr) → (not quad || is_some q) ≡ true → q ≡ None → quad ≡ false
+no_quad false q either none = refl
+no_quad true q either none = absurd (cc (sym either ∙ ap is_some none))
 
 pub compared_word : (homes : Homes) (to : ℕ) (op : MicroOp) (size : Size) (a b : Arg) (word : AlphaInstr) → compared homes to op size a b ≡ Some word → (size ≡ Long) × Joined homes (comparison op) a b (21 + to) word
 compared_word homes to op size a b word e = joined_long homes (comparison op) size a b (21 + to) word e
@@ -262,6 +301,47 @@ module _ (p : Placement) (site : Site) (known : Known) (homes : Homes) (standing
   second_is (arguments.Register number) s is ok e = by_register (arguments.Register number) s is ok e
   second_is (arguments.Flag flag) s is ok e = absurd (cc e)
 
+  -- ---- and longwords
+  register_below : (a : Arg) (r : ℕ) → IsArgument a → argument_fits known a ≡ true → extended_register homes a ≡ Some r → value a < 2 ^ 32
+  register_below (arguments.Temp temp) r is ok e = let v = d.values temp r e in below (value (arguments.Temp temp)) (regs r) v.0
+    where
+      below : (x y : ℕ) → x ≡ y % 2 ^ 32 → x < 2 ^ 32
+      below x y e = omega arith
+  register_below (arguments.Register number) r is ok e =
+      let v = argument_is p site (hidden homes known) standing regs d.holds (arguments.Register number) is ok (λ flag lt not_so. absurd (cc not_so)) in
+      below (value (arguments.Register number)) (regs number) (sym v)
+    where
+      below : (x y : ℕ) → x ≡ y % 2 ^ 32 → x < 2 ^ 32
+      below x y e = omega arith
+  register_below (arguments.Flag flag) r is ok e = absurd (cc e)
+  register_below (arguments.Const value) r is ok e = absurd (cc e)
+
+  first_below : (a : Arg) (r : ℕ) → IsArgument a → argument_fits known a ≡ true → extended_first homes a ≡ Some r → value a < 2 ^ 32
+  first_below (arguments.Const number) r is ok e =
+      let x = picked ℕ (number == 0) (Some 31) r e in
+      let zero = eqb-true number 0 x.0 in
+      omega (arith, zero)
+  first_below (arguments.Temp temp) r is ok e = register_below (arguments.Temp temp) r is ok e
+  first_below (arguments.Register number) r is ok e = register_below (arguments.Register number) r is ok e
+  first_below (arguments.Flag flag) r is ok e = absurd (cc e)
+
+  second_register_below : (b : Arg) (s : Second) → IsArgument b → argument_fits known b ≡ true → option_map seconds.Register (extended_register homes b) ≡ Some s → value b < 2 ^ 32
+  second_register_below b s is ok e = by (extended_register homes b) refl e
+    where
+      by : (o : Option ℕ) → extended_register homes b ≡ o → option_map seconds.Register o ≡ Some s → value b < 2 ^ 32
+      by None f e = absurd (cc e)
+      by (Some r) f e = register_below b r is ok f
+
+  second_below : (b : Arg) (s : Second) → IsArgument b → argument_fits known b ≡ true → extended_second homes b ≡ Some s → value b < 2 ^ 32
+  second_below (arguments.Const number) s is ok e = by (nat_lt number 256) refl e
+    where
+      by : (c : Bool) → nat_lt number 256 ≡ c → (if c then Some (seconds.Literal number) else None) ≡ Some s → number < 2 ^ 32
+      by true lt e = let small = ltb-true number 256 lt in omega (arith, small)
+      by false lt e = absurd (cc e)
+  second_below (arguments.Temp temp) s is ok e = second_register_below (arguments.Temp temp) s is ok e
+  second_below (arguments.Register number) s is ok e = second_register_below (arguments.Register number) s is ok e
+  second_below (arguments.Flag flag) s is ok e = absurd (cc e)
+
   -- ---- what a computation leaves
   abbrev After : (to : ℕ) → MicroOp → Size → (a b : Arg) → Regs → Type 0
   After to op size a b g =
@@ -299,7 +379,7 @@ module _ (p : Placement) (site : Site) (known : Known) (homes : Homes) (standing
       kept_two : (n : ℕ) → is_kept n ≡ true → (n == 23) ≡ false
       kept_two n e = grind (arith, nat_tests, e)
 
-      by : (o : OperateOp) (x : ℕ) (s : Second) → to ≡ 2 → size ≡ Long → long_operation op ≡ Some o → extended_first homes a ≡ Some x → extended_second homes b ≡ Some s
+      by : (o : OperateOp) (x : ℕ) (s : Second) → to ≡ 2 → made_size op size ≡ Long → long_operation op ≡ Some o → extended_first homes a ≡ Some x → extended_second homes b ≡ Some s
           → After to op size a b (put regs 23 (result_of o (regs x) (second_value s regs) (regs 23)))
       by o x s two longword is_o is_x is_s =
           let y = result_of o (regs x) (second_value s regs) (regs 23) in
@@ -307,7 +387,7 @@ module _ (p : Placement) (site : Site) (known : Known) (homes : Homes) (standing
           let w = second_is b s is' ok' is_s in
           let g = gives op o (regs x) (second_value s regs) (regs 23) (standing.temps to) is_o v.1 w.1 in
           let result : computed op size (value a) (value b) (standing.temps to) ≡ result_of o (regs x) (second_value s regs) (regs 23) % 2 ^ 32 =
-          ap (λ size. computed op size (value a) (value b) (standing.temps to)) longword
+          same_made op size (value a) (value b) (standing.temps to) longword (first_below a x is ok is_x) (second_below b s is' ok' is_s)
           ∙ (ap (λ n. value_from op Long n (value b % 2 ^ 32) (standing.temps to)) v.0
           ∙ (ap (λ n. value_from op Long (regs x % 2 ^ 32) n (standing.temps to)) w.0 ∙ sym g.value)) in
           let home : home_by (copied homes to op size a) (made homes to op size a b) (is_short_constant to op size a) to ≡ Some 23 =
@@ -466,14 +546,14 @@ module _ (p : Placement) (site : Site) (known : Known) (homes : Homes) (standing
       → Within p site.behind pc (map plain (direct_code homes to op size a b) ++ rest) → 1 ≤ length rest
       → computation_fits known to op a b ≡ true → IsTarget (holder to) → IsArgument a → (is_unary op ≡ false → IsArgument b)
       → ((flag : ℕ) → flag < 4 → takes (is_flag flag) op a b ≡ true → is_ready (rule_of flag site.before) ≡ true)
-      → is_direct homes to op size ≡ true
+      → is_direct homes to op size a b ≡ true
       → ((g : Regs) → After to op size a b g → Always p None need (at_place g (pc + length (direct_code homes to op size a b))) t)
       → Always p None (length (direct_code homes to op size a b) + need) (at_place regs pc) t
   computes need pc to op size a b rest t w some ok target a_is b_is ready direct behind =
       let x = all_four (nat_lt to 64) (argument_fits known a) (is_unary op || argument_fits known b) (not (is_select op) || holds known to) ok in
-      let y = all_three (not (is_quad size)) (not (is_select op)) (not (is_shared homes to)) direct in
+      let y = all_three (not (is_quad size) || is_some (made homes to op size a b)) (not (is_select op)) (not (is_shared homes to)) direct in
       let second : is_unary op ≡ false → IsArgument b × (argument_fits known b ≡ true) × Ready b = λ two. (b_is two, right (is_unary op) (argument_fits known b) two x.2, λ flag lt e. ready flag lt (takes_second flag two e)) in
-      by (λ flag lt e. ready flag lt (takes_first flag e)) second x.1 (not-true (is_quad size) y.0) (not-true (is_select op) y.1) (not-true (is_shared homes to) y.2)
+      by (λ flag lt e. ready flag lt (takes_first flag e)) second x.1 y.0 (not-true (is_select op) y.1) (not-true (is_shared homes to) y.2)
       (copied homes to op size a) refl (made homes to op size a b) refl (compared homes to op size a b) refl w behind
     where
       right : (u f : Bool) → u ≡ false → (u || f) ≡ true → f ≡ true
@@ -496,7 +576,7 @@ module _ (p : Placement) (site : Site) (known : Known) (homes : Homes) (standing
       takes_second : (flag : ℕ) → is_unary op ≡ false → is_flag flag b ≡ true → takes (is_flag flag) op a b ≡ true
       takes_second flag u e = takes_other (is_flag flag a) (is_flag flag b) (is_unary op) u e
 
-      by : Ready a → (is_unary op ≡ false → IsArgument b × (argument_fits known b ≡ true) × Ready b) → argument_fits known a ≡ true → is_quad size ≡ false → is_select op ≡ false → is_shared homes to ≡ false
+      by : Ready a → (is_unary op ≡ false → IsArgument b × (argument_fits known b ≡ true) × Ready b) → argument_fits known a ≡ true → (not (is_quad size) || is_some (made homes to op size a b)) ≡ true → is_select op ≡ false → is_shared homes to ≡ false
           → (o : Option ℕ) → copied homes to op size a ≡ o → (q : Option AlphaInstr) → made homes to op size a b ≡ q → (u : Option AlphaInstr) → compared homes to op size a b ≡ u
           → Within p site.behind pc (map plain (code_by o q u (compute_code op size (placed homes a) (placed homes b) (holder to))) ++ rest)
           → ((g : Regs) → After to op size a b g → Always p None need (at_place g (pc + length (code_by o q u (compute_code op size (placed homes a) (placed homes b) (holder to))))) t)
@@ -534,4 +614,4 @@ module _ (p : Placement) (site : Site) (known : Known) (homes : Homes) (standing
             second = λ two. let s = second two in placed_fits p site known homes standing regs d b s.0 s.1;
             held = λ is_so. let both : false ≡ true = sym unselected ∙ is_so in absurd (cc both);
           })
-          (λ done g l. behind g (computes_words to op size a b g target a_is a_fits ready_a second narrow unselected alone e f done l))
+          (λ done g l. behind g (computes_words to op size a b g target a_is a_fits ready_a second (no_quad (is_quad size) (made homes to op size a b) narrow f) unselected alone e f done l))

@@ -63,15 +63,15 @@ chained A B f (Some x) y e = record { found = x; is = refl; onward = e }
 
 -- ---- a step
 pub record Stepped (site : Site) (homes : Homes) (to : ℕ) (op : MicroOp) (size : Size) (a b : Arg) (program : List Micro) (step : Homes × List AlphaInstr) (out : Bool) : Type 0 where
-  pub direct : out ≡ false → is_direct homes to op size ≡ true
+  pub direct : out ≡ false → is_direct homes to op size a b ≡ true
   pub homes_then : step.0 ≡ (if out then homes else with_home to (new_home homes to op size a b) homes)
   pub words_then : step.1 ≡ (if out then [] else direct_code homes to op size a b)
 
 pub stepped : (site : Site) (homes : Homes) (to : ℕ) (op : MicroOp) (size : Size) (a b : Arg) (program : List Micro) (step : Homes × List AlphaInstr) → (out : Bool) → is_left_out site.sources (Compute to op size a b) program ≡ out
     → direct_step site.sources homes to op size a b program ≡ Some step → Stepped site homes to op size a b program step out
-stepped site homes to op size a b program step out is e = by out (is_direct homes to op size) refl (ap (λ (c : Bool). if c then Some (homes, []) else if is_direct homes to op size then Some (with_home to (new_home homes to op size a b) homes, direct_code homes to op size a b) else None) (sym is) ∙ e)
+stepped site homes to op size a b program step out is e = by out (is_direct homes to op size a b) refl (ap (λ (c : Bool). if c then Some (homes, []) else if is_direct homes to op size a b then Some (with_home to (new_home homes to op size a b) homes, direct_code homes to op size a b) else None) (sym is) ∙ e)
   where
-    by : (out direct : Bool) → is_direct homes to op size ≡ direct
+    by : (out direct : Bool) → is_direct homes to op size a b ≡ direct
         → (if out then Some (homes, []) else if direct then Some (with_home to (new_home homes to op size a b) homes, direct_code homes to op size a b) else None) ≡ Some step
         → Stepped site homes to op size a b program step out
     by true direct is e =

@@ -1,6 +1,6 @@
 -- The lines of a program whose operands are used where they stand, by themselves.
-use Rattle.std.proofs.Common.{◌≡◌, ℕ, ◌+◌, ◌-◌, ◌^◌, ◌<◌, ◌≤◌, refl, sym, ap, ◌∙◌, subst, arith, List, [], ◌∷◌, ◌++◌, length, map, Option, Some, None, Bool, true, false, lit<, lit≤, length-append}
-use Rattle.std.specs.Prelude.{◌==◌, ◌&&◌, ◌||◌, not, nat_lt, All, option_map, unwrap_or, if◌then◌else◌}
+use Rattle.std.proofs.Common.{◌≡◌, ℕ, ◌+◌, ◌-◌, ◌^◌, ◌<◌, ◌≤◌, refl, sym, ap, ap₂, ◌∙◌, subst, arith, List, [], ◌∷◌, ◌++◌, length, map, Option, Some, None, Bool, true, false, lit<, lit≤, length-append}
+use Rattle.std.specs.Prelude.{◌==◌, ◌&&◌, ◌||◌, is_some, not, nat_lt, All, option_map, unwrap_or, if◌then◌else◌}
 use Rattle.std.specs.List.{list_all, list_any}
 use Rattle.std.proofs.lemmas.Bool.Decides.{nat_tests}
 use Rattle.std.proofs.lemmas.Bool.{ltb-true, not-true}
@@ -32,7 +32,7 @@ use Rattle.micro_ops.specs.Fits.{codes_fit, commit_fits, computation_fits, exit_
 use Rattle.micro_ops.specs.Known.{behind_commit, behind_write}
 use Rattle.micro_ops.specs.LeftOut.{is_left_out}
 use Rattle.micro_ops.specs.Uses.{is_quad, is_select, is_unary, leaves_longword}
-use Rattle.micro_ops.specs.WordCounts.{argument_words, operation_words, program_words, second_words, words_of as count_of}
+use Rattle.micro_ops.specs.WordCounts.{argument_words, by_size, has_literal, is_literal, operation_words, program_words, second_words, words_of as count_of}
 use Rattle.compute_sequences.specs.Promises.{changes_only}
 use Rattle.compute_sequences.specs.Registers.{IsArgument, IsTarget, may_change}
 use Rattle.compute_sequences.specs.Words.{compute_code, is_constant, is_short}
@@ -48,7 +48,7 @@ use Rattle.program_codegen.specs.Words.{departing, plain, trap_lines, words_of}
 use Rattle.program_codegen.proofs.Endings.{below_codes, codes_local, codes_quiet, departing_each, departing_goes, departing_short, departing_spares, one_word, or_nothing, traps_silent}
 use Rattle.program_codegen.proofs.Following.{opened}
 use Rattle.program_codegen.proofs.Fronts.{Shape, any_neither, change_front, line_front, quiet_kept, row_targets, row_words_are, silent_front, spares_append, targets, targets_append, words_append}
-use Rattle.program_codegen.proofs.HomeComputing.{compared_word, made_word}
+use Rattle.program_codegen.proofs.HomeComputing.{compared_word, made_word, no_quad}
 use Rattle.program_codegen.proofs.HomeFollowing.{Stepped, chained, ends_with, mapped, stepped, with_exit}
 use Rattle.program_codegen.proofs.HomeHolding.{copied_home, extended_home, home_is, homes_are, placed_is}
 use Rattle.program_codegen.proofs.HomeShapes.{moved_encodable, moved_fine, moved_length, moved_writes}
@@ -132,14 +132,20 @@ module _ (homes : Homes) (are : AreHomes homes) where
   compared_words LessUnsigned o e = lit≤ tt
   compared_words op o e = absurd (cc e)
 
-  some_words : (op : MicroOp) (o : OperateOp) → long_operation op ≡ Some o → 1 ≤ operation_words op Long
-  some_words Add o e = lit≤ tt
-  some_words Sub o e = lit≤ tt
-  some_words And o e = lit≤ tt
-  some_words Or o e = lit≤ tt
-  some_words Xor o e = lit≤ tt
-  some_words AndNot o e = lit≤ tt
-  some_words op o e = absurd (cc e)
+  some : (size : Size) → 1 ≤ by_size size 2 2 1
+  some Byte = lit≤ tt
+  some Word = lit≤ tt
+  some Long = lit≤ tt
+  some Quad = lit≤ tt
+
+  made_words : (op : MicroOp) (size : Size) (o : OperateOp) → long_operation op ≡ Some o → 1 ≤ operation_words op size
+  made_words Add size o e = some size
+  made_words Sub size o e = some size
+  made_words And size o e = some size
+  made_words Or size o e = some size
+  made_words Xor size o e = some size
+  made_words AndNot size o e = some size
+  made_words op size o e = absurd (cc e)
 
   same_count : (a : Arg) (size : Size) → is_quad size ≡ false → argument_words (placed homes a) size ≡ argument_words a size
   same_count (arguments.Temp temp) size narrow = by (home_of homes temp) size narrow
@@ -158,8 +164,22 @@ module _ (homes : Homes) (are : AreHomes homes) where
   same_count (arguments.Flag flag) size narrow = refl
   same_count (arguments.Const value) size narrow = refl
 
+  same_literal : (b : Arg) → is_literal (placed homes b) ≡ is_literal b
+  same_literal (arguments.Temp temp) = by (home_of homes temp)
+    where
+      none : (c : Bool) (r : ℕ) → is_literal (if c then arguments.Register r else arguments.Temp (r - 21)) ≡ false
+      none true r = refl
+      none false r = refl
+
+      by : (o : Option ℕ) → is_literal (standing_in o temp) ≡ false
+      by None = refl
+      by (Some r) = none (nat_lt r 15) r
+  same_literal (arguments.Register number) = refl
+  same_literal (arguments.Flag flag) = refl
+  same_literal (arguments.Const value) = refl
+
   same_second : (op : MicroOp) (b : Arg) (size : Size) → is_quad size ≡ false → second_words op (placed homes b) size ≡ second_words op b size
-  same_second op b size narrow = ap (λ n. if is_unary op then 0 else n) (same_count b size narrow)
+  same_second op b size narrow = ap₂ (λ (n : ℕ) (literal : Bool). if is_unary op || (has_literal op && literal) then 0 else n) (same_count b size narrow) (same_literal b)
 
   -- its words have encodings, make no access, and are no more than are counted
   pub record Words (most : ℕ) (words : List AlphaInstr) : Type 0 where
@@ -167,8 +187,8 @@ module _ (homes : Homes) (are : AreHomes homes) where
     pub silent : list_all is_silent words ≡ true
     pub few : length words ≤ most
 
-  pub direct_words : (to : ℕ) (op : MicroOp) (size : Size) (a b : Arg) → IsTarget (21 + to) → IsArgument a → (is_unary op ≡ false → IsArgument b) → is_quad size ≡ false → Words (count_of (Compute to op size a b)) (direct_code homes to op size a b)
-  direct_words to op size a b target a_is b_is narrow = by (copied homes to op size a) refl (made homes to op size a b) refl (compared homes to op size a b) refl
+  pub direct_words : (to : ℕ) (op : MicroOp) (size : Size) (a b : Arg) → IsTarget (21 + to) → IsArgument a → (is_unary op ≡ false → IsArgument b) → (not (is_quad size) || is_some (made homes to op size a b)) ≡ true → Words (count_of (Compute to op size a b)) (direct_code homes to op size a b)
+  direct_words to op size a b target a_is b_is either = by (copied homes to op size a) refl (made homes to op size a b) refl (compared homes to op size a b) refl
     where
       by : (o : Option ℕ) → copied homes to op size a ≡ o → (q : Option AlphaInstr) → made homes to op size a b ≡ q → (u : Option AlphaInstr) → compared homes to op size a b ≡ u → Words (count_of (Compute to op size a b)) (code_by o q u (compute_code op size (placed homes a) (placed homes b) (21 + to)))
       by (Some r) e q f u h = record { encodable = All-nil IsEncodable; silent = refl; few = omega arith }
@@ -176,8 +196,8 @@ module _ (homes : Homes) (are : AreHomes homes) where
           let m = made_word homes to op size a b word f in
           let j = m.2 in
           let x_fits = first_fits a j.first a_is j.is_first in
-          let some = some_words op j.operation j.is_operation in
-          let count : 1 ≤ count_of (Compute to op size a b) = subst (λ size. 1 ≤ count_of (Compute to op size a b)) (sym m.1) (omega arith) in
+          let word_counts = made_words op size j.operation j.is_operation in
+          let count : 1 ≤ count_of (Compute to op size a b) = omega arith in
           record {
             encodable = subst (λ (w : AlphaInstr). All IsEncodable (w ∷ [])) (sym j.is) (one_word (Operate j.operation j.first j.second 23) (encodes op j.operation j.first j.second j.is_operation (omega arith) (second_fits b j.second (b_is (binary op j.operation j.is_operation)) j.is_second)));
             silent = subst (λ (w : AlphaInstr). list_all is_silent (w ∷ []) ≡ true) (sym j.is) refl;
@@ -201,6 +221,7 @@ module _ (homes : Homes) (are : AreHomes homes) where
           own n = let same : (n == n) ≡ true = grind (arith, nat_tests) in rw same refl
       by None e None f None h =
           let placed_b : is_unary op ≡ false → IsArgument (placed homes b) = λ two. placed_is homes are b (b_is two) in
+          let narrow = no_quad (is_quad size) (made homes to op size a b) either f in
           let first = same_count a size narrow in
           let second = same_second op b size narrow in
           let most = computed_length op size (placed homes a) (placed homes b) (21 + to) in
@@ -344,10 +365,10 @@ module _ (site : Site) (codes : List AlphaInstr) (after_fits : site.after < 2 ^ 
           (record { each = behind.each; kept = behind.kept; goes = behind.goes; writes = behind.writes; short = omega arith })
       by step rest is shape false out s =
           let has = have.0 out in
-          let direct = all_three (not (is_quad size)) (not (is_select op)) (not (is_shared homes to)) (s.direct refl) in
+          let direct = all_three (not (is_quad size) || is_some (made homes to op size a b)) (not (is_select op)) (not (is_shared homes to)) (s.direct refl) in
           let behind = shape (with_home to (new_home homes to op size a b) homes) (homes_are to (new_home homes to op size a b) homes (new_home_is homes are to op size a b has.1) are)
           (subst (λ h. direct_lines site codes h program ≡ Some rest) s.homes_then is) in
-          let w = direct_words homes are to op size a b has.0 has.1 has.2 (not-true (is_quad size) direct.0) in
+          let w = direct_words homes are to op size a b has.0 has.1 has.2 direct.0 in
           let count = plain_length (direct_code homes to op size a b) in
           let most = w.few in
           subst (λ (words : List AlphaInstr). Shape site changed codes (addresses_of site.after program) (count_of (Compute to op size a b) + program_words site.sources program + 59) (map plain words ++ rest)) (sym s.words_then)

@@ -1,6 +1,6 @@
 -- The words of programs that make no reference. An operand that is a VAX register is used where it stands, and the words that
 -- leave the codes come before the register that is written, so that no operand is lost before they read it.
-use Rattle.std.specs.Prelude.{◌≡◌, ℕ, ◌-◌, ◌<◌, ◌≤◌, ◌==◌, ◌&&◌, ◌||◌, not, nat_lt, Bool, true, false, List, [], ◌∷◌, ◌++◌, map, Option, Some, None, is_none, unwrap_or, option_map, option_and_then, if◌then◌else◌}
+use Rattle.std.specs.Prelude.{◌≡◌, ℕ, ◌-◌, ◌<◌, ◌≤◌, ◌==◌, ◌&&◌, ◌||◌, not, nat_lt, Bool, true, false, List, [], ◌∷◌, ◌++◌, map, Option, Some, None, is_none, is_some, unwrap_or, option_map, option_and_then, if◌then◌else◌}
 use Rattle.vax_form.specs.declared.instr.Size.{Size}
 use Rattle.vax_form.specs.declared.instr.Size.TheVariants.{Long}
 use Rattle.alpha_encode.specs.declared.instr.AlphaInstr.{AlphaInstr}
@@ -134,8 +134,19 @@ is_copying op size = false
 abbrev pub copied : Homes → (to : ℕ) → MicroOp → Size → (a : Arg) → Option ℕ
 copied homes to op size a = if nat_lt to 3 && is_copying op size then extended_register homes a else None
 
+-- a logical operation on longwords gives the same as one on quadwords
+abbrev pub is_logical : MicroOp → Bool
+is_logical And = true
+is_logical Or = true
+is_logical Xor = true
+is_logical AndNot = true
+is_logical op = false
+
+abbrev pub made_size : MicroOp → Size → Size
+made_size op size = if is_quad size && is_logical op then Long else size
+
 abbrev pub made : Homes → (to : ℕ) → MicroOp → Size → (a b : Arg) → Option AlphaInstr
-made homes to op size a b = if to == 2 then one_word (long_operation op) homes size a b (holder 2) else None
+made homes to op size a b = if to == 2 then one_word (long_operation op) homes (made_size op size) a b (holder 2) else None
 
 abbrev pub compared : Homes → (to : ℕ) → MicroOp → Size → (a b : Arg) → Option AlphaInstr
 compared homes to op size a b = one_word (comparison op) homes size a b (holder to)
@@ -279,16 +290,18 @@ direct_end site codes homes commit exit =
     if may_end site homes commit exit then option_map (end_lines site homes commit exit) (moved_words homes codes) else None
 
 -- ---- the whole
--- a computation on longwords at most, that doesn't read what it writes, and into whose register none has its home
-abbrev pub is_direct : Homes → (to : ℕ) → MicroOp → Size → Bool
-is_direct homes to op size = not (is_quad size) && not (is_select op) && not (is_shared homes to)
+-- a computation on longwords at most, or one that they give the same, that doesn't read what it writes, and into whose register
+-- none has its home
+abbrev pub is_direct : Homes → (to : ℕ) → MicroOp → Size → (a b : Arg) → Bool
+is_direct homes to op size a b =
+    (not (is_quad size) || is_some (made homes to op size a b)) && not (is_select op) && not (is_shared homes to)
 
 -- the words of a computation, of which one that is left out has none, and where the temporaries stand behind them
 abbrev pub direct_step : CodeSources → Homes → (to : ℕ) → MicroOp → Size → (a b : Arg) → (behind : List Micro) → Option (Homes × List AlphaInstr)
 direct_step sources homes to op size a b behind =
     if is_left_out sources (Compute to op size a b) behind
     then Some (homes, [])
-    else if is_direct homes to op size
+    else if is_direct homes to op size a b
     then Some (with_home to (new_home homes to op size a b) homes, direct_code homes to op size a b)
     else None
 

@@ -318,7 +318,7 @@ fn push_step(
     if is_left_out(sources, operation, behind) {
         return Ok(Some(homes));
     }
-    if !is_direct(homes, to, op, size) {
+    if !is_direct(homes, to, op, size, a, b) {
         return Ok(None);
     }
     Ok(Some(push_direct(alloc, lines, homes, to, op, size, a, b)?))

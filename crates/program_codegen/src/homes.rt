@@ -2,7 +2,7 @@
 ghost use Rattle.std.specs.Prelude.{◌≡◌, ◌++◌, ◌≤◌, OnOk, IfOk, false, map};
 ghost use Rattle.compute_sequences.specs.Registers.{IsArgument, IsTarget};
 ghost use Rattle.micro_ops.specs.Uses.{is_unary};
-ghost use Rattle.program_codegen.specs.Homes.{AreHomes, home_of, with_home, home_at, stands_in, is_shared, argument_in, standing_in, placed, extended_register, extended_second, extended_first, long_operation, comparison, joined_word, one_word, is_copying, copied, made, compared, is_short_constant, new_home, direct_code, is_direct};
+ghost use Rattle.program_codegen.specs.Homes.{AreHomes, home_of, with_home, home_at, stands_in, is_shared, argument_in, standing_in, placed, extended_register, extended_second, extended_first, long_operation, comparison, joined_word, one_word, is_copying, copied, is_logical, made_size, made, compared, is_short_constant, new_home, direct_code, is_direct};
 ghost use Rattle.program_codegen.specs.Words.{holder, plain};
 
 use crate::lines::{Line, holder, push_words};
@@ -251,12 +251,39 @@ fn copied(homes: Homes, to: u8, op: MicroOp, size: Size, a: Arg) -> Option<u8>
     }
 }
 
+fn is_logical(op: MicroOp) -> bool
+    ensures { result ≡ is_logical op }
+{
+    matches!(
+        op,
+        MicroOp::And | MicroOp::Or | MicroOp::Xor | MicroOp::AndNot
+    )
+}
+
+/// A logical operation on longwords gives the same as one on quadwords.
+fn made_size(op: MicroOp, size: Size) -> Size
+    ensures { result ≡ made_size op size }
+{
+    if matches!(size, Size::Quad) && is_logical(op) {
+        Size::Long
+    } else {
+        size
+    }
+}
+
 /// A word whose result in temporary 2 is extended with its sign.
 fn made(homes: Homes, to: u8, op: MicroOp, size: Size, a: Arg, b: Arg) -> Option<AlphaInstr>
     ensures { result ≡ made homes to op size a b }
 {
     if to == RESULT {
-        one_word(long_operation(op), homes, size, a, b, holder(RESULT))
+        one_word(
+            long_operation(op),
+            homes,
+            made_size(op, size),
+            a,
+            b,
+            holder(RESULT),
+        )
     } else {
         None
     }
@@ -275,12 +302,15 @@ fn is_short_constant(to: u8, op: MicroOp, size: Size, a: Arg) -> bool
     to < HOMES && is_copying(op, size) && matches!(a, Arg::Const(value) if value < SHORT)
 }
 
-/// Whether a computation is on longwords at most, doesn't read what it writes, and none has its home in its register.
-pub(crate) fn is_direct(homes: Homes, to: u8, op: MicroOp, size: Size) -> bool
+/// Whether a computation is on longwords at most, or one that they give the same, doesn't read what it writes, and none has its
+/// home in its register.
+pub(crate) fn is_direct(homes: Homes, to: u8, op: MicroOp, size: Size, a: Arg, b: Arg) -> bool
     requires { to ≤ 5 }
-    ensures { result ≡ is_direct homes to op size }
+    ensures { result ≡ is_direct homes to op size a b }
 {
-    !matches!(size, Size::Quad) && !matches!(op, MicroOp::SelectNonzero) && !is_shared(homes, to)
+    (!matches!(size, Size::Quad) || made(homes, to, op, size, a, b).is_some())
+        && !matches!(op, MicroOp::SelectNonzero)
+        && !is_shared(homes, to)
 }
 
 /// The words of a computation, of which a copy has none, and where its temporary stands behind them.
