@@ -1,5 +1,5 @@
 -- A line end ends the line that has begun, and any other byte goes on with it.
-use Rattle.std.proofs.Common.{◌≡◌, ◌≤◌, ◌==◌, ℕ, ◌+◌, Ok, false, List, ◌∷◌, ◌++◌, [], ◌∙◌, Result, if◌then◌else◌, ap, ap₂, arith, drop, get_or, length, map, rules, sym}
+use Rattle.std.proofs.Common.{◌≡◌, ◌≤◌, ◌==◌, ℕ, ◌+◌, false, List, ◌∷◌, ◌++◌, [], ◌∙◌, Result, if◌then◌else◌, ap, ap₂, arith, drop, get_or, length, map, rules, sym}
 use Rattle.std.specs.Prelude.{slice_range}
 use Rattle.std.proofs.lemmas.List.{at_drop_all, at_drop_more}
 use Rattle.std.proofs.lemmas.List.Edits.{between_more}
