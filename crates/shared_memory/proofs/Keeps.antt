@@ -2,7 +2,6 @@
 use Rattle.std.proofs.Common.{◌≡◌, ◌≢◌, ℕ, ◌+◌, ◌<◌, ◌≤◌, Bool, true, false, true≢false, cond, eqb, List, [], ◌∷◌, ◌++◌, length, get_or, set, refl, sym, ap, ◌∙◌, subst, ⊎_elim, arith, length-set, get_or-set_same, get_or-set_other}
 use Rattle.std.specs.Prelude.{Option, Some}
 use mathlib.Core.Option.{some, none, some-injective, some-ne-none}
-use mathlib.Core.List.{IsPrefix}
 use mathlib.Core.Logic.{dite}
 use native.Mathlib.Decide.{ℕ_discrete}
 use lib.ListN.{get_elem?}
@@ -14,12 +13,12 @@ use Rattle.memory_core.specs.declared.entry.Entry.{Entry}
 use Rattle.memory_core.specs.declared.state.MemState.{MemState}
 use Rattle.memory_core.specs.Contents.{Contents}
 use Rattle.memory_core.specs.Order.{own}
-use Rattle.shared_memory.proofs.Own.{own-push_other}
+use Rattle.shared_memory.proofs.Own.{own-others}
 use Rattle.shared_memory.specs.declared.view.View.{View}
 use Rattle.shared_memory.specs.declared.view.Ended.{Ended}
 use Rattle.shared_memory.specs.Lists.{total, only}
 use Rattle.shared_memory.specs.Rule.{behind, IsLegal, Fits, FitsEnded, Kept, living}
-use Rattle.shared_memory.specs.Steps.{Sat, winning, Wins, entered, Enters, looked, Looks, given_back, GivesBack}
+use Rattle.shared_memory.specs.Steps.{Sat, winning, Wins, entered, Enters, given_back, GivesBack}
 use Rattle.shared_memory.proofs.Sums.{total-set, term_le, terms_le, short, only-same}
 use Rattle.shared_memory.proofs.Beginnings.{prefix_self, prefix_trans}
 
@@ -118,24 +117,13 @@ wins k n id m about lives keeps_not turn s o slots me _ =
           history = o.history;
           is = ap (λ (x : Contents). (w, (0, Some (behind x o.history)) ∷ m.1)) (sym about);
           later = f.seen;
+          legal = subst (λ (x : Contents). IsLegal x.set_up o.history) (sym about) o.legal;
           own = f.own lives;
         }),
         λ ne. absurd (ne free),
       ),
     ))
     (λ held. (m.0, keeps, tt, unmoved k s o 1 id m me, ((λ free. absurd (held free)), λ _. refl)))
-
-pub looks : (k : Contents) (n id : ℕ) (m : Sat) → m.0.keeps ≡ false → m.0.turn ≡ 1 → Allows (Kept k) n id m 0 (λ y. y) (Looks (step n 0 0 0 none) m)
-looks k n id m keeps_not turn s o slots me _ = let f = o.fits id m.0 me in let w = looked m.0 in (
-  w,
-  keeps,
-  tt,
-  subst (λ (ws : List ℕ). Kept k (table ws s.homes (set s.views id w))) (sym (set-get_or s.words 0 0))
-      (stayed k s o id m.0 w s.words s.homes me keeps_not keeps_not (λ _. refl) o.wide refl refl o.single (λ _. f.found turn)
-      (record { about = f.about; seen = subst (λ (l : List Entry). IsPrefix l o.history) (sym (f.found turn)) (prefix_self o.history); found = f.found; small = f.small; alive = f.alive; own = f.own; over = λ dead _. absurd (true≢false (sym (f.alive turn) ∙ dead)) })
-      o.home),
-  refl,
-)
 
 pub gives_back : (k : Contents) (n id : ℕ) (v : View) (state : Contents) → v.keeps ≡ false → v.turn ≡ 1 → state ≡ behind k v.found → 0 < n
     → Allows (Kept k) n id (v, (0, Some state) ∷ []) 1 (λ _. 0) (λ _. GivesBack (step n 1 0 0 none) (v, (0, Some state) ∷ []) 0)
@@ -155,20 +143,20 @@ gives_back k n id v state keeps_not turn good inside s o slots me _ = let f = o.
 pub alone_here : (p : ℕ) (u : View) → u.lives ≡ true → u.number ≡ p → living (only p) u ≡ 1
 alone_here p u lives e = ap (λ (b : Bool). cond b (only p u.number) 0) lives ∙ only-same p u.number e
 
-pub enters : (k : Contents) (n id : ℕ) (m : Sat) (e : Entry) (state : Contents) → m.0.keeps ≡ false → m.0.turn ≡ 1 → e.processor ≡ m.0.number
-    → state.history ≡ m.0.found ++ e ∷ [] → IsLegal k.set_up state.history
+pub enters : (k : Contents) (n id : ℕ) (m : Sat) (news : List Entry) (state : Contents) → m.0.keeps ≡ false → m.0.turn ≡ 1 → own m.0.number news ≡ news
+    → state.history ≡ m.0.found ++ news → IsLegal k.set_up state.history
     → Allows (Kept k) n id m 0 (λ y. either (eqb y 0) 0 y) (Enters (step n 0 0 0 (some (Some state))) m)
-enters k n id m e state keeps_not turn mine adds legal s o slots me _ =
+enters k n id m news state keeps_not turn mine adds legal s o slots me _ =
     let f = o.fits id m.0 me in let v = m.0 in let h' : List Entry = state.history in let w = entered v h' in let p = v.number in
     let was : v.found ≡ o.history = f.found turn in
-    let is : h' ≡ o.history ++ e ∷ [] = adds ∙ ap (λ (l : List Entry). l ++ e ∷ []) was in
+    let is : h' ≡ o.history ++ news = adds ∙ ap (λ (l : List Entry). l ++ news) was in
     let wide = o.wide in let all = o.turns in let single = o.single in
     let lives = f.alive turn in
     let one : living (only p) v ≡ 1 = alone_here p v lives refl in
     let part = term_le turn_of s.views id v me in
     let other : get_or (set s.words 0 0) 1 0 ≡ get_or s.words 1 0 = get_or-set_other s.words 0 1 0 0 (λ x. omega arith) in
     let zeroth : get_or (set s.words 0 0) 0 0 ≡ 0 = get_or-set_same s.words 0 0 0 (omega arith) in
-    let strange : (q : ℕ) → q ≢ p → own q h' ≡ own q o.history = λ q ne. ap (own q) is ∙ own-push_other q o.history e (λ x. ne (sym x ∙ mine)) in
+    let strange : (q : ℕ) → q ≢ p → own q h' ≡ own q o.history = λ q ne. ap (own q) is ∙ own-others p q o.history news ne mine in
     let once = o.once p in let balance = o.balance (only p) in let part_one = term_le (living (only p)) s.views id v me in
     exchanged (get_or s.words 0 0) 0 0 (Goes k s 0 id m (Enters (step n 0 0 0 (some (Some state))) m))
     (λ _. (
@@ -180,7 +168,7 @@ enters k n id m e state keeps_not turn mine adds legal s o slots me _ =
           (record { about = f.about; seen = prefix_self h'; found = λ _. refl; small = f.small; alive = f.alive; own = λ _. refl; over = λ dead _. absurd (true≢false (sym lives ∙ dead)) })
           (λ j u ne at. let g = o.fits j u at in let two = terms_le turn_of s.views id j v u ne me at in record {
             about = g.about;
-            seen = prefix_trans u.seen o.history h' g.seen (e ∷ [], sym is);
+            seen = prefix_trans u.seen o.history h' g.seen (news, sym is);
             found = λ has. absurd (omega arith);
             small = g.small;
             alive = g.alive;
@@ -189,7 +177,7 @@ enters k n id m e state keeps_not turn mine adds legal s o slots me _ =
           })
           (λ none_now. absurd (omega arith))
           (λ j x at. let g = o.ended j x at in record {
-            seen = prefix_trans x.seen o.history h' g.seen (e ∷ [], sym is);
+            seen = prefix_trans x.seen o.history h' g.seen (news, sym is);
             own = strange x.number (λ same. let there : only p x.number ≡ 1 = only-same p x.number same in let term = term_le (λ (y : Ended). only p y.number) o.keeper.ended j x at in absurd (omega arith)) ∙ g.own;
           })
           (λ q none_given. strange q (λ same. let z : total (only p) o.keeper.given ≡ 0 = ap (λ (r : ℕ). total (only r) o.keeper.given) (sym same) ∙ none_given in absurd (omega arith)) ∙ o.fresh q none_given),

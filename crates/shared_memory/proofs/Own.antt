@@ -1,5 +1,7 @@
 -- The entries of one processor, in histories that grow.
-use Rattle.std.proofs.Common.{◌≡◌, ◌≢◌, ℕ, eqb, cond, Bool, List, [], ◌∷◌, ◌++◌, true, false, refl, ap, ◌∙◌, eq-eqb, ne_eqb}
+use Rattle.std.proofs.Common.{◌≡◌, ◌≢◌, ℕ, eqb, cond, Bool, List, [], ◌∷◌, ◌++◌, true, false, refl, sym, ap, ◌∙◌, eq-eqb, ne_eqb}
+use mathlib.Core.Logic.{dite}
+use native.Mathlib.Decide.{ℕ_discrete}
 use Rattle.memory_core.specs.declared.entry.Entry.{Entry}
 use Rattle.memory_core.specs.Order.{own}
 
@@ -14,9 +16,19 @@ own-append p (x ∷ xs) ys = own_step (eqb x.processor p) x (own p (xs ++ ys)) (
 pub own-push : (p : ℕ) (es : List Entry) (e : Entry) → e.processor ≡ p → own p (es ++ e ∷ []) ≡ own p es ++ e ∷ []
 own-push p es e is = own-append p es (e ∷ []) ∙ ap (λ (b : Bool). own p es ++ cond b (e ∷ []) []) (eq-eqb e.processor p is)
 
-append_nil : (xs : List Entry) → xs ++ [] ≡ xs
+pub append_nil : (xs : List Entry) → xs ++ [] ≡ xs
 append_nil [] = refl
 append_nil (x ∷ xs) = ap (λ (l : List Entry). x ∷ l) (append_nil xs)
 
-pub own-push_other : (p : ℕ) (es : List Entry) (e : Entry) → e.processor ≢ p → own p (es ++ e ∷ []) ≡ own p es
-own-push_other p es e ne = own-append p es (e ∷ []) ∙ (ap (λ (b : Bool). own p es ++ cond b (e ∷ []) []) (ne_eqb e.processor p ne) ∙ append_nil (own p es))
+-- none of one processor's entries is another's
+own_own : (p q : ℕ) (xs : List Entry) → q ≢ p → own q (own p xs) ≡ []
+own_own p q [] ne = refl
+own_own p q (x ∷ xs) ne = dite (ℕ_discrete x.processor p)
+    (λ e. ap (λ (b : Bool). own q (cond b (x ∷ own p xs) (own p xs))) (eq-eqb x.processor p e)
+        ∙ (ap (λ (b : Bool). cond b (x ∷ own q (own p xs)) (own q (own p xs))) (ne_eqb x.processor q (λ f. ne (sym f ∙ e))) ∙ own_own p q xs ne))
+    (λ n. ap (λ (b : Bool). own q (cond b (x ∷ own p xs) (own p xs))) (ne_eqb x.processor p n) ∙ own_own p q xs ne)
+
+-- entries of one processor add none of another's
+pub own-others : (p q : ℕ) (xs news : List Entry) → q ≢ p → own p news ≡ news → own q (xs ++ news) ≡ own q xs
+own-others p q xs news ne its =
+    own-append q xs news ∙ (ap (λ (l : List Entry). own q xs ++ l) (ap (own q) (sym its) ∙ own_own p q news ne) ∙ append_nil (own q xs))

@@ -7,7 +7,7 @@ use Rattle.memory_core.specs.declared.state.MemState.{MemState}
 use Rattle.memory_core.specs.Order.{own}
 use Rattle.shared_memory.specs.declared.view.View.{View}
 use Rattle.shared_memory.specs.Lists.{times}
-use Rattle.shared_memory.specs.Rule.{behind}
+use Rattle.shared_memory.specs.Rule.{behind, IsLegal}
 
 abbrev pub Sat : Type 0
 Sat = Me (Option MemState) View
@@ -23,6 +23,7 @@ pub record Won (m w : Sat) : Type 0 where
   pub history : List Entry
   pub is : w ≡ (winning m.0 history, (0, Some (behind m.0.start history)) ∷ m.1)
   pub later : IsPrefix m.0.seen history
+  pub legal : IsLegal m.0.start.set_up history
   pub own : own m.0.number history ≡ m.0.own
 
 -- the turn is won where word 1 was 0, and else nothing changes
@@ -38,16 +39,9 @@ said_history (mathlib.Core.Option.some (Some m)) = m.history
 abbrev pub entered : View → List Entry → View
 entered v h = record v { found = h; seen = h; own = own v.number h }
 
--- the history is one entry longer: it is that of the memory announced
+-- the history is that of the memory announced, which is longer by entries of the pass's own, or as long
 abbrev pub Enters : PlayOf
 Enters st m r w = w ≡ (entered m.0 (said_history st.said), m.1)
-
-abbrev pub looked : View → View
-looked v = record v { seen = v.found }
-
--- the history found is seen
-abbrev pub Looks : PlayOf
-Looks st m r w = w ≡ (looked m.0, m.1)
 
 abbrev pub given_back : View → View
 given_back v = record v { turn = 0; found = [] }

@@ -1,13 +1,10 @@
 -- What the contracts say of what a pass knows. Lists of entries are oldest first.
-use Rattle.std.specs.Prelude.{◌≡◌, ℕ, ◌<◌, Bool, true, false, List, [], ◌∷◌, ◌++◌}
+use Rattle.std.specs.Prelude.{◌≡◌, ℕ, ◌<◌, true, false, List, [], ◌∷◌}
 use mathlib.Core.Option.{some}
 use lib.ListN.{get_elem?}
 use Rattle.memory_core.specs.declared.entry.Entry.{Entry}
-use Rattle.memory_core.specs.declared.entry.Request.{Request}
-use Rattle.memory_core.specs.declared.entry.SetUp.{SetUp}
-use Rattle.memory_core.specs.Contents.{Contents, entry_for}
+use Rattle.memory_core.specs.Contents.{Contents}
 use Rattle.memory_core.specs.Order.{own}
-use Rattle.memory_core.specs.Seen.{IsNext, IsOver}
 use Rattle.shared_memory.specs.declared.view.View.{View}
 use Rattle.shared_memory.specs.declared.view.Ended.{Ended}
 use Rattle.shared_memory.specs.Lists.{times}
@@ -32,16 +29,9 @@ pub record IsKeeper (start : Contents) (v : View) : Type 0 where
 abbrev pub Any : List Entry → Type 0
 Any entries = Unit {0}
 
--- the pass has seen entries of others and then the entry that the memory order gives there for the request, which is
--- also the one that its own list has grown by; the reply is that entry's
-pub record IsMade (set_up : SetUp) (request : Request) (before : ℕ) (success : Bool) (v w : View) : Type 0 where
-  pub next : IsNext set_up Any request before success v.seen w.seen
-  pub own : w.own ≡ v.own ++ entry_for set_up (v.seen ++ next.between) request ∷ []
-
--- the pass has seen entries of others alone, up to the limit, against which the request counts
-pub record IsFull (set_up : SetUp) (request : Request) (v w : View) : Type 0 where
-  pub over : IsOver set_up Any request v.seen w.seen
-  pub own : w.own ≡ v.own
+-- none come between two that are made in one hand
+abbrev pub IsNone : List Entry → Type 0
+IsNone entries = entries ≡ []
 
 -- the keeper has given one more number
 pub record HasGiven (number : ℕ) (v w : View) : Type 0 where

@@ -1,5 +1,5 @@
-//! A memory that threads share: each access is one entry of one history. The memory lies in a slot; a pass takes it out,
-//! makes one access and puts it back. A pass is what one processor knows of the history.
+//! A memory that threads share: each access is one entry of one history. The memory lies in a slot; a processor's way takes it out,
+//! makes accesses until another processor waits for it, and puts it back. A pass is what one processor knows of the history.
 #![tactic(auto)]
 
 mod pass;
@@ -8,8 +8,11 @@ mod port;
 mod shared;
 mod steps;
 mod view;
+mod waiting;
+mod way;
 
 pub use pass::Pass;
 pub use port::Port;
 pub use shared::SharedMemory;
 pub use view::{Ended, View};
+pub use way::Way;

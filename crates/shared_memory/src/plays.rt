@@ -1,7 +1,7 @@
 // The rule of the slot, and what each kind of step tells. The steps that aren't named here tell nothing: taking the memory
 // out of the slot, and putting it back.
 ghost use Rattle.shared_memory.specs.Rule.{Kept, keeper_of, spent, made_left, made_right, ended_both};
-ghost use Rattle.shared_memory.specs.Steps.{Wins, Enters, Looks, GivesBack, Chooses};
+ghost use Rattle.shared_memory.specs.Steps.{Wins, Enters, GivesBack, Chooses};
 
 use crate::view::View;
 use atomic_table::{Join, Play, Split, TableRule};
@@ -24,18 +24,11 @@ impl Play<Option<MemState>, View> for Win {
     ghost then = { Wins };
 }
 
-/// Announces one more entry, while the memory is out.
+/// Announces the entries that a pass has made, while the memory is out.
 pub struct Enter;
 
 impl Play<Option<MemState>, View> for Enter {
     ghost then = { Enters };
-}
-
-/// Sees what was found, while the memory is out.
-pub struct Look;
-
-impl Play<Option<MemState>, View> for Look {
-    ghost then = { Looks };
 }
 
 /// Gives the turn back, and the slot with it.

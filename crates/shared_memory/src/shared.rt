@@ -1,16 +1,18 @@
 // The table in which the memory lies.
-ghost use Rattle.std.specs.Prelude.{◌≡◌, ◌<◌, [], length, IfOk};
+ghost use Rattle.std.specs.Prelude.{◌≡◌, ◌<◌, [], None, true, is_some, length, IfOk};
 ghost use Rattle.memory_core.specs.Order.{own};
 ghost use Rattle.memory_core.specs.Requests.{CanMake, MatchReply};
+ghost use Rattle.memory_core.specs.Seen.{IsNext, IsOver};
 ghost use Rattle.shared_memory.specs.Lists.{times};
-ghost use Rattle.shared_memory.specs.Views.{HasGiven, HasJoined, IsClosed, IsFull, IsMade};
+ghost use Rattle.shared_memory.specs.Views.{Any, HasGiven, HasJoined, IsClosed, IsNone};
 
 use crate::pass::Pass;
 use crate::plays::{Choose, End, Make, Order};
-use crate::steps::{enter, look, take_out, win};
+use crate::steps::{enter, take_out, win};
 use crate::view::View;
+use crate::waiting::Waiting;
+use crate::way::Way;
 use atomic_table::{Refused, Table};
-use crossbeam_utils::sync::EventCount;
 use memory_core::{MemState, Reply, Request};
 use std::alloc::Global;
 use std::snapshot::Snapshot;
@@ -21,11 +23,12 @@ use vax_form::WantOfMemory;
 #[derive(Drop)]
 pub struct SharedMemory {
     table: Table<Option<MemState>, View, Snapshot<MemState>, Order, Global>,
-    waiting: EventCount,
+    waiting: Waiting,
     ghost sized: { (table.shared.table_id.words ≡ 2) × (table.shared.table_id.slots ≡ 1) },
 }
 
 impl SharedMemory {
+    ghost use Rattle.shared_memory.specs.Ways.{HasCome, IsWayOf, number_by, seen_by};
     ghost use Rattle.shared_memory.specs.Passes.{start_of, set_up_of, processors_of, view_of, number_of, seen_of, own_of, given_of, ended_of, IsPassOf, IsKeeperOf, IsNew};
 
     /// Shares a memory that has no entries. The pass is the keeper.
@@ -38,7 +41,7 @@ impl SharedMemory {
         slots.push_reserved(Some(state));
         match Table::new(alloc, &[0, 0], slots, &start) {
             Ok((table, seat)) => {
-                let waiting = EventCount::new();
+                let waiting = Waiting::new();
                 Ok((SharedMemory { table, waiting }, Pass { seat }))
             }
             Err(Refused { slots: _ }) => Err(WantOfMemory),
@@ -64,26 +67,92 @@ impl SharedMemory {
         Pass { seat }
     }
 
-    /// Makes one access, or answers `Full` where it counts against the limit and that is reached. It takes no memory, and may wait for the
-    /// others' accesses. Entries of other processors that were made since the pass's last access come before its own.
-    pub fn access<R: Wait>(&self, rt: &R, pass: &mut Pass, request: &Request) -> Reply
-        requires pass { IsPassOf self.now request.now.processor pass.old }
-        requires request { CanMake (set_up_of self.now) request.now }
-        ensures pass { IsPassOf self.now request.now.processor pass.new }
-        ensures reply { MatchReply result
-            (λ before success. IsMade (set_up_of self.now) request.now before success (view_of pass.old) (view_of pass.new))
-            (IsFull (set_up_of self.now) request.now (view_of pass.old) (view_of pass.new)) }
-        ensures own { own_of pass.new ≡ own request.now.processor (seen_of pass.new) }
+    // Takes the memory where the processor doesn't have it. It may wait for the others' accesses.
+    #[inline(always)]
+    fn take<R: Wait>(&self, rt: &R, way: &mut Way)
+        requires { IsWayOf self.now (number_by way.old) way.old }
+        ensures way { IsWayOf self.now (number_by way.old) way.new }
+        ensures number { number_by way.new ≡ number_by way.old }
+        ensures held { is_some way.new.whole ≡ true }
+        ensures come { HasCome (number_by way.old) (seen_by way.old) (seen_by way.new) }
     {
-        let shared = &self.table.shared;
-        win(rt, shared, &self.waiting, &mut pass.seat);
-        let mut state = take_out(shared, &mut pass.seat);
-        let reply = state.access(request);
-        match reply {
-            Reply::Made { .. } => enter(shared, &self.waiting, &mut pass.seat, state),
-            Reply::Full => look(shared, &self.waiting, &mut pass.seat, state),
+        if way.whole.is_none() {
+            let shared = &self.table.shared;
+            win(rt, shared, &self.waiting, &mut way.seat);
+            way.whole = Some(take_out(shared, &mut way.seat));
         }
+    }
+
+    // Makes one access to the memory that the processor has.
+    #[inline(always)]
+    fn access_taken(&self, way: &mut Way, request: &Request) -> Reply
+        requires way { IsWayOf self.now request.now.processor way.old }
+        requires held { is_some way.old.whole ≡ true }
+        requires request { CanMake (set_up_of self.now) request.now }
+        ensures way { IsWayOf self.now request.now.processor way.new }
+        ensures reply { MatchReply result
+            (λ before success. IsNext (set_up_of self.now) IsNone request.now before success (seen_by way.old) (seen_by way.new))
+            (IsOver (set_up_of self.now) IsNone request.now (seen_by way.old) (seen_by way.new)) }
+    {
+        match &mut way.whole {
+            Some(state) => state.access(request),
+            None => unreachable!(),
+        }
+    }
+
+    /// Gives the memory back, where the processor has it.
+    pub fn give_back(&self, way: &mut Way)
+        requires { IsWayOf self.now (number_by way.old) way.old }
+        ensures way { IsWayOf self.now (number_by way.old) way.new }
+        ensures number { number_by way.new ≡ number_by way.old }
+        ensures home { way.new.whole ≡ None }
+        ensures seen { seen_by way.new ≡ seen_by way.old }
+    {
+        if let Some(state) = way.whole.take() {
+            enter(&self.table.shared, &self.waiting, &mut way.seat, state);
+        }
+    }
+
+    /// Gives the memory back, where another processor waits for it.
+    #[inline(always)]
+    pub fn share(&self, way: &mut Way)
+        requires { IsWayOf self.now (number_by way.old) way.old }
+        ensures way { IsWayOf self.now (number_by way.old) way.new }
+        ensures number { number_by way.new ≡ number_by way.old }
+        ensures seen { seen_by way.new ≡ seen_by way.old }
+    {
+        if self.waiting.is_any() {
+            self.give_back(way);
+        }
+    }
+
+    /// Makes one access, or answers `Full` where it counts against the limit and that is reached. It takes no memory from the
+    /// allocator. Where the processor doesn't have the memory it takes it, for which it may wait, and entries of other processors that were made since
+    /// come before its own; it keeps the memory until another waits.
+    #[inline(always)]
+    pub fn access<R: Wait>(&self, rt: &R, way: &mut Way, request: &Request) -> Reply
+        requires way { IsWayOf self.now request.now.processor way.old }
+        requires request { CanMake (set_up_of self.now) request.now }
+        ensures way { IsWayOf self.now request.now.processor way.new }
+        ensures reply { MatchReply result
+            (λ before success. IsNext (set_up_of self.now) Any request.now before success (seen_by way.old) (seen_by way.new))
+            (IsOver (set_up_of self.now) Any request.now (seen_by way.old) (seen_by way.new)) }
+    {
+        self.take(rt, way);
+        let reply = self.access_taken(way, request);
+        self.share(way);
         reply
+    }
+
+    /// The pass of a way, behind which the memory is back.
+    pub fn pass_of(&self, mut way: Way) -> Pass
+        requires { IsWayOf self.now (number_by way) way }
+        ensures pass { IsPassOf self.now (number_by way) result }
+        ensures seen { seen_of result ≡ seen_by way }
+    {
+        self.give_back(&mut way);
+        let Way { seat, whole: _ } = way;
+        Pass { seat }
     }
 
     /// Ends a pass. The keeper keeps its number, what it has seen and its own entries.

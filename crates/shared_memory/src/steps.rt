@@ -1,15 +1,15 @@
 // The steps of an access on the table.
-ghost use Rattle.std.specs.Prelude.{◌≡◌, ◌∷◌, ◌++◌, [], Some, None, true, false};
-ghost use Rattle.memory_core.specs.declared.entry.Entry.{Entry};
+ghost use Rattle.std.specs.Prelude.{◌≡◌, ◌∷◌, ℕ, [], Some, None, true, false};
 ghost use Rattle.memory_core.specs.Contents.{Contents};
-ghost use Rattle.shared_memory.specs.Steps.{Won, HasTurn, entered, looked, given_back};
-ghost use Rattle.shared_memory.specs.Rule.{behind, IsLegal};
+ghost use Rattle.shared_memory.specs.Steps.{Won, HasTurn, entered, given_back};
+ghost use Rattle.shared_memory.specs.Rule.{behind};
 ghost use Rattle.shared_memory.specs.Views.{IsPass};
+ghost use Rattle.shared_memory.specs.Ways.{IsLease};
 
-use crate::plays::{Enter, GiveBack, Look, Order, Win};
+use crate::plays::{Enter, GiveBack, Order, Win};
 use crate::view::View;
+use crate::waiting::Waiting;
 use atomic_table::Seat;
-use crossbeam_utils::sync::EventCount;
 use memory_core::MemState;
 use std::snapshot::Snapshot;
 use std::sync::Wait;
@@ -29,16 +29,18 @@ fn try_win(shared: &Shared, seat: &mut Place) -> bool
 }
 
 // Takes the turn, and the slot with it. A waiter is counted before it tries once more.
-pub fn win<R: Wait>(rt: &R, shared: &Shared, waiting: &EventCount, seat: &mut Place)
+pub fn win<R: Wait>(rt: &R, shared: &Shared, waiting: &Waiting, seat: &mut Place)
     requires { (seat.old.table_id ≡ shared.now.table_id) × (shared.now.table_id.words ≡ 2) × (shared.now.table_id.slots ≡ 1) × IsPass shared.now.key.value seat.old.me.0.number seat.old.me.0 }
     ensures { (seat.new.table_id ≡ seat.old.table_id) × Won seat.old.me seat.new.me }
 {
+    if try_win(shared, seat) {
+        return;
+    }
+    waiting.begin();
     for _ in rt.forever() {
+        let key = waiting.event.prepare_wait();
         if try_win(shared, seat) {
-            return;
-        }
-        let key = waiting.prepare_wait();
-        if try_win(shared, seat) {
+            waiting.end();
             return;
         }
         key.wait(rt);
@@ -56,7 +58,7 @@ pub fn take_out(shared: &Shared, seat: &mut Place) -> MemState
 }
 
 // Puts the memory into the slot, and gives the turn back.
-pub fn give_back(shared: &Shared, waiting: &EventCount, seat: &mut Place, whole: Option<MemState>)
+pub fn give_back(shared: &Shared, waiting: &Waiting, seat: &mut Place, whole: Option<MemState>)
     requires table { (seat.old.table_id ≡ shared.now.table_id) × (shared.now.table_id.words ≡ 2) × (shared.now.table_id.slots ≡ 1) }
     requires turn { HasTurn seat.old.me }
     requires state { whole ≡ Some (behind shared.now.key.value seat.old.me.0.found) }
@@ -64,28 +66,16 @@ pub fn give_back(shared: &Shared, waiting: &EventCount, seat: &mut Place, whole:
 {
     drop(shared.exchange(seat, 0, whole));
     shared.store::<GiveBack>(seat, 1, 0);
-    waiting.notify_one();
+    waiting.event.notify_one();
 }
 
-// Enters the last entry of the memory, which has one more than was found. It exchanges nothing: the step announces the memory.
-pub fn enter(shared: &Shared, waiting: &EventCount, seat: &mut Place, state: MemState)
+// Enters what the memory has more than was found, and gives it back. It exchanges nothing: the step announces the memory.
+pub fn enter(shared: &Shared, waiting: &Waiting, seat: &mut Place, state: MemState)
     requires table { (seat.old.table_id ≡ shared.now.table_id) × (shared.now.table_id.words ≡ 2) × (shared.now.table_id.slots ≡ 1) }
-    requires turn { HasTurn seat.old.me }
-    requires entry { (e : Entry) × (e.processor ≡ seat.old.me.0.number) × (state ≡ behind shared.now.key.value (seat.old.me.0.found ++ e ∷ [])) × IsLegal shared.now.key.value.set_up state.history }
+    requires lease { (number : ℕ) × IsLease shared.now.key.value number seat.old.me state }
     ensures { (seat.new.table_id ≡ seat.old.table_id) × (seat.new.me ≡ (given_back (entered seat.old.me.0 state.history), [])) }
 {
     let whole = Some(state);
     shared.compare_exchange_with::<Enter>(seat, 0, 0, 0, &whole);
     give_back(shared, waiting, seat, whole);
-}
-
-// Sees a history that has its limit.
-pub fn look(shared: &Shared, waiting: &EventCount, seat: &mut Place, state: MemState)
-    requires table { (seat.old.table_id ≡ shared.now.table_id) × (shared.now.table_id.words ≡ 2) × (shared.now.table_id.slots ≡ 1) }
-    requires turn { HasTurn seat.old.me }
-    requires state { state ≡ behind shared.now.key.value seat.old.me.0.found }
-    ensures { (seat.new.table_id ≡ seat.old.table_id) × (seat.new.me ≡ (given_back (looked seat.old.me.0), [])) }
-{
-    shared.load::<Look>(seat, 0);
-    give_back(shared, waiting, seat, Some(state));
 }
