@@ -6,6 +6,9 @@ use Rattle.memory_core.specs.declared.entry.SetUp.{SetUp}
 use Rattle.shared_memory.specs.declared.shared.SharedMemory.{SharedMemory}
 use Rattle.shared_memory.specs.Passes.{set_up_of}
 use Rattle.shared_memory.specs.Views.{Any}
+use Rattle.shared_memory.specs.Ways.{IsWayOf, number_by}
+use Rattle.shared_memory.specs.declared.way.Way.{Way}
+use Rattle.shared_memory.proofs.Accesses.{number_of_way}
 use Rattle.memory_core.specs.Order.{Meets}
 use Rattle.legal_history.specs.OneProcessor.{ReachedIsSteady}
 use Rattle.system_model.specs.Legal.{starts, IsReached, spent}
@@ -135,3 +138,12 @@ begins setting set_up seen k none b =
 pub by_memory : (setting : Setting) (may_come : List Entry → Type 0) (most : ℕ) (k : ProcessorValue) (seen : List Entry) (m n : SharedMemory) → m ≡ n
     → HasSteps setting (set_up_of n) may_come most k seen → HasSteps setting (set_up_of m) may_come most k seen
 by_memory setting may_come most k seen m n same h = subst (λ (x : SharedMemory). HasSteps setting (set_up_of x) may_come most k seen) (sym same) h
+
+-- ---- its way to the memory
+pub its_own : (memory : SharedMemory) (number : ℕ) (way : Way) → IsWayOf memory number way → IsWayOf memory (number_by way) way
+its_own memory number way of = subst (λ (n : ℕ). IsWayOf memory n way) (sym (number_of_way memory number way of)) of
+
+-- a way that led on from one of the thread's
+pub shared_on : (memory m : SharedMemory) (number thread : ℕ) (way on : Way) → m ≡ memory → thread ≡ number → IsWayOf m number way → IsWayOf m (number_by way) on → IsWayOf memory thread on
+shared_on memory m number thread way on same is of led =
+    subst (λ (x : SharedMemory). IsWayOf x thread on) same (subst (λ (n : ℕ). IsWayOf m n on) (number_of_way m number way of ∙ sym is) led)

@@ -13,9 +13,12 @@ use crate::together::Runner;
 use legal_history::laws::reached_is_steady;
 use shared_memory::{Pass, Port, SharedMemory};
 use std::sync::Wait;
-use tie_switch::Processor;
+use tie_switch::{KNOWN, Processor};
 use tie_switch::laws::many_turns_keep_reached;
 use vt_outside::Gate;
+
+/// So many turns are made before a processor that has the memory looks whether another waits for it.
+const PORTION: u64 = 10_000;
 
 // Turns a processor until it has ended.
 fn turn_all<R: Wait, G: Gate>(
@@ -37,13 +40,8 @@ fn turn_all<R: Wait, G: Gate>(
 {
     reached_is_steady();
     many_turns_keep_reached();
-    let mut port = Port {
-        rt,
-        memory,
-        pass,
-        gate,
-        asked: 0,
-    };
+    let mut port = Port::new(rt, memory, pass, gate);
+    let mut known = [None; KNOWN];
     let Program {
         image,
         translation,
@@ -51,10 +49,18 @@ fn turn_all<R: Wait, G: Gate>(
         ranges,
     } = program;
     while processor.end().is_none() {
-        processor.advance(image, translation, prepared, ranges, &mut port, u64::MAX);
+        processor.advance_known(
+            image,
+            translation,
+            prepared,
+            ranges,
+            &mut known,
+            &mut port,
+            PORTION,
+        );
+        port.share();
     }
-    let Port { pass, .. } = port;
-    pass
+    port.end()
 }
 
 /// Turns the processors of jobs over one memory.

@@ -15,7 +15,10 @@ use Rattle.memory_core.specs.Requests.{CanMake, MatchReply}
 use Rattle.memory_core.specs.Seen.{IsNext, IsOver}
 use Rattle.shared_memory.specs.Steps.{Sat, Won, winning, entered, given_back}
 use Rattle.shared_memory.specs.Views.{Any, IsNone, IsPass}
-use Rattle.shared_memory.specs.Ways.{HasCome, IsHome, IsLease, IsWay, seen_with}
+use Rattle.shared_memory.specs.Ways.{HasCome, IsHome, IsLease, IsWay, IsWayOf, number_by, seen_with}
+use Rattle.shared_memory.specs.Passes.{start_of}
+use Rattle.shared_memory.specs.declared.shared.SharedMemory.{SharedMemory}
+use Rattle.shared_memory.specs.declared.way.Way.{Way}
 use Rattle.shared_memory.proofs.Own.{append_nil, own-push, own-append}
 
 abbrev pub in_option : Contents → Option Contents → Contents
@@ -92,6 +95,15 @@ at_home k p m (Some state) none lease = absurd (cc none)
 pub seen_at_home : (m : Sat) (whole : Option MemState) → is_some whole ≡ false → seen_with m whole ≡ m.0.seen
 seen_at_home m None none = refl
 seen_at_home m (Some state) none = absurd (cc none)
+
+-- ---- either way
+number_at : (k : Contents) (p : ℕ) (m : Sat) (whole : Option MemState) → IsWay k p m whole → m.0.number ≡ p
+number_at k p m None home = home.pass.number_is
+number_at k p m (Some state) lease = lease.number_is
+
+-- a way has one processor's number
+pub number_of_way : (memory : SharedMemory) (p : ℕ) (way : Way) → IsWayOf memory p way → number_by way ≡ p
+number_of_way memory p way of = number_at (start_of memory) p way.seat.me way.whole of.is
 
 -- ---- with the memory
 module _ (k : Contents) (p : ℕ) (m : Sat) (state : Contents) (l : IsLease k p m state) where

@@ -182,6 +182,46 @@ impl Processor {
         }
     }
 
+    /// The same, by the instructions that are known: what is decoded is known then.
+    pub fn advance_known<M: Memory>(
+        &mut self,
+        image: &Image,
+        translation: &Translation,
+        prepared: &Prepared<'_>,
+        ranges: &[Range],
+        known: &mut [Option<Instr>],
+        memory: &mut M,
+        most: u64,
+    ) -> u64
+        requires known { AreFound image.now.pages known.old }
+        requires few { length translation.now.words ≤ most_words }
+        requires code { prepared.now.code ≡ translation.now }
+        requires image { prepared.now.pages ≡ image.now.pages }
+        requires pages { (M.set_up memory.old).image.pages ≡ image.now.pages }
+        requires serves { M.serves memory.old self.old.thread }
+        requires has_steps { HasSteps (image_setting image.now.pages translation.now ranges.now) (M.set_up memory.old) (MayCome M.same M.between memory.old) most self.old (M.seen memory.old) }
+        ensures known { AreFound image.now.pages known.new }
+        ensures some { 0 < most → 0 < result }
+        ensures most { result ≤ most }
+        ensures all { result < most → has_ended (processor_of self.new).mode ≡ true }
+        ensures set_up { M.set_up memory.new ≡ M.set_up memory.old }
+        ensures place { IsBehind M.same memory.old memory.new }
+        ensures serves { (thread : ℕ) → M.serves memory.old thread ↔ M.serves memory.new thread }
+        ensures budget { self.new.budget ≡ self.old.budget }
+        ensures thread { self.new.thread ≡ self.old.thread }
+        ensures steps { has_ended (processor_of self.new).mode ≡ false → self.new.steps ≡ self.old.steps + result }
+        ensures few_steps { self.new.steps ≤ self.new.budget }
+        ensures turned { (p : model.Processor) → StandsFor image.now.pages self.old p
+            → HasAdvanced (image_setting image.now.pages translation.now ranges.now) (M.set_up memory.old) (MayCome M.same M.between memory.old) self.old.budget p result self.new (M.seen memory.old) (M.seen memory.new) }
+    {
+        let setting = Setting {
+            pages: &image.pages,
+            code: translation,
+            ranges,
+        };
+        self.advance_by(setting, prepared, known, memory, most)
+    }
+
     // The same, where what was decoded is known then.
     fn advance_knowing<M: Memory>(
         &mut self,
@@ -229,6 +269,7 @@ impl Processor {
         requires pages { (M.set_up memory.old).image.pages ≡ setting.pages.now }
         requires serves { M.serves memory.old self.old.thread }
         requires has_steps { HasSteps (setting_of setting) (M.set_up memory.old) (MayCome M.same M.between memory.old) most self.old (M.seen memory.old) }
+        ensures known { AreFound setting.entry.pages.now known.new }
         ensures some { 0 < most → 0 < result }
         ensures most { result ≤ most }
         ensures all { result < most → has_ended (processor_of self.new).mode ≡ true }
