@@ -19,6 +19,10 @@ use std::snapshot::Snapshot;
 use std::sync::Wait;
 use vax_form::WantOfMemory;
 
+/// So many accesses are made at least before the memory is given back to another that waits for it: handing it over takes as long
+/// as many of them.
+const LEASE: u32 = 64;
+
 /// One memory for all processors.
 #[derive(Drop)]
 pub struct SharedMemory {
@@ -80,6 +84,7 @@ impl SharedMemory {
             let shared = &self.table.shared;
             win(rt, shared, &self.waiting, &mut way.seat);
             way.whole = Some(take_out(shared, &mut way.seat));
+            way.made = 0;
         }
     }
 
@@ -94,6 +99,7 @@ impl SharedMemory {
             (λ before success. IsNext (set_up_of self.now) IsNone request.now before success (seen_by way.old) (seen_by way.new))
             (IsOver (set_up_of self.now) IsNone request.now (seen_by way.old) (seen_by way.new)) }
     {
+        way.made = way.made.saturating_add(1);
         match &mut way.whole {
             Some(state) => state.access(request),
             None => unreachable!(),
@@ -140,7 +146,9 @@ impl SharedMemory {
     {
         self.take(rt, way);
         let reply = self.access_taken(way, request);
-        self.share(way);
+        if way.made >= LEASE {
+            self.share(way);
+        }
         reply
     }
 
@@ -151,7 +159,7 @@ impl SharedMemory {
         ensures seen { seen_of result ≡ seen_by way }
     {
         self.give_back(&mut way);
-        let Way { seat, whole: _ } = way;
+        let Way { seat, .. } = way;
         Pass { seat }
     }
 

@@ -3,11 +3,12 @@ use crate::pass::Pass;
 use crate::steps::Place;
 use memory_core::MemState;
 
-/// A processor's way to the memory. `whole` is the memory, while the processor has it.
+/// A processor's way to the memory. `whole` is the memory, while the processor has it, and `made` counts the accesses since it was taken.
 #[derive(Drop)]
 pub struct Way {
     pub(crate) seat: Place,
     pub(crate) whole: Option<MemState>,
+    pub(crate) made: u32,
 }
 
 impl Way {
@@ -22,7 +23,10 @@ impl Way {
         ensures seen { seen_by result ≡ seen_of pass }
     {
         let Pass { seat } = pass;
-        let whole = None;
-        Way { seat, whole }
+        Way {
+            seat,
+            whole: None,
+            made: 0,
+        }
     }
 }
