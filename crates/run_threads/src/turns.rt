@@ -13,8 +13,8 @@ use crate::together::Runner;
 use legal_history::laws::reached_is_steady;
 use shared_memory::{Pass, Port, SharedMemory};
 use std::sync::Wait;
-use tie_switch::{KNOWN, Processor};
 use tie_switch::laws::many_turns_keep_reached;
+use tie_switch::{KNOWN, Processor};
 use vt_outside::Gate;
 
 /// So many turns are made before a processor that has the memory looks whether another waits for it.

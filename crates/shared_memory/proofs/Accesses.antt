@@ -147,7 +147,7 @@ module _ (k : Contents) (p : ℕ) (m : Sat) (state : Contents) (l : IsLease k p 
       → Meets after.set_up (reverse after.history) → IsWithin after.set_up.limit after.history → IsNext k.set_up IsNone request before success state.history after.history
   next_on after request before success a order room =
       let same : entry_for state.set_up state.history request ≡ entry_for k.set_up (state.history ++ []) request
-          = ap (λ (set_up : SetUp). entry_for set_up state.history request) set_up_is ∙ ap (λ (h : List Entry). entry_for k.set_up h request) (sym (append_nil state.history)) in
+      = ap (λ (set_up : SetUp). entry_for set_up state.history request) set_up_is ∙ ap (λ (h : List Entry). entry_for k.set_up h request) (sym (append_nil state.history)) in
       let set_up_on : after.set_up ≡ k.set_up = ap (λ (c : Contents). c.set_up) a.entry ∙ set_up_is in record {
         between = [];
         others = refl;

@@ -25,7 +25,7 @@ own_own : (p q : ℕ) (xs : List Entry) → q ≢ p → own q (own p xs) ≡ []
 own_own p q [] ne = refl
 own_own p q (x ∷ xs) ne = dite (ℕ_discrete x.processor p)
     (λ e. ap (λ (b : Bool). own q (cond b (x ∷ own p xs) (own p xs))) (eq-eqb x.processor p e)
-        ∙ (ap (λ (b : Bool). cond b (x ∷ own q (own p xs)) (own q (own p xs))) (ne_eqb x.processor q (λ f. ne (sym f ∙ e))) ∙ own_own p q xs ne))
+    ∙ (ap (λ (b : Bool). cond b (x ∷ own q (own p xs)) (own q (own p xs))) (ne_eqb x.processor q (λ f. ne (sym f ∙ e))) ∙ own_own p q xs ne))
     (λ n. ap (λ (b : Bool). own q (cond b (x ∷ own p xs) (own p xs))) (ne_eqb x.processor p n) ∙ own_own p q xs ne)
 
 -- entries of one processor add none of another's

@@ -19,5 +19,5 @@ returns-then-is_none-clause-come g c =
     let none : is_some way.whole ≡ false = c.is_none.ensures ∙ ap not c.if-is_none.true in
     let home = at_home (start_of c.args.self.now) (number_by way) me way.whole none c.requires.is in
     let o : Out (start_of c.args.self.now) (number_by way) me c.win.new.seat.me t.new.seat.me t.result
-        = record { is = home.pass; free = home.slots; mine = home.mine; won = c.win.ensures.1; hand = t.ensures.out.0; out = t.ensures.out.1 } in
+    = record { is = home.pass; free = home.slots; mine = home.mine; won = c.win.ensures.1; hand = t.ensures.out.0; out = t.ensures.out.1 } in
     subst (λ (l : List Entry). HasCome (number_by way) l t.result.history) (sym (seen_at_home me way.whole none)) (come _ _ _ _ _ _ o)
