@@ -1,8 +1,9 @@
 -- The operations of a program that fits have words.
-use Rattle.std.proofs.Common.{Some, ◌≡◌, ℕ, refl, sym, ◌∙◌, subst, arith, List, [], ◌∷◌, Bool, true, false, eqb-true}
-use Rattle.std.specs.Prelude.{◌==◌, ◌&&◌, ◌||◌, not, nat_lt, nat_le}
+use Rattle.std.proofs.Common.{Option, Some, None, ap, ◌≡◌, ℕ, refl, sym, ◌∙◌, subst, arith, List, [], ◌∷◌, Bool, true, false, eqb-true}
+use Rattle.std.specs.Prelude.{◌==◌, ◌&&◌, ◌||◌, not, nat_lt, nat_le, option_and_then, if◌then◌else◌}
 use Rattle.std.proofs.lemmas.Bool.Decides.{nat_tests}
 use Rattle.std.proofs.lemmas.Bool.{and_parts, not-true, ltb-true}
+use Rattle.std.proofs.lemmas.Option.{same_Some}
 use Rattle.vt_words.specs.Quad.{IsCount, one as c1, two as c2, four as c4, eight as c8}
 use Rattle.micro_ops.specs.declared.codes.CodeSources.{CodeSources}
 use Rattle.micro_ops.specs.declared.known.Checked.TheVariants.{At}
@@ -14,7 +15,7 @@ use Rattle.micro_ops.specs.declared.program.Exit.{Exit}
 use Rattle.micro_ops.specs.declared.program.Exit.TheVariants.{Next, Fixed, Computed, Choice, Service, Breakpoint}
 use Rattle.micro_ops.specs.declared.program.Micro.{Micro}
 use Rattle.micro_ops.specs.declared.program.Micro.TheVariants.{Compute, Probe, Refuse, Read, Write, Locked, Commit, Codes, SetPsw, Leave}
-use Rattle.micro_ops.specs.Fits.{step, walk, check_fits, computation_fits, argument_fits, read_fits, write_fits, locked_fits, commit_fits, codes_fit, exit_fits, sources_fit, place_fits, reference_fits, are_apart, is_count, holding_of, is_low_argument, is_low_exit, names_low, keeps_low, all_keep_low}
+use Rattle.micro_ops.specs.Fits.{step, walk, when_fits, is_ended, check_fits, computation_fits, argument_fits, read_fits, write_fits, locked_fits, commit_fits, codes_fit, exit_fits, sources_fit, place_fits, reference_fits, are_apart, is_count, holding_of, is_low_argument, is_low_exit, names_low, keeps_low, all_keep_low}
 use Rattle.micro_ops.specs.Known.{holds, is_committed, behind_write, behind_access, behind_commit}
 use Rattle.micro_ops.specs.LeftOut.{is_low, is_left_out}
 use Rattle.micro_ops.specs.Meaning.{locked_count}
@@ -22,9 +23,9 @@ use Rattle.micro_ops.specs.Uses.{is_unary, is_select, leaves_longword}
 use Rattle.byte_sequences.specs.Instructions as bytes
 use Rattle.compute_sequences.specs.Registers.{IsArgument}
 use Rattle.program_codegen.specs.Words.{holder}
-use Rattle.program_codegen.specs.Programs.{IsExit, IsRangedArgument, IsRangedExit, AllRanged, AllFitWords, AllHaveWords}
+use Rattle.program_codegen.specs.Programs.{IsExit, IsRangedArgument, IsRangedExit, AllRanged, AllFitWords, AllHaveWords, RangedToLeave}
 use Rattle.program_codegen.proofs.Numbers.{all_three, all_four, all_five}
-use Rattle.program_codegen.proofs.Knowing.{write_changes}
+use Rattle.program_codegen.proofs.Knowing.{nothing_behind, write_changes}
 use Rattle.program_codegen.proofs.Going.{opened, walk_some}
 
 count_is : (n : ℕ) → is_count n ≡ true → IsCount n
@@ -139,3 +140,37 @@ module _ (sources : CodeSources) where
   pub have_words : (program : List Micro) → AllFitWords sources program → AllRanged program → AllHaveWords sources program
   have_words [] fit ranged = tt
   have_words (operation ∷ program) fit ranged = (fit.0 ranged.0, have_words program fit.1 ranged.1)
+
+  -- ---- nothing stands behind where it leaves
+  record Onward (known : Known) (operation : Micro) (program : List Micro) : Type 0 where
+    behind : Known
+    is : step sources known operation ≡ Some behind
+    ended : is_ended (walk sources behind program) ≡ true
+
+  onward : (known : Known) (operation : Micro) (program : List Micro) → is_ended (walk sources known (operation ∷ program)) ≡ true → Onward known operation program
+  onward known operation program e = by known.ended (step sources known operation) refl e
+    where
+      by : (ended : Bool) (o : Option Known) → step sources known operation ≡ o → is_ended (if ended then None else option_and_then (λ behind. walk sources behind program) o) ≡ true → Onward known operation program
+      by true o is e = absurd (cc e)
+      by false None is e = absurd (cc e)
+      by false (Some behind) is e = record { behind = behind; is = is; ended = e }
+
+  left : (b : Bool) (at behind : Known) (program : List Micro) → at.ended ≡ true → when_fits b at ≡ Some behind → is_ended (walk sources behind program) ≡ true → AllRanged program
+  left true at behind program on e walked = subst AllRanged (sym (nothing_behind sources behind program (ap (λ (k : Known). k.ended) (sym (same_Some at behind e)) ∙ on) walked)) tt
+  left false at behind program on e walked = absurd (cc e)
+
+  pub ranged_to_end : (program : List Micro) (known : Known) → is_ended (walk sources known program) ≡ true → RangedToLeave program → AllRanged program
+  unfolding step
+  ranged_to_end [] known e ranged = tt
+  ranged_to_end (Compute to op size a b ∷ program) known e ranged = let x = onward known (Compute to op size a b) program e in (ranged.0, ranged_to_end program x.behind x.ended ranged.1)
+  ranged_to_end (Probe place count write ∷ program) known e ranged = let x = onward known (Probe place count write) program e in (ranged.0, ranged_to_end program x.behind x.ended ranged.1)
+  ranged_to_end (Refuse when ∷ program) known e ranged = let x = onward known (Refuse when) program e in (ranged.0, ranged_to_end program x.behind x.ended ranged.1)
+  ranged_to_end (Read to place count ∷ program) known e ranged = let x = onward known (Read to place count) program e in (ranged.0, ranged_to_end program x.behind x.ended ranged.1)
+  ranged_to_end (Write place count source ∷ program) known e ranged = let x = onward known (Write place count source) program e in (ranged.0, ranged_to_end program x.behind x.ended ranged.1)
+  ranged_to_end (Locked to place kind source ∷ program) known e ranged = let x = onward known (Locked to place kind source) program e in (ranged.0, ranged_to_end program x.behind x.ended ranged.1)
+  ranged_to_end (Commit number source ∷ program) known e ranged = let x = onward known (Commit number source) program e in (ranged.0, ranged_to_end program x.behind x.ended ranged.1)
+  ranged_to_end (Codes n z v c ∷ program) known e ranged = let x = onward known (Codes n z v c) program e in (ranged.0, ranged_to_end program x.behind x.ended ranged.1)
+  ranged_to_end (SetPsw source ∷ program) known e ranged = let x = onward known (SetPsw source) program e in (ranged.0, ranged_to_end program x.behind x.ended ranged.1)
+  ranged_to_end (Leave exit ∷ program) known e ranged =
+      let x = onward known (Leave exit) program e in
+      (ranged, left (exit_fits known exit && sources_fit sources known) (record known { ended = true }) x.behind program refl x.is x.ended)

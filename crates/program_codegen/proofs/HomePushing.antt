@@ -1,6 +1,6 @@
 -- The loops that push the lines of a program whose operands are used where they stand.
-use Rattle.std.proofs.Common.{◌≡◌, ℕ, ◌+◌, ◌-◌, ◌<◌, refl, sym, ap, ◌∙◌, subst, List, [], ◌∷◌, ◌++◌, length, map, get_or, take, drop, Option, Some, None, Bool, true, false, append_assoc}
-use Rattle.std.specs.Prelude.{option_map, option_and_then, IfSome, if◌then◌else◌}
+use Rattle.std.proofs.Common.{◌≡◌, ℕ, ◌+◌, ◌-◌, ◌<◌, refl, sym, ap, ◌∙◌, subst, List, [], ◌∷◌, ◌++◌, length, map, get_or, take, drop, Option, Some, None, Bool, true, false, append_assoc, Result, Ok, Err}
+use Rattle.std.specs.Prelude.{option_map, option_and_then, IfOk, IfSome, if◌then◌else◌}
 use Rattle.std.proofs.lemmas.List.{drop_more, take_rest}
 use Rattle.std.proofs.lemmas.Option.{same_Some}
 use Rattle.alpha_encode.specs.declared.instr.AlphaInstr.{AlphaInstr}
@@ -13,7 +13,7 @@ use Rattle.program_codegen.specs.declared.homes.Homes.{Homes}
 use Rattle.program_codegen.specs.declared.lines.Line.{Line}
 use Rattle.program_codegen.specs.declared.points.Site.{Site}
 use Rattle.program_codegen.specs.Homes.{AreHomes, direct_lines, end_at, exit_behind, homes_at, is_computation, step_at, words_at}
-use Rattle.program_codegen.specs.Programs.{AllFitWords, IsExit, IsRangedExit}
+use Rattle.program_codegen.specs.Programs.{AllFitWords, AllRanged, IsExit, IsRanged, IsRangedExit, RangedToLeave}
 use Rattle.program_codegen.specs.Words.{plain}
 
 -- ---- the exit
@@ -54,6 +54,31 @@ end_fits sources (Read to place count) behind commit exit fits e ranged = absurd
 end_fits sources (Write place count source) behind commit exit fits e ranged = absurd (cc e)
 end_fits sources (Locked to place kind source) behind commit exit fits e ranged = absurd (cc e)
 end_fits sources (SetPsw source) behind commit exit fits e ranged = absurd (cc e)
+
+-- ---- ranges
+pub to_leave : (operation : Micro) (program : List Micro) → IsRanged operation → RangedToLeave program → RangedToLeave (operation ∷ program)
+to_leave (Compute to op size a b) program ranged rest = (ranged, rest)
+to_leave (Probe place count write) program ranged rest = (ranged, rest)
+to_leave (Refuse when) program ranged rest = (ranged, rest)
+to_leave (Read to place count) program ranged rest = (ranged, rest)
+to_leave (Write place count source) program ranged rest = (ranged, rest)
+to_leave (Locked to place kind source) program ranged rest = (ranged, rest)
+to_leave (Commit number source) program ranged rest = (ranged, rest)
+to_leave (Codes n z v c) program ranged rest = (ranged, rest)
+to_leave (SetPsw source) program ranged rest = (ranged, rest)
+to_leave (Leave exit) program ranged rest = ranged
+
+pub all_to_leave : (program : List Micro) → AllRanged program → RangedToLeave program
+all_to_leave [] ranged = tt
+all_to_leave (operation ∷ program) ranged = to_leave operation program ranged.0 (all_to_leave program ranged.1)
+
+pub ok_all_to_leave : {A E : Type 0} (program : List Micro) (r : Result A E) → IfOk r (λ x. AllRanged program) → IfOk r (λ x. RangedToLeave program)
+ok_all_to_leave program (Ok x) h = all_to_leave program h
+ok_all_to_leave program (Err e) h = tt
+
+-- an operation before ones that do
+pub ranged_later : (program : List Micro) (i : ℕ) (d : Micro) → i < length program → IsRanged (get_or program i d) → RangedToLeave (drop (i + 1) program) → RangedToLeave (drop i program)
+ranged_later program i d lt ranged rest = subst RangedToLeave (sym (drop_more program i d lt)) (to_leave (get_or program i d) (drop (i + 1) program) ranged rest)
 
 -- ---- a step
 module _ (site : Site) (codes : List AlphaInstr) where

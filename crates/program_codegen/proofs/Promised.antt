@@ -20,7 +20,7 @@ use Rattle.program_codegen.specs.declared.lines.Line.{Line}
 use Rattle.program_codegen.specs.declared.points.Site.{Site}
 use Rattle.program_codegen.specs.Words.{point_of, with_first, words_of, block_of, site_of}
 use Rattle.program_codegen.specs.Blocks.{block_lines, chosen_lines, program_block}
-use Rattle.program_codegen.specs.Programs.{AllRanged, AllFitWords, AllHaveWords, ReadsReady, LeavesReady, KeepsTogether, is_narrow}
+use Rattle.program_codegen.specs.Programs.{AllFitWords, AllHaveWords, RangedToLeave, ReadsReady, LeavesReady, KeepsTogether, is_narrow}
 use Rattle.program_codegen.specs.Promises.{HasRules, CompilesProgram}
 use Rattle.program_codegen.proofs.Numbers.{all_three}
 use Rattle.program_codegen.proofs.Starting.{flags_same}
@@ -29,7 +29,7 @@ use Rattle.program_codegen.proofs.Compiled.{first_length, compiles, first_words}
 use Rattle.program_codegen.proofs.Shapes.{EachFits, first_each, each_whole, has_rules}
 use Rattle.program_codegen.proofs.Blocking.{block_shape}
 use Rattle.program_codegen.proofs.Fronts.{targets, exits_go, Shape}
-use Rattle.program_codegen.proofs.Fitting.{fit_words, have_words}
+use Rattle.program_codegen.proofs.Fitting.{fit_words, have_words, ranged_to_end}
 use Rattle.program_codegen.proofs.Departures.{leaving_follows}
 
 pub if_ok_both : {A E : Type 0} (r : Result A E) (P R Q : A → Type 0) → ((a : A) → P a → R a → Q a) → IfOk r P → IfOk r R → IfOk r Q
@@ -51,7 +51,7 @@ pub same_targets : (site : Site) (lines : List Line) → targets (with_first (po
 same_targets site [] = refl
 same_targets site (line ∷ lines) = refl
 
-module _ (site : Site) (program : List Micro) (codes : List AlphaInstr) (fit : fits site.sources program ≡ true) (leaves : LeavesCodes site.sources site.before site.behind codes) (encodable : All IsEncodable codes) (together : KeepsTogether site.sources) (after : site.after < 2 ^ 32) (ranged : AllRanged program) where
+module _ (site : Site) (program : List Micro) (codes : List AlphaInstr) (fit : fits site.sources program ≡ true) (leaves : LeavesCodes site.sources site.before site.behind codes) (encodable : All IsEncodable codes) (together : KeepsTogether site.sources) (after : site.after < 2 ^ 32) (ranged : RangedToLeave program) where
   abbrev parts : (is_ended (walk site.sources at_start program) ≡ true) × (all_keep_low site.sources program ≡ true) × (nat_le (program_words site.sources program) most_words ≡ true)
   parts = all_three (is_ended (walk site.sources at_start program)) (all_keep_low site.sources program) (nat_le (program_words site.sources program) most_words) fit
 
@@ -59,7 +59,7 @@ module _ (site : Site) (program : List Micro) (codes : List AlphaInstr) (fit : f
   ended = parts.0
 
   pub all_have : AllHaveWords site.sources program
-  all_have = have_words site.sources program (all_fit site.sources program fit) ranged
+  all_have = have_words site.sources program (all_fit site.sources program fit) (ranged_to_end site.sources program at_start ended ranged)
 
   shape : Shape site false codes (addresses_of site.after program) (program_words site.sources program + 59) (chosen_lines site codes program)
   shape = chosen_shape site codes after encodable leaves.few leaves.only together program ended all_have
@@ -95,7 +95,7 @@ module _ (site : Site) (program : List Micro) (codes : List AlphaInstr) (fit : f
       (shape.writes 16 (lit≤ tt) (lit< tt)) (shape.writes 17 (lit≤ tt) (lit< tt)) (shape.writes 18 (lit≤ tt) (lit< tt)) (shape.writes 19 (lit≤ tt) (lit< tt))
 
 pub compiles_program : (instr : Instr) (sources : CodeSources) (program : List Micro) (codes : List AlphaInstr) (before behind : Rules) (byte_word : Bool) → fits sources program ≡ true → LeavesCodes sources before behind codes → All IsEncodable codes
-    → ReadsReady before program → LeavesReady behind program → KeepsTogether sources → is_narrow behind.v ≡ true → instr.after < 2 ^ 32 → AllRanged program
+    → ReadsReady before program → LeavesReady behind program → KeepsTogether sources → is_narrow behind.v ≡ true → instr.after < 2 ^ 32 → RangedToLeave program
     → CompilesProgram instr sources program before behind byte_word (program_block instr sources program codes before behind byte_word)
 compiles_program instr sources program codes before behind byte_word fit leaves encodable reads ready together narrow after ranged =
     let site : Site = site_of instr sources before behind byte_word in

@@ -245,21 +245,29 @@ abbrev pub are_short_rules : Rules → Bool
 are_short_rules behind = is_short_rule behind.n && is_short_rule behind.z && is_short_rule behind.v && is_short_rule behind.c
 
 -- ---- the end
--- the exit behind operations that have no words
+-- an operation without words: the words that leave the codes stand in for it
+abbrev pub is_wordless : CodeSources → Micro → (behind : List Micro) → Bool
+is_wordless sources (Compute to op size a b) behind = is_left_out sources (Compute to op size a b) behind
+is_wordless sources (Codes n z v c) behind = true
+is_wordless sources operation behind = false
+
+abbrev pub exit_of : Micro → Option Exit
+exit_of (Leave exit) = Some exit
+exit_of operation = None
+
+-- the exit behind operations without words
 abbrev pub exit_behind : CodeSources → List Micro → Option Exit
 exit_behind sources [] = None
-exit_behind sources (Compute to op size a b ∷ program) =
-    if is_left_out sources (Compute to op size a b) program then exit_behind sources program else None
-exit_behind sources (Codes n z v c ∷ program) = exit_behind sources program
-exit_behind sources (Leave exit ∷ program) = Some exit
-exit_behind sources (operation ∷ program) = None
+exit_behind sources (operation ∷ program) = if is_wordless sources operation program then exit_behind sources program else exit_of operation
+
+abbrev pub with_commit : Option (ℕ × ℕ) → Option Exit → Option (Option (ℕ × ℕ) × Exit)
+with_commit commit exit = option_map (λ exit. (commit, exit)) exit
 
 -- an operation with which a program comes to its end: the register that it writes, with the temporary from which, and the exit
 abbrev pub end_at : CodeSources → Micro → (behind : List Micro) → Option (Option (ℕ × ℕ) × Exit)
-end_at sources (Commit register from) behind = option_map (λ exit. (Some (register, from), exit)) (exit_behind sources behind)
-end_at sources (Codes n z v c) behind = option_map (λ exit. (None, exit)) (exit_behind sources behind)
-end_at sources (Leave exit) behind = Some (None, exit)
-end_at sources operation behind = None
+end_at sources (Commit register from) behind = with_commit (Some (register, from)) (exit_behind sources behind)
+end_at sources (Codes n z v c) behind = with_commit None (exit_behind sources behind)
+end_at sources operation behind = with_commit None (exit_of operation)
 
 -- it goes to an address, by a temporary in its own register if by one
 abbrev pub exit_stays : Homes → Exit → Bool

@@ -73,6 +73,12 @@ abbrev pub AllRanged : List Micro → Type 0
 AllRanged [] = Unit {0}
 AllRanged (operation ∷ program) = IsRanged operation × AllRanged program
 
+-- the same up to where the program leaves
+abbrev pub RangedToLeave : List Micro → Type 0
+RangedToLeave [] = Unit {0}
+RangedToLeave (Leave exit ∷ program) = IsRangedExit exit
+RangedToLeave (operation ∷ program) = IsRanged operation × RangedToLeave program
+
 -- what its words are made from
 abbrev pub HasWords : CodeSources → Micro → (behind : List Micro) → Type 0
 HasWords sources (Compute to op size a b) behind =

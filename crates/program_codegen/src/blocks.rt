@@ -8,7 +8,7 @@ ghost use Rattle.block_law.specs.Tidy.{codes_written};
 ghost use Rattle.micro_ops.specs.Exits.{addresses_of};
 ghost use Rattle.program_codegen.specs.Blocks.{block_lines, chosen_lines, program_block};
 ghost use Rattle.program_codegen.specs.Words.{block_of};
-ghost use Rattle.program_codegen.specs.Programs.{IsRanged, AllRanged, AllFitWords, ReadsReady, LeavesReady, KeepsTogether, is_narrow};
+ghost use Rattle.program_codegen.specs.Programs.{AllFitWords, RangedToLeave, ReadsReady, LeavesReady, KeepsTogether, is_narrow};
 ghost use Rattle.program_codegen.specs.Promises.{BeginsBy, HasRules, CompilesProgram};
 
 use crate::direct::direct_lines;
@@ -21,21 +21,6 @@ use micro_ops::{CodeSources, Micro};
 use std::alloc::Global;
 use vax_form::{Instr, WantOfMemory};
 
-fn operation_is_ranged(operation: Micro)
-    ensures { IsRanged operation }
-{
-    let _operation = operation;
-}
-
-/// The numbers in a program are those of their types.
-fn program_is_ranged(program: &[Micro])
-    ensures { AllRanged program.now }
-{
-    for i in 0..program.len() {
-        operation_is_ranged(program[i]);
-    }
-}
-
 /// The lines of a program: operands are used where they stand, if they can be.
 fn chosen_lines(
     alloc: Global,
@@ -45,7 +30,8 @@ fn chosen_lines(
 ) -> Result<Vec<Line>, WantOfMemory>
     requires words { AllFitWords site.sources program.now }
     requires narrow { is_narrow site.behind.v ≡ true }
-    ensures { IfOk result (λ lines. lines.items ≡ chosen_lines site codes.now program.now) }
+    ensures lines { IfOk result (λ lines. lines.items ≡ chosen_lines site codes.now program.now) }
+    ensures ranged { IfOk result (λ lines. RangedToLeave program.now) }
 {
     match direct_lines(alloc, site, codes, program)? {
         Some(lines) => Ok(lines),
@@ -60,13 +46,12 @@ fn block_in(
     codes: &[AlphaInstr],
 ) -> Result<Block, WantOfMemory>
     requires words { AllFitWords site.sources program.now }
-    requires few { AllRanged program.now → site.after < 2 ^ 32 → length (block_lines site codes.now program.now) ≤ 256 }
+    requires few { RangedToLeave program.now → site.after < 2 ^ 32 → length (block_lines site codes.now program.now) ≤ 256 }
     requires narrow { is_narrow site.behind.v ≡ true }
     ensures block { IfOk result (λ block. block ≡ block_of (block_lines site codes.now program.now)) }
-    ensures ranged { IfOk result (λ block. AllRanged program.now) }
+    ensures ranged { IfOk result (λ block. RangedToLeave program.now) }
     ensures after { site.after < 2 ^ 32 }
 {
-    program_is_ranged(program);
     let mut lines = chosen_lines(alloc, site, codes, program)?;
     mark_first(&mut lines, point_of(site));
     Ok(block_of(alloc, &lines)?)

@@ -1,8 +1,8 @@
 // The words of programs that make no reference.
 ghost use Rattle.std.specs.Prelude.{◌≡◌, ◌++◌, ◌∷◌, IfOk, IfSome, OnOk, MatchOption, None, Some, map, true};
 ghost use Rattle.program_codegen.specs.Words.{plain};
-ghost use Rattle.program_codegen.specs.Homes.{is_operand, is_operand_second, second_home, is_choice, unmoved, moved_operand, moved_both, moved_first, moved_by, moved_word, moved_words, is_short_rule, are_short_rules, exit_behind, end_at, exit_stays, commit_stays, commit_words, may_end, direct_end, ended_lines, is_computation, homes_at, step_at, words_at, direct_lines, no_homes, AreHomes};
-ghost use Rattle.program_codegen.specs.Programs.{AllFitWords, HasWords, IsExit, IsRanged, IsRangedExit, is_narrow};
+ghost use Rattle.program_codegen.specs.Homes.{is_operand, is_operand_second, second_home, is_choice, unmoved, moved_operand, moved_both, moved_first, moved_by, moved_word, moved_words, is_short_rule, are_short_rules, is_wordless, exit_of, exit_behind, with_commit, end_at, exit_stays, commit_stays, commit_words, may_end, direct_end, ended_lines, is_computation, homes_at, step_at, words_at, direct_lines, no_homes, AreHomes};
+ghost use Rattle.program_codegen.specs.Programs.{AllFitWords, HasWords, IsExit, IsRanged, IsRangedExit, RangedToLeave, is_narrow};
 
 use crate::homes::{Homes, NO_HOMES, home_at, home_of, is_direct, push_direct};
 use crate::leaving::{push_departing, push_trap};
@@ -191,20 +191,36 @@ fn are_short_rules(behind: Rules) -> bool
         && is_short_rule(behind.c)
 }
 
-/// The exit behind operations that have no words.
+/// Whether an operation has no words: the words that leave the codes stand in for it.
+fn is_wordless(sources: CodeSources, operation: Micro, behind: &[Micro]) -> bool
+    ensures wordless { result ≡ is_wordless sources operation behind.now }
+    ensures ranged { IsRanged operation }
+{
+    match operation {
+        Micro::Compute { .. } => is_left_out(sources, operation, behind),
+        Micro::Codes { .. } => true,
+        _ => false,
+    }
+}
+
+fn exit_of(operation: Micro) -> Option<Exit>
+    ensures exit { result ≡ exit_of operation }
+    ensures ranged { IsRanged operation }
+{
+    match operation {
+        Micro::Leave(exit) => Some(exit),
+        _ => None,
+    }
+}
+
+/// The exit behind operations without words.
 fn exit_behind(sources: CodeSources, program: &[Micro]) -> Option<Exit>
-    ensures { result ≡ exit_behind sources program.now }
+    ensures exit { result ≡ exit_behind sources program.now }
+    ensures ranged { IfSome result (λ exit. RangedToLeave program.now) }
 {
     for i in 0..program.len() {
-        match program[i] {
-            Micro::Compute { .. } => {
-                if !is_left_out(sources, program[i], &program[i + 1..]) {
-                    return None;
-                }
-            }
-            Micro::Codes { .. } => {}
-            Micro::Leave(exit) => return Some(exit),
-            _ => return None,
+        if !is_wordless(sources, program[i], &program[i + 1..]) {
+            return exit_of(program[i]);
         }
     }
     None
@@ -275,19 +291,26 @@ fn direct_end(
     Ok(Some(lines))
 }
 
-/// The register that is written, with the temporary from which, and the exit, where an operation comes to the end.
-fn end_at(sources: CodeSources, operation: Micro, behind: &[Micro]) -> Option<(Commit, Exit)>
-    ensures { result ≡ end_at sources operation behind.now }
+fn with_commit(commit: Commit, exit: Option<Exit>) -> Option<(Commit, Exit)>
+    ensures { result ≡ with_commit commit exit }
 {
-    let (commit, exit) = match operation {
-        Micro::Commit { register, from } => (Some((register, from)), exit_behind(sources, behind)),
-        Micro::Codes { .. } => (None, exit_behind(sources, behind)),
-        Micro::Leave(exit) => (None, Some(exit)),
-        _ => (None, None),
-    };
     match exit {
         Some(exit) => Some((commit, exit)),
         None => None,
+    }
+}
+
+/// The register that is written, with the temporary from which, and the exit, where an operation comes to the end.
+fn end_at(sources: CodeSources, operation: Micro, behind: &[Micro]) -> Option<(Commit, Exit)>
+    ensures end { result ≡ end_at sources operation behind.now }
+    ensures ranged { IfSome result (λ end. RangedToLeave (operation ∷ behind.now)) }
+{
+    match operation {
+        Micro::Commit { register, from } => {
+            with_commit(Some((register, from)), exit_behind(sources, behind))
+        }
+        Micro::Codes { .. } => with_commit(None, exit_behind(sources, behind)),
+        _ => with_commit(None, exit_of(operation)),
     }
 }
 
@@ -311,6 +334,7 @@ fn push_step(
     ensures homes { IfOk result (λ now. now ≡ homes_at (step_at sources homes operation behind.now)) }
     ensures lines { OnOk result (lines.new.items ≡ lines.old.items ++ map plain (words_at (step_at sources homes operation behind.now))) }
     ensures are { IfOk result (λ now. IfSome now AreHomes) }
+    ensures ranged { IsRanged operation }
 {
     let Micro::Compute { to, op, size, a, b } = operation else {
         return Ok(None);
@@ -335,7 +359,8 @@ fn ended_lines(
 ) -> Result<Option<Vec<Line>>, WantOfMemory>
     requires words { AllFitWords site.sources (operation ∷ behind.now) }
     requires narrow { is_narrow site.behind.v ≡ true }
-    ensures { IfOk result (λ lines. MatchOption lines (ended_lines site codes.now homes operation behind.now ≡ None) (λ made. ended_lines site codes.now homes operation behind.now ≡ Some made.items)) }
+    ensures lines { IfOk result (λ lines. MatchOption lines (ended_lines site codes.now homes operation behind.now ≡ None) (λ made. ended_lines site codes.now homes operation behind.now ≡ Some made.items)) }
+    ensures ranged { IfOk result (λ lines. IfSome lines (λ made. RangedToLeave (operation ∷ behind.now))) }
 {
     match end_at(site.sources, operation, behind) {
         Some((commit, exit)) => direct_end(alloc, site, codes, homes, commit, exit),
@@ -353,7 +378,8 @@ pub(crate) fn direct_lines(
 ) -> Result<Option<Vec<Line>>, WantOfMemory>
     requires words { AllFitWords site.sources program.now }
     requires narrow { is_narrow site.behind.v ≡ true }
-    ensures { IfOk result (λ lines. MatchOption lines (direct_lines site codes.now no_homes program.now ≡ None) (λ made. direct_lines site codes.now no_homes program.now ≡ Some made.items)) }
+    ensures lines { IfOk result (λ lines. MatchOption lines (direct_lines site codes.now no_homes program.now ≡ None) (λ made. direct_lines site codes.now no_homes program.now ≡ Some made.items)) }
+    ensures ranged { IfOk result (λ lines. IfSome lines (λ made. RangedToLeave program.now)) }
 {
     let mut lines = Vec::new(alloc);
     let mut homes = NO_HOMES;
