@@ -39,7 +39,7 @@ fn kind_and_change_by(name: &str, argument: u64) -> Result<(Kind, Change)>
         "clear" => Ok((Kind::TieLocked, Change::ClearBit(small % 64))),
         "put" => Ok((Kind::Put, Change::Byte(small))),
         "get" => Ok((Kind::Get, Change::Nothing)),
-        _ => bail!("no operation: {name}"),
+        _ => bail!("no operation"),
     }
 }
 
@@ -56,7 +56,7 @@ fn kind_and_change_with(name: &str, first: u8, value: u64) -> Result<(Kind, Chan
         "store" => Ok((Kind::Store, bytes)),
         "tie-write" => Ok((Kind::TieWrite, bytes)),
         "add" => Ok((Kind::TieLocked, word)),
-        _ => bail!("no operation: {name}"),
+        _ => bail!("no operation"),
     }
 }
 
@@ -88,17 +88,16 @@ pub fn request_of(text: &str) -> Result<Request>
     })
 }
 
-/// What an access found, and how it ended.
+/// What an access found, and how it ended, behind the replies before it.
 pub fn write_reply(text: &mut String, reply: Reply) -> Result<(), AllocError> {
+    if !text.is_empty() {
+        text.push(' ')?;
+    }
     match reply {
-        Reply::Made {
-            before,
-            success: true,
-        } => write!(text, " {before:X}:made"),
-        Reply::Made {
-            before,
-            success: false,
-        } => write!(text, " {before:X}:failed"),
-        Reply::Full => write!(text, " full"),
+        Reply::Made { before, success } => {
+            let end = if success { "made" } else { "failed" };
+            write!(text, "{before:X}:{end}")
+        }
+        Reply::Full => text.push_str("full"),
     }
 }

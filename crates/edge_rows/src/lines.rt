@@ -57,82 +57,84 @@ fn push_ranges(text: &mut String, ranges: &[Range]) -> Result<(), AllocError> {
     Ok(())
 }
 
-fn run_text(alloc: Global, name: &str, options: &RunOptions<'_>) -> Result<String, AllocError> {
+fn put_run(text: &mut String, name: &str, options: &RunOptions<'_>) -> Result<(), AllocError> {
     let Limits {
         budget,
         keeping,
         events,
         miss,
     } = options.limits;
-    let name = name_text(name);
-    let mut text = format!(in alloc; "run {name} budget {budget} events {events} miss {miss}")?;
-    text.push_str(keeping_text(keeping))?;
-    push_ranges(&mut text, &options.ranges)?;
+    let (name, kept) = (name_text(name), keeping_text(keeping));
+    write!(
+        text,
+        "run {name} budget {budget} events {events} miss {miss}{kept}"
+    )?;
+    push_ranges(text, &options.ranges)?;
     text.push_str(target_text(options.target))?;
-    if let Some(order) = options.order {
-        let order = name_text(order);
-        write!(text, " order {order}")?;
-    }
-    Ok(text)
+    push_named(text, " order ", &options.order)
 }
 
-fn live_text(alloc: Global, name: &str, options: &LiveOptions) -> Result<String, AllocError> {
-    let LiveOptions {
-        budget,
-        miss,
-        progress,
-        ..
-    } = options;
-    let name = name_text(name);
-    let mut text = format!(in alloc; "live {name} budget {budget} miss {miss}")?;
-    push_ranges(&mut text, &options.ranges)?;
+fn put_live(text: &mut String, name: &str, options: &LiveOptions) -> Result<(), AllocError> {
+    let (name, budget, miss) = (name_text(name), options.budget, options.miss);
+    write!(text, "live {name} budget {budget} miss {miss}")?;
+    push_ranges(text, &options.ranges)?;
     text.push_str(target_text(options.target))?;
-    if let Some(steps) = progress {
-        write!(text, " progress {steps}")?;
+    match options.progress {
+        Some(steps) => write!(text, " progress {steps}"),
+        None => Ok(()),
     }
-    Ok(text)
 }
 
-/// The name of a file for hints, where one is named.
-fn push_hints(text: &mut String, hints: &Option<&str>) -> Result<(), AllocError> {
-    if let Some(hints) = hints {
-        let hints = name_text(hints);
-        write!(text, " hints {hints}")?;
+/// The name of a file, behind a text, where one is named.
+fn push_named(text: &mut String, before: &str, name: &Option<&str>) -> Result<(), AllocError> {
+    match name {
+        Some(name) => write!(text, "{before}{}", name_text(name)),
+        None => Ok(()),
     }
-    Ok(())
 }
 
-fn command_text(alloc: Global, command: &Command<'_>) -> Result<String, AllocError> {
+fn put_translate(
+    text: &mut String,
+    image: &str,
+    out: &str,
+    target: Target,
+    hints: &Option<&str>,
+) -> Result<(), AllocError> {
+    write!(text, "translate {image} to {out}{}", target_text(target))?;
+    push_named(text, " hints ", hints)
+}
+
+fn put_replay(
+    text: &mut String,
+    name: &str,
+    file: &str,
+    hints: &Option<&str>,
+) -> Result<(), AllocError> {
+    write!(text, "replay {} by {}", name_text(name), name_text(file))?;
+    push_named(text, " hints ", hints)
+}
+
+fn put_command(text: &mut String, command: &Command<'_>) -> Result<(), AllocError> {
     match command {
-        Command::Run { name, options } => run_text(alloc, name, options),
-        Command::Live { name, options } => live_text(alloc, name, options),
+        Command::Run { name, options } => put_run(text, name, options),
+        Command::Live { name, options } => put_live(text, name, options),
         Command::Translate {
             image,
             out,
             target,
             hints,
-        } => {
-            let target = target_text(*target);
-            let mut text = format!(in alloc; "translate {image} to {out}{target}")?;
-            push_hints(&mut text, hints)?;
-            Ok(text)
-        }
-        Command::List { name } => format!(in alloc; "list {name}"),
-        Command::Generate { number } => format!(in alloc; "generate {number}"),
-        Command::Replay { name, file, hints } => {
-            let (name, file) = (name_text(name), name_text(file));
-            let mut text = format!(in alloc; "replay {name} by {file}")?;
-            push_hints(&mut text, hints)?;
-            Ok(text)
-        }
+        } => put_translate(text, image, out, *target, hints),
+        Command::List { name } => write!(text, "list {name}"),
+        Command::Generate { number } => write!(text, "generate {number}"),
+        Command::Replay { name, file, hints } => put_replay(text, name, file, hints),
     }
 }
 
 /// What the words spell, as text.
-fn spelled_text(alloc: Global, words: &[String]) -> Result<String, AllocError> {
+fn put_spelled(alloc: Global, text: &mut String, words: &[String]) -> Result<(), AllocError> {
     match read_words(alloc, words) {
-        Ok(command) => command_text(alloc, &command),
-        Err(WordsFault::Usage) => format!(in alloc; "none"),
+        Ok(command) => put_command(text, &command),
+        Err(WordsFault::Usage) => text.push_str("none"),
         Err(WordsFault::WantOfMemory) => Err(AllocError),
     }
 }
@@ -140,5 +142,7 @@ fn spelled_text(alloc: Global, words: &[String]) -> Result<String, AllocError> {
 /// Answers a command line by what it spells.
 pub fn answer(alloc: Global, _given: &Given<'_>, question: &str) -> Result<String> {
     let words = words_of(alloc, question)?;
-    Ok(spelled_text(alloc, words.as_slice())?)
+    let mut text = String::new(alloc);
+    put_spelled(alloc, &mut text, &words)?;
+    Ok(text)
 }

@@ -52,13 +52,13 @@ fn again_text(alloc: Global, file: &[u8]) -> Result<String> {
 
 /// What a kind of question asks of the file of a generated image.
 fn file_text(alloc: Global, kind: &str, file: &[u8]) -> Result<String> {
-    let text = match kind {
-        "length" => format!(in alloc; "{}", file.len()),
-        "file" => hex::encode_upper(alloc, file),
-        "sum" => format!(in alloc; "{:X}", sum_of(file)),
-        _ => bail!("no question: {kind}"),
-    };
-    Ok(text?)
+    match kind {
+        "length" => Ok(format!(in alloc; "{}", file.len())?),
+        "file" => Ok(hex::encode_upper(alloc, file)?),
+        "sum" => Ok(format!(in alloc; "{:X}", sum_of(file))?),
+        "again" => again_text(alloc, file),
+        _ => bail!("no question"),
+    }
 }
 
 fn number_of(text: &str) -> Result<u32>
@@ -86,9 +86,8 @@ fn counted_text(alloc: Global, number: u32) -> Result<String>
 pub fn answer(alloc: Global, _given: &Given<'_>, question: &str) -> Result<String> {
     let (kind, number) = parted(question, ' ')?;
     let number = number_of(number)?;
-    match kind {
-        "counted" => counted_text(alloc, number),
-        "again" => again_text(alloc, &generated_file(alloc, number)?),
-        _ => file_text(alloc, kind, &generated_file(alloc, number)?),
+    if kind == "counted" {
+        return counted_text(alloc, number);
     }
+    file_text(alloc, kind, &generated_file(alloc, number)?)
 }

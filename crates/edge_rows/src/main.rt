@@ -37,15 +37,22 @@ fn ask_all(rt: &(impl Files + Print + AllocGlobal)) -> Result<Tally> {
     Ok(all)
 }
 
+/// Calls files and streams, but for the standard ones.
+fn call_all(rt: &(impl Files + Print + AllocGlobal)) -> Result<Tally> {
+    let mut all = Tally::NONE;
+    all.add(desks::memory_desk(rt)?);
+    all.add(desks::file_desk(rt)?);
+    all.add(replaced::replaced_files(rt)?);
+    all.add(sources::memory_source(rt)?);
+    all.add(sinks::memory_sinks(rt)?);
+    all.add(streams::files(rt)?);
+    all.add(streams::buffer(rt)?);
+    Ok(all)
+}
+
 fn main(rt: HostRuntime) -> Result<()> {
     let mut all = ask_all(&rt)?;
-    all.add(desks::memory_desk(&rt)?);
-    all.add(desks::file_desk(&rt)?);
-    all.add(replaced::replaced_files(&rt)?);
-    all.add(sources::memory_source(&rt)?);
-    all.add(sinks::memory_sinks(&rt)?);
-    all.add(streams::files(&rt)?);
-    all.add(streams::buffer(&rt)?);
+    all.add(call_all(&rt)?);
     all.add(streams::standard_streams(&rt)?);
     all.print(&rt, "all")?;
     all.verdict()

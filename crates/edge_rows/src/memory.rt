@@ -6,7 +6,7 @@ ghost use Rattle.memory_core.specs.Kinds.{writes};
 
 use crate::accesses::{request_of, write_reply};
 use crate::texts::parted;
-use anyhow::{Context, Result, anyhow, bail, ensure};
+use anyhow::{Context, Result, bail, ensure};
 use image_file::{Image, read_image};
 use memory_core::{Entry, Kind, Limit, MemState, Reply, Request};
 use row_tally::{Given, bytes, longword};
@@ -45,16 +45,20 @@ fn ask(image: &Image, memory: &mut MemState, request: &Request) -> Result<Reply>
 }
 
 /// Makes the accesses, and tells their replies.
-fn replies_of(alloc: Global, image: &Image, memory: &mut MemState, accesses: &str) -> Result<String>
+fn push_replies(
+    image: &Image,
+    memory: &mut MemState,
+    replies: &mut String,
+    accesses: &str,
+) -> Result<()>
     requires image { memory.old.set_up.image ≡ image.now }
     requires processors { memory.old.processors ≡ 3 }
 {
-    let mut replies = String::new(alloc);
     for access in accesses.split_whitespace() {
         let reply = ask(image, memory, &request_of(access)?)?;
-        write_reply(&mut replies, reply)?;
+        write_reply(replies, reply)?;
     }
-    Ok(replies)
+    Ok(())
 }
 
 /// A memory for three processors.
@@ -66,7 +70,7 @@ fn memory_of(alloc: Global, image: &Image, limit: Limit, miss: u16) -> Result<Me
     let input = vec![in alloc; INPUT]?;
     match MemState::new(alloc, image, input, PROCESSORS, limit, miss) {
         Ok(memory) => Ok(memory),
-        Err(_) => Err(anyhow!("want of memory")),
+        Err(_) => bail!("want of memory"),
     }
 }
 
@@ -76,16 +80,15 @@ fn image_of(alloc: Global, sample: &str) -> Result<Image>
 {
     match read_image(alloc, &bytes(alloc, sample)?) {
         Ok(image) => Ok(image),
-        Err(refusal) => Err(anyhow!("no image: {refusal:?}")),
+        Err(_) => bail!("no image"),
     }
 }
 
-fn page_text(alloc: Global, memory: &MemState, address: u32) -> Result<String> {
-    let text = match (memory.page_place(address / PAGE), memory.byte(address)) {
+fn page_text(alloc: Global, memory: &MemState, address: u32) -> Result<String, AllocError> {
+    match (memory.page_place(address / PAGE), memory.byte(address)) {
         (Some(place), Some(byte)) => format!(in alloc; "{place:X} {byte:X}"),
-        _ => format!(in alloc; "- -"),
-    };
-    Ok(text?)
+        _ => String::from_str(alloc, "- -"),
+    }
 }
 
 fn text_of(alloc: Global, entry: &Entry) -> Result<String, AllocError> {
@@ -111,9 +114,9 @@ fn entries_text(alloc: Global, memory: &MemState) -> Result<String, AllocError> 
 /// Answers a question with a number.
 fn answer_at(alloc: Global, memory: &MemState, question: &str, number: u32) -> Result<String> {
     match question {
-        "page" => page_text(alloc, memory, number),
+        "page" => Ok(page_text(alloc, memory, number)?),
         "entry" => entry_text(alloc, memory, number),
-        _ => bail!("no question: {question}"),
+        _ => bail!("no question"),
     }
 }
 
@@ -122,12 +125,11 @@ fn answer_of(alloc: Global, memory: &MemState, question: &str) -> Result<String>
     if let Some((question, number)) = question.split_once(' ') {
         return answer_at(alloc, memory, question, longword(number)?);
     }
-    let text = match question {
-        "output" => hex::encode_upper(alloc, memory.output()),
-        "entries" => entries_text(alloc, memory),
-        _ => bail!("no question: {question}"),
-    };
-    Ok(text?)
+    match question {
+        "output" => Ok(hex::encode_upper(alloc, memory.output())?),
+        "entries" => Ok(entries_text(alloc, memory)?),
+        _ => bail!("no question"),
+    }
 }
 
 /// A number of entries, or behind `puts/` of bytes that are put.
@@ -151,11 +153,12 @@ fn answer_behind(alloc: Global, image: &Image, beside: &str, question: &str) -> 
 {
     let (miss, limit, accesses) = history_of(beside)?;
     let mut memory = memory_of(alloc, image, limit, miss)?;
-    let replies = replies_of(alloc, image, &mut memory, accesses)?;
-    match question {
-        "replies" => Ok(String::from_str(alloc, replies.as_str().trim_start())?),
-        _ => answer_of(alloc, &memory, question),
+    let mut replies = String::new(alloc);
+    push_replies(image, &mut memory, &mut replies, accesses)?;
+    if question == "replies" {
+        return Ok(replies);
     }
+    answer_of(alloc, &memory, question)
 }
 
 /// Answers `replies`, `output`, `entries`, `entry PLACE` and `page ADDRESS`.

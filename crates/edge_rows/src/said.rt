@@ -1,5 +1,5 @@
 // Questions about lines: those of threads, of refused files, and of generated images.
-use crate::texts::{parted, text_of};
+use crate::texts::{parted, text_behind, text_of};
 use anyhow::{Context, Result, bail, ensure};
 use report_text::{
     MOST_GROUPS, MOST_NUMBERS, Offered, Subject, generated_bytes, generated_lines, offer,
@@ -34,7 +34,7 @@ fn exception_of(word: &str, number: u32) -> Result<Exception> {
         "read" => Ok(access_violation(number, false)),
         "write" => Ok(access_violation(number, true)),
         "trap" => trap_of(number),
-        _ => bail!("no end: {word}"),
+        _ => bail!("no end"),
     }
 }
 
@@ -49,12 +49,17 @@ fn end_of(text: &str) -> Result<End> {
     }
 }
 
+fn set_registers(registers: &mut [u32; 15], values: &[(u32, u32)]) -> Result<()> {
+    for (number, value) in values {
+        *registers.get_mut(*number as usize).context("a register")? = *value;
+    }
+    Ok(())
+}
+
 /// The registers that are not 0 are NUMBER=VALUE with commas between.
 fn registers_of(alloc: Global, text: &str) -> Result<[u32; 15]> {
     let mut registers = [0; 15];
-    for (number, value) in &pairs(alloc, text)? {
-        *registers.get_mut(*number as usize).context("a register")? = *value;
-    }
+    set_registers(&mut registers, &pairs(alloc, text)?)?;
     Ok(registers)
 }
 
@@ -75,28 +80,37 @@ fn processor_of(alloc: Global, text: &str) -> Result<Processor> {
     Ok((end, state_of(alloc, pc, psw, registers)?, retired))
 }
 
-fn processors_of(alloc: Global, threads: &str) -> Result<Vec<Processor>> {
-    let mut processors = Vec::new(alloc);
+fn push_processors(alloc: Global, processors: &mut Vec<Processor>, threads: &str) -> Result<()> {
     for thread in threads.split("; ") {
         processors.push(processor_of(alloc, thread)?)?;
     }
-    Ok(processors)
+    Ok(())
 }
 
-/// Answers `report THREAD; THREAD ..`.
-fn report_answer(alloc: Global, threads: &str) -> Result<String> {
-    let processors = processors_of(alloc, threads)?;
-    match report(alloc, &processors) {
+fn report_text(alloc: Global, processors: &[Processor]) -> Result<String> {
+    match report(alloc, processors) {
         Ok(lines) => text_of(alloc, &lines),
         Err(_) => bail!("no memory"),
     }
 }
 
-fn numbers(alloc: Global, text: &str) -> Result<Vec<u64>> {
-    let mut numbers = Vec::new(alloc);
-    for piece in &pieces(alloc, text)? {
+/// Answers `report THREAD; THREAD ..`.
+fn report_answer(alloc: Global, threads: &str) -> Result<String> {
+    let mut processors = Vec::new(alloc);
+    push_processors(alloc, &mut processors, threads)?;
+    report_text(alloc, &processors)
+}
+
+fn push_numbers(numbers: &mut Vec<u64>, pieces: &[&str]) -> Result<()> {
+    for piece in pieces {
         numbers.push(number(piece)?)?;
     }
+    Ok(())
+}
+
+fn numbers(alloc: Global, text: &str) -> Result<Vec<u64>> {
+    let mut numbers = Vec::new(alloc);
+    push_numbers(&mut numbers, &pieces(alloc, text)?)?;
     Ok(numbers)
 }
 
@@ -107,34 +121,29 @@ fn sink_of(alloc: Global, most: u32, fails: &str) -> Result<MemorySink> {
     Ok(MemorySink::slow(room, numbers(alloc, fails)?, most as usize))
 }
 
-/// What the sink answers to a thread's line, and what it has taken.
-fn offered_text(
-    alloc: Global,
-    mut sink: MemorySink,
-    thread: u8,
-    processor: &Processor,
-) -> Result<String> {
+/// What the sink answers to a thread's line.
+fn offered(sink: &mut MemorySink, thread: u8, processor: &Processor) -> &'static str {
     let (end, state, retired) = processor;
-    let word = match offer(thread, *end, state, *retired, &mut sink) {
-        Offered::Written => "written",
-        Offered::Failed => "failed",
-    };
-    let taken = text_of(alloc, sink.bytes())?;
-    Ok(format!(in alloc; "{word} {taken}")?)
+    match offer(thread, *end, state, *retired, sink) {
+        Offered::Written => "written ",
+        Offered::Failed => "failed ",
+    }
 }
 
 /// Offers the line that NUMBER THREAD spells.
-fn offer_thread(alloc: Global, sink: MemorySink, rest: &str) -> Result<String> {
+fn offer_thread(alloc: Global, sink: &mut MemorySink, rest: &str) -> Result<&'static str> {
     let (thread, rest) = parted(rest, ' ')?;
     let thread = u8::try_from(longword(thread)?)?;
-    offered_text(alloc, sink, thread, &processor_of(alloc, rest)?)
+    Ok(offered(sink, thread, &processor_of(alloc, rest)?))
 }
 
-/// Answers `offer MOST FAILS NUMBER THREAD`.
+/// Answers `offer MOST FAILS NUMBER THREAD` by what the sink answers, and what it has taken.
 fn offer_answer(alloc: Global, rest: &str) -> Result<String> {
     let (most, rest) = parted(rest, ' ')?;
     let (fails, rest) = parted(rest, ' ')?;
-    offer_thread(alloc, sink_of(alloc, longword(most)?, fails)?, rest)
+    let mut sink = sink_of(alloc, longword(most)?, fails)?;
+    let answer = offer_thread(alloc, &mut sink, rest)?;
+    text_behind(alloc, answer, sink.bytes())
 }
 
 fn subject_of(word: &str) -> Result<Subject> {
@@ -145,17 +154,19 @@ fn subject_of(word: &str) -> Result<Subject> {
         "order" => Ok(Subject::Order),
         "hints" => Ok(Subject::Hints),
         "live" => Ok(Subject::Live),
-        _ => bail!("no subject: {word}"),
+        _ => bail!("no subject"),
     }
+}
+
+fn refused_text(alloc: Global, subject: Subject, told: &[u64]) -> Result<String> {
+    ensure!(told.len() <= MOST_NUMBERS, "too many numbers");
+    text_of(alloc, refused_line(subject, told).as_slice())
 }
 
 /// Answers `refused SUBJECT NUMBERS`.
 fn refused_answer(alloc: Global, rest: &str) -> Result<String> {
     let (subject, told) = two_fields(rest)?;
-    let (subject, told) = (subject_of(subject)?, numbers(alloc, told)?);
-    ensure!(told.len() <= MOST_NUMBERS, "too many numbers");
-    let line = refused_line(subject, &told);
-    text_of(alloc, line.as_slice())
+    refused_text(alloc, subject_of(subject)?, &numbers(alloc, told)?)
 }
 
 /// Answers `generated NUMBER MAPPED MEMORY`, with the bytes of the file that the number says.
@@ -175,6 +186,6 @@ pub fn answer(alloc: Global, _given: &Given<'_>, question: &str) -> Result<Strin
         "offer" => offer_answer(alloc, rest),
         "refused" => refused_answer(alloc, rest),
         "generated" => generated_answer(alloc, rest),
-        _ => bail!("no question: {kind}"),
+        _ => bail!("no question"),
     }
 }

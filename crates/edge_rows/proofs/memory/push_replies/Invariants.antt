@@ -1,5 +1,5 @@
 use Rattle.std.proofs.Common.{◌≡◌}
-use Rattle.edge_rows.proofs.memory.replies_of.Given as goal
+use Rattle.edge_rows.proofs.memory.push_replies.Given as goal
 
 abbrev pub invariant-loop-access : goal.invariant-loop-access
 invariant-loop-access l = record {
