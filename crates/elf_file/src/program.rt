@@ -1,7 +1,7 @@
 // The program that an ELF file has.
 ghost use Rattle.std.specs.Prelude.{◌≡◌, IfOk};
 ghost use Rattle.elf_file.specs.Refusal.{Gives};
-ghost use Rattle.elf_file.specs.Program.{segments_in, program_of};
+ghost use Rattle.elf_file.specs.Program.{segment_in, segments_in, program_of};
 
 use crate::fields::part_at;
 use crate::header::header_of;
@@ -42,6 +42,18 @@ impl Model for Program {
     ghost view = { λ p. record { entry = p.entry; segments = p.segments.items } };
 }
 
+fn segment_of(alloc: Global, bytes: &[u8], header: &SegmentHeader) -> Result<Segment, AllocError>
+    ensures { IfOk result (λ s. s ≡ segment_in bytes.now header.now) }
+{
+    let stored = part_at(bytes, header.offset as usize, header.stored as usize);
+    Ok(Segment {
+        address: header.address,
+        size: header.size,
+        writable: header.is_writable(),
+        stored: Vec::from_slice(alloc, stored)?,
+    })
+}
+
 /// The loaded segments of the headers.
 fn segments_of(
     alloc: Global,
@@ -53,13 +65,7 @@ fn segments_of(
     let mut segments = Vec::new(alloc);
     for header in headers {
         if header.is_loaded() {
-            let stored = part_at(bytes, header.offset as usize, header.stored as usize);
-            segments.push(Segment {
-                address: header.address,
-                size: header.size,
-                writable: header.is_writable(),
-                stored: Vec::from_slice(alloc, stored)?,
-            })?;
+            segments.push(segment_of(alloc, bytes, header)?)?;
         }
     }
     Ok(segments)

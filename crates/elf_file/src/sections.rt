@@ -18,6 +18,12 @@ pub struct SectionHeader {
     pub link: u32,
 }
 
+fn is_symbol_table(section: &SectionHeader) -> bool
+    ensures { result ≡ is_symbol_table section.now }
+{
+    section.kind == SYMBOL_TABLE
+}
+
 /// Whether the section headers have another size, or are not all in the file.
 pub fn lacks_sections(header: &Header, bytes: &[u8]) -> bool
     ensures { result ≡ lacks_sections header.now bytes.now }
@@ -65,7 +71,7 @@ pub fn symbol_table(sections: &[SectionHeader]) -> Option<usize>
     ensures value { result ≡ position is_symbol_table sections.now }
     ensures within { IfSome result (λ place. place < length sections.now) }
 {
-    sections.iter().position(|s| s.kind == SYMBOL_TABLE)
+    sections.iter().position(is_symbol_table)
 }
 
 /// Whether the section of that number isn't all in the file.

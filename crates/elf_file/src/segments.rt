@@ -100,7 +100,7 @@ pub fn segment_headers(
 fn first_linked(headers: &[SegmentHeader]) -> Option<usize>
     ensures { result ≡ position asks_linker headers.now }
 {
-    headers.iter().position(|h| h.asks_linker())
+    headers.iter().position(SegmentHeader::asks_linker)
 }
 
 fn first_cut(bytes: &[u8], headers: &[SegmentHeader]) -> Option<usize>
@@ -112,13 +112,13 @@ fn first_cut(bytes: &[u8], headers: &[SegmentHeader]) -> Option<usize>
 fn first_misplaced(headers: &[SegmentHeader]) -> Option<usize>
     ensures { result ≡ position is_misplaced headers.now }
 {
-    headers.iter().position(|h| h.is_misplaced())
+    headers.iter().position(SegmentHeader::is_misplaced)
 }
 
 fn first_writable_code(headers: &[SegmentHeader]) -> Option<usize>
     ensures { result ≡ position has_writable_code headers.now }
 {
-    headers.iter().position(|h| h.has_writable_code())
+    headers.iter().position(SegmentHeader::has_writable_code)
 }
 
 /// Whether the program headers give segments that can be loaded.
