@@ -11,6 +11,7 @@ use Rattle.image_file.specs.Pages.{pages_of}
 use Rattle.image_file.specs.Whole.{IsStart}
 use Rattle.image_file.specs.Reading.{image_of}
 use Rattle.image_file.specs.Steps.{◌>>=◌, refuse_if, refuse_at}
+use Rattle.image_parts.specs.declared.parts.Parts.{Parts}
 use Rattle.image_parts.specs.declared.refusal.MakeRefusal.{MakeRefusal}
 use Rattle.image_parts.specs.declared.refusal.MakeRefusal.TheVariants.{StoredTooLong, TooMany}
 use Rattle.image_parts.specs.Values.{PartsValue}
@@ -48,6 +49,10 @@ pub record Fits (image : ImageValue) : Type 0 where
   pub rows_fit : AllByRecursion RowFits (map row_of image.sections)
   pub entries_fit : AllByRecursion (λ (e : ℕ). e < 2 ^ 32) image.entries
   pub pages : image.pages ≡ pages_of image.sections
+
+-- parts as lists
+abbrev pub parts_value : Parts → PartsValue
+parts_value parts = record { threads = parts.threads.now; sections = parts.sections.now; entries = parts.entries.now }
 
 -- R0 to R13 are 0
 abbrev pub is_cleared : Start → Bool

@@ -110,13 +110,17 @@ unfoldable pub program_parts : List SectionValue → List ℕ → OptionsValue �
 program_parts sections starts options values =
     record { threads = threads_from options.stack 0 starts; sections = sections ++ stacks_of options.stack (length starts); entries = entries_of sections starts options values }
 
--- The parts of the image of an ELF file, or the first reason for which it has none.
-unfoldable pub elf_parts : List ℕ → OptionsValue → Result PartsValue MakeRefusal
-elf_parts bytes options = do
-  program ← program_apart bytes
+-- The parts of the image of a file's program, or the first reason for which it has none.
+unfoldable pub parts_of : List ℕ → OptionsValue → ProgramValue → Result PartsValue MakeRefusal
+parts_of bytes options program = do
   starts ← starts_in (sections_of program.segments) (starts_of program options)
   values ← refused_as of_elf (values_of options.functions bytes)
   Ok (program_parts (sections_of program.segments) starts options values)
+
+unfoldable pub elf_parts : List ℕ → OptionsValue → Result PartsValue MakeRefusal
+elf_parts bytes options = do
+  program ← program_apart bytes
+  parts_of bytes options program
 
 unfoldable pub elf_bytes : List ℕ → OptionsValue → Result (List ℕ) MakeRefusal
 elf_bytes bytes options = do

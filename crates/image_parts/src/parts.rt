@@ -5,13 +5,12 @@ ghost use Rattle.image_file.specs.Reading.{image_of};
 ghost use Rattle.image_file.specs.Rows.{total_bytes};
 ghost use Rattle.image_file.specs.Spelling.{row_of, spelling};
 ghost use Rattle.image_parts.specs.Refusal.{Gives};
-ghost use Rattle.image_parts.specs.Parts.{Fits, MOST_COUNTED, is_cleared, sized, stores_too_much, fits_version_1, version_for, most_counted, parts_image, parts_bytes};
+ghost use Rattle.image_parts.specs.Parts.{Fits, MOST_COUNTED, is_cleared, sized, stores_too_much, fits_version_1, version_for, most_counted, parts_image, parts_bytes, parts_value};
 
 use crate::refusal::MakeRefusal;
 use crate::spelled::{put_header, put_rows, put_stored, put_threads, size_of};
 use image_file::{Section, Start, most_threads, put_words, read_image};
 use std::alloc::Global;
-use std::marker::Model;
 use vax_form::{PAGE_SIZE, WantOfMemory};
 
 const VERSION_1: u16 = 1;
@@ -22,19 +21,11 @@ const MOST_BYTES_1: u64 = 1_048_576;
 
 /// The parts of an image: its threads, its sections, of which one of size 0 is as long as what it stores, and addresses
 /// of code beside the threads' starts.
-#[derive(Drop)]
-pub struct Parts {
-    pub threads: Vec<Start>,
-    pub sections: Vec<Section>,
-    pub entries: Vec<u32>,
-}
-
-impl Model for Parts {
-    ghost use Rattle.image_parts.specs.Values.{PartsValue};
-
-    ghost Value = { PartsValue };
-
-    ghost view = { λ p. record { threads = p.threads.items; sections = p.sections.items; entries = p.entries.items } };
+#[derive(Clone, Copy)]
+pub struct Parts<'a> {
+    pub threads: &'a [Start],
+    pub sections: &'a [Section],
+    pub entries: &'a [u32],
 }
 
 fn is_cleared(start: &Start) -> bool
@@ -58,7 +49,7 @@ fn first_too_long(sections: &[Section]) -> Option<usize>
     ensures value { result ≡ position stores_too_much sections.now }
     ensures within { IfSome result (λ place. place < length sections.now) }
 {
-    sections.iter().position(|section| stores_too_much(section))
+    sections.iter().position(stores_too_much)
 }
 
 /// The bytes of the sections' pages.
@@ -78,7 +69,7 @@ fn total_bytes(sections: &[Section]) -> u64
 fn are_cleared(threads: &[Start]) -> bool
     ensures { result ≡ list_all is_cleared threads.now }
 {
-    threads.iter().all(|start| is_cleared(start))
+    threads.iter().all(is_cleared)
 }
 
 fn fits_version_1(threads: &[Start], sections: &[Section]) -> bool
@@ -105,13 +96,13 @@ fn version_for(threads: &[Start], sections: &[Section]) -> u16
 
 /// The bytes that the file would have.
 #[tactic(auto, using(crate::proofs::Sizes::same_stored, crate::proofs::Sizes::same_count), unfolding(crate::specs::Parts::parts_image, image_file::specs::Spelling::spelling))]
-fn spelled(alloc: Global, parts: &Parts) -> Result<Vec<u8>, WantOfMemory>
-    requires few { most_counted parts.now ≤ MOST_COUNTED }
-    requires fit { All (λ s. stores_too_much s ≡ false) parts.now.sections }
-    ensures bytes { IfOk result (λ v. v.items ≡ spelling (parts_image parts.now)) }
-    ensures fit { OnOk result (Fits (parts_image parts.now)) }
+fn spelled(alloc: Global, parts: Parts<'_>) -> Result<Vec<u8>, WantOfMemory>
+    requires few { most_counted (parts_value parts) ≤ MOST_COUNTED }
+    requires fit { All (λ s. stores_too_much s ≡ false) parts.sections.now }
+    ensures bytes { IfOk result (λ v. v.items ≡ spelling (parts_image (parts_value parts.entry))) }
+    ensures fit { OnOk result (Fits (parts_image (parts_value parts.entry))) }
 {
-    let version = version_for(&parts.threads, &parts.sections);
+    let version = version_for(parts.threads, parts.sections);
     let mut out = Vec::new(alloc);
     put_header(
         &mut out,
@@ -120,21 +111,21 @@ fn spelled(alloc: Global, parts: &Parts) -> Result<Vec<u8>, WantOfMemory>
         parts.sections.len() as u16,
         parts.entries.len() as u16,
     )?;
-    put_threads(&mut out, version, &parts.threads)?;
-    put_rows(&mut out, &parts.sections)?;
-    put_words(&mut out, &parts.entries)?;
-    put_stored(&mut out, &parts.sections)?;
+    put_threads(&mut out, version, parts.threads)?;
+    put_rows(&mut out, parts.sections)?;
+    put_words(&mut out, parts.entries)?;
+    put_stored(&mut out, parts.sections)?;
     Ok(out)
 }
 
 /// The bytes of the file of the image that has these parts, in their order, in the lowest version that has room for
 /// them; or the first reason for which there is none. What the format refuses is refused as reading it would be.
 #[tactic(auto, unfolding(crate::specs::Parts::parts_bytes))]
-pub fn from_parts(alloc: Global, parts: &Parts) -> Result<Vec<u8>, MakeRefusal>
+pub fn from_parts(alloc: Global, parts: Parts<'_>) -> Result<Vec<u8>, MakeRefusal>
     // The file is spelled so, or refused so.
-    ensures exact { Gives (λ v. v.items) result (parts_bytes parts.now) }
+    ensures exact { Gives (λ v. v.items) result (parts_bytes (parts_value parts.entry)) }
     // It reads back as the image of the parts.
-    ensures reads_back { IfOk result (λ v. image_of v.items ≡ Ok (parts_image parts.now)) }
+    ensures reads_back { IfOk result (λ v. image_of v.items ≡ Ok (parts_image (parts_value parts.entry))) }
 {
     let counted = parts.sections.len().max(parts.entries.len());
     let count = parts.threads.len().max(counted);
@@ -143,7 +134,7 @@ pub fn from_parts(alloc: Global, parts: &Parts) -> Result<Vec<u8>, MakeRefusal>
             count: count as u64,
         });
     }
-    if let Some(place) = first_too_long(&parts.sections) {
+    if let Some(place) = first_too_long(parts.sections) {
         return Err(MakeRefusal::StoredTooLong {
             place: place as u16,
         });
