@@ -89,7 +89,7 @@ fn read(alloc: Global, file: &File) -> Result<Image>
     }
     match read_image(alloc, &file.bytes) {
         Ok(image) => Ok(image),
-        Err(refusal) => bail!("no image: {refusal:?}"),
+        Err(_) => bail!("no image"),
     }
 }
 

@@ -82,7 +82,7 @@ fn left_text(alloc: Global, world: &World, shown: Shown) -> Result<Option<String
 }
 
 /// What is left, and behind how many lists of picks.
-#[derive(Debug, Drop)]
+#[derive(Drop)]
 struct Outcome {
     text: String,
     lists: u32,

@@ -36,7 +36,7 @@ pub fn translated(alloc: Global, image: &Image, target: Target) -> Result<Transl
 {
     match translate(alloc, image, &[], target) {
         Ok(translation) => Ok(translation),
-        Err(refusal) => bail!("no translation: {refusal:?}"),
+        Err(_) => bail!("no translation"),
     }
 }
 

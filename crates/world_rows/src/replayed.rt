@@ -4,7 +4,7 @@ ghost use Rattle.std.specs.Prelude.{◌≤◌, length};
 ghost use Rattle.image_file.specs.Whole.{IsWhole};
 ghost use Rattle.run_files.specs.Fits.{Fits};
 
-use anyhow::{Context, Result, bail};
+use anyhow::{Context, Result, bail, ensure};
 use image_file::Image;
 use memory_core::Entry;
 use run_files::{
@@ -91,21 +91,28 @@ fn first_wrong(threads: &[ThreadRun], spent: &[bool]) -> Option<usize> {
 }
 
 /// Whether a replay gives what the driven threads do.
-fn gives(
-    run: Option<DrivenRun>,
-    given: Result<Replayed, ReplayRefusal>,
-    order: &OrderFile,
-) -> bool {
-    match (run, given) {
-        (None, Err(ReplayRefusal::NotDriven)) => true,
-        (Some(run), Err(ReplayRefusal::WrongEnd { thread })) => {
-            first_wrong(&run.threads, &order.spent) == Some(usize::from(thread))
+fn gives(run: &DrivenRun, given: &Result<Replayed, ReplayRefusal>, order: &OrderFile) -> bool {
+    match given {
+        Err(ReplayRefusal::WrongEnd { thread }) => {
+            first_wrong(&run.threads, &order.spent) == Some(usize::from(*thread))
         }
-        (Some(run), Ok(replayed)) => {
+        Ok(replayed) => {
             replayed.output.as_slice() == run.output.as_slice()
                 && are_ends(&replayed.ends, &run.threads, &order.spent, &order.counts)
         }
-        _ => false,
+        Err(_) => false,
+    }
+}
+
+/// Whether a replay is refused where the threads are not driven by the order, and else gives what they do.
+fn is_as_driven(
+    run: &Option<DrivenRun>,
+    given: &Result<Replayed, ReplayRefusal>,
+    order: &OrderFile,
+) -> bool {
+    match run {
+        Some(run) => gives(run, given, order),
+        None => matches!(given, Err(ReplayRefusal::NotDriven)),
     }
 }
 
@@ -117,9 +124,8 @@ fn check_order(alloc: Global, image: &Image, order: &OrderFile) -> Result<()>
     let Ok(run) = driven(alloc, image, &order.input, &order.picks, &order.counts) else {
         bail!("want of memory");
     };
-    if !gives(run, replayed(alloc, image, order), order) {
-        bail!("not as replayed");
-    }
+    let given = replayed(alloc, image, order);
+    ensure!(is_as_driven(&run, &given, order), "not as replayed");
     Ok(())
 }
 
@@ -149,6 +155,20 @@ fn is_lowest(place: usize, picks: usize) -> bool {
     }
 }
 
+/// The same of each order that differs from it in one such bit.
+fn check_others(alloc: Global, image: &Image, bytes: &mut [u8], picks: usize) -> Result<()>
+    requires { IsWhole image.now }
+{
+    for place in 0..bytes.len() {
+        if is_lowest(place, picks) {
+            bytes[place] ^= 1;
+            check_bytes(alloc, image, bytes)?;
+            bytes[place] ^= 1;
+        }
+    }
+    Ok(())
+}
+
 /// Refuses a world whose order, or an order that differs from it in one such bit, is not replayed as the threads are driven by it.
 pub fn check_replayed(alloc: Global, image: &Image, input: &[u8], world: &World) -> Result<()>
     requires { IsWhole image.now }
@@ -156,14 +176,7 @@ pub fn check_replayed(alloc: Global, image: &Image, input: &[u8], world: &World)
     let ends = ends_of(alloc, world.processors())?;
     let history = world.memory().history().context("a history")?;
     let mut bytes = bytes_of(alloc, history, input, &ends)?;
-    check_bytes(alloc, image, &bytes)?;
     let picks = HEADER + PART * ends.len() + input.len();
-    for place in 0..bytes.len() {
-        if is_lowest(place, picks) {
-            bytes[place] ^= 1;
-            check_bytes(alloc, image, &bytes)?;
-            bytes[place] ^= 1;
-        }
-    }
-    Ok(())
+    check_bytes(alloc, image, &bytes)?;
+    check_others(alloc, image, &mut bytes, picks)
 }

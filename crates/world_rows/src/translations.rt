@@ -2,7 +2,7 @@
 use crate::images::code_alone;
 use crate::programs::translated;
 use crate::report::Report;
-use anyhow::{Result, bail};
+use anyhow::{Result, ensure};
 use exception_records::{CodeRule, Points, Rules};
 use row_tally::{Given, bytes};
 use std::alloc::{AllocError, Global};
@@ -59,29 +59,29 @@ fn put_rules_at(report: &mut Report, points: &Points, address: u32, word: u32) {
     }
 }
 
-fn rules_text(alloc: Global, points: &Points, pairs: &[(u32, u32)]) -> Result<String, AllocError> {
+fn rules_text(alloc: Global, translation: &Translation) -> Result<String, AllocError> {
     let mut report = Report::new(alloc);
-    for (place, (address, word)) in pairs.iter().enumerate() {
+    for (place, (address, word)) in translation.map.pairs().iter().enumerate() {
         if place > 0 {
             report.put("; ");
         }
-        put_rules_at(&mut report, points, *address, *word);
+        put_rules_at(&mut report, &translation.points, *address, *word);
     }
     report.end()
 }
 
 fn rules_for(alloc: Global, question: &str, target: Target) -> Result<String> {
     let translation = translation_of(alloc, question, target)?;
-    let (map, points) = (&translation.map, &translation.points);
-    Ok(rules_text(alloc, points, map.pairs())?)
+    Ok(rules_text(alloc, &translation)?)
 }
 
 /// The rules of N, Z, V and C at each mapped address of a code, which are the same for both targets.
 pub fn rules(alloc: Global, _given: &Given<'_>, question: &str) -> Result<String> {
     let rules = rules_for(alloc, question, Target::Original)?;
     let other = rules_for(alloc, question, Target::ByteWord)?;
-    if other.as_str() != rules.as_str() {
-        bail!("{other} for the byte-word extension");
-    }
+    ensure!(
+        other.as_str() == rules.as_str(),
+        "other rules for the byte-word extension"
+    );
     Ok(rules)
 }

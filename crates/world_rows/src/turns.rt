@@ -11,7 +11,7 @@ use crate::left::left_text;
 use crate::nothing::nothing_translated;
 use crate::programs::{Limits, Program, made_ready, translated};
 use crate::worlds::{advance_often, pick_often, world_of};
-use anyhow::{Context, Result, anyhow, bail};
+use anyhow::{Context, Result, anyhow, ensure};
 use image_file::Image;
 use row_tally::{Given, RowFault, bytes_or_none, five_fields, longword, number, pairs, pieces};
 use std::alloc::Global;
@@ -73,19 +73,29 @@ fn limits_of(budget: &str, entries: &str) -> Result<Limits, RowFault> {
     })
 }
 
-/// The case of the fields INPUT BUDGET LIMIT PICKS SHOWN.
-fn case_of(alloc: Global, fields: &str) -> Result<Case, RowFault> {
-    let (input, budget, entries, picks, shown) = five_fields(fields)?;
-    let limits = limits_of(budget, entries)?;
-    let input = bytes_or_none(alloc, input)?;
-    let picks = pairs(alloc, picks)?;
-    let shown = pairs(alloc, shown)?;
-    Ok(Case {
-        input,
-        limits,
-        picks,
-        shown,
-    })
+impl Case {
+    /// Without input, picks and bytes.
+    fn empty(alloc: Global) -> Case {
+        Case {
+            input: Vec::new(alloc),
+            limits: Limits {
+                budget: 0,
+                entries: 0,
+            },
+            picks: Vec::new(alloc),
+            shown: Vec::new(alloc),
+        }
+    }
+
+    /// Takes what the fields INPUT BUDGET LIMIT PICKS SHOWN say.
+    fn read(&mut self, alloc: Global, fields: &str) -> Result<(), RowFault> {
+        let (input, budget, entries, picks, shown) = five_fields(fields)?;
+        self.limits = limits_of(budget, entries)?;
+        self.input = bytes_or_none(alloc, input)?;
+        self.picks = pairs(alloc, picks)?;
+        self.shown = pairs(alloc, shown)?;
+        Ok(())
+    }
 }
 
 /// What is left of a world where the threads of its case were picked, which has to be what the driven threads leave.
@@ -119,9 +129,10 @@ fn left_at_each(alloc: Global, program: Program<'_>, case: &Case) -> Result<Stri
 {
     let left = left_at(alloc, program, case, Pace::One)?;
     let other = left_at(alloc, program, case, Pace::Many)?;
-    if other.as_str() != left.as_str() {
-        bail!("{other} where many turns are made at once");
-    }
+    ensure!(
+        other.as_str() == left.as_str(),
+        "something else where many turns are made at once"
+    );
     Ok(left)
 }
 
@@ -132,14 +143,13 @@ enum Way {
     Translated,
 }
 
-fn left_by(alloc: Global, program: Program<'_>, case: &str, way: Way) -> Result<String>
+fn left_by(alloc: Global, program: Program<'_>, case: &Case, way: Way) -> Result<String>
     requires whole { IsWhole program.image.now }
     requires meets { CanRun program }
 {
-    let case = case_of(alloc, case)?;
     match way {
-        Way::Interpreted => left_at(alloc, program, &case, Pace::One),
-        Way::Translated => left_at_each(alloc, program, &case),
+        Way::Interpreted => left_at(alloc, program, case, Pace::One),
+        Way::Translated => left_at_each(alloc, program, case),
     }
 }
 
@@ -168,7 +178,7 @@ fn row_of(question: &str) -> Option<Row<'_>> {
 #[derive(Clone, Copy)]
 struct Asked<'a> {
     image: &'a Image,
-    case: &'a str,
+    case: &'a Case,
     ranges: &'a [Range],
     way: Way,
 }
@@ -213,17 +223,32 @@ fn left_as_asked(alloc: Global, asked: Asked<'_>) -> Result<String>
     }
 }
 
-/// What is left of the world of a row: STARTS CODE STORED INPUT BUDGET LIMIT PICKS SHOWN.
-fn answer_in(alloc: Global, question: &str, ranges: &[Range], way: Way) -> Result<String> {
-    let row = row_of(question).context("an image")?;
-    let image = image_of(alloc, row.starts, row.code, row.stored)?;
+/// The same of the case of a row.
+fn left_of_row(
+    alloc: Global,
+    image: &Image,
+    fields: &str,
+    ranges: &[Range],
+    way: Way,
+) -> Result<String>
+    requires { IsWhole image.now }
+{
+    let mut case = Case::empty(alloc);
+    case.read(alloc, fields)?;
     let asked = Asked {
-        image: &image,
-        case: row.case,
+        image,
+        case: &case,
         ranges,
         way,
     };
     left_as_asked(alloc, asked)
+}
+
+/// What is left of the world of a row: STARTS CODE STORED INPUT BUDGET LIMIT PICKS SHOWN.
+fn answer_in(alloc: Global, question: &str, ranges: &[Range], way: Way) -> Result<String> {
+    let row = row_of(question).context("an image")?;
+    let image = image_of(alloc, row.starts, row.code, row.stored)?;
+    left_of_row(alloc, &image, row.case, ranges, way)
 }
 
 /// The same with nothing translated.
