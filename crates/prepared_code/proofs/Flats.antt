@@ -19,7 +19,7 @@ use Rattle.alpha_meaning.specs.State.{Alpha, Regs, at_place, put, regs_of}
 use Rattle.block_law.specs.Translations.{Code, fetch_of}
 use Rattle.prepared_code.specs.Effects.{local}
 use Rattle.prepared_code.specs.Flats.{AreFlat, IsFlat, IsInForm, IsItsWay, IsLanding, IsNothing, IsStraight, effect, operand}
-use Rattle.prepared_code.specs.Inside.{local_by, step_in, unless_begun}
+use Rattle.prepared_code.specs.Inside.{local_at, local_by, step_in, unless_begun}
 use Rattle.prepared_code.specs.Prepared.{AreEncodable, AreReady}
 use Rattle.prepared_code.specs.declared.flat.Flat.{Flat}
 use Rattle.prepared_code.specs.declared.flat.Way.{Way}
@@ -123,6 +123,27 @@ is_landing code place a op f disp fetched always r31 none it target there begins
       begins = begins;
     })
 
+-- an operation behind which a block begins
+pub is_end : (code : Code) (place : ℕ) (i : AlphaInstr) (f : Flat) → fetch_of code.words place ≡ Some i → is_some (address_at code.map (place + 1)) ≡ true → IsInForm f → IsFlatOf i f → f.number ≡ 0 → f.way ≡ way.Ends → IsAlone code place f
+is_end code place i f fetched begins form is none it =
+    its_way code place f way.Ends none it (record {
+      form = form;
+      goes = λ r. ap (λ o. local_by o (at_place (regs_of r) place)) fetched ∙ is r place;
+      begins = begins;
+    })
+
+-- a conditional branch
+pub is_fork : (code : Code) (place : ℕ) (op : BranchOp) (f : Flat) (disp : ℤ) → fetch_of code.words place ≡ Some (Branch op f.a disp) → links op ≡ false → f.number ≡ 0 → f.way ≡ way.Forks op → f.a < 32 → f.literal < 2 ^ 32 → f.literal ≡ target_of place disp → IsAlone code place f
+is_fork code place op f disp fetched conditional none it a target there =
+    its_way code place f (way.Forks op) none it (record {
+      register = a;
+      target = target;
+      goes = λ r.
+          ap (λ o. local_by o (at_place (regs_of r) place)) fetched
+          ∙ ap (λ regs. Some (at_place regs (if taken op (regs_of r f.a) then target_of place disp else place + 1))) (unwritten op f.a (link_of place) (regs_of r) (inl conditional))
+          ∙ ap (λ n. Some (at_place (regs_of r) (if taken op (regs_of r f.a) then n else place + 1))) (sym there);
+    })
+
 -- an access and a PALcode call are no local steps
 pub is_stop : (code : Code) (place : ℕ) (i : AlphaInstr) (f : Flat) → fetch_of code.words place ≡ Some i → ((c : Alpha) → local_by (Some i) c ≡ None) → f.number ≡ 0 → f.way ≡ way.Stops → IsAlone code place f
 is_stop code place i f fetched local none it =
@@ -139,6 +160,22 @@ lands_outside code place f is regs = ap (option_and_then (λ (e : Alpha). unless
     by : (o : Option ℕ) → is_some o ≡ true → unless_begun o (at_place regs f.literal) ≡ None
     by None e = cc e
     by (Some address) e = refl
+
+-- where a block begins at the next word, or at the one to which a local step goes, it does not stay inside
+pub comes_outside : (code : Code) (c d : Alpha) → local_at code c ≡ Some d → is_some (address_at code.map d.pc) ≡ true → step_in code c ≡ None
+comes_outside code c d goes begins = ap (option_and_then (λ (e : Alpha). unless_begun (address_at code.map e.pc) e)) goes ∙ by (address_at code.map d.pc) begins
+  where
+    by : (o : Option ℕ) → is_some o ≡ true → unless_begun o d ≡ None
+    by None e = cc e
+    by (Some address) e = refl
+
+-- and where none begins there, it does
+pub goes_inside : (code : Code) (c d : Alpha) → local_at code c ≡ Some d → is_some (address_at code.map d.pc) ≡ false → step_in code c ≡ Some d
+goes_inside code c d goes none = ap (option_and_then (λ (e : Alpha). unless_begun (address_at code.map e.pc) e)) goes ∙ by (address_at code.map d.pc) none
+  where
+    by : (o : Option ℕ) → is_some o ≡ false → unless_begun o d ≡ Some d
+    by None e = refl
+    by (Some address) e = cc e
 
 -- a word that computes, and behind which no block begins
 pub is_alone : (code : Code) (place : ℕ) (i : AlphaInstr) (f : Flat) → fetch_of code.words place ≡ Some i → address_at code.map (place + 1) ≡ None → IsInForm f → IsFlatOf i f → f.number ≡ 1 → f.way ≡ way.Other
@@ -181,7 +218,14 @@ pub counted_way : (code : Code) (place number within : ℕ) (f : Flat) (w : Way)
 counted_way code place number within f way.Other is = tt
 counted_way code place number within f way.Stops is = is
 counted_way code place number within f way.Lands is = record { target = is.target; goes = is.goes; begins = is.begins }
+counted_way code place number within f way.Ends is =
+    record {
+      form = record { registers = record { a = is.form.registers.a; b = is.form.registers.b; c = is.form.registers.c; second = is.form.registers.second }; zero = λ r31. let none = is.form.zero r31 in record { op = none.op; a = none.a; b = none.b; literal = none.literal } };
+      goes = is.goes;
+      begins = is.begins;
+    }
 counted_way code place number within f (way.Branches op) is = record { register = is.register; target = is.target; step = is.step }
+counted_way code place number within f (way.Forks op) is = record { register = is.register; target = is.target; goes = is.goes }
 
 -- a word that is looked up
 pub flat_there : (code : Code) (flats : List Flat) (place : ℕ) (f : Flat) → AreFlat code flats → place < length flats → f ≡ get_or flats place f → IsFlat code flats place f

@@ -23,13 +23,13 @@ use Rattle.alpha_meaning.specs.Act.{links, target_of}
 use Rattle.alpha_meaning.specs.Result.{result_of}
 use Rattle.alpha_meaning.specs.State.{at_place, put, regs_of}
 use Rattle.block_law.specs.Translations.{Code, fetch_of}
-use Rattle.prepared_code.specs.Flats.{AreFlat, HasRegisters, IsItsWay, IsStraight, operand}
-use Rattle.prepared_code.specs.Known.{AreKnown, branch_at, branch_to, branching, by_literal, flat_at, flat_by, flat_of, in_form, is_begun, is_inside, landing, lands_at, memory_at, most_straight, nothing, operation, other, stays_behind, stays_inside, stop, straight_at, straight_words, sum, with_literal}
+use Rattle.prepared_code.specs.Flats.{AreFlat, HasRegisters, IsInForm, IsItsWay, IsStraight, operand}
+use Rattle.prepared_code.specs.Known.{AreKnown, branch_at, branch_to, branching, by_literal, ending, flat_at, flat_by, flat_of, forking, in_form, is_begun, is_inside, landing, lands_at, leaving, memory_at, most_straight, nothing, operation, other, stays_behind, stays_inside, stop, straight_at, straight_words, sum, with_literal}
 use Rattle.prepared_code.specs.Prepared.{AreReady}
 use Rattle.prepared_code.specs.declared.flat.Flat.{Flat}
 use Rattle.prepared_code.specs.declared.flat.Way.TheVariants as way
 use Rattle.prepared_code.specs.declared.prepared.Word.{Word}
-use Rattle.prepared_code.proofs.Flats.{IsAlone, IsFlatOf, StaysBehind, counted, counted_way, is_alone, is_branch, is_landing, is_stop, others, put_in}
+use Rattle.prepared_code.proofs.Flats.{IsAlone, IsFlatOf, StaysBehind, counted, counted_way, is_alone, is_branch, is_end, is_fork, is_landing, is_stop, others, put_in}
 use Rattle.prepared_code.proofs.Words.{is_mark, ready_at}
 
 -- ---- words of a code
@@ -126,29 +126,47 @@ operation_is op a (Literal n) c ha hn hc = with_literal_is op a n c ha hn hc
 nothing_told : (code : Code) (place : ℕ) → IsAlone code place other
 nothing_told code place = record { few = omega arith; straight = λ e. absurd (omega (arith, e)); its_way = tt }
 
-straight_is : (code : Code) (place : ℕ) (i : AlphaInstr) (f : Flat) → fetch_of code.words place ≡ Some i → address_at code.map (place + 1) ≡ None → IsComputed i f → IsAlone code place (in_form f)
-straight_is code place i f fetched inside it = by (f.c == 31) refl
+-- in the form in which it runs
+record IsFormed (i : AlphaInstr) (f : Flat) : Type 0 where
+  form : IsInForm f
+  is : IsFlatOf i f
+  number : f.number ≡ 1
+  plain : f.way ≡ way.Other
+
+formed : (i : AlphaInstr) (f : Flat) → IsComputed i f → IsFormed i (in_form f)
+formed i f it = by (f.c == 31) refl
   where
-    by : (b : Bool) → (f.c == 31) ≡ b → IsAlone code place (if b then nothing else f)
-    by true e =
-        is_alone code place i nothing fetched inside
-        (record {
-          registers = record { a = omega arith; b = omega arith; c = omega arith; second = inl refl };
-          zero = λ r31. record { op = refl; a = refl; b = refl; literal = refl };
-        })
-        (λ r pc. it.is r pc ∙ ap (λ n. Some (at_place (put (regs_of r) n (result_of f.op (regs_of r f.a) (operand f (regs_of r)) (regs_of r f.c))) (pc + 1))) (eqb-true f.c 31 e))
-        refl refl
-    by false e =
-        is_alone code place i f fetched inside
-        (record { registers = it.registers; zero = λ r31. absurd (true≢false (sym (eq-eqb f.c 31 r31) ∙ e)) })
-        it.is it.number it.plain
+    by : (b : Bool) → (f.c == 31) ≡ b → IsFormed i (if b then nothing else f)
+    by true e = record {
+      form = record {
+        registers = record { a = omega arith; b = omega arith; c = omega arith; second = inl refl };
+        zero = λ r31. record { op = refl; a = refl; b = refl; literal = refl };
+      };
+      is = λ r pc. it.is r pc ∙ ap (λ n. Some (at_place (put (regs_of r) n (result_of f.op (regs_of r f.a) (operand f (regs_of r)) (regs_of r f.c))) (pc + 1))) (eqb-true f.c 31 e);
+      number = refl;
+      plain = refl;
+    }
+    by false e = record { form = record { registers = it.registers; zero = λ r31. absurd (true≢false (sym (eq-eqb f.c 31 r31) ∙ e)) }; is = it.is; number = it.number; plain = it.plain }
+
+-- a form that says so of the end of a block
+ending_form : (f : Flat) → IsInForm f → IsInForm (ending f)
+ending_form f form = record { registers = record { a = form.registers.a; b = form.registers.b; c = form.registers.c; second = form.registers.second }; zero = λ r31. let none = form.zero r31 in record { op = none.op; a = none.a; b = none.b; literal = none.literal } }
 
 straight_alone : (code : Code) (place : ℕ) (i : AlphaInstr) (f : Flat) → fetch_of code.words place ≡ Some i → IsComputed i f → IsAlone code place (straight_at code place f)
 straight_alone code place i f fetched it = by (is_inside code (place + 1)) refl
   where
-    by : (b : Bool) → is_inside code (place + 1) ≡ b → IsAlone code place (if b then in_form f else other)
-    by true e = straight_is code place i f fetched (inside_none code (place + 1) e) it
-    by false e = nothing_told code place
+    g : IsFormed i (in_form f)
+    g = formed i f it
+
+    ends : (b : Bool) → is_begun code (place + 1) ≡ b → IsAlone code place (if b then ending (in_form f) else other)
+    ends true e =
+        is_end code place i (ending (in_form f)) fetched (and_parts (nat_lt (place + 1) (length code.words)) (is_some (address_at code.map (place + 1))) e).1
+        (ending_form (in_form f) g.form) g.is refl refl
+    ends false e = nothing_told code place
+
+    by : (b : Bool) → is_inside code (place + 1) ≡ b → IsAlone code place (if b then in_form f else if is_begun code (place + 1) then ending (in_form f) else other)
+    by true e = is_alone code place i (in_form f) fetched (inside_none code (place + 1) e) g.form g.is g.number g.plain
+    by false e = ends (is_begun code (place + 1)) refl
 
 memory_alone : (code : Code) (place : ℕ) (op : MemoryOp) (a base : ℕ) (disp : ℤ) → fetch_of code.words place ≡ Some (Memory op a base disp) → a < 32 → base < 32
     → IsAlone code place (memory_at code place op a base disp)
@@ -176,14 +194,18 @@ target_fits place disp = below (place + 1 + cast_unsigned w32 disp)
 branch_alone : (code : Code) (place : ℕ) (op : BranchOp) (a : ℕ) (disp : ℤ) → fetch_of code.words place ≡ Some (Branch op a disp) → a < 32 → IsAlone code place (branch_at code place op a disp)
 branch_alone code place op a disp fetched ha = by (lands_at code op a (target_of place disp)) refl
   where
-    inner : (b : Bool) → stays_inside code place op a (target_of place disp) ≡ b → IsAlone code place (if b then branching op a (target_of place disp) else other)
+    fork : (b : Bool) → links op ≡ b → IsAlone code place (if b then other else forking op a (target_of place disp))
+    fork true l = nothing_told code place
+    fork false l = is_fork code place op (forking op a (target_of place disp)) disp fetched l refl refl ha (target_fits place disp) refl
+
+    inner : (b : Bool) → stays_inside code place op a (target_of place disp) ≡ b → IsAlone code place (if b then branching op a (target_of place disp) else leaving op a (target_of place disp))
     inner true e =
         let parts = and_parts (stays_behind code place op a) (is_inside code (target_of place disp)) e in
         is_branch code place op (branching op a (target_of place disp)) disp fetched refl refl ha (target_fits place disp) refl (inside_none code (target_of place disp) parts.1) (behind_is code place op a parts.0)
-    inner false e = nothing_told code place
+    inner false e = fork (links op) refl
 
     by : (b : Bool) → lands_at code op a (target_of place disp) ≡ b
-        → IsAlone code place (if b then landing (target_of place disp) else if stays_inside code place op a (target_of place disp) then branching op a (target_of place disp) else other)
+        → IsAlone code place (if b then landing (target_of place disp) else if stays_inside code place op a (target_of place disp) then branching op a (target_of place disp) else leaving op a (target_of place disp))
     by true e =
         let parts = and_parts (links op) (a == 31 && is_begun code (target_of place disp)) e in
         let more = and_parts (a == 31) (is_begun code (target_of place disp)) parts.1 in
@@ -208,8 +230,8 @@ alone_at code place fits = by (fetch_of code.words place) refl fits
 
 -- which way a branch has
 pub way_of : (code : Code) (place : ℕ) (op : BranchOp) (a target : ℕ) (lands stays : Bool) → lands ≡ lands_at code op a target → stays ≡ stays_inside code place op a target
-    → (if lands then landing target else if stays then branching op a target else other) ≡ branch_to code place op a target
-way_of code place op a target lands stays e s = ap₂ (λ (b d : Bool). if b then landing target else if d then branching op a target else other) e s
+    → (if lands then landing target else if stays then branching op a target else leaving op a target) ≡ branch_to code place op a target
+way_of code place op a target lands stays e s = ap₂ (λ (b d : Bool). if b then landing target else if d then branching op a target else leaving op a target) e s
 
 -- ---- words in a row
 -- behind the words none is straight

@@ -68,12 +68,30 @@ pub record IsLanding (code : Code) (place : ℕ) (f : Flat) : Type 0 where
   pub goes : (regs : Regs) → local_at code (at_place regs place) ≡ Some (at_place regs f.literal)
   pub begins : is_some (address_at code.map f.literal) ≡ true
 
+-- the word there does what a flat word says, and a block begins at the next
+pub record IsEnd (code : Code) (place : ℕ) (f : Flat) : Type 0 where
+  pub form : IsInForm f
+  pub goes : (r : List ℕ) → local_at code (at_place (regs_of r) place) ≡ Some (at_place (effect f (regs_of r)) (place + 1))
+  pub begins : is_some (address_at code.map (place + 1)) ≡ true
+
+-- where a branch by the register goes to the literal, else to the next word
+abbrev pub way_out : Flat → BranchOp → (place : ℕ) → Regs → ℕ
+way_out f op place regs = if taken op (regs f.a) then f.literal else place + 1
+
+-- the word there goes so, and a block may begin at either
+pub record IsFork (code : Code) (place : ℕ) (f : Flat) (op : BranchOp) : Type 0 where
+  pub register : f.a < 32
+  pub target : f.literal < 2 ^ 32
+  pub goes : (r : List ℕ) → local_at code (at_place (regs_of r) place) ≡ Some (at_place (regs_of r) (way_out f op place (regs_of r)))
+
 -- ---- all words
 -- what a word's way says of it
 abbrev pub IsItsWay : Code → (place : ℕ) → Flat → Way → Type 0
 IsItsWay code place f way.Other = Unit {0}
 IsItsWay code place f way.Stops = IsStop code place
 IsItsWay code place f way.Lands = IsLanding code place f
+IsItsWay code place f way.Ends = IsEnd code place f
+IsItsWay code place f (way.Forks op) = IsFork code place f op
 IsItsWay code place f (way.Branches op) = IsBranch code place f op
 
 -- a word whose number says how many are straight from it on

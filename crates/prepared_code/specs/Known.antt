@@ -63,9 +63,14 @@ is_inside code word = nat_lt word (length code.words) && not (is_some (address_a
 abbrev pub is_begun : Code → (word : ℕ) → Bool
 is_begun code word = nat_lt word (length code.words) && is_some (address_at code.map word)
 
+-- an operation behind which a block begins
+abbrev pub ending : Flat → Flat
+ending f = record f { way = way.Ends; number = 0 }
+
 -- an operation is straight where no block begins at the next word
 abbrev pub straight_at : Code → (place : ℕ) → Flat → Flat
-straight_at code place f = if is_inside code (place + 1) then in_form f else other
+straight_at code place f =
+    if is_inside code (place + 1) then in_form f else if is_begun code (place + 1) then ending (in_form f) else other
 
 -- an access is none
 abbrev pub memory_at : Code → (place : ℕ) → MemoryOp → (a base : ℕ) → ℤ → Flat
@@ -88,9 +93,16 @@ landing target = record { op = row.Bis; a = 31; b = 31; c = 31; way = way.Lands;
 abbrev pub branching : BranchOp → (a target : ℕ) → Flat
 branching op a target = record { op = row.Bis; a = a; b = 31; c = 31; way = way.Branches op; number = 0; within = 0; literal = target }
 
+-- a conditional branch by which another block may be reached
+abbrev pub forking : BranchOp → (a target : ℕ) → Flat
+forking op a target = record { op = row.Bis; a = a; b = 31; c = 31; way = way.Forks op; number = 0; within = 0; literal = target }
+
+abbrev pub leaving : BranchOp → (a target : ℕ) → Flat
+leaving op a target = if links op then other else forking op a target
+
 abbrev pub branch_to : Code → (place : ℕ) → BranchOp → (a target : ℕ) → Flat
 branch_to code place op a target =
-    if lands_at code op a target then landing target else if stays_inside code place op a target then branching op a target else other
+    if lands_at code op a target then landing target else if stays_inside code place op a target then branching op a target else leaving op a target
 
 abbrev pub branch_at : Code → (place : ℕ) → BranchOp → (a : ℕ) → ℤ → Flat
 branch_at code place op a disp = branch_to code place op a (target_of place disp)

@@ -4,7 +4,7 @@ ghost use Rattle.std.specs.Prelude.{◌≡◌, ◌≢◌, ◌+◌, ◌<◌, ◌�
 ghost use Rattle.alpha_encode.specs.Words.{IsEncodable};
 ghost use Rattle.alpha_meaning.specs.Pieces.{most_words};
 ghost use Rattle.block_law.specs.Translations.{Code, fetch_of};
-ghost use Rattle.prepared_code.specs.Known.{AreKnown, branch_at, by_literal, flat_at, flat_by, in_form, is_begun, is_inside, lands_at, memory_at, most_straight, operation, stays_behind, stays_inside, straight_at, sum, with_literal};
+ghost use Rattle.prepared_code.specs.Known.{AreKnown, branch_at, by_literal, ending, flat_at, flat_by, in_form, is_begun, is_inside, lands_at, leaving, memory_at, most_straight, operation, stays_behind, stays_inside, straight_at, sum, with_literal};
 ghost use Rattle.prepared_code.specs.Prepared.{AreEncodable, AreReady};
 
 use crate::effect::target_of;
@@ -23,8 +23,12 @@ pub(crate) enum Way {
     Stops,
     /// It goes to the word that is the literal, at which a block begins, and writes nothing.
     Lands,
+    /// The operation, behind which a block begins.
+    Ends,
     /// A branch by register `a` to the word that is the literal; it stays inside its block.
     Branches(BranchOp),
+    /// A branch by register `a` to the word that is the literal, at which, or at the next one, a block may begin.
+    Forks(BranchOp),
 }
 
 /// A word as one operation on registers, or as a branch.
@@ -146,13 +150,26 @@ fn is_begun(ready: &[Word], word: usize) -> bool
     }
 }
 
-/// An operation, where no block begins at the next word.
+/// An operation behind which a block begins.
+fn ending(flat: Flat) -> Flat
+    ensures { result ≡ ending flat }
+{
+    Flat {
+        way: Way::Ends,
+        number: 0,
+        ..flat
+    }
+}
+
+/// An operation.
 fn straight_at(ready: &[Word], place: usize, flat: Flat) -> Flat
     requires place { place < length ready.now }
     ensures { (code : Code) → AreReady code.words code.map ready.now (length code.words) → result ≡ straight_at code place flat }
 {
     if is_inside(ready, place + 1) {
         in_form(flat)
+    } else if is_begun(ready, place + 1) {
+        ending(in_form(flat))
     } else {
         OTHER
     }
@@ -196,6 +213,22 @@ fn stays_inside(ready: &[Word], place: usize, op: BranchOp, a: u8, target: u32) 
     stays_behind(ready, place, op, a) && is_inside(ready, target as usize)
 }
 
+/// A branch that may leave its block.
+fn leaving(op: BranchOp, a: u8, target: u32) -> Flat
+    ensures { result ≡ leaving op a target }
+{
+    if links(op) {
+        OTHER
+    } else {
+        Flat {
+            a,
+            way: Way::Forks(op),
+            literal: u64::from(target),
+            ..OTHER
+        }
+    }
+}
+
 /// A branch.
 fn branch_at(ready: &[Word], place: usize, op: BranchOp, a: u8, disp: i32) -> Flat
     requires place { place < length ready.now }
@@ -218,7 +251,7 @@ fn branch_at(ready: &[Word], place: usize, op: BranchOp, a: u8, disp: i32) -> Fl
             ..OTHER
         }
     } else {
-        OTHER
+        leaving(op, a, target)
     }
 }
 
@@ -283,12 +316,26 @@ fn guess_at(flats: &[Flat], place: usize) -> u8 {
     }
 }
 
+/// The same of a word inside the block of another; 0 where a block begins.
+fn guess_inside(ready: &[Word], flats: &[Flat], place: usize) -> u8 {
+    if is_begun(ready, place) {
+        0
+    } else {
+        guess_at(flats, place)
+    }
+}
+
 /// The same of a word before those that are known: by the next one, or by the ways of a branch to a later word.
-fn guess_of(flats: &[Flat], place: usize, flat: &Flat) -> u8
+fn guess_of(ready: &[Word], flats: &[Flat], place: usize, flat: &Flat) -> u8
     requires { place < length flats.now }
 {
     let behind = match flat.way {
-        Way::Lands => return 1,
+        Way::Lands | Way::Ends => return 1,
+        Way::Forks(_) => {
+            let there = guess_inside(ready, flats, flat.literal as usize);
+            let behind = guess_inside(ready, flats, place + 1);
+            return there.max(behind).saturating_add(1);
+        }
         Way::Branches(_) => guess_at(flats, flat.literal as usize).max(guess_at(flats, place + 1)),
         Way::Other if flat.number > 0 => guess_at(flats, place + 1),
         Way::Other | Way::Stops => 0,
@@ -315,7 +362,7 @@ pub(crate) fn flats_of(alloc: Global, ready: &[Word]) -> Result<Vec<Flat>, Alloc
         straight = straight_from(flat.number, straight);
         flats[place] = Flat {
             number: straight,
-            within: guess_of(&flats, place, &flat),
+            within: guess_of(ready, &flats, place, &flat),
             ..flat
         };
     }

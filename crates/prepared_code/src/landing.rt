@@ -11,6 +11,7 @@ use crate::blocks::Block;
 use crate::effect::{Effect, commit};
 use crate::flat::Way;
 use crate::prepared::Prepared;
+use crate::run::{value_of, way_out};
 use alpha_encode::registers;
 use alpha_machine::Cpu;
 
@@ -49,6 +50,16 @@ impl<'a> Prepared<'a> {
                 register: registers::ZERO,
                 value: 0,
                 next: flat.literal as u32,
+            }),
+            Way::Ends => Some(Effect {
+                register: flat.c,
+                value: value_of(cpu, flat),
+                next: cpu.pc + 1,
+            }),
+            Way::Forks(op) => Some(Effect {
+                register: registers::ZERO,
+                value: 0,
+                next: way_out(cpu, flat, op),
             }),
             Way::Other | Way::Stops | Way::Branches(_) => self.effect_at(cpu),
         }

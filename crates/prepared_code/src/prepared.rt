@@ -166,6 +166,7 @@ impl<'a> Prepared<'a> {
     pub(crate) fn flats(&self) -> &[Flat]
         ensures few { length result.now ≤ most_words }
         ensures flat { AreFlat self.now.code result.now }
+        ensures rise { AllRise self.now.code.map }
     {
         &self.flats
     }

@@ -1,12 +1,14 @@
 // Many steps inside a block.
 ghost use Rattle.std.specs.Prelude.{◌≡◌, ◌<◌, ◌≤◌, ◌+◌, ◌^◌, ℕ, if◌then◌else◌, length, slice_get, slice_index, true, Some, None, IfSome, option_map};
+ghost use Rattle.address_map.specs.Pairs.{AllRise};
 ghost use Rattle.alpha_machine.specs.Step.{state_of};
 ghost use Rattle.alpha_meaning.specs.Act.{taken};
 ghost use Rattle.alpha_meaning.specs.Pieces.{most_words};
+ghost use Rattle.alpha_meaning.specs.Result.{result_of};
 ghost use Rattle.alpha_meaning.specs.State.{at_place, regs_of};
 ghost use Rattle.block_law.specs.Translations.{Code};
 ghost use Rattle.prepared_code.specs.Effects.{behind};
-ghost use Rattle.prepared_code.specs.Flats.{AreStraight, IsInForm, effect, operand};
+ghost use Rattle.prepared_code.specs.Flats.{AreStraight, IsFork, IsInForm, effect, operand, way_out};
 ghost use Rattle.prepared_code.specs.declared.flat.Flat.{Flat};
 ghost use Rattle.prepared_code.specs.Inside.{Crosses, Lands, local_at, step_in, steps_in};
 
@@ -27,6 +29,17 @@ fn operand(cpu: &Cpu, flat: &Flat) -> u64
     register(cpu, flat.b).wrapping_add(flat.literal)
 }
 
+/// The result of a straight word.
+#[inline(always)]
+pub(crate) fn value_of(cpu: &Cpu, flat: &Flat) -> u64
+    requires form { IsInForm flat.now }
+    requires zero { slice_index cpu.now.r 31 ≡ 0 }
+    ensures { result ≡ result_of flat.now.op (regs_of cpu.now.r flat.now.a) (operand flat.now (regs_of cpu.now.r)) (regs_of cpu.now.r flat.now.c) }
+{
+    let (a, b) = (register(cpu, flat.a), operand(cpu, flat));
+    result(flat.op, a, b, register(cpu, flat.c))
+}
+
 /// Makes the step of a straight word, but for the program counter.
 #[inline(always)]
 fn operate(cpu: &mut Cpu, flat: &Flat)
@@ -35,8 +48,7 @@ fn operate(cpu: &mut Cpu, flat: &Flat)
     ensures is { state_of cpu.new ≡ at_place (effect flat.now (regs_of cpu.old.r)) cpu.old.pc }
     ensures zero { slice_index cpu.new.r 31 ≡ 0 }
 {
-    let (a, b) = (register(cpu, flat.a), operand(cpu, flat));
-    let value = result(flat.op, a, b, register(cpu, flat.c));
+    let value = value_of(cpu, flat);
     write(cpu, flat.c, value);
 }
 
@@ -67,11 +79,23 @@ fn go_by_branch(cpu: &mut Cpu, flat: &Flat, op: BranchOp)
     ensures zero { slice_index cpu.new.r 31 ≡ 0 }
     ensures is { state_of cpu.new ≡ at_place (regs_of cpu.old.r) (if taken op (regs_of cpu.old.r flat.now.a) then flat.now.literal else cpu.old.pc + 1) }
 {
-    cpu.pc = if is_taken(op, register(cpu, flat.a)) {
+    cpu.pc = way_out(cpu, flat, op);
+}
+
+/// Where a branch goes.
+#[inline(always)]
+pub(crate) fn way_out(cpu: &Cpu, flat: &Flat, op: BranchOp) -> u32
+    requires register { flat.now.a < 32 }
+    requires target { flat.now.literal < 2 ^ 32 }
+    requires more { cpu.now.pc + 1 < 2 ^ 32 }
+    requires zero { slice_index cpu.now.r 31 ≡ 0 }
+    ensures { result ≡ way_out flat.now op cpu.now.pc (regs_of cpu.now.r) }
+{
+    if is_taken(op, register(cpu, flat.a)) {
         flat.literal as u32
     } else {
         cpu.pc + 1
-    };
+    }
 }
 
 impl<'a> Prepared<'a> {
@@ -125,6 +149,25 @@ impl<'a> Prepared<'a> {
         }
     }
 
+    // Makes the step of a branch that may leave its block, where it goes on inside.
+    #[inline(always)]
+    fn fork_inside(&self, cpu: &mut Cpu, flat: &Flat, op: BranchOp) -> u64
+        requires fork { IsFork self.now.code cpu.old.pc flat.now op }
+        requires more { cpu.old.pc + 1 < 2 ^ 32 }
+        requires zero { slice_index cpu.old.r 31 ≡ 0 }
+        ensures zero { slice_index cpu.new.r 31 ≡ 0 }
+        ensures most { result ≤ 1 }
+        ensures ran { steps_in self.now.code (state_of cpu.old) result ≡ Some (state_of cpu.new) }
+        ensures stops { result ≡ 0 → step_in self.now.code (state_of cpu.new) ≡ None }
+    {
+        let next = way_out(cpu, flat, op);
+        if self.begins(next) {
+            return 0;
+        }
+        cpu.pc = next;
+        1
+    }
+
     // Makes some steps, at most so many. None is made only where the next step is none inside a block.
     #[inline(always)]
     fn stride(&self, cpu: &mut Cpu, most: u64) -> u64
@@ -148,10 +191,12 @@ impl<'a> Prepared<'a> {
             Way::Other => self.other_step(cpu),
             Way::Stops => 0,
             Way::Lands => 0,
+            Way::Ends => 0,
             Way::Branches(op) => {
                 go_by_branch(cpu, flat, op);
                 1
             }
+            Way::Forks(op) => self.fork_inside(cpu, flat, op),
         }
     }
 
@@ -196,20 +241,44 @@ impl<'a> Prepared<'a> {
         }
     }
 
-    // Goes to the block to which the word there leads, where it is known that it does nothing else.
+    // Goes to the block to which a branch leads.
     #[inline(always)]
-    fn lands(&self, cpu: &mut Cpu) -> bool
+    fn fork_lands(&self, cpu: &mut Cpu, flat: &Flat, op: BranchOp) -> bool
+        requires rise { AllRise self.now.code.map }
+        requires fork { IsFork self.now.code cpu.old.pc flat.now op }
+        requires more { cpu.old.pc + 1 < 2 ^ 32 }
+        requires zero { slice_index cpu.old.r 31 ≡ 0 }
         ensures { result ≡ true → Lands self.now.code (state_of cpu.old) (state_of cpu.new) }
     {
-        match self.flats.get(cpu.pc as usize) {
-            Some(flat) => match flat.way {
-                Way::Lands => {
-                    cpu.pc = flat.literal as u32;
-                    true
-                }
-                Way::Other | Way::Stops | Way::Branches(_) => false,
-            },
-            None => false,
+        let next = way_out(cpu, flat, op);
+        if !self.begins(next) {
+            return false;
+        }
+        cpu.pc = next;
+        true
+    }
+
+    // Makes the step of a word that is known to come to a block.
+    #[inline(always)]
+    fn lands(&self, cpu: &mut Cpu) -> bool
+        requires zero { slice_index cpu.old.r 31 ≡ 0 }
+        ensures { result ≡ true → Lands self.now.code (state_of cpu.old) (state_of cpu.new) }
+    {
+        let Some(flat) = self.flats().get(cpu.pc as usize) else {
+            return false;
+        };
+        match flat.way {
+            Way::Lands => {
+                cpu.pc = flat.literal as u32;
+                true
+            }
+            Way::Ends => {
+                operate(cpu, flat);
+                cpu.pc += 1;
+                true
+            }
+            Way::Forks(op) => self.fork_lands(cpu, flat, op),
+            Way::Other | Way::Stops | Way::Branches(_) => false,
         }
     }
 

@@ -3,7 +3,7 @@ use Rattle.std.proofs.Common.{◌≡◌, true, false, refl, sym, ap, ◌∙◌}
 use Rattle.std.specs.Int.{w32}
 use Rattle.std.proofs.lemmas.Int.{to_z-of_z}
 use Rattle.alpha_meaning.specs.Act.{target_of}
-use Rattle.prepared_code.specs.Known.{branch_to, lands_at, stays_inside}
+use Rattle.prepared_code.specs.Known.{branch_to, lands_at, leaving, stays_inside}
 use Rattle.prepared_code.proofs.Known.{way_of}
 use Rattle.prepared_code.proofs.flat.branch_at.Goals as goal
 
@@ -27,4 +27,4 @@ returns-else-stays_inside c = λ code are.
     let lands : false ≡ lands_at code c.args.op c.args.a c.from-literal.result = sym c.if-lands_at.false ∙ c.lands_at.ensures code are ∙ ap (lands_at code c.args.op c.args.a) (sym c.from-literal.ensures) in
     let stays : false ≡ stays_inside code c.args.place c.args.op c.args.a c.from-literal.result =
     sym c.if-stays_inside.false ∙ c.stays_inside.ensures code are ∙ ap (stays_inside code c.args.place c.args.op c.args.a) (sym c.from-literal.ensures) in
-    way_of code c.args.place c.args.op c.args.a c.from-literal.result false false lands stays ∙ ap (branch_to code c.args.place c.args.op c.args.a) there
+    c.leaving.ensures ∙ ap (leaving c.args.op c.args.a) (sym c.from-literal.ensures) ∙ way_of code c.args.place c.args.op c.args.a c.from-literal.result false false lands stays ∙ ap (branch_to code c.args.place c.args.op c.args.a) there

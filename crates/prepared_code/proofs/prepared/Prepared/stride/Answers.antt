@@ -1,8 +1,9 @@
 -- What the word there says.
-use Rattle.std.proofs.Common.{sym, ap, ◌∙◌, Some, arith}
-use Rattle.prepared_code.proofs.Flats.{flat_there, lands_outside, way_there}
-use Rattle.alpha_meaning.specs.State.{regs_of}
-use Rattle.prepared_code.specs.declared.flat.Way.TheVariants.{Branches, Lands, Stops}
+use Rattle.std.proofs.Common.{◌+◌, sym, ap, ◌∙◌, Some, arith}
+use Rattle.prepared_code.proofs.Flats.{comes_outside, flat_there, lands_outside, way_there}
+use Rattle.alpha_meaning.specs.State.{at_place, regs_of}
+use Rattle.prepared_code.specs.Flats.{effect}
+use Rattle.prepared_code.specs.declared.flat.Way.TheVariants.{Branches, Ends, Forks, Lands, Stops}
 use Rattle.prepared_code.proofs.prepared.Prepared.stride.Goals as goal
 
 pub go_straight-requires-clause-within : goal.go_straight-requires-clause-within
@@ -49,3 +50,14 @@ returns-in-Lands-clause-stops c = λ none.
     let found = c.in-Some.ensures.lookup.3 in
     lands_outside c.args.self.now.code c.args.cpu.now.pc c.in-Some.flat.now
     (way_there c.args.self.now.code c.flats-flats.result.now c.args.cpu.now.pc c.in-Some.flat.now Lands c.flats-flats.ensures.flat found.0 (found.1 c.in-Some.flat.now) c.in-Lands.is) (regs_of c.args.cpu.now.r)
+
+pub fork_inside-requires-clause-fork : goal.fork_inside-requires-clause-fork
+fork_inside-requires-clause-fork c =
+    let found = c.in-Some.ensures.lookup.3 in
+    way_there c.args.self.now.code c.flats-flats.result.now c.args.cpu.now.pc c.in-Some.flat.now (Forks c.in-Forks.op) c.flats-flats.ensures.flat found.0 (found.1 c.in-Some.flat.now) c.in-Forks.is
+
+pub returns-in-Ends-clause-stops : goal.returns-in-Ends-clause-stops
+returns-in-Ends-clause-stops c = λ none.
+    let found = c.in-Some.ensures.lookup.3 in
+    let it = way_there c.args.self.now.code c.flats-flats.result.now c.args.cpu.now.pc c.in-Some.flat.now Ends c.flats-flats.ensures.flat found.0 (found.1 c.in-Some.flat.now) c.in-Ends.is in
+    comes_outside c.args.self.now.code (at_place (regs_of c.args.cpu.now.r) c.args.cpu.now.pc) (at_place (effect c.in-Some.flat.now (regs_of c.args.cpu.now.r)) (c.args.cpu.now.pc + 1)) (it.goes c.args.cpu.now.r) it.begins
