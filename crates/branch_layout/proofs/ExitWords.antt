@@ -1,5 +1,5 @@
 -- The three words of an exit, by what each of them is.
-use Rattle.std.proofs.Common.{◌≡◌, ℕ, zero, suc, ◌-◌, ◌^◌, ◌<◌, refl, subst, arith, [], ◌∷◌, length, Bool, true, false, Option, Some, None, lit<, lit≤}
+use Rattle.std.proofs.Common.{◌≡◌, ℕ, zero, suc, ◌-◌, ◌^◌, refl, subst, arith, [], ◌∷◌, length, Bool, true, false, Option, Some, None, lit<, lit≤}
 use Rattle.std.specs.Prelude.{slice_get, pos, negsuc, ◌<ℤ◌, ◌≤ℤ◌}
 use Rattle.std.proofs.lemmas.Int.{ints}
 use Rattle.std.proofs.lemmas.Bool.Decides.{nat_tests}
@@ -9,10 +9,10 @@ use Rattle.alpha_encode.specs.declared.instr.AlphaInstr.{AlphaInstr}
 use Rattle.block_law.specs.Blocks.{is_quiet, exit_words}
 use Rattle.branch_layout.specs.Exits.{displacement, is_near, code_to, exit_code}
 
-near_low : (word target : ℕ) → is_near word target ≡ true → negsuc (2 ^ 20 - 1) ≤ℤ displacement word target
+pub near_low : (word target : ℕ) → is_near word target ≡ true → negsuc (2 ^ 20 - 1) ≤ℤ displacement word target
 near_low word target near = grind (arith, ints, nat_tests)
 
-near_high : (word target : ℕ) → is_near word target ≡ true → displacement word target <ℤ pos (2 ^ 20)
+pub near_high : (word target : ℕ) → is_near word target ≡ true → displacement word target <ℤ pos (2 ^ 20)
 near_high word target near = grind (arith, ints, nat_tests)
 
 pub exit_length : (o : Option ℕ) (word address : ℕ) → length (exit_code o word address) ≡ exit_words

@@ -1,7 +1,17 @@
-pub mod Places
+mod Building
+mod Comes
+mod Ended
+mod Ending
 pub mod ExitWords
+mod Filled
 pub mod Filling
-pub mod Built
-pub mod Leads
+mod InPlace
 pub mod Laid
-pub mod Value
+pub mod Leads
+pub mod Mapped
+mod Pieces
+pub mod Places
+mod Shorter
+mod Sizes
+mod Standing
+mod Virtual

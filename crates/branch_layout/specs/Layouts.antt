@@ -1,15 +1,26 @@
 -- Blocks in their places, one behind the other.
-use Rattle.std.specs.Prelude.{◌≡◌, ℕ, ◌<◌, ◌≤◌, ◌+◌, ◌++◌, All, Bool, List, [], ◌∷◌, length, map, slice_get, sum_by, Some, take, drop}
+use Rattle.std.specs.Prelude.{◌≡◌, ℕ, ◌<◌, ◌≤◌, ◌+◌, ◌^◌, ◌++◌, nat_le, All, Bool, List, [], ◌∷◌, length, map, slice_get, sum_by, Option, Some, None, take, drop}
 use Rattle.std.specs.List.{AllAdjacentBelow, fold}
-use Rattle.alpha_encode.specs.Words.{IsEncodable, word_of}
+use Rattle.vax_form.specs.State.{IsState}
+use Rattle.vax_form.specs.declared.state.Flags.{Flags}
+use Rattle.vax_form.specs.declared.state.VaxState.{VaxState}
+use Rattle.alpha_encode.specs.Words.{word_of}
 use Rattle.alpha_encode.specs.declared.instr.AlphaInstr.{AlphaInstr}
-use Rattle.alpha_meaning.specs.Pieces.{HasAt, most_words}
+use Rattle.alpha_meaning.specs.State.{Regs, at_place}
+use Rattle.alpha_meaning.specs.Pieces.{Plain, most_words}
 use Rattle.address_map.specs.Pairs.{Pair, AllRise, word_at}
 use Rattle.exception_records.specs.Blocks.{BlockValue}
-use Rattle.exception_records.specs.Points.{Entry, WordsRise}
-use Rattle.block_law.specs.Blocks.{Exit, exit_words, IsBlockOf, IsLike, IsLaid}
-use Rattle.block_law.specs.Translations.{Code, fetch_of}
+use Rattle.exception_records.specs.Points.{Entry, WordsRise, point_at}
+use Rattle.exception_records.specs.Shown.{Shows}
+use Rattle.exception_records.specs.declared.rules.Rules.{Rules}
+use Rattle.block_law.specs.Blocks.{Exit, ExitsLead, IsBlockOf, RulesMeet, Stands, exit_words}
+use Rattle.block_law.specs.Follows.{Follows}
+use Rattle.block_law.specs.Placements.{InForm}
+use Rattle.block_law.specs.Rounds.{block_steps, new_round}
+use Rattle.block_law.specs.Translations.{Code, IsBlock, Meaning, Permit, has_loop, placed}
+use Rattle.branch_layout.specs.Ends.{end_of, ended_words, placed_size}
 use Rattle.branch_layout.specs.Exits.{exit_code}
+use Rattle.branch_layout.specs.declared.ends.End.{End}
 
 -- the address of a VAX instruction, and its block
 abbrev pub Placed : Type 0
@@ -27,14 +38,37 @@ IsPlaced block = (loops : Bool) × IsBlockOf loops block.0 block.1
 abbrev pub AreBlocks : List Placed → Type 0
 AreBlocks blocks = All IsPlaced blocks
 
+-- the address of the first of them
+abbrev pub next_address : List Placed → Option ℕ
+next_address [] = None
+next_address (block ∷ blocks) = Some block.0
+
+-- ---- places
+-- an address, and how many words its block has
+abbrev pub Sized : Type 0
+Sized = ℕ × ℕ
+
 -- each address with the first word of its block, which stands behind the one before
-abbrev pub places : (first : ℕ) → List Placed → List Pair
+abbrev pub places : (first : ℕ) → List Sized → List Pair
 places first [] = []
-places first (block ∷ blocks) = (block.0, first) ∷ places (first + length block.1.words) blocks
+places first (size ∷ sizes) = (size.0, first) ∷ places (first + size.1) sizes
+
+-- with all their words
+abbrev pub whole_sizes : List Placed → List Sized
+whole_sizes blocks = map (λ block. (block.0, length block.1.words)) blocks
 
 -- how many words they have
-abbrev pub words_of : List Placed → ℕ
-words_of blocks = sum_by (λ block. length block.1.words) blocks
+abbrev pub words_of : List Sized → ℕ
+words_of sizes = sum_by (λ size. size.1) sizes
+
+-- a branch from one of so many words reaches every other
+abbrev pub is_small : (words : ℕ) → Bool
+is_small words = nat_le words (2 ^ 20)
+
+-- with the words that they have in their places
+abbrev pub placed_sizes : (small : Bool) → (mapped : List Pair) → List Placed → List Sized
+placed_sizes small mapped [] = []
+placed_sizes small mapped (block ∷ blocks) = (block.0, placed_size (end_of small mapped (next_address blocks) block.1) block.1) ∷ placed_sizes small mapped blocks
 
 -- points whose words count from that one on
 abbrev pub shifted : (first : ℕ) → List Entry → List Entry
@@ -52,33 +86,57 @@ fill_exit pairs first words exit = with_exit words exit.0 (exit_code (word_at pa
 abbrev pub filled_words : List Pair → (first : ℕ) → BlockValue → List AlphaInstr
 filled_words pairs first block = fold (fill_exit pairs first) block.words block.exits
 
--- the words of the blocks one behind the other, from that word of the code on
-abbrev pub laid_words : List Pair → (first : ℕ) → List Placed → List ℕ
-laid_words pairs first [] = []
-laid_words pairs first (block ∷ blocks) = map word_of (filled_words pairs first block.1) ++ laid_words pairs (first + length block.1.words) blocks
+-- the words of a block by its end, or with three for each exit
+abbrev pub placed_words : List Pair → (first : ℕ) → Option End → BlockValue → List AlphaInstr
+placed_words pairs first None block = filled_words pairs first block
+placed_words pairs first (Some end) block = ended_words pairs first block end
 
-abbrev pub laid_points : (first : ℕ) → List Placed → List Entry
-laid_points first [] = []
-laid_points first (block ∷ blocks) = shifted first block.1.points ++ laid_points (first + length block.1.words) blocks
+-- the words of the blocks one behind the other, from that word of the code on
+abbrev pub laid_words : (small : Bool) → (mapped pairs : List Pair) → (first : ℕ) → List Placed → List ℕ
+laid_words small mapped pairs first [] = []
+laid_words small mapped pairs first (block ∷ blocks) =
+    map word_of (placed_words pairs first (end_of small mapped (next_address blocks) block.1) block.1)
+    ++ laid_words small mapped pairs (first + placed_size (end_of small mapped (next_address blocks) block.1) block.1) blocks
+
+abbrev pub laid_points : (small : Bool) → (mapped : List Pair) → (first : ℕ) → List Placed → List Entry
+laid_points small mapped first [] = []
+laid_points small mapped first (block ∷ blocks) =
+    shifted first block.1.points ++ laid_points small mapped (first + placed_size (end_of small mapped (next_address blocks) block.1) block.1) blocks
+
+-- the code of blocks, where it is told whether they are small, and which addresses have one
+abbrev pub layout_by : (small : Bool) → (mapped : List Pair) → List Placed → Code
+layout_by small mapped blocks =
+    let pairs = places 0 (placed_sizes small mapped blocks) in
+    record { words = laid_words small mapped pairs 0 blocks; map = pairs; points = laid_points small mapped 0 blocks }
 
 -- the code of the blocks
 unfoldable pub layout : List Placed → Code
-layout blocks = record { words = laid_words (places 0 blocks) 0 blocks; map = places 0 blocks; points = laid_points 0 blocks }
+layout blocks = layout_by (is_small (words_of (whole_sizes blocks))) (places 0 (whole_sizes blocks)) blocks
 
 -- ---- what is promised
--- the words of a block that begins at that word of the code, with those of its exits filled in
-pub record IsFilled (pairs : List Pair) (first : ℕ) (block : BlockValue) (words : List AlphaInstr) : Type 0 where
-  pub like : IsLike block words
-  pub encodable : All IsEncodable words
-  pub exits : (place : ℕ) (exit : Exit) → slice_get block.exits place ≡ Some exit → HasAt (slice_get words) exit.0 (exit_code (word_at pairs exit.1) (first + exit.0) exit.1)
+-- Wherever the block of the instruction at that address stands with three words for each exit, it follows the instruction's
+-- tree: from registers in form that show the state by the rules of its first word, where its exits lead to their
+-- addresses by those behind it.
+abbrev pub FollowsAnywhere : Meaning → Permit → (address : ℕ) → BlockValue → (before behind : Rules) → Type 0
+FollowsAnywhere meaning permit address block before behind =
+    (code : Code) (first thread n : ℕ) (state : VaxState) (held : Flags) (regs : Regs)
+    → length code.words ≤ most_words → Stands code block first → thread < 256 → IsState state → state.pc ≡ address
+    → InForm regs → Shows regs address before held state
+    → ExitsLead (placed meaning permit code thread state held first) block.exits first behind
+    → Follows (placed meaning permit code thread state held first) n Plain block_steps new_round (at_place regs first) (meaning.tree thread state)
 
--- the code of the blocks: they stand in their order from word 0 on without gaps, and each exit is as near as its target
+-- the block of the instruction at that address has its place in the code, and does there what it does anywhere
+pub record IsInPlace (code : Code) (address : ℕ) (block : BlockValue) : Type 0 where
+  pub first : ℕ
+  pub mapped : word_at code.map address ≡ Some first
+  pub points : point_at code.points first ≡ point_at block.points 0
+  pub does : (meaning : Meaning) (permit : Permit) (shape : IsBlockOf (has_loop permit address) address block) (behind : Rules) → RulesMeet code block.exits behind
+      → FollowsAnywhere meaning permit address block shape.first.rules behind → IsBlock meaning permit code address first
+
+-- the code of the blocks: they stand in their order from word 0 on without gaps, and do there what they do anywhere
 pub record IsLayout (blocks : List Placed) (code : Code) : Type 0 where
   pub few : length code.words ≤ most_words
-  pub places : code.map ≡ places 0 blocks
-  pub gapless : length code.words ≡ words_of blocks
+  pub addresses : map (λ pair. pair.0) code.map ≡ map (λ block. block.0) blocks
   pub map_rises : AllRise code.map
   pub points_rise : WordsRise code.points
-  pub laid : (place : ℕ) (block : Placed) → slice_get blocks place ≡ Some block → IsLaid code block.0 block.1
-  pub exits : (place : ℕ) (block : Placed) (first : ℕ) (exit_place : ℕ) (exit : Exit) → slice_get blocks place ≡ Some block → word_at code.map block.0 ≡ Some first
-      → slice_get block.1.exits exit_place ≡ Some exit → HasAt (fetch_of code.words) (first + exit.0) (exit_code (word_at code.map exit.1) (first + exit.0) exit.1)
+  pub laid : (place : ℕ) (block : Placed) → slice_get blocks place ≡ Some block → IsInPlace code block.0 block.1

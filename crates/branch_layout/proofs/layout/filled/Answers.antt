@@ -1,8 +1,7 @@
 use Rattle.std.proofs.Common.{◌≡◌, length, arith, rules, ap, ◌∙◌}
-use Rattle.std.proofs.lemmas.Option.{slice_get_within}
 use Rattle.exception_records.specs.Blocks.{BlockValue}
+use Rattle.branch_layout.proofs.Filled.{filled_next, filled_whole}
 use Rattle.branch_layout.proofs.Filling.{filled_more, written_back}
-use Rattle.branch_layout.proofs.Value.{filled_next, filled_whole}
 use Rattle.branch_layout.proofs.layout.filled.Goals as goal
 
 pub loop-word-preserved : goal.loop-word-preserved
@@ -18,18 +17,8 @@ loop-word-preserved c =
     in
     rw (written_back c.loop-word.words.len c.fill.new.words words count more.0) (more.1, value)
 
-pub returns-clause-filled : goal.returns-clause-filled
-returns-clause-filled c =
-    let exits : c.deref-word-items.result.now ≡ c.args.block.now.exits = c.deref-word-items.ensures.value ∙ ap (λ (b : BlockValue). b.exits) c.block.view_is in
-    let count = ap length exits in
-    record {
-      like = c.loop-word.invariant.0.like;
-      encodable = c.loop-word.invariant.0.encodable;
-      exits = λ place exit e. let within = slice_get_within c.args.block.now.exits place exit e in c.loop-word.invariant.0.exits place exit (omega arith) e;
-    }
-
-pub returns-clause-value : goal.returns-clause-value
-returns-clause-value c =
+pub returns : goal.returns
+returns c =
     let exits : c.deref-word-items.result.now ≡ c.args.block.now.exits = c.deref-word-items.ensures.value ∙ ap (λ (b : BlockValue). b.exits) c.block.view_is in
     let count = ap length exits in
     filled_whole c.args.map.now c.args.first c.args.block.now c.loop-word.words.items c.loop-word.word-index (omega arith) c.loop-word.invariant.1

@@ -1,5 +1,5 @@
+use Rattle.branch_layout.proofs.Filled.{FilledTo}
 use Rattle.branch_layout.proofs.Filling.{IsFilledUpTo}
-use Rattle.branch_layout.proofs.Value.{FilledTo}
 use Rattle.branch_layout.proofs.layout.filled.Given as goal
 
 abbrev pub invariant-loop-word : goal.invariant-loop-word

@@ -1,10 +1,11 @@
-use Rattle.std.proofs.Common.{◌≡◌, ◌≤◌, ◌*◌, take}
-use Rattle.branch_layout.specs.Layouts.{places, words_of}
+use Rattle.std.proofs.Common.{◌≡◌, ◌≤◌, ◌*◌, ◌++◌, length}
+use Rattle.std.specs.Prelude.{drop}
+use Rattle.branch_layout.specs.Layouts.{placed_sizes, places}
 use Rattle.branch_layout.proofs.layout.places.Given as goal
 
-abbrev pub invariant-loop-address : goal.invariant-loop-address
-invariant-loop-address l = record {
-  pairs : l.places.items ≡ places 0 (take l.address-index l.blocks);
-  first : l.first ≡ words_of (take l.address-index l.blocks);
-  low : l.first ≤ 256 * l.address-index;
+abbrev pub invariant-loop-place : goal.invariant-loop-place
+invariant-loop-place l = record {
+  within : l.place ≤ length l.blocks;
+  pairs : l.places.items ++ places l.first (placed_sizes l.small l.mapped (drop l.place l.blocks)) ≡ places 0 (placed_sizes l.fn.small l.fn.mapped l.fn.blocks);
+  low : l.first ≤ 256 * l.place;
 }
