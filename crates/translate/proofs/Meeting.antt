@@ -10,15 +10,14 @@ use Rattle.exception_records.specs.Points.{point_at}
 use Rattle.exception_records.specs.Shown.{Shows}
 use Rattle.exception_records.specs.declared.points.Point.{Point}
 use Rattle.exception_records.specs.declared.rules.Rules.{Rules}
-use Rattle.block_law.specs.Blocks.{Exit, IsBlockOf, RulesAt, RulesMeet, IsLaid}
+use Rattle.block_law.specs.Blocks.{Exit, IsBlockOf, RulesAt, RulesMeet}
 use Rattle.block_law.specs.Translations.{Code, IsBlock, Meets, has_loop}
-use Rattle.block_law.proofs.Laid.{first_point, is_block}
 use Rattle.image_meaning.specs.Meant.{image_meaning}
 use Rattle.image_meaning.specs.Permits.{permit_of}
 use Rattle.image_meaning.specs.declared.target.Target.{Target}
-use Rattle.branch_layout.specs.Layouts.{Placed, IsLayout}
+use Rattle.branch_layout.specs.Layouts.{IsInPlace, IsLayout, Placed}
 use Rattle.branch_layout.proofs.Filling.{All_at, some_same}
-use Rattle.branch_layout.proofs.Places.{placed_of}
+use Rattle.branch_layout.proofs.Mapped.{block_of_mapped}
 use Rattle.cc_liveness.specs.Uses.{use_of}
 use Rattle.code_runs.specs.Codes.{codes_at}
 use Rattle.code_runs.specs.Promises as runs
@@ -48,15 +47,15 @@ module _ (target : Target) (pages : Pages) (instrs : List Instr) (blocks : List 
     pub within : place < length instrs
     pub its : (instr_at instrs place).at ≡ address
     pub compiled : IsCompiled target pages (instr_at instrs place) (codes_at instrs place) block
-    pub laid : IsLaid code (instr_at instrs place).at block.1
+    pub laid : IsInPlace code (instr_at instrs place).at block.1
     pub first_is : laid.first ≡ first
 
   pub is_of : (address first : ℕ) → word_at code.map address ≡ Some first → IsOf address first
   is_of address first e =
-      let h = placed_of 0 blocks address first (subst (λ pairs. word_at pairs address ≡ Some first) layout.places e) in
+      let h = block_of_mapped blocks code address first layout.addresses e in
       let compiled = are.each h.place h.block h.is in
       let its : (instr_at instrs h.place).at ≡ address = sym compiled.address ∙ h.its in
-      let laid = subst (λ n. IsLaid code n h.block.1) compiled.address (layout.laid h.place h.block h.is) in
+      let laid = subst (λ n. IsInPlace code n h.block.1) compiled.address (layout.laid h.place h.block h.is) in
       let within = slice_get_within blocks h.place h.block h.is in
       let many = are.many in
       record {
@@ -91,7 +90,7 @@ module _ (target : Target) (pages : Pages) (instrs : List Instr) (blocks : List 
   begins_by : (address first : ℕ) (of : IsOf address first) (point : Point) → point_at code.points first ≡ Some point → point.rules ≡ (codes_at instrs of.place).before
   begins_by address first of point has_point =
       let shape = loops_as address first of in
-      let there = first_point (image_meaning pages) (permit_of target pages) code (instr_at instrs of.place).at of.block.1 shape of.laid in
+      let there = of.laid.points ∙ shape.has_first in
       let here : point_at code.points of.laid.first ≡ Some point = subst (λ w. point_at code.points w ≡ Some point) (sym of.first_is) has_point in
       let same : shape.first ≡ point = some_same (sym there ∙ here) in
       subst (λ (p : Point). p.rules ≡ (codes_at instrs of.place).before) same (of.compiled.first shape.first shape.has_first)
@@ -128,7 +127,7 @@ module _ (target : Target) (pages : Pages) (instrs : List Instr) (blocks : List 
       let block = get_or blocks place none in
       let at : slice_get blocks place ≡ Some block = slice_get-get_or blocks place none (omega arith) in
       let compiled = are.each place block at in
-      let laid = subst (λ n. IsLaid code n block.1) compiled.address (layout.laid place block at) in
+      let laid = subst (λ n. IsInPlace code n block.1) compiled.address (layout.laid place block at) in
       let of : IsOf (instr_at instrs place).at first = record { place = place; block = block; within = lt; its = refl; compiled = compiled; laid = laid; first_is = some_same (sym laid.mapped ∙ e) } in
       begins_by (instr_at instrs place).at first of point has_point
 
@@ -149,13 +148,11 @@ module _ (target : Target) (pages : Pages) (instrs : List Instr) (blocks : List 
   block_at address first of =
       let shape = loops_as address first of in
       let at = (instr_at instrs of.place).at in
-      is_block (image_meaning pages) (permit_of target pages) code at of.block.1 shape of.laid
-      (λ thread n state held regs lt is_state pc form shows.
-      of.compiled.means pages_are (stand of.place no_instr of.within) code of.laid.first thread n state held regs
-      layout.few of.laid.stands lt is_state pc form
-      (subst (λ (rules : Rules). Shows regs at rules held state) (of.compiled.first shape.first shape.has_first) shows)
-      (of.laid.leads (image_meaning pages) (permit_of target pages) thread state held (codes_at instrs of.place).behind
-      (λ number exit has_exit. rules_at of.place of.within exit.1 (All_at (λ (e : Exit). GoesTo (instr_at instrs of.place) e.1) of.block.1.exits number exit of.compiled.exits has_exit))))
+      of.laid.does (image_meaning pages) (permit_of target pages) shape (codes_at instrs of.place).behind
+      (λ number exit has_exit. rules_at of.place of.within exit.1 (All_at (λ (e : Exit). GoesTo (instr_at instrs of.place) e.1) of.block.1.exits number exit of.compiled.exits has_exit))
+      (λ code' first' thread n state held regs few stands lt is_state pc form shows leads.
+      of.compiled.means pages_are (stand of.place no_instr of.within) code' first' thread n state held regs few stands lt is_state pc form
+      (subst (λ (rules : Rules). Shows regs at rules held state) (of.compiled.first shape.first shape.has_first) shows) leads)
 
   pub meets : Meets (image_meaning pages) (permit_of target pages) code
   meets = record {

@@ -6,12 +6,10 @@ use Rattle.std.proofs.lemmas.List.FromFn.{get_or-map-range_with_len, length-map-
 use Rattle.std.proofs.lemmas.Option.{slice_get-get_or, slice_get_within, get_or_from_slice_get}
 use Rattle.vax_form.specs.declared.instr.Instr.{Instr}
 use Rattle.vax_form.specs.declared.pages.Pages.{Pages}
-use Rattle.address_map.specs.Pairs.{Pair}
 use Rattle.block_law.specs.Blocks.{IsBlockOf}
 use Rattle.flow_discovery.specs.Mapped.{has_string_block}
-use Rattle.branch_layout.specs.Layouts.{Placed, AddressesRise, IsPlaced, AreBlocks, places}
+use Rattle.branch_layout.specs.Layouts.{Placed, AddressesRise, IsPlaced, AreBlocks}
 use Rattle.branch_layout.proofs.Filling.{All_by}
-use Rattle.branch_layout.proofs.Places.{size}
 use Rattle.code_runs.specs.Codes.{codes_at}
 use Rattle.code_runs.specs.Runs.{AreInOrder, instr_at, no_instr}
 use Rattle.image_meaning.specs.declared.target.Target.{Target}
@@ -65,15 +63,10 @@ module _ (target : Target) (pages : Pages) (instrs : List Instr) (blocks : List 
       let many = are.many in
       rw (its_address k d (omega arith), its_address (k + 1) d lt) (order.rising k no_instr (omega arith))
 
-  placed_addresses : (first : ℕ) (bs : List Placed) → map (λ (pair : Pair). pair.0) (places first bs) ≡ map (λ (b : Placed). b.0) bs
-  placed_addresses first [] = refl
-  placed_addresses first (b ∷ bs) = ap (λ (xs : List ℕ). b.0 ∷ xs) (placed_addresses (first + size b) bs)
-
-  -- the addresses of the map
-  pub map_addresses : map (λ (pair : Pair). pair.0) (places 0 blocks) ≡ addresses instrs
+  -- the addresses of the blocks
+  pub map_addresses : map (λ (b : Placed). b.0) blocks ≡ addresses instrs
   map_addresses =
-      placed_addresses 0 blocks
-      ∙ same_lists (map (λ (b : Placed). b.0) blocks) (addresses instrs)
+      same_lists (map (λ (b : Placed). b.0) blocks) (addresses instrs)
       (length-map blocks (λ (b : Placed). b.0) ∙ are.many ∙ sym (length-map instrs (λ (i : Instr). i.at)))
       (λ k d lt.
       let count = length-map blocks (λ (b : Placed). b.0) in

@@ -6,7 +6,9 @@ use Rattle.vax_form.specs.declared.instr.Instr.{Instr}
 use Rattle.vax_form.specs.declared.pages.Pages.{Pages}
 use Rattle.exception_records.specs.Points.{Entry}
 use Rattle.block_law.specs.Translations.{Code}
-use Rattle.branch_layout.specs.Layouts.{Placed, laid_points, layout, shifted}
+use Rattle.address_map.specs.Pairs.{Pair}
+use Rattle.branch_layout.specs.Ends.{end_of, placed_size}
+use Rattle.branch_layout.specs.Layouts.{Placed, is_small, laid_points, layout, next_address, places, shifted, whole_sizes, words_of}
 use Rattle.program_codegen.specs.Calls.{call_block}
 use Rattle.program_codegen.specs.Strings.{string_block}
 use Rattle.program_codegen.specs.Words.{points_alone}
@@ -30,11 +32,11 @@ alone_shifted : (first : ℕ) (points : List Entry) → points_alone (shifted fi
 alone_shifted first [] = refl
 alone_shifted first (point ∷ points) = ap (λ ps. point.1 ∷ ps) (alone_shifted first points)
 
-laid_alone : (first : ℕ) (block : Placed) (blocks : List Placed)
-    → points_alone (laid_points first (block ∷ blocks)) ≡ points_alone block.1.points ++ points_alone (laid_points (first + length block.1.words) blocks)
-laid_alone first block blocks =
-    alone_both (shifted first block.1.points) (laid_points (first + length block.1.words) blocks)
-    ∙ ap (λ ps. ps ++ points_alone (laid_points (first + length block.1.words) blocks)) (alone_shifted first block.1.points)
+laid_alone : (small : Bool) (mapped : List Pair) (first next : ℕ) (block : Placed) (blocks : List Placed)
+    → points_alone (shifted first block.1.points ++ laid_points small mapped next blocks) ≡ points_alone block.1.points ++ points_alone (laid_points small mapped next blocks)
+laid_alone small mapped first next block blocks =
+    alone_both (shifted first block.1.points) (laid_points small mapped next blocks)
+    ∙ ap (λ ps. ps ++ points_alone (laid_points small mapped next blocks)) (alone_shifted first block.1.points)
 
 module _ (target other : Target) (pages : Pages) (instrs : List Instr) where
   -- the blocks of the instructions at these places
@@ -54,22 +56,25 @@ module _ (target other : Target) (pages : Pages) (instrs : List Instr) where
       by instr codes false false =
           block_points instr (code_sources instr) codes.before codes.behind (has_byte_word target) (has_byte_word other) (code_words (code_sources instr) codes.live) (unwrap_or (program_for instr) [])
 
-  laid_alike : (first first' : ℕ) (places : List ℕ)
-      → points_alone (laid_points first (blocks_at target places)) ≡ points_alone (laid_points first' (blocks_at other places))
-  laid_alike first first' [] = refl
-  laid_alike first first' (place ∷ places) =
+  -- whatever is near, and wherever they stand
+  laid_alike : (small small' : Bool) (mapped mapped' : List Pair) (first first' : ℕ) (places : List ℕ)
+      → points_alone (laid_points small mapped first (blocks_at target places)) ≡ points_alone (laid_points small' mapped' first' (blocks_at other places))
+  laid_alike small small' mapped mapped' first first' [] = refl
+  laid_alike small small' mapped mapped' first first' (place ∷ places) =
       let here = block_of target pages (instr_at instrs place) (codes_at instrs place) in
       let there = block_of other pages (instr_at instrs place) (codes_at instrs place) in
-      let next = first + length here.1.words in
-      let next' = first' + length there.1.words in
-      laid_alone first here (blocks_at target places)
-      ∙ (ap (λ ps. ps ++ points_alone (laid_points next (blocks_at target places))) (one_alike place)
-      ∙ (ap (λ ps. points_alone there.1.points ++ ps) (laid_alike next next' places)
-      ∙ sym (laid_alone first' there (blocks_at other places))))
+      let next = first + placed_size (end_of small mapped (next_address (blocks_at target places)) here.1) here.1 in
+      let next' = first' + placed_size (end_of small' mapped' (next_address (blocks_at other places)) there.1) there.1 in
+      laid_alone small mapped first next here (blocks_at target places)
+      ∙ (ap (λ ps. ps ++ points_alone (laid_points small mapped next (blocks_at target places))) (one_alike place)
+      ∙ (ap (λ ps. points_alone there.1.points ++ ps) (laid_alike small small' mapped mapped' next next' places)
+      ∙ sym (laid_alone small' mapped' first' next' there (blocks_at other places))))
 
   layout_alike : points_alone (layout (blocks_of target pages instrs)).points ≡ points_alone (layout (blocks_of other pages instrs)).points
   unfolding layout
-  layout_alike = laid_alike 0 0 (range_with_len 0 (length instrs))
+  layout_alike =
+      laid_alike (is_small (words_of (whole_sizes (blocks_of target pages instrs)))) (is_small (words_of (whole_sizes (blocks_of other pages instrs))))
+      (places 0 (whole_sizes (blocks_of target pages instrs))) (places 0 (whole_sizes (blocks_of other pages instrs))) 0 0 (range_with_len 0 (length instrs))
 
 pub have_like_points : HaveLikePoints
 have_like_points target other pages starts a b is is' =

@@ -5,30 +5,22 @@ use Rattle.vax_form.specs.Grammar.{instruction}
 use Rattle.vax_form.specs.GrammarFound.{found}
 use Rattle.vax_form.specs.GrammarLaws.{AreBytes}
 use Rattle.vax_form.specs.PageTable.{IsPageTable}
-use Rattle.vax_form.specs.State.{IsState}
 use Rattle.vax_form.specs.declared.instr.Instr.{Instr}
 use Rattle.vax_form.specs.declared.operation.Operation.{Operation}
 use Rattle.vax_form.specs.declared.pages.Pages.{Pages}
 use Rattle.vax_form.specs.declared.state.Flags.{Flags}
-use Rattle.vax_form.specs.declared.state.VaxState.{VaxState}
-use Rattle.alpha_meaning.specs.Pieces.{Plain, most_words}
-use Rattle.alpha_meaning.specs.State.{Regs, at_place}
 use Rattle.exception_records.specs.Blocks.{BlockValue}
-use Rattle.exception_records.specs.Shown.{Shows}
 use Rattle.exception_records.specs.declared.rules.Rules.{Rules}
-use Rattle.block_law.specs.Blocks.{ExitsLead, IsBlockOf, RulesAt, RulesMeet, Stands}
-use Rattle.block_law.specs.Follows.{Follows}
-use Rattle.block_law.specs.Placements.{InForm}
-use Rattle.block_law.specs.Rounds.{block_steps, new_round}
+use Rattle.block_law.specs.Blocks.{IsBlockOf, RulesAt, RulesMeet}
 use Rattle.block_law.specs.Tidy.{codes_written}
-use Rattle.block_law.specs.Translations.{Code, placed}
+use Rattle.block_law.specs.Translations.{Code}
 use Rattle.address_map.specs.Pairs.{word_at}
 use Rattle.micro_ops.specs.Sources.{sources_of}
 use Rattle.image_meaning.specs.Meant.{image_meaning}
 use Rattle.image_meaning.specs.Permits.{permit_of}
 use Rattle.image_meaning.specs.declared.target.Target.{Target}
 use Rattle.image_meaning.specs.declared.target.Target.TheVariants.{Original, ByteWord}
-use Rattle.branch_layout.specs.Layouts.{AddressesRise, AreBlocks, IsLayout, Placed, layout}
+use Rattle.branch_layout.specs.Layouts.{AddressesRise, AreBlocks, FollowsAnywhere, IsLayout, Placed, layout}
 use Rattle.vax_form.specs.Targets.{has}
 use Rattle.code_runs.specs.Promises.{CanHaveBlocks}
 use Rattle.code_runs.specs.Ready.{AreReady}
@@ -72,12 +64,7 @@ has_byte_word ByteWord = true
 -- their addresses by those behind it.
 abbrev pub Compiles : Target → Pages → Instr → (before behind : Rules) → BlockValue → Type 0
 Compiles target pages instr before behind block =
-    ArePages pages → found pages instr.at ≡ instruction instr
-    → (code : Code) (first thread n : ℕ) (state : VaxState) (held : Flags) (regs : Regs)
-    → length code.words ≤ most_words → Stands code block first → thread < 256 → IsState state → state.pc ≡ instr.at
-    → InForm regs → Shows regs instr.at before held state
-    → ExitsLead (placed (image_meaning pages) (permit_of target pages) code thread state held first) block.exits first behind
-    → Follows (placed (image_meaning pages) (permit_of target pages) code thread state held first) n Plain block_steps new_round (at_place regs first) ((image_meaning pages).tree thread state)
+    ArePages pages → found pages instr.at ≡ instruction instr → FollowsAnywhere (image_meaning pages) (permit_of target pages) instr.at block before behind
 
 -- the block of an instruction's program, with these codes along its run
 abbrev pub short_block : Target → Instr → InstrCodes → BlockValue

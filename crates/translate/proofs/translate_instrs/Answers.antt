@@ -1,7 +1,6 @@
-use Rattle.std.proofs.Common.{◌∙◌, List, ap, map, refl, sym, subst, get_or, arith}
+use Rattle.std.proofs.Common.{◌∙◌, List, ap, refl, sym, subst, get_or, arith}
 use Rattle.std.proofs.lemmas.Result.{IfOk-weaker}
 use Rattle.std.specs.Prelude.{IfOk}
-use Rattle.address_map.specs.Pairs.{Pair}
 use Rattle.branch_layout.specs.Layouts.{Placed, layout}
 use Rattle.code_runs.specs.Runs.{AreInOrder}
 use Rattle.code_runs.specs.Codes.{instruction_codes}
@@ -52,7 +51,7 @@ pub returns-clause-mapped : goal.returns-clause-mapped
 returns-clause-mapped c =
     let blocks = c.in_ok-blocks.blocks.items in
     IfOk-weaker c.laid_out.result (IsLaidOut blocks) _
-    (λ code laid. ap (map (λ (pair : Pair). pair.0)) laid.laid.places ∙ map_addresses c.args.target c.args.pages.now c.args.instrs.now blocks c.in_ok-blocks.ensures)
+    (λ code laid. laid.laid.addresses ∙ map_addresses c.args.target c.args.pages.now c.args.instrs.now blocks c.in_ok-blocks.ensures)
     (subst (λ (bs : List Placed). IfOk c.laid_out.result (IsLaidOut bs)) c.deref.ensures.value c.laid_out.ensures)
 
 pub returns-clause-blocks : goal.returns-clause-blocks
