@@ -1,4 +1,4 @@
-// Three blocks, of which one is an exit alone and one goes on where no block is.
+// Blocks one behind the other, whose exits have all forms.
 ghost use Rattle.std.specs.Prelude.{IfOk, false};
 ghost use Rattle.block_law.specs.Blocks.{IsBlockOf};
 
@@ -14,24 +14,67 @@ use vax_form::{Flags, Size};
 /// Words, the map's pairs, and the points.
 type Code = (Vec<u32>, Vec<(u32, u32)>, Vec<(u32, Point)>);
 
-static WORDS: [u32; 11] = [
-    // ZAPNOT R1,#1,R21; BR two words on
+static WORDS: [u32; 36] = [
+    // to the next block: ZAPNOT R1,#1,R21
     0x4820_3635,
-    0xC3E0_0002,
-    0x47FF_041F,
-    0x47FF_041F,
-    // BR five words back
-    0xC3FF_FFFB,
-    0x47FF_041F,
-    0x47FF_041F,
-    // ZAPNOT R1,#1,R21; LDAH R26,2(R31); LDA R26,-32768(R26); CALL_PAL 86
+    // an exit alone, to the first block: BR two words back
+    0xC3FF_FFFE,
+    // to no block: ZAPNOT; LDAH R26,2(R31); LDA R26,-32768(R26); CALL_PAL 86
     0x4820_3635,
     0x275F_0002,
     0x235A_8000,
     0x0000_0086,
+    // to the first block, else to the next: ZAPNOT; BNE R21
+    0x4820_3635,
+    0xF6BF_FFF8,
+    // to the next block, else to the first: ZAPNOT; BEQ R21
+    0x4820_3635,
+    0xE6BF_FFF6,
+    // to no block, else to the first: ZAPNOT; BEQ R21; LDAH; LDA; CALL_PAL 86
+    0x4820_3635,
+    0xE6BF_FFF4,
+    0x275F_0002,
+    0x235A_8000,
+    0x0000_0086,
+    // to the first, else to no block: ZAPNOT; BNE R21; LDAH; LDA; CALL_PAL 86
+    0x4820_3635,
+    0xF6BF_FFEF,
+    0x275F_0002,
+    0x235A_8000,
+    0x0000_0086,
+    // to no block either way: ZAPNOT; BEQ R21 over three words, which stand twice
+    0x4820_3635,
+    0xE6A0_0003,
+    0x275F_0002,
+    0x235A_8000,
+    0x0000_0086,
+    0x275F_0002,
+    0x235A_8000,
+    0x0000_0086,
+    // to the next block, behind a service: ZAPNOT; BIS R21,#0,R21; LDAH R26,0(R31); LDA R26,600(R26); CALL_PAL 82; BR
+    0x4820_3635,
+    0x46A0_1415,
+    0x275F_0000,
+    0x235A_0258,
+    0x0000_0082,
+    0xC3E0_0000,
+    // the last block, to itself: ZAPNOT; BR two words back
+    0x4820_3635,
+    0xC3FF_FFFE,
 ];
 
-static PAIRS: [(u32, u32); 3] = [(0x200, 0), (0x207, 4), (0x20D, 7)];
+static PAIRS: [(u32, u32); 10] = [
+    (0x200, 0),
+    (0x207, 1),
+    (0x20D, 2),
+    (0x212, 6),
+    (0x21A, 8),
+    (0x220, 10),
+    (0x230, 15),
+    (0x240, 20),
+    (0x250, 28),
+    (0x258, 34),
+];
 
 /// The opcode of an instruction that keeps the codes.
 const NOP: u8 = 0x01;
@@ -53,13 +96,52 @@ fn block_at(alloc: Global, at: u32, program: &[Micro]) -> Result<Block>
     made(alloc, site, NOP, program, Flags::NONE)
 }
 
-/// A word and an exit, an exit alone, and a word and an exit to where no block is.
+/// Where no block is.
+const NOWHERE: u32 = 0x1_8000;
+
+/// A word, and an exit to an address.
+fn going(alloc: Global, at: u32, to: u32) -> Result<Block>
+    ensures { IfOk result (IsBlockOf false at) }
+{
+    block_at(alloc, at, &[MOVES, Micro::Leave(Exit::Fixed(to))])
+}
+
+/// A word, and exits to two addresses: where it is not 0, and where it is.
+fn choosing(alloc: Global, at: u32, taken: u32, other: u32) -> Result<Block>
+    ensures { IfOk result (IsBlockOf false at) }
+{
+    let exit = Exit::Choice {
+        when: 0,
+        taken,
+        other,
+    };
+    block_at(alloc, at, &[MOVES, Micro::Leave(exit)])
+}
+
+/// A word, and a service behind which it goes on.
+fn serving(alloc: Global, at: u32, after: u32) -> Result<Block>
+    ensures { IfOk result (IsBlockOf false at) }
+{
+    let program = [MOVES, Micro::Leave(Exit::Service(0))];
+    made(alloc, Site { at, after }, NOP, &program, Flags::NONE)
+}
+
+/// Blocks of all ends.
 fn laid_out(alloc: Global) -> Result<Code> {
-    let leave = |address| Micro::Leave(Exit::Fixed(address));
     let blocks = [
-        (0x200, block_at(alloc, 0x200, &[MOVES, leave(0x207)])?),
-        (0x207, block_at(alloc, 0x207, &[leave(0x200)])?),
-        (0x20D, block_at(alloc, 0x20D, &[MOVES, leave(0x1_8000)])?),
+        (0x200, going(alloc, 0x200, 0x207)?),
+        (
+            0x207,
+            block_at(alloc, 0x207, &[Micro::Leave(Exit::Fixed(0x200))])?,
+        ),
+        (0x20D, going(alloc, 0x20D, NOWHERE)?),
+        (0x212, choosing(alloc, 0x212, 0x200, 0x21A)?),
+        (0x21A, choosing(alloc, 0x21A, 0x220, 0x200)?),
+        (0x220, choosing(alloc, 0x220, NOWHERE, 0x200)?),
+        (0x230, choosing(alloc, 0x230, 0x200, NOWHERE)?),
+        (0x240, choosing(alloc, 0x240, NOWHERE, NOWHERE)?),
+        (0x250, serving(alloc, 0x250, 0x258)?),
+        (0x258, going(alloc, 0x258, 0x258)?),
     ];
     match lay_out(alloc, &blocks) {
         Ok(code) => Ok(code),
@@ -79,8 +161,8 @@ fn check_code(rt: &impl Print, tally: &mut Tally, code: &Code) -> Result<()> {
     Ok(())
 }
 
-/// Checks the code of three blocks.
-pub fn three_blocks(rt: &(impl Print + AllocGlobal)) -> Result<Tally> {
+/// Checks the code of these blocks.
+pub fn all_ends(rt: &(impl Print + AllocGlobal)) -> Result<Tally> {
     let mut tally = Tally::NONE;
     check_code(rt, &mut tally, &laid_out(rt.alloc())?)?;
     tally.print(rt, "layouts")?;

@@ -1,6 +1,6 @@
 //! Code that is laid out, and prepared code that runs.
 //!
-//! `layouts` lays three blocks out, beside words that were worked out by hand, and `exits` has exits at the edge of a branch's
+//! `layouts` lays blocks of all ends out, beside words that were worked out by hand, and `exits` has exits at the edge of a branch's
 //! reach; `constants` has the words of a constant. data/prepared.txt has runs of prepared code.
 #![tactic(auto)]
 
@@ -16,7 +16,7 @@ use std::fs::Files;
 
 fn main(rt: HostRuntime) -> Result<()> {
     let mut all = ask_rows(&rt, "prepared.txt", prepared::answer)?;
-    all.add(layouts::three_blocks(&rt)?);
+    all.add(layouts::all_ends(&rt)?);
     all.add(exits::reach(&rt)?);
     all.add(constants::longword(&rt)?);
     all.verdict()
