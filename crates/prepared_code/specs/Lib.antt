@@ -1,9 +1,10 @@
-pub mod Effects
-pub mod Sources
-pub mod Inside
-pub mod Flats
-pub mod Known
-pub mod Prepared
-pub mod Landings
 pub mod Asks
+pub mod Effects
+pub mod Flats
+pub mod Inside
+pub mod Known
+pub mod Landings
+pub mod Prepared
 pub mod Probes
+pub mod Sources
+pub mod Strides

@@ -10,7 +10,8 @@ ghost use Rattle.block_law.specs.Translations.{Code};
 ghost use Rattle.prepared_code.specs.Effects.{behind};
 ghost use Rattle.prepared_code.specs.Flats.{AreStraight, IsFork, IsInForm, effect, operand, way_out};
 ghost use Rattle.prepared_code.specs.declared.flat.Flat.{Flat};
-ghost use Rattle.prepared_code.specs.Inside.{Crosses, Lands, local_at, step_in, steps_in};
+ghost use Rattle.prepared_code.specs.Inside.{Crosses, local_at, step_in, steps_in};
+ghost use Rattle.prepared_code.specs.Strides.{IsStride};
 
 use crate::effect::{Effect, clear_31, commit, effect_of, register, write};
 use crate::flat::{Flat, Way};
@@ -18,6 +19,15 @@ use crate::prepared::Prepared;
 use alpha_encode::BranchOp;
 use alpha_machine::Cpu;
 use alpha_meaning::{is_taken, result};
+
+/// How far some steps came.
+#[derive(Clone, Copy)]
+enum Stride {
+    /// So many steps inside the block.
+    Inside(u64),
+    /// One step, to another block.
+    Landed,
+}
 
 /// The second operand of a straight word.
 #[inline(always)]
@@ -241,44 +251,58 @@ impl<'a> Prepared<'a> {
         }
     }
 
-    // Goes to the block to which a branch leads.
+    // Makes the step of a branch that may leave its block.
     #[inline(always)]
-    fn fork_lands(&self, cpu: &mut Cpu, flat: &Flat, op: BranchOp) -> bool
+    fn fork_over(&self, cpu: &mut Cpu, flat: &Flat, op: BranchOp) -> Stride
         requires rise { AllRise self.now.code.map }
         requires fork { IsFork self.now.code cpu.old.pc flat.now op }
         requires more { cpu.old.pc + 1 < 2 ^ 32 }
         requires zero { slice_index cpu.old.r 31 ≡ 0 }
-        ensures { result ≡ true → Lands self.now.code (state_of cpu.old) (state_of cpu.new) }
+        ensures zero { slice_index cpu.new.r 31 ≡ 0 }
+        ensures is { IsStride self.now.code cpu.old cpu.new 1 result }
     {
-        let next = way_out(cpu, flat, op);
-        if !self.begins(next) {
-            return false;
+        cpu.pc = way_out(cpu, flat, op);
+        if self.begins(cpu.pc) {
+            Stride::Landed
+        } else {
+            Stride::Inside(1)
         }
-        cpu.pc = next;
-        true
     }
 
-    // Makes the step of a word that is known to come to a block.
+    // Makes some steps, at most so many, or the one to another block.
     #[inline(always)]
-    fn lands(&self, cpu: &mut Cpu) -> bool
+    fn stride_over(&self, cpu: &mut Cpu, most: u64) -> Stride
+        requires some { 0 < most }
         requires zero { slice_index cpu.old.r 31 ≡ 0 }
-        ensures { result ≡ true → Lands self.now.code (state_of cpu.old) (state_of cpu.new) }
+        ensures zero { slice_index cpu.new.r 31 ≡ 0 }
+        ensures is { IsStride self.now.code cpu.old cpu.new most result }
     {
-        let Some(flat) = self.flats().get(cpu.pc as usize) else {
-            return false;
+        let flats = self.flats();
+        let Some(flat) = flats.get(cpu.pc as usize) else {
+            return Stride::Inside(0);
         };
+        if flat.number > 0 {
+            let count = most.min(u64::from(flat.number));
+            go_straight(cpu, flats, count as usize);
+            return Stride::Inside(count);
+        }
         match flat.way {
+            Way::Other => Stride::Inside(self.other_step(cpu)),
+            Way::Stops => Stride::Inside(0),
             Way::Lands => {
                 cpu.pc = flat.literal as u32;
-                true
+                Stride::Landed
             }
             Way::Ends => {
                 operate(cpu, flat);
                 cpu.pc += 1;
-                true
+                Stride::Landed
             }
-            Way::Forks(op) => self.fork_lands(cpu, flat, op),
-            Way::Other | Way::Stops | Way::Branches(_) => false,
+            Way::Branches(op) => {
+                go_by_branch(cpu, flat, op);
+                Stride::Inside(1)
+            }
+            Way::Forks(op) => self.fork_over(cpu, flat, op),
         }
     }
 
@@ -288,11 +312,15 @@ impl<'a> Prepared<'a> {
     pub fn cross(&self, cpu: &mut Cpu, most: u64) -> Option<u64>
         ensures { IfSome result (λ steps. (steps ≤ most) × Crosses self.now.code cpu.old cpu.new steps) }
     {
-        let inside = self.run_inside(cpu, most);
-        if inside < most && self.lands(cpu) {
-            Some(inside + 1)
-        } else {
-            None
+        clear_31(cpu);
+        let mut made = 0;
+        while made < most {
+            match self.stride_over(cpu, most - made) {
+                Stride::Inside(0) => return None,
+                Stride::Inside(steps) => made += steps,
+                Stride::Landed => return Some(made + 1),
+            }
         }
+        None
     }
 }
