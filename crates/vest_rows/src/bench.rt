@@ -1,25 +1,26 @@
 // What rows do.
-use crate::call::call;
+use crate::call::{Left, Line, call};
 use crate::cuts::{refuses_beginnings, refuses_changes, refuses_longer, refuses_prefixes};
-use crate::left::Left;
 use crate::lent::{Lent, object_of};
 use crate::replays::is_replayed;
 use crate::talks::is_same_live;
+use crate::trial::Trial;
 use crate::turns::Turns;
 use crate::unkept::is_same_unkept;
-use anyhow::{Context, Result, bail};
+use anyhow::{Result, bail};
 use row_files::{Files, first_word, parted, place_of, spelled};
 use row_tally::longword;
 use std::alloc::Global;
 use std::sync::Wait;
 use std::thread::Threads;
 
-/// What rows have made so far: the files, what the next call is lent beside them, and what the last one left.
+/// What rows have made so far: the files, what the next call is lent beside them, what the last one left, and what is called beside it.
 #[derive(Drop)]
 pub struct Bench {
     files: Files,
     lent: Lent,
-    left: Option<Left>,
+    left: Left,
+    trial: Trial,
 }
 
 /// Whether a row with that verb asks for nothing.
@@ -35,13 +36,9 @@ impl Bench {
         Bench {
             files: Files::none(alloc),
             lent: Lent::sound(alloc),
-            left: None,
+            left: Left::nothing(alloc),
+            trial: Trial::empty(alloc),
         }
-    }
-
-    fn clear(&mut self, alloc: Global) -> Result<()> {
-        self.files = Files::none(alloc);
-        Ok(())
     }
 
     // NAME PIECES.
@@ -51,28 +48,18 @@ impl Bench {
         self.files.put(alloc, name, bytes)
     }
 
-    // PIECES.
-    fn give(&mut self, alloc: Global, pieces: &str) -> Result<()> {
-        self.lent.input = spelled(alloc, &self.files, pieces)?;
-        Ok(())
-    }
-
-    fn slow(&mut self) -> Result<()> {
-        self.lent.bytewise = true;
-        Ok(())
-    }
-
     /// A row that asks for nothing.
     pub fn set(&mut self, alloc: Global, verb: &str, rest: &str) -> Result<()> {
         match verb {
-            "empty" => self.clear(alloc),
-            "file" => self.put(alloc, rest),
-            "input" => self.give(alloc, rest),
-            "fails" => self.lent.add_fault(rest),
-            "bytewise" => self.slow(),
-            "holds" => self.lent.add_hold(rest),
+            "empty" => self.files = Files::none(alloc),
+            "file" => self.put(alloc, rest)?,
+            "input" => self.lent.input = spelled(alloc, &self.files, rest)?,
+            "fails" => self.lent.add_fault(rest)?,
+            "bytewise" => self.lent.bytewise = true,
+            "holds" => self.lent.add_hold(rest)?,
             _ => bail!("an unknown row"),
         }
+        Ok(())
     }
 
     // One call, and whether it leaves what is wanted, and a run is given again by `replay`, with hints where these are asked for, and is
@@ -85,13 +72,17 @@ impl Bench {
         wanted: &str,
         hints: bool,
     ) -> Result<bool> {
-        let replayed = is_replayed(rt, alloc, &self.lent, &self.files, line, hints)?;
-        let unkept = is_same_unkept(rt, alloc, &self.lent, &self.files, line, wanted)?;
-        let left = call(rt, alloc, &self.lent, &mut self.files, line)?;
-        let live = is_same_live(rt, alloc, &self.lent, &self.files, line, wanted, &left)?;
-        let agrees = left.is_or_prints(rt, alloc, wanted)?;
-        self.left = Some(left);
-        Ok(agrees && replayed && unkept && live)
+        let Bench {
+            files,
+            lent,
+            left,
+            trial,
+        } = self;
+        let replayed = is_replayed(rt, alloc, trial, lent, files, line, hints)?;
+        let unkept = is_same_unkept(rt, alloc, trial, lent, files, line, wanted)?;
+        call(rt, alloc, lent, files, left, Line::of(line))?;
+        let live = is_same_live(rt, alloc, trial, lent, files, line, wanted, left)?;
+        Ok(left.is_or_prints(rt, alloc, wanted)? && replayed && unkept && live)
     }
 
     // LINE: STATUS OUT REPORT, so many times, the first of them with hints.
@@ -134,21 +125,25 @@ impl Bench {
         let (count, line) = first_word(rest);
         let turns = Turns {
             files: &self.files,
-            input: self.lent.input.as_slice(),
             object: object_of(object)?,
             line,
         };
-        let agrees = turns.agree(rt, alloc, count)?;
+        let agrees = turns.agree(rt, alloc, &mut self.trial, &mut self.lent, count)?;
         self.lent = Lent::sound(alloc);
         Ok(agrees)
+    }
+
+    // Whether the name has the bytes that these pieces spell.
+    fn has_bytes(&self, alloc: Global, name: &str, pieces: &str) -> Result<bool> {
+        let wanted = spelled(alloc, &self.files, pieces)?;
+        Ok(self.files.find(name) == Some(wanted.as_slice()))
     }
 
     // NAME PIECES: whether the name has these bytes, or one of those that have " or " between.
     fn has(&self, alloc: Global, rest: &str) -> Result<bool> {
         let (name, all) = first_word(rest);
         for pieces in all.split(" or ") {
-            let wanted = spelled(alloc, &self.files, pieces)?;
-            if self.files.get(name)? == wanted.as_slice() {
+            if self.has_bytes(alloc, name, pieces)? {
                 return Ok(true);
             }
         }
@@ -161,22 +156,21 @@ impl Bench {
         Ok(self.files.get(name)?.len() == place_of(count)?)
     }
 
-    fn left(&self) -> Result<&Left> {
-        self.left.as_ref().context("a call before")
-    }
-
     // PIECES: whether `out` begins so.
     fn begins(&self, alloc: Global, pieces: &str) -> Result<bool> {
-        let wanted = spelled(alloc, &self.files, pieces)?;
-        Ok(self.left()?.out.starts_with(&wanted))
+        Ok(
+            self.left
+                .out()
+                .starts_with(&spelled(alloc, &self.files, pieces)?),
+        )
     }
 
     // ADDRESS PIECES: whether the kept memory has these bytes from there on.
     fn has_memory(&self, alloc: Global, rest: &str) -> Result<bool> {
         let (address, pieces) = first_word(rest);
+        let address = longword(address)?;
         let wanted = spelled(alloc, &self.files, pieces)?;
-        let run = &self.left()?.run;
-        Ok(run.has_memory(alloc, longword(address)?, &wanted)?)
+        Ok(self.left.has_memory(alloc, address, &wanted)?)
     }
 
     // A row about what stands.
@@ -185,11 +179,28 @@ impl Bench {
             "has" => self.has(alloc, rest),
             "size" => self.has_size(rest),
             "absent" => Ok(self.files.find(rest).is_none()),
-            "left" => self.left()?.agrees(rt, alloc, rest),
-            "history" => self.left()?.has_history(alloc, rest),
+            "left" => self.left.agrees(rt, alloc, rest),
+            "history" => self.left.has_history(alloc, rest),
             "memory" => self.has_memory(alloc, rest),
             "begins" => self.begins(alloc, rest),
             _ => bail!("an unknown row"),
+        }
+    }
+
+    // A row about a translated file, or an order, that is cut or changed.
+    fn refuses<R: Threads + Wait + Sync>(
+        &mut self,
+        rt: &R,
+        alloc: Global,
+        verb: &str,
+        rest: &str,
+    ) -> Result<bool> {
+        let Bench { files, trial, .. } = self;
+        match verb {
+            "prefixes" => refuses_prefixes(rt, alloc, trial, files.get(rest)?),
+            "changes" => refuses_changes(rt, alloc, trial, files.get(rest)?),
+            "longer" => refuses_longer(rt, alloc, trial, files.get(rest)?),
+            _ => refuses_beginnings(rt, alloc, trial, files, rest),
         }
     }
 
@@ -205,10 +216,9 @@ impl Bench {
             "call" => self.calls(rt, alloc, rest, 1),
             "again" => self.calls_again(rt, alloc, rest),
             "turns" => self.fails_in_turn(rt, alloc, rest),
-            "prefixes" => refuses_prefixes(rt, alloc, self.files.get(rest)?),
-            "beginnings" => refuses_beginnings(rt, alloc, &self.files, rest),
-            "changes" => refuses_changes(rt, alloc, self.files.get(rest)?),
-            "longer" => refuses_longer(rt, alloc, self.files.get(rest)?),
+            "prefixes" | "beginnings" | "changes" | "longer" => {
+                self.refuses(rt, alloc, verb, rest)
+            }
             _ => self.stands(rt, alloc, verb, rest),
         }
     }

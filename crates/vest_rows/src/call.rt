@@ -1,94 +1,54 @@
-// A call of `vest`, with what it is lent.
+// A call of `vest`, with what it is lent and what it leaves.
 use crate::gates::Holds;
-use crate::left::{Left, Run, Steps};
 use crate::lent::{Lent, Object};
 use anyhow::Result;
-use row_files::{Files, words_of};
+use row_files::Files;
 use std::alloc::{AllocError, Global};
 use std::sync::Wait;
 use std::thread::Threads;
-use tie_switch::Processor;
-use vest_cli::{Kept, Status, vest};
+use vest_cli::{Kept, vest};
 use vt_outside::{Got, MemoryDesk, MemorySink, MemorySource, Source};
 
 /// The bytes of the input that are looked for behind a call.
 const UNREAD: usize = 16;
 
-/// What a call is lent beside the desk.
+/// What a call leaves beside the files: its status, what is kept of a run, how many bytes of the input are left, and what it was lent.
 #[derive(Drop)]
-struct Objects {
+pub struct Left {
+    pub status: u64,
+    pub kept: Kept,
+    pub unread: u64,
+    words: Vec<String>,
+    desk: MemoryDesk,
     input: MemorySource,
     out: MemorySink,
     report: MemorySink,
     gate: Holds,
 }
 
-fn objects_of(alloc: Global, lent: &Lent) -> Result<Objects, AllocError> {
-    Ok(Objects {
-        input: lent.source(alloc)?,
-        out: lent.sink(alloc, Object::Out)?,
-        report: lent.sink(alloc, Object::Report)?,
-        gate: lent.gate(alloc)?,
-    })
+/// A command line in parts: what stands before a name, the name, and what stands behind it.
+#[derive(Clone, Copy)]
+pub struct Line<'a> {
+    pub before: &'a str,
+    pub name: &'a str,
+    pub behind: &'a str,
 }
 
-// The call alone.
-fn obey<R: Threads + Wait + Sync>(
-    rt: &R,
-    alloc: Global,
-    words: &[String],
-    desk: &mut MemoryDesk,
-    objects: &mut Objects,
-    kept: &mut Kept,
-) -> Status {
-    let Objects {
-        input,
-        out,
-        report,
-        gate,
-    } = objects;
-    vest(rt, alloc, words, desk, input, out, report, gate, kept)
-}
-
-// Obeys the words, and says what rows look at of what was kept.
-fn run_of<R: Threads + Wait + Sync>(
-    rt: &R,
-    alloc: Global,
-    words: &[String],
-    desk: &mut MemoryDesk,
-    objects: &mut Objects,
-) -> Result<Run, AllocError> {
-    let mut kept = Kept::empty(alloc);
-    let status = obey(rt, alloc, words, desk, objects, &mut kept);
-    seen(alloc, status, kept)
-}
-
-fn seen(alloc: Global, status: Status, kept: Kept) -> Result<Run, AllocError> {
-    let Kept {
-        image,
-        memory,
-        processors,
-        ranges,
-        ..
-    } = kept;
-    Ok(Run {
-        status: u64::from(status.number()),
-        image,
-        ranges: ranges.len() as u64,
-        steps: steps_of(alloc, &processors)?,
-        memory,
-    })
-}
-
-fn steps_of(alloc: Global, processors: &[Processor]) -> Result<Vec<Steps>, AllocError> {
-    let mut steps = Vec::new(alloc);
-    for processor in processors {
-        steps.push(Steps {
-            retired: processor.retired(),
-            interpreted: processor.interpreted_steps(),
-        })?;
+impl<'a> Line<'a> {
+    pub fn of(line: &'a str) -> Line<'a> {
+        Line {
+            before: line,
+            name: "",
+            behind: "",
+        }
     }
-    Ok(steps)
+}
+
+fn push_words(alloc: Global, words: &mut Vec<String>, text: &str) -> Result<(), AllocError> {
+    for word in text.split_whitespace() {
+        words.push(String::from_str(alloc, word)?)?;
+    }
+    Ok(())
 }
 
 // How many of up to as many bytes another read gives.
@@ -100,42 +60,68 @@ fn unread(input: &mut MemorySource) -> u64 {
     }
 }
 
-// What the objects took.
-fn left_of(alloc: Global, objects: &mut Objects, run: Run) -> Result<Left, AllocError> {
-    let out = objects.out.bytes().to_vec(alloc)?;
-    let report = objects.report.bytes().to_vec(alloc)?;
-    Ok(Left {
-        run,
-        unread: unread(&mut objects.input),
-        out,
-        report,
-        released: objects.gate.are_released(),
-    })
-}
+impl Left {
+    /// No call was made.
+    pub fn nothing(alloc: Global) -> Left {
+        Left {
+            status: 0,
+            kept: Kept::empty(alloc),
+            unread: 0,
+            words: Vec::new(alloc),
+            desk: MemoryDesk::new(Vec::new(alloc), Vec::new(alloc)),
+            input: MemorySource::new(Vec::new(alloc), Vec::new(alloc), 1),
+            out: MemorySink::new(Vec::new(alloc), Vec::new(alloc)),
+            report: MemorySink::new(Vec::new(alloc), Vec::new(alloc)),
+            gate: Holds::nothing(alloc),
+        }
+    }
 
-fn call_over<R: Threads + Wait + Sync>(
-    rt: &R,
-    alloc: Global,
-    lent: &Lent,
-    words: &[String],
-    desk: &mut MemoryDesk,
-) -> Result<Left, AllocError> {
-    let mut objects = objects_of(alloc, lent)?;
-    let run = run_of(rt, alloc, words, desk, &mut objects)?;
-    left_of(alloc, &mut objects, run)
-}
+    /// What `out` took.
+    pub fn out(&self) -> &[u8] {
+        self.out.bytes()
+    }
 
-fn call_with<R: Threads + Wait + Sync>(
-    rt: &R,
-    alloc: Global,
-    lent: &Lent,
-    files: &mut Files,
-    words: &[String],
-) -> Result<Left> {
-    let mut desk = files.desk(alloc, lent.fails_of(alloc, Object::Desk)?)?;
-    let left = call_over(rt, alloc, lent, words, &mut desk)?;
-    files.take(alloc, &mut desk, words)?;
-    Ok(left)
+    /// What the report took.
+    pub fn report(&self) -> &[u8] {
+        self.report.bytes()
+    }
+
+    /// Whether each hold ended because its access came.
+    pub fn is_released(&self) -> bool {
+        self.gate.are_released()
+    }
+
+    fn lend(&mut self, alloc: Global, lent: &Lent, files: &Files) -> Result<(), AllocError> {
+        self.desk = files.desk(alloc, lent.fails_of(alloc, Object::Desk)?)?;
+        self.input = lent.source(alloc)?;
+        self.out = lent.sink(alloc, Object::Out)?;
+        self.report = lent.sink(alloc, Object::Report)?;
+        self.gate = lent.gate(alloc)?;
+        Ok(())
+    }
+
+    fn spell(&mut self, alloc: Global, line: Line<'_>) -> Result<(), AllocError> {
+        self.words = Vec::new(alloc);
+        push_words(alloc, &mut self.words, line.before)?;
+        push_words(alloc, &mut self.words, line.name)?;
+        push_words(alloc, &mut self.words, line.behind)
+    }
+
+    fn obey<R: Threads + Wait + Sync>(&mut self, rt: &R, alloc: Global) {
+        let status = vest(
+            rt,
+            alloc,
+            &self.words,
+            &mut self.desk,
+            &mut self.input,
+            &mut self.out,
+            &mut self.report,
+            &self.gate,
+            &mut self.kept,
+        );
+        self.status = u64::from(status.number());
+        self.unread = unread(&mut self.input);
+    }
 }
 
 /// Calls `vest` with the words of a line. The files are then those of the desk.
@@ -144,7 +130,11 @@ pub fn call<R: Threads + Wait + Sync>(
     alloc: Global,
     lent: &Lent,
     files: &mut Files,
-    line: &str,
-) -> Result<Left> {
-    call_with(rt, alloc, lent, files, &words_of(alloc, line)?)
+    left: &mut Left,
+    line: Line<'_>,
+) -> Result<()> {
+    left.lend(alloc, lent, files)?;
+    left.spell(alloc, line)?;
+    left.obey(rt, alloc);
+    files.take(alloc, &mut left.desk, &left.words)
 }

@@ -1,9 +1,9 @@
 // Translated files that `translate` wrote, cut and changed, and orders cut.
-use crate::call::call;
-use crate::lent::Lent;
+use crate::call::Line;
+use crate::trial::Trial;
 use anyhow::{Context, Result};
 use row_files::{Files, parted};
-use std::alloc::{AllocError, Global};
+use std::alloc::Global;
 use std::sync::Wait;
 use std::thread::Threads;
 
@@ -22,89 +22,115 @@ const WORD: usize = 4;
 /// The name of the file that is run or replayed.
 const NAME: &str = "cut";
 
-/// Whether `run` refuses the bytes with that line.
+/// Runs it.
+const RUN: Line<'static> = Line {
+    before: "run",
+    name: NAME,
+    behind: "",
+};
+
+/// Whether a call over a file of these bytes is refused with these words and numbers.
 fn refuses<R: Threads + Wait + Sync>(
     rt: &R,
     alloc: Global,
+    trial: &mut Trial,
+    line: Line<'_>,
     bytes: Vec<u8>,
-    line: &str,
+    words: &str,
+    numbers: &[u64],
 ) -> Result<bool> {
-    let mut files = Files::none(alloc);
-    files.put(alloc, NAME, bytes)?;
-    let left = call(rt, alloc, &Lent::sound(alloc), &mut files, "run cut")?;
-    Ok(left.is_refused(line))
+    trial.files.put(alloc, NAME, bytes)?;
+    trial.call(rt, alloc, line)?;
+    Ok(trial.last.is_refused(alloc, words, numbers)?)
 }
 
-/// Whether the first `length` bytes are refused as too short.
-fn refuses_prefix<R: Threads + Wait + Sync>(
-    rt: &R,
-    alloc: Global,
-    whole: &[u8],
-    length: usize,
-) -> Result<bool> {
-    let prefix = whole.get(..length).context("a beginning")?;
-    let line = format!(in alloc; "refused translated 1 {length}\n")?;
-    refuses(rt, alloc, prefix.to_vec(alloc)?, line.as_str())
+/// The first `length` bytes.
+fn beginning(alloc: Global, whole: &[u8], length: usize) -> Result<Vec<u8>> {
+    let beginning = whole.get(..length).context("a beginning")?;
+    Ok(beginning.to_vec(alloc)?)
 }
 
-/// Whether each beginning, from four bytes on, is refused as too short, with its length.
-pub fn refuses_prefixes<R: Threads + Wait + Sync>(
+/// Whether each beginning of so many bytes or more is refused with these words and its length.
+fn refuses_each<R: Threads + Wait + Sync>(
     rt: &R,
     alloc: Global,
+    trial: &mut Trial,
+    line: Line<'_>,
     whole: &[u8],
+    least: usize,
+    words: &str,
 ) -> Result<bool> {
-    for length in MAGIC..whole.len() {
-        if !refuses_prefix(rt, alloc, whole, length)? {
+    for length in least..whole.len() {
+        let cut = beginning(alloc, whole, length)?;
+        if !refuses(rt, alloc, trial, line, cut, words, &[length as u64])? {
             return Ok(false);
         }
     }
-    Ok(true)
+    Ok(least < whole.len())
 }
 
-/// Whether `replay` refuses the beginning of an order as too short.
-fn refuses_beginning<R: Threads + Wait + Sync>(
+/// Whether `run` refuses each beginning, from four bytes on, as too short, with its length.
+pub fn refuses_prefixes<R: Threads + Wait + Sync>(
     rt: &R,
     alloc: Global,
-    files: &mut Files,
-    words: &str,
-    beginning: &[u8],
+    trial: &mut Trial,
+    whole: &[u8],
 ) -> Result<bool> {
-    files.put(alloc, NAME, beginning.to_vec(alloc)?)?;
-    let line = format!(in alloc; "refused order 1 {}\n", beginning.len())?;
-    let left = call(rt, alloc, &Lent::sound(alloc), files, words)?;
-    Ok(left.is_refused(line.as_str()))
+    trial.files = Files::none(alloc);
+    refuses_each(rt, alloc, trial, RUN, whole, MAGIC, "refused translated 1")
 }
 
 /// IMAGE FILE: whether `replay` of the image refuses each beginning of the order as too short, with its length.
 pub fn refuses_beginnings<R: Threads + Wait + Sync>(
     rt: &R,
     alloc: Global,
+    trial: &mut Trial,
     files: &Files,
     names: &str,
 ) -> Result<bool> {
     let (image, file) = parted(names, " ")?;
-    let words = format!(in alloc; "replay {image} {NAME}")?;
-    let whole = files.get(file)?;
-    let mut files = files.copy(alloc)?;
-    for length in 0..whole.len() {
-        let beginning = whole.get(..length).context("a beginning")?;
-        if !refuses_beginning(rt, alloc, &mut files, words.as_str(), beginning)? {
-            return Ok(false);
-        }
-    }
-    Ok(!whole.is_empty())
+    let line = Line {
+        before: "replay",
+        name: image,
+        behind: NAME,
+    };
+    trial.begin(alloc, files)?;
+    refuses_each(
+        rt,
+        alloc,
+        trial,
+        line,
+        files.get(file)?,
+        0,
+        "refused order 1",
+    )
+}
+
+/// The bytes and one more.
+fn longer(alloc: Global, whole: &[u8]) -> Result<Vec<u8>> {
+    let mut longer = whole.to_vec(alloc)?;
+    longer.push(0)?;
+    Ok(longer)
 }
 
 /// Whether the file with one byte more is refused, with the place of that byte.
 pub fn refuses_longer<R: Threads + Wait + Sync>(
     rt: &R,
     alloc: Global,
+    trial: &mut Trial,
     whole: &[u8],
 ) -> Result<bool> {
-    let mut longer = whole.to_vec(alloc)?;
-    longer.push(0)?;
-    let line = format!(in alloc; "refused translated 6 {}\n", whole.len())?;
-    refuses(rt, alloc, longer, line.as_str())
+    trial.files = Files::none(alloc);
+    let (longer, place) = (longer(alloc, whole)?, whole.len() as u64);
+    refuses(
+        rt,
+        alloc,
+        trial,
+        RUN,
+        longer,
+        "refused translated 6",
+        &[place],
+    )
 }
 
 /// The word at a place.
@@ -114,30 +140,36 @@ fn word_at(bytes: &[u8], at: usize) -> Result<u32> {
     Ok(u32::from_le_bytes(*word))
 }
 
-/// The bytes with a bit at a place changed.
+/// The bytes with the lowest bit of that at a place changed.
 fn changed_at(alloc: Global, whole: &[u8], at: usize) -> Result<Vec<u8>> {
     let mut changed = whole.to_vec(alloc)?;
-    let byte = changed.get_mut(at).context("a byte")?;
-    *byte ^= 1;
+    if let Some(byte) = changed.get_mut(at) {
+        *byte ^= 1;
+    }
     Ok(changed)
-}
-
-/// The line for another word than the one that is wanted.
-fn line_of(alloc: Global, place: usize, found: u32, wanted: u32) -> Result<String, AllocError> {
-    format!(in alloc; "refused translated 5 {place} {found} {wanted}\n")
 }
 
 /// Whether the file with another word there, which is that word of its tail, is refused.
 fn refuses_change<R: Threads + Wait + Sync>(
     rt: &R,
     alloc: Global,
+    trial: &mut Trial,
     whole: &[u8],
     at: usize,
     place: usize,
 ) -> Result<bool> {
+    let word = u64::from(word_at(whole, at)?);
+    let numbers = [place as u64, word ^ 1, word];
     let changed = changed_at(alloc, whole, at)?;
-    let line = line_of(alloc, place, word_at(&changed, at)?, word_at(whole, at)?)?;
-    refuses(rt, alloc, changed, line.as_str())
+    refuses(
+        rt,
+        alloc,
+        trial,
+        RUN,
+        changed,
+        "refused translated 5",
+        &numbers,
+    )
 }
 
 /// Where the tail of a file without hints begins.
@@ -150,13 +182,15 @@ fn tail_of(whole: &[u8]) -> Result<usize> {
 pub fn refuses_changes<R: Threads + Wait + Sync>(
     rt: &R,
     alloc: Global,
+    trial: &mut Trial,
     whole: &[u8],
 ) -> Result<bool> {
+    trial.files = Files::none(alloc);
     let tail = tail_of(whole)?;
     let words = whole.len().saturating_sub(tail) / WORD;
     for place in 0..words {
         let at = tail.saturating_add(place.saturating_mul(WORD));
-        if !refuses_change(rt, alloc, whole, at, place)? {
+        if !refuses_change(rt, alloc, trial, whole, at, place)? {
             return Ok(false);
         }
     }

@@ -60,6 +60,10 @@ impl Hold {
 }
 
 impl Holds {
+    pub fn nothing(alloc: Global) -> Holds {
+        Holds(Vec::new(alloc))
+    }
+
     pub fn of(alloc: Global, pairs: &[Pair]) -> Result<Holds, AllocError> {
         let mut holds = Vec::new(alloc);
         for pair in pairs {

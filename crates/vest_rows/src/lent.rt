@@ -69,7 +69,9 @@ impl Lent {
         }
     }
 
-    pub fn fail(&mut self, fault: Fault) -> Result<(), AllocError> {
+    /// No other call is to fail.
+    pub fn fail_alone(&mut self, fault: Fault) -> Result<(), AllocError> {
+        self.faults.clear();
         self.faults.push(fault)?;
         Ok(())
     }
@@ -81,7 +83,7 @@ impl Lent {
             object: object_of(object)?,
             call: number(call)?,
         };
-        self.fail(fault)?;
+        self.faults.push(fault)?;
         Ok(())
     }
 

@@ -2,9 +2,9 @@
 //! how many leave what stands there.
 //!
 //! `lent` and `gates` have what a call is lent beside the files, `call` makes the call, `left`, `numbers` and `memory` have what it
-//! left, `cuts` goes through beginnings and changes of a translated file, `turns` through the calls of an object that may fail, `replays`
-//! drives the order of each run again, `unkept` makes each run without a history, `talks` talks with each run, and `bench` says which of
-//! these a row asks for.
+//! left, and `trial` has what is called beside it: `cuts` goes through beginnings and changes of a translated file, `turns` through the
+//! calls of an object that may fail, `replays` drives the order of each run again, `unkept` makes each run without a history, and `talks`
+//! talks with each run; `bench` says which of these a row asks for.
 #![tactic(auto)]
 
 mod bench;
@@ -17,6 +17,7 @@ mod memory;
 mod numbers;
 mod replays;
 mod talks;
+mod trial;
 mod turns;
 mod unkept;
 
@@ -52,13 +53,21 @@ fn obey<'a, R: Threads + Wait + Sync + AllocGlobal + Print>(
     Ok(())
 }
 
-fn run_table<R: Threads + Wait + Sync + AllocGlobal + Print>(rt: &R, table: &str) -> Result<Tally> {
+fn obey_all<R: Threads + Wait + Sync + AllocGlobal + Print>(
+    rt: &R,
+    bench: &mut Bench,
+    rows: &[&str],
+) -> Result<Tally> {
     let mut families = Families::NONE;
-    let mut bench = Bench::empty(rt.alloc());
-    for row in &rows(rt.alloc(), table)? {
-        obey(rt, &mut bench, &mut families, row)?;
+    for row in rows {
+        obey(rt, bench, &mut families, row)?;
     }
     families.end(rt)
+}
+
+fn run_table<R: Threads + Wait + Sync + AllocGlobal + Print>(rt: &R, table: &str) -> Result<Tally> {
+    let rows = rows(rt.alloc(), table)?;
+    obey_all(rt, &mut Bench::empty(rt.alloc()), &rows)
 }
 
 fn main(rt: HostRuntime) -> Result<()> {

@@ -1,5 +1,5 @@
 // The memory that a kept run left, by its image and its history.
-use crate::left::Run;
+use crate::call::Left;
 use memory_core::{Entry, Kind};
 use std::alloc::{AllocError, Global};
 
@@ -10,7 +10,7 @@ fn is_of_memory(entry: &Entry) -> bool {
     entry.kind != Kind::Put && entry.kind != Kind::Get
 }
 
-impl Run {
+impl Left {
     // What the last access to each of so many quadwords left there, from the quadword at an address on.
     fn quads_left(
         &self,
@@ -34,7 +34,7 @@ impl Run {
     fn byte_left(&self, quad: Option<u64>, address: u32) -> Option<u8> {
         match quad {
             Some(quad) => Some(quad.to_le_bytes()[(address % QUAD_BYTES) as usize]),
-            None => self.image.as_ref()?.byte(address),
+            None => self.kept.image.as_ref()?.byte(address),
         }
     }
 

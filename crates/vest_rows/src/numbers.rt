@@ -1,10 +1,11 @@
 // What a call left, in numbers.
-use crate::left::{Left, Steps};
+use crate::call::Left;
 use anyhow::{Context, Result, bail};
 use memory_core::{Entry, Kind};
 use row_files::parted;
 use row_tally::{number, words};
 use std::alloc::Global;
+use tie_switch::Processor;
 
 /// Which entries of a history are counted: the loads that lock; or of a thread the stores that failed, those that are neither,
 /// or the latter with how many instructions it had retired.
@@ -36,16 +37,6 @@ fn is_one(entry: &Entry, which: Which) -> bool {
     }
 }
 
-fn count_of(history: &[Entry], which: Which) -> u64 {
-    let mut count: u64 = 0;
-    for entry in history {
-        if is_one(entry, which) {
-            count = count.saturating_add(1);
-        }
-    }
-    count
-}
-
 fn lines(out: &[u8]) -> u64 {
     let mut count: u64 = 0;
     for byte in out {
@@ -56,62 +47,76 @@ fn lines(out: &[u8]) -> u64 {
     count
 }
 
+// A number of the last entry.
+fn of_last(last: &Entry, name: &str) -> Result<u64> {
+    match name {
+        "retired" => Ok(last.retired),
+        "quad" => Ok(u64::from(last.quad)),
+        "before" => Ok(last.before),
+        "after" => Ok(last.after),
+        _ => bail!("an unknown row"),
+    }
+}
+
+// Whether a number is the wanted one, or greater than one behind >.
+fn is_number(found: u64, wanted: &str) -> Result<bool> {
+    match wanted.strip_prefix('>') {
+        Some(below) => Ok(number(below)? < found),
+        None => Ok(number(wanted)? == found),
+    }
+}
+
 impl Left {
-    fn last(&self) -> Result<&Entry> {
-        self.run.history().last().context("an entry")
+    fn count_of(&self, which: Which) -> u64 {
+        let mut count: u64 = 0;
+        for entry in self.history() {
+            if is_one(entry, which) {
+                count = count.saturating_add(1);
+            }
+        }
+        count
     }
 
-    fn steps_of(&self, thread: u64) -> Result<Steps> {
-        let steps = self.run.steps.get(thread as usize).context("a thread")?;
-        Ok(*steps)
+    fn processor(&self, thread: u64) -> Result<&Processor> {
+        self.kept
+            .processors
+            .get(thread as usize)
+            .context("a thread")
     }
 
     // A number of the call.
     fn of_call(&self, name: &str) -> Result<u64> {
         match name {
-            "kept" => Ok(u64::from(self.run.is_kept())),
-            "ranges" => Ok(self.run.ranges),
+            "kept" => Ok(u64::from(self.is_kept())),
+            "ranges" => Ok(self.kept.ranges.len() as u64),
             "unread" => Ok(self.unread),
-            "lines" => Ok(lines(&self.out)),
-            "entries" => Ok(self.run.history().len() as u64),
-            "locked" => Ok(count_of(self.run.history(), Which::Locked)),
-            _ => self.of_last(name),
-        }
-    }
-
-    // A number of the last entry.
-    fn of_last(&self, name: &str) -> Result<u64> {
-        let last = self.last()?;
-        match name {
-            "retired" => Ok(last.retired),
-            "quad" => Ok(u64::from(last.quad)),
-            "before" => Ok(last.before),
-            "after" => Ok(last.after),
-            _ => bail!("an unknown row"),
+            "lines" => Ok(lines(self.out())),
+            "entries" => Ok(self.history().len() as u64),
+            "locked" => Ok(self.count_of(Which::Locked)),
+            _ => of_last(self.history().last().context("an entry")?, name),
         }
     }
 
     // A number of a thread.
     fn of_thread(&self, name: &str, thread: u64) -> Result<u64> {
         match name {
-            "counted" => Ok(count_of(self.run.history(), Which::Counted(thread))),
-            "failed" => Ok(count_of(self.run.history(), Which::Failed(thread))),
-            "steps" => Ok(self.steps_of(thread)?.retired),
-            "interpreted" => Ok(self.steps_of(thread)?.interpreted),
+            "counted" => Ok(self.count_of(Which::Counted(thread))),
+            "failed" => Ok(self.count_of(Which::Failed(thread))),
+            "steps" => Ok(self.processor(thread)?.retired()),
+            "interpreted" => Ok(self.processor(thread)?.interpreted_steps()),
             _ => bail!("an unknown row"),
         }
     }
 
-    fn counted_at(&self, thread: u64, retired: u64) -> Result<u64> {
-        Ok(count_of(self.run.history(), Which::CountedAt(thread, retired)))
-    }
-
-    /// The number that a name stands for, alone, of a thread, or of a thread and how many instructions it had retired.
-    fn number(&self, alloc: Global, what: &str) -> Result<u64> {
-        match words(alloc, what)?.as_slice() {
+    // The number that words stand for: a name alone, of a thread, or of a thread and how many instructions it had retired.
+    fn number_of(&self, words: &[&str]) -> Result<u64> {
+        match words {
             [name] => self.of_call(name),
             [name, thread] => self.of_thread(name, number(thread)?),
-            [_, thread, retired] => self.counted_at(number(thread)?, number(retired)?),
+            [_, thread, retired] => {
+                let which = Which::CountedAt(number(thread)?, number(retired)?);
+                Ok(self.count_of(which))
+            }
             _ => bail!("an unknown row"),
         }
     }
@@ -119,11 +124,8 @@ impl Left {
     /// WHAT: NUMBER, or WHAT: >NUMBER: whether it is that, or more than that.
     pub fn agrees(&self, rt: &impl Print, alloc: Global, text: &str) -> Result<bool> {
         let (what, wanted) = parted(text, ": ")?;
-        let found = self.number(alloc, what)?;
-        let agrees = match wanted.strip_prefix('>') {
-            Some(below) => number(below)? < found,
-            None => number(wanted)? == found,
-        };
+        let found = self.number_of(&words(alloc, what)?)?;
+        let agrees = is_number(found, wanted)?;
         if !agrees {
             println!(rt; "found {found:X}")?;
         }

@@ -1,20 +1,30 @@
 // Runs whose order is stored, and driven again.
-use crate::call::call;
-use crate::left::Left;
+use crate::call::{Left, Line, call};
 use crate::lent::Lent;
+use crate::trial::Trial;
 use anyhow::Result;
 use row_files::{Files, first_word};
 use std::alloc::Global;
 use std::sync::Wait;
 use std::thread::Threads;
 
-/// The name under which the order of a run goes.
-const ORDER: &str = "order-of-the-run";
+/// What stands before the words of a run, for its order to be stored.
+const STORING: &str = "run --order order-of-the-run";
 
-/// The name under which hints go, and that of what is translated with them.
+/// What stands behind a name, for that order to be driven again.
+const AGAIN: &str = "order-of-the-run";
+
+/// The same, for hints to be stored, too.
+const AGAIN_WITH_HINTS: &str = "order-of-the-run --hints hints-of-the-run";
+
+/// The name under which hints go.
 const HINTS: &str = "hints-of-the-run";
 
+/// The name of what is translated with them.
 const HINTED: &str = "hinted";
+
+/// What stands behind the name of an image, for it to be translated so.
+const WITH_HINTS: &str = "hinted --hints hints-of-the-run";
 
 /// A hint file without hints.
 const NO_HINTS: &[u8; 12] = b"VXHT\x01\0\0\0\0\0\0\0";
@@ -24,7 +34,7 @@ const MOST_HINTED: usize = 100_000;
 
 /// The statuses of a run that came to an end.
 fn has_come(left: &Left) -> bool {
-    matches!(left.run.status, 0 | 4 | 5)
+    matches!(left.status, 0 | 4 | 5)
 }
 
 /// What stands behind `run`, where the line is one of a run that stores no order: its name, and its options.
@@ -37,62 +47,80 @@ pub fn run_of(line: &str) -> Option<&str> {
     }
 }
 
-/// Whether the order of a run, of what stands under a name, is driven to the end that the run had, with its hints stored.
-fn is_given_with_hints<R: Threads + Wait + Sync>(
+/// Whether the order of the first run, of what stands under a name, is driven to the end that it had.
+fn is_given<R: Threads + Wait + Sync>(
     rt: &R,
     alloc: Global,
-    files: &mut Files,
+    trial: &mut Trial,
     name: &str,
-    run: &Left,
+    behind: &str,
 ) -> Result<bool> {
-    let line = format!(in alloc; "replay {name} {ORDER} --hints {HINTS}")?;
-    let left = call(rt, alloc, &Lent::sound(alloc), files, line.as_str())?;
-    Ok(left.has(run.run.status, &run.out, &run.report) && !left.run.is_kept())
+    let line = Line {
+        before: "replay",
+        name,
+        behind,
+    };
+    trial.call(rt, alloc, line)?;
+    Ok(trial.last.is_as(&trial.first) && !trial.last.is_kept())
 }
 
-/// Whether that is so, and the hints of an image leave none where it is translated with them.
-fn is_hinted<R: Threads + Wait + Sync>(
+/// Whether the image of a name, translated with the hints, leaves none; or it is no image.
+fn leaves_none<R: Threads + Wait + Sync>(
     rt: &R,
     alloc: Global,
-    files: &mut Files,
+    trial: &mut Trial,
     name: &str,
-    run: &Left,
 ) -> Result<bool> {
-    if !is_given_with_hints(rt, alloc, files, name, run)? {
-        return Ok(false);
-    }
-    let line = format!(in alloc; "translate {name} {HINTED} --hints {HINTS}")?;
-    let translated = call(rt, alloc, &Lent::sound(alloc), files, line.as_str())?;
-    if translated.run.status != 0 {
+    let line = Line {
+        before: "translate",
+        name,
+        behind: WITH_HINTS,
+    };
+    trial.call(rt, alloc, line)?;
+    if trial.last.status != 0 {
         return Ok(true);
     }
     Ok(
-        is_given_with_hints(rt, alloc, files, HINTED, run)?
-            && files.get(HINTS)? == NO_HINTS.as_slice(),
+        is_given(rt, alloc, trial, HINTED, AGAIN_WITH_HINTS)?
+            && trial.files.get(HINTS)? == NO_HINTS.as_slice(),
     )
 }
 
-/// Whether a run, with its order stored, is what `replay` then gives, where it came to its end; and so with hints, where these are
-/// asked for.
+/// Whether the first run, which came to its end, is what `replay` gives; and so with hints, where these are asked for, which leave
+/// none where an image is translated with them.
 fn is_given_again<R: Threads + Wait + Sync>(
     rt: &R,
     alloc: Global,
+    trial: &mut Trial,
+    name: &str,
+    hints: bool,
+) -> Result<bool> {
+    let hints = hints && trial.first.history().len() <= MOST_HINTED;
+    Ok(
+        is_given(rt, alloc, trial, name, AGAIN)?
+            && (!hints
+                || is_given(rt, alloc, trial, name, AGAIN_WITH_HINTS)?
+                    && leaves_none(rt, alloc, trial, name)?),
+    )
+}
+
+/// Whether a run, with its order stored, is given again where it came to its end.
+fn is_run_again<R: Threads + Wait + Sync>(
+    rt: &R,
+    alloc: Global,
+    trial: &mut Trial,
     lent: &Lent,
-    files: &mut Files,
     rest: &str,
     hints: bool,
 ) -> Result<bool> {
+    let line = Line {
+        before: STORING,
+        name: rest,
+        behind: "",
+    };
+    call(rt, alloc, lent, &mut trial.files, &mut trial.first, line)?;
     let (name, _) = first_word(rest);
-    let storing = format!(in alloc; "run --order {ORDER} {rest}")?;
-    let again = format!(in alloc; "replay {name} {ORDER}")?;
-    let left = call(rt, alloc, lent, files, storing.as_str())?;
-    if !has_come(&left) {
-        return Ok(true);
-    }
-    let replayed = call(rt, alloc, &Lent::sound(alloc), files, again.as_str())?;
-    let same = replayed.has(left.run.status, &left.out, &left.report) && !replayed.run.is_kept();
-    let hints = hints && left.run.history().len() <= MOST_HINTED;
-    Ok(same && (!hints || is_hinted(rt, alloc, files, name, &left)?))
+    Ok(!has_come(&trial.first) || is_given_again(rt, alloc, trial, name, hints)?)
 }
 
 /// Whether a line is no run, or one that `replay` gives again where it comes to its end and no call is to fail; and so with hints, where
@@ -100,16 +128,17 @@ fn is_given_again<R: Threads + Wait + Sync>(
 pub fn is_replayed<R: Threads + Wait + Sync>(
     rt: &R,
     alloc: Global,
+    trial: &mut Trial,
     lent: &Lent,
     files: &Files,
     line: &str,
     hints: bool,
 ) -> Result<bool> {
-    let Some(rest) = run_of(line) else {
-        return Ok(true);
-    };
-    if lent.may_fail() {
-        return Ok(true);
+    match run_of(line) {
+        Some(rest) if !lent.may_fail() => {
+            trial.begin(alloc, files)?;
+            is_run_again(rt, alloc, trial, lent, rest, hints)
+        }
+        _ => Ok(true),
     }
-    is_given_again(rt, alloc, lent, &mut files.copy(alloc)?, rest, hints)
 }
