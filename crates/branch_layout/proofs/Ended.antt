@@ -33,7 +33,7 @@ use Rattle.branch_layout.specs.declared.ends.Form.TheVariants.{Behind, Near, Who
 use Rattle.branch_layout.proofs.Comes.{Comes, lands_here, leads_here, Shown, landed_by, led, fork_follows}
 use Rattle.branch_layout.proofs.Ending.{EndIs, exit_is, fork_is, Way, straight, over, turned_links, turned_taken}
 use Rattle.branch_layout.proofs.Filling.{All_at, some_same}
-use Rattle.branch_layout.proofs.InPlace.{Cut, FollowsThere, FormIs, IsEnd, IsSet, branch_quiet, comes_by, exit_shown, form_is, has_front, is_behind, is_block, last_word, leads_by, long, quiet_parts, rules_of, same, size}
+use Rattle.branch_layout.proofs.InPlace.{Cut, FollowsThere, FormIs, IsEnd, IsSet, branch_quiet, comes_by, exit_shown, form_is, form_most, has_front, is_behind, is_block, last_word, leads_by, long, quiet_parts, rules_of, same, size}
 use Rattle.branch_layout.proofs.Shorter.{AtCut, lands_there, goes_there, target_moved}
 use Rattle.branch_layout.proofs.Virtual.{AreLast, fetched_alone, inside_alone, opens, slow_front}
 
@@ -41,11 +41,6 @@ first_length : {X : Type 0} (n : ℕ) (xs : List X) → n ≤ length xs → leng
 first_length zero xs le = refl
 first_length (suc n) [] le = absurd (omega arith)
 first_length (suc n) (x ∷ xs) le = ap suc (first_length n xs (omega arith))
-
-form_most : (form : Form) → form_words form ≤ 3
-form_most Behind = omega arith
-form_most Near = omega arith
-form_most Whole = omega arith
 
 module _ (meaning : Meaning) (permit : Permit) (code : Code) (small : Bool) (mapped : List Pair) (next : Option ℕ) (address first : ℕ) (block : BlockValue) (shape : IsBlockOf (has_loop permit address) address block) (behind : Rules) (meet : RulesMeet code block.exits behind) where
   -- each exit's address is a longword

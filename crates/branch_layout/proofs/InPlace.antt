@@ -236,12 +236,17 @@ module _ (meaning : Meaning) (permit : Permit) (thread : ℕ) (state : VaxState)
         leads_here (subst (λ n. address_at code.map n ≡ None) there (set.alone (w - first) (omega arith) (omega arith))) (leads_by Whole is size (λ z. absurd (omega arith)) at)
 
 -- ---- the words of a block by its end
-form_length : (pairs : List Pair) (word : ℕ) (form : Form) (address : ℕ) → length (form_code pairs word form address) ≡ form_words form
+pub form_length : (pairs : List Pair) (word : ℕ) (form : Form) (address : ℕ) → length (form_code pairs word form address) ≡ form_words form
 form_length pairs word Behind address = refl
 form_length pairs word Near address = refl
 form_length pairs word Whole address = exit_length (word_at pairs address) word address
 
-fork_length : (pairs : List Pair) (word : ℕ) (fork : Option Fork) → length (fork_code pairs word fork) ≡ fork_words fork
+pub form_most : (form : Form) → form_words form ≤ 3
+form_most Behind = omega arith
+form_most Near = omega arith
+form_most Whole = omega arith
+
+pub fork_length : (pairs : List Pair) (word : ℕ) (fork : Option Fork) → length (fork_code pairs word fork) ≡ fork_words fork
 fork_length pairs word None = refl
 fork_length pairs word (Some fork) = refl
 

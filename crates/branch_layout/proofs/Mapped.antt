@@ -1,5 +1,5 @@
 -- Each address of a layout's map is a block's.
-use Rattle.std.proofs.Common.{◌≡◌, ℕ, zero, suc, refl, ap, eqb, eqb-true, cond, List, [], ◌∷◌, map, Bool, true, false, Some}
+use Rattle.std.proofs.Common.{◌≡◌, ℕ, suc, refl, eqb, eqb-true, cond, List, [], ◌∷◌, map, Bool, true, false, Some}
 use Rattle.std.specs.Prelude.{slice_get, find}
 use Rattle.std.specs.Option.{option_map}
 use Rattle.address_map.specs.Pairs.{Pair, word_at}

@@ -20,13 +20,12 @@ use Rattle.branch_layout.specs.Exits.{displacement, is_near}
 use Rattle.branch_layout.specs.Ends.{end_of, ended_words, form_code, form_of, form_words, fork_code, fork_words, is_near_block, may_end_at, may_fall, none_behind, all_stay, placed_size, word_to}
 use Rattle.branch_layout.specs.Layouts.{AddressesRise, AreBlocks, IsPlaced, Placed, Sized, next_address, placed_sizes, places, whole_sizes, words_of}
 use Rattle.branch_layout.specs.declared.ends.End.{End}
-use Rattle.branch_layout.specs.declared.ends.Fork.{Fork}
 use Rattle.branch_layout.specs.declared.ends.Form.{Form}
 use Rattle.branch_layout.specs.declared.ends.Form.TheVariants.{Behind, Near, Whole}
 use Rattle.branch_layout.proofs.Ending.{EndIs, exit_is, fork_is, end_is}
-use Rattle.branch_layout.proofs.ExitWords.{exit_encodable, exit_length, near_low, near_high}
+use Rattle.branch_layout.proofs.ExitWords.{exit_encodable, near_low, near_high}
 use Rattle.branch_layout.proofs.Filling.{All_at, All_by, some_same}
-use Rattle.branch_layout.proofs.InPlace.{FormIs, is_behind, is_near_form, form_is}
+use Rattle.branch_layout.proofs.InPlace.{FormIs, is_behind, is_near_form, form_is, form_length, form_most, fork_length}
 use Rattle.branch_layout.proofs.Pieces.{taken_length}
 use Rattle.branch_layout.proofs.Standing.{points_within}
 
@@ -46,25 +45,11 @@ all_before last points e = All_by (λ (p : Entry). p.0 ≤ last) points (each po
         is_le a b e = grind (arith, nat_tests, e)
     each (q ∷ points) e (suc k) p at = each points (and_parts (nat_le q.0 last) (none_behind last points) e).1 k p at
 
-pub form_length : (pairs : List Pair) (word : ℕ) (form : Form) (address : ℕ) → length (form_code pairs word form address) ≡ form_words form
-form_length pairs word Behind address = refl
-form_length pairs word Near address = refl
-form_length pairs word Whole address = exit_length (word_at pairs address) word address
-
-pub fork_length : (pairs : List Pair) (word : ℕ) (fork : Option Fork) → length (fork_code pairs word fork) ≡ fork_words fork
-fork_length pairs word None = refl
-fork_length pairs word (Some fork) = refl
-
 pub record EndFacts (block : BlockValue) (end : End) : Type 0 where
   pub room : end.start < length block.words
   pub count : placed_size (Some end) block ≤ length block.words
   pub some : 1 ≤ placed_size (Some end) block
   pub points : All (λ (p : Entry). p.0 < placed_size (Some end) block) block.points
-
-form_most : (form : Form) → form_words form ≤ 3
-form_most Behind = omega arith
-form_most Near = omega arith
-form_most Whole = omega arith
 
 pub end_facts : (small : Bool) (mapped : List Pair) (next : Option ℕ) (block : BlockValue) (end : End) → EndIs small mapped next block end → EndFacts block end
 end_facts small mapped next block end (exit_is exit are last kept) = by (form_of (may_fall exit.0 block) small mapped next exit.1) (form_is (may_fall exit.0 block) small mapped next exit.1)
