@@ -11,7 +11,7 @@ use Rattle.command_words.specs.declared.numbers.Range.{Range}
 use Rattle.command_words.specs.Parts.{Part, Text, first_of, names_in, only_name, two_names, values_in}
 use Rattle.command_words.specs.Forms.{Form, line_of}
 use Rattle.command_words.specs.Numbers.{few_ranges, number_in, within}
-use Rattle.command_words.specs.Commands.{CommandValue, DEFAULT_LIMITS, command_of, forms, budget_of, generate, generate_of, has_none_beside_live, has_option, is_miss, keeping_of, kept_of, limits_of, list, list_of, live, live_of, miss_of, number_of, order_by, progress_of, replay, replay_of, run, run_of, spells, target_of, translate, translate_of}
+use Rattle.command_words.specs.Commands.{CommandValue, DEFAULT_LIMITS, command_of, forms, generate, generate_of, has_none_beside_live, has_option, is_miss, keeping_of, kept_of, limits_of, list, list_of, live, live_of, miss_of, number_of, order_by, progress_of, replay, replay_of, run, run_of, spells, target_of, translate, translate_of}
 use Rattle.memory_core.specs.Limits.{KeepsEntries}
 use Rattle.vest_runs.specs.Keeping.{limit_by}
 use Rattle.vest_cli.specs.Words.{CanBeObeyed}

@@ -31,6 +31,7 @@ use Rattle.vest_files.specs.Loading.{DecidesFile, DecidesLoad, Loads, StopsAtLoa
 use Rattle.vest_files.specs.Stages.{IsFile, StopsAtFile, StopsWhere}
 use Rattle.vest_runs.specs.Delivery.{Delivers}
 use Rattle.vest_cli.specs.Hints.{HasHints, StoresHints}
+use Rattle.vest_cli.specs.declared.hinting.HintFile.{HintFile}
 use Rattle.vest_cli.specs.declared.replaying.Outgoing.{Outgoing}
 
 -- ---- the order in a file's bytes, and what it gives
@@ -83,6 +84,12 @@ pub record Replays (result : Done) (name file : List ℕ) (hints : Option (List 
   pub sent : Done
   pub delivered : Delivers sent replayed.output (report_text replayed.ends) (done_of replayed.ends) out out' report report'
   pub stored : StoresHints gives.image gives.order gives.code.map hints result sent old new
+
+-- what goes out where that was given, with that file for hints: it, with the lines of its ends
+pub record IsOutgoing (replayed : ReplayedValue) (file : Option HintFile) (made : Outgoing) : Type 0 where
+  pub gives : made.given ≡ replayed
+  pub lines : made.lines.items ≡ report_text replayed.ends
+  pub hinted : made.hints ≡ file
 
 -- all of that is made before the first byte goes out
 pub record IsMade (files : Option Files) (name file : List ℕ) (hints : Option (List ℕ)) (made : Outgoing) : Type 0 where

@@ -20,7 +20,7 @@ use vt_outside::{Desk, FileDesk, Gate, InSource, OpenGate, OutSink, Sink, Source
 fn obey_read<R: Threads + Wait + Sync, D: Desk, I: Source, K: Sink, E: Sink, G: Gate + Sync>(
     rt: &R,
     alloc: Global,
-    words: io::Result<Vec<String>>,
+    words: &io::Result<Vec<String>>,
     desk: &mut D,
     input: &mut I,
     out: &mut K,
@@ -28,7 +28,7 @@ fn obey_read<R: Threads + Wait + Sync, D: Desk, I: Source, K: Sink, E: Sink, G: 
     gate: &G,
     kept: &mut Kept,
 ) -> Status
-    ensures { IsCalled (spelled_in words) result
+    ensures { IsCalled (spelled_in words.now) result
         (lent (D.meaning desk.old) (I.meaning input.old) (K.meaning out.old) (E.meaning report.old))
         (lent (D.meaning desk.new) (I.meaning input.new) (K.meaning out.new) (E.meaning report.new))
         kept.new }
@@ -60,7 +60,7 @@ pub fn answer<R: Threads + Wait + Sync, D: Desk, I: Source, K: Sink, E: Sink, G:
         (lent (D.meaning desk.new) (I.meaning input.new) (K.meaning out.new) (E.meaning report.new))
         kept.new }
 {
-    let status = obey_read(rt, alloc, words, desk, input, out, report, gate, kept);
+    let status = obey_read(rt, alloc, &words, desk, input, out, report, gate, kept);
     ExitCode::from(status.number())
 }
 

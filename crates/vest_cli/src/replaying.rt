@@ -6,10 +6,11 @@ ghost use Rattle.run_files.specs.Reading.{order_of};
 ghost use Rattle.stored_runs.specs.Found.{AreFound};
 ghost use Rattle.stored_runs.specs.Replay.{replay_of};
 ghost use Rattle.vest_stops.specs.Files.{SameFiles};
+ghost use Rattle.vest_stops.specs.declared.stop.Stop.TheVariants.{WantOfMemory};
 ghost use Rattle.vest_files.specs.Stages.{StopsWhere};
 ghost use Rattle.vest_runs.specs.Delivery.{Delivers};
 ghost use Rattle.vest_cli.specs.Hints.{HasHints};
-ghost use Rattle.vest_cli.specs.Replay.{HasOrder, IsMade, RefusesGiven, RefusesOrder, Replays, StopsAtOrderFile, StopsReplay, done_of, stop_of};
+ghost use Rattle.vest_cli.specs.Replay.{HasOrder, IsMade, IsOutgoing, RefusesGiven, RefusesOrder, Replays, StopsAtOrderFile, StopsReplay, done_of, stop_of};
 
 use crate::hinting::{HintFile, hint_file, store_hints};
 use address_map::AddressMap;
@@ -128,6 +129,19 @@ struct Outgoing {
     hints: Option<HintFile>,
 }
 
+// What was given, with the lines of its ends.
+fn with_lines(alloc: Global, given: Replayed, hints: Option<HintFile>) -> Result<Outgoing, Stop>
+    ensures ok { IfOk result (IsOutgoing given hints) }
+    ensures err { IfErr result (λ stop. stop ≡ WantOfMemory) }
+{
+    let lines = replay_report(alloc, &given)?;
+    Ok(Outgoing {
+        given,
+        lines,
+        hints,
+    })
+}
+
 // What the order of the second file gives of the image of the first, and what it finds there.
 fn made<D: Desk>(
     alloc: Global,
@@ -143,12 +157,7 @@ fn made<D: Desk>(
     let loaded = load(alloc, desk, name, Target::Original)?;
     let order = order_in(alloc, loaded.image.threads.len() as u8, file, desk)?;
     let (given, hints) = driven(alloc, &loaded, &order, hints)?;
-    let lines = replay_report(alloc, &given)?;
-    Ok(Outgoing {
-        given,
-        lines,
-        hints,
-    })
+    with_lines(alloc, given, hints)
 }
 
 // The output goes out, and then the lines.
