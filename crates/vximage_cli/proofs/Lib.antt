@@ -1,3 +1,4 @@
+mod Ending
 mod Lines
 mod Reading
 mod Saying

@@ -10,6 +10,7 @@ use Rattle.block_law.specs.Translations.{Code}
 use Rattle.dis_text.specs.Labels.{NameValue}
 use Rattle.dis_text.specs.Listing.{listing_text}
 use Rattle.dis_text.specs.Made.{asked}
+use Rattle.dis_text.specs.declared.pieces.Range.{Range}
 use Rattle.image_meaning.specs.declared.target.Target.{Target}
 use Rattle.image_meaning.specs.declared.target.Target.TheVariants.{Original}
 use Rattle.vest_files.specs.List.{Sends}
@@ -27,6 +28,10 @@ abbrev pub AreNamed : Option Files → (file : Option (List ℕ)) → List NameV
 AreNamed files None names = names ≡ []
 AreNamed files (Some name) names = (bytes : List ℕ) × IsFile files name bytes × (names_listed bytes ≡ Ok names)
 
+-- the addresses that are listed
+abbrev pub range_of : ListingWanted → Range
+range_of wanted = record { first = wanted.first; last = wanted.last }
+
 -- the listing of the bytes of a file, by its image, its translation, and the instructions that can be reached; a VAX image is
 -- translated for the first Alpha processors
 pub record IsListing (text bytes : List ℕ) (names : List NameValue) (wanted : ListingWanted) : Type 0 where
@@ -36,7 +41,7 @@ pub record IsListing (text bytes : List ℕ) (names : List NameValue) (wanted : 
   pub loaded : IsLoaded Original bytes image target code
   pub instrs : List Instr
   pub reached : IsReach image.pages (starts image (hints_in bytes)) instrs
-  pub is : text ≡ listing_text (asked image (hints_in bytes) names code.words code.map wanted.with_words wanted.range) instrs image.sections
+  pub is : text ≡ listing_text (asked image (hints_in bytes) names code.words code.map wanted.with_words (range_of wanted)) instrs image.sections
 
 -- the sink took the listing of the file, or failed in it
 pub record Lists (result : Done) (name : List ℕ) (wanted : ListingWanted) (desk : DeskMeaning) (out out' : SinkMeaning) : Type 0 where

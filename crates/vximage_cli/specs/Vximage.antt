@@ -1,5 +1,5 @@
 -- What one call of `vximage` does.
-use Rattle.std.specs.Prelude.{◌≡◌, ℕ, List, Option}
+use Rattle.std.specs.Prelude.{◌≡◌, ℕ, List, Option, Result, Ok, Err}
 use Rattle.vt_outside.specs.Desk.{DeskMeaning}
 use Rattle.vt_outside.specs.Sink.{SinkMeaning}
 use Rattle.vest_files.specs.List.{Sends}
@@ -13,7 +13,11 @@ use Rattle.vest_stops.specs.declared.stop.Stop.{Stop}
 use Rattle.vest_stops.specs.declared.stop.Stop.TheVariants.{WantOfMemory}
 use Rattle.vximage_words.specs.Commands.{CommandValue, ListingWanted, list, make_elf, make_parts, show}
 use Rattle.vximage_cli.specs.Listing.{Lists, RefusesNames, StopsListing, names_line}
+use Rattle.vximage_cli.specs.declared.halt.Fault.{Fault}
+use Rattle.vximage_cli.specs.declared.halt.Fault.TheVariants.{BadName, Halted}
+use Rattle.vximage_cli.specs.declared.halt.Halt.{Halt}
 use Rattle.vximage_cli.specs.Making.{MakesElf, MakesParts, StopsElf, StopsParts}
+use Rattle.vximage_cli.specs.Named.{name_told}
 use Rattle.vximage_cli.specs.Showing.{Shows, StopsShow}
 use Rattle.vximage_cli.specs.Stopping.{Says, line_of}
 
@@ -68,6 +72,17 @@ pub record Stopped (line : List ℕ) (old new : Lent) : Type 0 where
   pub desk : SameFiles old.desk new.desk
   pub out : new.out ≡ old.out
   pub said : Says line old.report new.report
+
+-- the status is that of how a command ended, and the report took why it stopped
+abbrev pub TellsEnd : Result Done Halt → Status → (old new : SinkMeaning) → Type 0
+TellsEnd (Ok end) result old new = (result ≡ status_of_done end) × (new ≡ old)
+TellsEnd (Err halt) result old new = (result ≡ status_of halt.stop) × Says (line_of halt.stop (name_told halt)) old new
+
+-- the same of a command that reads names
+abbrev pub TellsFault : Result Done Fault → Status → (old new : SinkMeaning) → Type 0
+TellsFault (Ok end) result old new = TellsEnd (Ok end) result old new
+TellsFault (Err (Halted halt)) result old new = TellsEnd (Err halt) result old new
+TellsFault (Err (BadName line)) result old new = (result ≡ status.Refused) × Says (names_line line) old new
 
 -- a command stops and says why, or it does what it says
 pub data Obeys (command : CommandValue) (result : Status) (old new : Lent) : Type 0 where

@@ -14,7 +14,7 @@ use crate::entries::ListFault;
 use crate::halt::{Fault, Halt, read_named};
 use crate::names::names_listed;
 use crate::showing::{reached, send};
-use dis_text::{Code, Name, listing_text};
+use dis_text::{Code, Name, Range, listing_text};
 use std::alloc::Global;
 use translate::Target;
 use vest_files::{Loaded, of_bytes};
@@ -47,7 +47,11 @@ fn listed(
         map: &translation.map,
         is_told: asked.with_words,
     };
-    Ok(listing_text(alloc, image, hints, names, &instrs, &code, asked.range)?)
+    let range = Range {
+        first: asked.first,
+        last: asked.last,
+    };
+    Ok(listing_text(alloc, image, hints, names, &instrs, &code, range)?)
 }
 
 fn text_of(

@@ -1,20 +1,20 @@
 // The command `make`.
-ghost use Rattle.std.specs.Prelude.{◌≡◌, IfErr, IfOk, Ok, Some, length, map};
+ghost use Rattle.std.specs.Prelude.{◌≡◌, ◌++◌, IfErr, IfOk, Ok, Some, length, map};
 ghost use Rattle.std.specs.List.{AllZip};
 ghost use Rattle.elf_file.specs.Program.{program_of};
 ghost use Rattle.elf_file.specs.Values.{ProgramValue};
 ghost use Rattle.image_file.specs.Reading.{image_of};
 ghost use Rattle.image_file.specs.Values.{ImageValue};
 ghost use Rattle.image_parts.specs.Loads.{Loads};
-ghost use Rattle.image_parts.specs.Parts.{parts_bytes, parts_image};
+ghost use Rattle.image_parts.specs.Parts.{parts_bytes, parts_image, parts_value};
 ghost use Rattle.image_parts.specs.Program.{elf_bytes, stacks_of, starts_of};
 ghost use Rattle.vest_files.specs.Stages.{StopsWhere};
 ghost use Rattle.vest_files.specs.Translate.{Writes};
 ghost use Rattle.vest_stops.specs.Files.{SameFiles};
 ghost use Rattle.vximage_words.specs.Commands.{parts_wanted, section_wanted};
 ghost use Rattle.vximage_cli.specs.Entries.{entries_listed};
-ghost use Rattle.vximage_cli.specs.Making.{AreListed, AreParts, IsSection, IsStored, MakesElf, MakesParts, RefusesLine, Refuses};
-ghost use Rattle.vximage_cli.specs.Making.{StopsAtList, StopsAtOptional, StopsAtParts, StopsAtSections, StopsElf, StopsParts};
+ghost use Rattle.vximage_cli.specs.Making.{AreListed, IsSection, IsStored, MakesElf, MakesParts, RefusesLine, Refuses};
+ghost use Rattle.vximage_cli.specs.Making.{StopsAtList, StopsAtOptional, StopsAtSections, StopsElf, StopsParts};
 ghost use Rattle.vximage_cli.specs.Named.{name_told};
 
 use crate::entries::{ListFault, entries_listed};
@@ -22,7 +22,7 @@ use crate::halt::{Halt, read_named, refused};
 use image_file::Section;
 use image_parts::{Options, Parts, from_elf, from_parts};
 use report_text::Subject;
-use std::alloc::Global;
+use std::alloc::{AllocError, Global};
 use vest_stops::{Done, Refusal, Stop};
 use vt_outside::{Desk, DeskWrite};
 use vximage_words::{PartsAsked, SectionAsked};
@@ -122,33 +122,19 @@ fn listed_of<'a, D: Desk>(
     }
 }
 
-// The parts, with what their files have.
-fn parts_of<'a, D: Desk>(
-    alloc: Global,
-    asked: &PartsAsked<'a>,
-    desk: &mut D,
-) -> Result<Parts, Halt<'a>>
-    ensures ok { IfOk result (λ parts. AreParts (D.meaning desk.old).files (parts_wanted asked.now) parts) }
-    ensures why { IfErr result (λ halt. StopsAtParts halt.stop (name_told halt) (parts_wanted asked.now) (D.meaning desk.old) (D.meaning desk.new)) }
-    ensures stays { SameFiles (D.meaning desk.old) (D.meaning desk.new) }
+fn joined(alloc: Global, first: &[u32], behind: &[u32]) -> Result<Vec<u32>, AllocError>
+    ensures { IfOk result (λ v. v.items ≡ first.now ++ behind.now) }
 {
-    let sections = sections_of(alloc, &asked.sections, desk)?;
-    let listed = listed_of(alloc, asked, desk)?;
-    let threads = Vec::from_slice(alloc, &asked.threads)?;
-    let mut entries = Vec::from_slice(alloc, &asked.entries)?;
-    entries.extend_from_slice(&listed)?;
-    Ok(Parts {
-        threads,
-        sections,
-        entries,
-    })
+    let mut all = Vec::from_slice(alloc, first)?;
+    all.extend_from_slice(behind)?;
+    Ok(all)
 }
 
 // The bytes of the image of the parts.
-fn image_of_parts(alloc: Global, parts: &Parts) -> Result<Vec<u8>, Stop>
-    ensures made { IfOk result (λ bytes. parts_bytes parts.now ≡ Ok bytes.items) }
-    ensures reads_back { IfOk result (λ bytes. image_of bytes.items ≡ Ok (parts_image parts.now)) }
-    ensures err { IfErr result (λ stop. StopsWhere (Refuses (parts_bytes parts.now)) stop) }
+fn image_of_parts(alloc: Global, parts: Parts<'_>) -> Result<Vec<u8>, Stop>
+    ensures made { IfOk result (λ bytes. parts_bytes (parts_value parts.entry) ≡ Ok bytes.items) }
+    ensures reads_back { IfOk result (λ bytes. image_of bytes.items ≡ Ok (parts_image (parts_value parts.entry))) }
+    ensures err { IfErr result (λ stop. StopsWhere (Refuses (parts_bytes (parts_value parts.entry))) stop) }
 {
     match from_parts(alloc, parts) {
         Ok(bytes) => Ok(bytes),
@@ -189,8 +175,15 @@ pub fn make_parts<'a, D: Desk>(
     ensures why { IfErr result (λ halt. StopsParts halt.stop (name_told halt) (parts_wanted asked.now) (D.meaning desk.old) (D.meaning desk.new)) }
     ensures stays { IfErr result (λ _. SameFiles (D.meaning desk.old) (D.meaning desk.new)) }
 {
-    let parts = parts_of(alloc, asked, desk)?;
-    let bytes = image_of_parts(alloc, &parts)?;
+    let sections = sections_of(alloc, &asked.sections, desk)?;
+    let listed = listed_of(alloc, asked, desk)?;
+    let entries = joined(alloc, &asked.entries, &listed)?;
+    let parts = Parts {
+        threads: &asked.threads,
+        sections: &sections,
+        entries: &entries,
+    };
+    let bytes = image_of_parts(alloc, parts)?;
     Ok(write_file(desk, out, &bytes))
 }
 

@@ -1,10 +1,7 @@
 // The top call.
-ghost use Rattle.std.specs.Prelude.{◌≡◌, IfErr, IfOk};
 ghost use Rattle.vt_outside.specs.Desk.{DeskMeaning};
-ghost use Rattle.vest_stops.specs.Files.{SameFiles};
 ghost use Rattle.vximage_words.specs.Commands.{command_value};
-ghost use Rattle.vximage_cli.specs.Named.{StopsAs};
-ghost use Rattle.vximage_cli.specs.Vximage.{DoesOnly, Ends, Obeys, StopsAt, StopsAtNames, lent};
+ghost use Rattle.vximage_cli.specs.Vximage.{Ends, Obeys, TellsEnd, TellsFault, lent};
 
 use crate::halt::{Fault, Halt, say, say_bad_name};
 use crate::listing::list;
@@ -15,30 +12,30 @@ use vest_stops::{Done, Status, Stop};
 use vt_outside::{Desk, Sink, write_all};
 use vximage_words::{Command, Told, read_words};
 
-// What the command does, or why it stops.
-fn done_by<'a, D: Desk, K: Sink>(
-    alloc: Global,
-    command: &Command<'a>,
-    desk: &mut D,
-    out: &mut K,
-) -> Result<Done, Fault<'a>>
-    ensures does { IfOk result (λ done. DoesOnly (command_value command.now) done
-        (D.meaning desk.old) (D.meaning desk.new) (K.meaning out.old) (K.meaning out.new)) }
-    ensures why { IfErr result (λ fault. StopsAs fault
-        (λ stop named. StopsAt (command_value command.now) stop named (D.meaning desk.old) (D.meaning desk.new))
-        (λ line. StopsAtNames (command_value command.now) line (D.meaning desk.old))) }
-    ensures stays { IfErr result (λ _. SameFiles (D.meaning desk.old) (D.meaning desk.new)) }
-    ensures unsent { IfErr result (λ _. K.meaning out.new ≡ K.meaning out.old) }
+// The status of how a command ended. The report is told why it stopped.
+fn ended<E: Sink>(end: Result<Done, Halt<'_>>, report: &mut E) -> Status
+    ensures { TellsEnd end.entry result (E.meaning report.old) (E.meaning report.new) }
 {
-    match command {
-        Command::MakeParts { out: name, parts } => Ok(make_parts(alloc, name, parts, desk)?),
-        Command::MakeElf {
-            out: name,
-            file,
-            options,
-        } => Ok(make_elf(alloc, name, file, options, desk)?),
-        Command::Show { name } => Ok(show(alloc, name, desk, out)?),
-        Command::List { name, asked } => list(alloc, name, asked, desk, out),
+    match end {
+        Ok(done) => done.status(),
+        Err(halt) => {
+            say(&halt, report);
+            halt.stop.status()
+        }
+    }
+}
+
+// The same of a command that reads names.
+fn listing_ended<E: Sink>(end: Result<Done, Fault<'_>>, report: &mut E) -> Status
+    ensures { TellsFault end.entry result (E.meaning report.old) (E.meaning report.new) }
+{
+    match end {
+        Ok(done) => ended(Ok(done), report),
+        Err(Fault::Halted(halt)) => ended(Err(halt), report),
+        Err(Fault::BadName { line }) => {
+            say_bad_name(line, report);
+            Status::Refused
+        }
     }
 }
 
@@ -54,15 +51,18 @@ pub fn obey<D: Desk, K: Sink, E: Sink>(
         (lent (D.meaning desk.old) (K.meaning out.old) (E.meaning report.old))
         (lent (D.meaning desk.new) (K.meaning out.new) (E.meaning report.new)) }
 {
-    match done_by(alloc, command, desk, out) {
-        Ok(done) => done.status(),
-        Err(Fault::Halted(halt)) => {
-            say(&halt, report);
-            halt.stop.status()
+    match command {
+        Command::MakeParts { out: name, parts } => {
+            ended(make_parts(alloc, name, parts, desk), report)
         }
-        Err(Fault::BadName { line }) => {
-            say_bad_name(line, report);
-            Status::Refused
+        Command::MakeElf {
+            out: name,
+            file,
+            options,
+        } => ended(make_elf(alloc, name, file, options, desk), report),
+        Command::Show { name } => ended(show(alloc, name, desk, out), report),
+        Command::List { name, asked } => {
+            listing_ended(list(alloc, name, asked, desk, out), report)
         }
     }
 }

@@ -1,6 +1,5 @@
 -- The commands, and what is asked of them.
 use Rattle.std.specs.Prelude.{ℕ, Bool, List, Option, option_map, map}
-use Rattle.dis_text.specs.declared.pieces.Range.{Range}
 use Rattle.image_file.specs.declared.image.Start.{Start}
 use Rattle.image_parts.specs.Values.{OptionsValue}
 use Rattle.vximage_words.specs.declared.commands.SectionAsked.{SectionAsked}
@@ -23,10 +22,11 @@ pub record PartsWanted : Type 0 where
   pub entries : List ℕ
   pub entries_file : Option (List ℕ)
 
--- what is listed: whether with Alpha words, of which addresses, and the name of the file with names
+-- what is listed: whether with Alpha words, from which address to which, and the name of the file with names
 pub record ListingWanted : Type 0 where
   pub with_words : Bool
-  pub range : Range
+  pub first : ℕ
+  pub last : ℕ
   pub names : Option (List ℕ)
 
 -- a command with what is behind it
@@ -49,7 +49,7 @@ parts_wanted asked = record {
 }
 
 abbrev pub listing_wanted : ListingAsked → ListingWanted
-listing_wanted asked = record { with_words = asked.with_words; range = asked.range; names = option_map (λ s. s.now) asked.names }
+listing_wanted asked = record { with_words = asked.with_words; first = asked.first; last = asked.last; names = option_map (λ s. s.now) asked.names }
 
 abbrev pub command_value : Command → CommandValue
 command_value (words.MakeParts out parts) = make_parts out.now (parts_wanted parts)

@@ -1,4 +1,5 @@
 // The commands as `clap` sees them, with their help.
+use clap::builder::ValueParser;
 use clap::{Arg, ArgAction, Command};
 use std::alloc::{AllocError, Global};
 
@@ -78,8 +79,7 @@ struct Choice {
     action: ArgAction,
     /// What stands for its value in the help, where it takes one.
     value: &'static [&'static str],
-    /// Whether it takes one of the kinds.
-    is_kind: bool,
+    parser: ValueParser<'static>,
     /// It has to be there where none of these is.
     unless: &'static [&'static str],
     /// It goes with these alone.
@@ -88,13 +88,13 @@ struct Choice {
     without: &'static [&'static str],
 }
 
-/// A flag that goes with all others.
-const FLAG: Choice = Choice {
+/// An option that stands once at most, and goes with all others.
+const OPTION: Choice = Choice {
     label: "",
     help: "",
-    action: ArgAction::SetTrue,
+    action: ArgAction::Set,
     value: &[],
-    is_kind: false,
+    parser: ValueParser::String,
     unless: &[],
     beside: &[],
     without: &[],
@@ -107,7 +107,7 @@ const MAKE_OPTIONS: &[Choice] = &[
         action: ArgAction::Append,
         value: &["A:r|w:SIZE[:FILE]"],
         unless: ELF,
-        ..FLAG
+        ..OPTION
     },
     Choice {
         label: "thread",
@@ -115,29 +115,27 @@ const MAKE_OPTIONS: &[Choice] = &[
         action: ArgAction::Append,
         value: &["PC:SP[:Rn=X,..]"],
         unless: ELF,
-        ..FLAG
+        ..OPTION
     },
     Choice {
         label: "entry",
         help: ENTRY_HELP,
         action: ArgAction::Append,
         value: &["A"],
-        ..FLAG
+        ..OPTION
     },
     Choice {
         label: "entries",
         help: ENTRIES_HELP,
-        action: ArgAction::Set,
         value: &["FILE"],
-        ..FLAG
+        ..OPTION
     },
     Choice {
         label: "elf",
         help: ELF_HELP,
-        action: ArgAction::Set,
         value: &["FILE"],
         without: OF_PARTS,
-        ..FLAG
+        ..OPTION
     },
     Choice {
         label: "start",
@@ -146,26 +144,24 @@ const MAKE_OPTIONS: &[Choice] = &[
         value: &["A"],
         beside: ELF,
         without: OF_PARTS,
-        ..FLAG
+        ..OPTION
     },
     Choice {
         label: "stack",
         help: STACK_HELP,
-        action: ArgAction::Set,
         value: &["SIZE"],
         beside: ELF,
         without: OF_PARTS,
-        ..FLAG
+        ..OPTION
     },
     Choice {
         label: "functions",
         help: FUNCTIONS_HELP,
-        action: ArgAction::Set,
         value: &["KIND"],
-        is_kind: true,
+        parser: ValueParser::Names(KINDS),
         beside: ELF,
         without: OF_PARTS,
-        ..FLAG
+        ..OPTION
     },
 ];
 
@@ -173,28 +169,27 @@ const DIS_OPTIONS: &[Choice] = &[
     Choice {
         label: "alpha",
         help: ALPHA_HELP,
-        ..FLAG
+        action: ArgAction::SetTrue,
+        parser: ValueParser::Bool,
+        ..OPTION
     },
     Choice {
         label: "from",
         help: FROM_HELP,
-        action: ArgAction::Set,
         value: &["A"],
-        ..FLAG
+        ..OPTION
     },
     Choice {
         label: "to",
         help: TO_HELP,
-        action: ArgAction::Set,
         value: &["B"],
-        ..FLAG
+        ..OPTION
     },
     Choice {
         label: "names",
         help: NAMES_HELP,
-        action: ArgAction::Set,
         value: &["FILE"],
-        ..FLAG
+        ..OPTION
     },
 ];
 
@@ -202,39 +197,34 @@ const DIS_OPTIONS: &[Choice] = &[
 struct Form {
     label: &'static str,
     about: &'static str,
-    /// What is told besides where help is asked for at length, and what behind it.
-    at_length: Option<(&'static str, &'static str)>,
     file: &'static str,
     file_help: &'static str,
     options: &'static [Choice],
 }
 
-const FORMS: &[Form] = &[
-    Form {
-        label: "make",
-        about: MAKE_ABOUT,
-        at_length: Some((MAKE_LONG, NOT_TAKEN)),
-        file: "OUT",
-        file_help: "The file of the image",
-        options: MAKE_OPTIONS,
-    },
-    Form {
-        label: "show",
-        about: SHOW_ABOUT,
-        at_length: None,
-        file: "NAME",
-        file_help: IMAGE_HELP,
-        options: &[],
-    },
-    Form {
-        label: "dis",
-        about: DIS_ABOUT,
-        at_length: None,
-        file: "NAME",
-        file_help: IMAGE_HELP,
-        options: DIS_OPTIONS,
-    },
-];
+const MAKE: Form = Form {
+    label: "make",
+    about: MAKE_ABOUT,
+    file: "OUT",
+    file_help: "The file of the image",
+    options: MAKE_OPTIONS,
+};
+
+const SHOW: Form = Form {
+    label: "show",
+    about: SHOW_ABOUT,
+    file: "NAME",
+    file_help: IMAGE_HELP,
+    options: &[],
+};
+
+const DIS: Form = Form {
+    label: "dis",
+    about: DIS_ABOUT,
+    file: "NAME",
+    file_help: IMAGE_HELP,
+    options: DIS_OPTIONS,
+};
 
 // The argument of an option, whatever that goes with.
 fn argument<'a>(alloc: Global, option: &Choice) -> Arg<'a> {
@@ -243,6 +233,7 @@ fn argument<'a>(alloc: Global, option: &Choice) -> Arg<'a> {
         .help(option.help)
         .action(option.action)
         .value_names(option.value)
+        .value_parser(option.parser)
 }
 
 // The argument, where it may stand.
@@ -252,69 +243,48 @@ fn placed<'a>(arg: Arg<'a>, option: &Choice) -> Result<Arg<'a>, AllocError> {
         .required_unless_present_any(option.unless)
 }
 
-// The argument, with the values that it may have.
-fn valued<'a>(arg: Arg<'a>, option: &Choice) -> Arg<'a> {
-    if option.is_kind {
-        arg.value_parser(KINDS)
-    } else {
-        arg
-    }
+// The command with an argument, if that was made.
+fn with_argument<'a>(
+    app: Command<'a>,
+    arg: Result<Arg<'a>, AllocError>,
+) -> Result<Command<'a>, AllocError> {
+    app.arg(arg?)
 }
 
-fn push_option<'a>(
-    alloc: Global,
-    option: &Choice,
-    args: &mut Vec<Arg<'a>>,
-) -> Result<(), AllocError> {
-    let arg = valued(argument(alloc, option), option);
-    args.push(placed(arg, option)?)?;
-    Ok(())
-}
-
-// The file, and the options.
-fn args_of<'a>(alloc: Global, form: &Form) -> Result<Vec<Arg<'a>>, AllocError> {
-    let mut args = Vec::new(alloc);
-    args.push(
-        Arg::new(alloc, form.file)
-            .required(true)
-            .help(form.file_help),
-    )?;
-    for option in form.options {
-        push_option(alloc, option, &mut args)?;
-    }
-    Ok(args)
-}
-
-fn told_at_length<'a>(app: Command<'a>, form: &Form) -> Command<'a> {
-    match form.at_length {
-        Some((about, behind)) => app.long_about(about).after_long_help(behind),
-        None => app,
-    }
+// A command with its file, and no option.
+fn plain_command<'a>(alloc: Global, form: &Form) -> Result<Command<'a>, AllocError> {
+    let file = Arg::new(alloc, form.file)
+        .required(true)
+        .help(form.file_help);
+    Command::new(alloc, form.label)
+        .about(form.about)
+        .after_help(NUMBERS)
+        .arg(file)
 }
 
 fn command_of<'a>(alloc: Global, form: &Form) -> Result<Command<'a>, AllocError> {
-    let args = args_of(alloc, form)?;
-    let app = Command::new(alloc, form.label)
-        .about(form.about)
-        .after_help(NUMBERS);
-    told_at_length(app, form).args(args)
-}
-
-fn push_command<'a>(
-    alloc: Global,
-    form: &Form,
-    commands: &mut Vec<Command<'a>>,
-) -> Result<(), AllocError> {
-    commands.push(command_of(alloc, form)?)?;
-    Ok(())
-}
-
-fn commands_of<'a>(alloc: Global) -> Result<Vec<Command<'a>>, AllocError> {
-    let mut commands = Vec::new(alloc);
-    for form in FORMS {
-        push_command(alloc, form, &mut commands)?;
+    let mut app = plain_command(alloc, form)?;
+    for option in form.options {
+        app = with_argument(app, placed(argument(alloc, option), option))?;
     }
-    Ok(commands)
+    Ok(app)
+}
+
+// The command that makes, with what is told where its help is asked for at length.
+fn make_command<'a>(alloc: Global) -> Result<Command<'a>, AllocError> {
+    Ok(
+        command_of(alloc, &MAKE)?
+            .long_about(MAKE_LONG)
+            .after_long_help(NOT_TAKEN),
+    )
+}
+
+// The program with a command, if that was made.
+fn with_command<'a>(
+    app: Command<'a>,
+    command: Result<Command<'a>, AllocError>,
+) -> Result<Command<'a>, AllocError> {
+    app.subcommand(command?)
 }
 
 // The program, with no command.
@@ -330,6 +300,7 @@ fn bare_app<'a>(alloc: Global) -> Command<'a> {
 
 /// All commands.
 pub fn vximage_app<'a>(alloc: Global) -> Result<Command<'a>, AllocError> {
-    let commands = commands_of(alloc)?;
-    bare_app(alloc).subcommands(commands)
+    let app = with_command(bare_app(alloc), make_command(alloc))?;
+    let app = with_command(app, command_of(alloc, &SHOW))?;
+    with_command(app, command_of(alloc, &DIS))
 }

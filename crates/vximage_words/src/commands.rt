@@ -1,5 +1,4 @@
 // The commands, and what is asked of them.
-use dis_text::Range;
 use image_file::Start;
 use image_parts::Options;
 
@@ -22,11 +21,12 @@ pub struct PartsAsked<'a> {
     pub entries_file: Option<&'a str>,
 }
 
-/// What is listed: whether with Alpha words, of which addresses, and the file with names.
+/// What is listed: whether with Alpha words, from which address to which, and the file with names.
 #[derive(Clone, Copy)]
 pub struct ListingAsked<'a> {
     pub with_words: bool,
-    pub range: Range,
+    pub first: u32,
+    pub last: u32,
     pub names: Option<&'a str>,
 }
 

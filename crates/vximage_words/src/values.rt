@@ -1,38 +1,20 @@
 // What the values of options write.
 use crate::commands::SectionAsked;
 use crate::numbers::hexadecimal;
+use clap::ArgMatches;
 use image_file::{FIRST_REGISTERS, Start};
-use std::alloc::{AllocFailed, Global};
+use std::alloc::Global;
 
 /// Why the values of an option are not read.
-#[derive(Drop)]
+#[derive(Clone, Copy)]
 pub enum ValueFault<'a> {
     /// A value writes nothing that the option takes.
     Bad { option: &'a str, value: &'a str },
     WantOfMemory,
 }
 
-impl<T: Drop> From<AllocFailed<T>> for ValueFault<'_> {
-    fn from(_: AllocFailed<T>) -> Self {
-        ValueFault::WantOfMemory
-    }
-}
-
-// What the value writes, if it writes something.
-fn written<'a, T>(option: &'a str, value: &'a str, read: Option<T>) -> Result<T, ValueFault<'a>> {
-    match read {
-        Some(read) => Ok(read),
-        None => Err(ValueFault::Bad { option, value }),
-    }
-}
-
 fn number_in(text: &str) -> Option<u32> {
     hexadecimal(text.as_bytes())
-}
-
-/// The number of an option.
-pub fn number_of<'a>(option: &'a str, value: &'a str) -> Result<u32, ValueFault<'a>> {
-    written(option, value, number_in(value))
 }
 
 // Whether the section may be written.
@@ -99,7 +81,7 @@ fn thread_in(text: &str) -> Option<Start> {
     })
 }
 
-/// What the values of an option that may stand again write.
+/// What a value of an option writes.
 pub trait FromText<'a>: Sized + Drop {
     /// What a value writes, if it writes something.
     fn from_text(value: &'a str) -> Option<Self>;
@@ -123,24 +105,74 @@ impl<'a> FromText<'a> for Start {
     }
 }
 
-fn push_value<'a, T: FromText<'a>>(
-    option: &'a str,
-    value: &'a str,
-    all: &mut Vec<T>,
-) -> Result<(), ValueFault<'a>> {
-    all.push(written(option, value, T::from_text(value))?)?;
-    Ok(())
+/// The values of a command's options. The first fault of one is noted, and all are read on.
+#[derive(Drop)]
+pub struct Values<'m, 'a> {
+    alloc: Global,
+    matches: &'m ArgMatches<'a>,
+    fault: Option<ValueFault<'a>>,
 }
 
-/// What the values of an option write, which may stand again, or not at all.
-pub fn all_of<'a, T: FromText<'a>>(
-    alloc: Global,
-    option: &'a str,
-    values: Option<&[&'a str]>,
-) -> Result<Vec<T>, ValueFault<'a>> {
-    let mut all = Vec::new(alloc);
-    for value in values.unwrap_or(&[]) {
-        push_value(option, value, &mut all)?;
+impl<'m, 'a> Values<'m, 'a> {
+    pub fn new(alloc: Global, matches: &'m ArgMatches<'a>) -> Values<'m, 'a> {
+        Values {
+            alloc,
+            matches,
+            fault: None,
+        }
     }
-    Ok(all)
+
+    /// What was noted.
+    pub fn fault(&self) -> Option<ValueFault<'a>> {
+        self.fault
+    }
+
+    pub fn note(&mut self, fault: ValueFault<'a>) {
+        if self.fault.is_none() {
+            self.fault = Some(fault);
+        }
+    }
+
+    fn read<T: FromText<'a>>(&mut self, option: &'a str, value: &'a str) -> Option<T> {
+        let read = T::from_text(value);
+        if read.is_none() {
+            self.note(ValueFault::Bad { option, value });
+        }
+        read
+    }
+
+    /// The text of an option, where it is there.
+    pub fn text(&self, option: &str) -> Option<&'a str> {
+        self.matches.get_str(option)
+    }
+
+    /// Whether a flag is there.
+    pub fn flag(&self, option: &str) -> bool {
+        self.matches.get_flag(option)
+    }
+
+    /// The number of an option, where it is there.
+    pub fn number_or(&mut self, option: &'a str, otherwise: u32) -> u32 {
+        match self.text(option) {
+            Some(value) => self.read(option, value).unwrap_or(otherwise),
+            None => otherwise,
+        }
+    }
+
+    fn push<T: FromText<'a>>(&mut self, option: &'a str, value: &'a str, all: &mut Vec<T>) {
+        if let Some(item) = self.read(option, value) {
+            if all.push(item).is_err() {
+                self.note(ValueFault::WantOfMemory);
+            }
+        }
+    }
+
+    /// What the values of an option write, which may stand again, or not at all.
+    pub fn all<T: FromText<'a>>(&mut self, option: &'a str) -> Vec<T> {
+        let mut all = Vec::new(self.alloc);
+        for value in self.matches.get_strs(option).unwrap_or(&[]) {
+            self.push(option, value, &mut all);
+        }
+        all
+    }
 }

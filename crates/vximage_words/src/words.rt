@@ -1,10 +1,9 @@
 // The command that the words of a line spell.
 use crate::app::vximage_app;
 use crate::commands::{Command, ListingAsked, PartsAsked};
-use crate::values::{ValueFault, all_of, number_of};
+use crate::values::{ValueFault, Values};
 use clap::error::ErrorKind;
 use clap::{ArgMatches, Error};
-use dis_text::Range;
 use image_parts::{Functions, Options};
 use std::alloc::{AllocError, Global};
 
@@ -21,105 +20,101 @@ pub enum Told {
     WantOfMemory,
 }
 
-impl From<AllocError> for Told {
-    fn from(_: AllocError) -> Told {
-        Told::WantOfMemory
+impl<'m, 'a> Values<'m, 'a> {
+    fn parts(&mut self) -> PartsAsked<'a> {
+        PartsAsked {
+            sections: self.all("section"),
+            threads: self.all("thread"),
+            entries: self.all("entry"),
+            entries_file: self.text("entries"),
+        }
+    }
+
+    fn functions(&self) -> Functions {
+        match self.text("functions") {
+            Some("routines") => Functions::Routines,
+            Some("none") => Functions::Omitted,
+            _ => Functions::Procedures,
+        }
+    }
+
+    fn options(&mut self) -> Options {
+        Options {
+            starts: self.all("start"),
+            entries: self.all("entry"),
+            stack: self.number_or("stack", STACK),
+            functions: self.functions(),
+        }
+    }
+
+    fn make(&mut self) -> Command<'a> {
+        let out = self.text("OUT").unwrap_or("");
+        match self.text("elf") {
+            Some(file) => Command::MakeElf {
+                out,
+                file,
+                options: self.options(),
+            },
+            None => Command::MakeParts {
+                out,
+                parts: self.parts(),
+            },
+        }
+    }
+
+    // The last address of which lines are listed, which may not be below the first.
+    fn last(&mut self, first: u32) -> u32 {
+        let last = self.number_or("to", u32::MAX);
+        if last < first {
+            let value = self.text("to").unwrap_or("");
+            self.note(ValueFault::Bad {
+                option: "to",
+                value,
+            });
+        }
+        last
+    }
+
+    fn list(&mut self) -> Command<'a> {
+        let first = self.number_or("from", 0);
+        Command::List {
+            name: self.text("NAME").unwrap_or(""),
+            asked: ListingAsked {
+                with_words: self.flag("alpha"),
+                first,
+                last: self.last(first),
+                names: self.text("names"),
+            },
+        }
+    }
+
+    fn show(&self) -> Command<'a> {
+        Command::Show {
+            name: self.text("NAME").unwrap_or(""),
+        }
+    }
+
+    fn command(&mut self, label: &str) -> Command<'a> {
+        match label {
+            "make" => self.make(),
+            "dis" => self.list(),
+            _ => self.show(),
+        }
     }
 }
 
-fn parts_of<'a>(alloc: Global, matches: &ArgMatches<'a>) -> Result<PartsAsked<'a>, ValueFault<'a>> {
-    let sections = all_of(alloc, "section", matches.get_strs("section"))?;
-    let threads = all_of(alloc, "thread", matches.get_strs("thread"))?;
-    let entries = all_of(alloc, "entry", matches.get_strs("entry"))?;
-    Ok(PartsAsked {
-        threads,
-        sections,
-        entries,
-        entries_file: matches.get_str("entries"),
-    })
-}
-
-fn functions_of(matches: &ArgMatches<'_>) -> Functions {
-    match matches.get_str("functions") {
-        Some("routines") => Functions::Routines,
-        Some("none") => Functions::Omitted,
-        _ => Functions::Procedures,
-    }
-}
-
-fn stack_of<'a>(matches: &ArgMatches<'a>) -> Result<u32, ValueFault<'a>> {
-    match matches.get_str("stack") {
-        Some(value) => number_of("stack", value),
-        None => Ok(STACK),
-    }
-}
-
-fn options_of<'a>(alloc: Global, matches: &ArgMatches<'a>) -> Result<Options, ValueFault<'a>> {
-    let starts = all_of(alloc, "start", matches.get_strs("start"))?;
-    let entries = all_of(alloc, "entry", matches.get_strs("entry"))?;
-    Ok(Options {
-        starts,
-        stack: stack_of(matches)?,
-        functions: functions_of(matches),
-        entries,
-    })
-}
-
-fn read_make<'a>(alloc: Global, matches: &ArgMatches<'a>) -> Result<Command<'a>, ValueFault<'a>> {
-    let out = matches.get_str("OUT").unwrap_or("");
-    match matches.get_str("elf") {
-        Some(file) => Ok(Command::MakeElf {
-            out,
-            file,
-            options: options_of(alloc, matches)?,
-        }),
-        None => Ok(Command::MakeParts {
-            out,
-            parts: parts_of(alloc, matches)?,
-        }),
-    }
-}
-
-fn read_show<'a>(matches: &ArgMatches<'a>) -> Command<'a> {
-    Command::Show {
-        name: matches.get_str("NAME").unwrap_or(""),
-    }
-}
-
-// The number of an option, where it is there.
-fn number_or<'a>(
+// The command of that name, or the first fault of a value.
+fn read_values<'a>(
+    alloc: Global,
+    label: &str,
     matches: &ArgMatches<'a>,
-    option: &'a str,
-    otherwise: u32,
-) -> Result<u32, ValueFault<'a>> {
-    match matches.get_str(option) {
-        Some(value) => number_of(option, value),
-        None => Ok(otherwise),
+) -> Result<Command<'a>, ValueFault<'a>> {
+    let mut values = Values::new(alloc, matches);
+    let command = values.command(label);
+    match values.fault() {
+        Some(fault) => Err(fault),
+        None => Ok(command),
     }
-}
-
-// The addresses of which lines are listed; the last may not be below the first.
-fn range_of<'a>(matches: &ArgMatches<'a>) -> Result<Range, ValueFault<'a>> {
-    let first = number_or(matches, "from", 0)?;
-    let last = number_or(matches, "to", u32::MAX)?;
-    if last < first {
-        return Err(ValueFault::Bad {
-            option: "to",
-            value: matches.get_str("to").unwrap_or(""),
-        });
-    }
-    Ok(Range { first, last })
-}
-
-fn read_dis<'a>(matches: &ArgMatches<'a>) -> Result<Command<'a>, ValueFault<'a>> {
-    Ok(Command::List {
-        name: matches.get_str("NAME").unwrap_or(""),
-        asked: ListingAsked {
-            with_words: matches.get_flag("alpha"),
-            range: range_of(matches)?,
-            names: matches.get_str("names"),
-        },
-    })
 }
 
 fn read_matches<'a>(
@@ -127,9 +122,7 @@ fn read_matches<'a>(
     matches: &ArgMatches<'a>,
 ) -> Result<Command<'a>, ValueFault<'a>> {
     match matches.subcommand() {
-        Some(("make", inner)) => read_make(alloc, inner),
-        Some(("dis", inner)) => read_dis(inner),
-        Some((_, inner)) => Ok(read_show(inner)),
+        Some((label, inner)) => read_values(alloc, label, inner),
         None => Err(ValueFault::Bad {
             option: "",
             value: "",
@@ -149,29 +142,25 @@ fn told_by(alloc: Global, error: &Error) -> Told {
     }
 }
 
-// What is said of a value.
-fn told_of_value(
+// What `clap` says of a value.
+fn error_of(
     alloc: Global,
     app: &mut clap::Command<'_>,
-    fault: ValueFault<'_>,
-) -> Result<Told, AllocError> {
-    let ValueFault::Bad { option, value } = fault else {
-        return Ok(Told::WantOfMemory);
-    };
+    option: &str,
+    value: &str,
+) -> Result<Error, AllocError> {
     let message = format!(in alloc; "invalid value '{value}' for '--{option}'")?;
-    let error = app.error(ErrorKind::ValueValidation, message.as_str())?;
-    Ok(told_by(alloc, &error))
+    app.error(ErrorKind::ValueValidation, message.as_str())
 }
 
-// What the words match, or what `clap` says of them.
-fn matches_of<'a>(
-    alloc: Global,
-    app: &mut clap::Command<'a>,
-    words: &'a [String],
-) -> Result<ArgMatches<'a>, Told> {
-    match app.try_get_matches_from_mut(words) {
-        Ok(matches) => Ok(matches),
-        Err(error) => Err(told_by(alloc, &error)),
+// What is said of a value.
+fn told_of_value(alloc: Global, app: &mut clap::Command<'_>, fault: ValueFault<'_>) -> Told {
+    let ValueFault::Bad { option, value } = fault else {
+        return Told::WantOfMemory;
+    };
+    match error_of(alloc, app, option, value) {
+        Ok(error) => told_by(alloc, &error),
+        Err(_) => Told::WantOfMemory,
     }
 }
 
@@ -183,17 +172,20 @@ fn command_of<'a>(
 ) -> Result<Command<'a>, Told> {
     match read_matches(alloc, matches) {
         Ok(command) => Ok(command),
-        Err(fault) => Err(told_of_value(alloc, app, fault)?),
+        Err(fault) => Err(told_of_value(alloc, app, fault)),
     }
 }
 
+// The command of what the words match, or what `clap` says of them.
 fn read_by<'a>(
     alloc: Global,
     app: &mut clap::Command<'a>,
     words: &'a [String],
 ) -> Result<Command<'a>, Told> {
-    let matches = matches_of(alloc, app, words)?;
-    command_of(alloc, app, &matches)
+    match app.try_get_matches_from_mut(words) {
+        Ok(matches) => command_of(alloc, app, &matches),
+        Err(error) => Err(told_by(alloc, &error)),
+    }
 }
 
 /// The command that the words behind the program's name spell, or what is said in its place. It borrows its names from the words.
