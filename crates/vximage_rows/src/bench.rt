@@ -1,11 +1,11 @@
 // What rows do.
 use crate::call::{Left, Lent, call};
 use crate::pieces::{decoded, text_of};
-use crate::turns::{is_cut_in_turn, stream_of};
+use crate::turns::{Turns, stream_of};
 use anyhow::{Context, Result, bail, ensure};
 use row_files::{Files, first_word, spelled, words_of};
 use row_tally::number;
-use std::alloc::Global;
+use std::alloc::{AllocError, Global};
 use std::fs;
 use translate::Target;
 use vest_files::translate_file;
@@ -34,16 +34,12 @@ pub fn is_setting(verb: &str) -> bool {
 }
 
 /// The text of bytes, in which a line end is written |.
-fn lines_of(alloc: Global, bytes: &[u8]) -> Result<String> {
+fn lines_of(alloc: Global, bytes: &[u8]) -> Result<String, AllocError> {
     if bytes.is_empty() {
-        return Ok(String::from_str(alloc, NOTHING)?);
+        return String::from_str(alloc, NOTHING);
     }
     let text = String::from_utf8_lossy(alloc, bytes)?;
-    let mut lines = String::new(alloc);
-    for c in text.chars() {
-        lines.push(if c == '\n' { '|' } else { c })?;
-    }
-    Ok(lines)
+    text.replace(alloc, '\n', "|")
 }
 
 /// What is behind the first of these texts, behind that the next of them, and so on.
@@ -70,6 +66,21 @@ fn is_text(found: &str, wanted: &str) -> bool {
     }
 }
 
+/// Whether bytes are the wanted text.
+fn is_said(alloc: Global, bytes: &[u8], wanted: &str) -> Result<bool> {
+    Ok(is_text(lines_of(alloc, bytes)?.as_str(), wanted))
+}
+
+/// Whether a call left what a row says.
+fn is_left(alloc: Global, left: &Left, verb: &str, rest: &str) -> Result<bool> {
+    match verb {
+        "status" => Ok(left.status == number(rest)?),
+        "out" => is_said(alloc, left.out.bytes(), rest),
+        "report" => is_said(alloc, left.report.bytes(), rest),
+        _ => bail!("an unknown row"),
+    }
+}
+
 impl Bench {
     pub fn empty(alloc: Global) -> Bench {
         Bench {
@@ -83,15 +94,13 @@ impl Bench {
     fn put(&mut self, alloc: Global, rest: &str) -> Result<()> {
         let (name, pieces) = first_word(rest);
         let bytes = spelled(alloc, &self.files, pieces)?;
-        self.files.put(alloc, name, bytes)?;
-        Ok(())
+        self.files.put(alloc, name, bytes)
     }
 
     // NAME TEXT.
     fn put_text(&mut self, alloc: Global, rest: &str) -> Result<()> {
         let (name, text) = first_word(rest);
-        self.files.put(alloc, name, text_of(alloc, text)?)?;
-        Ok(())
+        self.files.put(alloc, name, text_of(alloc, text)?)
     }
 
     // NAME FILE.
@@ -99,8 +108,7 @@ impl Bench {
         let (name, file) = first_word(rest);
         let text = fs::read_to_string(rt, file).context("a file of hexadecimal lines")?;
         let bytes = decoded(rt.alloc(), text.as_str())?;
-        self.files.put(rt.alloc(), name, bytes)?;
-        Ok(())
+        self.files.put(rt.alloc(), name, bytes)
     }
 
     // IMAGE OUT.
@@ -119,12 +127,13 @@ impl Bench {
     fn fail(&mut self, rest: &str) -> Result<()> {
         let (object, call) = first_word(rest);
         let call = number(call)?;
-        match object {
-            "desk" => self.lent.desk_fails.push(call)?,
-            "out" => self.lent.out_fails.push(call)?,
-            "report" => self.lent.report_fails.push(call)?,
+        let fails = match object {
+            "desk" => &mut self.lent.desk_fails,
+            "out" => &mut self.lent.out_fails,
+            "report" => &mut self.lent.report_fails,
             _ => bail!("an unknown object"),
-        }
+        };
+        fails.push(call)?;
         Ok(())
     }
 
@@ -143,17 +152,22 @@ impl Bench {
     ) -> Result<()> {
         let alloc = rt.alloc();
         match verb {
-            "empty" => self.files = Files::none(alloc),
-            "file" => self.put(alloc, rest)?,
-            "text" => self.put_text(alloc, rest)?,
-            "hex" => self.put_hex(rt, rest)?,
-            "translate" => self.translate(alloc, rest)?,
-            "fails" => self.fail(rest)?,
-            "bytewise" => self.lent.bytewise = true,
-            "call" => self.call(alloc, rest)?,
+            "empty" => {
+                self.files = Files::none(alloc);
+                Ok(())
+            }
+            "file" => self.put(alloc, rest),
+            "text" => self.put_text(alloc, rest),
+            "hex" => self.put_hex(rt, rest),
+            "translate" => self.translate(alloc, rest),
+            "fails" => self.fail(rest),
+            "bytewise" => {
+                self.lent.bytewise = true;
+                Ok(())
+            }
+            "call" => self.call(alloc, rest),
             _ => bail!("an unknown row"),
         }
-        Ok(())
     }
 
     fn left(&self) -> Result<&Left> {
@@ -170,27 +184,29 @@ impl Bench {
     // STREAM LINE: whether each call of the stream that fails in turn leaves what it has to.
     fn fails_in_turn(&self, alloc: Global, rest: &str) -> Result<bool> {
         let (stream, line) = first_word(rest);
-        is_cut_in_turn(alloc, &self.files, stream_of(stream)?, line)
+        let turns = Turns {
+            files: &self.files,
+            stream: stream_of(stream)?,
+            line,
+        };
+        turns.are_cut(alloc)
     }
 
     /// Whether what a row says is so.
     pub fn agrees(&self, alloc: Global, verb: &str, rest: &str) -> Result<bool> {
         match verb {
-            "status" => Ok(self.left()?.status == number(rest)?),
-            "out" => Ok(is_text(lines_of(alloc, &self.left()?.out)?.as_str(), rest)),
-            "report" => Ok(is_text(lines_of(alloc, &self.left()?.report)?.as_str(), rest)),
             "has" => self.has(alloc, rest),
             "absent" => Ok(self.files.find(rest).is_none()),
             "turns" => self.fails_in_turn(alloc, rest),
-            _ => bail!("an unknown row"),
+            _ => is_left(alloc, self.left()?, verb, rest),
         }
     }
 
     /// What the last call left.
     pub fn print_left<R: AllocGlobal + Print>(&self, rt: &R) -> Result<()> {
         let left = self.left()?;
-        let out = lines_of(rt.alloc(), &left.out)?;
-        let report = lines_of(rt.alloc(), &left.report)?;
+        let out = lines_of(rt.alloc(), left.out.bytes())?;
+        let report = lines_of(rt.alloc(), left.report.bytes())?;
         println!(rt; "left {} {out} {report}", left.status)?;
         Ok(())
     }

@@ -4,7 +4,7 @@ ghost use Rattle.std.specs.Prelude.{◌≤◌};
 use anyhow::Result;
 use row_files::{Files, words_of};
 use std::alloc::{AllocError, Global};
-use vt_outside::MemorySink;
+use vt_outside::{MemoryDesk, MemorySink};
 use vximage_cli::vximage;
 
 /// The bytes that a sink has room for.
@@ -39,37 +39,52 @@ impl Lent {
         if self.bytewise { 1 } else { MOST }
     }
 
+    fn desk(&self, alloc: Global, files: &Files) -> Result<MemoryDesk, AllocError> {
+        files.desk(alloc, self.desk_fails.as_slice().to_vec(alloc)?)
+    }
+
     fn sink(&self, alloc: Global, fails: &[u64]) -> Result<MemorySink, AllocError> {
         let room = Vec::with_capacity(alloc, ROOM)?;
         Ok(MemorySink::slow(room, fails.to_vec(alloc)?, self.most()))
     }
 }
 
-/// The status, and what the sinks took.
+/// The status, and the sinks with what they took.
 #[derive(Drop)]
 pub struct Left {
     pub status: u64,
-    pub out: Vec<u8>,
-    pub report: Vec<u8>,
+    pub out: MemorySink,
+    pub report: MemorySink,
 }
 
 impl Left {
     pub fn has(&self, status: u64, out: &[u8], report: &[u8]) -> bool {
-        self.status == status && self.out.as_slice() == out && self.report.as_slice() == report
+        self.status == status && self.out.bytes() == out && self.report.bytes() == report
     }
+}
+
+/// Calls `vximage` with these words.
+fn call_over(
+    alloc: Global,
+    lent: &Lent,
+    words: &[String],
+    desk: &mut MemoryDesk,
+) -> Result<Left, AllocError> {
+    let mut out = lent.sink(alloc, &lent.out_fails)?;
+    let mut report = lent.sink(alloc, &lent.report_fails)?;
+    let status = vximage(alloc, words, desk, &mut out, &mut report);
+    Ok(Left {
+        status: u64::from(status.number()),
+        out,
+        report,
+    })
 }
 
 /// Calls `vximage` with the words of a line. The files are then those of the desk.
 pub fn call(alloc: Global, lent: &Lent, files: &mut Files, line: &str) -> Result<Left> {
     let words = words_of(alloc, line)?;
-    let mut desk = files.desk(alloc, lent.desk_fails.as_slice().to_vec(alloc)?)?;
-    let mut out = lent.sink(alloc, &lent.out_fails)?;
-    let mut report = lent.sink(alloc, &lent.report_fails)?;
-    let status = vximage(alloc, &words, &mut desk, &mut out, &mut report);
+    let mut desk = lent.desk(alloc, files)?;
+    let left = call_over(alloc, lent, &words, &mut desk)?;
     files.take(alloc, &mut desk, &words)?;
-    Ok(Left {
-        status: u64::from(status.number()),
-        out: out.bytes().to_vec(alloc)?,
-        report: report.bytes().to_vec(alloc)?,
-    })
+    Ok(left)
 }

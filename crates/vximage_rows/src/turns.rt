@@ -8,7 +8,7 @@ use std::alloc::Global;
 const WRITE_FAULT: u64 = 7;
 
 /// A stream of which a call fails.
-#[derive(Clone, Copy, PartialEq, Eq)]
+#[derive(Clone, Copy)]
 pub enum Stream {
     Out,
     Report,
@@ -41,28 +41,52 @@ fn first(bytes: &[u8], count: usize) -> &[u8] {
 /// Of `out` the status is another, and the report takes nothing; of the report the status is the same.
 fn is_cut(stream: Stream, count: usize, whole: &Left, left: &Left) -> bool {
     match stream {
-        Stream::Out => left.has(WRITE_FAULT, first(&whole.out, count), &[]),
-        Stream::Report => left.has(whole.status, &whole.out, first(&whole.report, count)),
+        Stream::Out => left.has(WRITE_FAULT, first(whole.out.bytes(), count), &[]),
+        Stream::Report => left.has(
+            whole.status,
+            whole.out.bytes(),
+            first(whole.report.bytes(), count),
+        ),
     }
 }
 
 fn bytes_of(stream: Stream, whole: &Left) -> usize {
     match stream {
-        Stream::Out => whole.out.len(),
-        Stream::Report => whole.report.len(),
+        Stream::Out => whole.out.bytes().len(),
+        Stream::Report => whole.report.bytes().len(),
     }
 }
 
-/// Whether a line, where each call of the stream fails in turn, leaves the files, and what the stream took before.
-pub fn is_cut_in_turn(alloc: Global, files: &Files, stream: Stream, line: &str) -> Result<bool> {
-    let whole = call(alloc, &Lent::sound(alloc), &mut files.copy(alloc)?, line)?;
-    for count in 0..bytes_of(stream, &whole) {
-        let lent = lent_of(alloc, stream, count as u64)?;
-        let mut files_left = files.copy(alloc)?;
-        let left = call(alloc, &lent, &mut files_left, line)?;
-        if files_left != *files || !is_cut(stream, count, &whole, &left) {
-            return Ok(false);
-        }
+/// A line, of which a call of the stream fails, over these files.
+#[derive(Clone, Copy)]
+pub struct Turns<'a> {
+    pub files: &'a Files,
+    pub stream: Stream,
+    pub line: &'a str,
+}
+
+impl Turns<'_> {
+    /// Whether the line, where that call of the stream fails, leaves the files, and what the stream took before.
+    fn is_cut_at(&self, alloc: Global, count: usize, whole: &Left) -> Result<bool> {
+        let lent = lent_of(alloc, self.stream, count as u64)?;
+        let mut files = self.files.copy(alloc)?;
+        let left = call(alloc, &lent, &mut files, self.line)?;
+        Ok(files == *self.files && is_cut(self.stream, count, whole, &left))
     }
-    Ok(true)
+
+    /// The same of each call of the stream in turn.
+    pub fn are_cut(&self, alloc: Global) -> Result<bool> {
+        let whole = call(
+            alloc,
+            &Lent::sound(alloc),
+            &mut self.files.copy(alloc)?,
+            self.line,
+        )?;
+        for count in 0..bytes_of(self.stream, &whole) {
+            if !self.is_cut_at(alloc, count, &whole)? {
+                return Ok(false);
+            }
+        }
+        Ok(true)
+    }
 }
