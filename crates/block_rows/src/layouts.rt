@@ -76,6 +76,21 @@ static PAIRS: [(u32, u32); 10] = [
     (0x258, 34),
 ];
 
+// each block's first word, and the word of the service
+static POINTS: [(u32, u32); 11] = [
+    (0x200, 0),
+    (0x207, 1),
+    (0x20D, 2),
+    (0x212, 6),
+    (0x21A, 8),
+    (0x220, 10),
+    (0x230, 15),
+    (0x240, 20),
+    (0x250, 28),
+    (0x250, 32),
+    (0x258, 34),
+];
+
 /// The opcode of an instruction that keeps the codes.
 const NOP: u8 = 0x01;
 
@@ -149,14 +164,14 @@ fn laid_out(alloc: Global) -> Result<Code> {
     }
 }
 
-/// Words and pairs as they are worked out, and a point of each block's address at its first word.
+/// Words, pairs and points as they are worked out.
 fn check_code(rt: &impl Print, tally: &mut Tally, code: &Code) -> Result<()> {
     let (words, map, points) = code;
     tally.check(rt, "words", &words.as_slice(), &WORDS.as_slice())?;
     tally.check(rt, "pairs", &map.as_slice(), &PAIRS.as_slice())?;
-    tally.check(rt, "points", &points.len(), &PAIRS.len())?;
-    for ((word, point), pair) in points.iter().zip(PAIRS.iter()) {
-        tally.check(rt, "point", &(point.vax_pc, *word), pair)?;
+    tally.check(rt, "points", &points.len(), &POINTS.len())?;
+    for ((word, point), wanted) in points.iter().zip(POINTS.iter()) {
+        tally.check(rt, "point", &(point.vax_pc, *word), wanted)?;
     }
     Ok(())
 }
