@@ -1,12 +1,11 @@
 -- Where blocks stand: the pairs of their map.
-use Rattle.std.proofs.Common.{◌≡◌, ℕ, zero, suc, ◌+◌, ◌*◌, ◌<◌, ◌≤◌, ◌++◌, refl, ◌∙◌, ap, arith, add-zero, nat_lt, eqb, cond, List, [], ◌∷◌, length, take, get_or, All, zero-add, eqb-true, Bool, true, false, Some, None}
+use Rattle.std.proofs.Common.{◌≡◌, ℕ, zero, suc, ◌+◌, ◌*◌, ◌<◌, ◌≤◌, ◌++◌, refl, ◌∙◌, ap, arith, add-zero, nat_lt, eqb, cond, List, [], ◌∷◌, length, take, get_or, All, eqb-true, Bool, true, false, Some, None}
 use Rattle.std.specs.Prelude.{find, slice_get}
 use Rattle.std.specs.List.{AllAdjacentBelow}
 use Rattle.std.specs.Option.{option_map}
 use Rattle.std.proofs.lemmas.Bool.{ne_eqb}
 use Rattle.std.proofs.lemmas.Bool.Decides.{nat_tests}
 use Rattle.std.proofs.lemmas.List.Sums.{sum_by-cons, sum_by_more, sum_by_more_le, sum_by-le}
-use Rattle.std.proofs.lemmas.List.{take_more}
 use Rattle.address_map.specs.Pairs.{Pair, AllRise, word_at, address_at}
 use Rattle.std.proofs.lemmas.Option.{slice_get-get_or, slice_get_within, get_or_from_slice_get}
 use Rattle.address_map.proofs.Lookups.{word_at-pair, address_at-pair}
@@ -24,10 +23,6 @@ places-append f [] cs = rw add-zero refl
 places-append f (b ∷ bs) cs =
     let e : f + size b + words_of bs ≡ f + words_of (b ∷ bs) = omega (arith, words_cons b bs) in
     ap (λ (ps : List Pair). (b.0, f) ∷ ps) (places-append (f + size b) bs cs ∙ ap (λ n. places (f + size b) bs ++ places n cs) e)
-
--- one more block
-pub places_more : (bs : List Sized) (i : ℕ) (d : Sized) → i < length bs → places 0 (take (i + 1) bs) ≡ places 0 (take i bs) ++ ((get_or bs i d).0, words_of (take i bs)) ∷ []
-places_more bs i d within = rw (take_more bs i d within) (places-append 0 (take i bs) (get_or bs i d ∷ []) ∙ rw zero-add refl)
 
 -- the pair of a block
 pub places_get : (f : ℕ) (bs : List Sized) (i : ℕ) (b : Sized) (d : Pair) → slice_get bs i ≡ Some b → get_or (places f bs) i d ≡ (b.0, f + words_of (take i bs))

@@ -116,9 +116,6 @@ call_by probe look_up serve raise trap switch =
     else if switch then Switch
     else Other
 
-call_is : (number : ℕ) → call_of number ≡ call_by (number == PROBE) (number == LOOK_UP) (number == SERVE) (number == RAISE) (number == TRAP) (number == SWITCH)
-call_is number = refl
-
 no_switch : (number : ℕ) → not (number == SWITCH) ≡ true → is_switch (call_of number) ≡ false
 no_switch number ok = by (number == PROBE) (number == LOOK_UP) (number == SERVE) (number == RAISE) (number == TRAP) (number == SWITCH) ok
   where

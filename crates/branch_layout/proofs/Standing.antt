@@ -116,22 +116,3 @@ rise_more first points more under rise rise' k d lt = by (nat_lt (k + 1) (length
         let high = get_shifted first more (k - length points + 1) d d within in
         let step = rise' (k - length points) d within in
         rw (get_or-append_right points (shifted first more) (length points) k d refl late, get_or-append_right points (shifted first more) (length points) (k + 1) d refl (omega arith), next) (omega arith)
-
-pub under_more : (first bound size : ℕ) (points more : List Entry) → first + size ≡ bound → All (λ entry. entry.0 < first) points → All (λ entry. entry.0 < size) more → All (λ entry. entry.0 < bound) (points ++ shifted first more)
-under_more first bound size points more is under under' k d lt = by (nat_lt k (length points)) refl
-  where
-    count : length (points ++ shifted first more) ≡ length points + length more
-    count = length-append points (shifted first more) ∙ ap (λ n. length points + n) (shifted_length first more)
-
-    by : (c : Bool) → nat_lt k (length points) ≡ c → (get_or (points ++ shifted first more) k d).0 < bound
-    by true e =
-        let here : k < length points = ltb-true k (length points) e in
-        let low = under k d here in
-        rw (get_or_append_left points (shifted first more) d k here) (omega arith)
-    by false e =
-        let late : length points ≤ k = ltb-false k (length points) e in
-        let sum = count in
-        let within : k - length points < length more = omega arith in
-        let at = get_shifted first more (k - length points) d d within in
-        let low = under' (k - length points) d within in
-        rw (get_or-append_right points (shifted first more) (length points) k d refl late) (omega arith)

@@ -47,9 +47,6 @@ held_unread row.Cmovne a b h h' e = absurd (cc e)
 held_unread op a b h h' e = refl
 
 -- ---- registers that no word for the codes writes
-abbrev pub home_register_of : (temp : ℕ) → ℕ
-home_register_of temp = 21 + temp
-
 pub home_is : (homes : Homes) → AreHomes homes → (n r : ℕ) → home_at homes n ≡ Some r → IsHome (Some r)
 home_is homes are n r e = by (n == 21) (n == 22) (n == 23) e
   where
@@ -84,14 +81,6 @@ apart sources c r may stays = by (r == c) refl
     by : (b : Bool) → (r == c) ≡ b → b ≡ false
     by true e = let same : false ≡ true = sym stays ∙ (ap (may_be_written sources) (eqb-true r c e) ∙ may) in absurd (cc same)
     by false e = refl
-
--- the temporaries' own registers stay, too
-own_stays : (sources : CodeSources) (homes : Homes) (c : ℕ) → may_be_written sources c ≡ true → home_at homes c ≡ None
-own_stays sources homes c may =
-    rw (flip 21 (apart sources c 21 may (temp_stays sources 0 (lit≤ tt) refl refl)), flip 22 (apart sources c 22 may (temp_stays sources 1 (lit≤ tt) refl refl)), flip 23 (apart sources c 23 may (temp_stays sources 2 (lit≤ tt) refl refl))) refl
-  where
-    flip : (k : ℕ) → (k == c) ≡ false → (c == k) ≡ false
-    flip k e = grind (arith, nat_tests, e)
 
 -- ---- two files of registers
 -- In the second the temporaries stand in their homes; the operands of rules have the same low longwords in both, and all other

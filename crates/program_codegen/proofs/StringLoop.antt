@@ -30,7 +30,7 @@ use Rattle.program_codegen.specs.declared.lines.Line.{Line}
 use Rattle.program_codegen.specs.declared.points.Site.{Site}
 use Rattle.program_codegen.specs.Accesses.{needed}
 use Rattle.program_codegen.specs.Words.{plain, read_by, write_by}
-use Rattle.program_codegen.specs.Strings.{loop_words, turn_words}
+use Rattle.program_codegen.specs.Strings.{turn_words}
 use Rattle.program_codegen.proofs.Operands.{in_space, may_read, may_write}
 use Rattle.program_codegen.proofs.Stores.{Each, loads_of, loaded_of, read_kinds, reads_by, stores_of, stored_of, write_kinds, writes_by}
 use Rattle.program_codegen.proofs.StringPages.{Walk, first_fits, next_address, stride, usable_byte}
@@ -69,10 +69,6 @@ back_line byte_word = plain (Branch Bne 21 (negsuc (length (turn_words byte_word
 abbrev pub loop_lines : (byte_word : Bool) → List Line → List Line
 loop_lines byte_word rest =
     map plain (read_by byte_word 22 1 24) ++ (map plain (write_by byte_word 23 1 24) ++ (map plain going_on ++ (back_line byte_word ∷ rest)))
-
-pub loop_split : (byte_word : Bool) (rest : List Line) → map plain (loop_words byte_word) ++ rest ≡ loop_lines byte_word rest
-loop_split false rest = refl
-loop_split true rest = refl
 
 pub turn_count : (byte_word : Bool) → length (turn_words byte_word) ≡ length (read_by byte_word 22 1 24) + (length (write_by byte_word 23 1 24) + 3)
 turn_count false = refl

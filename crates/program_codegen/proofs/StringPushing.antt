@@ -1,5 +1,5 @@
 -- The words of the block of MOVC3 as they are pushed, one part behind the other.
-use Rattle.std.proofs.Common.{◌≡◌, ℕ, suc, ◌+◌, ◌-◌, ◌<◌, sym, ap, ◌∙◌, subst, arith, List, [], ◌∷◌, ◌++◌, append_assoc}
+use Rattle.std.proofs.Common.{◌≡◌, ℕ, suc, ◌+◌, ◌-◌, ◌<◌, sym, ap, ◌∙◌, arith, List, [], ◌∷◌, ◌++◌, append_assoc}
 use Rattle.micro_ops.specs.declared.program.Micro.{Micro}
 use Rattle.operand_programs.specs.InOrder.{no_steps, operands_program, steps_behind_all}
 use Rattle.operand_programs.specs.Operands.{operand_program, steps_behind_specifier}
@@ -18,11 +18,6 @@ step_pushed words whole steps done lt all =
     append_assoc words (step_words (6 + done) (slice_index steps (6 + done))) (steps_from (6 + (done + 1)) (9 - (done + 1)) steps)
     ∙ (ap (λ (n : ℕ). words ++ (step_words (6 + done) (slice_index steps (6 + done)) ++ steps_from n (9 - (done + 1)) steps)) next
     ∙ (ap (λ (n : ℕ). words ++ steps_from (6 + done) n steps) (sym left) ∙ all))
-
--- all are
-pub steps_pushed : (words whole : List AlphaInstr) (steps : List ℕ) (done : ℕ) → done ≡ 9 → words ++ steps_from (6 + done) (9 - done) steps ≡ whole → words ≡ whole
-steps_pushed words whole steps done all e =
-    sym (append-nil words) ∙ subst (λ (n : ℕ). words ++ steps_from (6 + n) (9 - n) steps ≡ whole) all e
 
 -- ---- operands
 -- one behind the other, each with what it adds to the steps
