@@ -1,7 +1,7 @@
 // From a word to its instruction.
-ghost use Rattle.std.specs.Prelude.{◌≡◌, ◌^◌, ◌<◌, ◌≢◌, IfSome, IfNone};
+ghost use Rattle.std.specs.Prelude.{◌≡◌, ◌/◌, ◌%◌, ◌^◌, ◌<◌, ◌≢◌, IfSome, IfNone};
 ghost use Rattle.alpha_encode.specs.Rows.{operate_at};
-ghost use Rattle.alpha_encode.specs.Words.{second_at, is_first, if_first, instr_at, signed_21, IsEncodable, word_of, Spells};
+ghost use Rattle.alpha_encode.specs.Words.{second_at, if_first, instr_at, signed_21, IsEncodable, word_of, Spells};
 
 use crate::instr::{AlphaInstr, OperateOp, Second};
 use crate::pal;
@@ -21,24 +21,39 @@ fn second(field: u32) -> Option<Second>
     }
 }
 
-/// Whether Ra may be that register: an instruction with one operand has R31 there.
-fn is_first(op: OperateOp, ra: u8) -> bool
-    ensures { result ≡ is_first op ra }
+/// Ra of the word.
+fn first(word: u32) -> u8
+    ensures value { result ≡ word / 2 ^ 21 % 2 ^ 5 }
+    ensures below { result < 2 ^ 5 }
 {
-    match op {
-        OperateOp::Sextb | OperateOp::Sextw => ra == ZERO,
-        _ => ra <= ZERO,
-    }
+    (word / (1 << 21) % (1 << 5)) as u8
 }
 
-/// The operate instruction of the codes, where Ra may be that register.
-fn operate_with(ra: u8, opcode: u32, function: u32) -> Option<OperateOp>
-    requires opcode { opcode < 2 ^ 6 }
-    requires function { function < 2 ^ 7 }
-    ensures { result ≡ if_first ra (operate_at opcode function) }
+/// Rb of the memory format.
+fn base(word: u32) -> u8
+    ensures { result ≡ word / 2 ^ 16 % 2 ^ 5 }
 {
-    match operate_op(opcode, function) {
-        Some(op) if is_first(op, ra) => Some(op),
+    (word / (1 << 16) % (1 << 5)) as u8
+}
+
+/// The function of the operate format.
+fn function(word: u32) -> u32
+    ensures value { result ≡ word / 2 ^ 5 % 2 ^ 7 }
+    ensures below { result < 2 ^ 7 }
+{
+    word / (1 << 5) % (1 << 7)
+}
+
+/// The operate instruction of the opcode and the function. Those of opcode 1C have one operand, and R31 as Ra.
+fn operate(word: u32) -> Option<OperateOp>
+    ensures { result ≡ if_first (word / 2 ^ 21 % 2 ^ 5) (operate_at (word / 2 ^ 26) (word / 2 ^ 5 % 2 ^ 7)) }
+{
+    match word / (1 << 26) {
+        0x10 => operate_op(0x10, function(word)),
+        0x11 => operate_op(0x11, function(word)),
+        0x12 => operate_op(0x12, function(word)),
+        0x13 => operate_op(0x13, function(word)),
+        0x1c if first(word) == ZERO => operate_op(0x1c, function(word)),
         _ => None,
     }
 }
@@ -58,25 +73,40 @@ fn signed_21(field: u32) -> i32
 fn read(word: u32) -> Option<AlphaInstr>
     ensures { result ≡ instr_at word }
 {
+    if let Some(op) = operate(word) {
+        if let Some(rb) = second(word / (1 << 12) % (1 << 9)) {
+            let rc = (word % (1 << 5)) as u8;
+            return Some(AlphaInstr::Operate {
+                op,
+                ra: first(word),
+                rb,
+                rc,
+            });
+        }
+    }
     let opcode = word / (1 << 26);
-    let ra = (word / (1 << 21) % (1 << 5)) as u8;
-    let rb = (word / (1 << 16) % (1 << 5)) as u8;
     if let Some(op) = memory_op(opcode) {
         let disp = ((word % (1 << 16)) as u16).cast_signed();
-        return Some(AlphaInstr::Memory { op, ra, rb, disp });
+        return Some(AlphaInstr::Memory {
+            op,
+            ra: first(word),
+            rb: base(word),
+            disp,
+        });
     }
     if let Some(op) = branch_op(opcode) {
         let disp = signed_21(word % (1 << 21));
-        return Some(AlphaInstr::Branch { op, ra, disp });
-    }
-    if let Some(op) = operate_with(ra, opcode, word / (1 << 5) % (1 << 7)) {
-        if let Some(rb) = second(word / (1 << 12) % (1 << 9)) {
-            let rc = (word % (1 << 5)) as u8;
-            return Some(AlphaInstr::Operate { op, ra, rb, rc });
-        }
+        return Some(AlphaInstr::Branch {
+            op,
+            ra: first(word),
+            disp,
+        });
     }
     if opcode == 0x1a && word % (1 << 16) == 0 {
-        return Some(AlphaInstr::Jump { ra, rb });
+        return Some(AlphaInstr::Jump {
+            ra: first(word),
+            rb: base(word),
+        });
     }
     if u32::from(pal::PROBE) <= word && word <= u32::from(pal::SWITCH) {
         Some(AlphaInstr::Pal(word as u8))

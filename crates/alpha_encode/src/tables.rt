@@ -39,13 +39,15 @@ pub fn branch_op(opcode: u32) -> Option<BranchOp>
     branch_rows!(find opcode)
 }
 
-/// Of the opcode in bits 15:8 and the function in 7:0.
+/// Of the opcode in bits 15:8 and the function in 7:0. In place of a call: a caller's opcode leaves only its own rows to be looked through.
+#[inline(always)]
 fn operate_row(code: u32) -> Option<OperateOp>
     ensures { result ≡ row_at operate_rows code }
 {
     operate_rows!(find code)
 }
 
+#[inline(always)]
 pub fn operate_op(opcode: u32, function: u32) -> Option<OperateOp>
     requires opcode { opcode < 2 ^ 6 }
     requires function { function < 2 ^ 7 }
