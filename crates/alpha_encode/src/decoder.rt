@@ -3,7 +3,7 @@ ghost use Rattle.std.specs.Prelude.{◌≡◌, ◌/◌, ◌%◌, ◌^◌, ◌<�
 ghost use Rattle.alpha_encode.specs.Rows.{operate_at};
 ghost use Rattle.alpha_encode.specs.Words.{second_at, if_first, instr_at, signed_21, IsEncodable, word_of, Spells};
 
-use crate::instr::{AlphaInstr, OperateOp, Second};
+use crate::instr::{AlphaInstr, FPTI, INTA, INTL, INTM, INTS, JSR, OperateOp, Second};
 use crate::pal;
 use crate::registers::ZERO;
 use crate::tables::{branch_op, memory_op, operate_op};
@@ -44,16 +44,16 @@ fn function(word: u32) -> u32
     word / (1 << 5) % (1 << 7)
 }
 
-/// The operate instruction of the opcode and the function. Those of opcode 1C have one operand, and R31 as Ra.
+/// The operate instruction of the opcode and the function. Those with one operand have R31 as Ra.
 fn operate(word: u32) -> Option<OperateOp>
     ensures { result ≡ if_first (word / 2 ^ 21 % 2 ^ 5) (operate_at (word / 2 ^ 26) (word / 2 ^ 5 % 2 ^ 7)) }
 {
     match word / (1 << 26) {
-        0x10 => operate_op(0x10, function(word)),
-        0x11 => operate_op(0x11, function(word)),
-        0x12 => operate_op(0x12, function(word)),
-        0x13 => operate_op(0x13, function(word)),
-        0x1c if first(word) == ZERO => operate_op(0x1c, function(word)),
+        INTA => operate_op(INTA, function(word)),
+        INTL => operate_op(INTL, function(word)),
+        INTS => operate_op(INTS, function(word)),
+        INTM => operate_op(INTM, function(word)),
+        FPTI if first(word) == ZERO => operate_op(FPTI, function(word)),
         _ => None,
     }
 }
@@ -102,7 +102,7 @@ fn read(word: u32) -> Option<AlphaInstr>
             disp,
         });
     }
-    if opcode == 0x1a && word % (1 << 16) == 0 {
+    if opcode == JSR && word % (1 << 16) == 0 {
         return Some(AlphaInstr::Jump {
             ra: first(word),
             rb: base(word),

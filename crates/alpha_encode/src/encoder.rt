@@ -3,7 +3,7 @@ ghost use Rattle.std.specs.Prelude.{◌≡◌, ◌*◌, ◌+◌, ◌^◌, ◌<�
 ghost use Rattle.alpha_encode.specs.Rows.{memory_opcode, branch_opcode, operate_code};
 ghost use Rattle.alpha_encode.specs.Words.{IsEncodable, IsSecond, second_field, word_of, instr_at};
 
-use crate::instr::{AlphaInstr, BranchOp, MemoryOp, OperateOp, Second};
+use crate::instr::{AlphaInstr, BranchOp, JSR, MemoryOp, OperateOp, Second};
 
 fn memory_opcode(op: MemoryOp) -> u32
     ensures value { result ≡ memory_opcode op }
@@ -71,7 +71,7 @@ fn write(instr: AlphaInstr) -> u32
             let low = function * (1 << 5) + u32::from(rc);
             word(opcode, ra, second_field(rb) * (1 << 12) + low)
         }
-        AlphaInstr::Jump { ra, rb } => word(0x1a, ra, u32::from(rb) * (1 << 16)),
+        AlphaInstr::Jump { ra, rb } => word(JSR, ra, u32::from(rb) * (1 << 16)),
         AlphaInstr::Pal(number) => u32::from(number),
     }
 }

@@ -117,6 +117,19 @@ macro_rules! operate_rows {
     };
 }
 
+/// The opcode of the arithmetic rows.
+pub(crate) const INTA: u32 = 0x10;
+/// Of the logical ones.
+pub(crate) const INTL: u32 = 0x11;
+/// Of shifts and bytes.
+pub(crate) const INTS: u32 = 0x12;
+/// Of products.
+pub(crate) const INTM: u32 = 0x13;
+/// Of the rows with one operand, Rb: R31 is their Ra.
+pub(crate) const FPTI: u32 = 0x1c;
+/// Of JMP, which isn't among the rows.
+pub(crate) const JSR: u32 = 0x1a;
+
 /// The second operand of an operate instruction: register Rb, or an unsigned 8-bit literal.
 #[derive(Clone, Copy, PartialEq, Eq, Debug)]
 pub enum Second {
