@@ -3,3 +3,4 @@ pub mod Words
 pub mod Flats
 pub mod Landed
 pub mod Known
+pub mod Strides

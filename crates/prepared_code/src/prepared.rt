@@ -5,6 +5,7 @@ ghost use Rattle.alpha_encode.specs.Words.{IsEncodable};
 ghost use Rattle.alpha_meaning.specs.Pieces.{most_words};
 ghost use Rattle.block_law.specs.Translations.{fetch_of};
 ghost use Rattle.prepared_code.specs.Flats.{AreFlat};
+ghost use Rattle.prepared_code.specs.Known.{AreKnown};
 ghost use Rattle.prepared_code.specs.Prepared.{AreReady, IsNext, IsNumber, IsReady, begun};
 ghost use Rattle.prepared_code.specs.Sources.{block_at, source_of};
 ghost use Rattle.prepared_code.specs.declared.blocks.Block.{Block};
@@ -166,6 +167,7 @@ impl<'a> Prepared<'a> {
     pub(crate) fn flats(&self) -> &[Flat]
         ensures few { length result.now ≤ most_words }
         ensures flat { AreFlat self.now.code result.now }
+        ensures known { AreKnown self.now.code result.now }
         ensures rise { AllRise self.now.code.map }
     {
         &self.flats

@@ -1,5 +1,5 @@
 // Many steps inside a block.
-ghost use Rattle.std.specs.Prelude.{◌≡◌, ◌<◌, ◌≤◌, ◌+◌, ◌^◌, ℕ, if◌then◌else◌, length, slice_get, slice_index, true, Some, None, IfSome, option_map};
+ghost use Rattle.std.specs.Prelude.{◌≡◌, ◌<◌, ◌≤◌, ◌+◌, ◌^◌, ℕ, if◌then◌else◌, length, slice_get, slice_index, true, Some, None, IfNone, IfSome, is_some, option_map};
 ghost use Rattle.address_map.specs.Pairs.{AllRise};
 ghost use Rattle.alpha_machine.specs.Step.{state_of};
 ghost use Rattle.alpha_meaning.specs.Act.{taken};
@@ -11,7 +11,7 @@ ghost use Rattle.prepared_code.specs.Effects.{behind};
 ghost use Rattle.prepared_code.specs.Flats.{AreStraight, IsFork, IsInForm, effect, operand, way_out};
 ghost use Rattle.prepared_code.specs.declared.flat.Flat.{Flat};
 ghost use Rattle.prepared_code.specs.Inside.{Crosses, local_at, step_in, steps_in};
-ghost use Rattle.prepared_code.specs.Strides.{IsStride};
+ghost use Rattle.prepared_code.specs.Strides.{IsStride, Rests, arrives, fork_of, steps_next, stride_of};
 
 use crate::effect::{Effect, clear_31, commit, effect_of, register, write};
 use crate::flat::{Flat, Way};
@@ -178,13 +178,15 @@ impl<'a> Prepared<'a> {
         1
     }
 
-    // Makes some steps, at most so many. None is made only where the next step is none inside a block.
+    // Makes the steps inside the block that one look at the word makes, at most so many. None is made only where the next step is
+    // none inside a block.
     #[inline(always)]
     fn stride(&self, cpu: &mut Cpu, most: u64) -> u64
         requires some { 0 < most }
         requires zero { slice_index cpu.old.r 31 ≡ 0 }
         ensures zero { slice_index cpu.new.r 31 ≡ 0 }
         ensures most { result ≤ most }
+        ensures look { result ≡ steps_next self.now.code (state_of cpu.old) most }
         ensures ran { steps_in self.now.code (state_of cpu.old) result ≡ Some (state_of cpu.new) }
         ensures stops { result ≡ 0 → step_in self.now.code (state_of cpu.new) ≡ None }
     {
@@ -260,6 +262,7 @@ impl<'a> Prepared<'a> {
         requires zero { slice_index cpu.old.r 31 ≡ 0 }
         ensures zero { slice_index cpu.new.r 31 ≡ 0 }
         ensures is { IsStride self.now.code cpu.old cpu.new 1 result }
+        ensures just { result ≡ fork_of self.now.code (state_of cpu.old) }
     {
         cpu.pc = way_out(cpu, flat, op);
         if self.begins(cpu.pc) {
@@ -269,13 +272,15 @@ impl<'a> Prepared<'a> {
         }
     }
 
-    // Makes some steps, at most so many, or the one to another block.
+    // Makes the steps inside the block that one look at the word makes, at most so many, or the one to another block that the
+    // word tells.
     #[inline(always)]
     fn stride_over(&self, cpu: &mut Cpu, most: u64) -> Stride
         requires some { 0 < most }
         requires zero { slice_index cpu.old.r 31 ≡ 0 }
         ensures zero { slice_index cpu.new.r 31 ≡ 0 }
         ensures is { IsStride self.now.code cpu.old cpu.new most result }
+        ensures just { result ≡ stride_of self.now.code (state_of cpu.old) most }
     {
         let flats = self.flats();
         let Some(flat) = flats.get(cpu.pc as usize) else {
@@ -307,10 +312,13 @@ impl<'a> Prepared<'a> {
     }
 
     /// Goes through the block there and arrives at another, by local steps alone, at most so many, and tells how many. None:
-    /// it stands anywhere.
+    /// the words tell of no such steps, and it stands where those inside the block end.
     #[inline(always)]
     pub fn cross(&self, cpu: &mut Cpu, most: u64) -> Option<u64>
-        ensures { IfSome result (λ steps. (steps ≤ most) × Crosses self.now.code cpu.old cpu.new steps) }
+        ensures zero { slice_index cpu.new.r 31 ≡ 0 }
+        ensures just { is_some result ≡ arrives self.now.code (state_of cpu.old) most }
+        ensures crosses { IfSome result (λ steps. (steps ≤ most) × Crosses self.now.code cpu.old cpu.new steps) }
+        ensures rests { IfNone result (Rests self.now.code cpu.old cpu.new most) }
     {
         clear_31(cpu);
         let mut made = 0;

@@ -16,9 +16,9 @@ pub loop-made-preserved : goal.loop-made-preserved
 loop-made-preserved c =
     let p = c.args.prepared.now in
     let s = image_setting p.pages p.code [] in
-    let crosses = c.in-Some.ensures.1 in
+    let crosses = c.in-Some.ensures.crosses.1 in
     record {
-      most = omega (arith, c.loop-made.invariant.most, c.in-Some.ensures.0, c.if-within-most.false);
+      most = omega (arith, c.loop-made.invariant.most, c.in-Some.ensures.crosses.0, c.if-within-most.false);
       few = omega (arith, c.loop-made.invariant.few, crosses.counted);
       same = ap (λ (x : Course). record x { cpu = c.cross.new.cpu }) c.loop-made.invariant.same;
       glides = glides_on s p.pages c.args.self.now c.loop-made.self.cpu c.cross.new.cpu c.loop-made.made c.loop-made.crossed c.in-Some.steps c.steps_are_turns.ensures
