@@ -193,38 +193,51 @@ const DIS_OPTIONS: &[Choice] = &[
     },
 ];
 
+/// What is told where help is asked for at length: in place of what the command is about, and behind its options.
+struct AtLength {
+    about: &'static str,
+    behind: &'static str,
+}
+
 /// A command over one file.
 struct Form {
     label: &'static str,
     about: &'static str,
+    at_length: Option<AtLength>,
     file: &'static str,
     file_help: &'static str,
     options: &'static [Choice],
 }
 
-const MAKE: Form = Form {
-    label: "make",
-    about: MAKE_ABOUT,
-    file: "OUT",
-    file_help: "The file of the image",
-    options: MAKE_OPTIONS,
-};
-
-const SHOW: Form = Form {
-    label: "show",
-    about: SHOW_ABOUT,
-    file: "NAME",
-    file_help: IMAGE_HELP,
-    options: &[],
-};
-
-const DIS: Form = Form {
-    label: "dis",
-    about: DIS_ABOUT,
-    file: "NAME",
-    file_help: IMAGE_HELP,
-    options: DIS_OPTIONS,
-};
+const FORMS: &[Form] = &[
+    Form {
+        label: "make",
+        about: MAKE_ABOUT,
+        at_length: Some(AtLength {
+            about: MAKE_LONG,
+            behind: NOT_TAKEN,
+        }),
+        file: "OUT",
+        file_help: "The file of the image",
+        options: MAKE_OPTIONS,
+    },
+    Form {
+        label: "show",
+        about: SHOW_ABOUT,
+        at_length: None,
+        file: "NAME",
+        file_help: IMAGE_HELP,
+        options: &[],
+    },
+    Form {
+        label: "dis",
+        about: DIS_ABOUT,
+        at_length: None,
+        file: "NAME",
+        file_help: IMAGE_HELP,
+        options: DIS_OPTIONS,
+    },
+];
 
 // The argument of an option, whatever that goes with.
 fn argument<'a>(alloc: Global, option: &Choice) -> Arg<'a> {
@@ -243,48 +256,69 @@ fn placed<'a>(arg: Arg<'a>, option: &Choice) -> Result<Arg<'a>, AllocError> {
         .required_unless_present_any(option.unless)
 }
 
-// The command with an argument, if that was made.
-fn with_argument<'a>(
-    app: Command<'a>,
-    arg: Result<Arg<'a>, AllocError>,
-) -> Result<Command<'a>, AllocError> {
-    app.arg(arg?)
+// The argument of the file.
+fn file_argument<'a>(alloc: Global, form: &Form) -> Arg<'a> {
+    Arg::new(alloc, form.file)
+        .required(true)
+        .help(form.file_help)
 }
 
-// A command with its file, and no option.
-fn plain_command<'a>(alloc: Global, form: &Form) -> Result<Command<'a>, AllocError> {
-    let file = Arg::new(alloc, form.file)
-        .required(true)
-        .help(form.file_help);
-    Command::new(alloc, form.label)
+// Puts the argument of an option behind others.
+fn push_option<'a>(
+    alloc: Global,
+    option: &Choice,
+    arguments: &mut Vec<Arg<'a>>,
+) -> Result<(), AllocError> {
+    arguments.push(placed(argument(alloc, option), option)?)?;
+    Ok(())
+}
+
+// Puts the argument of the file and those of the options behind others.
+fn push_arguments<'a>(
+    alloc: Global,
+    form: &Form,
+    arguments: &mut Vec<Arg<'a>>,
+) -> Result<(), AllocError> {
+    arguments.push(file_argument(alloc, form))?;
+    for option in form.options {
+        push_option(alloc, option, arguments)?;
+    }
+    Ok(())
+}
+
+// A command with what is told of it, and no argument.
+fn bare_command<'a>(alloc: Global, form: &Form) -> Command<'a> {
+    let command = Command::new(alloc, form.label)
         .about(form.about)
-        .after_help(NUMBERS)
-        .arg(file)
+        .after_help(NUMBERS);
+    match &form.at_length {
+        Some(told) => command.long_about(told.about).after_long_help(told.behind),
+        None => command,
+    }
 }
 
 fn command_of<'a>(alloc: Global, form: &Form) -> Result<Command<'a>, AllocError> {
-    let mut app = plain_command(alloc, form)?;
-    for option in form.options {
-        app = with_argument(app, placed(argument(alloc, option), option))?;
+    let mut arguments = Vec::new(alloc);
+    push_arguments(alloc, form, &mut arguments)?;
+    bare_command(alloc, form).args(arguments)
+}
+
+// Puts a command behind others.
+fn push_command<'a>(
+    alloc: Global,
+    form: &Form,
+    commands: &mut Vec<Command<'a>>,
+) -> Result<(), AllocError> {
+    commands.push(command_of(alloc, form)?)?;
+    Ok(())
+}
+
+// Puts all commands behind others.
+fn push_commands<'a>(alloc: Global, commands: &mut Vec<Command<'a>>) -> Result<(), AllocError> {
+    for form in FORMS {
+        push_command(alloc, form, commands)?;
     }
-    Ok(app)
-}
-
-// The command that makes, with what is told where its help is asked for at length.
-fn make_command<'a>(alloc: Global) -> Result<Command<'a>, AllocError> {
-    Ok(
-        command_of(alloc, &MAKE)?
-            .long_about(MAKE_LONG)
-            .after_long_help(NOT_TAKEN),
-    )
-}
-
-// The program with a command, if that was made.
-fn with_command<'a>(
-    app: Command<'a>,
-    command: Result<Command<'a>, AllocError>,
-) -> Result<Command<'a>, AllocError> {
-    app.subcommand(command?)
+    Ok(())
 }
 
 // The program, with no command.
@@ -300,7 +334,7 @@ fn bare_app<'a>(alloc: Global) -> Command<'a> {
 
 /// All commands.
 pub fn vximage_app<'a>(alloc: Global) -> Result<Command<'a>, AllocError> {
-    let app = with_command(bare_app(alloc), make_command(alloc))?;
-    let app = with_command(app, command_of(alloc, &SHOW))?;
-    with_command(app, command_of(alloc, &DIS))
+    let mut commands = Vec::new(alloc);
+    push_commands(alloc, &mut commands)?;
+    bare_app(alloc).subcommands(commands)
 }

@@ -39,12 +39,15 @@ fn section_in(text: &str) -> Option<SectionAsked<'_>> {
     let (start, rest) = text.split_once(':')?;
     let (rights, rest) = rest.split_once(':')?;
     let (size, file) = size_and_file(rest);
-    Some(SectionAsked {
-        start: number_in(start)?,
-        size: number_in(size)?,
-        writable: rights_in(rights)?,
-        file,
-    })
+    match (number_in(start), number_in(size), rights_in(rights)) {
+        (Some(start), Some(size), Some(writable)) => Some(SectionAsked {
+            start,
+            size,
+            writable,
+            file,
+        }),
+        _ => None,
+    }
 }
 
 // Rn=X.
@@ -67,18 +70,22 @@ fn registers_in(text: &str) -> Option<[u32; FIRST_REGISTERS]> {
     Some(registers)
 }
 
+// SP or SP:Rn=X,..
+fn sp_and_registers(text: &str) -> (&str, Option<[u32; FIRST_REGISTERS]>) {
+    match text.split_once(':') {
+        Some((sp, registers)) => (sp, registers_in(registers)),
+        None => (text, Some([0; FIRST_REGISTERS])),
+    }
+}
+
 // PC:SP[:Rn=X,..].
 fn thread_in(text: &str) -> Option<Start> {
     let (pc, rest) = text.split_once(':')?;
-    let (sp, first) = match rest.split_once(':') {
-        Some((sp, registers)) => (sp, registers_in(registers)?),
-        None => (rest, [0; FIRST_REGISTERS]),
-    };
-    Some(Start {
-        pc: number_in(pc)?,
-        sp: number_in(sp)?,
-        first,
-    })
+    let (sp, first) = sp_and_registers(rest);
+    match (number_in(pc), number_in(sp), first) {
+        (Some(pc), Some(sp), Some(first)) => Some(Start { pc, sp, first }),
+        _ => None,
+    }
 }
 
 /// What a value of an option writes.
