@@ -7,6 +7,7 @@ pub mod Loading
 pub mod Placed
 mod Clashing
 mod Appending
+mod Found
 pub mod Sizes
 mod Making
 pub mod Rows
