@@ -55,3 +55,8 @@ if_wants (Wants reference) (Want wanted) is f given = f given
 if_wants (Wants reference) (Retired state) is f given = absurd is
 if_wants (Wants reference) (Exited state) is f given = absurd is
 if_wants (Wants reference) (Raised exception state) is f given = absurd is
+
+-- a fact follows where a step wants a reply
+pub wants_map : {A B : Type 0} (result : Step) → (A → B) → IfWants result A → IfWants result B
+wants_map (Leaves last) f given = tt
+wants_map (Wants reference) f given = f given

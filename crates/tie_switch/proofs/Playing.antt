@@ -1,12 +1,13 @@
 -- What an instruction without strings comes to, gone through from its begin.
 use Rattle.std.proofs.Common.{◌≡◌, ℕ, ◌+◌, ◌<◌, List, [], ◌∷◌, ◌++◌, length, true, false, Option, Some, None, refl, sym, ap, ◌∙◌, subst, arith}
 use Rattle.std.specs.Option.{option_map_or}
+use Rattle.std.specs.Prelude.{IfSome}
 use Rattle.std.proofs.lemmas.List.{append-nil, length-append}
 use Rattle.vax_form.specs.Grammar.{Found, instruction, reserved_instruction, reserved_mode, past}
 use Rattle.vax_form.specs.GrammarFound.{found}
 use Rattle.vax_form.specs.Operation.{operation_at}
 use Rattle.vax_form.specs.Row.{is_long_operation}
-use Rattle.vax_form.specs.Tree.{answer, instruction_tree, outcome}
+use Rattle.vax_form.specs.Tree.{Answer, answer, instruction_tree, outcome}
 use Rattle.vax_form.specs.declared.instr.Instr.{Instr}
 use Rattle.vax_form.specs.declared.operation.LongOperation.{LongOperation}
 use Rattle.vax_form.specs.declared.operation.LongOperation.TheVariants as long
@@ -15,7 +16,7 @@ use Rattle.vax_form.specs.declared.operation.Operation.TheVariants as operations
 use Rattle.vax_form.specs.declared.pages.Pages.{Pages}
 use Rattle.vax_form.specs.declared.state.Pending.TheVariants.{Nothing}
 use Rattle.vax_form.specs.declared.state.VaxState.{VaxState}
-use Rattle.vax_long.specs.Instructions.{either_script, long_at, long_operation, long_script, script_found, tree_at}
+use Rattle.vax_long.specs.Instructions.{either_script, long_at, long_operation, long_script, script_found}
 use Rattle.vax_long.specs.Pending.{moment_at}
 use Rattle.tie_operands.specs.Replies.{list_of}
 use Rattle.tie_operands.specs.Steps as made
@@ -27,12 +28,12 @@ use Rattle.tie_strings.specs.Bodies.{long_of, plain_of}
 use Rattle.tie_strings.specs.Whole.{IsLong}
 use Rattle.tie_strings.specs.declared.body.Plain.{Plain}
 use Rattle.tie_strings.specs.declared.body.Plain.TheVariants as plains
-use Rattle.tie_switch.specs.Interpreted.{ComesTo, HasStrings, HasStringsBy, IfWants, IsPlayed, IsWant, Stands, handled_answer, kept_of, step_of}
+use Rattle.tie_switch.specs.Interpreted.{ComesTo, HasStrings, HasStringsBy, IfWants, IsPlayed, IsWant, Stands, StepsBy, handled_answer, kept_of, step_of}
 use Rattle.tie_switch.specs.declared.interpreted.Interpreted.{Interpreted}
 use Rattle.tie_switch.specs.declared.interpreted.Step.{Step}
 use Rattle.tie_switch.specs.declared.played.Played.{Played}
 use Rattle.tie_switch.proofs.Found.{short_is}
-use Rattle.tie_switch.proofs.Handled.{if_wants, moment_step}
+use Rattle.tie_switch.proofs.Handled.{if_wants, moment_step, wants_map}
 
 -- ---- which instructions have strings
 strings_by : (o : Option Operation) → HasStringsBy (long_operation o) → option_map_or is_long_operation o false ≡ true
@@ -128,10 +129,25 @@ plain_comes pages thread before instr operation plain replies given step is some
       whole = some_plain (long_at instr.opcode) operation plain is some;
     })
 
+-- and its step, where the handler takes its exceptions
+pub handled_comes : (pages : Pages) (thread : ℕ) (before : VaxState) (there : Found) (replies : List ℕ) (step : TieStep) (result : Step) → ComesTo pages thread before there replies step
+    → ((state : VaxState) (a : Answer) → step ≡ made.step_of (outcome state a) → FailsByFault a → result ≡ step_of (handled_answer state a)) → IfWants result (IsWant step)
+    → StepsBy pages thread before there replies result
+handled_comes pages thread before there replies step result comes handled wants = record {
+  answers = handled before (answer pages (instruction_tree pages (script_found there thread) before) replies) comes.answers comes.faults;
+  few = if_wants result step wants (λ (few : length replies < 60). few) comes.few;
+  whole = comes.whole;
+}
+
+-- a fact of what there is follows from another
+pub some_map : {A : Type 0} {P Q : A → Type 0} (o : Option A) → ((x : A) → P x → Q x) → IfSome o P → IfSome o Q
+some_map None f given = tt
+some_map (Some x) f given = f x given
+
 -- ---- the next reply
-module _ (pages : Pages) (old new : Played) (reply : Option ℕ) (given : List ℕ) (step : TieStep) (before : new.before ≡ old.before) (thread_kept : new.thread ≡ old.thread)
+module _ (pages : Pages) (old new : Played) (reply : Option ℕ) (given : List ℕ) (step : Step) (before : new.before ≡ old.before) (thread_kept : new.thread ≡ old.thread)
     (kept : length (kept_of old) < 60 → kept_of new ≡ kept_of old ++ list_of reply) (gives : length (kept_of new) < 61 → given ≡ kept_of new)
-    (comes : ComesTo pages new.thread new.before (found pages new.before.pc) given step) (thread : ℕ) (state : VaxState) (replies : List ℕ) (p : IsPlayed pages thread old state replies) where
+    (comes : StepsBy pages new.thread new.before (found pages new.before.pc) given step) (thread : ℕ) (state : VaxState) (replies : List ℕ) (p : IsPlayed pages thread old state replies) where
   same_state : new.before ≡ state
   same_state = before ∙ p.before
 
@@ -145,11 +161,11 @@ module _ (pages : Pages) (old new : Played) (reply : Option ℕ) (given : List �
   all_given : given ≡ replies ++ list_of reply
   all_given = gives (subst (λ (r : List ℕ). length r < 61) (sym all_kept) (few_more replies reply p.room)) ∙ all_kept
 
-  comes_there : ComesTo pages thread state (found pages state.pc) (replies ++ list_of reply) step
+  comes_there : StepsBy pages thread state (found pages state.pc) (replies ++ list_of reply) step
   comes_there =
-      subst (λ (r : List ℕ). ComesTo pages thread state (found pages state.pc) r step) all_given
-      (subst (λ (s : VaxState). ComesTo pages thread s (found pages s.pc) given step) same_state
-      (subst (λ (t : ℕ). ComesTo pages t new.before (found pages new.before.pc) given step) (thread_kept ∙ p.of_thread) comes))
+      subst (λ (r : List ℕ). StepsBy pages thread state (found pages state.pc) r step) all_given
+      (subst (λ (s : VaxState). StepsBy pages thread s (found pages s.pc) given step) same_state
+      (subst (λ (t : ℕ). StepsBy pages t new.before (found pages new.before.pc) given step) (thread_kept ∙ p.of_thread) comes))
 
   still_played : length (replies ++ list_of reply) < 60 → IsPlayed pages thread new state (replies ++ list_of reply)
   still_played room = record {
@@ -161,14 +177,11 @@ module _ (pages : Pages) (old new : Played) (reply : Option ℕ) (given : List �
     whole = λ strings. absurd (comes_there.whole strings);
   }
 
-  -- its step, whose exceptions the handler takes
-  pub played_answers : (result : Step) → (step ≡ made.step_of (outcome state (answer pages (tree_at pages thread state) (replies ++ list_of reply)))
-      → FailsByFault (answer pages (tree_at pages thread state) (replies ++ list_of reply)) → result ≡ step_of (handled_answer state (answer pages (tree_at pages thread state) (replies ++ list_of reply))))
-      → result ≡ step_of (answer pages (moment_at pages thread state) (replies ++ list_of reply))
-  played_answers result handled = handled comes_there.answers comes_there.faults ∙ moment_step pages thread state (replies ++ list_of reply) p.nothing
+  pub played_answers : step ≡ step_of (answer pages (moment_at pages thread state) (replies ++ list_of reply))
+  played_answers = comes_there.answers ∙ moment_step pages thread state (replies ++ list_of reply) p.nothing
 
-  pub played_stands : (result : Step) → IfWants result (IsWant step) → IfWants result (IsPlayed pages thread new state (replies ++ list_of reply))
-  played_stands result wants = if_wants result step wants still_played comes_there.few
+  pub played_stands : IfWants step (IsPlayed pages thread new state (replies ++ list_of reply))
+  played_stands = wants_map step still_played comes_there.few
 
 -- ---- strings, which are begun with no replies
 module _ (pages : Pages) (old new : Played) (reply : Option ℕ) (before : new.before ≡ old.before) (thread_kept : new.thread ≡ old.thread) (strings : HasStrings (found pages old.before.pc))

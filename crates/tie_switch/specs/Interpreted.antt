@@ -20,11 +20,15 @@ use Rattle.tie_strings.specs.Bodies.{plain_of}
 use Rattle.tie_strings.specs.Whole as long
 use Rattle.tie_switch.specs.declared.place.Last.{Last}
 use Rattle.tie_switch.specs.declared.place.Last.TheVariants as lasts
+use Rattle.tie_switch.specs.declared.place.Ending.{Ending}
+use Rattle.tie_switch.specs.declared.place.Ending.TheVariants as endings
 use Rattle.tie_switch.specs.declared.interpreted.Interpreted.{Interpreted}
 use Rattle.tie_switch.specs.declared.interpreted.Interpreted.TheVariants.{Plays, Long, Awaits}
 use Rattle.tie_switch.specs.declared.played.Played.{Played}
 use Rattle.tie_switch.specs.declared.interpreted.Step.{Step}
 use Rattle.tie_switch.specs.declared.interpreted.Step.TheVariants as steps
+use Rattle.tie_switch.specs.declared.interpreted.Came.{Came}
+use Rattle.tie_switch.specs.declared.interpreted.Came.TheVariants as comes
 
 -- a delivery and a resumption make so many references at most
 abbrev pub replies_of_pending : ℕ
@@ -37,6 +41,17 @@ step_of (Fails exception) = steps.Leaves (lasts.Fault exception)
 step_of (Comes (Finish state) left) = steps.Leaves (lasts.Finish state)
 step_of (Comes (Exit state) left) = steps.Leaves (lasts.Exit state)
 step_of (Comes (Trap kind state) left) = steps.Leaves (lasts.Trap kind state)
+
+-- ---- an end and a step with the state behind them
+abbrev pub last_with : Ending → VaxState → Last
+last_with endings.Finish after = lasts.Finish after
+last_with endings.Exit after = lasts.Exit after
+last_with (endings.Trap kind) after = lasts.Trap kind after
+last_with (endings.Fault exception) after = lasts.Fault exception
+
+abbrev pub step_with : Came → VaxState → Step
+step_with (comes.Wants reference) after = steps.Wants reference
+step_with (comes.Leaves ending) after = steps.Leaves (last_with ending after)
 
 -- ---- what is interpreted
 abbrev pub HasStringsBy : Option LongOperation → Type 0
@@ -91,6 +106,12 @@ abbrev pub handled_answer : (before : VaxState) → Answer → Answer
 handled_answer before (Wants reference) = Wants reference
 handled_answer before (Fails exception) = handled_failure before exception []
 handled_answer before (Comes e left) = Comes (handled_ending e) left
+
+-- a step of an instruction without strings is what it comes to with these replies, and its handler took its exceptions
+pub record StepsBy (pages : Pages) (thread : ℕ) (before : VaxState) (there : Found) (replies : List ℕ) (step : Step) : Type 0 where
+  pub answers : step ≡ step_of (handled_answer before (answer pages (instruction_tree pages (script_found there thread) before) replies))
+  pub few : IfWants step (length replies < replies_of_instruction)
+  pub whole : HasStrings there → ⊥
 
 -- an arithmetic exception of an instruction is a trap, and every other a fault
 abbrev pub raised_last : Exception → VaxState → Last

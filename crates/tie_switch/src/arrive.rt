@@ -7,6 +7,7 @@ ghost use Rattle.system_model.specs.Processors as model;
 ghost use Rattle.system_model.specs.Settings as settings;
 ghost use Rattle.system_model.specs.Legal.{spent};
 ghost use Rattle.system_model.specs.Steps.{Inside, place_of, settled_last};
+ghost use Rattle.tie_switch.specs.Interpreted.{last_with};
 ghost use Rattle.tie_switch.specs.Processors.{IsMode};
 ghost use Rattle.tie_switch.specs.Seen as seen;
 ghost use Rattle.tie_switch.specs.Seen.{setting_of};
@@ -14,8 +15,8 @@ ghost use Rattle.tie_switch.specs.Turns.{has_ended};
 ghost use Rattle.vax_driven.specs.declared.thread.End.TheVariants as ends;
 ghost use Rattle.vax_form.specs.declared.pages.Pages.{Pages};
 
-use crate::interpreted::Interpreted;
-use crate::place::{Last, Place};
+use crate::interpreted::{Interpreted, NO_STATE};
+use crate::place::{Ending, Last, Place};
 use crate::processor::{Mode, Processor};
 use crate::registers::registers_of;
 use crate::setting::{Setting, goes_on};
@@ -190,25 +191,38 @@ impl Processor {
         }
     }
 
-    /// Its instruction ended: it goes on, or it ends. A fault retires nothing and leaves the boundary.
-    pub(crate) fn leave(&mut self, setting: Setting<'_>, last: Last)
+    /// Its instruction ended, with that state behind it: it goes on, or it ends. A fault retires nothing and leaves the boundary.
+    pub(crate) fn leave_by(&mut self, setting: Setting<'_>, ending: Ending, after: &VaxState)
+        requires { self.old.retired < self.old.steps }
+        ensures stands { (mode : model.Mode) → StandsFor setting.entry.pages.now self.new (left (setting_of setting.entry) (in_mode self.old mode) (seen.last_of (last_with ending after.now))) }
+        ensures budget { self.new.budget ≡ self.old.budget }
+        ensures thread { self.new.thread ≡ self.old.thread }
+        ensures steps { self.new.steps ≡ self.old.steps }
+    {
+        match ending {
+            Ending::Finish => {
+                self.stand(setting, after);
+                self.pass(*after, Flags::ALL);
+            }
+            Ending::Exit => self.retire_and_end(*after, End::Exit(after.register(0))),
+            Ending::Trap(kind) => {
+                self.retire_and_end(*after, End::Raised(Exception::Arithmetic(kind)));
+            }
+            Ending::Fault(exception) => self.fail(exception),
+        }
+    }
+
+    // The same of an end that carries the state behind it.
+    fn leave(&mut self, setting: Setting<'_>, last: Last)
         requires { self.old.retired < self.old.steps }
         ensures stands { (mode : model.Mode) → StandsFor setting.entry.pages.now self.new (left (setting_of setting.entry) (in_mode self.old mode) (seen.last_of last)) }
         ensures budget { self.new.budget ≡ self.old.budget }
         ensures thread { self.new.thread ≡ self.old.thread }
         ensures steps { self.new.steps ≡ self.old.steps }
     {
-        match last {
-            Last::Finish(state) => {
-                self.stand(setting, &state);
-                self.pass(state, Flags::ALL);
-            }
-            Last::Exit(state) => self.retire_and_end(state, End::Exit(state.register(0))),
-            Last::Trap(kind, state) => {
-                self.retire_and_end(state, End::Raised(Exception::Arithmetic(kind)));
-            }
-            Last::Fault(exception) => self.fail(exception),
-        }
+        let mut after = NO_STATE;
+        let ending = last.put(&mut after);
+        self.leave_by(setting, ending, &after);
     }
 
     // Goes on inside a block with those registers, and counts the step.

@@ -1,15 +1,18 @@
 // What a thread does at a state, interpreted a reference at a time.
 ghost use Rattle.std.specs.Prelude.{◌≡◌, []};
+ghost use Rattle.tie_strings.specs.Whole as strings;
 ghost use Rattle.tie_strings.specs.Whole.{IsLong};
-ghost use Rattle.tie_switch.specs.Interpreted.{raised_last};
+ghost use Rattle.system_model.specs.Steps.{settled_last};
+ghost use Rattle.tie_switch.specs.Interpreted.{last_with, raised_last};
 ghost use Rattle.tie_switch.specs.Known.{AreFound};
+ghost use Rattle.tie_switch.specs.Seen.{last_of};
 ghost use Rattle.vax_form.specs.GrammarFound.{found};
 ghost use Rattle.vax_form.specs.declared.state.Pending.TheVariants.{Nothing};
 
 use crate::arrive::settled;
 use crate::known::there;
 use crate::pending::PendingTie;
-use crate::place::Last;
+use crate::place::{Ending, Last};
 use crate::played::Played;
 use tie_operands::TieStep;
 use tie_strings::LongTie;
@@ -34,31 +37,71 @@ fn raised(exception: Exception, state: &VaxState) -> Last
     }
 }
 
-impl Step {
+/// What a step comes to, but for the state behind it.
+#[derive(Clone, Copy)]
+pub(crate) enum Came {
+    Wants(Reference),
+    Leaves(Ending),
+}
+
+/// How an instruction ends that raises an exception, where its handler takes it; the state behind it is put there.
+#[inline(never)]
+fn raised_to(exception: Exception, state: &VaxState, after: &mut VaxState) -> Ending
+    ensures { last_of (last_with result after.new) ≡ settled_last state.now (last_of (raised_last exception state.now)) }
+{
+    settled(state, raised(exception, state)).put(after)
+}
+
+impl Came {
     ghost use Rattle.vax_form.specs.Tree.{Answer, outcome};
     ghost use Rattle.vax_form.specs.declared.state.VaxState.{VaxState};
     ghost use Rattle.tie_operands.specs.Steps as ties;
     ghost use Rattle.tie_operands.specs.Steps.{FailsByFault};
-    ghost use Rattle.tie_switch.specs.Interpreted.{handled_answer, step_of, IfWants, IsWant};
+    ghost use Rattle.tie_switch.specs.Interpreted.{handled_answer, step_of, step_with, IfWants, IsWant};
 
     /// The step of an instruction whose exceptions the handler takes, by the instruction's own. What is raised carries
-    /// the state whose handler takes it.
+    /// the state whose handler takes it. The state behind it, where there is one, is put there.
     #[inline(always)]
-    pub(crate) fn handled(step: TieStep) -> Step
-        ensures answers { (before : VaxState) (answer : Answer) → step ≡ ties.step_of (outcome before answer) → FailsByFault answer
-            → result ≡ step_of (handled_answer before answer) }
-        ensures wants { IfWants result (IsWant step) }
+    pub(crate) fn handled(step: &TieStep, after: &mut VaxState) -> Came
+        ensures answers { (before : VaxState) (answer : Answer) → step.now ≡ ties.step_of (outcome before answer) → FailsByFault answer
+            → step_with result after.new ≡ step_of (handled_answer before answer) }
+        ensures wants { IfWants (step_with result after.new) (IsWant step.now) }
     {
         match step {
-            TieStep::Want(reference) => Step::Wants(reference),
-            TieStep::Retired(state) => Step::Leaves(Last::Finish(state)),
-            TieStep::Exited(state) => Step::Leaves(Last::Exit(state)),
+            TieStep::Want(reference) => Came::Wants(*reference),
+            TieStep::Retired(state) => {
+                *after = *state;
+                Came::Leaves(Ending::Finish)
+            }
+            TieStep::Exited(state) => {
+                *after = *state;
+                Came::Leaves(Ending::Exit)
+            }
             TieStep::Raised(exception, state) => {
-                Step::Leaves(settled(&state, raised(exception, &state)))
+                Came::Leaves(raised_to(*exception, state, after))
             }
         }
     }
+
+    // The step with the state behind it.
+    fn step(self, after: &VaxState) -> Step
+        ensures { result ≡ step_with self after.now }
+    {
+        match self {
+            Came::Wants(reference) => Step::Wants(reference),
+            Came::Leaves(ending) => Step::Leaves(ending.last(after)),
+        }
+    }
 }
+
+/// A state to be written over.
+pub(crate) const NO_STATE: VaxState = VaxState {
+    r: [0; 15],
+    pc: 0,
+    psw: 0,
+    handler: 0,
+    pending: Pending::Nothing,
+};
 
 /// An instruction whose exceptions the thread's handler takes, or what is pending.
 #[derive(Clone, Copy, Debug)]
@@ -72,12 +115,12 @@ pub enum Interpreted {
 
 impl Interpreted {
     ghost use Rattle.std.specs.Prelude.{ℕ, List, ◌++◌};
-    ghost use Rattle.vax_form.specs.Tree.{answer};
+    ghost use Rattle.vax_form.specs.Tree.{Tree, answer};
     ghost use Rattle.vax_form.specs.declared.pages.Pages.{Pages};
     ghost use Rattle.vax_form.specs.declared.state.VaxState.{VaxState};
     ghost use Rattle.vax_long.specs.Pending.{moment_at};
     ghost use Rattle.tie_operands.specs.Replies.{list_of};
-    ghost use Rattle.tie_switch.specs.Interpreted.{step_of, Stands, IfWants};
+    ghost use Rattle.tie_switch.specs.Interpreted.{handled_answer, step_of, step_with, Stands, IfWants};
 
     /// Begins what the thread does at a state.
     #[inline(never)]
@@ -118,6 +161,22 @@ impl Interpreted {
         self.step_by(pages, &mut [], reply)
     }
 
+    // Goes on in an instruction with strings to its next reference or to its end, where the state behind it is put.
+    #[inline(always)]
+    fn strings_step(
+        tie: &mut LongTie,
+        pages: &Pages,
+        reply: Option<u64>,
+        after: &mut VaxState,
+    ) -> Came
+        ensures answers { (state : VaxState) (tree : Tree) (replies : List ℕ) → strings.Stands pages.now tie.old state tree replies
+            → step_with result after.new ≡ step_of (handled_answer state (answer pages.now tree (replies ++ list_of reply))) }
+        ensures stands { (state : VaxState) (tree : Tree) (replies : List ℕ) → strings.Stands pages.now tie.old state tree replies
+            → IfWants (step_with result after.new) (strings.Stands pages.now tie.new state tree (replies ++ list_of reply)) }
+    {
+        Came::handled(&tie.step(pages, reply), after)
+    }
+
     // Begins an instruction with strings, and goes on to its first reference or to the end.
     #[inline(never)]
     fn begin_strings(
@@ -127,18 +186,19 @@ impl Interpreted {
         known: &mut [Option<Instr>],
         thread: u8,
         reply: Option<u64>,
-    ) -> Step
+        after: &mut VaxState,
+    ) -> Came
         requires known { AreFound pages.now known.old }
         requires long { IsLong (found pages.now before.now.pc) }
         ensures known { AreFound pages.now known.new }
-        ensures answers { before.now.pending ≡ Nothing → result ≡ step_of (answer pages.now (moment_at pages.now thread before.now) (list_of reply)) }
-        ensures stands { before.now.pending ≡ Nothing → IfWants result (Stands pages.now thread self.new before.now (list_of reply)) }
+        ensures answers { before.now.pending ≡ Nothing → step_with result after.new ≡ step_of (answer pages.now (moment_at pages.now thread before.now) (list_of reply)) }
+        ensures stands { before.now.pending ≡ Nothing → IfWants (step_with result after.new) (Stands pages.now thread self.new before.now (list_of reply)) }
     {
         let decoded = there(pages, known, before.pc);
         let mut tie = LongTie::begin_decoded(before, &decoded, thread);
-        let step = Step::handled(tie.step(pages, reply));
+        let came = Interpreted::strings_step(&mut tie, pages, reply, after);
         *self = Interpreted::Long(tie);
-        step
+        came
     }
 
     /// The same, by the instructions that are known.
@@ -156,16 +216,37 @@ impl Interpreted {
         ensures stands { (thread : ℕ) (state : VaxState) (replies : List ℕ) → Stands pages.now thread self.old state replies
             → IfWants result (Stands pages.now thread self.new state (replies ++ list_of reply)) }
     {
+        let mut after = NO_STATE;
+        let came = self.go_on(pages, known, reply, &mut after);
+        came.step(&after)
+    }
+
+    /// The same; the state behind the step, where there is one, is put there.
+    #[inline(always)]
+    pub(crate) fn go_on(
+        &mut self,
+        pages: &Pages,
+        known: &mut [Option<Instr>],
+        reply: Option<u64>,
+        after: &mut VaxState,
+    ) -> Came
+        requires known { AreFound pages.now known.old }
+        ensures known { AreFound pages.now known.new }
+        ensures answers { (thread : ℕ) (state : VaxState) (replies : List ℕ) → Stands pages.now thread self.old state replies
+            → step_with result after.new ≡ step_of (answer pages.now (moment_at pages.now thread state) (replies ++ list_of reply)) }
+        ensures stands { (thread : ℕ) (state : VaxState) (replies : List ℕ) → Stands pages.now thread self.old state replies
+            → IfWants (step_with result after.new) (Stands pages.now thread self.new state (replies ++ list_of reply)) }
+    {
         match self {
-            Interpreted::Plays(played) => match played.step(pages, known, reply) {
-                Some(step) => step,
+            Interpreted::Plays(played) => match played.step(pages, known, reply, after) {
+                Some(came) => came,
                 None => {
                     let (before, thread) = (played.before, played.thread);
-                    self.begin_strings(&before, pages, known, thread, reply)
+                    self.begin_strings(&before, pages, known, thread, reply, after)
                 }
             },
-            Interpreted::Long(tie) => Step::handled(tie.step(pages, reply)),
-            Interpreted::Awaits(tie) => tie.step(pages, reply),
+            Interpreted::Long(tie) => Interpreted::strings_step(tie, pages, reply, after),
+            Interpreted::Awaits(tie) => tie.step(pages, reply, after),
         }
     }
 }

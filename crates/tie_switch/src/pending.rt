@@ -3,8 +3,8 @@ ghost use Rattle.std.specs.Prelude.{◌≡◌, ◌≢◌, ◌<◌, length};
 ghost use Rattle.vax_form.specs.declared.state.Pending.TheVariants.{Nothing};
 ghost use Rattle.tie_operands.specs.Replies.{replies_of};
 
-use crate::interpreted::Step;
-use crate::place::Last;
+use crate::interpreted::Came;
+use crate::place::Ending;
 use tie_operands::Replies;
 use vax_form::{Outcome, Pages, VaxState};
 use vax_long::next_pending;
@@ -26,7 +26,7 @@ impl PendingTie {
     ghost use Rattle.vax_form.specs.Tree.{answer};
     ghost use Rattle.vax_long.specs.Pending.{moment_at};
     ghost use Rattle.tie_operands.specs.Replies.{list_of};
-    ghost use Rattle.tie_switch.specs.Interpreted.{step_of, IfWants};
+    ghost use Rattle.tie_switch.specs.Interpreted.{step_of, step_with, IfWants};
 
     /// Begins what is pending.
     pub(crate) fn begin(state: &VaxState) -> PendingTie
@@ -40,22 +40,29 @@ impl PendingTie {
         }
     }
 
-    /// Goes on to the next reference or to the end. Whatever it raises is a fault: a delivery that fails raises the
+    /// Goes on to the next reference or to the end, where the state behind it is put. Whatever it raises is a fault: a delivery that fails raises the
     /// exception that it was to deliver, an arithmetic one too.
-    pub(crate) fn step(&mut self, pages: &Pages, reply: Option<u64>) -> Step
-        ensures answers { (thread : ℕ) → result ≡ step_of (answer pages.now (moment_at pages.now thread self.old.before) (replies_of self.old.kept ++ list_of reply)) }
-        ensures kept { IfWants result (replies_of self.new.kept ≡ replies_of self.old.kept ++ list_of reply) }
+    #[inline(never)]
+    pub(crate) fn step(&mut self, pages: &Pages, reply: Option<u64>, after: &mut VaxState) -> Came
+        ensures answers { (thread : ℕ) → step_with result after.new ≡ step_of (answer pages.now (moment_at pages.now thread self.old.before) (replies_of self.old.kept ++ list_of reply)) }
+        ensures kept { IfWants (step_with result after.new) (replies_of self.new.kept ≡ replies_of self.old.kept ++ list_of reply) }
         ensures before { self.new.before ≡ self.old.before }
     {
         let given = self.kept.with(reply);
         match next_pending(&self.before, pages, given.as_slice()) {
             Outcome::Wants(reference) => {
                 self.kept = given;
-                Step::Wants(reference)
+                Came::Wants(reference)
             }
-            Outcome::Done(state) => Step::Leaves(Last::Finish(state)),
-            Outcome::Exits(state) => Step::Leaves(Last::Exit(state)),
-            Outcome::Raises(exception, _) => Step::Leaves(Last::Fault(exception)),
+            Outcome::Done(state) => {
+                *after = state;
+                Came::Leaves(Ending::Finish)
+            }
+            Outcome::Exits(state) => {
+                *after = state;
+                Came::Leaves(Ending::Exit)
+            }
+            Outcome::Raises(exception, _) => Came::Leaves(Ending::Fault(exception)),
         }
     }
 }

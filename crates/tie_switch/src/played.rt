@@ -1,7 +1,7 @@
 // An instruction without strings, gone through anew with each reply.
 ghost use Rattle.std.specs.Prelude.{◌≡◌, ◌<◌, ◌++◌, ◌∷◌, ℕ, List, [], length, IfSome, IfNone};
 ghost use Rattle.tie_operands.specs.Replies.{list_of};
-ghost use Rattle.tie_switch.specs.Interpreted.{ComesTo, HasStrings, IfWants, IsPlayed, kept_of, step_of};
+ghost use Rattle.tie_switch.specs.Interpreted.{HasStrings, IfWants, IsPlayed, StepsBy, kept_of, step_of, step_with};
 ghost use Rattle.tie_switch.specs.Known.{AreFound};
 ghost use Rattle.vax_form.specs.Grammar.{instruction};
 ghost use Rattle.vax_form.specs.GrammarFound.{found};
@@ -9,10 +9,9 @@ ghost use Rattle.vax_form.specs.Tree.{answer};
 ghost use Rattle.vax_form.specs.declared.state.VaxState.{VaxState};
 ghost use Rattle.vax_long.specs.Pending.{moment_at};
 
-use crate::interpreted::Step;
+use crate::interpreted::Came;
 use crate::known::{decoded_at, place_of};
 use tie_interpreter::{played_instr, played_short};
-use tie_operands::TieStep;
 use tie_strings::{plain_of, played_long};
 use vax_decode::Decoded;
 use vax_form::{Instr, Pages, VaxState};
@@ -95,14 +94,26 @@ impl Played {
 
     // Goes through an instruction; None where it has strings.
     #[inline(always)]
-    fn go_through(&self, instr: &Instr, pages: &Pages, replies: &[u64]) -> Option<TieStep>
-        ensures comes { IfSome result (ComesTo pages.now self.now.thread self.now.before (instruction instr.now) replies.now) }
+    fn go_through(
+        &self,
+        instr: &Instr,
+        pages: &Pages,
+        replies: &[u64],
+        after: &mut VaxState,
+    ) -> Option<Came>
+        ensures comes { IfSome result (λ came. StepsBy pages.now self.now.thread self.now.before (instruction instr.now) replies.now (step_with came after.new)) }
         ensures strings { IfNone result (HasStrings (instruction instr.now)) }
     {
         match long_operation_of(instr.opcode) {
-            None => Some(played_instr(&self.before, instr, pages, self.thread, replies)),
+            None => {
+                let (before, thread) = (&self.before, self.thread);
+                Some(Came::handled(&played_instr(before, instr, pages, thread, replies), after))
+            }
             Some(operation) => match plain_of(operation) {
-                Some(plain) => Some(played_long(&self.before, plain, instr, pages, replies)),
+                Some(plain) => {
+                    let before = &self.before;
+                    Some(Came::handled(&played_long(before, plain, instr, pages, replies), after))
+                }
                 None => None,
             },
         }
@@ -115,17 +126,19 @@ impl Played {
         pages: &Pages,
         known: &mut [Option<Instr>],
         replies: &[u64],
-    ) -> Option<TieStep>
+        after: &mut VaxState,
+    ) -> Option<Came>
         requires known { AreFound pages.now known.old }
         ensures known { AreFound pages.now known.new }
-        ensures comes { IfSome result (ComesTo pages.now self.now.thread self.now.before (found pages.now self.now.before.pc) replies.now) }
+        ensures comes { IfSome result (λ came. StepsBy pages.now self.now.thread self.now.before (found pages.now self.now.before.pc) replies.now (step_with came after.new)) }
         ensures strings { IfNone result (HasStrings (found pages.now self.now.before.pc)) }
     {
         let decoded = decoded_at(pages, known, self.before.pc);
         match &decoded {
-            Decoded::Instr(instr) => self.go_through(instr, pages, replies),
+            Decoded::Instr(instr) => self.go_through(instr, pages, replies, after),
             Decoded::Reserved | Decoded::BadMode | Decoded::Past(_) => {
-                Some(played_short(&self.before, &decoded, pages, self.thread, replies))
+                let step = played_short(&self.before, &decoded, pages, self.thread, replies);
+                Some(Came::handled(&step, after))
             }
         }
     }
@@ -137,43 +150,42 @@ impl Played {
         pages: &Pages,
         known: &mut [Option<Instr>],
         replies: &[u64],
-    ) -> Option<TieStep>
+        after: &mut VaxState,
+    ) -> Option<Came>
         requires known { AreFound pages.now known.old }
         ensures known { AreFound pages.now known.new }
-        ensures comes { IfSome result (ComesTo pages.now self.now.thread self.now.before (found pages.now self.now.before.pc) replies.now) }
+        ensures comes { IfSome result (λ came. StepsBy pages.now self.now.thread self.now.before (found pages.now self.now.before.pc) replies.now (step_with came after.new)) }
         ensures strings { IfNone result (HasStrings (found pages.now self.now.before.pc)) }
     {
         let pc = self.before.pc;
         if let Some(Some(instr)) = known.get(place_of(pc)) {
             if instr.at == pc {
-                return self.go_through(instr, pages, replies);
+                return self.go_through(instr, pages, replies, after);
             }
         }
-        self.go_through_new(pages, known, replies)
+        self.go_through_new(pages, known, replies, after)
     }
 
-    /// Goes on to the next reference or to the end; None where the instruction has strings.
+    /// Goes on to the next reference or to the end, where the state behind it is put; None where the instruction has strings.
     #[inline(always)]
     pub(crate) fn step(
         &mut self,
         pages: &Pages,
         known: &mut [Option<Instr>],
         reply: Option<u64>,
-    ) -> Option<Step>
+        after: &mut VaxState,
+    ) -> Option<Came>
         requires known { AreFound pages.now known.old }
         ensures known { AreFound pages.now known.new }
         ensures before { self.new.before ≡ self.old.before }
         ensures thread { self.new.thread ≡ self.old.thread }
-        ensures answers { IfSome result (λ step. (thread : ℕ) (state : VaxState) (replies : List ℕ) → IsPlayed pages.now thread self.old state replies
-            → step ≡ step_of (answer pages.now (moment_at pages.now thread state) (replies ++ list_of reply))) }
-        ensures stands { IfSome result (λ step. (thread : ℕ) (state : VaxState) (replies : List ℕ) → IsPlayed pages.now thread self.old state replies
-            → IfWants step (IsPlayed pages.now thread self.new state (replies ++ list_of reply))) }
+        ensures answers { IfSome result (λ came. (thread : ℕ) (state : VaxState) (replies : List ℕ) → IsPlayed pages.now thread self.old state replies
+            → step_with came after.new ≡ step_of (answer pages.now (moment_at pages.now thread state) (replies ++ list_of reply))) }
+        ensures stands { IfSome result (λ came. (thread : ℕ) (state : VaxState) (replies : List ℕ) → IsPlayed pages.now thread self.old state replies
+            → IfWants (step_with came after.new) (IsPlayed pages.now thread self.new state (replies ++ list_of reply))) }
         ensures strings { IfNone result (HasStrings (found pages.now self.old.before.pc)) }
     {
         self.take(reply);
-        match self.go_through_known(pages, known, self.replies()) {
-            Some(step) => Some(Step::handled(step)),
-            None => None,
-        }
+        self.go_through_known(pages, known, self.replies(), after)
     }
 }

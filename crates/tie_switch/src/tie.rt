@@ -2,7 +2,7 @@
 ghost use Rattle.std.specs.Prelude.{◌≡◌, ◌<◌, ◌+◌, ◌++◌, ◌∷◌, ◌↔◌, ◌⊎◌, ◌&&◌, [], ℕ, List, false, true};
 ghost use Rattle.system_model.specs.Processors.{Interprets, tied, turn_in};
 ghost use Rattle.system_model.specs.Processors as model;
-ghost use Rattle.tie_switch.specs.Interpreted.{IfWants, step_of};
+ghost use Rattle.tie_switch.specs.Interpreted.{IfWants, step_of, step_with};
 ghost use Rattle.tie_switch.specs.Known.{AreFound};
 ghost use Rattle.tie_switch.specs.Live.{asks_get};
 ghost use Rattle.tie_switch.specs.Processors.{CanInterpret, HasMade, IsGiven, IsInterpreting, IsMode};
@@ -13,27 +13,32 @@ ghost use Rattle.vax_form.specs.declared.pages.Pages.{Pages};
 ghost use Rattle.vax_form.specs.declared.state.VaxState.{VaxState};
 ghost use Rattle.vax_long.specs.Pending.{moment_at};
 
-use crate::interpreted::Step;
+use crate::interpreted::{Came, NO_STATE};
 use crate::processor::{Mode, Processor};
 use crate::reference::reply_found;
 use crate::request::awaits;
 use crate::setting::Setting;
 use memory_core::{Memory, Reply};
-use vax_form::Instr;
+use vax_form::{Instr, Pages, VaxState};
 
 impl Processor {
     ghost use Rattle.tie_switch.specs.Processors.{in_mode, processor_of, StandsFor};
 
     // Goes on in what is interpreted, to its next reference or its end.
     #[inline(always)]
-    fn interpret(&mut self, pages: &vax_form::Pages, known: &mut [Option<Instr>]) -> Step
+    fn interpret(
+        &mut self,
+        pages: &Pages,
+        known: &mut [Option<Instr>],
+        after: &mut VaxState,
+    ) -> Came
         requires known { AreFound pages.now known.old }
         requires interprets { IsInterpreting self.old.mode }
         ensures known { AreFound pages.now known.new }
         ensures answers { (state : VaxState) (replies : List ℕ) → IsMode pages.now self.old.thread self.old.boundary self.old.mode (Interprets state replies)
-            → result ≡ step_of (answer pages.now (moment_at pages.now self.old.thread state) replies) }
+            → step_with result after.new ≡ step_of (answer pages.now (moment_at pages.now self.old.thread state) replies) }
         ensures stands { (state : VaxState) (replies : List ℕ) → IsMode pages.now self.old.thread self.old.boundary self.old.mode (Interprets state replies)
-            → IfWants result (IsMode pages.now self.old.thread self.old.boundary self.new.mode (Interprets state replies)) }
+            → IfWants (step_with result after.new) (IsMode pages.now self.old.thread self.old.boundary self.new.mode (Interprets state replies)) }
         ensures given { IsGiven self.new.mode }
         ensures same { (mode : model.Mode) → in_mode self.new mode ≡ in_mode self.old mode }
         ensures thread { self.new.thread ≡ self.old.thread }
@@ -41,7 +46,9 @@ impl Processor {
         ensures budget { self.new.budget ≡ self.old.budget }
     {
         match &mut self.mode {
-            Mode::Interprets(interpreted, reply) => interpreted.step_by(pages, known, reply.take()),
+            Mode::Interprets(interpreted, reply) => {
+                interpreted.go_on(pages, known, reply.take(), after)
+            }
             Mode::New | Mode::Runs(_) | Mode::Ended(_) => unreachable!(),
         }
     }
@@ -107,8 +114,9 @@ impl Processor {
             → HasMade (setting_of setting.entry) (M.set_up memory.old) (M.between memory.old) (turn_in (setting_of setting.entry) (in_mode self.old before) (Interprets state replies))
             (in_mode self.old before) self.new (M.seen memory.old) (M.seen memory.new) }
     {
-        match self.interpret(setting.pages, known) {
-            Step::Wants(reference) => {
+        let mut after = NO_STATE;
+        match self.interpret(setting.pages, known, &mut after) {
+            Came::Wants(reference) => {
                 let request = self.reference_request(&reference);
                 if awaits(waits, &request) {
                     return true;
@@ -120,9 +128,9 @@ impl Processor {
                     Reply::Full => self.spend(),
                 }
             }
-            Step::Leaves(last) => {
+            Came::Leaves(ending) => {
                 self.count_tie();
-                self.leave(setting, last);
+                self.leave_by(setting, ending, &after);
             }
         }
         false

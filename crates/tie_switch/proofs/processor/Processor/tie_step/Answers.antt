@@ -8,10 +8,11 @@ use Rattle.system_model.specs.Processors.{Interprets, Mode, Processor, Turn, lef
 use Rattle.system_model.specs.Quadwords.{reply_found}
 use Rattle.vax_form.specs.Tree.{Answer}
 use Rattle.vax_form.specs.declared.state.VaxState.{VaxState}
-use Rattle.tie_switch.specs.Interpreted.{IfWants}
+use Rattle.tie_switch.specs.Interpreted.{IfWants, last_with, step_with}
 use Rattle.tie_switch.specs.Live.{asks_get}
 use Rattle.tie_switch.specs.Processors.{HasMade, IsMode, StandsFor, in_mode}
 use Rattle.tie_switch.specs.Seen.{last_of, setting_of}
+use Rattle.tie_switch.specs.declared.interpreted.Came.{Came}
 use Rattle.tie_switch.specs.declared.interpreted.Step.{Step}
 use Rattle.tie_switch.proofs.Standing.{wants_is, leaves_is}
 use Rattle.tie_switch.proofs.Waiting.{interpreting, stands_in}
@@ -29,8 +30,8 @@ returns-in-Made-clause-turned g c goes before state replies h =
     let seen = g.M.Memory.seen c.args.memory.now in
     let seen' = g.M.Memory.seen c.access.new.self in
     let reply = reply_found reference c.in-Made.before in
-    let wants = wants_is _ reference (sym (c.interpret.ensures.answers state replies h) ∙ c.in-Wants.is) in
-    let there = subst (λ (s : Step). IfWants s (IsMode pages old.thread old.boundary c.interpret.new.self.mode (Interprets state replies))) c.in-Wants.is (c.interpret.ensures.stands state replies h) in
+    let wants = wants_is _ reference (sym (c.interpret.ensures.answers state replies h) ∙ ap (λ (x : Came). step_with x c.interpret.new.after) c.in-Wants.is) in
+    let there = subst (λ (s : Step). IfWants s (IsMode pages old.thread old.boundary c.interpret.new.self.mode (Interprets state replies))) (ap (λ (x : Came). step_with x c.interpret.new.after) c.in-Wants.is) (c.interpret.ensures.stands state replies h) in
     let same : (mode : Mode) → in_mode c.interpret.new.self mode ≡ in_mode old mode = c.interpret.ensures.same in
     let thread : c.interpret.new.self.thread ≡ old.thread = ap (λ (x : Processor). x.thread) (same before) in
     let retired : c.interpret.new.self.retired ≡ old.retired = ap (λ (x : Processor). x.retired) (same before) in
@@ -60,7 +61,7 @@ returns-in-Full-clause-turned g c goes before state replies h =
     let between = g.M.Memory.between c.args.memory.now in
     let seen = g.M.Memory.seen c.args.memory.now in
     let seen' = g.M.Memory.seen c.access.new.self in
-    let wants = wants_is _ reference (sym (c.interpret.ensures.answers state replies h) ∙ c.in-Wants.is) in
+    let wants = wants_is _ reference (sym (c.interpret.ensures.answers state replies h) ∙ ap (λ (x : Came). step_with x c.interpret.new.after) c.in-Wants.is) in
     let same : (mode : Mode) → in_mode c.interpret.new.self mode ≡ in_mode old mode = c.interpret.ensures.same in
     let thread : c.interpret.new.self.thread ≡ old.thread = ap (λ (x : Processor). x.thread) (same before) in
     let retired : c.interpret.new.self.retired ≡ old.retired = ap (λ (x : Processor). x.retired) (same before) in
@@ -82,13 +83,13 @@ returns-in-Leaves-clause-turned g c goes before state replies h =
     let set_up = g.M.Memory.set_up c.args.memory.now in
     let between = g.M.Memory.between c.args.memory.now in
     let seen = g.M.Memory.seen c.args.memory.now in
-    let last = c.in-Leaves.last in
-    let leaves = leaves_is setting p state replies _ last (sym (c.interpret.ensures.answers state replies h) ∙ c.in-Leaves.is) in
+    let last = last_with c.in-Leaves.ending c.interpret.new.after in
+    let leaves = leaves_is setting p state replies _ last (sym (c.interpret.ensures.answers state replies h) ∙ ap (λ (x : Came). step_with x c.interpret.new.after) c.in-Leaves.is) in
     let counted : in_mode c.count_tie.new.self before ≡ tied p = c.count_tie.ensures.tied before ∙ ap tied (c.interpret.ensures.same before) in
-    subst (λ (t : Turn). HasMade setting set_up between t p c.leave.new.self seen seen) (sym leaves)
+    subst (λ (t : Turn). HasMade setting set_up between t p c.leave_by.new.self seen seen) (sym leaves)
     (record {
       processor = left setting (tied p) (last_of last);
-      stands = subst (λ (x : Processor). StandsFor pages c.leave.new.self (left setting x (last_of last))) counted (c.leave.ensures.stands before);
+      stands = subst (λ (x : Processor). StandsFor pages c.leave_by.new.self (left setting x (last_of last))) counted (c.leave_by.ensures.stands before);
       makes = record { processor = refl; seen = refl };
     })
 
@@ -99,7 +100,7 @@ returns-then-awaits-clause-still g c waited p stands =
     let new = c.interpret.new.self in
     let u = interpreting pages old.thread old.boundary old.mode p.mode c.requires.interprets stands.mode in
     let at : IsMode pages old.thread old.boundary old.mode (Interprets old.boundary u.replies) = subst (λ (m : Mode). IsMode pages old.thread old.boundary old.mode m) u.is stands.mode in
-    let there = subst (λ (s : Step). IfWants s (IsMode pages old.thread old.boundary new.mode (Interprets old.boundary u.replies))) c.in-Wants.is (c.interpret.ensures.stands old.boundary u.replies at) in
+    let there = subst (λ (s : Step). IfWants s (IsMode pages old.thread old.boundary new.mode (Interprets old.boundary u.replies))) (ap (λ (x : Came). step_with x c.interpret.new.after) c.in-Wants.is) (c.interpret.ensures.stands old.boundary u.replies at) in
     stands_in pages old new p stands.same c.interpret.ensures.same (subst (λ (m : Mode). IsMode pages old.thread old.boundary new.mode m) (sym u.is) there)
 
 pub returns-in-Made-clause-waits : goal.returns-in-Made-clause-waits
@@ -107,6 +108,6 @@ returns-in-Made-clause-waits g c before state replies h =
     let setting = setting_of c.args.setting in
     let p = in_mode c.args.self.now before in
     let waits = c.args.waits in
-    let wants = wants_is _ c.in-Wants.reference (sym (c.interpret.ensures.answers state replies h) ∙ c.in-Wants.is) in
+    let wants = wants_is _ c.in-Wants.reference (sym (c.interpret.ensures.answers state replies h) ∙ ap (λ (x : Came). step_with x c.interpret.new.after) c.in-Wants.is) in
     sym c.if-awaits.false ∙ c.awaits.ensures ∙ ap (λ (r : Request). waits && is_get r.kind) c.reference_request-request.ensures
     ∙ sym (ap (λ (a : Answer). waits && asks_get (tie_turn setting p state replies a)) wants)
