@@ -1,8 +1,11 @@
-use Rattle.std.proofs.Common.{◌++◌, ◌∷◌, [], ◌+◌, ◌*◌, drop, ap, sym, ◌∙◌, length}
+use Rattle.std.proofs.Common.{◌++◌, ◌∷◌, [], ◌+◌, ◌*◌, drop, ap, sym, ◌∙◌, length, length-drop, arith}
 use Rattle.std.proofs.lemmas.List.{drop-drop, length-append}
 use Rattle.image_file.proofs.TableItems.{table_more}
 use Rattle.elf_file.specs.Symbols.{section_header_in}
 use Rattle.elf_file.proofs.sections.section_headers.Goals as goal
+
+pub section_header_at-requires : goal.section_header_at-requires
+section_header_at-requires c = omega (arith, c.requires, c.loop-place-test.true, length-drop c.args.header.now.sections_at c.args.bytes.now)
 
 pub loop-place-preserved : goal.loop-place-preserved
 loop-place-preserved c =
