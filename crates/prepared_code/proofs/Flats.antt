@@ -148,6 +148,7 @@ is_fork code place op f disp fetched conditional none it a target there =
 pub is_stop : (code : Code) (place : ℕ) (i : AlphaInstr) (f : Flat) → fetch_of code.words place ≡ Some i → ((c : Alpha) → local_by (Some i) c ≡ None) → f.number ≡ 0 → f.way ≡ way.Stops → IsAlone code place f
 is_stop code place i f fetched local none it =
     its_way code place f way.Stops none it (record {
+      none = λ r. ap (λ o. local_by o (at_place (regs_of r) place)) fetched ∙ local (at_place (regs_of r) place);
       stops = λ r.
           ap (λ o. option_and_then (λ (e : Alpha). unless_begun (address_at code.map e.pc) e) (local_by o (at_place (regs_of r) place))) fetched
           ∙ ap (option_and_then (λ (e : Alpha). unless_begun (address_at code.map e.pc) e)) (local (at_place (regs_of r) place));

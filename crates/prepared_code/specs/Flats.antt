@@ -58,8 +58,9 @@ pub record IsBranch (code : Code) (place : ℕ) (f : Flat) (op : BranchOp) : Typ
   pub step : (r : List ℕ) → step_in code (at_place (regs_of r) place) ≡ Some (at_place (regs_of r) (if taken op (regs_of r f.a) then f.literal else place + 1))
 
 -- ---- words behind which no step stays inside a block
--- the word there lets no local step stay inside, whatever the registers hold
+-- the word there lets no local step be made, and so none stay inside, whatever the registers hold
 pub record IsStop (code : Code) (place : ℕ) : Type 0 where
+  pub none : (r : List ℕ) → local_at code (at_place (regs_of r) place) ≡ None
   pub stops : (r : List ℕ) → step_in code (at_place (regs_of r) place) ≡ None
 
 -- the word there goes to the literal, at which a block begins, and writes nothing

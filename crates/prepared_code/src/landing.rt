@@ -1,5 +1,5 @@
 // The step that arrives at a block.
-ghost use Rattle.std.specs.Prelude.{◌≡◌, ◌<◌, slice_index, IfSome, option_map};
+ghost use Rattle.std.specs.Prelude.{◌≡◌, ◌<◌, true, None, slice_index, IfSome, option_map};
 ghost use Rattle.alpha_machine.specs.Step.{state_of};
 ghost use Rattle.alpha_meaning.specs.State.{Alpha};
 ghost use Rattle.prepared_code.specs.Effects.{behind};
@@ -62,6 +62,17 @@ impl<'a> Prepared<'a> {
                 next: way_out(cpu, flat, op),
             }),
             Way::Other | Way::Stops | Way::Branches(_) => self.effect_at(cpu),
+        }
+    }
+
+    /// Whether the word there is known to make no local step, which leads to no block then.
+    #[inline(always)]
+    pub fn stops_at(&self, cpu: &Cpu) -> bool
+        ensures { result ≡ true → landing self.now (state_of cpu.now) ≡ None }
+    {
+        match self.flats().get(cpu.pc as usize) {
+            Some(flat) => matches!(flat.way, Way::Stops),
+            None => false,
         }
     }
 

@@ -32,6 +32,7 @@ pub fn probe_count(point: &Point, cpu: &Cpu) -> u16
 
 // Whether all bytes of a probe may be used. More than eight are left to be asked one by one.
 #[tactic(auto, unfolding(alpha_meaning::specs::State::regs_of))]
+#[inline(always)]
 fn is_allowed(pages: &Pages, point: &Point, cpu: &Cpu) -> bool
     ensures just { result ≡ is_allowed pages.now point.now (state_of cpu.now).regs }
     ensures free { result ≡ true → first_bad pages.now point.now.write (probe_address (state_of cpu.now).regs) (probe_count point.now (state_of cpu.now).regs) ≡ None }
@@ -46,6 +47,7 @@ fn is_allowed(pages: &Pages, point: &Point, cpu: &Cpu) -> bool
 
 impl<'a> Prepared<'a> {
     // Whether the probe there goes on inside its block.
+    #[inline(always)]
     fn goes_on(&self, cpu: &Cpu) -> bool
         requires calls { fetch_of self.now.code.words cpu.now.pc ≡ Some (Pal PROBE) }
         requires few { cpu.now.pc < most_words }
@@ -59,6 +61,7 @@ impl<'a> Prepared<'a> {
     }
 
     /// Whether the word there is a probe of at most eight bytes that may all be used, and no block begins at the next.
+    #[inline(always)]
     pub fn passes(&self, cpu: &Cpu) -> bool
         ensures just { result ≡ passes self.now (state_of cpu.now) }
         ensures passes { result ≡ true → Passes self.now (state_of cpu.now) }

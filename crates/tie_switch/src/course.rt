@@ -126,6 +126,7 @@ impl Course {
     }
 
     // Makes the step that arrives at a block where the thread goes on in Alpha code. Any other step is left to be made.
+    #[inline(never)]
     fn land(
         &mut self,
         prepared: &Prepared<'_>,
@@ -156,7 +157,35 @@ impl Course {
         true
     }
 
+    // The same, where the word isn't known to make no local step.
+    #[inline(always)]
+    fn land_at_once(
+        &mut self,
+        prepared: &Prepared<'_>,
+        ranges: &[Range],
+        thread: u8,
+        before: &VaxState,
+    ) -> bool
+        requires zero { slice_index self.old.cpu.r 31 ≡ 0 }
+        requires nothing { before.now.pending ≡ Nothing }
+        requires room { self.old.retired + 1 < 2 ^ 64 }
+        requires inside { step_in prepared.now.code (state_of self.old.cpu) ≡ None }
+        requires opcode { HasOpcode prepared.now.pages self.old.landed }
+        ensures opcode { HasOpcode prepared.now.pages self.new.landed }
+        ensures lands { result ≡ true → Goes (image_setting prepared.now.pages prepared.now.code ranges.now) thread before.now self.old self.new 1 }
+        ensures retired { result ≡ true → self.new.retired ≡ self.old.retired + 1 }
+        ensures stays { result ≡ false → self.new ≡ self.old }
+        ensures stops { result ≡ false → goes_on_locally (image_setting prepared.now.pages prepared.now.code ranges.now) thread (state_of self.new.cpu) ≡ false }
+    {
+        landings_are_turns();
+        if prepared.stops_at(&self.cpu) {
+            return false;
+        }
+        self.land(prepared, ranges, thread, before)
+    }
+
     // Makes a probe that goes on inside its block.
+    #[inline(always)]
     fn probe(
         &mut self,
         prepared: &Prepared<'_>,
@@ -178,6 +207,7 @@ impl Course {
     }
 
     // Makes a step that leads to the next block, or a probe. Any other step is left to be made.
+    #[inline(always)]
     fn step_on(
         &mut self,
         prepared: &Prepared<'_>,
@@ -196,14 +226,12 @@ impl Course {
         ensures stays { result ≡ false → self.new ≡ self.old }
         ensures stops { result ≡ false → goes_on_locally (image_setting prepared.now.pages prepared.now.code ranges.now) thread (state_of self.new.cpu) ≡ false }
     {
-        if self.land(prepared, ranges, thread, before) {
-            true
-        } else {
-            self.probe(prepared, ranges, thread, before)
-        }
+        self.probe(prepared, ranges, thread, before)
+            || self.land_at_once(prepared, ranges, thread, before)
     }
 
     // Makes steps inside a block and the one that leads to the next, or a probe. Tells how many, and whether it goes on.
+    #[inline(always)]
     fn cross(
         &mut self,
         prepared: &Prepared<'_>,
@@ -252,6 +280,7 @@ impl Course {
 
     // Goes through blocks that are guessed to have local steps alone, and looks where it landed at their end. Where one has
     // others it stands where it stood, and tells how many steps led to that block.
+    #[inline(never)]
     fn glide(&mut self, prepared: &Prepared<'_>, most: u64) -> Result<u64, u64>
         requires plain { HoldsNone self.old.held }
         requires room { self.old.retired + most < 2 ^ 64 }
@@ -288,6 +317,7 @@ impl Course {
     }
 
     // Makes steps as `glide` does, where it is plain and not watched. Tells how many, and for how many it is to be watched then.
+    #[inline(always)]
     fn glide_on(
         &mut self,
         prepared: &Prepared<'_>,
@@ -303,7 +333,7 @@ impl Course {
             → Goes (image_setting prepared.now.pages prepared.now.code ranges.now) thread before self.old self.new result.0 }
         ensures retired { self.new.retired ≤ self.old.retired + result.0 }
     {
-        if is_watched || !self.is_plain(ranges) || prepared.guess(self.cpu.pc) == 0 {
+        if prepared.guess(self.cpu.pc) == 0 || is_watched || !self.is_plain(ranges) {
             return (0, 0);
         }
         match self.glide(prepared, most) {
@@ -314,6 +344,7 @@ impl Course {
 
     /// Makes local steps and probes, inside blocks and from block to block, and tells how many: at most so many, and only
     /// those behind which the thread goes on in Alpha code. Fewer are made only where the next is no such local step.
+    #[inline(never)]
     pub(crate) fn run(
         &mut self,
         prepared: &Prepared<'_>,
