@@ -37,6 +37,7 @@ fn changed(change: Change, before: u64) -> u64
 }
 
 /// What an access of the kind leaves, where it makes the change and a store conditional has this success.
+#[inline(always)]
 pub(crate) fn left(kind: Kind, success: bool, change: Change, before: u64) -> u64
     requires { IsInRange change }
     ensures { result ≡ leaves kind success change before }

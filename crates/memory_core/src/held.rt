@@ -63,6 +63,7 @@ fn next_taken(taken: usize, count: usize) -> usize
 }
 
 // Appends an entry to those that are kept, where the limit counts entries.
+#[inline(always)]
 fn keep(kept: &mut Vec<Entry>, limit: Limit, entry: &Entry)
     requires { KeepsEntries limit → vec_len kept.old < vec_capacity kept.old }
     ensures entries { kept.new.items ≡ kept.old.items ++ kept_of limit (entry.now ∷ []) }
@@ -111,6 +112,7 @@ impl Held {
     }
 
     /// Makes one access, or answers `Full` where it counts against the limit and that is reached. It takes no memory.
+    #[inline(always)]
     pub(crate) fn access(&mut self, request: &Request) -> Reply
         requires processor { request.now.processor < self.old.contents.processors }
         requires request { CanMake self.old.contents.set_up request.now }
@@ -172,6 +174,7 @@ impl Held {
     }
 
     // Whether an access of the kind is one more than the limit allows.
+    #[inline(always)]
     fn has_no_room(&self, kind: Kind) -> bool
         ensures full { result ≡ counts self.now.contents.set_up.limit kind && (counted self.now.contents.set_up.limit self.now.contents.history == greatest self.now.contents.set_up.limit) }
         ensures order { Meets self.now.contents.set_up (reverse self.now.contents.history) }
@@ -198,6 +201,7 @@ impl Held {
     }
 
     // The quadword that has the byte at an address, now.
+    #[inline(always)]
     fn quad(&self, address: u32) -> Option<u64>
         ensures { result ≡ quad_left self.now.contents.set_up self.now.contents.history address }
     {
@@ -247,6 +251,7 @@ impl Held {
     }
 
     // What the access finds.
+    #[inline(always)]
     fn found(&self, request: &Request) -> u64
         requires { CanMake self.now.contents.set_up request.now }
         ensures { result ≡ found self.now.contents.set_up (reverse self.now.contents.history) request.now.kind request.now.quad }
@@ -259,6 +264,7 @@ impl Held {
     }
 
     // Whether the access succeeds.
+    #[inline(always)]
     fn succeeds(&self, request: &Request) -> bool
         requires { request.now.processor < self.now.contents.processors }
         ensures { result ≡ succeeds self.now.contents.set_up (reverse self.now.contents.history) request.now.processor request.now.kind request.now.quad }
@@ -271,6 +277,7 @@ impl Held {
     }
 
     // The entry that the order of accesses gives for the request.
+    #[inline(always)]
     fn next_entry(&self, request: &Request) -> Entry
         requires processor { request.now.processor < self.now.contents.processors }
         requires request { CanMake self.now.contents.set_up request.now }
@@ -294,6 +301,7 @@ impl Held {
     }
 
     // Appends an entry, and does what it says.
+    #[inline(always)]
     fn enter(&mut self, entry: &Entry)
         requires processor { entry.now.processor < self.old.contents.processors }
         requires fits { Fits self.old.contents.set_up (reverse self.old.contents.history) entry.now }

@@ -50,6 +50,7 @@ impl Memory for MemState {
 
     ghost seen = { λ m. m.history };
 
+    #[inline(always)]
     fn access(&mut self, request: &Request) -> Reply {
         self.access(request)
     }

@@ -72,6 +72,7 @@ fn clear_others(reservations: &mut [Reservation], processor: usize, block: u32)
 }
 
 /// Notes an entry in all reservations.
+#[inline(always)]
 pub(crate) fn note(reservations: &mut [Reservation], entry: &Entry, miss: u16)
     requires { entry.now.processor < length reservations.old }
     ensures { (p : ℕ) → p < length reservations.old → slice_index_or reservations.new p none ≡ next_reservation miss entry.now p (slice_index_or reservations.old p none) }

@@ -52,6 +52,7 @@ impl MemState {
     }
 
     /// Makes one access, or answers `Full` where it counts against the limit and that is reached. It takes no memory.
+    #[inline(always)]
     pub fn access(&mut self, request: &Request) -> Reply
         requires processor { request.now.processor < self.old.processors }
         requires request { CanMake self.old.set_up request.now }
