@@ -344,7 +344,7 @@ impl Course {
 
     /// Makes local steps and probes, inside blocks and from block to block, and tells how many: at most so many, and only
     /// those behind which the thread goes on in Alpha code. Fewer are made only where the next is no such local step.
-    #[inline(never)]
+    #[inline(always)]
     pub(crate) fn run(
         &mut self,
         prepared: &Prepared<'_>,
