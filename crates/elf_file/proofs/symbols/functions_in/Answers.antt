@@ -1,4 +1,5 @@
-use Rattle.std.proofs.Common.{◌≡◌, ◌++◌, ◌∷◌, [], ◌+◌, ◌*◌, ap, drop, sym, ◌∙◌, true, false}
+use Rattle.std.proofs.Common.{◌≡◌, ◌++◌, ◌∷◌, [], ◌+◌, ◌*◌, ap, drop, length, sym, ◌∙◌, true, false, length-drop, arith}
+use Rattle.std.proofs.lemmas.Bool.{ltb-false}
 use Rattle.std.proofs.lemmas.List.{drop-drop}
 use Rattle.image_file.specs.Reading.{table_in}
 use Rattle.image_file.proofs.TableItems.{table_more}
@@ -7,6 +8,13 @@ use Rattle.elf_file.specs.Symbols.{symbol_in, is_function, functions_in}
 use Rattle.elf_file.proofs.Kept.{kept_more, kept_same}
 use Rattle.elf_file.proofs.symbols.functions_in.Goals as goal
 use Rattle.elf_file.proofs.symbols.functions_in.Goals.{then-is_function+in_ok-push, else-is_function}
+
+pub symbol_at-symbol-requires : goal.symbol_at-symbol-requires
+symbol_at-symbol-requires c =
+    let table = c.args.table.now in
+    let behind = drop table.offset c.args.bytes.now in
+    let whole = ltb-false (length behind) table.size c.requires in
+    omega (arith, whole, c.loop-place-test.true, length-drop table.offset c.args.bytes.now)
 
 pub loop-place-preserved : goal.loop-place-preserved
 loop-place-preserved c =
