@@ -4,8 +4,8 @@ ghost use Rattle.address_map.specs.Sound.{AreBeginnings};
 
 use std::alloc::{AllocError, Global};
 
-/// The most words that are told of: as many as a translation has.
-const MOST_WORDS: usize = 1 << 23;
+/// The most words of which something is told at one look: as many as a translation has.
+pub const MOST_WORDS: usize = 1 << 23;
 
 /// For each word up to the last that has a pair, whether it has one.
 pub(crate) fn beginnings(alloc: Global, pairs: &[(u32, u32)]) -> Result<Vec<bool>, AllocError>

@@ -9,9 +9,10 @@ mod tables;
 ghost use Rattle.std.specs.Prelude.{◌≡◌, IfErr, IfOk, OnOk, map};
 
 use crate::beginnings::beginnings;
+use crate::tables::Tables;
+pub use beginnings::MOST_WORDS;
 use std::alloc::{AllocError, Global};
 use std::marker::Model;
-pub use tables::Tables;
 
 /// Why a list of pairs is refused.
 #[derive(Clone, Copy, Debug, PartialEq, Eq)]

@@ -1,6 +1,6 @@
 -- The points of translated code, and the exceptions that they name.
 -- VAX Architecture Reference Manual, "Exceptions and Interrupts": the vectors of the System Control Block.
-use Rattle.std.specs.Prelude.{◌≡◌, ◌<◌, ◌≤◌, ◌+◌, ◌-◌, ◌==◌, ℕ, List, [], ◌∷◌, Option, Some, None, find, length, option_map, slice_get, take, if◌then◌else◌}
+use Rattle.std.specs.Prelude.{◌≡◌, ◌<◌, ◌≤◌, ◌-◌, ◌==◌, ℕ, List, Option, Some, None, find, get_or, length, option_map, slice_get, take, if◌then◌else◌}
 use Rattle.std.specs.List.{AllAdjacentBelow}
 use Rattle.vax_form.specs.declared.state.Exception.{Exception}
 use Rattle.vax_form.specs.declared.state.Exception.TheVariants.{ReservedInstruction, ReservedOperand, ReservedMode, Breakpoint}
@@ -29,13 +29,10 @@ WordsRise points = AllAdjacentBelow (λ p q. p.0 < q.0) points (length points)
 abbrev pub point_at : List Entry → (word : ℕ) → Option Point
 point_at points word = option_map (λ p. p.1) (find (λ p. p.0 == word) points)
 
--- each word with the place of its point
-abbrev pub numbered_from : ℕ → List Entry → List (ℕ × ℕ)
-numbered_from place [] = []
-numbered_from place (p ∷ ps) = (p.0, place) ∷ numbered_from (place + 1) ps
-
-abbrev pub numbered : List Entry → List (ℕ × ℕ)
-numbered points = numbered_from 0 points
+-- what is told of words: the place of a word's point, or that it has none
+pub record ArePlacesOf (places : List (Option ℕ)) (points : List Entry) : Type 0 where
+  pub there : (word place : ℕ) → slice_get places word ≡ Some (Some place) → (place < length points) × ((d : Entry) → (get_or points place d).0 ≡ word)
+  pub none : (word : ℕ) → slice_get places word ≡ Some None → point_at points word ≡ None
 
 -- the first pair whose word is not above its predecessor's is q, at the place, and its predecessor is p
 pub record IsFirstFall (points : List Entry) (place : ℕ) (p q : Entry) : Type 0 where

@@ -2,7 +2,7 @@
 ghost use Rattle.std.specs.Prelude.{◌≡◌, IfErr, IfOk, OnOk};
 
 use crate::rules::Rules;
-use address_map::Tables;
+use address_map::MOST_WORDS;
 use std::alloc::{AllocError, Global};
 use std::marker::Model;
 use vax_form::{Exception, WantOfMemory};
@@ -65,21 +65,20 @@ impl PointRefusal {
 #[derive(Debug, Drop)]
 pub struct Points {
     points: Vec<(u32, Point)>,
-    // The place of each word's point, once that was prepared.
-    places: Option<Tables>,
+    // What is told of each word, once that was prepared: the place of its point.
+    places: Option<Vec<Option<u32>>>,
 }
 
 impl Model for Points {
     ghost use Rattle.std.specs.Prelude.{List};
     ghost use Rattle.std.specs.Option.{ForSome};
-    ghost use Rattle.address_map.specs.Tables.{AreTablesOf};
-    ghost use Rattle.exception_records.specs.Points.{Entry, WordsRise, numbered};
+    ghost use Rattle.exception_records.specs.Points.{ArePlacesOf, Entry, WordsRise};
 
     ghost Value = { List Entry };
 
     ghost view = { λ p. p.points.items };
 
-    ghost invariant = { λ p. WordsRise p.points.items × ForSome p.places (λ tables. AreTablesOf tables (numbered p.points.items)) };
+    ghost invariant = { λ p. WordsRise p.points.items × ForSome p.places (λ places. ArePlacesOf places.items p.points.items) };
 }
 
 impl Points {
@@ -91,10 +90,7 @@ impl Points {
     pub fn prepare(&mut self, alloc: Global) -> Result<(), WantOfMemory>
         ensures { self.new ≡ self.old }
     {
-        match places_of(alloc, &self.points) {
-            Ok(places) => self.places = Some(places),
-            Err(_) => return Err(WantOfMemory),
-        }
+        self.places = Some(places_of(alloc, &self.points)?);
         Ok(())
     }
 
@@ -109,18 +105,19 @@ impl Points {
     }
 }
 
-ghost use Rattle.std.specs.Prelude.{◌<◌, length, option_copied, slice_get};
-ghost use Rattle.address_map.specs.Tables.{AreTablesOf};
-ghost use Rattle.exception_records.specs.Points.{Entry, point_at, numbered};
+ghost use Rattle.std.specs.Prelude.{option_copied};
+ghost use Rattle.exception_records.specs.Points.{ArePlacesOf, point_at};
 
-// By the places of the points.
-fn point_by<'a>(places: &Tables, points: &'a [(u32, Point)], alpha: u32) -> Option<&'a Point>
-    requires { AreTablesOf places.now (numbered points.now) }
+// By what is told of the word.
+fn point_by<'a>(places: &[Option<u32>], points: &'a [(u32, Point)], alpha: u32) -> Option<&'a Point>
+    requires rising { WordsRise points.now }
+    requires places { ArePlacesOf places.now points.now }
     ensures { option_copied result ≡ point_at points.now alpha }
 {
-    match places.find(alpha) {
-        Some(place) => Some(&points[place as usize].1),
-        None => None,
+    match places.get(alpha as usize) {
+        Some(Some(place)) => Some(&points[*place as usize].1),
+        Some(None) => None,
+        None => point_in(points, alpha),
     }
 }
 
@@ -135,23 +132,25 @@ fn point_in(points: &[(u32, Point)], alpha: u32) -> Option<&Point>
     }
 }
 
-fn word_of(points: &[(u32, Point)], place: usize) -> u32
-    requires { place < length points.now }
-    ensures { (point : Entry) → slice_get points.now place ≡ Some point → result ≡ point.0 }
+fn places_of(alloc: Global, points: &[(u32, Point)]) -> Result<Vec<Option<u32>>, AllocError>
+    requires { WordsRise points.now }
+    ensures { IfOk result (λ places. ArePlacesOf places.items points.now) }
 {
-    points[place].0
+    let mut places = vec![in alloc; None; words_told(points)]?;
+    for place in 0..points.len() {
+        let word = points[place].0 as usize;
+        if word < places.len() {
+            places[word] = Some(place as u32);
+        }
+    }
+    Ok(places)
 }
 
-fn places_of(alloc: Global, points: &[(u32, Point)]) -> Result<Tables, AllocError>
-    requires { WordsRise points.now }
-    ensures { IfOk result (λ tables. AreTablesOf tables (numbered points.now)) }
-{
-    let mut pairs = Vec::new(alloc);
-    for place in 0..points.len() {
-        let word = word_of(points, place);
-        pairs.push((word, place as u32))?;
+fn words_told(points: &[(u32, Point)]) -> usize {
+    match points.len() {
+        0 => 0,
+        len => MOST_WORDS.min(points[len - 1].0 as usize + 1),
     }
-    Tables::new(alloc, &pairs)
 }
 
 ghost use Rattle.exception_records.specs.Points.{WordsRise, HasFlaw};
