@@ -5,7 +5,8 @@ ghost use Rattle.std.specs.Prelude.{◌≡◌, List, length, ⊤, IfOk};
 ghost use Rattle.std.specs.Iterator.{DrainsIf, IsFinite};
 ghost use Rattle.std.specs.Vec.{vec_len};
 
-use std::alloc::{AllocError, Global};
+use std::alloc::Global;
+use vax_form::WantOfMemory;
 
 /// The items of an iterator, in order. Room for so many is asked for once, and only more items than that ask for more:
 /// `collect` asks for less where a first growth is refused.
@@ -13,7 +14,7 @@ pub fn list_of<I: Iterator>(
     alloc: Global,
     most: usize,
     items: I,
-) -> Result<Vec<I::Item>, AllocError>
+) -> Result<Vec<I::Item>, WantOfMemory>
 where
     I::Item: Drop,
     requires can { I.can_next items }

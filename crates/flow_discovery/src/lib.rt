@@ -16,8 +16,8 @@ use exact_lists::list_of;
 pub use flow::goes_on;
 use image_file::{Image, Start};
 pub use mapped::{has_block, has_call_block, has_string_block};
-use std::alloc::{AllocError, Global};
-use vax_form::{Class, Instr};
+use std::alloc::Global;
+use vax_form::{Class, Instr, WantOfMemory};
 
 /// More instructions are not translated.
 const MOST_INSTRUCTIONS: u64 = 32_768;
@@ -45,23 +45,23 @@ impl FlowRefusal {
     }
 }
 
-impl From<AllocError> for FlowRefusal {
-    ghost use Rattle.flow_discovery.specs.declared.FlowRefusal.TheVariants.{WantOfMemory};
+impl From<WantOfMemory> for FlowRefusal {
+    ghost use Rattle.flow_discovery.specs.declared.FlowRefusal.TheVariants as refusals;
 
-    ghost from_gives = { λ e r. r ≡ WantOfMemory };
+    ghost from_gives = { λ e r. r ≡ refusals.WantOfMemory };
 
-    fn from(_: AllocError) -> Self {
+    fn from(_: WantOfMemory) -> Self {
         FlowRefusal::WantOfMemory
     }
 }
 
-fn thread_starts(alloc: Global, threads: &[Start]) -> Result<Vec<u32>, AllocError>
+fn thread_starts(alloc: Global, threads: &[Start]) -> Result<Vec<u32>, WantOfMemory>
     ensures { IfOk result (λ v. v.items ≡ map (λ thread. thread.pc) threads.now) }
 {
     list_of(alloc, threads.len(), threads.iter().map(|thread| thread.pc))
 }
 
-fn all_starts(alloc: Global, image: &Image, hints: &[u32]) -> Result<Vec<u32>, AllocError>
+fn all_starts(alloc: Global, image: &Image, hints: &[u32]) -> Result<Vec<u32>, WantOfMemory>
     ensures { IfOk result (λ v. v.items ≡ starts image.now hints.now) }
 {
     let mut all = thread_starts(alloc, &image.threads)?;

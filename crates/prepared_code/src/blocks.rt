@@ -6,8 +6,8 @@ ghost use Rattle.prepared_code.specs.Sources.{block_by, block_of};
 
 use exact_lists::list_of;
 use exception_records::{Points, Rules};
-use std::alloc::{AllocError, Global};
-use vax_form::Pages;
+use std::alloc::Global;
+use vax_form::{Pages, WantOfMemory};
 
 /// A block by the word at which it begins.
 #[derive(Clone, Copy, Debug, PartialEq, Eq)]
@@ -45,7 +45,7 @@ pub(crate) fn blocks_of(
     pairs: &[(u32, u32)],
     points: &Points,
     pages: &Pages,
-) -> Result<Vec<Block>, AllocError>
+) -> Result<Vec<Block>, WantOfMemory>
     ensures { IfOk result (λ v. v.items ≡ map (block_of points.now pages.now) pairs.now) }
 {
     list_of(

@@ -69,7 +69,7 @@ pub fn words_of(alloc: Global, arguments: io::Result<Args>) -> io::Result<Vec<St
     ensures { AreBehindName arguments result }
 {
     let arguments = arguments?;
-    Ok(list_of(alloc, arguments.len(), arguments.skip(1))?)
+    list_of(alloc, arguments.len(), arguments.skip(1)).map_err(|_| ErrorKind::OutOfMemory.into())
 }
 
 /// Calls `vest` with the words that were read, with the files of the system and with these streams: the whole program.

@@ -12,9 +12,10 @@ use crate::storing::order_file;
 use crate::waiting::{Puts, Waiting};
 use command_words::RunOptions;
 use exact_lists::list_of;
-use std::alloc::{AllocError, Global};
+use std::alloc::Global;
 use system_model::Range;
 use translate::Target;
+use vax_form::WantOfMemory;
 use vest_files::load;
 use vest_runs::read_input;
 use vest_stops::Stop;
@@ -24,7 +25,7 @@ use vt_outside::{Desk, Source};
 pub(crate) fn ranges_of(
     alloc: Global,
     ranges: &[command_words::Range],
-) -> Result<Vec<Range>, AllocError>
+) -> Result<Vec<Range>, WantOfMemory>
     ensures { IfOk result (λ v. v.items ≡ map range_of ranges.now) }
 {
     list_of(
