@@ -1,9 +1,12 @@
 -- The words of the writes, and those with the byte-word extension, have encodings.
 use Rattle.std.proofs.Common.{ℕ, ◌<◌, ◌++◌, List, [], ◌∷◌, rules, arith, lit<}
-use Rattle.std.specs.Prelude.{All}
+use Rattle.std.specs.Prelude.{All, pos}
 use Rattle.std.proofs.lemmas.List.Elements.{All-cons, All-nil}
 use Rattle.vt_words.specs.Quad.{IsCount, one as c1, two as c2, four as c4, eight as c8}
 use Rattle.alpha_encode.specs.declared.instr.AlphaInstr.{AlphaInstr}
+use Rattle.alpha_encode.specs.declared.instr.AlphaInstr.TheVariants.{Memory, Branch}
+use Rattle.alpha_encode.specs.declared.instr.BranchOp.TheVariants.{Br}
+use Rattle.alpha_encode.specs.declared.instr.MemoryOp.TheVariants.{Stl}
 use Rattle.alpha_encode.specs.declared.instr.OperateOp.{OperateOp}
 use Rattle.alpha_encode.specs.Words.{IsEncodable, IsFirst}
 use Rattle.alpha_meaning.specs.Loops.{retry}
@@ -64,7 +67,7 @@ module _ (place from : ℕ) (p : place < 32) (q : from < 32) where
   unaligned {c} is = each_append (first_write place c from) (tested_second_write place c from) (first is) (tested_second is)
 
   longword : EachEncodable (longword_write place from)
-  longword = (search rules, (search rules, (search rules, (search rules, unaligned c4))))
+  longword = (search rules, (search rules, each_append (unaligned_write place 4 from) (Branch Br 31 (pos 1) ∷ Memory Stl from place (pos 0) ∷ []) (unaligned c4) (search rules, (search rules, tt))))
 
   quadword : EachEncodable (quadword_write place from)
   quadword =

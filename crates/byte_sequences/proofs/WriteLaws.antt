@@ -8,7 +8,7 @@ use Rattle.std.proofs.lemmas.Bool.Decides.{nat_tests}
 use Rattle.vt_words.specs.Quad.{IsCount, one as c1, two as c2, four as c4, eight as c8, with_field_of, ins_low, ins_high, msk_low, msk_high}
 use Rattle.vt_words.proofs.Fields.{replaced, replaced_first, replaced_second, count_le}
 use Rattle.alpha_encode.specs.declared.instr.MemoryOp.TheVariants.{Stl, Stq}
-use Rattle.alpha_encode.specs.declared.instr.BranchOp.TheVariants.{Bne, Br}
+use Rattle.alpha_encode.specs.declared.instr.BranchOp.TheVariants.{Beq, Bne, Br}
 use Rattle.alpha_encode.specs.declared.instr.OperateOp.{OperateOp}
 use Rattle.alpha_encode.specs.declared.instr.OperateOp.TheVariants.{And, Bic, Addq, Srl}
 use Rattle.alpha_encode.specs.declared.instr.Second.TheVariants.{Literal}
@@ -20,7 +20,7 @@ use Rattle.alpha_meaning.specs.Act.{target_of}
 use Rattle.alpha_meaning.specs.Result.{plus, result_of, one_if}
 use Rattle.alpha_meaning.specs.Pieces.{Fetch, Terms, Plan, Access, Over, Plain, Piece, Runs, HasAt, piece, Only}
 use Rattle.alpha_meaning.specs.Loops.{is_operate, effect, effects, retry}
-use Rattle.alpha_meaning.proofs.Rules.{Always, done, roomy, goes, store, operates, put_only, effects_only, has_front, has_back, changed_low}
+use Rattle.alpha_meaning.proofs.Rules.{Always, done, roomy, goes, passes, skips, store, operates, put_only, effects_only, has_front, has_back, changed_low}
 use Rattle.alpha_meaning.proofs.Retry.{Changes, turns}
 use Rattle.alpha_meaning.proofs.Rows.{count_some}
 use Rattle.byte_sequences.specs.Instructions.{IsArgument, is_scratch}
@@ -204,11 +204,18 @@ module _ (p : Piece) (f : Regs) (place from : ℕ) (a_place : IsArgument place) 
       first_part most need L g b k e o has in_from in_to rest =
           part most need L g (Operate Bic place (Literal 7) 27) (f place / 8 * 8) (mask_low c) (insert_low c) (first_change b) k refl (first_ready g o) (first_loop b e) has in_from in_to (readable (f place / 8 * 8) (first_may b e)) (first_may b e) retries rest
 
-      second_part : (most L : ℕ) (g : Regs) → lies_within (f place) c ≡ false → IsReady is_scratch f (f place / 8 * 8) g → HasAt p.fetch L (second_write place c from) → p.from ≤ L → L + 7 ≡ p.to
-          → Always p (Keeps f) most 7 Plain (at_place g L) (write_rest false)
-      second_part most L g e r has in_from in_to =
-          part most 0 L g (Operate Addq 27 (Literal 8) 27) (next_of (f place) / 8 * 8) (mask_high c) (insert_high c) second_change (λ _. Over tt) refl (second_ready g (is_across (f place) c e) r) (second_loop e) has in_from (omega arith) (readable (next_of (f place) / 8 * 8) (second_may e)) (second_may e) retries
-          (λ x h lt r. finish most (L + 7) h in_to r.only)
+      -- what comes behind, wherever only scratch has changed
+      abbrev Behind : (most need to : ℕ) → Type 0
+      Behind most need to = (g : Regs) → Only is_scratch f g → Always p (Keeps f) most need Plain (at_place g to) (Over tt)
+
+      at_other : (most need to to' : ℕ) → to ≡ to' → Behind most need to → Behind most need to'
+      at_other most need to to' same behind = subst (λ z. Behind most need z) same behind
+
+      second_part : (most need L : ℕ) (g : Regs) → lies_within (f place) c ≡ false → IsReady is_scratch f (f place / 8 * 8) g → HasAt p.fetch L (second_write place c from) → p.from ≤ L → L + 7 ≤ p.to → Behind most need (L + 7)
+          → Always p (Keeps f) most (1 + (6 + need)) Plain (at_place g L) (write_rest false)
+      second_part most need L g e r has in_from in_to behind =
+          part most need L g (Operate Addq 27 (Literal 8) 27) (next_of (f place) / 8 * 8) (mask_high c) (insert_high c) second_change (λ _. Over tt) refl (second_ready g (is_across (f place) c e) r) (second_loop e) has in_from in_to (readable (next_of (f place) / 8 * 8) (second_may e)) (second_may e) retries
+          (λ x h lt r. behind h r.only)
 
       abbrev tested : Regs → Regs
       tested g = effects (write_test place c) g
@@ -221,31 +228,38 @@ module _ (p : Piece) (f : Regs) (place from : ℕ) (a_place : IsArgument place) 
           ap (λ x. one_if (nat_lt (bit_and x 7) (9 - c))) (place_in g r.only) ∙ ap (λ x. one_if (nat_lt x (9 - c))) (and_mask (f place) 3) ∙
           ap one_if (test_same (f place) c (count_some is_count) (count_le is_count))
 
-      tail : (most L : ℕ) (g : Regs) (b : Bool) → lies_within (f place) c ≡ b → IsReady is_scratch f (f place / 8 * 8) g → HasAt p.fetch (L + 2) (Branch Bne 25 (pos 7) ∷ second_write place c from) → p.from ≤ L → L + 10 ≡ p.to
-          → Always p (Keeps f) most 8 Plain (at_place (effects (write_test place c) g) (L + 2)) (write_rest b)
-      tail most L g true e r has in_from in_to =
+      tail : (most need L : ℕ) (g : Regs) (b : Bool) → lies_within (f place) c ≡ b → IsReady is_scratch f (f place / 8 * 8) g → HasAt p.fetch (L + 2) (Branch Bne 25 (pos 7) ∷ second_write place c from) → p.from ≤ L → L + 10 ≤ p.to → Behind most need (L + 10)
+          → Always p (Keeps f) most (1 + (6 + need) + 1) Plain (at_place (effects (write_test place c) g) (L + 2)) (write_rest b)
+      tail most need L g true e r has in_from in_to behind =
           let there : target_of (L + 2) (pos 7) ≡ L + 10 = omega arith in
-          roomy p (Keeps f) most 1 8 Plain (at_place (tested g) (L + 2)) (Over tt) (lit≤ tt)
-          (goes p (Keeps f) most 0 Plain (at_place (tested g) (L + 2)) (at_place (tested g) (L + 10)) (Branch Bne 25 (pos 7)) (Over tt) has.0 (rw (test_is g r, e, there) refl) (omega arith) (omega arith) (omega arith)
-          (finish most (L + 10) (tested g) in_to (ready_tested g r).only))
-      tail most L g false e r has in_from in_to =
-          goes p (Keeps f) most 7 Plain (at_place (tested g) (L + 2)) (at_place (tested g) (L + 2 + 1)) (Branch Bne 25 (pos 7)) (write_rest false) has.0 (rw (test_is g r, e) refl) (omega arith) (omega arith) (omega arith)
-          (second_part most (L + 2 + 1) (tested g) e (ready_tested g r) has.1 (omega arith) (omega arith))
+          roomy p (Keeps f) most (need + 1) (1 + (6 + need) + 1) Plain (at_place (tested g) (L + 2)) (Over tt) (omega arith)
+          (goes p (Keeps f) most need Plain (at_place (tested g) (L + 2)) (at_place (tested g) (L + 10)) (Branch Bne 25 (pos 7)) (Over tt) has.0 (rw (test_is g r, e, there) refl) (omega arith) (omega arith) (omega arith)
+          (behind (tested g) (ready_tested g r).only))
+      tail most need L g false e r has in_from in_to behind =
+          goes p (Keeps f) most (1 + (6 + need)) Plain (at_place (tested g) (L + 2)) (at_place (tested g) (L + 2 + 1)) (Branch Bne 25 (pos 7)) (write_rest false) has.0 (rw (test_is g r, e) refl) (omega arith) (omega arith) (omega arith)
+          (second_part most need (L + 2 + 1) (tested g) e (ready_tested g r) has.1 (omega arith) (omega arith) (at_other most need (L + 10) (L + 2 + 1 + 7) (omega arith) behind))
 
-      any : (most L : ℕ) (g : Regs) (b : Bool) → lies_within (f place) c ≡ b → Only is_scratch f g → HasAt p.fetch L (unaligned_write place c from) → p.from ≤ L → L + 17 ≡ p.to
-          → Always p (Keeps f) most 17 Plain (at_place g L) (Access (f place / 8 * 8) (first_change b) (λ _. write_rest b))
-      any most L g b e o has in_from in_to =
-          let behind = has_back p.fetch L (first_write place c from) (tested_second_write place c from) has in
-          first_part most 10 L g b (λ _. write_rest b) e o (has_front p.fetch L (first_write place c from) (tested_second_write place c from) has) in_from (omega arith)
-          (λ x h lt r. operates p (Keeps f) most 8 Plain (write_test place c) h (L + 7) (write_rest b) (has_front p.fetch (L + 7) (write_test place c) (Branch Bne 25 (pos 7) ∷ second_write place c from) behind) refl (omega arith) (omega arith)
-          (tail most (L + 7) h b e r (has_back p.fetch (L + 7) (write_test place c) (Branch Bne 25 (pos 7) ∷ second_write place c from) behind) (omega arith) (omega arith)))
+      any : (most need L : ℕ) (g : Regs) (b : Bool) → lies_within (f place) c ≡ b → Only is_scratch f g → HasAt p.fetch L (unaligned_write place c from) → p.from ≤ L → L + 17 ≤ p.to → Behind most need (L + 17)
+          → Always p (Keeps f) most (17 + need) Plain (at_place g L) (Access (f place / 8 * 8) (first_change b) (λ _. write_rest b))
+      any most need L g b e o has in_from in_to behind =
+          let words = has_back p.fetch L (first_write place c from) (tested_second_write place c from) has in
+          roomy p (Keeps f) most (1 + (6 + (2 + (1 + (6 + need) + 1)))) (17 + need) Plain (at_place g L) (Access (f place / 8 * 8) (first_change b) (λ _. write_rest b)) (omega arith)
+          (first_part most (2 + (1 + (6 + need) + 1)) L g b (λ _. write_rest b) e o (has_front p.fetch L (first_write place c from) (tested_second_write place c from) has) in_from (omega arith)
+          (λ x h lt r. operates p (Keeps f) most (1 + (6 + need) + 1) Plain (write_test place c) h (L + 7) (write_rest b) (has_front p.fetch (L + 7) (write_test place c) (Branch Bne 25 (pos 7) ∷ second_write place c from) words) refl (omega arith) (omega arith)
+          (tail most need (L + 7) h b e r (has_back p.fetch (L + 7) (write_test place c) (Branch Bne 25 (pos 7) ∷ second_write place c from) words) (omega arith) (omega arith) (at_other most need (L + 17) (L + 7 + 10) (omega arith) behind))))
 
-      pub any_is : (most L : ℕ) (g : Regs) → Only is_scratch f g → HasAt p.fetch L (unaligned_write place c from) → p.from ≤ L → L + 17 ≡ p.to → Always p (Keeps f) most 17 Plain (at_place g L) (write_plan (parts_by (lies_within (f place) c) (f place) c) (f from))
-      any_is most L g o has in_from in_to = by (lies_within (f place) c) refl
+      -- in the midst of a piece
+      pub any_then : (most need L : ℕ) (g : Regs) → Only is_scratch f g → HasAt p.fetch L (unaligned_write place c from) → p.from ≤ L → L + 17 ≤ p.to → Behind most need (L + 17)
+          → Always p (Keeps f) most (17 + need) Plain (at_place g L) (write_plan (parts_by (lies_within (f place) c) (f place) c) (f from))
+      any_then most need L g o has in_from in_to behind = by (lies_within (f place) c) refl
         where
-          by : (b : Bool) → lies_within (f place) c ≡ b → Always p (Keeps f) most 17 Plain (at_place g L) (write_plan (parts_by b (f place) c) (f from))
-          by true e = any most L g true e o has in_from in_to
-          by false e = any most L g false e o has in_from in_to
+          by : (b : Bool) → lies_within (f place) c ≡ b → Always p (Keeps f) most (17 + need) Plain (at_place g L) (write_plan (parts_by b (f place) c) (f from))
+          by true e = any most need L g true e o has in_from in_to behind
+          by false e = any most need L g false e o has in_from in_to behind
+
+      -- at its end
+      pub any_is : (most L : ℕ) (g : Regs) → Only is_scratch f g → HasAt p.fetch L (unaligned_write place c from) → p.from ≤ L → L + 17 ≡ p.to → Always p (Keeps f) most 17 Plain (at_place g L) (write_plan (parts_by (lies_within (f place) c) (f place) c) (f from))
+      any_is most L g o has in_from in_to = any_then most 0 L g o has in_from (omega arith) (λ h o. finish most (L + 17) h in_to o)
 
 -- ---- one store
 -- how an aligned longword and an aligned quadword may be stored
@@ -271,27 +285,39 @@ module _ (fetch : Fetch) (terms : Terms) (pc : ℕ) (f : Regs) (place from : ℕ
   kinds_of : (b : Bool) → (f place % 4 == 0) ≡ b → MayStore terms (stored_4 b)
   kinds_of b e = subst (λ b. MayStore terms (stored_4 b)) e may.stores
 
+  -- the last words, behind those for two quadwords
+  has_end : HasAt fetch (pc + 19) (Branch Br 31 (pos 1) ∷ Memory Stl from place (pos 0) ∷ [])
+  has_end =
+      has_back fetch pc (Operate And place (Literal 3) 25 ∷ Branch Beq 25 (pos 18) ∷ unaligned_write place 4 from) (Branch Br 31 (pos 1) ∷ Memory Stl from place (pos 0) ∷ []) has
+
+  long_end : (most : ℕ) (g : Regs) → Only is_scratch f g → Always longs (Keeps f) most 0 Plain (at_place g (pc + 21)) (Over tt)
+  long_end most g o = done longs (Keeps f) most (at_place g (pc + 21)) tt refl (record { only = o })
+
   long_is : (most : ℕ) (b : Bool) → (f place % 4 == 0) ≡ b → Always longs (Keeps f) most 19 Plain (at_place low_bits (pc + 1)) (write_plan (parts_by (lies_within (f place) 4) (f place) 4) (f from))
   long_is most true e =
       let even : f place % 4 ≡ 0 = eqb-true _ _ e in
       let inside = aligned_within (f place) even in
       let page = subst (λ b. All (λ part. terms.allowed true (quad_of_part part) ≡ true) (parts_by b (f place) 4)) inside may.pages in
-      let end : target_of (pc + 1 + 1 + 1) (pos 17) ≡ pc + 21 = omega arith in
+      let there : target_of (pc + 1) (pos 18) ≡ pc + 19 + 1 = omega arith in
+      let behind : pc + 19 + 1 + 1 ≡ pc + 21 = omega arith in
       let same : low_bits place ≡ f place = place_in longs f place from a_place a_from (omega arith) fits low_bits only_low in
       let same' : low_bits from ≡ f from = from_in longs f place from a_place a_from (omega arith) fits low_bits only_low in
       let at : plus (low_bits place) 0 ≡ f place = rw same (omega arith) in
       subst (λ b. Always longs (Keeps f) most 19 Plain (at_place low_bits (pc + 1)) (write_plan (parts_by b (f place) 4) (f from))) (sym inside)
-      (roomy longs (Keeps f) most 3 19 Plain (at_place low_bits (pc + 1)) (write_plan (parts_by true (f place) 4) (f from)) (lit≤ tt)
-      (goes longs (Keeps f) most 2 Plain (at_place low_bits (pc + 1)) (at_place low_bits (pc + 1 + 1)) (Branch Bne 25 (pos 2)) (write_plan (parts_by true (f place) 4) (f from)) has.1.0 (rw (bits_are, even) refl) (omega arith) (omega arith) (omega arith)
-      (store longs (Keeps f) most 1 (at_place low_bits (pc + 1 + 1)) (Memory Stl from place (pos 0)) (plus (low_bits place) 0) 4 (low_bits from % 2 ^ 32) (f place / 8 * 8) _ (λ _. Over tt) has.1.1.0 refl (omega arith) (omega arith)
+      (roomy longs (Keeps f) most 2 19 Plain (at_place low_bits (pc + 1)) (write_plan (parts_by true (f place) 4) (f from)) (lit≤ tt)
+      (skips longs (Keeps f) most 1 Plain (at_place low_bits (pc + 1)) Beq 25 (pos 18) (pc + 19 + 1) (write_plan (parts_by true (f place) 4) (f from)) has.1.0 refl (rw (bits_are, even) refl) there (omega arith) (omega arith) (omega arith)
+      (store longs (Keeps f) most 0 (at_place low_bits (pc + 19 + 1)) (Memory Stl from place (pos 0)) (plus (low_bits place) 0) 4 (low_bits from % 2 ^ 32) (f place / 8 * 8) _ (λ _. Over tt) has_end.1.0 refl (omega arith) (omega arith)
       (rw at even) (rw at refl) (page 0 (0, 0) (lit< tt)) (kinds_of true e) (λ b lt. rw (at, same') (changed_low b (f place % 8) 4 (f from)))
-      (λ b lt. goes longs (Keeps f) most 0 Plain (at_place low_bits (pc + 1 + 1 + 1)) (at_place low_bits (pc + 21)) (Branch Br 31 (pos 17)) (Over tt) has.1.1.1.0 (rw end refl) (omega arith) (omega arith) (omega arith)
-      (done longs (Keeps f) most (at_place low_bits (pc + 21)) tt refl (record { only = only_low }))))))
+      (λ b lt. subst (λ z. Always longs (Keeps f) most 0 Plain (at_place low_bits z) (Over tt)) (sym behind) (long_end most low_bits only_low)))))
   long_is most false e =
-      let there : target_of (pc + 1) (pos 2) ≡ pc + 1 + 1 + 1 + 1 = omega arith in
-      roomy longs (Keeps f) most 18 19 Plain (at_place low_bits (pc + 1)) (write_plan (parts_by (lies_within (f place) 4) (f place) 4) (f from)) (lit≤ tt)
-      (goes longs (Keeps f) most 17 Plain (at_place low_bits (pc + 1)) (at_place low_bits (pc + 1 + 1 + 1 + 1)) (Branch Bne 25 (pos 2)) (write_plan (parts_by (lies_within (f place) 4) (f place) 4) (f from)) has.1.0 (rw (bits_are, e, there) refl) (omega arith) (omega arith) (omega arith)
-      (any_is longs f place from a_place a_from (omega arith) fits 4 c4 may.within (kinds_of false e) may.pages may.readable most (pc + 1 + 1 + 1 + 1) low_bits only_low has.1.1.1.1 (omega arith) (omega arith)))
+      let there : target_of (pc + 19) (pos 1) ≡ pc + 21 = omega arith in
+      let here : pc + 1 + 1 + 17 ≡ pc + 19 = omega arith in
+      let words = has_front fetch (pc + 1 + 1) (unaligned_write place 4 from) (Branch Br 31 (pos 1) ∷ Memory Stl from place (pos 0) ∷ []) has.1.1 in
+      passes longs (Keeps f) most 18 Plain (at_place low_bits (pc + 1)) Beq 25 (pos 18) (write_plan (parts_by (lies_within (f place) 4) (f place) 4) (f from)) has.1.0 (rw (bits_are, e) refl) (omega arith) (omega arith)
+      (any_then longs f place from a_place a_from (omega arith) fits 4 c4 may.within (kinds_of false e) may.pages may.readable most 1 (pc + 1 + 1) low_bits only_low words (omega arith) (omega arith)
+      (λ g o. subst (λ z. Always longs (Keeps f) most 1 Plain (at_place g z) (Over tt)) (sym here)
+      (goes longs (Keeps f) most 0 Plain (at_place g (pc + 19)) (at_place g (pc + 21)) (Branch Br 31 (pos 1)) (Over tt) has_end.0 (rw there refl) (omega arith) (omega arith) (omega arith)
+      (long_end most g o))))
 
   long_writes : (most : ℕ) → Always longs (Keeps f) most 21 Plain (at_place f pc) (write_plan (parts_by (lies_within (f place) 4) (f place) 4) (f from))
   long_writes most =
@@ -399,7 +425,8 @@ module _ (fetch : Fetch) (terms : Terms) (pc : ℕ) (f : Regs) (place from : ℕ
       let at : pc + 1 + 1 + 1 + 1 + 1 + 1 + 1 + 1 + 1 + 1 ≡ pc + 10 = omega arith in
       let words = subst (λ x. HasAt fetch x (first_write place 8 from ++ second_write place 8 from)) at has.1.1.1.1.1.1.1.1.1.1 in
       first_part quads f place from a_place a_from (omega arith) fits 8 c8 may.within retries may.pages may.readable most 7 (pc + 10) four_bits false _ e only_four (has_front fetch (pc + 10) (first_write place 8 from) (second_write place 8 from) words) (omega arith) (omega arith)
-      (λ x g lt r. second_part quads f place from a_place a_from (omega arith) fits 8 c8 may.within retries may.pages may.readable most (pc + 10 + 7) g e r (has_back fetch (pc + 10) (first_write place 8 from) (second_write place 8 from) words) (omega arith) (omega arith))
+      (λ x g lt r. second_part quads f place from a_place a_from (omega arith) fits 8 c8 may.within retries may.pages may.readable most 0 (pc + 10 + 7) g e r (has_back fetch (pc + 10) (first_write place 8 from) (second_write place 8 from) words) (omega arith) (omega arith)
+      (λ h o. finish quads f place from a_place a_from (omega arith) fits 8 c8 may.within retries may.pages may.readable most (pc + 10 + 7 + 7) h (omega arith) o))
 
   by_eight : (most : ℕ) → f place % 4 ≡ 0 → (f place % 4 == 0) ≡ true → (b : Bool) → (f place % 8 == 0) ≡ b → Always quads (Keeps f) most 5 Plain (at_place eight_bits (pc + 1 + 1 + 1)) (plan_by (lies_within (f place) 8))
   by_eight most even is_even true e =

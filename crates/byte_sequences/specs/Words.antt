@@ -124,10 +124,8 @@ unaligned_write place count from = first_write place count from ++ tested_second
 abbrev pub longword_write : (place from : ℕ) → List AlphaInstr
 longword_write place from =
     Operate And place (Literal 3) QUAD
-    ∷ Branch Bne QUAD (pos 2)
-    ∷ Memory Stl from place (pos 0)
-    ∷ Branch Br ZERO (pos 17)
-    ∷ unaligned_write place 4 from
+    ∷ Branch Beq QUAD (pos 18)
+    ∷ (unaligned_write place 4 from ++ (Branch Br ZERO (pos 1) ∷ Memory Stl from place (pos 0) ∷ []))
 
 -- an aligned quadword by STQ, and one at 4 modulo 8 by two STL
 abbrev pub quadword_write : (place from : ℕ) → List AlphaInstr

@@ -108,11 +108,13 @@ fn longword_write(alloc: Global, place: u8, from: u8) -> Result<Vec<AlphaInstr>,
 {
     let mut words = vec![in alloc;
         operate_by(OperateOp::And, place, 3, QUAD),
-        branch(BranchOp::Bne, QUAD, 2),
-        memory(MemoryOp::Stl, from, place, 0),
-        branch(BranchOp::Br, ZERO, 17),
+        branch(BranchOp::Beq, QUAD, 18),
     ]?;
     push_unaligned(&mut words, place, 4, from)?;
+    words.extend_from_slice(&[
+        branch(BranchOp::Br, ZERO, 1),
+        memory(MemoryOp::Stl, from, place, 0),
+    ])?;
     Ok(words)
 }
 
