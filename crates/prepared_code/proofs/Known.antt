@@ -24,7 +24,7 @@ use Rattle.alpha_meaning.specs.Result.{result_of}
 use Rattle.alpha_meaning.specs.State.{at_place, put, regs_of}
 use Rattle.block_law.specs.Translations.{Code, fetch_of}
 use Rattle.prepared_code.specs.Flats.{AreFlat, HasRegisters, IsInForm, IsItsWay, IsStraight, operand}
-use Rattle.prepared_code.specs.Known.{AreKnown, branch_at, branch_to, branching, by_literal, ending, flat_at, flat_by, flat_of, forking, in_form, is_begun, is_inside, landing, lands_at, leaving, memory_at, most_straight, nothing, operation, other, stays_behind, stays_inside, stop, straight_at, straight_words, sum, with_literal}
+use Rattle.prepared_code.specs.Known.{AreKnown, branch_at, branch_to, branching, by_literal, ending, flat_at, flat_by, flat_of, forking, guess, in_form, is_begun, is_inside, landing, lands_at, leaving, memory_at, most_straight, nothing, operation, other, stays_behind, stays_inside, stop, straight_at, straight_words, sum, with_literal}
 use Rattle.prepared_code.specs.Prepared.{AreReady}
 use Rattle.prepared_code.specs.declared.flat.Flat.{Flat}
 use Rattle.prepared_code.specs.declared.flat.Way.TheVariants as way
@@ -233,6 +233,14 @@ pub way_of : (code : Code) (place : ℕ) (op : BranchOp) (a target : ℕ) (lands
     → (if lands then landing target else if stays then branching op a target else leaving op a target) ≡ branch_to code place op a target
 way_of code place op a target lands stays e s = ap₂ (λ (b d : Bool). if b then landing target else if d then branching op a target else leaving op a target) e s
 
+-- nothing is told behind the words
+pub other_behind : (code : Code) (place : ℕ) → length code.words ≤ place → flat_at code place ≡ other
+other_behind code place past = by (nat_lt place (length code.words)) refl
+  where
+    by : (b : Bool) → nat_lt place (length code.words) ≡ b → unwrap_or (option_map (flat_by code place) (if b then instr_at (slice_index code.words place) else None)) other ≡ other
+    by true e = absurd (omega (arith, ltb-true place (length code.words) e, past))
+    by false e = refl
+
 -- ---- words in a row
 -- behind the words none is straight
 is_word : (code : Code) (place : ℕ) → ((flat_at code place).number == 0) ≡ false → place < length code.words
@@ -305,26 +313,28 @@ none_behind code place past = by ((flat_at code place).number == 0) refl
 -- ---- all words
 -- those from one on
 abbrev pub AreKnownFrom : Code → List Flat → (from : ℕ) → Type 0
-AreKnownFrom code flats from = (k : ℕ) (f : Flat) → from ≤ k → slice_get flats k ≡ Some f → f ≡ flat_of code k f.within
+AreKnownFrom code flats from = (k : ℕ) (f : Flat) → from ≤ k → slice_get flats k ≡ Some f → f ≡ flat_of code k
 
 pub one_more_known : (code : Code) (old : List Flat) (place number within : ℕ) (f : Flat) → place < length old → f ≡ flat_at code place → number ≡ straight_words code place most_straight
-    → AreKnownFrom code old (place + 1) → AreKnownFrom code (set old place (record f { number = number; within = within })) place
-one_more_known code old place number within f here is counts are k h l found = by (nat_lt place k) refl
+    → within ≡ guess code place → AreKnownFrom code old (place + 1) → AreKnownFrom code (set old place (record f { number = number; within = within })) place
+one_more_known code old place number within f here is counts guessed are k h l found = by (nat_lt place k) refl
   where
     new : Flat
     new = record f { number = number; within = within }
 
-    it : new ≡ flat_of code place within
-    it = ap₂ (λ (g : Flat) (n : ℕ). record g { number = n; within = within }) is counts
+    it : new ≡ flat_of code place
+    it =
+        ap₂ (λ (g : Flat) (n : ℕ). record g { number = n; within = within }) is counts
+        ∙ ap (λ n. record (flat_at code place) { number = straight_words code place most_straight; within = n }) guessed
 
-    by : (b : Bool) → nat_lt place k ≡ b → h ≡ flat_of code k h.within
+    by : (b : Bool) → nat_lt place k ≡ b → h ≡ flat_of code k
     by true e =
         let behind = ltb-true place k e in
         are k h (omega (arith, behind)) (others old place k new h (λ q. omega (arith, behind, q)) found)
     by false e =
         let at : place ≡ k = omega (arith, l, ltb-false place k e) in
-        subst (λ i. h ≡ flat_of code i h.within) at
-        (subst (λ (g : Flat). g ≡ flat_of code place g.within) (put_in old place new h here (ap (slice_get (set old place new)) at ∙ found)) it)
+        subst (λ i. h ≡ flat_of code i) at
+        (subst (λ (g : Flat). g ≡ flat_of code place) (put_in old place new h here (ap (slice_get (set old place new)) at ∙ found)) it)
 
 encodable_at : (code : Code) (ready : List Word) → AreReady code.words code.map ready (length code.words) → (k : ℕ) → IfSome (fetch_of code.words k) IsEncodable
 encodable_at code ready are k =
@@ -349,7 +359,7 @@ are_flat code ready flats are known k f found =
       straight = λ j g h there. one j g (subst (λ n. j < n) number h) there;
       its_way =
           subst (λ (g : Flat). IsItsWay code k g g.way) (sym is)
-          (counted_way code k (straight_words code k most_straight) f.within (flat_at code k) (flat_at code k).way alone.its_way);
+          (counted_way code k (straight_words code k most_straight) (guess code k) (flat_at code k) (flat_at code k).way alone.its_way);
     }
   where
     one : (j : ℕ) (g : Flat) → j < straight_words code k most_straight → slice_get flats (k + j) ≡ Some g → IsStraight code (k + j) g
@@ -357,4 +367,4 @@ are_flat code ready flats are known k f found =
         let alone = alone_at code (k + j) (encodable_at code ready are (k + j)) in
         let some : (flat_at code (k + j)).number ≢ 0 = λ z. true≢false (sym (eq-eqb (flat_at code (k + j)).number 0 z) ∙ straight_there code most_straight k j h) in
         subst (IsStraight code (k + j)) (sym (known.each (k + j) g there))
-        (counted code (k + j) (straight_words code (k + j) most_straight) g.within (flat_at code (k + j)) (alone.straight (omega (arith, some, alone.few))))
+        (counted code (k + j) (straight_words code (k + j) most_straight) (guess code (k + j)) (flat_at code (k + j)) (alone.straight (omega (arith, some, alone.few))))

@@ -4,3 +4,5 @@ pub mod Flats
 pub mod Landed
 pub mod Known
 pub mod Strides
+pub mod Guesses
+pub mod Stops

@@ -1,7 +1,6 @@
 -- How far one look at a word comes, and which steps arrive at another block.
 use Rattle.std.proofs.Common.{◌≡◌, ℕ, zero, suc, ◌+◌, ◌-◌, ◌<◌, ◌≤◌, ◌==◌, ◌&&◌, ◌||◌, if◌then◌else◌, Bool, true, false, true≢false, min, nat_lt, ltb-true, eqb-true, eq-eqb, List, length, get_or, Option, Some, None, refl, sym, ap, ◌∙◌, arith}
-use Rattle.std.specs.Prelude.{is_some, is_none, option_and_then, option_map, slice_index}
-use Rattle.std.specs.Option.{unwrap_or}
+use Rattle.std.specs.Prelude.{is_some, is_none, option_and_then, slice_index}
 use Rattle.std.proofs.lemmas.Bool.{or_from, or_left, or_right}
 use Rattle.std.proofs.lemmas.Option.{slice_get_read}
 use Rattle.address_map.specs.Pairs.{address_at}
@@ -9,15 +8,15 @@ use Rattle.alpha_encode.specs.Words.{instr_at}
 use Rattle.alpha_meaning.specs.State.{Alpha}
 use Rattle.block_law.specs.Translations.{Code}
 use Rattle.prepared_code.specs.Inside.{local_by, step_in, steps_in, unless_begun}
-use Rattle.prepared_code.specs.Known.{AreKnown, flat_at, flat_by, flat_of, most_straight, other, straight_words}
+use Rattle.prepared_code.specs.Known.{AreKnown, flat_at, flat_of, most_straight, straight_words}
 use Rattle.prepared_code.specs.Strides.{arrives, fork_of, lands_behind, lands_next, one_of, steps_next, stride_of, tells_landing}
 use Rattle.prepared_code.specs.declared.flat.Flat.{Flat}
 use Rattle.prepared_code.specs.declared.run.Stride.{Stride}
 use Rattle.prepared_code.specs.declared.run.Stride.TheVariants.{Inside, Landed}
-use Rattle.prepared_code.proofs.Known.{none_behind}
+use Rattle.prepared_code.proofs.Known.{none_behind, other_behind}
 
 -- ---- the word that is looked up
-pub known_there : (code : Code) (flats : List Flat) (place : ℕ) (f : Flat) → AreKnown code flats → place < length flats → f ≡ get_or flats place f → f ≡ flat_of code place f.within
+pub known_there : (code : Code) (flats : List Flat) (place : ℕ) (f : Flat) → AreKnown code flats → place < length flats → f ≡ get_or flats place f → f ≡ flat_of code place
 known_there code flats place f known within found = known.each place f (slice_get_read flats (length flats) place f refl within found)
 
 pub number_there : (code : Code) (flats : List Flat) (place : ℕ) (f : Flat) → AreKnown code flats → place < length flats → f ≡ get_or flats place f → f.number ≡ straight_words code place most_straight
@@ -88,12 +87,7 @@ no_steps code c past = by (nat_lt c.pc (length code.words)) refl
     by false e = refl
 
 not_told_behind : (code : Code) (place : ℕ) → length code.words ≤ place → tells_landing (flat_at code place).way ≡ false
-not_told_behind code place past = by (nat_lt place (length code.words)) refl
-  where
-    by : (b : Bool) → nat_lt place (length code.words) ≡ b
-        → tells_landing (unwrap_or (option_map (flat_by code place) (if b then instr_at (slice_index code.words place) else None)) other).way ≡ false
-    by true e = absurd (omega (arith, ltb-true place (length code.words) e, past))
-    by false e = refl
+not_told_behind code place past = ap (λ (f : Flat). tells_landing f.way) (other_behind code place past)
 
 -- one step or none
 pub one_or_none : (code : Code) (c d : Alpha) (steps : ℕ) → steps ≤ 1 → steps_in code c steps ≡ Some d → (steps ≡ 0 → step_in code d ≡ None) → steps ≡ one_of (step_in code c)

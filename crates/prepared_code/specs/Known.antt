@@ -1,5 +1,5 @@
 -- What is known of each word before it runs, by the code alone: one operation on registers, or where it goes.
-use Rattle.std.specs.Prelude.{◌≡◌, ℕ, ℤ, zero, suc, ◌+◌, ◌-◌, ◌^◌, ◌==◌, ◌&&◌, Bool, not, nat_lt, if◌then◌else◌, List, length, slice_get, Some, is_some, option_map}
+use Rattle.std.specs.Prelude.{◌≡◌, ℕ, ℤ, zero, suc, ◌+◌, ◌-◌, ◌%◌, ◌^◌, ◌==◌, ◌&&◌, Bool, true, false, not, min, max, nat_lt, if◌then◌else◌, List, length, slice_get, Option, Some, None, is_some, option_map}
 use Rattle.std.specs.Int.{cast_unsigned, w64}
 use Rattle.std.specs.Option.{unwrap_or}
 use Rattle.vt_words.specs.Quad.{spread}
@@ -17,6 +17,7 @@ use Rattle.alpha_meaning.specs.Memory.{kind_of, scale_of}
 use Rattle.alpha_meaning.specs.Result.{times}
 use Rattle.block_law.specs.Translations.{Code, fetch_of}
 use Rattle.prepared_code.specs.declared.flat.Flat.{Flat}
+use Rattle.prepared_code.specs.declared.flat.Way.{Way}
 use Rattle.prepared_code.specs.declared.flat.Way.TheVariants as way
 
 -- a word of which nothing is told; one behind which no step stays inside its block; a straight one whose result no register keeps
@@ -118,6 +119,15 @@ flat_by code place (Pal number) = stop
 abbrev pub flat_at : Code → (place : ℕ) → Flat
 flat_at code place = unwrap_or (option_map (flat_by code place) (fetch_of code.words place)) other
 
+-- an access or a PALcode call makes no local step
+abbrev pub stops_by : Option AlphaInstr → Bool
+stops_by (Some (Memory op ra rb disp)) = is_some (kind_of op)
+stops_by (Some (Pal number)) = true
+stops_by _ = false
+
+abbrev pub stops_at : Code → (place : ℕ) → Bool
+stops_at code place = stops_by (fetch_of code.words place)
+
 -- ---- words in a row
 -- how many words are straight from one on, at most so many
 abbrev pub straight_words : Code → (place most : ℕ) → ℕ
@@ -128,11 +138,52 @@ straight_words code place (suc most) = if (flat_at code place).number == 0 then 
 abbrev pub most_straight : ℕ
 most_straight = 2 ^ 8 - 1
 
--- the word there, with how many are straight from it on and with a guess
-abbrev pub flat_of : Code → (place within : ℕ) → Flat
-flat_of code place within = record (flat_at code place) { number = straight_words code place most_straight; within = within }
+-- ---- guesses
+-- A guess: within how many steps, all local, a word comes to another block; 0 where none is told, as at a branch back. It tells where a run need not look: nothing rests on it but speed.
+-- one step more than the words behind are guessed to take; 0 behind 0, and where a byte doesn't count it
+abbrev pub one_step_more : ℕ → ℕ
+one_step_more behind = if behind == 0 then 0 else (behind + 1) % 2 ^ 8
 
--- the flat words of a code; the guesses alone are free
+-- of a word inside the block; 0 where another begins
+abbrev pub guess_inside : Code → (later : ℕ → ℕ) → (word : ℕ) → ℕ
+guess_inside code later word = if is_begun code word then 0 else later word
+
+-- by the guesses of later words
+abbrev pub guess_by : Code → (later : ℕ → ℕ) → (place : ℕ) → Flat → Way → ℕ
+guess_by code later place f way.Other = if f.number == 0 then 0 else one_step_more (later (place + 1))
+guess_by code later place f way.Stops = 0
+guess_by code later place f way.Lands = 1
+guess_by code later place f way.Ends = 1
+guess_by code later place f (way.Forks op) = min (max (guess_inside code later f.literal) (guess_inside code later (place + 1)) + 1) most_straight
+guess_by code later place f (way.Branches op) = one_step_more (max (later f.literal) (later (place + 1)))
+
+abbrev pub guess_of : Code → (later : ℕ → ℕ) → (place : ℕ) → Flat → ℕ
+guess_of code later place f = guess_by code later place f f.way
+
+abbrev pub later_than : (place : ℕ) → (guesses : ℕ → ℕ) → (word : ℕ) → ℕ
+later_than place guesses word = if nat_lt place word then guesses word else 0
+
+-- by so many words from there on
+unfoldable pub guess_within : Code → (words place : ℕ) → ℕ
+guess_within code zero place = 0
+guess_within code (suc words) place = guess_of code (later_than place (guess_within code words)) place (flat_at code place)
+
+unfoldable pub guess : Code → (place : ℕ) → ℕ
+guess code place = guess_within code (length code.words) place
+
+-- ---- the flat words
+-- what is guessed of one of these; 0 behind them
+abbrev pub guess_told : Option Flat → ℕ
+guess_told None = 0
+guess_told (Some f) = f.within
+
+abbrev pub guess_at : List Flat → (word : ℕ) → ℕ
+guess_at flats word = guess_told (slice_get flats word)
+
+-- the word there, with how many are straight from it on and with its guess
+abbrev pub flat_of : Code → (place : ℕ) → Flat
+flat_of code place = record (flat_at code place) { number = straight_words code place most_straight; within = guess code place }
+
 pub record AreKnown (code : Code) (flats : List Flat) : Type 0 where
   pub counted : length flats ≡ length code.words
-  pub each : (k : ℕ) (f : Flat) → slice_get flats k ≡ Some f → f ≡ flat_of code k f.within
+  pub each : (k : ℕ) (f : Flat) → slice_get flats k ≡ Some f → f ≡ flat_of code k

@@ -4,7 +4,7 @@ ghost use Rattle.std.specs.Prelude.{◌≡◌, ◌≢◌, ◌+◌, ◌<◌, ◌�
 ghost use Rattle.alpha_encode.specs.Words.{IsEncodable};
 ghost use Rattle.alpha_meaning.specs.Pieces.{most_words};
 ghost use Rattle.block_law.specs.Translations.{Code, fetch_of};
-ghost use Rattle.prepared_code.specs.Known.{AreKnown, branch_at, by_literal, ending, flat_at, flat_by, in_form, is_begun, is_inside, lands_at, leaving, memory_at, most_straight, operation, stays_behind, stays_inside, straight_at, sum, with_literal};
+ghost use Rattle.prepared_code.specs.Known.{AreKnown, branch_at, by_literal, ending, flat_at, flat_by, guess_at, guess_inside, guess_of, in_form, is_begun, is_inside, lands_at, leaving, memory_at, most_straight, operation, stays_behind, stays_inside, straight_at, sum, with_literal};
 ghost use Rattle.prepared_code.specs.Prepared.{AreEncodable, AreReady};
 
 use crate::effect::target_of;
@@ -309,7 +309,9 @@ fn straight_from(alone: u8, behind: u8) -> u8
 }
 
 /// Within how many steps a word is guessed to come to another block; 0 behind the words.
-fn guess_at(flats: &[Flat], place: usize) -> u8 {
+fn guess_at(flats: &[Flat], place: usize) -> u8
+    ensures { result ≡ guess_at flats.now place }
+{
     match flats.get(place) {
         Some(flat) => flat.within,
         None => 0,
@@ -317,7 +319,9 @@ fn guess_at(flats: &[Flat], place: usize) -> u8 {
 }
 
 /// The same of a word inside the block of another; 0 where a block begins.
-fn guess_inside(ready: &[Word], flats: &[Flat], place: usize) -> u8 {
+fn guess_inside(ready: &[Word], flats: &[Flat], place: usize) -> u8
+    ensures { (code : Code) → AreReady code.words code.map ready.now (length code.words) → result ≡ guess_inside code (guess_at flats.now) place }
+{
     if is_begun(ready, place) {
         0
     } else {
@@ -328,6 +332,7 @@ fn guess_inside(ready: &[Word], flats: &[Flat], place: usize) -> u8 {
 /// The same of a word before those that are known: by the next one, or by the ways of a branch to a later word.
 fn guess_of(ready: &[Word], flats: &[Flat], place: usize, flat: &Flat) -> u8
     requires { place < length flats.now }
+    ensures { (code : Code) → AreReady code.words code.map ready.now (length code.words) → result ≡ guess_of code (guess_at flats.now) place flat.now }
 {
     let behind = match flat.way {
         Way::Lands | Way::Ends => return 1,

@@ -4,6 +4,7 @@ ghost use Rattle.alpha_machine.specs.Step.{state_of};
 ghost use Rattle.alpha_meaning.specs.State.{Alpha};
 ghost use Rattle.prepared_code.specs.Effects.{behind};
 ghost use Rattle.prepared_code.specs.Inside.{landed, landing, local_at};
+ghost use Rattle.prepared_code.specs.Known.{stops_at};
 ghost use Rattle.prepared_code.specs.Landings.{landed_by};
 ghost use Rattle.prepared_code.specs.Sources.{block_at};
 
@@ -65,10 +66,11 @@ impl<'a> Prepared<'a> {
         }
     }
 
-    /// Whether the word there is known to make no local step, which leads to no block then.
+    /// Whether the word there is an access or a PALcode call: it makes no local step, and leads to no block.
     #[inline(always)]
     pub fn stops_at(&self, cpu: &Cpu) -> bool
-        ensures { result ≡ true → landing self.now (state_of cpu.now) ≡ None }
+        ensures just { result ≡ stops_at self.now.code cpu.now.pc }
+        ensures none { result ≡ true → landing self.now (state_of cpu.now) ≡ None }
     {
         match self.flats().get(cpu.pc as usize) {
             Some(flat) => matches!(flat.way, Way::Stops),

@@ -11,6 +11,7 @@ ghost use Rattle.prepared_code.specs.Effects.{behind};
 ghost use Rattle.prepared_code.specs.Flats.{AreStraight, IsFork, IsInForm, effect, operand, way_out};
 ghost use Rattle.prepared_code.specs.declared.flat.Flat.{Flat};
 ghost use Rattle.prepared_code.specs.Inside.{Crosses, local_at, step_in, steps_in};
+ghost use Rattle.prepared_code.specs.Known.{guess};
 ghost use Rattle.prepared_code.specs.Strides.{IsStride, Rests, arrives, fork_of, steps_next, stride_of};
 
 use crate::effect::{Effect, clear_31, commit, effect_of, register, write};
@@ -246,7 +247,9 @@ impl<'a> Prepared<'a> {
 
     /// A guess: within how many steps, all local, the word comes to another block; 0 where none is made.
     #[inline(always)]
-    pub fn guess(&self, word: u32) -> u64 {
+    pub fn guess(&self, word: u32) -> u64
+        ensures { result ≡ guess self.now.code word }
+    {
         match self.flats().get(word as usize) {
             Some(flat) => u64::from(flat.within),
             None => 0,

@@ -13,6 +13,7 @@ pub mod Reading
 pub mod Unspent
 pub mod Inside
 pub mod Courses
+mod Glides
 pub mod Stopping
 pub mod ManyTurns
 pub mod Advances

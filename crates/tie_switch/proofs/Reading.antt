@@ -4,7 +4,7 @@ use Rattle.std.specs.Prelude.{MatchBool, reverse}
 use Rattle.std.proofs.lemmas.Bool.Decides.{nat_tests}
 use Rattle.std.proofs.lemmas.List.{append-nil, reverse-append}
 use Rattle.std.proofs.lemmas.Bool.{and_parts}
-use Rattle.memory_core.specs.Contents.{Contents, entry_for}
+use Rattle.memory_core.specs.Contents.{entry_for}
 use Rattle.memory_core.specs.Kinds.{is_get}
 use Rattle.memory_core.specs.Live.{LiveContents, wants_input}
 use Rattle.memory_core.specs.Order.{gets}

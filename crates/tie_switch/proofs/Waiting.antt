@@ -1,6 +1,6 @@
 -- What waits, and for which processors of the model it then stands.
 use Rattle.std.proofs.Common.{◌≡◌, ℕ, ◌&&◌, ◌++◌, Bool, true, false, not, List, refl, sym, ap, ◌∙◌, subst}
-use Rattle.system_model.specs.Processors.{Mode, New, Runs, Interprets, Ended, Processor, mode_of}
+use Rattle.system_model.specs.Processors.{Mode, Interprets, Processor, mode_of}
 use Rattle.system_model.specs.Settings.{Setting}
 use Rattle.vax_form.specs.declared.pages.Pages.{Pages}
 use Rattle.vax_form.specs.declared.state.VaxState.{VaxState}

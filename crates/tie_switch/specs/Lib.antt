@@ -7,6 +7,7 @@ pub mod Asks
 pub mod Turns
 pub mod Inside
 pub mod Courses
+pub mod Glides
 pub mod ManyTurns
 pub mod Live
 pub mod Laws

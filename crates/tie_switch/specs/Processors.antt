@@ -1,5 +1,5 @@
 -- What contracts see of a processor, and for which processors of the model it stands.
-use Rattle.std.specs.Prelude.{◌≡◌, ◌≢◌, ◌<◌, ◌≤◌, ◌++◌, ℕ, Bool, List, Option, Some, None}
+use Rattle.std.specs.Prelude.{◌≡◌, ◌≢◌, ◌<◌, ◌≤◌, ◌++◌, ℕ, Bool, true, false, List, Option, Some, None}
 use Rattle.memory_core.specs.Requests.{CanMake}
 use Rattle.memory_core.specs.declared.entry.Entry.{Entry}
 use Rattle.memory_core.specs.declared.entry.Request.{Request}
@@ -12,6 +12,8 @@ use Rattle.vax_driven.specs.declared.thread.End.{End}
 use Rattle.vax_form.specs.declared.pages.Pages.{Pages}
 use Rattle.vax_form.specs.declared.state.Flags.{Flags}
 use Rattle.vax_form.specs.Tree.{Wants, answer}
+use Rattle.vax_form.specs.declared.state.Pending.{Pending}
+use Rattle.vax_form.specs.declared.state.Pending.TheVariants.{Nothing}
 use Rattle.vax_form.specs.declared.state.Reference.{Reference}
 use Rattle.vax_form.specs.declared.state.VaxState.{VaxState}
 use Rattle.vax_long.specs.Pending.{moment_at}
@@ -76,6 +78,14 @@ end_of model.New = None
 end_of (model.Runs alpha) = None
 end_of (model.Interprets state replies) = None
 end_of (model.Ended end) = Some end
+
+-- it stands in Alpha code, with nothing pending
+abbrev pub is_running_by : Mode → Pending → Bool
+is_running_by (modes.Runs cpu) Nothing = true
+is_running_by _ _ = false
+
+abbrev pub is_running : ProcessorValue → Bool
+is_running k = is_running_by k.mode k.boundary.pending
 
 -- ---- the processors of the model for which it stands
 -- at an interpreted instruction with its replies so far, the last of which the instruction was not given yet

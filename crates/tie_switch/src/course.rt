@@ -4,9 +4,11 @@ ghost use Rattle.alpha_machine.specs.Step.{state_of};
 ghost use Rattle.alpha_meaning.specs.State.{at_place};
 ghost use Rattle.prepared_code.specs.Effects.{behind};
 ghost use Rattle.prepared_code.specs.Inside.{step_in};
+ghost use Rattle.prepared_code.specs.Probes.{passes};
 ghost use Rattle.exception_records.specs.Shown.{still_held};
 ghost use Rattle.image_meaning.specs.Meant.{codes_written};
 ghost use Rattle.tie_switch.specs.Courses.{Goes, HasOpcode, HoldsNone, boundary_by, landed_there};
+ghost use Rattle.tie_switch.specs.Glides.{IsGlide, IsGlideOn, is_plain, may_glide};
 ghost use Rattle.tie_switch.specs.Inside.{block_rules, goes_on_locally};
 ghost use Rattle.tie_switch.specs.Settings.{image_setting};
 ghost use Rattle.vax_form.specs.Pages.{code_byte_at};
@@ -193,6 +195,7 @@ impl Course {
         thread: u8,
         before: &VaxState,
     ) -> bool
+        ensures just { result ≡ passes prepared.now (state_of self.old.cpu) }
         ensures landed { self.new.landed ≡ self.old.landed }
         ensures retired { self.new.retired ≡ self.old.retired }
         ensures passes { result ≡ true → Goes (image_setting prepared.now.pages prepared.now.code ranges.now) thread before.now self.old self.new 1 }
@@ -224,6 +227,7 @@ impl Course {
         ensures goes { result ≡ true → Goes (image_setting prepared.now.pages prepared.now.code ranges.now) thread before.now self.old self.new 1 }
         ensures retired { self.new.retired ≤ self.old.retired + 1 }
         ensures stays { result ≡ false → self.new ≡ self.old }
+        ensures probes { result ≡ false → passes prepared.now (state_of self.new.cpu) ≡ false }
         ensures stops { result ≡ false → goes_on_locally (image_setting prepared.now.pages prepared.now.code ranges.now) thread (state_of self.new.cpu) ≡ false }
     {
         self.probe(prepared, ranges, thread, before)
@@ -248,6 +252,7 @@ impl Course {
         ensures some { result.1 ≡ true → 0 < result.0 }
         ensures goes { Goes (image_setting prepared.now.pages prepared.now.code ranges.now) thread before.now self.old self.new result.0 }
         ensures retired { self.new.retired ≤ self.old.retired + result.0 }
+        ensures probes { result.1 ≡ false → result.0 < most → passes prepared.now (state_of self.new.cpu) ≡ false }
         ensures stops { result.1 ≡ false → result.0 < most → goes_on_locally (image_setting prepared.now.pages prepared.now.code ranges.now) thread (state_of self.new.cpu) ≡ false }
     {
         steps_are_turns();
@@ -262,7 +267,8 @@ impl Course {
     // It holds no code, and no address of any thread is interpreted.
     #[inline(always)]
     fn is_plain(&self, ranges: &[Range]) -> bool
-        ensures { result ≡ true → (ranges.now ≡ []) × HoldsNone self.now.held }
+        ensures just { result ≡ is_plain ranges.now self.now.held }
+        ensures plain { result ≡ true → (ranges.now ≡ []) × HoldsNone self.now.held }
     {
         let held = self.held;
         ranges.is_empty() && !(held.n || held.z || held.v || held.c)
@@ -286,6 +292,7 @@ impl Course {
         requires room { self.old.retired + most < 2 ^ 64 }
         requires opcode { HasOpcode prepared.now.pages self.old.landed }
         ensures opcode { HasOpcode prepared.now.pages self.new.landed }
+        ensures glides { IsGlide prepared.now.code most self.old.cpu self.new.cpu result }
         ensures most { IfOk result (λ steps. steps ≤ most) }
         ensures goes { IfOk result (λ steps. (thread : ℕ) (before : VaxState) → before.pending ≡ Nothing
             → Goes (image_setting prepared.now.pages prepared.now.code []) thread before self.old self.new steps) }
@@ -328,6 +335,8 @@ impl Course {
         requires room { self.old.retired + most < 2 ^ 64 }
         requires opcode { HasOpcode prepared.now.pages self.old.landed }
         ensures opcode { HasOpcode prepared.now.pages self.new.landed }
+        ensures glides { may_glide prepared.now.code ranges.now self.old.held self.old.cpu is_watched ≡ true → IsGlideOn prepared.now.code most self.old.cpu self.new.cpu result }
+        ensures stays { may_glide prepared.now.code ranges.now self.old.held self.old.cpu is_watched ≡ false → (result ≡ (0, 0)) × (self.new ≡ self.old) }
         ensures most { result.0 ≤ most }
         ensures goes { (thread : ℕ) (before : VaxState) → before.pending ≡ Nothing
             → Goes (image_setting prepared.now.pages prepared.now.code ranges.now) thread before self.old self.new result.0 }
@@ -343,7 +352,7 @@ impl Course {
     }
 
     /// Makes local steps and probes, inside blocks and from block to block, and tells how many: at most so many, and only
-    /// those behind which the thread goes on in Alpha code. Fewer are made only where the next is no such local step.
+    /// those behind which the thread goes on in Alpha code. Fewer are made only where the next is neither.
     #[inline(always)]
     pub(crate) fn run(
         &mut self,
@@ -360,6 +369,7 @@ impl Course {
         ensures most { result ≤ most }
         ensures goes { Goes (image_setting prepared.now.pages prepared.now.code ranges.now) thread before.now self.old self.new result }
         ensures retired { self.new.retired ≤ self.old.retired + result }
+        ensures probes { result < most → passes prepared.now (state_of self.new.cpu) ≡ false }
         ensures stops { result < most → goes_on_locally (image_setting prepared.now.pages prepared.now.code ranges.now) thread (state_of self.new.cpu) ≡ false }
     {
         let (mut made, mut watched) = (0, 0);

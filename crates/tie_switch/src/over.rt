@@ -1,12 +1,12 @@
 // Local steps and accesses inside blocks, in one course.
-ghost use Rattle.std.specs.Prelude.{◌≡◌, ◌<◌, ◌≤◌, ◌+◌, ◌^◌, ◌↔◌, ℕ, false, true, IfSome};
+ghost use Rattle.std.specs.Prelude.{◌≡◌, ◌<◌, ◌≤◌, ◌+◌, ◌^◌, ◌↔◌, ℕ, false, true, IfSome, is_some};
 ghost use Rattle.memory_core.specs.Limits.{CountsPuts};
 ghost use Rattle.system_model.specs.Legal.{spent};
 ghost use Rattle.system_model.specs.Processors as model;
 ghost use Rattle.tie_switch.specs.Courses.{HasOpcode, course_of};
 ghost use Rattle.tie_switch.specs.Live.{KeepsRead, is_spent};
 ghost use Rattle.tie_switch.specs.ManyTurns.{IsBehind, IsTurns, MayCome};
-ghost use Rattle.tie_switch.specs.Processors.{HasAdvanced, HasSteps, IsPlain};
+ghost use Rattle.tie_switch.specs.Processors.{HasAdvanced, HasSteps, IsPlain, is_running};
 ghost use Rattle.tie_switch.specs.Seen.{setting_of};
 ghost use Rattle.tie_switch.specs.Turns.{has_ended};
 ghost use Rattle.vax_form.specs.declared.pages.Pages.{Pages};
@@ -26,6 +26,7 @@ impl Processor {
     /// Its course, where it stands in Alpha code with nothing pending.
     #[inline(always)]
     pub(crate) fn running(&self) -> Option<Course>
+        ensures just { is_some result ≡ is_running self.now }
         ensures is { IfSome result (λ course. course_of self.now.thread self.now.boundary self.now.interpreted course self.now.steps ≡ processor_of self.now) }
         ensures nothing { IfSome result (λ course. self.now.boundary.pending ≡ Nothing) }
         ensures retired { IfSome result (λ course. course.retired ≡ self.now.retired) }

@@ -1,5 +1,6 @@
 -- the blocks so far; nothing but the registers has changed
 use Rattle.std.proofs.Common.{◌≡◌, ◌≤◌, ◌-◌, []}
+use Rattle.tie_switch.specs.Glides.{Glided}
 use Rattle.tie_switch.specs.Inside.{source_in}
 use Rattle.tie_switch.specs.Settings.{image_setting}
 use Rattle.tie_switch.proofs.Courses.{Glides}
@@ -12,6 +13,7 @@ invariant-loop-made l =
       most : l.made ≤ l.most;
       few : l.crossed ≤ l.made;
       same : l.self ≡ record l.initial.self { cpu = l.self.cpu };
+      glided : Glided l.prepared.code l.most l.initial.self.cpu l.self.cpu l.made;
       glides : Glides s (source_in s l.prepared.pages) l.initial.self l.self.cpu l.made l.crossed;
     }
 
