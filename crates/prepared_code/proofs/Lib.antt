@@ -6,3 +6,4 @@ pub mod Known
 pub mod Strides
 pub mod Guesses
 pub mod Stops
+pub mod Looks
