@@ -4,6 +4,8 @@ use Rattle.std.proofs.lemmas.Option.{same_Some}
 use Rattle.std.specs.Prelude.{unwrap_or, if◌then◌else◌}
 use Rattle.alpha_encode.specs.declared.instr.AlphaInstr.{AlphaInstr}
 use Rattle.exception_records.specs.declared.points.Point.{Point}
+use Rattle.exception_records.specs.declared.rules.CodeRule.{CodeRule}
+use Rattle.exception_records.specs.declared.rules.CodeRule.TheVariants as code_rules
 use Rattle.micro_ops.specs.LeftOut.{is_left_out}
 use Rattle.micro_ops.specs.declared.program.Exit.{Exit}
 use Rattle.micro_ops.specs.declared.program.Exit.TheVariants.{Next, Fixed, Computed, Choice, Service, Breakpoint}
@@ -33,8 +35,12 @@ module _ (site : Site) where
   pub trap : (exit : Exit) → Starts (trap_lines site exit)
   trap exit = by (may_trap site)
     where
+      tested : (rule : CodeRule) → Starts (tested_lines rule (overflow_made rule) (overflow_lines site exit))
+      tested code_rules.Ready = refl
+      tested rule = refl
+
       by : (b : Bool) → Starts (if b then tested_lines site.behind.v (overflow_made site.behind.v) (overflow_lines site exit) else [])
-      by true = refl
+      by true = tested site.behind.v
       by false = tt
 
   pub depart : (exit : Exit) → Starts (departing site exit)

@@ -31,7 +31,7 @@ use Rattle.micro_ops.specs.Exits.{exit_addresses}
 use Rattle.program_codegen.specs.declared.lines.Line.{Line}
 use Rattle.program_codegen.specs.declared.points.Site.{Site}
 use Rattle.alpha_encode.specs.Halves.{load_longword}
-use Rattle.program_codegen.specs.Words.{plain, marked, holder, copy, point_of, raising, trapping, exit_lines, overflow_made, overflow_register, load_pc, overflow_lines, tested_lines, may_overflow, may_trap, trap_lines, departing, leaving, words_of}
+use Rattle.program_codegen.specs.Words.{plain, marked, holder, copy, point_of, raising, trapping, exit_lines, overflow_made, overflow_register, load_pc, overflow_lines, enabled_lines, ready_lines, made_lines, tested_lines, may_overflow, may_trap, trap_lines, departing, leaving, words_of}
 use Rattle.program_codegen.specs.Programs.{IsExit, KeepsTogether}
 use Rattle.program_codegen.proofs.Numbers.{all_four}
 use Rattle.program_codegen.proofs.Walk.{plain_length}
@@ -103,9 +103,6 @@ status_word = Operate And 20 (Literal 32) 27
 abbrev skip_word : ℕ → AlphaInstr
 skip_word n = Branch Beq 27 (pos n)
 
-abbrev test_word : CodeRule → ℕ → AlphaInstr
-test_word rule n = Branch Beq (overflow_register rule) (pos n)
-
 module _ (site : Site) where
   kind_silent : Silent site 1 (plain (Memory Lda 21 31 (pos 1)) ∷ [])
   kind_silent = silent_row site 1 (Memory Lda 21 31 (pos 1) ∷ []) (one_word (Memory Lda 21 31 (pos 1)) (lit< tt, lit< tt, small_fits 1 (lit< tt))) refl (lit≤ tt)
@@ -126,14 +123,31 @@ module _ (site : Site) where
   overflow_register_fits code_rules.Ready = lit< tt
   overflow_register_fits rule = lit< tt
 
-  tested_silent : (rule : CodeRule) (trap : List Line) → Silent site 8 trap → Silent site 20 (tested_lines rule (overflow_made rule) trap)
-  tested_silent rule trap silent =
+  enabled_silent : (over : ℕ) → over < 2 ^ 20 → Silent site 2 (enabled_lines over)
+  enabled_silent over lt = silent_row site 2 (status_word ∷ skip_word over ∷ []) (all_encodable (status_word ∷ skip_word over ∷ []) ((lit< tt, lit< tt, lit< tt), (branch_encodable Beq 27 over (lit< tt) lt, tt))) refl (lit≤ tt)
+
+  test_silent : (register over : ℕ) → register < 32 → over < 2 ^ 20 → Silent site 1 (plain (Branch Beq register (pos over)) ∷ [])
+  test_silent register over fits lt = silent_row site 1 (Branch Beq register (pos over) ∷ []) (one_word _ (branch_encodable Beq register over fits lt)) refl (lit≤ tt)
+
+  ready_silent : (trap : List Line) → Silent site 8 trap → Silent site 20 (ready_lines trap)
+  ready_silent trap silent =
+      let few = silent.few in
+      let x = silent_append site 1 10 (plain (Branch Beq 18 (pos (2 + length trap))) ∷ []) (enabled_lines (length trap) ++ trap) (test_silent 18 (2 + length trap) (lit< tt) (omega arith))
+      (silent_append site 2 8 (enabled_lines (length trap)) trap (enabled_silent (length trap) (omega arith)) silent) in
+      let short = x.few in
+      record { front = x.front; quiet = x.quiet; few = omega arith }
+
+  made_lines_silent : (rule : CodeRule) (trap : List Line) → Silent site 8 trap → Silent site 20 (made_lines rule (overflow_made rule) trap)
+  made_lines_silent rule trap silent =
       let few = silent.few in
       let made = made_short rule in
-      silent_append site 1 19 (plain (status_word) ∷ []) _ (silent_row site 1 (status_word ∷ []) (one_word status_word (lit< tt, lit< tt, lit< tt)) refl (lit≤ tt))
-      (silent_append site 1 18 (plain (skip_word (length (overflow_made rule) + 1 + length trap)) ∷ []) _ (silent_row site 1 (skip_word (length (overflow_made rule) + 1 + length trap) ∷ []) (one_word _ (branch_encodable Beq 27 (length (overflow_made rule) + 1 + length trap) (lit< tt) (omega arith))) refl (lit≤ tt))
+      silent_append site 2 18 (enabled_lines (length (overflow_made rule) + 1 + length trap)) _ (enabled_silent (length (overflow_made rule) + 1 + length trap) (omega arith))
       (silent_append site 9 9 (map plain (overflow_made rule)) _ (silent_row site 9 (overflow_made rule) (made_encodable rule) (made_silent rule) made)
-      (silent_append site 1 8 (plain (test_word rule (length trap)) ∷ []) trap (silent_row site 1 (test_word rule (length trap) ∷ []) (one_word _ (branch_encodable Beq (overflow_register rule) (length trap) (overflow_register_fits rule) (omega arith))) refl (lit≤ tt)) silent)))
+      (silent_append site 1 8 (plain (Branch Beq (overflow_register rule) (pos (length trap))) ∷ []) trap (test_silent (overflow_register rule) (length trap) (overflow_register_fits rule) (omega arith)) silent))
+
+  tested_silent : (rule : CodeRule) (trap : List Line) → Silent site 8 trap → Silent site 20 (tested_lines rule (overflow_made rule) trap)
+  tested_silent code_rules.Ready trap silent = ready_silent trap silent
+  tested_silent rule trap silent = made_lines_silent rule trap silent
 
   pub traps_silent : (exit : Exit) → IsExit exit → Silent site 20 (trap_lines site exit)
   traps_silent exit is = by (may_trap site)

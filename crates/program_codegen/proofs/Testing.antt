@@ -16,6 +16,8 @@ use Rattle.alpha_meaning.specs.Result.{plus, times}
 use Rattle.alpha_meaning.specs.State.{Regs, put, at_place}
 use Rattle.alpha_meaning.proofs.Registers.{put_other}
 use Rattle.exception_records.specs.Shown.{still_held}
+use Rattle.exception_records.specs.declared.rules.CodeRule.{CodeRule}
+use Rattle.exception_records.specs.declared.rules.CodeRule.TheVariants as code_rules
 use Rattle.micro_ops.specs.declared.known.Known.{Known}
 use Rattle.micro_ops.specs.declared.program.Exit.{Exit}
 use Rattle.micro_ops.specs.Meaning.{Standing, Departure, Ended, departed, flag_of, traps as is_trapping}
@@ -26,12 +28,12 @@ use Rattle.block_law.proofs.Kept.{state_kept}
 use Rattle.block_law.proofs.Rules.{Always, roomy, goes, passes, skips, traps}
 use Rattle.program_codegen.specs.declared.lines.Line.{Line}
 use Rattle.program_codegen.specs.declared.points.Site.{Site}
-use Rattle.program_codegen.specs.Words.{plain, marked, trapping, overflow_made, overflow_register, tells_overflow, may_overflow, load_pc, overflow_lines, tested_lines, may_trap, trap_lines}
+use Rattle.program_codegen.specs.Words.{plain, marked, trapping, overflow_made, overflow_register, tells_overflow, may_overflow, load_pc, overflow_lines, enabled_lines, ready_lines, made_lines, tested_lines, may_trap, trap_lines}
 use Rattle.program_codegen.specs.Programs.{IsExit, is_narrow}
 use Rattle.program_codegen.proofs.Walk.{Within, next, stands, is_inside, row_rest, plain_length}
 use Rattle.program_codegen.proofs.Coded.{Coded, left_is, coded_still}
 use Rattle.program_codegen.proofs.Exiting.{kept_by_put, kept_apart}
-use Rattle.program_codegen.proofs.Trapping.{Overflows, left_overflow, not_set, is_overflow, untrapped, makes, pc_left, ExitHolds, loads_pc}
+use Rattle.program_codegen.proofs.Trapping.{Overflows, left_overflow, not_set, is_overflow, untrapped, makes, ready_is, pc_left, ExitHolds, loads_pc}
 use Rattle.program_codegen.proofs.Rows.{made_short}
 use Rattle.program_codegen.proofs.Endings.{pc_short}
 
@@ -105,130 +107,208 @@ module _ (p : Placement) (site : Site) (known : Known) (standing : Standing) (af
         by true = refl
         by false = refl
 
-    -- V in a register is tested
-    tests : (pc : ℕ) (register : ℕ) (regs : Regs) → (flag_of 5 standing.state.psw == 1) ≡ true → bit standing.overflowed ≡ left_overflow standing → regs register ≡ left_overflow standing → Coded p site known standing regs
+    trap_assoc : trap ++ rest ≡ map plain (load_pc site.after exit) ++ (plain (Memory Lda 21 31 (pos 1)) ∷ marked (Pal 0x84) (trapping site) ∷ rest)
+    trap_assoc = append_assoc (map plain (load_pc site.after exit)) (plain (Memory Lda 21 31 (pos 1)) ∷ marked (Pal 0x84) (trapping site) ∷ []) rest
+
+    -- behind the trap
+    abbrev over : ℕ → ℕ
+    over pc = pc + length (load_pc site.after exit) + 1 + 1
+
+    behind_trap : (pc : ℕ) → Within p site.behind pc (trap ++ rest) → Within p site.behind (over pc) rest
+    behind_trap pc w =
+        let q = pc + length (load_pc site.after exit) in
+        let w1 = row_rest p site.behind pc (load_pc site.after exit) (plain (Memory Lda 21 31 (pos 1)) ∷ marked (Pal 0x84) (trapping site) ∷ rest) (subst (Within p site.behind pc) trap_assoc w) in
+        next p site.behind (q + 1) (Pal 0x84) (Some (trapping site)) rest (next p site.behind q (Memory Lda 21 31 (pos 1)) None (marked (Pal 0x84) (trapping site) ∷ rest) w1)
+
+    -- a register is tested that tells whether it is trapped
+    tests : (pc : ℕ) (register : ℕ) (regs : Regs) → ((regs register == 0) ≡ true → is_trapping standing ≡ false) → ((regs register == 0) ≡ false → is_trapping standing ≡ true) → Coded p site known standing regs
         → Within p site.behind pc (plain (Branch Beq register (pos (length trap))) ∷ (trap ++ rest))
         → Always p None (1 + length trap + need) (at_place regs pc) (Either (is_trapping standing))
-    tests pc register regs enabled overflow in_register c w = by (left_overflow standing == 0) refl
+    tests pc register regs not_set_is set_is c w = by (regs register == 0) refl
       where
-        assoc : trap ++ rest ≡ map plain (load_pc site.after exit) ++ (plain (Memory Lda 21 31 (pos 1)) ∷ marked (Pal 0x84) (trapping site) ∷ rest)
-        assoc = append_assoc (map plain (load_pc site.after exit)) (plain (Memory Lda 21 31 (pos 1)) ∷ marked (Pal 0x84) (trapping site) ∷ []) rest
+        w1 : Within p site.behind (pc + 1) (trap ++ rest)
+        w1 = next p site.behind pc (Branch Beq register (pos (length trap))) None (trap ++ rest) w
 
-        by : (b : Bool) → (left_overflow standing == 0) ≡ b → Always p None (1 + length trap + need) (at_place regs pc) (Either (is_trapping standing))
+        by : (b : Bool) → (regs register == 0) ≡ b → Always p None (1 + length trap + need) (at_place regs pc) (Either (is_trapping standing))
         by true e =
-            let none = not_set standing.overflowed (left_overflow standing) overflow (zero_of (left_overflow standing) e) in
+            let none = not_set_is e in
             let size = trap_length in
             let short = pc_short site.after exit in
             let all = length-append trap rest in
             let end = w.high in
             let near = w.near in
-            let w1 = subst (Within p site.behind (pc + 1)) assoc (next p site.behind pc (Branch Beq register (pos (length trap))) None (trap ++ rest) w) in
-            let q = pc + 1 + length (load_pc site.after exit) in
-            let w2 = row_rest p site.behind (pc + 1) (load_pc site.after exit) (plain (Memory Lda 21 31 (pos 1)) ∷ marked (Pal 0x84) (trapping site) ∷ rest) w1 in
-            let w3 = next p site.behind (q + 1) (Pal 0x84) (Some (trapping site)) rest (next p site.behind q (Memory Lda 21 31 (pos 1)) None (marked (Pal 0x84) (trapping site) ∷ rest) w2) in
-            let jump : target_of pc (pos (length trap)) ≡ q + 1 + 1 = omega arith in
             let low = w.low in
-            subst (λ b. Always p None (1 + length trap + need) (at_place regs pc) (Either b)) (sym (not_trapping none))
+            let jump : target_of pc (pos (length trap)) ≡ over (pc + 1) = omega arith in
+            subst (λ b. Always p None (1 + length trap + need) (at_place regs pc) (Either b)) (sym none)
             (roomy p None (need + 1) (1 + length trap + need) (at_place regs pc) t (omega arith)
-            (skips p None need (at_place regs pc) Beq register (pos (length trap)) (q + 1 + 1) t (stands p site.behind pc (Branch Beq register (pos (length trap))) None (trap ++ rest) w) refl (ap (λ n. n == 0) in_register ∙ e) jump (omega arith)
-            (is_inside p site.behind pc (q + 1 + 1) _ w (omega arith) (omega arith)) (clear regs (q + 1 + 1) (not_trapping none) c w3)))
+            (skips p None need (at_place regs pc) Beq register (pos (length trap)) (over (pc + 1)) t (stands p site.behind pc (Branch Beq register (pos (length trap))) None (trap ++ rest) w) refl e jump (omega arith)
+            (is_inside p site.behind pc (over (pc + 1)) _ w (omega arith) (omega arith)) (clear regs (over (pc + 1)) none c (behind_trap (pc + 1) w1))))
         by false e =
-            let set = set_of standing.overflowed (left_overflow standing) overflow e in
-            let trapping_is : is_trapping standing ≡ true = ap (λ b. b && (flag_of 5 standing.state.psw == 1)) set ∙ enabled in
             let size = trap_length in
             let all = length-append trap rest in
             let end = w.high in
-            let w1 = subst (Within p site.behind (pc + 1)) assoc (next p site.behind pc (Branch Beq register (pos (length trap))) None (trap ++ rest) w) in
-            subst (λ b. Always p None (1 + length trap + need) (at_place regs pc) (Either b)) (sym trapping_is)
+            subst (λ b. Always p None (1 + length trap + need) (at_place regs pc) (Either b)) (sym (set_is e))
             (roomy p None (length (load_pc site.after exit) + 2 + 1) (1 + length trap + need) (at_place regs pc) _ (omega arith)
-            (passes p None (length (load_pc site.after exit) + 2) (at_place regs pc) Beq register (pos (length trap)) _ (stands p site.behind pc (Branch Beq register (pos (length trap))) None (trap ++ rest) w) (ap (λ n. n == 0) in_register ∙ e)
-            (is_inside p site.behind pc (pc + 1) _ w (omega arith) (omega arith)) (traps_there (pc + 1) exit rest regs c is holds w1)))
+            (passes p None (length (load_pc site.after exit) + 2) (at_place regs pc) Beq register (pos (length trap)) _ (stands p site.behind pc (Branch Beq register (pos (length trap))) None (trap ++ rest) w) e
+            (is_inside p site.behind pc (pc + 1) _ w (omega arith) (omega arith)) (traps_there (pc + 1) exit rest regs c is holds (subst (Within p site.behind (pc + 1)) trap_assoc w1))))
 
-    -- IV is tested first
-    tested : (pc : ℕ) (regs : Regs) → may_overflow site.sources.nzv ≡ true → tells_overflow site.behind.v ≡ true → Coded p site known standing regs
-        → Within p site.behind pc (tested_lines site.behind.v (overflow_made site.behind.v) trap ++ rest)
-        → Always p None (length (tested_lines site.behind.v (overflow_made site.behind.v) trap) + need) (at_place regs pc) (Either (is_trapping standing))
-    tested pc regs may tells c w = by (flag_of 5 standing.state.psw == 1) refl
+    -- ---- IV
+    -- R27 has IV
+    abbrev enabled : Regs → Regs
+    enabled regs = put regs 27 (bit_and (regs 20) 32)
+
+    still : (regs : Regs) → Coded p site known standing regs → Coded p site known standing (enabled regs)
+    still regs c = coded_still p site known standing regs (enabled regs) (λ n out. put_other regs 27 (bit_and (regs 20) 32) n (not_27 n out)) c
+      where
+        not_27 : (n : ℕ) → (n == 24 || n == 27) ≡ false → (n == 27) ≡ false
+        not_27 n e = grind (arith, nat_tests, e)
+
+    begins : (pc n : ℕ) (regs : Regs) (u : Tree) (lines : List Line) → Within p site.behind pc (plain (Operate And 20 (Literal 32) 27) ∷ lines) → 1 ≤ length lines → Always p None n (at_place (enabled regs) (pc + 1)) u → Always p None (n + 1) (at_place regs pc) u
+    begins pc n regs u lines w some h =
+        goes p None n (at_place regs pc) (at_place (enabled regs) (pc + 1)) (Operate And 20 (Literal 32) 27) u (stands p site.behind pc (Operate And 20 (Literal 32) 27) None lines w) refl (omega arith) (is_inside p site.behind pc (pc + 1) _ w (omega arith) (omega arith)) h
+
+    iv_clear : (regs : Regs) → Coded p site known standing regs → (flag_of 5 standing.state.psw == 1) ≡ false → (bit_and (regs 20) 32 == 0) ≡ true
+    iv_clear regs c e = clear_is standing.state.psw (bit_and (regs 20) 32) (overflow_traps standing.state.psw (regs 20) c.upper) e
+
+    iv_set : (regs : Regs) → Coded p site known standing regs → (flag_of 5 standing.state.psw == 1) ≡ true → (bit_and (regs 20) 32 == 0) ≡ false
+    iv_set regs c e = set_is standing.state.psw (bit_and (regs 20) 32) (overflow_traps standing.state.psw (regs 20) c.upper) e
+
+    -- V tells it where IV is set, and IV where V is set
+    by_overflow : (v : ℕ) → v ≡ left_overflow standing → bit standing.overflowed ≡ left_overflow standing → (v == 0) ≡ true → is_trapping standing ≡ false
+    by_overflow v is overflow e = not_trapping (not_set standing.overflowed (left_overflow standing) overflow (sym is ∙ zero_of v e))
+
+    overflowed_is : (v : ℕ) → v ≡ left_overflow standing → bit standing.overflowed ≡ left_overflow standing → (v == 0) ≡ false → standing.overflowed ≡ true
+    overflowed_is v is overflow e = set_of standing.overflowed (left_overflow standing) overflow (subst (λ n. (n == 0) ≡ false) is e)
+
+    traps_both : standing.overflowed ≡ true → (flag_of 5 standing.state.psw == 1) ≡ true → is_trapping standing ≡ true
+    traps_both set e = ap (λ b. b && (flag_of 5 standing.state.psw == 1)) set ∙ e
+
+    -- ---- V is ready
+    ready : (pc : ℕ) (regs : Regs) → may_overflow site.sources.nzv ≡ true → site.behind.v ≡ code_rules.Ready → Coded p site known standing regs
+        → Within p site.behind pc (ready_lines trap ++ rest) → Always p None (3 + length trap + need) (at_place regs pc) (Either (is_trapping standing))
+    ready pc regs may rule c w = by (regs 18 == 0) refl
       where
         test : Line
-        test = plain (Branch Beq (overflow_register site.behind.v) (pos (length trap)))
+        test = plain (Branch Beq 27 (pos (length trap)))
 
-        assoc : (map plain (overflow_made site.behind.v) ++ (plain (Branch Beq (overflow_register site.behind.v) (pos (length trap))) ∷ trap)) ++ rest ≡ map plain (overflow_made site.behind.v) ++ (plain (Branch Beq (overflow_register site.behind.v) (pos (length trap))) ∷ (trap ++ rest))
-        assoc = append_assoc (map plain (overflow_made site.behind.v)) (plain (Branch Beq (overflow_register site.behind.v) (pos (length trap))) ∷ trap) rest
+        in_register : regs 18 ≡ left_overflow standing
+        in_register = ready_is p site known standing found written o regs c may rule
 
-        size : length (tested_lines site.behind.v (overflow_made site.behind.v) trap) ≡ 2 + (length (overflow_made site.behind.v) + (1 + length trap))
+        overflow : bit standing.overflowed ≡ left_overflow standing
+        overflow = is_overflow p site known standing found written o may
+
+        w1 : Within p site.behind (pc + 1) (plain (Operate And 20 (Literal 32) 27) ∷ plain (Branch Beq 27 (pos (length trap))) ∷ (trap ++ rest))
+        w1 = next p site.behind pc (Branch Beq 18 (pos (2 + length trap))) None (plain (Operate And 20 (Literal 32) 27) ∷ plain (Branch Beq 27 (pos (length trap))) ∷ (trap ++ rest)) w
+
+        w2 : Within p site.behind (pc + 1 + 1) (plain (Branch Beq 27 (pos (length trap))) ∷ (trap ++ rest))
+        w2 = next p site.behind (pc + 1) (Operate And 20 (Literal 32) 27) None (plain (Branch Beq 27 (pos (length trap))) ∷ (trap ++ rest)) w1
+
+        w3 : Within p site.behind (pc + 1 + 1 + 1) (trap ++ rest)
+        w3 = next p site.behind (pc + 1 + 1) (Branch Beq 27 (pos (length trap))) None (trap ++ rest) w2
+
+        flags : standing.overflowed ≡ true → (b : Bool) → (flag_of 5 standing.state.psw == 1) ≡ b → ((bit_and (regs 20) 32 == 0) ≡ true → is_trapping standing ≡ false) × ((bit_and (regs 20) 32 == 0) ≡ false → is_trapping standing ≡ true)
+        flags set true e = ((λ f. absurd (cc (sym f ∙ iv_set regs c e))), (λ f. traps_both set e))
+        flags set false e = ((λ f. no_trap_when e), (λ f. absurd (cc (sym f ∙ iv_clear regs c e))))
+
+        by : (b : Bool) → (regs 18 == 0) ≡ b → Always p None (3 + length trap + need) (at_place regs pc) (Either (is_trapping standing))
+        by true e =
+            let none = by_overflow (regs 18) in_register overflow e in
+            let size = trap_length in
+            let short = pc_short site.after exit in
+            let all = length-append trap rest in
+            let end = w.high in
+            let near = w.near in
+            let low = w.low in
+            let to = over (pc + 1 + 1 + 1) in
+            let jump : target_of pc (pos (2 + length trap)) ≡ over (pc + 1 + 1 + 1) = omega arith in
+            subst (λ b. Always p None (3 + length trap + need) (at_place regs pc) (Either b)) (sym none)
+            (roomy p None (need + 1) (3 + length trap + need) (at_place regs pc) t (omega arith)
+            (skips p None need (at_place regs pc) Beq 18 (pos (2 + length trap)) to t (stands p site.behind pc (Branch Beq 18 (pos (2 + length trap))) None _ w) refl e jump (omega arith)
+            (is_inside p site.behind pc to _ w (omega arith) (omega arith)) (clear regs to none c (behind_trap (pc + 1 + 1 + 1) w3))))
+        by false e =
+            let set = overflowed_is (regs 18) in_register overflow e in
+            let told = flags set (flag_of 5 standing.state.psw == 1) refl in
+            let end = w.high in
+            roomy p None (1 + length trap + need + 1 + 1) (3 + length trap + need) (at_place regs pc) _ (omega arith)
+            (passes p None (1 + length trap + need + 1) (at_place regs pc) Beq 18 (pos (2 + length trap)) _ (stands p site.behind pc (Branch Beq 18 (pos (2 + length trap))) None _ w) e
+            (is_inside p site.behind pc (pc + 1) _ w (omega arith) (omega arith))
+            (begins (pc + 1) (1 + length trap + need) regs (Either (is_trapping standing)) (plain (Branch Beq 27 (pos (length trap))) ∷ (trap ++ rest)) w1 (omega arith)
+            (tests (pc + 1 + 1) 27 (enabled regs) told.0 told.1 (still regs c) w2)))
+
+    -- ---- V is made where IV is set
+    made : (rule : CodeRule) → site.behind.v ≡ rule → (pc : ℕ) (regs : Regs) → may_overflow site.sources.nzv ≡ true → tells_overflow rule ≡ true → Coded p site known standing regs
+        → Within p site.behind pc (made_lines rule (overflow_made rule) trap ++ rest)
+        → Always p None (length (made_lines rule (overflow_made rule) trap) + need) (at_place regs pc) (Either (is_trapping standing))
+    made rule rule_is pc regs may tells c w = by (flag_of 5 standing.state.psw == 1) refl
+      where
+        narrow_rule : is_narrow rule ≡ true
+        narrow_rule = subst (λ rule. is_narrow rule ≡ true) rule_is narrow
+
+        assoc : (map plain (overflow_made rule) ++ (plain (Branch Beq (overflow_register rule) (pos (length trap))) ∷ trap)) ++ rest ≡ map plain (overflow_made rule) ++ (plain (Branch Beq (overflow_register rule) (pos (length trap))) ∷ (trap ++ rest))
+        assoc = append_assoc (map plain (overflow_made rule)) (plain (Branch Beq (overflow_register rule) (pos (length trap))) ∷ trap) rest
+
+        size : length (made_lines rule (overflow_made rule) trap) ≡ 2 + (length (overflow_made rule) + (1 + length trap))
         size =
-            let a = length-append (map plain (overflow_made site.behind.v)) (plain (Branch Beq (overflow_register site.behind.v) (pos (length trap))) ∷ trap) in
-            let b = plain_length (overflow_made site.behind.v) in
+            let a = length-append (map plain (overflow_made rule)) (plain (Branch Beq (overflow_register rule) (pos (length trap))) ∷ trap) in
+            let b = plain_length (overflow_made rule) in
             omega arith
 
-        all : length (tested_lines site.behind.v (overflow_made site.behind.v) trap ++ rest) ≡ length (tested_lines site.behind.v (overflow_made site.behind.v) trap) + length rest
-        all = length-append (tested_lines site.behind.v (overflow_made site.behind.v) trap) rest
+        all : length (made_lines rule (overflow_made rule) trap ++ rest) ≡ length (made_lines rule (overflow_made rule) trap) + length rest
+        all = length-append (made_lines rule (overflow_made rule) trap) rest
 
-        trap_assoc : trap ++ rest ≡ map plain (load_pc site.after exit) ++ (plain (Memory Lda 21 31 (pos 1)) ∷ marked (Pal 0x84) (trapping site) ∷ rest)
-        trap_assoc = append_assoc (map plain (load_pc site.after exit)) (plain (Memory Lda 21 31 (pos 1)) ∷ marked (Pal 0x84) (trapping site) ∷ []) rest
+        w1 : Within p site.behind (pc + 1) (plain (Branch Beq 27 (pos (length (overflow_made rule) + 1 + length trap))) ∷ ((map plain (overflow_made rule) ++ (plain (Branch Beq (overflow_register rule) (pos (length trap))) ∷ trap)) ++ rest))
+        w1 = next p site.behind pc (Operate And 20 (Literal 32) 27) None (plain (Branch Beq 27 (pos (length (overflow_made rule) + 1 + length trap))) ∷ ((map plain (overflow_made rule) ++ (plain (Branch Beq (overflow_register rule) (pos (length trap))) ∷ trap)) ++ rest)) w
 
-        still : Coded p site known standing (put regs 27 (bit_and (regs 20) 32))
-        still = coded_still p site known standing regs (put regs 27 (bit_and (regs 20) 32)) (λ n out. put_other regs 27 (bit_and (regs 20) 32) n (not_27 n out)) c
-          where
-            not_27 : (n : ℕ) → (n == 24 || n == 27) ≡ false → (n == 27) ≡ false
-            not_27 n e = grind (arith, nat_tests, e)
+        w2 : Within p site.behind (pc + 1 + 1) (map plain (overflow_made rule) ++ (plain (Branch Beq (overflow_register rule) (pos (length trap))) ∷ (trap ++ rest)))
+        w2 = subst (Within p site.behind (pc + 1 + 1)) assoc (next p site.behind (pc + 1) (Branch Beq 27 (pos (length (overflow_made rule) + 1 + length trap))) None ((map plain (overflow_made rule) ++ (plain (Branch Beq (overflow_register rule) (pos (length trap))) ∷ trap)) ++ rest) w1)
 
-        w1 : Within p site.behind (pc + 1) (plain (Branch Beq 27 (pos (length (overflow_made site.behind.v) + 1 + length trap))) ∷ ((map plain (overflow_made site.behind.v) ++ (plain (Branch Beq (overflow_register site.behind.v) (pos (length trap))) ∷ trap)) ++ rest))
-        w1 = next p site.behind pc (Operate And 20 (Literal 32) 27) None (plain (Branch Beq 27 (pos (length (overflow_made site.behind.v) + 1 + length trap))) ∷ ((map plain (overflow_made site.behind.v) ++ (plain (Branch Beq (overflow_register site.behind.v) (pos (length trap))) ∷ trap)) ++ rest)) w
+        w3 : Within p site.behind (pc + 1 + 1 + length (overflow_made rule)) (plain (Branch Beq (overflow_register rule) (pos (length trap))) ∷ (trap ++ rest))
+        w3 = row_rest p site.behind (pc + 1 + 1) (overflow_made rule) (plain (Branch Beq (overflow_register rule) (pos (length trap))) ∷ (trap ++ rest)) w2
 
-        w2 : Within p site.behind (pc + 1 + 1) (map plain (overflow_made site.behind.v) ++ (plain (Branch Beq (overflow_register site.behind.v) (pos (length trap))) ∷ (trap ++ rest)))
-        w2 = subst (Within p site.behind (pc + 1 + 1)) assoc (next p site.behind (pc + 1) (Branch Beq 27 (pos (length (overflow_made site.behind.v) + 1 + length trap))) None ((map plain (overflow_made site.behind.v) ++ (plain (Branch Beq (overflow_register site.behind.v) (pos (length trap))) ∷ trap)) ++ rest) w1)
+        w4 : Within p site.behind (over (pc + 1 + 1 + length (overflow_made rule) + 1)) rest
+        w4 = behind_trap (pc + 1 + 1 + length (overflow_made rule) + 1) (next p site.behind (pc + 1 + 1 + length (overflow_made rule)) (Branch Beq (overflow_register rule) (pos (length trap))) None (trap ++ rest) w3)
 
-        w3 : Within p site.behind (pc + 1 + 1 + length (overflow_made site.behind.v)) (plain (Branch Beq (overflow_register site.behind.v) (pos (length trap))) ∷ (trap ++ rest))
-        w3 = row_rest p site.behind (pc + 1 + 1) (overflow_made site.behind.v) (plain (Branch Beq (overflow_register site.behind.v) (pos (length trap))) ∷ (trap ++ rest)) w2
-
-        w4 : Within p site.behind (pc + 1 + 1 + length (overflow_made site.behind.v) + 1 + length (load_pc site.after exit)) (plain (Memory Lda 21 31 (pos 1)) ∷ marked (Pal 0x84) (trapping site) ∷ rest)
-        w4 = row_rest p site.behind (pc + 1 + 1 + length (overflow_made site.behind.v) + 1) (load_pc site.after exit) (plain (Memory Lda 21 31 (pos 1)) ∷ marked (Pal 0x84) (trapping site) ∷ rest)
-            (subst (Within p site.behind (pc + 1 + 1 + length (overflow_made site.behind.v) + 1)) trap_assoc (next p site.behind (pc + 1 + 1 + length (overflow_made site.behind.v)) (Branch Beq (overflow_register site.behind.v) (pos (length trap))) None (trap ++ rest) w3))
-
-        w5 : Within p site.behind (pc + 1 + 1 + length (overflow_made site.behind.v) + 1 + length (load_pc site.after exit) + 1 + 1) rest
-        w5 = next p site.behind (pc + 1 + 1 + length (overflow_made site.behind.v) + 1 + length (load_pc site.after exit) + 1) (Pal 0x84) (Some (trapping site)) rest
-            (next p site.behind (pc + 1 + 1 + length (overflow_made site.behind.v) + 1 + length (load_pc site.after exit)) (Memory Lda 21 31 (pos 1)) None (marked (Pal 0x84) (trapping site) ∷ rest) w4)
-
-        begins : (n : ℕ) (u : Tree) → Always p None n (at_place (put regs 27 (bit_and (regs 20) 32)) (pc + 1)) u → Always p None (n + 1) (at_place regs pc) u
-        begins n u h =
-            let s = size in
-            let a = all in
-            goes p None n (at_place regs pc) (at_place (put regs 27 (bit_and (regs 20) 32)) (pc + 1)) (Operate And 20 (Literal 32) 27) u (stands p site.behind pc (Operate And 20 (Literal 32) 27) None _ w) refl (omega arith) (is_inside p site.behind pc (pc + 1) _ w (omega arith) (omega arith)) h
-
-        by : (b : Bool) → (flag_of 5 standing.state.psw == 1) ≡ b → Always p None (length (tested_lines site.behind.v (overflow_made site.behind.v) trap) + need) (at_place regs pc) (Either (is_trapping standing))
+        by : (b : Bool) → (flag_of 5 standing.state.psw == 1) ≡ b → Always p None (length (made_lines rule (overflow_made rule) trap) + need) (at_place regs pc) (Either (is_trapping standing))
         by false e =
             let s = size in
             let a = all in
             let k = trap_length in
-            let m = made_short site.behind.v in
+            let m = made_short rule in
             let l = pc_short site.after exit in
             let end = w.high in
             let near = w.near in
-            let to = pc + 1 + 1 + length (overflow_made site.behind.v) + 1 + length (load_pc site.after exit) + 1 + 1 in
-            let jump : target_of (pc + 1) (pos (length (overflow_made site.behind.v) + 1 + length trap)) ≡ pc + 1 + 1 + length (overflow_made site.behind.v) + 1 + length (load_pc site.after exit) + 1 + 1 = omega arith in
-            subst (λ b. Always p None (length (tested_lines site.behind.v (overflow_made site.behind.v) trap) + need) (at_place regs pc) (Either b)) (sym (no_trap_when e))
-            (roomy p None (need + 1 + 1) (length (tested_lines site.behind.v (overflow_made site.behind.v) trap) + need) (at_place regs pc) t (omega arith)
-            (begins (need + 1) t
-            (skips p None need (at_place (put regs 27 (bit_and (regs 20) 32)) (pc + 1)) Beq 27 (pos (length (overflow_made site.behind.v) + 1 + length trap)) to t
-            (stands p site.behind (pc + 1) (Branch Beq 27 (pos (length (overflow_made site.behind.v) + 1 + length trap))) None _ w1) refl
-            (clear_is standing.state.psw (bit_and (regs 20) 32) (overflow_traps standing.state.psw (regs 20) c.upper) e) jump (omega arith)
-            (is_inside p site.behind pc to _ w (omega arith) (omega arith)) (clear (put regs 27 (bit_and (regs 20) 32)) to (no_trap_when e) still w5))))
+            let to = over (pc + 1 + 1 + length (overflow_made rule) + 1) in
+            let jump : target_of (pc + 1) (pos (length (overflow_made rule) + 1 + length trap)) ≡ over (pc + 1 + 1 + length (overflow_made rule) + 1) = omega arith in
+            subst (λ b. Always p None (length (made_lines rule (overflow_made rule) trap) + need) (at_place regs pc) (Either b)) (sym (no_trap_when e))
+            (roomy p None (need + 1 + 1) (length (made_lines rule (overflow_made rule) trap) + need) (at_place regs pc) t (omega arith)
+            (begins pc (need + 1) regs t _ w (omega arith)
+            (skips p None need (at_place (enabled regs) (pc + 1)) Beq 27 (pos (length (overflow_made rule) + 1 + length trap)) to t
+            (stands p site.behind (pc + 1) (Branch Beq 27 (pos (length (overflow_made rule) + 1 + length trap))) None _ w1) refl
+            (iv_clear regs c e) jump (omega arith)
+            (is_inside p site.behind pc to _ w (omega arith) (omega arith)) (clear (enabled regs) to (no_trap_when e) (still regs c) w4))))
         by true e =
             let s = size in
             let a = all in
             let k = trap_length in
             let end = w.high in
-            roomy p None (length (overflow_made site.behind.v) + (1 + length trap + need) + 1 + 1) (length (tested_lines site.behind.v (overflow_made site.behind.v) trap) + need) (at_place regs pc) _ (omega arith)
-            (begins (length (overflow_made site.behind.v) + (1 + length trap + need) + 1) (Either (is_trapping standing))
-            (passes p None (length (overflow_made site.behind.v) + (1 + length trap + need)) (at_place (put regs 27 (bit_and (regs 20) 32)) (pc + 1)) Beq 27 (pos (length (overflow_made site.behind.v) + 1 + length trap)) _
-            (stands p site.behind (pc + 1) (Branch Beq 27 (pos (length (overflow_made site.behind.v) + 1 + length trap))) None _ w1)
-            (set_is standing.state.psw (bit_and (regs 20) 32) (overflow_traps standing.state.psw (regs 20) c.upper) e)
+            let overflow = is_overflow p site known standing found written o may in
+            roomy p None (length (overflow_made rule) + (1 + length trap + need) + 1 + 1) (length (made_lines rule (overflow_made rule) trap) + need) (at_place regs pc) _ (omega arith)
+            (begins pc (length (overflow_made rule) + (1 + length trap + need) + 1) regs (Either (is_trapping standing)) _ w (omega arith)
+            (passes p None (length (overflow_made rule) + (1 + length trap + need)) (at_place (enabled regs) (pc + 1)) Beq 27 (pos (length (overflow_made rule) + 1 + length trap)) _
+            (stands p site.behind (pc + 1) (Branch Beq 27 (pos (length (overflow_made rule) + 1 + length trap))) None _ w1)
+            (iv_set regs c e)
             (is_inside p site.behind pc (pc + 1 + 1) _ w (omega arith) (omega arith))
-            (makes p site known standing found written o (put regs 27 (bit_and (regs 20) 32)) still may (1 + length trap + need) (pc + 1 + 1) (plain (Branch Beq (overflow_register site.behind.v) (pos (length trap))) ∷ (trap ++ rest)) _ site.behind.v refl tells narrow w2 (omega arith)
-            (λ g only in_register. tests (pc + 1 + 1 + length (overflow_made site.behind.v)) (overflow_register site.behind.v) g e (is_overflow p site known standing found written o may) in_register
-            (coded_still p site known standing (put regs 27 (bit_and (regs 20) 32)) g only still) w3))))
+            (makes p site known standing found written o (enabled regs) (still regs c) may (1 + length trap + need) (pc + 1 + 1) (plain (Branch Beq (overflow_register rule) (pos (length trap))) ∷ (trap ++ rest)) _ rule rule_is tells narrow_rule w2 (omega arith)
+            (λ g only in_register. tests (pc + 1 + 1 + length (overflow_made rule)) (overflow_register rule) g
+            (by_overflow (g (overflow_register rule)) in_register overflow) (λ f. traps_both (overflowed_is (g (overflow_register rule)) in_register overflow f) e)
+            (coded_still p site known standing (enabled regs) g only (still regs c)) w3))))
+
+    tested : (rule : CodeRule) → site.behind.v ≡ rule → (pc : ℕ) (regs : Regs) → may_overflow site.sources.nzv ≡ true → tells_overflow rule ≡ true → Coded p site known standing regs
+        → Within p site.behind pc (tested_lines rule (overflow_made rule) trap ++ rest)
+        → Always p None (length (tested_lines rule (overflow_made rule) trap) + need) (at_place regs pc) (Either (is_trapping standing))
+    tested code_rules.Ready rule_is pc regs may tells c w =
+        roomy p None (3 + length trap + need) (length (ready_lines trap) + need) (at_place regs pc) _ (omega arith) (ready pc regs may rule_is c w)
+    tested rule rule_is pc regs may tells c w = made rule rule_is pc regs may tells c w
 
     -- the trap, or what comes behind
     pub trap_follows : (pc : ℕ) (regs : Regs) → Coded p site known standing regs → Within p site.behind pc (trap_lines site exit ++ rest) → Always p None (length (trap_lines site exit) + need) (at_place regs pc) (Either (is_trapping standing))
@@ -240,7 +320,7 @@ module _ (p : Placement) (site : Site) (known : Known) (standing : Standing) (af
 
         by : (b : Bool) → may_trap site ≡ b → Within p site.behind pc ((if b then tested_lines site.behind.v (overflow_made site.behind.v) trap else []) ++ rest)
             → Always p None (length (if b then tested_lines site.behind.v (overflow_made site.behind.v) trap else []) + need) (at_place regs pc) (Either (is_trapping standing))
-        by true e w = let x = split (may_overflow site.sources.nzv) (tells_overflow site.behind.v) e in tested pc regs x.0 x.1 c w
+        by true e w = let x = split (may_overflow site.sources.nzv) (tells_overflow site.behind.v) e in tested site.behind.v refl pc regs x.0 x.1 c w
         by false e w =
             let none = untrapped p site known standing found written o regs c e in
             subst (λ b. Always p None (0 + need) (at_place regs pc) (Either b)) (sym (not_trapping none)) (roomy p None need (0 + need) (at_place regs pc) t (omega arith) (clear regs pc (not_trapping none) c w))

@@ -157,7 +157,7 @@ module _ (p : Placement) (site : Site) (known : Known) (standing : Standing) (fo
         let shown : code_shown site.behind.v (still_held p.held p.written).v (regs 18 % 2 == 1) (codes_by site.behind.v (regs 28) (regs 29)).v ≡ (codes_by rule (regs 28) (regs 29)).v = rw (is, ready, not_held may) refl in
         ap bit (sym shown ∙ v) ∙ bit_of (left_overflow standing) (flag_small standing.state.psw)
 
-    ready_is : site.behind.v ≡ code_rules.Ready → regs 18 ≡ left_overflow standing
+    pub ready_is : site.behind.v ≡ code_rules.Ready → regs 18 ≡ left_overflow standing
     ready_is is =
         let v = ap (λ (f : Flags). f.v) c.codes in
         let shown : code_shown site.behind.v (still_held p.held p.written).v (regs 18 % 2 == 1) (codes_by site.behind.v (regs 28) (regs 29)).v ≡ (regs 18 % 2 == 1) = rw is refl in

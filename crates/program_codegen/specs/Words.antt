@@ -120,12 +120,23 @@ load_pc after exit = load_longword TARGET after
 abbrev pub overflow_lines : Site → Exit → List Line
 overflow_lines site exit = map plain (load_pc site.after exit) ++ (plain (Memory Lda TEMPORARIES ZERO (pos 1)) ∷ marked (Pal TRAP) (trapping site) ∷ [])
 
--- where IV, bit 5 of R20, is set, V is made and tested
+-- where IV, bit 5 of R20, is clear, words are passed over
+abbrev pub enabled_lines : (over : ℕ) → List Line
+enabled_lines over = plain (Operate And STATUS (Literal 32) ADDRESS) ∷ plain (Branch Beq ADDRESS (pos over)) ∷ []
+
+-- V that is ready is tested first
+abbrev pub ready_lines : (trap : List Line) → List Line
+ready_lines trap = plain (Branch Beq OVERFLOW (pos (2 + length trap))) ∷ (enabled_lines (length trap) ++ trap)
+
+-- else V is made and tested where IV is set
+abbrev pub made_lines : CodeRule → (made : List AlphaInstr) → (trap : List Line) → List Line
+made_lines rule made trap =
+    enabled_lines (length made + 1 + length trap)
+    ++ (map plain made ++ (plain (Branch Beq (overflow_register rule) (pos (length trap))) ∷ trap))
+
 abbrev pub tested_lines : CodeRule → (made : List AlphaInstr) → (trap : List Line) → List Line
-tested_lines rule made trap =
-    plain (Operate And STATUS (Literal 32) ADDRESS)
-    ∷ plain (Branch Beq ADDRESS (pos (length made + 1 + length trap)))
-    ∷ (map plain made ++ (plain (Branch Beq (overflow_register rule) (pos (length trap))) ∷ trap))
+tested_lines rules.Ready made trap = ready_lines trap
+tested_lines rule made trap = made_lines rule made trap
 
 abbrev pub may_trap : Site → Bool
 may_trap site = if may_overflow site.sources.nzv then tells_overflow site.behind.v else false

@@ -1,6 +1,6 @@
 // The end of a block: the trap on overflow, and the exits.
 ghost use Rattle.std.specs.Prelude.{◌≡◌, ◌++◌, ◌≤◌, length, map, OnOk, IfOk, true};
-ghost use Rattle.program_codegen.specs.Words.{plain, width_of, overflow_made, overflow_register, tells_overflow, may_overflow, load_pc, overflow_lines, tested_lines, may_trap, trap_lines, departing, leaving};
+ghost use Rattle.program_codegen.specs.Words.{plain, width_of, overflow_made, overflow_register, tells_overflow, may_overflow, load_pc, overflow_lines, enabled_lines, tested_lines, may_trap, trap_lines, departing, leaving};
 ghost use Rattle.program_codegen.specs.Programs.{IsExit, is_narrow};
 
 use crate::lines::{Line, RAISE, copy, holder, marked, plain, push_exit, push_words};
@@ -19,6 +19,8 @@ use vax_form::{Size, WantOfMemory, Width};
 
 /// IV in R20.
 const OVERFLOW_TRAPS: u8 = 1 << 5;
+/// The words that test it.
+const ENABLED_TEST: i32 = 2;
 /// The code of a service, and the type of a trap.
 const CODE: u8 = TEMPORARIES;
 /// V where it is made for the trap alone.
@@ -141,7 +143,18 @@ fn overflow_lines(alloc: Global, site: Site, exit: Exit) -> Result<Vec<Line>, Al
     Ok(lines)
 }
 
-/// The trap behind its tests: of IV, and of V only where IV is set.
+/// Words are passed over where IV is clear.
+fn push_enabled(lines: &mut Vec<Line>, over: usize) -> Result<(), AllocError>
+    requires { over ≤ 18 }
+    ensures { OnOk result (lines.new.items ≡ lines.old.items ++ enabled_lines over) }
+{
+    lines.extend_from_slice(&[
+        plain(operate_by(OperateOp::And, STATUS, OVERFLOW_TRAPS, SCRATCH)),
+        plain(branch(BranchOp::Beq, SCRATCH, over as i32)),
+    ])
+}
+
+/// The trap behind its tests: of V that is ready, and of IV; V that is not ready is made only where IV is set.
 fn push_tested(
     lines: &mut Vec<Line>,
     rule: CodeRule,
@@ -152,13 +165,16 @@ fn push_tested(
     requires trap { length trap.now ≤ 8 }
     ensures { OnOk result (lines.new.items ≡ lines.old.items ++ tested_lines rule made.now trap.now) }
 {
-    let over = trap.len() as i32;
-    lines.extend_from_slice(&[
-        plain(operate_by(OperateOp::And, STATUS, OVERFLOW_TRAPS, SCRATCH)),
-        plain(branch(BranchOp::Beq, SCRATCH, made.len() as i32 + 1 + over)),
-    ])?;
-    push_words(lines, made)?;
-    lines.push(plain(branch(BranchOp::Beq, overflow_register(rule), over)))?;
+    let over = trap.len();
+    let register = overflow_register(rule);
+    if matches!(rule, CodeRule::Ready) {
+        lines.push(plain(branch(BranchOp::Beq, register, ENABLED_TEST + over as i32)))?;
+        push_enabled(lines, over)?;
+    } else {
+        push_enabled(lines, made.len() + 1 + over)?;
+        push_words(lines, made)?;
+        lines.push(plain(branch(BranchOp::Beq, register, over as i32)))?;
+    }
     lines.extend_from_slice(trap)
 }
 
