@@ -4,7 +4,7 @@ use Rattle.std.specs.Prelude.{◌==◌, not, is_none, slice_set, unwrap_or, if�
 use Rattle.std.specs.List.{list_all}
 use Rattle.std.proofs.lemmas.Bool.Decides.{nat_tests}
 use Rattle.std.proofs.lemmas.Bool.{ltb-true}
-use Rattle.vt_words.specs.Quad.{sign_extended}
+use Rattle.vt_words.specs.Quad.{left, sign_extended}
 use Rattle.vt_words.proofs.Longwords.{extended_again, extended_low, same_extended}
 use Rattle.vax_form.specs.State.{with_core, with_pc, with_register}
 use Rattle.vax_form.specs.Tree.{Finish, Tree}
@@ -39,10 +39,11 @@ use Rattle.block_law.specs.CodeWords.{codes_in, may_be_written, temps_in}
 use Rattle.block_law.specs.Placements.{Placement}
 use Rattle.block_law.proofs.Kept.{registers_put}
 use Rattle.block_law.proofs.Rules.{Always, goes, operates, roomy}
+use Rattle.program_codegen.specs.declared.direct.Raised.{Raised}
 use Rattle.program_codegen.specs.declared.homes.Homes.{Homes}
 use Rattle.program_codegen.specs.declared.lines.Line.{Line}
 use Rattle.program_codegen.specs.declared.points.Site.{Site}
-use Rattle.program_codegen.specs.Homes.{are_short_rules, commit_stays, commit_words, end_lines, exit_stays, home_at, home_of, is_operand, is_short_rule, may_end, moved_words}
+use Rattle.program_codegen.specs.Homes.{IsHome, are_short_rules, commit_stays, commit_words, end_lines, exit_stays, home_at, home_of, is_operand, is_short_rule, may_end, moved_words, none_raised, raised_at}
 use Rattle.program_codegen.specs.Programs.{IsExit}
 use Rattle.program_codegen.specs.Words.{departing, plain, trap_lines}
 use Rattle.program_codegen.proofs.Coded.{Coded, carry_by, coded_by, fine_operates, signs_by, sources_parts}
@@ -110,13 +111,19 @@ module _ (p : Placement) (site : Site) (known : Known) (homes : Homes) (standing
       by false e false f true g is = let same : own_file homes regs n ≡ value_in homes.result regs n = rw (e, f, g) refl in same ∙ ap (λ o. value_in o regs n) is
       by false e false f false g is = rw (e, f, g) refl
 
-  starts : Moved homes (own_file homes regs) regs
+  starts : Moved homes none_raised (own_file homes regs) regs
   starts = record {
-    same = λ n not_so none. own_same n none;
+    same = λ n not_so none down. own_same n none;
     loose = λ n is. ap (λ v. v % 2 ^ 32) (own_same n (no_home n is));
     there = there;
+    lifted = λ n r e. nothing n r (n == 24) (n == 25) e;
   }
     where
+      nothing : (n r : ℕ) (a b : Bool) → (if a then None else if b then None else None) ≡ Some r → (own_file homes regs n ≡ left (regs r) 32) × IsExtended (regs r) × IsHome (Some r)
+      nothing n r true b e = absurd (cc e)
+      nothing n r false true e = absurd (cc e)
+      nothing n r false false e = absurd (cc e)
+
       no_home : (n : ℕ) → is_operand n ≡ true → home_at homes n ≡ None
       no_home n is =
           let a : (n == 21) ≡ false = grind (arith, nat_tests, is) in
@@ -142,8 +149,8 @@ module _ (p : Placement) (site : Site) (known : Known) (homes : Homes) (standing
 
 module _ (p : Placement) (site : Site) (codes : List AlphaInstr) (setting : Setting p site codes) (known : Known) (homes : Homes) (standing : Standing) (regs : Regs) (d : Direct p site known homes standing regs) where
   -- ---- the codes
-  shown : (words : List AlphaInstr) (held : Flags) (left : ℕ) (own placed : Regs) → are_short_rules site.behind ≡ true → Moved homes own placed → codes_shown own site.behind held ≡ codes_in left → codes_shown placed site.behind held ≡ codes_in left
-  shown words held left own placed short m e =
+  shown : (words : List AlphaInstr) (held : Flags) (left : ℕ) (raised : Raised) (own placed : Regs) → are_short_rules site.behind ≡ true → Moved homes raised own placed → codes_shown own site.behind held ≡ codes_in left → codes_shown placed site.behind held ≡ codes_in left
+  shown words held left raised own placed short m e =
       let x = all_four (is_short_rule site.behind.n) (is_short_rule site.behind.z) (is_short_rule site.behind.v) (is_short_rule site.behind.c) short in
       let first = sym (m.loose 28 refl) in
       let second = sym (m.loose 29 refl) in
@@ -151,7 +158,7 @@ module _ (p : Placement) (site : Site) (codes : List AlphaInstr) (setting : Sett
       let rule_z = rule_same site.behind.z (placed 28) (placed 29) (own 28) (own 29) x.1 first second in
       let rule_v = rule_same site.behind.v (placed 28) (placed 29) (own 28) (own 29) x.2 first second in
       let rule_c = rule_same site.behind.c (placed 15) (placed 30) (own 15) (own 30) x.3 (sym (m.loose 15 refl)) (sym (m.loose 30 refl)) in
-      rw (rule_n, rule_z, rule_v, rule_c, sym (m.same 16 refl refl), sym (m.same 17 refl refl), sym (m.same 18 refl refl), sym (m.same 19 refl refl)) e
+      rw (rule_n, rule_z, rule_v, rule_c, sym (m.same 16 refl refl refl), sym (m.same 17 refl refl refl), sym (m.same 18 refl refl refl), sym (m.same 19 refl refl refl)) e
 
   leaves_codes : (words : List AlphaInstr) (departure : Departure) → moved_words homes codes ≡ Some words → sources_fit site.sources known ≡ true → are_short_rules site.behind ≡ true → (state_left departure).psw ≡ standing.state.psw
       → CodesComeFrom site.sources p.begun (record { departure = departure; temps = standing.temps }) → Coded p site (hidden homes known) standing (effects words regs)
@@ -166,12 +173,13 @@ module _ (p : Placement) (site : Site) (codes : List AlphaInstr) (setting : Sett
         signs = signs_by site.sources.nzv p.begun.psw (state_left departure).psw standing.temps (temps_in own) known values parts.2 come.signs;
         carry = carry_by site.sources.c p.begun.psw (state_left departure).psw standing.temps (temps_in own) known values parts.3 come.carry;
       }) in
-      let m = moved_effects site.sources homes d.are codes words own regs setting.leaves.only moved (starts p site known homes standing regs d) in
+      let behind = moved_effects site.sources homes d.are codes words none_raised own regs setting.leaves.only moved (starts p site known homes standing regs d) in
+      let m = behind.1 in
       coded_by p site codes setting words (hidden homes known) standing regs (state_left departure) (moved_fine homes d.are (may_be_written site.sources) codes words moved setting.leaves.only) parts.0 parts.1 left
       (record {
-        zero = sym (m.same 31 refl refl) ∙ shows.zero;
-        hold = λ n from to. subst (λ v. v < 2) (m.same n (no_operand n from to) (no_home n from to)) (shows.hold n from to);
-        codes = shown words (still_held p.held (codes_written_by site.sources)) (state_left departure).psw (effects codes own) (effects words regs) short m shows.codes;
+        zero = sym (m.same 31 refl refl refl) ∙ shows.zero;
+        hold = λ n from to. subst (λ v. v < 2) (m.same n (no_operand n from to) (no_home n from to) (no_raised behind.0 n from to)) (shows.hold n from to);
+        codes = shown words (still_held p.held (codes_written_by site.sources)) (state_left departure).psw behind.0 (effects codes own) (effects words regs) short m shows.codes;
       }) h
     where
       no_home : (n : ℕ) → 16 ≤ n → n < 20 → home_at homes n ≡ None
@@ -180,6 +188,12 @@ module _ (p : Placement) (site : Site) (codes : List AlphaInstr) (setting : Sett
           let b : (n == 22) ≡ false = grind (arith, nat_tests) in
           let c : (n == 23) ≡ false = grind (arith, nat_tests) in
           rw (a, b, c) refl
+
+      no_raised : (raised : Raised) (n : ℕ) → 16 ≤ n → n < 20 → raised_at raised n ≡ None
+      no_raised raised n from to =
+          let a : (n == 24) ≡ false = grind (arith, nat_tests) in
+          let b : (n == 25) ≡ false = grind (arith, nat_tests) in
+          rw (a, b) refl
 
       no_operand : (n : ℕ) → 16 ≤ n → n < 20 → is_operand n ≡ false
       no_operand n from to =

@@ -1,5 +1,5 @@
 -- Longwords that are extended with their sign, as quadwords.
-use Rattle.std.proofs.Common.{◌≡◌, ℕ, ◌+◌, ◌-◌, ◌/◌, ◌%◌, ◌^◌, ◌<◌, ◌≤◌, refl, sym, ap, ◌∙◌, subst, arith, Bool, true, false, inl, inr}
+use Rattle.std.proofs.Common.{◌≡◌, ℕ, ◌+◌, ◌-◌, ◌*◌, ◌/◌, ◌%◌, ◌^◌, ◌<◌, ◌≤◌, refl, sym, ap, ◌∙◌, subst, arith, Bool, true, false, inl, inr}
 use Rattle.std.specs.Prelude.{◌==◌, ◌⊎◌, nat_lt, int_lt, bit_and, bit_or, bit_xor, if◌then◌else◌}
 use Rattle.std.specs.Int.Bits.{and_zero_l, and_zero_r, or_self, or_zero_l, or_zero_r, xor_self, xor_zero_l, xor_zero_r}
 use Rattle.std.proofs.lemmas.Nat.{and_mask, and_shr, or_shr, xor_shr}
@@ -89,6 +89,39 @@ extended_zero a is = extended_equal a 0 is zero_extended
 -- raised, only the low longword is left
 pub raised_low : (a : ℕ) → left (a % 2 ^ 32) 32 ≡ left a 32
 raised_low a = omega arith
+
+-- raised, they compare as they do
+pub raised_less : (a b : ℕ) → IsExtended a → IsExtended b → int_lt (signed (left a 32)) (signed (left b 32)) ≡ int_lt (signed a) (signed b)
+raised_less a b is is' = ap (λ x. int_lt (signed x) (signed (left b 32))) (sym (raised_low a)) ∙ (ap (λ y. int_lt (signed (left (a % 2 ^ 32) 32)) (signed y)) (sym (raised_low b))
+    ∙ (low_less (a % 2 ^ 32) (b % 2 ^ 32) (omega arith) (omega arith) ∙ extended_less a b is is'))
+  where
+    low_raised : (x : ℕ) → x < 2 ^ 32 → left x 32 ≡ x * 2 ^ 32
+    low_raised x lt = omega arith
+
+    low_less : (x y : ℕ) → x < 2 ^ 32 → y < 2 ^ 32 → int_lt (signed (left x 32)) (signed (left y 32)) ≡ int_lt (signed_value 4 x) (signed_value 4 y)
+    low_less x y fits fits' =
+        ap (λ v. int_lt (signed v) (signed (left y 32))) (low_raised x fits) ∙ (ap (λ v. int_lt (signed (x * 2 ^ 32)) (signed v)) (low_raised y fits') ∙ by (nat_lt x (2 ^ 31)) (nat_lt y (2 ^ 31)) refl refl)
+      where
+        large : (x : ℕ) → nat_lt x (2 ^ 31) ≡ false → 2 ^ 31 ≤ x
+        large x e = grind (arith, nat_tests, e)
+
+        low_low : x < 2 ^ 31 → y < 2 ^ 31 → int_lt (signed (x * 2 ^ 32)) (signed (y * 2 ^ 32)) ≡ int_lt (signed_value 4 x) (signed_value 4 y)
+        low_low lt lt' = grind (arith, nat_tests, ints)
+
+        low_high : x < 2 ^ 31 → 2 ^ 31 ≤ y → int_lt (signed (x * 2 ^ 32)) (signed (y * 2 ^ 32)) ≡ int_lt (signed_value 4 x) (signed_value 4 y)
+        low_high lt le = grind (arith, nat_tests, ints)
+
+        high_low : 2 ^ 31 ≤ x → y < 2 ^ 31 → int_lt (signed (x * 2 ^ 32)) (signed (y * 2 ^ 32)) ≡ int_lt (signed_value 4 x) (signed_value 4 y)
+        high_low le lt = grind (arith, nat_tests, ints)
+
+        high_high : 2 ^ 31 ≤ x → 2 ^ 31 ≤ y → int_lt (signed (x * 2 ^ 32)) (signed (y * 2 ^ 32)) ≡ int_lt (signed_value 4 x) (signed_value 4 y)
+        high_high le le' = grind (arith, nat_tests, ints)
+
+        by : (c d : Bool) → nat_lt x (2 ^ 31) ≡ c → nat_lt y (2 ^ 31) ≡ d → int_lt (signed (x * 2 ^ 32)) (signed (y * 2 ^ 32)) ≡ int_lt (signed_value 4 x) (signed_value 4 y)
+        by true true e f = low_low (ltb-true x (2 ^ 31) e) (ltb-true y (2 ^ 31) f)
+        by true false e f = low_high (ltb-true x (2 ^ 31) e) (large y f)
+        by false true e f = high_low (large x e) (ltb-true y (2 ^ 31) f)
+        by false false e f = high_high (large x e) (large y f)
 
 -- its sign is bit 63
 pub extended_sign : (a : ℕ) → IsExtended a → right (a % 2 ^ 32) 31 ≡ right a 63

@@ -295,7 +295,7 @@ module _ (site : Site) (codes : List AlphaInstr) (after_fits : site.after < 2 ^ 
             ap (writes_register r) (words_append (map plain words) rest)
             ∙ (list_any-append (λ i. register_written i == r) (words_of (map plain words)) (words_of rest)
             ∙ (ap (λ xs. writes_register r xs || writes_register r (words_of rest)) (row_words_are words)
-            ∙ (ap (λ b. writes_register r words || b) (behind.writes r low high) ∙ (or_nothing (writes_register r words) ∙ moved_writes homes are r codes words moved))));
+            ∙ (ap (λ b. writes_register r words || b) (behind.writes r low high) ∙ (or_nothing (writes_register r words) ∙ moved_writes homes are r high codes words moved))));
         short = omega arith;
       }
 

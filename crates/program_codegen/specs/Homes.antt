@@ -25,6 +25,7 @@ use Rattle.micro_ops.specs.declared.program.Micro.TheVariants.{Compute, Commit, 
 use Rattle.micro_ops.specs.declared.program.MicroOp.{MicroOp}
 use Rattle.micro_ops.specs.declared.program.MicroOp.TheVariants.{Add, Sub, And, Or, Xor, AndNot, Equal, Less, LessUnsigned}
 use Rattle.compute_sequences.specs.Words.{compute_code, is_constant, is_moved, is_short}
+use Rattle.program_codegen.specs.declared.direct.Raised.{Raised}
 use Rattle.program_codegen.specs.declared.homes.Homes.{Homes}
 use Rattle.program_codegen.specs.declared.lines.Line.{Line}
 use Rattle.program_codegen.specs.declared.points.Site.{Site}
@@ -223,15 +224,84 @@ moved_by None (Some y) op first second to = moved_operand op first y to
 moved_by (Some x) None op first second to = moved_first op x second to
 moved_by (Some x) (Some y) op first second to = moved_both op x y to
 
+-- ---- raised longwords
+-- The words for the codes raise two longwords into R24 and R25 to compare them. Where both operands have homes they aren't raised,
+-- and the comparison is that of the homes.
+abbrev pub none_raised : Raised
+none_raised = record { first = None; second = None }
+
+abbrev pub first_raised : ℕ
+first_raised = holder 3
+
+abbrev pub second_raised : ℕ
+second_raised = holder 4
+
+abbrev pub is_raised : (register : ℕ) → Bool
+is_raised register = (register == first_raised) || (register == second_raised)
+
+-- the home that a register is to hold, raised
+abbrev pub raised_at : Raised → (register : ℕ) → Option ℕ
+raised_at raised register =
+    if register == first_raised then raised.first else if register == second_raised then raised.second else None
+
+abbrev pub raised_second : Raised → Second → Option ℕ
+raised_second raised (seconds.Register register) = raised_at raised register
+raised_second raised (seconds.Literal value) = None
+
+abbrev pub with_raised : (register : ℕ) → Option ℕ → Raised → Raised
+with_raised register home raised =
+    if register == first_raised then record raised { first = home }
+    else if register == second_raised then record raised { second = home } else raised
+
+abbrev pub have_homes : Homes → Bool
+have_homes homes = is_some homes.first && is_some homes.second
+
+-- the home that a word raises
+abbrev pub raised_home : Homes → OperateOp → (first : ℕ) → Second → (to : ℕ) → Option ℕ
+raised_home homes row.Sll first (seconds.Literal value) to =
+    if value == 32 && is_raised to && have_homes homes then home_at homes first else None
+raised_home homes op first second to = None
+
+-- homes compare as raised longwords do
+abbrev pub compared_raised : OperateOp → (first second to : ℕ) → Option AlphaInstr
+compared_raised row.Cmplt first second to = Some (Operate row.Cmplt first (seconds.Register second) to)
+compared_raised op first second to = None
+
+-- ---- each word
 -- a word that reads the homes in place of the temporaries' own registers; none where it would do something else
-abbrev pub moved_word : Homes → AlphaInstr → Option AlphaInstr
-moved_word homes (Operate op first second to) = moved_by (home_at homes first) (second_home homes second) op first second to
-moved_word homes word = None
+abbrev pub moved_word : (raised other : Option ℕ) → Homes → OperateOp → (first : ℕ) → Second → (to : ℕ) → Option AlphaInstr
+moved_word None None homes op first second to = moved_by (home_at homes first) (second_home homes second) op first second to
+moved_word (Some x) (Some y) homes op first second to = compared_raised op x y to
+moved_word raised other homes op first second to = None
+
+abbrev pub lowered_word : Raised → (to : ℕ) → (moved : Option AlphaInstr) → Option (Raised × Option AlphaInstr)
+lowered_word raised to moved = option_map (λ word. (with_raised to None raised, Some word)) moved
+
+-- one that raises a home has no word
+abbrev pub raised_step : (home : Option ℕ) → Raised → (to : ℕ) → (moved : Option AlphaInstr) → Option (Raised × Option AlphaInstr)
+raised_step (Some home) raised to moved = Some (with_raised to (Some home) raised, None)
+raised_step None raised to moved = lowered_word raised to moved
+
+-- what is to be raised behind a word, and the word if any
+abbrev pub moved_step : Homes → Raised → AlphaInstr → Option (Raised × Option AlphaInstr)
+moved_step homes raised (Operate op first second to) =
+    raised_step (raised_home homes op first second to) raised to
+    (moved_word (raised_at raised first) (raised_second raised second) homes op first second to)
+moved_step homes raised word = None
+
+abbrev pub with_word : Option AlphaInstr → List AlphaInstr → List AlphaInstr
+with_word None words = words
+with_word (Some word) words = word ∷ words
+
+abbrev pub moved_from : Homes → Raised → List AlphaInstr → Option (List AlphaInstr)
+moved_from homes raised [] = Some []
+moved_from homes raised (word ∷ words) =
+    option_and_then
+    (λ (step : Raised × Option AlphaInstr). option_map (λ (rest : List AlphaInstr). with_word step.1 rest) (moved_from homes step.0 words))
+    (moved_step homes raised word)
 
 abbrev pub moved_words : Homes → List AlphaInstr → Option (List AlphaInstr)
-moved_words homes [] = Some []
-moved_words homes (word ∷ words) =
-    option_and_then (λ moved. option_map (λ rest. moved ∷ rest) (moved_words homes words)) (moved_word homes word)
+moved_words homes words = moved_from homes none_raised words
 
 -- at most the low longwords of the operands tell the code
 abbrev pub is_short_rule : CodeRule → Bool

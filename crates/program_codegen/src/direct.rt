@@ -1,14 +1,14 @@
 // The words of programs that make no reference.
 ghost use Rattle.std.specs.Prelude.{◌≡◌, ◌++◌, ◌∷◌, IfOk, IfSome, OnOk, MatchOption, None, Some, map, true};
 ghost use Rattle.program_codegen.specs.Words.{plain};
-ghost use Rattle.program_codegen.specs.Homes.{is_operand, is_operand_second, second_home, is_choice, unmoved, moved_operand, moved_both, moved_first, moved_by, moved_word, moved_words, is_short_rule, are_short_rules, is_wordless, exit_of, exit_behind, with_commit, end_at, exit_stays, commit_stays, commit_words, may_end, direct_end, ended_lines, is_computation, homes_at, step_at, words_at, direct_lines, no_homes, AreHomes};
+ghost use Rattle.program_codegen.specs.Homes.{is_operand, is_operand_second, second_home, is_choice, unmoved, moved_operand, moved_both, moved_first, moved_by, is_raised, raised_at, raised_second, with_raised, have_homes, raised_home, compared_raised, moved_word, moved_step, moved_words, is_short_rule, are_short_rules, is_wordless, exit_of, exit_behind, with_commit, end_at, exit_stays, commit_stays, commit_words, may_end, direct_end, ended_lines, is_computation, homes_at, step_at, words_at, direct_lines, no_homes, AreHomes};
 ghost use Rattle.program_codegen.specs.Programs.{AllFitWords, HasWords, IsExit, IsRanged, IsRangedExit, RangedToLeave, is_narrow};
 
 use crate::homes::{Homes, NO_HOMES, home_at, home_of, is_direct, push_direct};
 use crate::leaving::{push_departing, push_trap};
 use crate::lines::{Line, holder, push_words};
 use crate::points::Site;
-use alpha_encode::registers::{CARRY_FIRST, CARRY_SECOND, RULE_FIRST, RULE_SECOND};
+use alpha_encode::registers::{CARRY_FIRST, CARRY_SECOND, RULE_FIRST, RULE_SECOND, TEMPORARIES};
 use alpha_encode::{AlphaInstr, OperateOp, Second, operate, operate_by};
 use exception_records::{CodeRule, Rules};
 use micro_ops::{CodeSources, Exit, Micro, is_left_out};
@@ -23,6 +23,23 @@ const LONGWORD_SIGN: u8 = 31;
 const QUADWORD_SIGN: u8 = 63;
 /// The words for the codes leave the temporaries below this one.
 const LEFT_ALONE: u8 = 3;
+
+/// The registers into which two longwords are raised.
+const FIRST_RAISED: u8 = TEMPORARIES + 3;
+
+const SECOND_RAISED: u8 = TEMPORARIES + 4;
+
+/// For both the home whose low longword it is to hold, raised.
+#[derive(Clone, Copy)]
+struct Raised {
+    first: Option<u8>,
+    second: Option<u8>,
+}
+
+const NONE_RAISED: Raised = Raised {
+    first: None,
+    second: None,
+};
 
 /// The register that is written, and the temporary that it is written from.
 type Commit = Option<(u8, u8)>;
@@ -135,20 +152,132 @@ fn moved_by(
     }
 }
 
-/// A word that reads the homes in place of the temporaries' own registers; none where it would do something else.
-fn moved_word(homes: Homes, word: AlphaInstr) -> Option<AlphaInstr>
-    ensures { result ≡ moved_word homes word }
+fn is_raised(register: u8) -> bool
+    ensures { result ≡ is_raised register }
 {
-    match word {
-        AlphaInstr::Operate { op, ra, rb, rc } => moved_by(
-            home_at(homes, ra),
-            second_home(homes, rb),
-            op,
-            ra,
-            rb,
-            rc,
-        ),
+    register == FIRST_RAISED || register == SECOND_RAISED
+}
+
+/// The home that a register is to hold, raised.
+fn raised_at(raised: Raised, register: u8) -> Option<u8>
+    ensures { result ≡ raised_at raised register }
+{
+    match register {
+        FIRST_RAISED => raised.first,
+        SECOND_RAISED => raised.second,
         _ => None,
+    }
+}
+
+fn raised_second(raised: Raised, second: Second) -> Option<u8>
+    ensures { result ≡ raised_second raised second }
+{
+    match second {
+        Second::Register(register) => raised_at(raised, register),
+        Second::Literal(_) => None,
+    }
+}
+
+fn with_raised(register: u8, home: Option<u8>, raised: Raised) -> Raised
+    ensures { result ≡ with_raised register home raised }
+{
+    match register {
+        FIRST_RAISED => Raised {
+            first: home,
+            ..raised
+        },
+        SECOND_RAISED => Raised {
+            second: home,
+            ..raised
+        },
+        _ => raised,
+    }
+}
+
+/// Whether both operands have homes.
+fn have_homes(homes: Homes) -> bool
+    ensures { result ≡ have_homes homes }
+{
+    homes.first.is_some() && homes.second.is_some()
+}
+
+/// The home that a word raises.
+fn raised_home(homes: Homes, op: OperateOp, first: u8, second: Second, to: u8) -> Option<u8>
+    ensures { result ≡ raised_home homes op first second to }
+{
+    match (op, second) {
+        (OperateOp::Sll, Second::Literal(RAISED)) => {
+            if is_raised(to) && have_homes(homes) {
+                home_at(homes, first)
+            } else {
+                None
+            }
+        }
+        _ => None,
+    }
+}
+
+/// Homes compare as raised longwords do.
+fn compared_raised(op: OperateOp, first: u8, second: u8, to: u8) -> Option<AlphaInstr>
+    ensures { result ≡ compared_raised op first second to }
+{
+    match op {
+        OperateOp::Cmplt => Some(operate(op, first, second, to)),
+        _ => None,
+    }
+}
+
+/// A word that reads the homes in place of the temporaries' own registers; none where it would do something else.
+fn moved_word(
+    raised: Option<u8>,
+    other: Option<u8>,
+    homes: Homes,
+    op: OperateOp,
+    first: u8,
+    second: Second,
+    to: u8,
+) -> Option<AlphaInstr>
+    ensures { result ≡ moved_word raised other homes op first second to }
+{
+    match (raised, other) {
+        (None, None) => moved_by(
+            home_at(homes, first),
+            second_home(homes, second),
+            op,
+            first,
+            second,
+            to,
+        ),
+        (Some(x), Some(y)) => compared_raised(op, x, y, to),
+        _ => None,
+    }
+}
+
+/// What is to be raised behind a word, and the word if any: one that raises a home has none.
+fn moved_step(
+    homes: Homes,
+    raised: Raised,
+    word: AlphaInstr,
+) -> Option<(Raised, Option<AlphaInstr>)>
+    ensures { result ≡ moved_step homes raised word }
+{
+    let AlphaInstr::Operate { op, ra, rb, rc } = word else {
+        return None;
+    };
+    if let Some(home) = raised_home(homes, op, ra, rb, rc) {
+        return Some((with_raised(rc, Some(home), raised), None));
+    }
+    match moved_word(
+        raised_at(raised, ra),
+        raised_second(raised, rb),
+        homes,
+        op,
+        ra,
+        rb,
+        rc,
+    ) {
+        Some(moved) => Some((with_raised(rc, None, raised), Some(moved))),
+        None => None,
     }
 }
 
@@ -160,10 +289,14 @@ fn moved_words(
     ensures { IfOk result (λ moved. MatchOption moved (moved_words homes words.now ≡ None) (λ m. moved_words homes words.now ≡ Some m.items)) }
 {
     let mut moved = Vec::new(alloc);
+    let mut raised = NONE_RAISED;
     for i in 0..words.len() {
-        match moved_word(homes, words[i]) {
-            Some(now) => moved.push(now)?,
-            None => return Ok(None),
+        let Some((behind, word)) = moved_step(homes, raised, words[i]) else {
+            return Ok(None);
+        };
+        raised = behind;
+        if let Some(word) = word {
+            moved.push(word)?;
         }
     }
     Ok(Some(moved))
